@@ -1,0 +1,6 @@
+pub mod Bytes
+pub mod Counts
+pub mod Guids
+pub mod Memory
+pub mod Stamps
+pub mod Streams
