@@ -1,9 +1,11 @@
 ghost use Rattle.std.specs.Prelude.{◌≡◌, ◌↔◌, ℕ, List, length, Some, IsSome, IfSome, IsTrue};
 ghost use Rattle.std.specs.List.{AllPass};
+ghost use Rattle.std.specs.Str.{IsAscii};
 ghost use Rattle.hex.specs.Hex.{encode_lower};
 ghost use Rattle.ddf_bytes.specs.Guids.{is_lower_digit, IsGuid, new_guid_bytes};
 
 use crate::Stamp;
+use crate::hex_text::{put_digits, text_of};
 use std::fmt;
 use std::marker::Model;
 
@@ -53,10 +55,10 @@ impl Guid {
 
     /// Writes the GUID as 48 lower-case hexadecimal digits.
     pub fn print(&self, into: &mut [u8; 48])
-        ensures { into.new ≡ encode_lower self.now }
+        ensures digits { into.new ≡ encode_lower self.now }
+        ensures ascii { IsAscii into.new }
     {
-        let written = hex::encode_to_slice(self.bytes, into);
-        prove!(written.is_ok());
+        put_digits(&self.bytes, into);
     }
 
     /// Reads a GUID of 48 digits `0` to `9` and `a` to `f`. Anything else is none.
@@ -92,10 +94,7 @@ impl fmt::Display for Guid {
     fn fmt<W: fmt::Write>(&self, f: &mut fmt::Formatter<W>) -> fmt::Result {
         let mut digits = [0; 48];
         self.print(&mut digits);
-        match str::from_utf8(&digits) {
-            Ok(text) => f.write_str(text),
-            Err(_) => unreachable!(),
-        }
+        f.write_str(text_of(&digits))
     }
 }
 

@@ -2,6 +2,7 @@
 #![tactic(auto)]
 
 mod guid;
+mod hex_text;
 mod memory_sink;
 mod memory_source;
 mod no_memory;
@@ -14,6 +15,7 @@ mod std_sink;
 mod std_source;
 
 pub use guid::{Guid, GuidKind, new_guid};
+pub use hex_text::{Hex8, Hex16, Hex32};
 pub use memory_sink::MemorySink;
 pub use memory_source::MemorySource;
 pub use no_memory::NoMemory;
