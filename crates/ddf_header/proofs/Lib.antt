@@ -1,0 +1,6 @@
+pub mod Nones
+pub mod Faults
+pub mod Sections
+pub mod Sound
+pub mod Encoded
+pub mod Decoded

@@ -1,0 +1,6 @@
+pub mod CrcSteps
+pub mod Placing
+pub mod Same
+pub mod Spelled
+pub mod Records
+pub mod Seals

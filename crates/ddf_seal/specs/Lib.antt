@@ -1,0 +1,4 @@
+pub mod Crc
+pub mod Seal
+pub mod Unread
+pub mod Records
