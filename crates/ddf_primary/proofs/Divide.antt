@@ -1,0 +1,47 @@
+-- Bounds of the places that dividing gives.
+use Rattle.std.proofs.Common.{◌≡◌, ℕ, zero, suc, ◌+◌, ◌-◌, ◌*◌, ◌/◌, ◌%◌, ◌^◌, ◌<◌, ◌≤◌, arith}
+use Rattle.std.proofs.lemmas.Nat.{mul-add-lt, div-add-mod', mul-le, mod_below, div_below}
+use Rattle.std.proofs.Math.Nat.{div-le_self}
+
+-- the sector of a block is no greater than the block
+pub sector_le : (block strip columns : ℕ) → 1 ≤ columns → block / strip / columns * strip + block % strip ≤ block
+sector_le block strip columns some =
+    omega (arith, mul-le (block / strip / columns) strip (block / strip) strip (div-le_self (block / strip) columns) (omega arith), div-add-mod' block strip)
+
+-- a strip's block is below the columns times the end of its row
+pub block_lt : (number sector strip columns : ℕ) → 1 ≤ strip → number < columns → (sector / strip * columns + number) * strip + sector % strip < columns * (sector + strip)
+block_lt number sector strip columns some within =
+    let row = sector / strip in
+    let a = mul-add-lt row columns number (row + 1) (omega arith) within in
+    let b = mul-add-lt (row * columns + number) strip (sector % strip) (columns * (row + 1)) a (omega arith) in
+    omega (arith, b, mul-le columns (row * strip) columns sector (omega arith) (omega (arith, div-add-mod' sector strip)))
+
+pub small_block : (columns sector strip : ℕ) → columns < 2 ^ 16 → sector < 2 ^ 48 → strip ≤ 2 ^ 31 → columns * (sector + strip) < 2 ^ 64
+small_block columns sector strip few near small =
+    omega (arith, mul-le columns (sector + strip) (2 ^ 16 - 1) (2 ^ 48 + 2 ^ 31) (omega arith) (omega arith))
+
+pub factor_pos : (a b n : ℕ) → n < a * b → 0 < b
+factor_pos a zero n below = absurd (omega arith)
+factor_pos a (suc b) n below = omega arith
+
+-- a block is its row, its strip's number in the row and its sector in the strip
+pub place_splits : (block strip columns : ℕ) → block ≡ (block / strip / columns * columns + block / strip % columns) * strip + block % strip
+place_splits block strip columns =
+    let count = div-add-mod' (block / strip) columns in
+    rw count (omega (arith, div-add-mod' block strip))
+
+pub offset_within : (block strip columns rows : ℕ) → block < rows * (columns * strip) → block % strip < strip
+offset_within block strip columns rows below =
+    let some : 0 < strip = factor_pos (rows * columns) strip block (omega arith) in
+    mod_below block strip some
+
+pub number_within : (block strip columns rows : ℕ) → block < rows * (columns * strip) → block / strip % columns < columns
+number_within block strip columns rows below =
+    let some : 0 < columns = factor_pos (rows * strip) columns block (omega arith) in
+    mod_below (block / strip) columns some
+
+pub row_within : (block strip columns rows : ℕ) → block < rows * (columns * strip) → block / strip / columns < rows
+row_within block strip columns rows below =
+    let some_strip : 0 < strip = factor_pos (rows * columns) strip block (omega arith) in
+    let some_columns : 0 < columns = factor_pos (rows * strip) columns block (omega arith) in
+    div_below (block / strip) columns rows some_columns (div_below block strip (rows * columns) some_strip (omega arith))

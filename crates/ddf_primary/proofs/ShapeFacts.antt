@@ -1,0 +1,138 @@
+-- The facts of every shape's cells, whatever its layout.
+use Rattle.std.proofs.Common.{◌≡◌, ℕ, ◌+◌, ◌-◌, ◌*◌, ◌/◌, ◌%◌, ◌≤◌, ◌<◌, ◌↔◌, ◌⊎◌, ⊎_elim, IsTrue, Option, None, Some, slice_get, length, refl, sym, ap, subst, ◌∙◌, arith, rules, tests}
+use Rattle.std.proofs.lemmas.Nat.{mul-le}
+use Rattle.std.proofs.lemmas.Option.{none-some, same_Some}
+use Rattle.std.proofs.Math.Nat.{div-mul-le_self}
+use Rattle.ddf_primary.specs.declared.layout.Layout.{Layout}
+use Rattle.ddf_primary.specs.declared.layout.Layout.TheVariants.{Raid0, Raid1, Parity, Jbod, Concatenation}
+use Rattle.ddf_primary.specs.declared.parity.ParityLayout.{ParityLayout}
+use Rattle.ddf_primary.specs.Placement.{Placement}
+use Rattle.ddf_primary.specs.Levels.{takes_members, IsShape}
+use Rattle.ddf_primary.specs.Cells.{cells, columns_by, depth_by, depth_of, members_around, parity_on, parity_by, rows_by, rows_of, unit_of, Holds}
+use Rattle.ddf_primary.proofs.CellFacts.{CellFacts}
+use Rattle.ddf_primary.proofs.RowLayouts.{raid_0_length, raid_0_block, raid_0_facts, parity_length, parity_block, parity_facts}
+use Rattle.ddf_primary.proofs.WholeLayouts.{raid_1_length, raid_1_facts, jbod_length, jbod_facts, concatenated_length, concatenated_facts}
+
+pub raid_1_members : (shape : Placement) → shape.layout ≡ Raid1 → IsShape shape → 2 ≤ shape.members
+raid_1_members shape is sound = let taken = rw is at sound.members_taken in search (rules, tests)
+
+pub parity_members : (shape : Placement) (parity : ParityLayout) → shape.layout ≡ Parity parity → IsShape shape → 2 ≤ shape.members
+parity_members shape parity is sound = let taken = rw is at sound.members_taken in search (rules, tests)
+
+pub jbod_members : (shape : Placement) → shape.layout ≡ Jbod → IsShape shape → shape.members ≡ 1
+jbod_members shape is sound = let taken = rw is at sound.members_taken in search (rules, tests)
+
+facts_by : (layout : Layout) (shape : Placement) → shape.layout ≡ layout → IsShape shape → CellFacts shape
+facts_by Raid0 shape is sound = raid_0_facts shape is
+facts_by Raid1 shape is sound = raid_1_facts shape is (raid_1_members shape is sound)
+facts_by (Parity parity) shape is sound = parity_facts shape parity is (parity_members shape parity is sound)
+facts_by Jbod shape is sound = jbod_facts shape is (jbod_members shape is sound)
+facts_by Concatenation shape is sound = concatenated_facts shape is
+
+pub cell_facts : (shape : Placement) → IsShape shape → CellFacts shape
+cell_facts shape sound = facts_by shape.layout shape refl sound
+
+turned : (rows columns strip : ℕ) → columns * (rows * strip) ≡ rows * (columns * strip)
+turned rows columns strip = omega arith
+
+once : (blocks : ℕ) → 1 * blocks ≡ blocks
+once blocks = omega arith
+
+-- the length of the list, where members don't follow one another
+length_by : (layout : Layout) (shape : Placement) → shape.layout ≡ layout → IsShape shape → (layout ≡ Concatenation → ⊥) → columns_by shape.layout shape.members * depth_of shape ≡ length (cells shape)
+length_by Raid0 shape is sound other =
+    subst (λ (l : Layout). columns_by l shape.members * depth_by l shape.strip shape.blocks ≡ length (cells shape)) (sym is)
+    (turned (shape.blocks / shape.strip) shape.members shape.strip ∙ sym (raid_0_length shape is))
+length_by Raid1 shape is sound other =
+    subst (λ (l : Layout). columns_by l shape.members * depth_by l shape.strip shape.blocks ≡ length (cells shape)) (sym is)
+    (once shape.blocks ∙ sym (raid_1_length shape is (raid_1_members shape is sound)))
+length_by (Parity parity) shape is sound other =
+    subst (λ (l : Layout). columns_by l shape.members * depth_by l shape.strip shape.blocks ≡ length (cells shape)) (sym is)
+    (turned (shape.blocks / shape.strip) (shape.members - 1) shape.strip ∙ sym (parity_length shape parity is (parity_members shape parity is sound)))
+length_by Jbod shape is sound other =
+    subst (λ (l : Layout). columns_by l shape.members * depth_by l shape.strip shape.blocks ≡ length (cells shape)) (sym is)
+    (once shape.blocks ∙ sym (jbod_length shape is (jbod_members shape is sound)))
+length_by Concatenation shape is sound other = absurd (other refl)
+
+pub capacity_is : (shape : Placement) → IsShape shape → (shape.layout ≡ Concatenation → ⊥) → columns_by shape.layout shape.members * depth_of shape ≡ length (cells shape)
+capacity_is shape sound other = length_by shape.layout shape refl sound other
+
+pub columns_le : (layout : Layout) (members : ℕ) → IsTrue (takes_members layout members) → columns_by layout members ≤ members
+columns_le Raid0 members taken = omega arith
+columns_le Raid1 members taken = search (rules, tests)
+columns_le (Parity parity) members taken = omega arith
+columns_le Jbod members taken = search (rules, tests)
+columns_le Concatenation members taken = search (rules, tests)
+
+pub depth_le : (layout : Layout) (strip blocks : ℕ) → depth_by layout strip blocks ≤ blocks
+depth_le Raid0 strip blocks = omega (arith, div-mul-le_self blocks strip)
+depth_le Raid1 strip blocks = omega arith
+depth_le (Parity parity) strip blocks = omega (arith, div-mul-le_self blocks strip)
+depth_le Jbod strip blocks = omega arith
+depth_le Concatenation strip blocks = omega arith
+
+pub capacity_le : (shape : Placement) → IsShape shape → columns_by shape.layout shape.members * depth_of shape ≤ shape.members * shape.blocks
+capacity_le shape sound =
+    mul-le _ _ _ _ (columns_le shape.layout shape.members sound.members_taken) (depth_le shape.layout shape.strip shape.blocks)
+
+rows_by_other : (layout : Layout) (members strip blocks : ℕ) → (layout ≡ Concatenation → ⊥) → blocks / strip ≡ rows_by layout members strip blocks
+rows_by_other Raid0 members strip blocks other = refl
+rows_by_other Raid1 members strip blocks other = refl
+rows_by_other (Parity parity) members strip blocks other = refl
+rows_by_other Jbod members strip blocks other = refl
+rows_by_other Concatenation members strip blocks other = absurd (other refl)
+
+pub rows_is : (shape : Placement) → (shape.layout ≡ Concatenation → ⊥) → shape.blocks / shape.strip ≡ rows_of shape
+rows_is shape other = rows_by_other shape.layout shape.members shape.strip shape.blocks other
+
+rows_within : (layout : Layout) (strip blocks : ℕ) → blocks / strip * strip ≤ depth_by layout strip blocks
+rows_within Raid0 strip blocks = omega arith
+rows_within Raid1 strip blocks = div-mul-le_self blocks strip
+rows_within (Parity parity) strip blocks = omega arith
+rows_within Jbod strip blocks = div-mul-le_self blocks strip
+rows_within Concatenation strip blocks = div-mul-le_self blocks strip
+
+-- the rows' blocks are among the list's
+pub rows_le : (shape : Placement) → IsShape shape → (shape.layout ≡ Concatenation → ⊥) → unit_of shape * (shape.blocks / shape.strip) ≤ length (cells shape)
+rows_le shape sound other =
+    let columns = columns_by shape.layout shape.members in
+    let filled = mul-le columns (shape.blocks / shape.strip * shape.strip) columns (depth_of shape) (omega arith) (rows_within shape.layout shape.strip shape.blocks) in
+    omega (arith, filled, capacity_is shape sound other)
+
+pub rows_le_concatenated : (shape : Placement) → shape.layout ≡ Concatenation → unit_of shape * (shape.members * shape.blocks / shape.strip) ≤ length (cells shape)
+rows_le_concatenated shape is =
+    let filled : 1 * shape.strip * (shape.members * shape.blocks / shape.strip) ≤ length (cells shape) = omega (arith, div-mul-le_self (shape.members * shape.blocks) shape.strip, concatenated_length shape is) in
+    subst (λ (l : Layout). columns_by l shape.members * shape.strip * (shape.members * shape.blocks / shape.strip) ≤ length (cells shape)) (sym is) filled
+
+-- a cell past the members or the depth holds no block
+pub none_past : (shape : Placement) (member sector : ℕ) → IsShape shape → (shape.members ≤ member) ⊎ (depth_of shape ≤ sector) → (block : ℕ) → (◌≡◌ {A = Option ℕ} None (Some block)) ↔ Holds shape member sector block
+none_past shape member sector sound past block =
+    let facts = cell_facts shape sound in (
+      λ e. absurd (none-some block e),
+      λ holds. absurd
+          (⊎_elim (λ h. omega (arith, facts.member_within member sector block holds)) (λ h. omega (arith, facts.sector_within member sector block holds)) past),
+    )
+
+-- nor does the parity's
+pub none_on_parity : (shape : Placement) (parity : ParityLayout) (member sector : ℕ) → shape.layout ≡ Parity parity → IsShape shape → member ≡ parity_on parity shape.members (sector / shape.strip) → (block : ℕ) → (◌≡◌ {A = Option ℕ} None (Some block)) ↔ Holds shape member sector block
+none_on_parity shape parity member sector is sound on block =
+    let facts = cell_facts shape sound in (
+      λ e. absurd (none-some block e),
+      λ holds. absurd
+          (facts.no_parity member sector block holds
+          (subst (λ (l : Layout). parity_by l shape.members (sector / shape.strip) ≡ Some member) (sym is) (ap Some (sym on)))),
+    )
+
+-- an answer that is the block of a cell
+pub some_block : (answer block : ℕ) {P : Type 0} → (block ≡ answer) ↔ P → (◌≡◌ {A = Option ℕ} (Some answer) (Some block)) ↔ P
+some_block answer block both = (λ e. both.0 (sym (same_Some answer block e)), λ p. ap Some (sym (both.1 p)))
+
+pub raid_0_answer : (shape : Placement) (member sector : ℕ) → shape.layout ≡ Raid0 → member < shape.members → sector < depth_of shape → (block : ℕ) → (◌≡◌ {A = Option ℕ} (Some ((sector / shape.strip * columns_by shape.layout shape.members + member) * shape.strip + sector % shape.strip)) (Some block)) ↔ Holds shape member sector block
+raid_0_answer shape member sector is known near block =
+    subst (λ (l : Layout). (◌≡◌ {A = Option ℕ} (Some ((sector / shape.strip * columns_by l shape.members + member) * shape.strip + sector % shape.strip)) (Some block)) ↔ Holds shape member sector block) (sym is)
+    (some_block _ block (raid_0_block shape is member sector block known near))
+
+pub parity_answer : (shape : Placement) (parity : ParityLayout) (member sector number : ℕ) → shape.layout ≡ Parity parity → IsShape shape → slice_get (members_around parity shape.members (sector / shape.strip)) number ≡ Some member → sector < depth_of shape → (block : ℕ) → (◌≡◌ {A = Option ℕ} (Some ((sector / shape.strip * columns_by shape.layout shape.members + number) * shape.strip + sector % shape.strip)) (Some block)) ↔ Holds shape member sector block
+parity_answer shape parity member sector number is sound there near block =
+    subst (λ (l : Layout). (◌≡◌ {A = Option ℕ} (Some ((sector / shape.strip * columns_by l shape.members + number) * shape.strip + sector % shape.strip)) (Some block)) ↔ Holds shape member sector block) (sym is)
+    (some_block _ block (parity_block shape parity is (parity_members shape parity is sound) member sector number block there near))

@@ -1,0 +1,127 @@
+-- The lists of cells: which member and sector holds each block, by the standard's tables of RAID
+-- levels.
+use Rattle.std.specs.Prelude.{◌≡◌, ℕ, ◌+◌, ◌-◌, ◌*◌, ◌/◌, ◌%◌, ◌<◌, List, ◌++◌, map, Option, Some, None, slice_get}
+use Rattle.std.specs.List.{range_with_len, flat_map}
+use Rattle.ddf_primary.specs.declared.layout.Layout.{Layout}
+use Rattle.ddf_primary.specs.declared.layout.Layout.TheVariants.{Raid0, Raid1, Parity, Jbod, Concatenation}
+use Rattle.ddf_primary.specs.declared.parity.ParityLayout.{ParityLayout}
+use Rattle.ddf_primary.specs.declared.parity.ParityLayout.TheVariants.{Raid4First, Raid4Last, Raid5ZeroRestart, Raid5LastRestart, Raid5LastContinuation}
+use Rattle.ddf_primary.specs.Placement.{Placement}
+
+-- the member with the parity of a row
+abbrev pub parity_on : ParityLayout → ℕ → ℕ → ℕ
+parity_on Raid4First members row = 0
+parity_on Raid4Last members row = members - 1
+parity_on Raid5ZeroRestart members row = row % members
+parity_on Raid5LastRestart members row = members - 1 - row % members
+parity_on Raid5LastContinuation members row = members - 1 - row % members
+
+-- the members before and after the one with the parity
+abbrev pub before_parity : ℕ → List ℕ
+before_parity parity = range_with_len 0 parity
+
+abbrev pub after_parity : ℕ → ℕ → List ℕ
+after_parity members parity = range_with_len (parity + 1) (members - 1 - parity)
+
+-- the members around a row's parity, in the order of their strips: from member 0 on where data
+-- restarts in each row, and from the member behind the parity on where it continues
+abbrev pub data_around : ParityLayout → ℕ → ℕ → List ℕ
+data_around Raid4First members parity = before_parity parity ++ after_parity members parity
+data_around Raid4Last members parity = before_parity parity ++ after_parity members parity
+data_around Raid5ZeroRestart members parity = before_parity parity ++ after_parity members parity
+data_around Raid5LastRestart members parity = before_parity parity ++ after_parity members parity
+data_around Raid5LastContinuation members parity = after_parity members parity ++ before_parity parity
+
+-- the member that holds the parity of a row, for the levels that have one
+abbrev pub parity_by : Layout → ℕ → ℕ → Option ℕ
+parity_by Raid0 members row = None
+parity_by Raid1 members row = None
+parity_by (Parity parity) members row = Some (parity_on parity members row)
+parity_by Jbod members row = None
+parity_by Concatenation members row = None
+
+abbrev pub parity_member : Placement → ℕ → Option ℕ
+parity_member shape row = parity_by shape.layout shape.members row
+
+-- sectors of one member, in order: so many from the first on
+abbrev pub sectors : ℕ → ℕ → ℕ → List (ℕ × ℕ)
+sectors first count member = map (λ sector. (member, sector)) (range_with_len first count)
+
+-- the sectors of one strip, and those of a whole member
+abbrev pub strip_cells : ℕ → ℕ → ℕ → List (ℕ × ℕ)
+strip_cells strip row member = sectors (row * strip) strip member
+
+abbrev pub member_cells : ℕ → ℕ → List (ℕ × ℕ)
+member_cells blocks member = sectors 0 blocks member
+
+-- the members with the data of a row, in the order of their strips: all, or those around the parity
+abbrev pub every_member : ℕ → ℕ → List ℕ
+every_member members row = range_with_len 0 members
+
+abbrev pub members_around : ParityLayout → ℕ → ℕ → List ℕ
+members_around parity members row = data_around parity members (parity_on parity members row)
+
+-- row after row, in a row strip after strip, in a strip sector after sector
+abbrev pub row_cells : (ℕ → List ℕ) → ℕ → ℕ → List (ℕ × ℕ)
+row_cells data_members strip row = flat_map (strip_cells strip row) (data_members row)
+
+unfoldable pub striped_cells : (ℕ → List ℕ) → ℕ → ℕ → List (ℕ × ℕ)
+striped_cells data_members strip rows = flat_map (row_cells data_members strip) (range_with_len 0 rows)
+
+abbrev pub cells_by : Layout → ℕ → ℕ → ℕ → List (ℕ × ℕ)
+cells_by Raid0 members strip blocks = striped_cells (every_member members) strip (blocks / strip)
+cells_by Raid1 members strip blocks = member_cells blocks 0
+cells_by (Parity parity) members strip blocks = striped_cells (members_around parity members) strip (blocks / strip)
+cells_by Jbod members strip blocks = member_cells blocks 0
+cells_by Concatenation members strip blocks = flat_map (member_cells blocks) (range_with_len 0 members)
+
+-- every (member, sector) that holds a block, in the order of the blocks; for RAID 1 those of
+-- member 0
+unfoldable pub cells : Placement → List (ℕ × ℕ)
+cells shape = cells_by shape.layout shape.members shape.strip shape.blocks
+
+-- that a member holds a block at a sector: the block's item of the list is that cell, and for
+-- RAID 1 every member holds what member 0 does
+abbrev pub HoldsBy : Layout → ℕ → List (ℕ × ℕ) → ℕ → ℕ → ℕ → Type 0
+HoldsBy Raid0 members items member sector block = slice_get items block ≡ Some (member, sector)
+HoldsBy Raid1 members items member sector block = (member < members) × (slice_get items block ≡ Some (0, sector))
+HoldsBy (Parity _) members items member sector block = slice_get items block ≡ Some (member, sector)
+HoldsBy Jbod members items member sector block = slice_get items block ≡ Some (member, sector)
+HoldsBy Concatenation members items member sector block = slice_get items block ≡ Some (member, sector)
+
+abbrev pub Holds : Placement → ℕ → ℕ → ℕ → Type 0
+Holds shape member sector block = HoldsBy shape.layout shape.members (cells shape) member sector block
+
+-- the data strips of a row
+abbrev pub columns_by : Layout → ℕ → ℕ
+columns_by Raid0 members = members
+columns_by Raid1 members = 1
+columns_by (Parity _) members = members - 1
+columns_by Jbod members = 1
+columns_by Concatenation members = 1
+
+-- how many sectors of each member hold blocks or parity: those in whole rows, if the level has rows
+abbrev pub depth_by : Layout → ℕ → ℕ → ℕ
+depth_by Raid0 strip blocks = blocks / strip * strip
+depth_by Raid1 strip blocks = blocks
+depth_by (Parity _) strip blocks = blocks / strip * strip
+depth_by Jbod strip blocks = blocks
+depth_by Concatenation strip blocks = blocks
+
+abbrev pub depth_of : Placement → ℕ
+depth_of shape = depth_by shape.layout shape.strip shape.blocks
+
+-- the blocks of one data row
+abbrev pub unit_of : Placement → ℕ
+unit_of shape = columns_by shape.layout shape.members * shape.strip
+
+-- the whole rows: of each member, or of the members one after another
+abbrev pub rows_by : Layout → ℕ → ℕ → ℕ → ℕ
+rows_by Raid0 members strip blocks = blocks / strip
+rows_by Raid1 members strip blocks = blocks / strip
+rows_by (Parity _) members strip blocks = blocks / strip
+rows_by Jbod members strip blocks = blocks / strip
+rows_by Concatenation members strip blocks = members * blocks / strip
+
+abbrev pub rows_of : Placement → ℕ
+rows_of shape = rows_by shape.layout shape.members shape.strip shape.blocks

@@ -1,0 +1,34 @@
+// Laws of every shape's cells: functions that do nothing, whose contracts are the laws.
+ghost use Rattle.std.specs.Prelude.{◌≡◌, ◌⊎◌, ℕ, ◌<◌, ◌/◌, Some};
+ghost use Rattle.ddf_primary.specs.Placement.{Placement};
+ghost use Rattle.ddf_primary.specs.Levels.{IsShape};
+ghost use Rattle.ddf_primary.specs.Cells.{Holds, depth_of, parity_member};
+
+/// Two blocks never share a cell.
+pub fn two_blocks_never_share_a_cell()
+    ensures { (shape : Placement) (member sector a b : ℕ) → IsShape shape
+        → Holds shape member sector a → Holds shape member sector b → a ≡ b }
+{}
+
+/// No block lies in a cell that holds parity.
+pub fn no_block_lies_in_a_parity_cell()
+    ensures { (shape : Placement) (member sector block : ℕ) → IsShape shape
+        → Holds shape member sector block
+        → parity_member shape (sector / shape.strip) ≡ Some member → ⊥ }
+{}
+
+/// Every block lies on a member, at a sector that holds blocks or parity.
+pub fn every_block_lies_within_the_members()
+    ensures member { (shape : Placement) (member sector block : ℕ) → IsShape shape
+        → Holds shape member sector block → member < shape.members }
+    ensures sector { (shape : Placement) (member sector block : ℕ) → IsShape shape
+        → Holds shape member sector block → sector < depth_of shape }
+{}
+
+/// Every cell at a sector that holds blocks or parity holds the parity of its row, or one block.
+pub fn each_cell_holds_a_block_or_parity()
+    ensures { (shape : Placement) (member sector : ℕ) → IsShape shape
+        → member < shape.members → sector < depth_of shape
+        → (parity_member shape (sector / shape.strip) ≡ Some member)
+        ⊎ ((block : ℕ) × Holds shape member sector block) }
+{}

@@ -1,0 +1,65 @@
+ghost use Rattle.std.specs.Prelude.{◌≡◌, IsTrue};
+ghost use Rattle.ddf_primary.specs.Levels.{served_layout, takes_members, takes_blocks};
+
+use crate::{ParityLayout, ShapeFault};
+
+/// How an element lays its blocks over its members: a primary level, with what its qualifier says.
+#[derive(Clone, Copy, Debug, PartialEq, Eq)]
+pub enum Layout {
+    /// RAID 0: strips over all members.
+    Raid0,
+    /// RAID 1, simple or multi: every member holds every block.
+    Raid1,
+    /// RAID 4 or 5: strips over all members but one, which holds the row's parity.
+    Parity(ParityLayout),
+    /// JBOD: the blocks of one member.
+    Jbod,
+    /// Concatenation: one member after another.
+    Concatenation,
+}
+
+impl Layout {
+    /// The most blocks that a member's part may have (profile).
+    const MOST_BLOCKS: u64 = 1 << 48;
+
+    /// The layout of a level and qualifier, by the standard's codes.
+    pub(crate) fn from_codes(level: u8, qualifier: u8) -> Result<Layout, ShapeFault>
+        ensures { result ≡ served_layout level qualifier }
+    {
+        match (level, qualifier) {
+            (0x00, _) => Ok(Layout::Raid0),
+            (0x01, 0 | 1) => Ok(Layout::Raid1),
+            (0x04, 0) => Ok(Layout::Parity(ParityLayout::Raid4First)),
+            (0x04, 1) => Ok(Layout::Parity(ParityLayout::Raid4Last)),
+            (0x05, 0) => Ok(Layout::Parity(ParityLayout::Raid5ZeroRestart)),
+            (0x05, 2) => Ok(Layout::Parity(ParityLayout::Raid5LastRestart)),
+            (0x05, 3) => Ok(Layout::Parity(ParityLayout::Raid5LastContinuation)),
+            (0x01 | 0x04 | 0x05, _) => Err(ShapeFault::Qualifier(qualifier)),
+            (0x0F, _) => Ok(Layout::Jbod),
+            (0x1F, _) => Ok(Layout::Concatenation),
+            _ => Err(ShapeFault::Level(level)),
+        }
+    }
+
+    /// Whether the layout is made of this many members.
+    pub(crate) fn takes_members(self, members: u16) -> bool
+        ensures { result ≡ takes_members self members }
+    {
+        match self {
+            Layout::Raid0 | Layout::Concatenation => members >= 1,
+            Layout::Raid1 | Layout::Parity(_) => members >= 2,
+            Layout::Jbod => members == 1,
+        }
+    }
+
+    /// Whether members may have this many blocks each.
+    pub(crate) fn takes_blocks(self, strip: u64, blocks: u64) -> bool
+        ensures { result ≡ takes_blocks self strip blocks }
+    {
+        let least = match self {
+            Layout::Raid0 | Layout::Parity(_) => strip,
+            Layout::Raid1 | Layout::Jbod | Layout::Concatenation => 1,
+        };
+        least <= blocks && blocks <= Layout::MOST_BLOCKS
+    }
+}

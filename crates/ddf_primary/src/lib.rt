@@ -1,0 +1,23 @@
+//! Where each block of one element lies: the primary RAID levels.
+#![tactic(auto)]
+
+mod cell;
+mod fault;
+mod laws;
+mod layout;
+mod parity;
+mod shape;
+mod strip;
+
+pub use cell::Cell;
+pub use fault::ShapeFault;
+pub use laws::{
+    each_cell_holds_a_block_or_parity, every_block_lies_within_the_members,
+    no_block_lies_in_a_parity_cell, two_blocks_never_share_a_cell,
+};
+pub use layout::Layout;
+pub use parity::ParityLayout;
+pub use shape::Shape;
+
+#[cfg(test)]
+mod tests;

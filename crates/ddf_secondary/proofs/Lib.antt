@@ -1,0 +1,13 @@
+pub mod Lists
+pub mod Divide
+pub mod SizeFacts
+pub mod ArrayFacts
+pub mod Blocks
+pub mod Longer
+pub mod Pieces
+pub mod Rows
+pub mod StripedSpots
+pub mod SpannedSpots
+pub mod ConcatenatedSpots
+pub mod SpotFacts
+pub mod TierFacts
