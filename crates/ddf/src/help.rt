@@ -1,0 +1,33 @@
+// What the program says of itself.
+
+const HELP: &str = "\
+Usage: ddf IMAGE.. -- COMMAND
+
+Reads RAID metadata in the SNIA Common RAID Disk Data Format (DDF) on disk images or
+block devices. Slots are the images in their order, from 0.
+
+Commands:
+  examine    show what each disk holds; nothing is written
+
+Exit status: 0 done, 2 words that are no command's, 3 a disk failed, 5 no memory,
+6 the input or the output failed.
+";
+
+const VERSION: &str = "ddf 0.1.0\n";
+
+/// The text for `--help` or `--version` alone.
+pub fn answer(words: &[String]) -> Option<&'static str> {
+    let [word] = words else {
+        return None;
+    };
+    match word.as_str() {
+        "--help" => Some(HELP),
+        "--version" => Some(VERSION),
+        _ => None,
+    }
+}
+
+/// Says where to look.
+pub fn hint(rt: &impl Eprint) {
+    let _ = eprintln!(rt; "ddf: no such command; ddf --help shows the words");
+}

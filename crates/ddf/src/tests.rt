@@ -1,0 +1,4 @@
+// The program's calls over bays in memory: what is printed, and with which status.
+mod examine;
+mod harness;
+mod headers;

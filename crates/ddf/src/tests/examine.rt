@@ -1,0 +1,203 @@
+ghost use Rattle.std.specs.Prelude.{◌+◌, ◌≤◌, ◌<◌, ◌^◌};
+
+use crate::tests::harness::{assert_told, called, words_of};
+use crate::tests::headers::{ANCHOR, PRIMARY, SECONDARY, SECTORS, header, unsealed};
+use ddf_bay::{Bay, MemoryBay};
+use ddf_bytes::{Sector, put16, put32, put64};
+use ddf_command::slot_paths;
+use ddf_seal::seal;
+use std::alloc::Global;
+use std::process::Abort;
+use std::test::Fail;
+
+const FIRST_LINES: &str = "\
+slot 0 sectors 65536 group 524444462d47202052854b00000000000000000000000007 revision 02.00.00
+anchor 65535 primary 65495 secondary 65455 workspace 32687 length 32768
+";
+
+/// A slot with a new disk's anchor and these two headers.
+fn disk(
+    rt: &impl Abort,
+    alloc: Global,
+    primary: &Sector,
+    secondary: &Sector,
+) -> Result<MemoryBay, Fail> {
+    let mut bay = MemoryBay::new(alloc, &[SECTORS], 3, Vec::new(alloc), None)?;
+    assert_eq!(rt; bay.slots(), 1);
+    assert_eq!(rt; bay.size(0), SECTORS);
+    assert!(rt; bay.write(0, ANCHOR, &header(0, 0xFF, u32::MAX)).is_ok());
+    assert!(rt; bay.write(0, PRIMARY, primary).is_ok());
+    assert!(rt; bay.write(0, SECONDARY, secondary).is_ok());
+    Ok(bay)
+}
+
+#[test]
+fn headers_are_told(rt: HostRuntime) -> Result<(), Fail> {
+    let alloc = rt.alloc();
+    let cases = [
+        (
+            header(1, 0, 1),
+            header(2, 0, 1),
+            "primary header closed sequence 1\nsecondary header closed sequence 1\nclosed both\n",
+        ),
+        (
+            header(1, 1, 1),
+            header(2, 0, 1),
+            "primary header open sequence 1\nsecondary header closed sequence 1\nclosed secondary\n",
+        ),
+        (
+            header(1, 1, 2),
+            header(2, 0, 1),
+            "primary header open sequence 2\nsecondary header closed sequence 1\nclosed secondary\n",
+        ),
+    ];
+    for (primary, secondary, lines) in cases {
+        let mut bay = disk(&rt, alloc, &primary, &secondary)?;
+        let text = format!(in alloc; "{FIRST_LINES}{lines}")?;
+        assert_told(
+            &rt,
+            alloc,
+            &["d0", "--", "examine"],
+            &mut bay,
+            0,
+            text.as_str(),
+        )?;
+    }
+    Ok(())
+}
+
+/// A header of a new disk with one number changed before it is sealed.
+fn changed(kind: u8, width: usize, at: usize, value: u64) -> Sector
+    requires room { at + 8 ≤ 512 }
+    requires small { value < 2 ^ 16 }
+{
+    let mut sector = unsealed(kind, 0, 1);
+    match width {
+        1 => sector[at] = (value % 256) as u8,
+        2 => put16(&mut sector, at, value as u16),
+        4 => put32(&mut sector, at, value as u32),
+        _ => put64(&mut sector, at, value),
+    }
+    seal(&mut sector, 0xDE11_DE11);
+    sector
+}
+
+#[test]
+fn faults_are_told_in_their_order(rt: HostRuntime) -> Result<(), Fail> {
+    let alloc = rt.alloc();
+    let mut torn = header(1, 0, 1);
+    torn[0] = 0xDF;
+    let cases = [
+        (torn, "signature df11de11"),
+        (changed(1, 1, 33, 0x33), "revision"),
+        (changed(1, 1, 48, 0x10), "openflag 10"),
+        (changed(1, 8, 96, SECONDARY), "place"),
+        (changed(2, 1, 48, 0), "kind 02"),
+        (changed(1, 2, 128, 16), "geometry 128"),
+        (changed(1, 2, 130, 16), "geometry 130"),
+        (changed(1, 2, 134, 3), "geometry 134"),
+        (changed(1, 2, 136, 17), "geometry 136"),
+        (changed(1, 4, 204, 0), "geometry 200"),
+        (changed(1, 4, 204, 1), "geometry 200"),
+        (changed(1, 4, 208, 3), "geometry 208"),
+        (changed(1, 4, 220, 1), "geometry 216"),
+        (changed(1, 4, 236, 8193), "geometry 232"),
+    ];
+    for (primary, reason) in cases {
+        let mut bay = disk(&rt, alloc, &primary, &header(2, 0, 1))?;
+        let text = format!(in alloc;
+            "{FIRST_LINES}primary header {reason}\nsecondary header closed sequence 1\nclosed secondary\n"
+        )?;
+        assert_told(
+            &rt,
+            alloc,
+            &["d0", "--", "examine"],
+            &mut bay,
+            0,
+            text.as_str(),
+        )?;
+    }
+    Ok(())
+}
+
+#[test]
+fn slots_that_are_no_disks_are_told(rt: HostRuntime) -> Result<(), Fail> {
+    let alloc = rt.alloc();
+    let mut bay = MemoryBay::new(alloc, &[], 0, Vec::new(alloc), None)?;
+    assert_told(&rt, alloc, &["--", "examine"], &mut bay, 0, "")?;
+    assert_told(
+        &rt,
+        alloc,
+        &["--", "label"],
+        &mut bay,
+        2,
+        "refused 10 word 1\n",
+    )?;
+    let mut bay = MemoryBay::new(alloc, &[SECTORS, 0], 0, Vec::new(alloc), None)?;
+    let words = ["d0", "d1", "--", "examine"];
+    assert_told(
+        &rt,
+        alloc,
+        &words,
+        &mut bay,
+        0,
+        "slot 0 blank\nslot 1 blank\n",
+    )?;
+    assert_eq!(rt; bay.slots(), 2);
+    bay.unplug(1);
+    assert_told(
+        &rt,
+        alloc,
+        &words,
+        &mut bay,
+        3,
+        "slot 0 blank\nslot 1 fault\n",
+    )?;
+    assert_eq!(rt; bay.slots(), 2);
+    bay.unplug(0);
+    assert_told(
+        &rt,
+        alloc,
+        &words,
+        &mut bay,
+        3,
+        "slot 0 fault\nslot 1 fault\n",
+    )?;
+    for (room, failing, printed) in [(10_000, [0], ""), (0, [9], ""), (8, [9], "slot 0 f")] {
+        let (status, bytes) = called(&rt, alloc, &words, &mut bay, room, &failing)?;
+        assert_eq!(rt; status, 6);
+        assert_eq!(rt; bytes.as_slice(), printed.as_bytes());
+    }
+    Ok(())
+}
+
+#[test]
+fn words_go_wrong_at_a_place(rt: HostRuntime) -> Result<(), Fail> {
+    let alloc = rt.alloc();
+    let cases: [(&[&str], &str); 9] = [
+        (&[], "refused 10 word 0\n"),
+        (&["d0"], "refused 10 word 1\n"),
+        (&["d0", "d1", "d0", "--", "examine"], "refused 10 word 2\n"),
+        (&["d0", "d0", "--", "examine"], "refused 10 word 1\n"),
+        (&["", "--", "examine"], "refused 10 word 0\n"),
+        (&["d0", "--"], "refused 10 word 2\n"),
+        (
+            &["d0", "--", "create", "x", "raid1", "0"],
+            "refused 10 word 2\n",
+        ),
+        (&["d0", "--", "examine", "x"], "refused 10 word 3\n"),
+        (&["d0", "--", "--", "examine"], "refused 10 word 2\n"),
+    ];
+    for (texts, text) in cases {
+        let words = words_of(alloc, texts)?;
+        let sizes: &[u64] = match slot_paths(&words).len() {
+            0 => &[],
+            1 => &[9],
+            2 => &[9, 9],
+            _ => &[9, 9, 9],
+        };
+        let mut bay = MemoryBay::new(alloc, sizes, 0, Vec::new(alloc), None)?;
+        assert_told(&rt, alloc, texts, &mut bay, 2, text)?;
+    }
+    Ok(())
+}

@@ -1,0 +1,54 @@
+// A call of the program over a bay in memory.
+use ddf_bay::{Bay, MemoryBay};
+use ddf_bytes::{MemorySink, MemorySource, Stamp};
+use ddf_command::{run, slot_paths};
+use std::alloc::{AllocError, Global};
+use std::process::Abort;
+use std::test::Fail;
+
+pub const STAMP: Stamp = Stamp {
+    seconds: 1_700_000_000,
+    salt: 6 * (1 << 64) + 7,
+};
+
+/// Words as the program gets them.
+pub fn words_of(alloc: Global, texts: &[&str]) -> Result<Vec<String>, AllocError> {
+    let mut words = Vec::new(alloc);
+    for text in texts {
+        words.push(String::from_str(alloc, text)?)?;
+    }
+    Ok(words)
+}
+
+/// What a call answers and prints, over an output of so much room whose listed calls fail.
+pub fn called(
+    rt: &impl Abort,
+    alloc: Global,
+    texts: &[&str],
+    bay: &mut MemoryBay,
+    room: usize,
+    failing: &[u64],
+) -> Result<(u8, Vec<u8>), Fail> {
+    let words = words_of(alloc, texts)?;
+    let mut source = MemorySource::new(Vec::new(alloc), Vec::new(alloc));
+    let mut sink = MemorySink::new(alloc, room, Vec::from_slice(alloc, failing)?)?;
+    assert_eq!(rt; bay.slots(), slot_paths(&words).len());
+    let status = run(alloc, &words, bay, &mut source, &mut sink, STAMP);
+    Ok((status, Vec::from_slice(alloc, sink.bytes())?))
+}
+
+/// Asserts what a call answers and prints over an output that takes all.
+pub fn assert_told(
+    rt: &impl Abort,
+    alloc: Global,
+    texts: &[&str],
+    bay: &mut MemoryBay,
+    status: u8,
+    text: &str,
+) -> Result<(), Fail> {
+    let (answer, bytes) = called(rt, alloc, texts, bay, 10_000, &[])?;
+    let printed = String::from_utf8(bytes).map_err(|_| "not text")?;
+    assert_eq!(rt; printed.as_str(), text);
+    assert_eq!(rt; answer, status, "{text}");
+    Ok(())
+}

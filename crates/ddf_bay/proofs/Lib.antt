@@ -1,0 +1,7 @@
+mod Mapped
+mod Marked
+pub mod Runs
+pub mod Steps
+pub mod Looks
+mod Finding
+mod Opened

@@ -1,0 +1,34 @@
+use Rattle.std.proofs.Common.{sym, ◌∙◌, arith}
+use Rattle.ddf_bay.specs.Records.{zeros}
+use Rattle.ddf_bay.specs.RecordLaws.{past_later, past_sync, held_sync, sync_settles, newest_sync}
+use Rattle.ddf_bay.specs.MemoryLaws.{still_left, still_since, sync_left, sync_since}
+use Rattle.ddf_bay.proofs.memory_calls.MemoryBayBay.sync.Goals as goal
+
+pub invariant_of-self : goal.invariant_of-self
+invariant_of-self c = record { few = c.args.self.now.few; small = c.args.self.now.small; past = past_later c.args.self.now.clock c.next-self.result c.args.self.now.log.records.items c.next-self.ensures.least c.args.self.now.past; counted = c.args.self.now.counted }
+
+pub returns-then-fails-clause-left : goal.returns-then-fails-clause-left
+returns-then-fails-clause-left c = still_left c.args.self.now.clock c.next-self.result c.args.self.now.log.records.items c.args.self.now.past c.next-self.ensures.least c.next-self.ensures.more
+
+pub returns-then-fails-clause-any_moment : goal.returns-then-fails-clause-any_moment
+returns-then-fails-clause-any_moment c = record { later = c.next-self.ensures.least; since = still_since c.args.self.now.clock c.next-self.result c.args.self.now.log.records.items c.args.self.now.past c.next-self.ensures.least c.next-self.ensures.more }
+
+pub invariant_of-self-2 : goal.invariant_of-self-2
+invariant_of-self-2 c = record {
+  few = c.args.self.now.few;
+  small = c.args.self.now.small;
+  past = rw c.settle.ensures.records (past_sync c.args.slot c.next-self.result c.args.self.now.log.records.items (past_later c.args.self.now.clock c.next-self.result c.args.self.now.log.records.items c.next-self.ensures.least c.args.self.now.past));
+  counted = omega (arith, c.settle.ensures.room, c.args.self.now.counted);
+}
+
+pub returns-clause-durable : goal.returns-clause-durable
+returns-clause-durable c = rw c.settle.ensures.records (λ l v left. sync_settles c.args.self.now.log.records.items c.args.slot c.next-self.result l v (past_later c.args.self.now.clock c.next-self.result c.args.self.now.log.records.items c.next-self.ensures.least c.args.self.now.past) left.1 ∙ sym (newest_sync c.args.slot c.next-self.result c.args.self.now.log.records.items c.args.slot l zeros))
+
+pub returns-clause-held : goal.returns-clause-held
+returns-clause-held c = rw c.settle.ensures.records (held_sync c.args.self.now.log.records.items c.args.slot c.next-self.result)
+
+pub returns-clause-left : goal.returns-clause-left
+returns-clause-left c = rw c.settle.ensures.records (sync_left c.args.self.now.clock c.next-self.result c.args.slot c.args.self.now.log.records.items c.args.self.now.past c.next-self.ensures.least c.next-self.ensures.more)
+
+pub returns-clause-any_moment : goal.returns-clause-any_moment
+returns-clause-any_moment c = record { later = c.next-self.ensures.least; since = rw c.settle.ensures.records (sync_since c.args.self.now.clock c.next-self.result c.args.slot c.args.self.now.log.records.items c.args.self.now.past c.next-self.ensures.least c.next-self.ensures.more) }

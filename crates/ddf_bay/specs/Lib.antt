@@ -1,0 +1,11 @@
+pub mod Sectors
+pub mod Moments
+pub mod ReadsOnly
+pub mod Counting
+pub mod Finding
+pub mod Records
+pub mod Memory
+pub mod RecordLaws
+pub mod MemoryLaws
+pub mod Files
+pub mod FileBays

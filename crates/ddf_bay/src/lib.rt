@@ -1,0 +1,23 @@
+//! Bays of disks: slots of sectors, and what a stop at any moment may leave of them.
+#![tactic(auto)]
+
+mod bay;
+mod counts;
+mod disk_fault;
+#[cfg(test)]
+mod example;
+mod file;
+mod index;
+mod log;
+mod memory;
+mod memory_calls;
+mod record;
+mod records;
+#[cfg(test)]
+mod tests;
+mod transfer;
+
+pub use bay::{Bay, BayFailed};
+pub use disk_fault::DiskFault;
+pub use file::FileBay;
+pub use memory::MemoryBay;

@@ -1,0 +1,93 @@
+// Whole transfers to and from a file. A call that fails, an interrupted one too, isn't tried again.
+ghost use Rattle.std.specs.Prelude.{◌≡◌, ◌<◌, ◌^◌, IfOk, IsErr, false, is_some};
+
+use crate::BayFailed;
+use std::fs::OpenFile;
+use std::io::{Read, Seek, SeekFrom, Write};
+
+/// The bytes of a sector.
+const SECTOR_BYTES: u64 = 512;
+
+/// Reads into the whole piece. An end before that is a failure.
+fn fill<F: Read>(file: &mut F, into: &mut [u8]) -> Result<(), BayFailed> {
+    let mut done = 0;
+    while done < into.len() {
+        let count = file.read(&mut into[done..]).map_err(|_| BayFailed)?;
+        if count == 0 {
+            return Err(BayFailed);
+        }
+        done += count;
+    }
+    Ok(())
+}
+
+/// Writes the whole piece. A write that takes nothing is a failure.
+fn put<F: Write>(file: &mut F, from: &[u8]) -> Result<(), BayFailed> {
+    let mut done = 0;
+    while done < from.len() {
+        let count = file.write(&from[done..]).map_err(|_| BayFailed)?;
+        if count == 0 {
+            return Err(BayFailed);
+        }
+        done += count;
+    }
+    Ok(())
+}
+
+fn seek_to<F: Seek>(file: &mut F, lba: u64) -> Result<(), BayFailed>
+    requires { lba < 2 ^ 55 }
+{
+    file.seek(SeekFrom::Start(lba * SECTOR_BYTES))
+        .map_err(|_| BayFailed)?;
+    Ok(())
+}
+
+/// The whole sectors of a file or a block device, by its end.
+pub(crate) fn sectors_of<F: Seek>(file: &mut F) -> Result<u64, BayFailed>
+    ensures { IfOk result (λ size. size < 2 ^ 55) }
+{
+    let bytes = file.seek(SeekFrom::End(0)).map_err(|_| BayFailed)?;
+    Ok(bytes / SECTOR_BYTES)
+}
+
+/// Reads the bytes of a run, from a file that could be opened.
+pub(crate) fn read_bytes<F: Read + Seek>(
+    file: &mut Option<F>,
+    lba: u64,
+    into: &mut [u8],
+) -> Result<(), BayFailed>
+    requires { lba < 2 ^ 55 }
+    ensures { is_some file.new ≡ is_some file.old }
+{
+    let Some(file) = file else {
+        return Err(BayFailed);
+    };
+    seek_to(file, lba)?;
+    fill(file, into)
+}
+
+/// Writes the bytes of a run, to a file that could be opened.
+pub(crate) fn write_bytes<F: Write + Seek>(
+    file: &mut Option<F>,
+    lba: u64,
+    from: &[u8],
+) -> Result<(), BayFailed>
+    requires { lba < 2 ^ 55 }
+    ensures { is_some file.new ≡ is_some file.old }
+{
+    let Some(file) = file else {
+        return Err(BayFailed);
+    };
+    seek_to(file, lba)?;
+    put(file, from)
+}
+
+/// Makes all that was written sure, of a file that could be opened.
+pub(crate) fn sync_file<F: OpenFile>(file: &Option<F>) -> Result<(), BayFailed>
+    ensures { is_some file.now ≡ false → IsErr result }
+{
+    match file {
+        Some(file) => file.sync_all().map_err(|_| BayFailed),
+        None => Err(BayFailed),
+    }
+}

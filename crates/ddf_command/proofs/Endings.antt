@@ -1,0 +1,82 @@
+-- How `examine` ends.
+use Rattle.std.proofs.Common.{◌≡◌, ◌⊎◌, inl, inr, ⊎_elim, ℕ, suc, ◌<◌, List, [], ◌∷◌, length, get_or, replicate, Bool, true, false, refl, sym, arith, if◌then◌else◌}
+use Rattle.std.specs.Prelude.{IsTrue}
+use Rattle.std.proofs.lemmas.Bool.{cases_lt}
+use Rattle.std.proofs.lemmas.List.{append-nil, length-replicate}
+use Rattle.ddf_bay.specs.Sectors.{Image}
+use Rattle.ddf_command.specs.Examine.{IsExamined, some_failed}
+use Rattle.ddf_command.specs.Run.{IsDone, SomeSlotRose}
+use Rattle.ddf_command.specs.declared.command.Command.{Command}
+use Rattle.ddf_command.specs.declared.command.Command.TheVariants.{Examine}
+use Rattle.ddf_command.specs.Words.{Word, GoWrongAt}
+use Rattle.ddf_command.specs.Status.{code_of}
+use Rattle.ddf_command.specs.declared.status.Status.{Status}
+use Rattle.ddf_command.specs.declared.status.Status.TheVariants as status
+use Rattle.ddf_command.proofs.Partway.{failed_padded}
+
+-- a slot that failed, where some did
+first_failed : (failed : List Bool) → some_failed failed ≡ true → (s : ℕ) × ((s < length failed) × IsTrue (get_or failed s false))
+first_failed [] some = cc
+first_failed (true ∷ fs) some = (0, (omega arith, refl))
+first_failed (false ∷ fs) some = let later = first_failed fs some in (suc later.0, (omega (arith, later.1.0), later.1.1))
+
+by_test : {A : Type 0} (b : Bool) → (b ≡ true → A) → (b ≡ false → A) → A
+by_test true on off = on refl
+by_test false on off = off refl
+
+quiet_status : (b : Bool) (status : ℕ) → status ≡ (if b then 3 else 0) → b ≡ false → status ≡ 0
+quiet_status true status e f = cc
+quiet_status false status e f = e
+
+fault_status : (b : Bool) (status : ℕ) → status ≡ 3 → status ≡ (if b then 3 else 0) → b ≡ true
+fault_status true status three e = refl
+fault_status false status three e = absurd (omega (arith, three, e))
+
+module _ {D : Type 0} (sizes : D → List ℕ) (held : D → Image) (failed_reads failed_writes : D → ℕ → ℕ) (old new : D) (told : Type 0) (before after : List ℕ) where
+  slot_rose : (status : ℕ) → (examined : IsExamined sizes held failed_reads failed_writes old new told before after status) → some_failed examined.failed ≡ true → SomeSlotRose sizes failed_reads failed_writes old new
+  slot_rose status examined some =
+      let first = first_failed examined.failed some in
+      record { slot = first.0; there = omega (arith, first.1.0, examined.every_slot); rose = examined.are_failed.rose first.0 first.1.0 first.1.1 }
+
+  -- status 3 comes from a slot
+  pub fault_cause : (status : ℕ) → IsExamined sizes held failed_reads failed_writes old new told before after status → status ≡ 3 → SomeSlotRose sizes failed_reads failed_writes old new
+  fault_cause status examined e = ⊎_elim
+      (λ ends. slot_rose status examined (fault_status (some_failed examined.failed) status e ends))
+      (λ short. absurd (⊎_elim (λ five. omega (arith, e, five)) (λ six. omega (arith, e, six)) short))
+      examined.ends_with.ends
+
+  -- where nothing failed it is done, or memory ran out
+  pub no_fault : (status : ℕ) → IsExamined sizes held failed_reads failed_writes old new told before after status → (SomeSlotRose sizes failed_reads failed_writes old new → ⊥) → (status ≡ 6 → ⊥) → (status ≡ 0) ⊎ (status ≡ 5)
+  no_fault status examined none good = ⊎_elim
+      (λ ends. by_test (some_failed examined.failed) (λ some. absurd (none (slot_rose status examined some))) (λ quiet. inl (quiet_status (some_failed examined.failed) status ends quiet)))
+      (λ short. ⊎_elim inr (λ six. absurd (good six)) short)
+      examined.ends_with.ends
+
+-- nothing was done before memory ran out
+nothing_done : {D : Type 0} (sizes : D → List ℕ) (held : D → Image) (failed_reads failed_writes : D → ℕ → ℕ) (old : D) (told : Type 0) (before : List ℕ) → IsExamined sizes held failed_reads failed_writes old old told before before 5
+nothing_done sizes held failed_reads failed_writes old told before = record {
+  failed = replicate (length (sizes old)) false;
+  every_slot = length-replicate (length (sizes old)) false;
+  are_failed = failed_padded failed_reads failed_writes old old [] (length (sizes old)) (record { rose = λ s lt. absurd (omega (arith, lt)); same = λ s lt. absurd (omega (arith, lt)) }) (λ s le. (refl, refl));
+  ends_with = record {
+    ends = inr (inl refl);
+    tells = λ tells. record { whole = λ low. absurd (omega (arith, low)); front = record { count = 0; within = omega arith; front = sym (append-nil before) } };
+  };
+}
+
+-- words go wrong at one place
+pub one_place : (accepted : List Word → Type 0) (words : List Word) (p q : ℕ) → GoWrongAt accepted words p → GoWrongAt accepted words q → p ≡ q
+one_place accepted words p q one other = ⊎_elim
+    (λ under. absurd (one.no_longer q under other.within other.good))
+    (λ from. ⊎_elim (λ over. absurd (other.no_longer p over one.within one.good)) (λ upto. omega (arith, from, upto)) (cases_lt q p))
+    (cases_lt p q)
+
+pub stream_status : (s : Status) → code_of s ≡ 6 → s ≡ status.Stream
+stream_status status.Ok e = absurd (omega (arith, e))
+stream_status status.Words e = absurd (omega (arith, e))
+stream_status status.DiskFault e = absurd (omega (arith, e))
+stream_status status.Memory e = absurd (omega (arith, e))
+stream_status status.Stream e = refl
+
+pub done_nothing : {D : Type 0} (sizes : D → List ℕ) (held : D → Image) (failed_reads failed_writes : D → ℕ → ℕ) (old : D) (told : Type 0) (before : List ℕ) (command : Command) → IsDone sizes held failed_reads failed_writes old old told before before command 5
+done_nothing sizes held failed_reads failed_writes old told before Examine = nothing_done sizes held failed_reads failed_writes old told before

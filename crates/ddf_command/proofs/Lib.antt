@@ -1,0 +1,5 @@
+mod Lists
+mod Grammar
+mod Partway
+mod Told
+mod Endings

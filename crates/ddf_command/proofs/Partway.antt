@@ -1,0 +1,221 @@
+-- `examine` between two slots.
+use Rattle.std.proofs.Common.{◌≡◌, ◌≢◌, ℕ, suc, ◌+◌, ◌-◌, ◌<◌, ◌≤◌, ◌⊎◌, inl, inr, ⊎_elim, List, [], ◌∷◌, ◌++◌, length, take, Bool, true, false, Result, Ok, Err, refl, sym, ap, ◌∙◌, arith, append_assoc, length-append, get_or, replicate, add-zero, zero-add, zero}
+use Rattle.std.specs.Prelude.{IfOk, OnOk, if◌then◌else◌, ◌||◌}
+use Rattle.std.proofs.lemmas.List.{append-nil, take_all, take-append-le, get_or_append_left, get_or-append-add, get_or-append_right, length-replicate}
+use Rattle.std.proofs.Math.Seq.{take-append-add}
+use Rattle.std.proofs.lemmas.Bool.{cases_lt}
+use Rattle.ddf_bytes.specs.Streams.{TakesFront}
+use Rattle.ddf_bay.specs.Sectors.{Image}
+use Rattle.ddf_bay.specs.ReadsOnly.{LooksAt, SlotRose, SlotSame}
+use Rattle.ddf_command.specs.Examine.{one_text, slots_text, AreFailed, some_failed, IsExamined, IsSlotShown}
+use Rattle.ddf_command.specs.declared.examine.Stop.{Stop}
+
+slots_text-append : (slot : ℕ) (fs gs : List Bool) (sizes : List ℕ) (held : Image) → slots_text slot (fs ++ gs) sizes held ≡ slots_text slot fs sizes held ++ slots_text (slot + length fs) gs sizes held
+slots_text-append slot [] gs sizes held = ap (λ (n : ℕ). slots_text n gs sizes held) (omega arith)
+slots_text-append slot (f ∷ fs) gs sizes held =
+    let e : suc slot + length fs ≡ slot + suc (length fs) = omega arith in
+    ap (λ (ts : List ℕ). one_text slot f sizes held ++ ts) (slots_text-append (suc slot) fs gs sizes held)
+    ∙ sym (append_assoc (one_text slot f sizes held) (slots_text (suc slot) fs sizes held) (slots_text (suc slot + length fs) gs sizes held))
+    ∙ ap (λ (n : ℕ). (one_text slot f sizes held ++ slots_text (suc slot) fs sizes held) ++ slots_text n gs sizes held) e
+
+some_failed-append : (fs : List Bool) (b : Bool) → some_failed (fs ++ b ∷ []) ≡ some_failed fs || b
+some_failed-append [] true = refl
+some_failed-append [] false = refl
+some_failed-append (true ∷ fs) b = refl
+some_failed-append (false ∷ fs) b = some_failed-append fs b
+
+-- ---- the slots that failed
+
+module _ {D : Type 0} (failed_reads failed_writes : D → ℕ → ℕ) where
+  abbrev Rises : D → D → ℕ → Type 0
+  Rises = SlotRose failed_reads failed_writes
+
+  abbrev Rests : D → D → ℕ → Type 0
+  Rests = SlotSame failed_reads failed_writes
+
+  module _ (old now next : D) (fs : List Bool) (b : Bool) (so_far : AreFailed failed_reads failed_writes old now fs)
+      (later : (s : ℕ) → length fs ≤ s → SlotSame failed_reads failed_writes old now s) (look : LooksAt failed_reads failed_writes now next (length fs) b) where
+    -- other slots stay
+    still : (s : ℕ) → s ≢ length fs → SlotSame failed_reads failed_writes now next s
+    still s differs = (look.reads.other_slots s differs, look.writes.other_slots s differs)
+
+    same_on : (s : ℕ) → s ≢ length fs → Rests old now s → Rests old next s
+    same_on s differs same = ((still s differs).0 ∙ same.0, (still s differs).1 ∙ same.1)
+
+    rose_on : (s : ℕ) → s ≢ length fs → Rises old now s → Rises old next s
+    rose_on s differs (inl reads) = inl (rw (still s differs).0 reads)
+    rose_on s differs (inr writes) = inr (rw (still s differs).1 writes)
+
+    here_rose : b ≡ true → Rises old next (length fs)
+    here_rose failed = let same = later (length fs) (omega arith) in ⊎_elim
+        (λ reads. inl (rw (← same.0) reads))
+        (λ writes. inr (rw (← same.1) writes))
+        (look.rose failed)
+
+    here_same : b ≡ false → Rests old next (length fs)
+    here_same good = let same = later (length fs) (omega arith) in ((look.same good).0 ∙ same.0, (look.same good).1 ∙ same.1)
+
+    earlier : (s : ℕ) → s < length fs → get_or (fs ++ b ∷ []) s false ≡ get_or fs s false
+    earlier s lt = get_or_append_left fs (b ∷ []) false s lt
+
+    here : get_or (fs ++ b ∷ []) (length fs) false ≡ b
+    here = ap (λ (n : ℕ). get_or (fs ++ b ∷ []) n false) (sym (add-zero (length fs))) ∙ get_or-append-add fs (b ∷ []) 0 false
+
+    one_longer : length (fs ++ b ∷ []) ≡ length fs + 1
+    one_longer = length-append fs (b ∷ [])
+
+    pub failed_more : AreFailed failed_reads failed_writes old next (fs ++ b ∷ [])
+    failed_more = record {
+      rose = λ s lt h. ⊎_elim
+          (λ before. rose_on s (λ e. omega (arith, e, before)) (so_far.rose s before (rw (earlier s before) at h)))
+          (λ from. let e : s ≡ length fs = omega (arith, one_longer) in rw e (here_rose (sym here ∙ (rw e at h))))
+          (cases_lt s (length fs));
+      same = λ s lt h. ⊎_elim
+          (λ before. same_on s (λ e. omega (arith, e, before)) (so_far.same s before (sym (earlier s before) ∙ h)))
+          (λ from. let e : s ≡ length fs = omega (arith, one_longer) in rw e (here_same (sym here ∙ (rw e at h))))
+          (cases_lt s (length fs));
+    }
+
+    pub later_more : (s : ℕ) → length fs + 1 ≤ s → SlotSame failed_reads failed_writes old next s
+    later_more s beyond = same_on s (λ e. omega (arith, e, beyond)) (later s (omega arith))
+
+  -- slots that were not looked at did not fail
+  pub failed_padded : (old now : D) (fs : List Bool) (count : ℕ) → AreFailed failed_reads failed_writes old now fs
+      → ((s : ℕ) → length fs ≤ s → SlotSame failed_reads failed_writes old now s) → AreFailed failed_reads failed_writes old now (fs ++ replicate count false)
+  failed_padded old now fs count so_far later = record {
+    rose = λ s lt h. ⊎_elim
+        (λ before. so_far.rose s before (rw (get_or_append_left fs (replicate count false) false s before) at h))
+        (λ from. let quiet : get_or (fs ++ replicate count false) s false ≡ false = get_or-append_right fs (replicate count false) (length fs) s false refl from ∙ all_quiet count (s - length fs) in cc)
+        (cases_lt s (length fs));
+    same = λ s lt h. ⊎_elim
+        (λ before. so_far.same s before (sym (get_or_append_left fs (replicate count false) false s before) ∙ h))
+        (λ from. later s from)
+        (cases_lt s (length fs));
+  }
+    where
+      all_quiet : (n k : ℕ) → get_or (replicate n false) k false ≡ false
+      all_quiet zero k = refl
+      all_quiet (suc n) zero = refl
+      all_quiet (suc n) (suc k) = all_quiet n k
+
+-- ---- the whole
+
+-- So many slots were shown.
+pub record IsPartway {D : Type 0} (sizes : D → List ℕ) (held : D → Image) (failed_reads failed_writes : D → ℕ → ℕ) (old now : D) (slot : ℕ) (told : Type 0) (before after : List ℕ) (fault : Bool) : Type 0 where
+  pub failed : List Bool
+  pub slots : length failed ≡ slot
+  pub are_failed : AreFailed failed_reads failed_writes old now failed
+  pub later : (s : ℕ) → slot ≤ s → SlotSame failed_reads failed_writes old now s
+  pub fault_is : fault ≡ some_failed failed
+  pub tells : told → after ≡ before ++ slots_text 0 failed (sizes old) (held old)
+
+-- ---- the text
+
+-- a front of a slot's lines, behind those of the slots before it
+pub front_told : (before after later : List ℕ) (fs gs : List Bool) (b : Bool) (sizes : List ℕ) (held : Image)
+    → after ≡ before ++ slots_text 0 fs sizes held → TakesFront after later (one_text (length fs) b sizes held)
+    → TakesFront before later (slots_text 0 (fs ++ b ∷ gs) sizes held)
+front_told before after later fs gs b sizes held so_far step =
+    let text : List ℕ = slots_text 0 fs sizes held in
+    let one : List ℕ = one_text (length fs) b sizes held in
+    let rest : List ℕ = slots_text (suc (length fs)) gs sizes held in
+    let parts : slots_text 0 (fs ++ b ∷ gs) sizes held ≡ text ++ (one ++ rest) = slots_text-append 0 fs (b ∷ gs) sizes held ∙ ap (λ (n : ℕ). text ++ slots_text n (b ∷ gs) sizes held) (zero-add (length fs)) in
+    rw parts (record {
+      count = length text + step.count;
+      within = omega (arith, step.within, length-append text (one ++ rest), length-append one rest);
+      front = step.front ∙ ap (λ (ts : List ℕ). ts ++ take step.count one) so_far ∙ append_assoc before text (take step.count one)
+          ∙ ap (λ (ts : List ℕ). before ++ ts) (sym (take-append-add text (one ++ rest) step.count ∙ ap (λ (ts : List ℕ). text ++ ts) (take-append-le step.count one rest step.within)));
+    })
+
+-- all lines of a slot, behind those of the slots before it
+whole_told : (before after later : List ℕ) (fs : List Bool) (b : Bool) (sizes : List ℕ) (held : Image)
+    → after ≡ before ++ slots_text 0 fs sizes held → later ≡ after ++ one_text (length fs) b sizes held
+    → later ≡ before ++ slots_text 0 (fs ++ b ∷ []) sizes held
+whole_told before after later fs b sizes held so_far step =
+    let text : List ℕ = slots_text 0 fs sizes held in
+    let parts : slots_text 0 (fs ++ b ∷ []) sizes held ≡ text ++ one_text (length fs) b sizes held =
+    slots_text-append 0 fs (b ∷ []) sizes held ∙ ap (λ (n : ℕ). text ++ slots_text n (b ∷ []) sizes held) (zero-add (length fs))
+    ∙ ap (λ (ts : List ℕ). text ++ ts) (append-nil (one_text (length fs) b sizes held)) in
+    step ∙ ap (λ (ts : List ℕ). ts ++ one_text (length fs) b sizes held) so_far ∙ append_assoc before text (one_text (length fs) b sizes held)
+    ∙ ap (λ (ts : List ℕ). before ++ ts) (sym parts)
+
+on_ok : {P : Type 0} (result : Result Bool Stop) (b : Bool) → result ≡ Ok b → OnOk result P → P
+on_ok (Ok a) b e h = h
+on_ok (Err stop) b e h = cc
+
+answered : (result : Result Bool Stop) (b failed : Bool) → result ≡ Ok b → IfOk result (λ answer. answer ≡ failed) → b ≡ failed
+answered (Ok a) b failed e h = cc
+answered (Err stop) b failed e h = cc
+
+module _ {D : Type 0} (sizes : D → List ℕ) (held : D → Image) (failed_reads failed_writes : D → ℕ → ℕ) (told : Type 0) where
+  -- before the first slot
+  pub partway_start : (a : D) (before : List ℕ) → IsPartway sizes held failed_reads failed_writes a a 0 told before before false
+  partway_start a before = record {
+    failed = [];
+    slots = refl;
+    are_failed = record { rose = λ s lt. absurd (omega (arith, lt)); same = λ s lt. absurd (omega (arith, lt)) };
+    later = λ s le. (refl, refl);
+    fault_is = refl;
+    tells = λ tells. sym (append-nil before);
+  }
+
+  module _ (old now next : D) (slot : ℕ) (before after later : List ℕ) (fault : Bool) (result : Result Bool Stop)
+      (so_far : IsPartway sizes held failed_reads failed_writes old now slot told before after fault)
+      (same_sizes : sizes now ≡ sizes old) (same_held : held now ≡ held old)
+      (shown : IsSlotShown sizes held failed_reads failed_writes now next slot told after later result) where
+    look : LooksAt failed_reads failed_writes now next (length so_far.failed) shown.failed
+    look = rw so_far.slots shown.look
+
+    rest : (s : ℕ) → length so_far.failed ≤ s → SlotSame failed_reads failed_writes old now s
+    rest s le = so_far.later s (omega (arith, so_far.slots))
+
+    failed : List Bool
+    failed = so_far.failed ++ shown.failed ∷ []
+
+    more : AreFailed failed_reads failed_writes old next (so_far.failed ++ shown.failed ∷ [])
+    more = failed_more failed_reads failed_writes old now next so_far.failed shown.failed so_far.are_failed rest look
+
+    beyond : (s : ℕ) → length so_far.failed + 1 ≤ s → SlotSame failed_reads failed_writes old next s
+    beyond = later_more failed_reads failed_writes old now next so_far.failed shown.failed so_far.are_failed rest look
+
+    next_slot : length (so_far.failed ++ shown.failed ∷ []) ≡ slot + 1
+    next_slot = length-append so_far.failed (shown.failed ∷ []) ∙ omega (arith, so_far.slots)
+
+    same_text : one_text slot shown.failed (sizes now) (held now) ≡ one_text (length so_far.failed) shown.failed (sizes old) (held old)
+    same_text = rw (same_sizes, same_held, so_far.slots) refl
+
+    -- one slot more
+    pub partway_more : (b : Bool) → result ≡ Ok b → IsPartway sizes held failed_reads failed_writes old next (slot + 1) told before later (fault || b)
+    partway_more b ok = record {
+      failed = so_far.failed ++ shown.failed ∷ [];
+      slots = next_slot;
+      are_failed = more;
+      later = λ s le. beyond s (omega (arith, so_far.slots));
+      fault_is = rw (so_far.fault_is, answered result b shown.failed ok shown.answer) (sym (some_failed-append so_far.failed shown.failed));
+      tells = λ tells. whole_told before after later so_far.failed shown.failed (sizes old) (held old) (so_far.tells tells) (on_ok result b ok (shown.whole tells) ∙ ap (λ (ts : List ℕ). after ++ ts) same_text);
+    }
+
+    -- memory or the output gave out
+    pub partway_stopped : (status : ℕ) → slot < length (sizes old) → (status ≡ 5) ⊎ (status ≡ 6) → IsExamined sizes held failed_reads failed_writes old next told before later status
+    partway_stopped status lt stop = record {
+      failed = (so_far.failed ++ shown.failed ∷ []) ++ replicate (length (sizes old) - (slot + 1)) false;
+      every_slot = length-append (so_far.failed ++ shown.failed ∷ []) (replicate (length (sizes old) - (slot + 1)) false) ∙ omega (arith, next_slot, length-replicate (length (sizes old) - (slot + 1)) false);
+      are_failed = failed_padded failed_reads failed_writes old next (so_far.failed ++ shown.failed ∷ []) (length (sizes old) - (slot + 1)) more (λ s le. beyond s (omega (arith, next_slot, so_far.slots)));
+      ends_with = record { ends = inr stop; tells = λ tells. record { whole = λ low. absurd (⊎_elim (λ e. omega (arith, e, low)) (λ e. omega (arith, e, low)) stop); front = rw append_assoc (front_told before after later so_far.failed (replicate (length (sizes old) - (slot + 1)) false) shown.failed (sizes old) (held old) (so_far.tells tells) (rw same_text at (shown.front tells))) } };
+    }
+
+  -- after the last slot
+  pub partway_done : (old now : D) (slot : ℕ) (before after : List ℕ) (fault : Bool) (status : ℕ) → IsPartway sizes held failed_reads failed_writes old now slot told before after fault
+      → slot ≡ length (sizes old) → status ≡ (if fault then 3 else 0) → IsExamined sizes held failed_reads failed_writes old now told before after status
+  partway_done old now slot before after fault status so_far last e = record {
+    failed = so_far.failed;
+    every_slot = so_far.slots ∙ last;
+    are_failed = so_far.are_failed;
+    ends_with = record {
+      ends = inl (e ∙ ap (λ (b : Bool). if b then 3 else 0) so_far.fault_is);
+      tells = λ tells. record {
+        whole = λ low. so_far.tells tells;
+        front = record { count = length (slots_text 0 so_far.failed (sizes old) (held old)); within = omega arith; front = so_far.tells tells ∙ ap (λ (ts : List ℕ). before ++ ts) (sym (take_all _ (slots_text 0 so_far.failed (sizes old) (held old)) (omega arith))) };
+      };
+    };
+  }

@@ -1,0 +1,12 @@
+use Rattle.std.proofs.Common.{◌≡◌, arith}
+use Rattle.std.proofs.lemmas.Grind.{common_steps}
+use Rattle.std.specs.Prelude.{slice_index, nat_lt, true}
+use Rattle.ddf_command.specs.Disk.{header_view}
+use Rattle.ddf_command.proofs.disk.view_header.Goals as goal
+
+pub returns-clause-view : goal.returns-clause-view
+unfolding header_view
+returns-clause-view g c = λ tells.
+    let bytes = c.in_ok-read.ensures.bytes tells in
+    let within : nat_lt c.args.lba (slice_index (g.B.Bay.sizes c.args.bay.now) c.args.slot) ≡ true = grind (arith, common_steps) in
+    rw (within, ← bytes) c.header_in.ensures

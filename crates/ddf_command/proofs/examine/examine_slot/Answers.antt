@@ -1,0 +1,26 @@
+use Rattle.std.proofs.Common.{◌≡◌, ℕ, List, arith, sym, ap, ◌∙◌, append-nil}
+use Rattle.std.specs.Prelude.{slice_index}
+use Rattle.std.specs.Result.{is_err}
+use Rattle.ddf_command.proofs.Told.{told_text}
+use Rattle.ddf_command.proofs.examine.examine_slot.Goals as goal
+
+pub returns-in_default-clause-shown : goal.returns-in_default-clause-shown
+returns-in_default-clause-shown g c = record {
+  failed = is_err c.view_disk-view.result;
+  look = c.view_disk-view.ensures.look;
+  answer = tt;
+  whole = λ told. tt;
+  front = λ told. record { count = 0; within = omega arith; front = sym (append-nil _) };
+}
+
+pub returns-then-is_err-clause-shown : goal.returns-then-is_err-clause-shown
+returns-then-is_err-clause-shown g c = record {
+  failed = is_err c.view_disk-view.result;
+  look = c.view_disk-view.ensures.look;
+  answer = tt;
+  whole = λ told. tt;
+  front = λ told.
+      let size : c.size.result ≡ slice_index (g.B.Bay.sizes c.args.bay.now) c.args.slot = c.size.ensures.size ∙ ap (λ (sizes : List ℕ). slice_index sizes c.args.slot) c.view_disk-view.ensures.reads.same_sizes in
+      let text = c.in-Ok.ensures.ok ∙ told_text c.args.slot c.size.result (g.B.Bay.sizes c.args.bay.now) (g.B.Bay.held c.args.bay.now) c.view_disk-view.result size (c.view_disk-view.ensures.view told.0) in
+      rw text at (rw c.as_bytes.ensures.value at (c.write_all.ensures.front told.1));
+}

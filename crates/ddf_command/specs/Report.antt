@@ -1,0 +1,83 @@
+-- The lines that `examine` prints of a slot.
+use Rattle.std.specs.Prelude.{ℕ, ◌-◌, List, [], ◌∷◌, ◌++◌, Option, Some, None, Result, Ok, Err, ◌==◌, nat_lt, codes, if◌then◌else◌}
+use Rattle.std.specs.Fmt.{decimal}
+use Rattle.std.specs.Int.{w32, to_be_bytes}
+use Rattle.hex.specs.Hex.{encode_lower}
+use Rattle.ddf_seal.specs.declared.sealing.SealFault.TheVariants as seal_faults
+use Rattle.ddf_bay.specs.declared.bay.BayFailed.{BayFailed}
+use Rattle.ddf_header.specs.declared.reading.Header.{Header}
+use Rattle.ddf_header.specs.declared.fault.HeaderFault.{HeaderFault}
+use Rattle.ddf_header.specs.declared.fault.HeaderFault.TheVariants as faults
+use Rattle.ddf_header.specs.Layout.{revision_text}
+use Rattle.ddf_command.specs.declared.disk.HeaderView.{HeaderView}
+use Rattle.ddf_command.specs.declared.disk.HeaderView.TheVariants as header_views
+use Rattle.ddf_command.specs.declared.disk.Headers.{Headers}
+use Rattle.ddf_command.specs.declared.disk.DiskView.{DiskView}
+use Rattle.ddf_command.specs.declared.disk.DiskView.TheVariants as views
+
+-- a signature or a CRC, and a byte
+abbrev pub hex32 : ℕ → List ℕ
+hex32 number = encode_lower (to_be_bytes w32 number)
+
+abbrev pub hex8 : ℕ → List ℕ
+hex8 byte = encode_lower (byte ∷ [])
+
+-- why a sector is no header of its kind
+abbrev pub reason_text : HeaderFault → List ℕ
+reason_text (faults.Seal (seal_faults.Signature found)) = codes "signature " ++ hex32 found
+reason_text (faults.Seal (seal_faults.Crc stored counted)) = codes "crc " ++ hex32 stored ++ codes " " ++ hex32 counted
+reason_text faults.Revision = codes "revision"
+reason_text (faults.OpenFlag flag) = codes "openflag " ++ hex8 flag
+reason_text faults.Place = codes "place"
+reason_text (faults.Kind kind) = codes "kind " ++ hex8 kind
+reason_text (faults.Geometry offset) = codes "geometry " ++ decimal offset
+
+-- a primary or secondary header
+abbrev pub header_text : HeaderView → List ℕ
+header_text (header_views.Header header) =
+    (if header.openness == 0 then codes "closed" else codes "open") ++ codes " sequence " ++ decimal header.sequence
+header_text header_views.Room = codes "room"
+header_text (header_views.Fault fault) = reason_text fault
+
+-- the sequence of a header whose gate is closed
+abbrev pub closed_sequence : HeaderView → Option ℕ
+closed_sequence (header_views.Header header) = if header.openness == 0 then Some header.sequence else None
+closed_sequence view = None
+
+-- which closed header has the greater sequence
+abbrev pub closed_text : Option ℕ → Option ℕ → List ℕ
+closed_text None None = codes "none"
+closed_text (Some primary) None = codes "primary"
+closed_text None (Some secondary) = codes "secondary"
+closed_text (Some primary) (Some secondary) =
+    if primary == secondary then codes "both" else if nat_lt secondary primary then codes "primary" else codes "secondary"
+
+abbrev pub group_line : ℕ → ℕ → Header → List ℕ
+group_line slot sectors anchor =
+    codes "slot " ++ decimal slot ++ codes " sectors " ++ decimal sectors ++ codes " group " ++ encode_lower anchor.guid
+    ++ codes " revision " ++ revision_text anchor.revision ++ codes "\n"
+
+abbrev pub place_line : ℕ → Header → List ℕ
+place_line sectors anchor =
+    codes "anchor " ++ decimal (sectors - 1) ++ codes " primary " ++ decimal anchor.primary_lba
+    ++ codes " secondary " ++ decimal anchor.secondary_lba ++ codes " workspace " ++ decimal anchor.geometry.workspace_lba
+    ++ codes " length " ++ decimal anchor.geometry.workspace_length ++ codes "\n"
+
+abbrev pub headers_lines : Headers → List ℕ
+headers_lines headers =
+    codes "primary header " ++ header_text headers.primary ++ codes "\nsecondary header " ++ header_text headers.secondary
+    ++ codes "\nclosed " ++ closed_text (closed_sequence headers.primary) (closed_sequence headers.secondary) ++ codes "\n"
+
+-- a call on the slot failed
+abbrev pub fault_text : ℕ → List ℕ
+fault_text slot = codes "slot " ++ decimal slot ++ codes " fault\n"
+
+-- what the slot shows
+abbrev pub view_text : ℕ → ℕ → DiskView → List ℕ
+view_text slot sectors views.Blank = codes "slot " ++ decimal slot ++ codes " blank\n"
+view_text slot sectors (views.Damaged fault) = codes "slot " ++ decimal slot ++ codes " damaged " ++ reason_text fault ++ codes "\n"
+view_text slot sectors (views.Headers headers) = group_line slot sectors headers.anchor ++ place_line sectors headers.anchor ++ headers_lines headers
+
+abbrev pub report_text : ℕ → ℕ → Result DiskView BayFailed → List ℕ
+report_text slot sectors (Ok view) = view_text slot sectors view
+report_text slot sectors (Err failed) = fault_text slot

@@ -1,0 +1,72 @@
+// `examine`: what each slot shows, slot by slot.
+ghost use Rattle.std.specs.Prelude.{◌≡◌, ◌<◌, ◌⊎◌, ◌≤◌, length, OnOk, IsErrOf};
+ghost use Rattle.ddf_bytes.specs.Counts.{Rose};
+ghost use Rattle.ddf_bay.specs.ReadsOnly.{ReadsOnly};
+ghost use Rattle.ddf_command.specs.Examine.{IsExamined, IsSlotShown};
+ghost use Rattle.ddf_command.specs.Status.{code_of};
+
+use crate::disk::view_disk;
+use crate::report::SlotReport;
+use crate::status::Status;
+use ddf_bay::Bay;
+use ddf_bytes::{Sink, write_all};
+use std::alloc::Global;
+
+/// Why a command ended before its time.
+#[derive(Clone, Copy, Debug, PartialEq, Eq)]
+pub(crate) enum Stop {
+    /// Memory ran out.
+    Memory,
+    /// The output failed, or took nothing.
+    Output,
+}
+
+/// Prints what each slot shows.
+pub(crate) fn examine<B: Bay, K: Sink>(alloc: Global, bay: &mut B, sink: &mut K) -> Status
+    ensures examined { IsExamined B.sizes B.held B.failed_reads B.failed_writes bay.old bay.new (B.tells × K.tells) (K.taken sink.old) (K.taken sink.new) (code_of result) }
+    ensures reads { ReadsOnly B.sizes B.held B.may_hold B.moment B.left_since B.sectors_written bay.old bay.new }
+    ensures stream { result ≡ Status.Stream → Rose (K.faults sink.old) (K.faults sink.new) ⊎ Rose (K.empty_takes sink.old) (K.empty_takes sink.new) }
+    ensures never_falls { K.faults sink.old ≤ K.faults sink.new }
+    ensures takes_never_fall { K.empty_takes sink.old ≤ K.empty_takes sink.new }
+{
+    let mut fault = false;
+    for slot in 0..bay.slots() {
+        match examine_slot(alloc, bay, slot, sink) {
+            Ok(failed) => fault |= failed,
+            Err(Stop::Memory) => return Status::Memory,
+            Err(Stop::Output) => return Status::Stream,
+        }
+    }
+    if fault { Status::DiskFault } else { Status::Ok }
+}
+
+/// Prints what a slot shows, and answers whether a call on it failed.
+fn examine_slot<B: Bay, K: Sink>(
+    alloc: Global,
+    bay: &mut B,
+    slot: usize,
+    sink: &mut K,
+) -> Result<bool, Stop>
+    requires { slot < length (B.sizes bay.old) }
+    ensures shown { IsSlotShown B.sizes B.held B.failed_reads B.failed_writes bay.old bay.new slot (B.tells × K.tells) (K.taken sink.old) (K.taken sink.new) result }
+    ensures reads { ReadsOnly B.sizes B.held B.may_hold B.moment B.left_since B.sectors_written bay.old bay.new }
+    ensures ok { OnOk result (K.faults sink.new ≡ K.faults sink.old) }
+    ensures ok_takes { OnOk result (K.empty_takes sink.new ≡ K.empty_takes sink.old) }
+    ensures output { IsErrOf result Stop.Output → Rose (K.faults sink.old) (K.faults sink.new) ⊎ Rose (K.empty_takes sink.old) (K.empty_takes sink.new) }
+    ensures never_falls { K.faults sink.old ≤ K.faults sink.new }
+    ensures takes_never_fall { K.empty_takes sink.old ≤ K.empty_takes sink.new }
+{
+    let view = view_disk(bay, slot);
+    let report = SlotReport {
+        slot,
+        sectors: bay.size(slot),
+        view: &view,
+    };
+    let Ok(text) = report.to_string(alloc) else {
+        return Err(Stop::Memory);
+    };
+    if write_all(sink, text.as_bytes()).is_err() {
+        return Err(Stop::Output);
+    }
+    Ok(view.is_err())
+}

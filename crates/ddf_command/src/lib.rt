@@ -1,0 +1,14 @@
+//! The commands of `ddf`: its words, its text, and the call that the program makes.
+#![tactic(auto)]
+
+mod command;
+mod disk;
+mod dispatch;
+mod examine;
+mod report;
+mod status;
+mod words;
+
+pub use command::{Asked, Command};
+pub use dispatch::run;
+pub use words::{WordFault, asked, image_paths, slot_paths};

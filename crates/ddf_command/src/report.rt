@@ -1,0 +1,219 @@
+// The lines that `examine` prints of a slot.
+ghost use Rattle.std.specs.Prelude.{◌≡◌};
+ghost use Rattle.ddf_command.specs.Report.{closed_sequence, closed_text};
+
+use crate::disk::{DiskView, HeaderView, Headers};
+use ddf_bay::BayFailed;
+use ddf_bytes::{Hex8, Hex32};
+use ddf_header::{Header, HeaderFault, Revision};
+use ddf_seal::SealFault;
+use std::fmt;
+
+/// The lines of a slot.
+#[derive(Drop)]
+pub(crate) struct SlotReport<'a> {
+    pub slot: usize,
+    pub sectors: u64,
+    /// What the slot shows, unless a call on it failed.
+    pub view: &'a Result<DiskView, BayFailed>,
+}
+
+/// The group, and the size of the slot.
+#[derive(Drop)]
+struct GroupLine<'a> {
+    slot: usize,
+    sectors: u64,
+    anchor: &'a Header,
+}
+
+/// Where the headers and the workspace lie.
+#[derive(Drop)]
+struct PlaceLine<'a> {
+    sectors: u64,
+    anchor: &'a Header,
+}
+
+/// The two headers, and which one counts.
+#[derive(Drop)]
+struct HeadersLines<'a>(&'a Headers);
+
+/// A primary or secondary header.
+#[derive(Drop)]
+struct HeaderText<'a>(&'a HeaderView);
+
+/// Why a sector is no header.
+#[derive(Drop)]
+struct Reason<'a>(&'a HeaderFault);
+
+/// A revision as it stands in a header.
+#[derive(Drop)]
+struct RevisionText(Revision);
+
+impl fmt::Display for SlotReport<'_> {
+    ghost use Rattle.std.specs.Prelude.{Some};
+    ghost use Rattle.ddf_command.specs.Report.{report_text};
+
+    ghost output = { λ report. Some (report_text report.slot report.sectors report.view.now) };
+
+    fn fmt<W: fmt::Write>(&self, f: &mut fmt::Formatter<W>) -> fmt::Result {
+        let slot = self.slot;
+        let sectors = self.sectors;
+        match self.view {
+            Err(_) => writeln!(f, "slot {slot} fault"),
+            Ok(DiskView::Blank) => writeln!(f, "slot {slot} blank"),
+            Ok(DiskView::Damaged(fault)) => writeln!(f, "slot {slot} damaged {}", Reason(fault)),
+            Ok(DiskView::Headers(headers)) => {
+                let anchor = &headers.anchor;
+                let group = GroupLine {
+                    slot,
+                    sectors,
+                    anchor,
+                };
+                let place = PlaceLine { sectors, anchor };
+                write!(f, "{group}{place}{}", HeadersLines(headers))
+            }
+        }
+    }
+}
+
+impl fmt::Display for GroupLine<'_> {
+    ghost use Rattle.std.specs.Prelude.{Some};
+    ghost use Rattle.ddf_command.specs.Report.{group_line};
+
+    ghost output = { λ line. Some (group_line line.slot line.sectors line.anchor.now) };
+
+    fn fmt<W: fmt::Write>(&self, f: &mut fmt::Formatter<W>) -> fmt::Result {
+        let slot = self.slot;
+        let sectors = self.sectors;
+        let group = self.anchor.guid;
+        let revision = RevisionText(self.anchor.revision);
+        writeln!(
+            f,
+            "slot {slot} sectors {sectors} group {group} revision {revision}"
+        )
+    }
+}
+
+impl fmt::Display for PlaceLine<'_> {
+    ghost use Rattle.std.specs.Prelude.{Some};
+    ghost use Rattle.ddf_command.specs.Report.{place_line};
+
+    ghost output = { λ line. Some (place_line line.sectors line.anchor.now) };
+
+    fn fmt<W: fmt::Write>(&self, f: &mut fmt::Formatter<W>) -> fmt::Result {
+        let last = self.sectors.saturating_sub(1);
+        let primary = self.anchor.primary_lba;
+        let secondary = self.anchor.secondary_lba;
+        let workspace = self.anchor.geometry.workspace_lba;
+        let length = self.anchor.geometry.workspace_length;
+        writeln!(
+            f,
+            "anchor {last} primary {primary} secondary {secondary} workspace {workspace} length {length}"
+        )
+    }
+}
+
+impl fmt::Display for HeadersLines<'_> {
+    ghost use Rattle.std.specs.Prelude.{Some};
+    ghost use Rattle.ddf_command.specs.Report.{headers_lines};
+
+    ghost output = { λ lines. Some (headers_lines lines.0.now) };
+
+    fn fmt<W: fmt::Write>(&self, f: &mut fmt::Formatter<W>) -> fmt::Result {
+        let primary = HeaderText(&self.0.primary);
+        let secondary = HeaderText(&self.0.secondary);
+        let closed = closed_word(
+            closed_sequence(&self.0.primary),
+            closed_sequence(&self.0.secondary),
+        );
+        writeln!(
+            f,
+            "primary header {primary}\nsecondary header {secondary}\nclosed {closed}"
+        )
+    }
+}
+
+impl fmt::Display for HeaderText<'_> {
+    ghost use Rattle.std.specs.Prelude.{Some};
+    ghost use Rattle.ddf_command.specs.Report.{header_text};
+
+    ghost output = { λ text. Some (header_text text.0.now) };
+
+    fn fmt<W: fmt::Write>(&self, f: &mut fmt::Formatter<W>) -> fmt::Result {
+        match self.0 {
+            HeaderView::Header(header) => {
+                let gate = if header.openness == 0 {
+                    "closed"
+                } else {
+                    "open"
+                };
+                let sequence = header.sequence;
+                write!(f, "{gate} sequence {sequence}")
+            }
+            HeaderView::Room => write!(f, "room"),
+            HeaderView::Fault(fault) => write!(f, "{}", Reason(fault)),
+        }
+    }
+}
+
+impl fmt::Display for Reason<'_> {
+    ghost use Rattle.std.specs.Prelude.{Some};
+    ghost use Rattle.ddf_command.specs.Report.{reason_text};
+
+    ghost output = { λ reason. Some (reason_text reason.0.now) };
+
+    fn fmt<W: fmt::Write>(&self, f: &mut fmt::Formatter<W>) -> fmt::Result {
+        match *self.0 {
+            HeaderFault::Seal(SealFault::Signature(found)) => {
+                write!(f, "signature {}", Hex32(found))
+            }
+            HeaderFault::Seal(SealFault::Crc { stored, counted }) => {
+                write!(f, "crc {} {}", Hex32(stored), Hex32(counted))
+            }
+            HeaderFault::Revision => write!(f, "revision"),
+            HeaderFault::OpenFlag(flag) => write!(f, "openflag {}", Hex8(flag)),
+            HeaderFault::Place => write!(f, "place"),
+            HeaderFault::Kind(kind) => write!(f, "kind {}", Hex8(kind)),
+            HeaderFault::Geometry(offset) => write!(f, "geometry {offset}"),
+        }
+    }
+}
+
+impl fmt::Display for RevisionText {
+    ghost use Rattle.std.specs.Prelude.{Some};
+    ghost use Rattle.ddf_header.specs.Layout.{revision_text};
+
+    ghost output = { λ text. Some (revision_text text.0) };
+
+    fn fmt<W: fmt::Write>(&self, f: &mut fmt::Formatter<W>) -> fmt::Result {
+        match self.0 {
+            Revision::R100 => write!(f, "01.00.00"),
+            Revision::R120 => write!(f, "01.02.00"),
+            Revision::R200 => write!(f, "02.00.00"),
+        }
+    }
+}
+
+/// The sequence of a header whose gate is closed.
+fn closed_sequence(view: &HeaderView) -> Option<u32>
+    ensures { result ≡ closed_sequence view.now }
+{
+    match view {
+        HeaderView::Header(header) if header.openness == 0 => Some(header.sequence),
+        _ => None,
+    }
+}
+
+/// Which of two closed headers counts: the one of the greater sequence.
+fn closed_word(primary: Option<u32>, secondary: Option<u32>) -> &'static str
+    ensures { result.now ≡ closed_text primary secondary }
+{
+    match (primary, secondary) {
+        (None, None) => "none",
+        (Some(_), None) => "primary",
+        (None, Some(_)) => "secondary",
+        (Some(primary), Some(secondary)) if primary == secondary => "both",
+        (Some(primary), Some(secondary)) if primary > secondary => "primary",
+        (Some(_), Some(_)) => "secondary",
+    }
+}

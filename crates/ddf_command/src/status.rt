@@ -1,0 +1,26 @@
+ghost use Rattle.std.specs.Prelude.{◌≡◌};
+ghost use Rattle.ddf_command.specs.Status.{code_of};
+
+/// How a command ended: the exit statuses of the program.
+#[derive(Clone, Copy, Debug, PartialEq, Eq)]
+pub(crate) enum Status {
+    /// All that was asked for was done.
+    Ok = 0,
+    /// The words are no command's.
+    Words = 2,
+    /// A call on a disk failed.
+    DiskFault = 3,
+    /// Memory ran out.
+    Memory = 5,
+    /// The input failed, or the output failed or took nothing.
+    Stream = 6,
+}
+
+impl Status {
+    /// The number of the status.
+    pub(crate) fn code(self) -> u8
+        ensures { result ≡ code_of self }
+    {
+        self as u8
+    }
+}
