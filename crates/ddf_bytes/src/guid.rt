@@ -5,7 +5,7 @@ ghost use Rattle.hex.specs.Hex.{encode_lower};
 ghost use Rattle.ddf_bytes.specs.Guids.{is_lower_digit, IsGuid, new_guid_bytes};
 
 use crate::Stamp;
-use crate::hex_text::{put_digits, text_of};
+use crate::hex_text::{ascii_text, put_digits};
 use std::fmt;
 use std::marker::Model;
 
@@ -94,7 +94,7 @@ impl fmt::Display for Guid {
     fn fmt<W: fmt::Write>(&self, f: &mut fmt::Formatter<W>) -> fmt::Result {
         let mut digits = [0; 48];
         self.print(&mut digits);
-        f.write_str(text_of(&digits))
+        f.write_str(ascii_text(&digits))
     }
 }
 

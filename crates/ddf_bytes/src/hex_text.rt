@@ -18,8 +18,8 @@ pub struct Hex16(pub u16);
 #[derive(Clone, Copy, Debug, PartialEq, Eq)]
 pub struct Hex32(pub u32);
 
-/// Writes the two digits of each byte.
-pub(crate) fn put_digits(bytes: &[u8], into: &mut [u8])
+/// Writes the two lower-case hexadecimal digits of each byte.
+pub fn put_digits(bytes: &[u8], into: &mut [u8])
     requires { length into.old ≡ 2 * length bytes.now }
     ensures digits { into.new ≡ encode_lower bytes.now }
     ensures ascii { IsAscii into.new }
@@ -30,12 +30,12 @@ pub(crate) fn put_digits(bytes: &[u8], into: &mut [u8])
     }
 }
 
-/// Digits as text.
-pub(crate) fn text_of(digits: &[u8]) -> &str
-    requires { IsAscii digits.now }
-    ensures { result.now ≡ digits.now }
+/// Bytes below 80 as text.
+pub fn ascii_text(bytes: &[u8]) -> &str
+    requires { IsAscii bytes.now }
+    ensures { result.now ≡ bytes.now }
 {
-    match str::from_utf8(digits) {
+    match str::from_utf8(bytes) {
         Ok(text) => text,
         Err(_) => unreachable!(),
     }
@@ -47,7 +47,7 @@ impl fmt::Display for Hex8 {
     fn fmt<W: fmt::Write>(&self, f: &mut fmt::Formatter<W>) -> fmt::Result {
         let mut digits = [0; 2];
         put_digits(&[self.0], &mut digits);
-        f.write_str(text_of(&digits))
+        f.write_str(ascii_text(&digits))
     }
 }
 
@@ -57,7 +57,7 @@ impl fmt::Display for Hex16 {
     fn fmt<W: fmt::Write>(&self, f: &mut fmt::Formatter<W>) -> fmt::Result {
         let mut digits = [0; 4];
         put_digits(&self.0.to_be_bytes(), &mut digits);
-        f.write_str(text_of(&digits))
+        f.write_str(ascii_text(&digits))
     }
 }
 
@@ -67,6 +67,6 @@ impl fmt::Display for Hex32 {
     fn fmt<W: fmt::Write>(&self, f: &mut fmt::Formatter<W>) -> fmt::Result {
         let mut digits = [0; 8];
         put_digits(&self.0.to_be_bytes(), &mut digits);
-        f.write_str(text_of(&digits))
+        f.write_str(ascii_text(&digits))
     }
 }

@@ -15,7 +15,7 @@ mod std_sink;
 mod std_source;
 
 pub use guid::{Guid, GuidKind, new_guid};
-pub use hex_text::{Hex8, Hex16, Hex32};
+pub use hex_text::{Hex8, Hex16, Hex32, ascii_text, put_digits};
 pub use memory_sink::MemorySink;
 pub use memory_source::MemorySource;
 pub use no_memory::NoMemory;

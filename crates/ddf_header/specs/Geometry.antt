@@ -1,5 +1,5 @@
 -- The part of a header that says how a disk is laid out. The rules of size are profile.
-use Rattle.std.specs.Prelude.{◌≡◌, ℕ, ◌+◌, ◌*◌, ◌/◌, ◌<◌, ◌≤◌, Bool, false, IsTrue, slice_get, not, ◌&&◌, ◌||◌, ◌==◌, nat_lt, List, [], ◌∷◌, take, Option, Some, None, option_map, if◌then◌else◌, position}
+use Rattle.std.specs.Prelude.{◌≡◌, ℕ, ◌+◌, ◌*◌, ◌/◌, ◌<◌, ◌≤◌, Bool, false, IsTrue, slice_get, not, ◌&&◌, ◌||◌, ◌==◌, nat_lt, List, [], ◌∷◌, take, Option, Some, None, option_map, if◌then◌else◌, position, unwrap_or}
 use Rattle.std.specs.List.{flat_map, list_any, enumerate_from}
 use Rattle.std.specs.Option.{option_or}
 use Rattle.std.specs.Int.{w16, w32, w64}
@@ -65,6 +65,10 @@ record_sectors members = 1 + (12 * members + 511) / 512
 
 abbrev pub is_absent : Section → Bool
 is_absent section = section.length == 0
+
+-- the section at a place
+abbrev pub section_of : Geometry → ℕ → Section
+section_of geometry index = unwrap_or (slice_get geometry.sections index) (record { offset = 0; length = 0 })
 
 -- the fewest bytes of a section: a row of head and a row for each entry, or one record
 unfoldable pub least_bytes : Geometry → ℕ → ℕ

@@ -1,4 +1,4 @@
-ghost use Rattle.std.specs.Prelude.{◌≡◌, [], ◌∷◌, ◌+◌, ◌<◌, ◌≤◌, length, take, IfSome};
+ghost use Rattle.std.specs.Prelude.{◌≡◌, [], ◌∷◌, ◌+◌, ◌<◌, ◌≤◌, length, take, slice_get, Some, IfSome};
 ghost use Rattle.std.specs.List.{flat_map, list_any};
 ghost use Rattle.std.specs.Int.{w32, to_be_bytes};
 ghost use Rattle.ddf_seal.specs.Unread.{placed, written};
@@ -6,6 +6,7 @@ ghost use Rattle.ddf_header.specs.Geometry.{
   geometry_at,
   geometry_fields,
   section_numbers,
+  section_of,
   geometry_fault,
   section_at,
   is_maximum,
@@ -110,6 +111,15 @@ impl Geometry {
         put16(header, layout::RECORD_LENGTH, self.record_length);
         put16(header, layout::MAX_MEMBERS, self.max_members);
         put_sections(header, &self.sections);
+    }
+
+    /// The section at a place (`CONTROLLER` to `VENDOR_LOGS`).
+    pub fn section(&self, index: usize) -> Section
+        requires { index < 8 }
+        ensures value { result ≡ section_of self.now index }
+        ensures found { slice_get self.now.sections index ≡ Some result }
+    {
+        self.sections[index]
     }
 
     /// The offset in the header of the first field of the geometry that has a value that it may not have. The rules of the

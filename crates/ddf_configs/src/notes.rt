@@ -1,0 +1,25 @@
+use ddf_bytes::{Guid, Seq};
+
+/// The notes that this project keeps on each member, in a vendor's record of its own (profile).
+#[derive(Debug, Drop)]
+pub struct Notes {
+    /// The GUID of the group.
+    pub group: Guid,
+    /// The sequence number of the header that the notes belong to.
+    pub sequence: u32,
+    /// A note for each slot of the section.
+    pub slots: Seq<SlotNote>,
+}
+
+/// What is noted about a slot (profile).
+#[derive(Debug, Drop)]
+pub struct SlotNote {
+    /// Whether the slot is a copy of an element's record, on a disk that isn't a member of the element.
+    pub copied: bool,
+    /// The position that is rebuilt. FFFF is none.
+    pub position: u16,
+    /// The row that the rebuild has come to.
+    pub row: u64,
+    /// The positions that are out of sync, in rising order.
+    pub out: Seq<u16>,
+}

@@ -1,0 +1,11 @@
+pub mod Nones
+pub mod Parts
+pub mod TableRows
+pub mod TableValues
+pub mod TableSections
+pub mod DiskRows
+pub mod ArrayRows
+pub mod SectorValues
+pub mod LogEntries
+pub mod LogValues
+pub mod Names

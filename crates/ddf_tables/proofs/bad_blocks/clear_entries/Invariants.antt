@@ -1,0 +1,7 @@
+use Rattle.std.proofs.Common.{◌≡◌}
+use Rattle.ddf_seal.specs.Unread.{cleared}
+use Rattle.ddf_tables.specs.BadBlocks.{entry_places}
+use Rattle.ddf_tables.proofs.bad_blocks.clear_entries.Given as goal
+
+abbrev pub invariant-loop-index : goal.invariant-loop-index
+invariant-loop-index l = l.section ≡ cleared (entry_places 32 l.index) l.initial.section
