@@ -10,9 +10,9 @@ if [ ! -d "$disks" ]; then
     exit 0
 fi
 
-# The lines that the program prints today: those of the headers.
+# The lines that the program prints today: all but those that say whether a copy is whole, and which is the newest.
 printed_today() {
-    grep -E '^(slot|anchor|primary header|secondary header|closed) ' "$1"
+    grep -vE '^(primary copy|secondary copy|newest) ' "$1"
 }
 
 work=$(mktemp -d)

@@ -2,4 +2,7 @@ mod Lists
 mod Grammar
 mod Partway
 mod Told
+mod Names
+mod Within
+mod Listings
 mod Endings

@@ -6,7 +6,9 @@ use Rattle.ddf_header.specs.declared.kind.HeaderKind.{HeaderKind}
 use Rattle.ddf_header.specs.declared.kind.HeaderKind.TheVariants.{Anchor, Primary, Secondary}
 use Rattle.ddf_header.specs.declared.reading.Header.{Header}
 use Rattle.ddf_header.specs.declared.fault.HeaderFault.{HeaderFault}
+use Rattle.ddf_header.specs.Geometry.{IsSound}
 use Rattle.ddf_header.specs.Header.{header_signature, decoded}
+use Rattle.ddf_command.specs.Listing.{closed_header, counting, listing_of}
 use Rattle.ddf_command.specs.declared.disk.AnchorView.{AnchorView}
 use Rattle.ddf_command.specs.declared.disk.AnchorView.TheVariants as anchors
 use Rattle.ddf_command.specs.declared.disk.HeaderView.{HeaderView}
@@ -23,13 +25,23 @@ decoded_view (Err fault) = header_views.Fault fault
 unfoldable pub header_view : ℕ → (ℕ → List ℕ) → ℕ → HeaderKind → HeaderView
 header_view size sector lba kind = if nat_lt lba size then decoded_view (decoded kind (sector lba)) else header_views.Room
 
--- the anchor, and the two headers that it names
+-- A header has a sound geometry.
+abbrev pub IsSoundView : HeaderView → Type 0
+IsSoundView (header_views.Header header) = IsSound header.geometry
+IsSoundView header_views.Room = Unit {0}
+IsSoundView (header_views.Fault fault) = Unit {0}
+
+-- the anchor, the two headers that it names, and what is listed of the copy that counts
 abbrev pub headers_view : ℕ → (ℕ → List ℕ) → Header → Headers
-headers_view size sector anchor = record {
-  anchor = anchor;
-  primary = header_view size sector anchor.primary_lba Primary;
-  secondary = header_view size sector anchor.secondary_lba Secondary;
-}
+headers_view size sector anchor =
+    let primary = header_view size sector anchor.primary_lba Primary in
+    let secondary = header_view size sector anchor.secondary_lba Secondary in
+    record {
+      anchor = anchor;
+      primary = primary;
+      secondary = secondary;
+      listing = listing_of size sector anchor (counting (closed_header primary) (closed_header secondary));
+    }
 
 abbrev pub decoded_anchor : Result Header HeaderFault → AnchorView
 decoded_anchor (Ok anchor) = anchors.Anchor anchor

@@ -1,7 +1,11 @@
 pub mod Disk
 pub mod Examine
 pub mod Refusal
+pub mod Hexes
 pub mod Report
+pub mod Records
+pub mod Listing
+pub mod Looks
 pub mod Run
 pub mod Status
 pub mod Tells

@@ -1,10 +1,8 @@
 -- The lines that `examine` prints of a slot.
-use Rattle.std.specs.Prelude.{ℕ, ◌-◌, List, [], ◌∷◌, ◌++◌, Option, Some, None, Result, Ok, Err, ◌==◌, nat_lt, codes, if◌then◌else◌}
+use Rattle.std.specs.Prelude.{ℕ, ◌-◌, List, [], ◌++◌, Option, Some, None, Result, Ok, Err, ◌==◌, nat_lt, codes, if◌then◌else◌}
 use Rattle.std.specs.Fmt.{decimal}
-use Rattle.std.specs.Int.{w32, to_be_bytes}
 use Rattle.hex.specs.Hex.{encode_lower}
 use Rattle.ddf_seal.specs.declared.sealing.SealFault.TheVariants as seal_faults
-use Rattle.ddf_bay.specs.declared.bay.BayFailed.{BayFailed}
 use Rattle.ddf_header.specs.declared.reading.Header.{Header}
 use Rattle.ddf_header.specs.declared.fault.HeaderFault.{HeaderFault}
 use Rattle.ddf_header.specs.declared.fault.HeaderFault.TheVariants as faults
@@ -14,13 +12,10 @@ use Rattle.ddf_command.specs.declared.disk.HeaderView.TheVariants as header_view
 use Rattle.ddf_command.specs.declared.disk.Headers.{Headers}
 use Rattle.ddf_command.specs.declared.disk.DiskView.{DiskView}
 use Rattle.ddf_command.specs.declared.disk.DiskView.TheVariants as views
-
--- a signature or a CRC, and a byte
-abbrev pub hex32 : ℕ → List ℕ
-hex32 number = encode_lower (to_be_bytes w32 number)
-
-abbrev pub hex8 : ℕ → List ℕ
-hex8 byte = encode_lower (byte ∷ [])
+use Rattle.ddf_command.specs.declared.sections.LookFault.{LookFault}
+use Rattle.ddf_command.specs.declared.sections.LookFault.TheVariants.{Disk, Memory}
+use Rattle.ddf_command.specs.Hexes.{hex8, hex32}
+use Rattle.ddf_command.specs.Records.{listing_text}
 
 -- why a sector is no header of its kind
 abbrev pub reason_text : HeaderFault → List ℕ
@@ -72,12 +67,24 @@ headers_lines headers =
 abbrev pub fault_text : ℕ → List ℕ
 fault_text slot = codes "slot " ++ decimal slot ++ codes " fault\n"
 
+-- the lines of the three headers
+abbrev pub head_text : ℕ → ℕ → Headers → List ℕ
+head_text slot sectors headers = group_line slot sectors headers.anchor ++ place_line sectors headers.anchor ++ headers_lines headers
+
 -- what the slot shows
 abbrev pub view_text : ℕ → ℕ → DiskView → List ℕ
 view_text slot sectors views.Blank = codes "slot " ++ decimal slot ++ codes " blank\n"
 view_text slot sectors (views.Damaged fault) = codes "slot " ++ decimal slot ++ codes " damaged " ++ reason_text fault ++ codes "\n"
-view_text slot sectors (views.Headers headers) = group_line slot sectors headers.anchor ++ place_line sectors headers.anchor ++ headers_lines headers
+view_text slot sectors (views.Headers headers) = head_text slot sectors headers ++ listing_text headers.listing
 
-abbrev pub report_text : ℕ → ℕ → Result DiskView BayFailed → List ℕ
+-- what is told of a look at a slot
+abbrev pub report_text : ℕ → ℕ → Result DiskView LookFault → List ℕ
 report_text slot sectors (Ok view) = view_text slot sectors view
-report_text slot sectors (Err failed) = fault_text slot
+report_text slot sectors (Err Disk) = fault_text slot
+report_text slot sectors (Err Memory) = []
+
+-- Something is told of it: memory didn't run out.
+abbrev pub IsTold : Result DiskView LookFault → Type 0
+IsTold (Ok view) = Unit {0}
+IsTold (Err Disk) = Unit {0}
+IsTold (Err Memory) = ⊥

@@ -3,10 +3,12 @@ ghost use Rattle.std.specs.Prelude.{◌≡◌, ◌<◌, ◌⊎◌, ◌≤◌, le
 ghost use Rattle.ddf_bytes.specs.Counts.{Rose};
 ghost use Rattle.ddf_bay.specs.ReadsOnly.{ReadsOnly};
 ghost use Rattle.ddf_command.specs.Examine.{IsExamined, IsSlotShown};
+ghost use Rattle.ddf_command.specs.Looks.{is_disk_fault};
 ghost use Rattle.ddf_command.specs.Status.{code_of};
 
-use crate::disk::view_disk;
-use crate::report::SlotReport;
+use crate::disk::{DiskView, view_disk};
+use crate::report::slot_text;
+use crate::sections::LookFault;
 use crate::status::Status;
 use ddf_bay::Bay;
 use ddf_bytes::{Sink, write_all};
@@ -56,17 +58,19 @@ fn examine_slot<B: Bay, K: Sink>(
     ensures never_falls { K.faults sink.old ≤ K.faults sink.new }
     ensures takes_never_fall { K.empty_takes sink.old ≤ K.empty_takes sink.new }
 {
-    let view = view_disk(bay, slot);
-    let report = SlotReport {
-        slot,
-        sectors: bay.size(slot),
-        view: &view,
-    };
-    let Ok(text) = report.to_string(alloc) else {
+    let view = view_disk(alloc, bay, slot);
+    let Ok(text) = slot_text(alloc, slot, bay.size(slot), &view) else {
         return Err(Stop::Memory);
     };
     if write_all(sink, text.as_bytes()).is_err() {
         return Err(Stop::Output);
     }
-    Ok(view.is_err())
+    Ok(is_disk_fault(&view))
+}
+
+/// Whether a look ended with a call that failed.
+fn is_disk_fault(view: &Result<DiskView, LookFault>) -> bool
+    ensures { result ≡ is_disk_fault view.now }
+{
+    matches!(view, Err(LookFault::Disk))
 }

@@ -5,7 +5,11 @@ mod command;
 mod disk;
 mod dispatch;
 mod examine;
+mod listing;
+mod name;
+mod records;
 mod report;
+mod sections;
 mod status;
 mod words;
 

@@ -1,21 +1,24 @@
 // The lines that `examine` prints of a slot.
-ghost use Rattle.std.specs.Prelude.{◌≡◌};
-ghost use Rattle.ddf_command.specs.Report.{closed_sequence, closed_text};
+ghost use Rattle.std.specs.Prelude.{◌≡◌, ◌++◌, IfOk};
+ghost use Rattle.std.specs.String.{string_bytes};
+ghost use Rattle.ddf_command.specs.Report.{IsTold, closed_sequence, closed_text, head_text, report_text, view_text};
+ghost use Rattle.ddf_command.specs.Records.{listing_text};
 
 use crate::disk::{DiskView, HeaderView, Headers};
-use ddf_bay::BayFailed;
-use ddf_bytes::{Hex8, Hex32};
+use crate::listing::push_listing;
+use crate::sections::LookFault;
+use ddf_bytes::{Hex8, Hex32, NoMemory};
 use ddf_header::{Header, HeaderFault, Revision};
 use ddf_seal::SealFault;
+use std::alloc::Global;
 use std::fmt;
 
-/// The lines of a slot.
+/// The lines of a slot's headers.
 #[derive(Drop)]
-pub(crate) struct SlotReport<'a> {
-    pub slot: usize,
-    pub sectors: u64,
-    /// What the slot shows, unless a call on it failed.
-    pub view: &'a Result<DiskView, BayFailed>,
+struct HeadText<'a> {
+    slot: usize,
+    sectors: u64,
+    headers: &'a Headers,
 }
 
 /// The group, and the size of the slot.
@@ -49,30 +52,72 @@ struct Reason<'a>(&'a HeaderFault);
 #[derive(Drop)]
 struct RevisionText(Revision);
 
-impl fmt::Display for SlotReport<'_> {
-    ghost use Rattle.std.specs.Prelude.{Some};
-    ghost use Rattle.ddf_command.specs.Report.{report_text};
+/// The lines of a slot: what it shows, or that a call on it failed.
+pub(crate) fn slot_text(
+    alloc: Global,
+    slot: usize,
+    sectors: u64,
+    view: &Result<DiskView, LookFault>,
+) -> Result<String, NoMemory>
+    ensures text { IfOk result (λ text. string_bytes text ≡ report_text slot sectors view.now) }
+    ensures told { IfOk result (λ text. IsTold view.now) }
+{
+    match view {
+        Ok(view) => view_text(alloc, slot, sectors, view),
+        Err(LookFault::Disk) => Ok(format!(in alloc; "slot {slot} fault\n")?),
+        Err(LookFault::Memory) => Err(NoMemory),
+    }
+}
 
-    ghost output = { λ report. Some (report_text report.slot report.sectors report.view.now) };
+fn view_text(alloc: Global, slot: usize, sectors: u64, view: &DiskView) -> Result<String, NoMemory>
+    ensures { IfOk result (λ text. string_bytes text ≡ view_text slot sectors view.now) }
+{
+    match view {
+        DiskView::Blank => Ok(format!(in alloc; "slot {slot} blank\n")?),
+        DiskView::Damaged(fault) => {
+            let reason = Reason(fault);
+            Ok(format!(in alloc; "slot {slot} damaged {reason}\n")?)
+        }
+        DiskView::Headers(headers) => headers_text(alloc, slot, sectors, headers),
+    }
+}
+
+fn headers_text(
+    alloc: Global,
+    slot: usize,
+    sectors: u64,
+    headers: &Headers,
+) -> Result<String, NoMemory>
+    ensures { IfOk result (λ text. string_bytes text ≡ head_text slot sectors headers.now ++ listing_text headers.now.listing) }
+{
+    let head = HeadText {
+        slot,
+        sectors,
+        headers,
+    };
+    let mut text = head.to_string(alloc)?;
+    push_listing(alloc, &mut text, &headers.listing)?;
+    Ok(text)
+}
+
+impl fmt::Display for HeadText<'_> {
+    ghost use Rattle.std.specs.Prelude.{Some};
+    ghost use Rattle.ddf_command.specs.Report.{head_text};
+
+    ghost output = { λ head. Some (head_text head.slot head.sectors head.headers.now) };
 
     fn fmt<W: fmt::Write>(&self, f: &mut fmt::Formatter<W>) -> fmt::Result {
-        let slot = self.slot;
-        let sectors = self.sectors;
-        match self.view {
-            Err(_) => writeln!(f, "slot {slot} fault"),
-            Ok(DiskView::Blank) => writeln!(f, "slot {slot} blank"),
-            Ok(DiskView::Damaged(fault)) => writeln!(f, "slot {slot} damaged {}", Reason(fault)),
-            Ok(DiskView::Headers(headers)) => {
-                let anchor = &headers.anchor;
-                let group = GroupLine {
-                    slot,
-                    sectors,
-                    anchor,
-                };
-                let place = PlaceLine { sectors, anchor };
-                write!(f, "{group}{place}{}", HeadersLines(headers))
-            }
-        }
+        let anchor = &self.headers.anchor;
+        let group = GroupLine {
+            slot: self.slot,
+            sectors: self.sectors,
+            anchor,
+        };
+        let place = PlaceLine {
+            sectors: self.sectors,
+            anchor,
+        };
+        write!(f, "{group}{place}{}", HeadersLines(self.headers))
     }
 }
 

@@ -4,10 +4,10 @@ use Rattle.std.specs.Prelude.{slice_index, ◌==◌, false}
 use Rattle.ddf_command.specs.Disk.{anchor_view}
 use Rattle.ddf_command.proofs.disk.view_anchor.Goals as goal
 
-pub returns-clause-view : goal.returns-clause-view
+pub returns-in-Ok-read-clause-view : goal.returns-in-Ok-read-clause-view
 unfolding anchor_view
-returns-clause-view g c = λ tells.
+returns-in-Ok-read-clause-view g c = λ tells.
     let size = c.size-size.ensures.size in
-    let bytes = c.in_ok-read.ensures.bytes tells in
+    let bytes = c.in-Ok-read.ensures.bytes tells in
     let some : (slice_index (g.B.Bay.sizes c.args.bay.now) c.args.slot == 0) ≡ false = grind (arith, common_steps) in
     rw (some, ← size, ← bytes) c.anchor_in.ensures

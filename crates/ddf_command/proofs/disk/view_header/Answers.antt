@@ -4,9 +4,9 @@ use Rattle.std.specs.Prelude.{slice_index, nat_lt, true}
 use Rattle.ddf_command.specs.Disk.{header_view}
 use Rattle.ddf_command.proofs.disk.view_header.Goals as goal
 
-pub returns-clause-view : goal.returns-clause-view
+pub returns-in-Ok-clause-view : goal.returns-in-Ok-clause-view
 unfolding header_view
-returns-clause-view g c = λ tells.
-    let bytes = c.in_ok-read.ensures.bytes tells in
+returns-in-Ok-clause-view g c = λ tells.
+    let bytes = c.in-Ok.ensures.bytes tells in
     let within : nat_lt c.args.lba (slice_index (g.B.Bay.sizes c.args.bay.now) c.args.slot) ≡ true = grind (arith, common_steps) in
-    rw (within, ← bytes) c.header_in.ensures
+    rw (within, ← bytes) c.header_in.ensures.value
