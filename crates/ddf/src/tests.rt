@@ -1,4 +1,6 @@
 // The program's calls over bays in memory: what is printed, and with which status.
+mod copies;
 mod examine;
 mod harness;
 mod headers;
+mod records;

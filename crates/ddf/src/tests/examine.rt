@@ -53,7 +53,7 @@ fn headers_are_told(rt: HostRuntime) -> Result<(), Fail> {
     ];
     for (primary, secondary, lines) in cases {
         let mut bay = disk(&rt, alloc, &primary, &secondary)?;
-        let text = format!(in alloc; "{FIRST_LINES}{lines}")?;
+        let text = format!(in alloc; "{FIRST_LINES}{lines}sections unread\n")?;
         assert_told(
             &rt,
             alloc,
@@ -106,7 +106,7 @@ fn faults_are_told_in_their_order(rt: HostRuntime) -> Result<(), Fail> {
     for (primary, reason) in cases {
         let mut bay = disk(&rt, alloc, &primary, &header(2, 0, 1))?;
         let text = format!(in alloc;
-            "{FIRST_LINES}primary header {reason}\nsecondary header closed sequence 1\nclosed secondary\n"
+            "{FIRST_LINES}primary header {reason}\nsecondary header closed sequence 1\nclosed secondary\nsections unread\n"
         )?;
         assert_told(
             &rt,

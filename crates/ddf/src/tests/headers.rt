@@ -15,7 +15,7 @@ pub const SECONDARY: u64 = 65_455;
 const SIGNATURE: u32 = 0xDE11_DE11;
 
 /// `RDDF-G  `, the timestamp, the number and the salt.
-const GROUP: [u8; 24] = *b"RDDF-G  \x52\x85\x4b\x00\0\0\0\0\0\0\0\0\0\0\0\x07";
+pub const GROUP: [u8; 24] = *b"RDDF-G  \x52\x85\x4b\x00\0\0\0\0\0\0\0\0\0\0\0\x07";
 
 /// Offset and length of each section.
 const PAIRS: [(u32, u32); 8] = [
