@@ -1,7 +1,7 @@
 -- Laws for those who only read a bay.
-use Rattle.std.proofs.Common.{ℕ, List, refl, arith, ◌∙◌, ⊎_elim, inl, inr}
+use Rattle.std.proofs.Common.{ℕ, List, Bool, false, refl, arith, ◌∙◌, ⊎_elim, inl, inr}
 use Rattle.ddf_bay.specs.Sectors.{Image, Outcomes}
-use Rattle.ddf_bay.specs.ReadsOnly.{ReadsOnly}
+use Rattle.ddf_bay.specs.ReadsOnly.{LooksAt, ReadsOnly}
 
 module _ {D : Type 0} {sizes : D → List ℕ} {held : D → Image} {may_hold : D → Outcomes} {moment : D → ℕ} {left_since : D → ℕ → Image → Type 0} {sectors_written : D → ℕ} where
   -- before the first call
@@ -29,3 +29,22 @@ module _ {D : Type 0} {sizes : D → List ℕ} {held : D → Image} {may_hold : 
     };
     none_written = next.none_written ∙ so_far.none_written;
   }
+
+-- one look more at a slot, behind one of which no call failed
+pub looks_then : {D : Type 0} {failed_reads failed_writes : D → ℕ → ℕ} {a b c : D} (slot : ℕ) (failed : Bool)
+    → LooksAt failed_reads failed_writes a b slot false → LooksAt failed_reads failed_writes b c slot failed → LooksAt failed_reads failed_writes a c slot failed
+looks_then slot failed so_far next =
+    let reads = (so_far.same refl).0 in
+    let writes = (so_far.same refl).1 in
+    record {
+      reads = record {
+        never_falls = λ s. omega (arith, so_far.reads.never_falls s, next.reads.never_falls s);
+        other_slots = λ s other. next.reads.other_slots s other ∙ so_far.reads.other_slots s other;
+      };
+      writes = record {
+        never_falls = λ s. omega (arith, so_far.writes.never_falls s, next.writes.never_falls s);
+        other_slots = λ s other. next.writes.other_slots s other ∙ so_far.writes.other_slots s other;
+      };
+      rose = λ is. rw (reads, writes) at (next.rose is);
+      same = λ is. ((next.same is).0 ∙ reads, (next.same is).1 ∙ writes);
+    }

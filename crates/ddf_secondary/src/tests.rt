@@ -11,6 +11,10 @@ const fn size(capacity: u64, unit: u64, rows: u64) -> ElementSize {
     }
 }
 
+const fn spot(element: u8, block: u64) -> Spot {
+    Spot { element, block }
+}
+
 fn are_small(sizes: &[ElementSize]) -> bool
     ensures { IsTrue result → All (λ s. (s.capacity ≤ 99) × (s.unit ≤ 99) × (s.rows ≤ 99)) sizes.now }
 {
@@ -21,76 +25,24 @@ fn are_small(sizes: &[ElementSize]) -> bool
 
 #[test]
 fn blocks_lie_where_the_levels_say(rt: HostRuntime) -> Result<(), Fail> {
-    let ten = size(10, 2, 5);
-    let tables: [(u8, [ElementSize; 2], u64, u64, Spot); 6] = [
-        (
-            0,
-            [ten, ten],
-            20,
-            19,
-            Spot {
-                element: 1,
-                block: 9,
-            },
-        ),
-        (
-            1,
-            [size(9, 3, 3), size(7, 7, 1)],
-            7,
-            6,
-            Spot {
-                element: 0,
-                block: 6,
-            },
-        ),
-        (
-            2,
-            [size(9, 3, 3), size(7, 7, 1)],
-            16,
-            9,
-            Spot {
-                element: 1,
-                block: 0,
-            },
-        ),
-        (
-            3,
-            [size(1, 1, 1), size(2, 1, 2)],
-            3,
-            0,
-            Spot {
-                element: 0,
-                block: 0,
-            },
-        ),
-        (
-            3,
-            [size(1, 1, 1), size(2, 1, 2)],
-            3,
-            1,
-            Spot {
-                element: 1,
-                block: 0,
-            },
-        ),
-        (
-            3,
-            [size(1, 1, 1), size(2, 1, 2)],
-            3,
-            2,
-            Spot {
-                element: 1,
-                block: 1,
-            },
-        ),
+    let even = [size(10, 2, 5), size(10, 2, 5)];
+    let uneven = [size(9, 3, 3), size(7, 7, 1)];
+    let short_first = [size(1, 1, 1), size(2, 1, 2)];
+    let cases = [
+        ("the last of striped", 0, even, 20, 19, spot(1, 9)),
+        ("the last of mirrored", 1, uneven, 7, 6, spot(0, 6)),
+        ("behind the first element", 2, uneven, 16, 9, spot(1, 0)),
+        ("the first of spanned", 3, short_first, 3, 0, spot(0, 0)),
+        ("in the row of both", 3, short_first, 3, 1, spot(1, 0)),
+        ("in the row of one", 3, short_first, 3, 2, spot(1, 1)),
     ];
-    for (level, sizes, capacity, block, spot) in tables {
-        assert!(rt; are_small(&sizes));
+    for (name, level, sizes, capacity, block, spot) in cases {
+        assert!(rt; are_small(&sizes), "{name}");
         let tiers = Tiers::new(level, &sizes)?;
-        assert_eq!(rt; tiers.capacity(), capacity);
-        assert!(rt; block < tiers.capacity());
-        assert_eq!(rt; tiers.locate(block), spot);
-        assert_eq!(rt; tiers.block_at(spot), Some(block));
+        assert_eq!(rt; tiers.capacity(), capacity, "{name}");
+        assert!(rt; block < tiers.capacity(), "{name}");
+        assert_eq!(rt; tiers.locate(block), spot, "{name}");
+        assert_eq!(rt; tiers.block_at(spot), Some(block), "{name}");
     }
     Ok(())
 }

@@ -1,0 +1,110 @@
+-- What a header without a fault has.
+use Rattle.std.proofs.Common.{◌≡◌, ℕ, zero, suc, ◌+◌, ◌-◌, ◌*◌, ◌<◌, ◌≤◌, Bool, true, false, cond, not, ◌||◌, ◌&&◌, eqb, ltb, List, [], ◌∷◌, Option, Some, None, Err, refl, sym, ◌∙◌, ap, arith}
+use Rattle.std.specs.Prelude.{slice_get, option_map}
+use Rattle.std.specs.List.{position, position_from}
+use Rattle.std.proofs.lemmas.Bool.{ne_eqb, ltb-false, eqb-true}
+use Rattle.std.proofs.lemmas.Iterator.Adapters.{position_from-zero}
+use Rattle.ddf_header.specs.declared.geometry.Section.{Section}
+use Rattle.ddf_header.specs.declared.reading.Header.{Header}
+use Rattle.ddf_header.specs.Geometry.{when, first_of}
+use Rattle.ddf_copy.specs.declared.which.Which.{Which}
+use Rattle.ddf_copy.specs.declared.fault.CopyFault.{CopyFault}
+use Rattle.ddf_copy.specs.declared.fault.CopyFault.TheVariants as faults
+use Rattle.ddf_copy.specs.Faults.{copy_failed}
+use Rattle.ddf_copy.specs.Gate.{first_difference, gate_fault, header_bytes}
+use Rattle.ddf_copy.specs.Room.{DoFit, has_no_room, is_out_of_room, meets_copy, room_fault}
+use Rattle.ddf_copy.specs.Which.{other_of, place_of}
+
+-- ---- no place passes
+
+abbrev some_item : {X : Type 0} → X → Option X
+some_item x = Some x
+
+same_item : {X : Type 0} (x y : X) → some_item x ≡ some_item y → x ≡ y
+same_item x y e = cc
+
+first_fails : (b : Bool) (n : ℕ) (rest : Option ℕ) → cond b (Some n) rest ≡ None → (b ≡ false) × (rest ≡ None)
+first_fails true n rest h = absurd cc
+first_fails false n rest h = (refl, h)
+
+none_passes : {X : Type 0} (p : X → Bool) (n : ℕ) (xs : List X) (i : ℕ) (x : X) → position_from p n xs ≡ None → slice_get xs i ≡ Some x → p x ≡ false
+none_passes p n [] i x h at = absurd cc
+none_passes p n (y ∷ ys) zero x h at = ap p (sym (same_item y x at)) ∙ (first_fails (p y) n (position_from p (n + 1) ys) h).0
+none_passes p n (y ∷ ys) (suc i) x h at = none_passes p (n + 1) ys i x (first_fails (p y) n (position_from p (n + 1) ys) h).1 at
+
+-- ---- the faults of a header, in order
+
+closed_from : (closed : Bool) (sequence : ℕ) (differ room : Option ℕ)
+    → first_of (when (not closed) (faults.Opened sequence) ∷ option_map faults.Anchor differ ∷ option_map faults.Room room ∷ []) ≡ None
+    → (closed ≡ true) × (differ ≡ None) × (room ≡ None)
+closed_from true sequence None None h = (refl, refl, refl)
+closed_from true sequence None (Some r) h = absurd cc
+closed_from true sequence (Some d) room h = absurd cc
+closed_from false sequence differ room h = absurd cc
+
+no_call : (closed : Bool) (sequence : ℕ) (differ room : Option ℕ) (fault : CopyFault)
+    → first_of (when (not closed) (faults.Opened sequence) ∷ option_map faults.Anchor differ ∷ option_map faults.Room room ∷ []) ≡ Some fault
+    → copy_failed {T = Header} (Err fault) ≡ false
+no_call true sequence None None fault h = absurd cc
+no_call true sequence None (Some r) fault h = let same : fault ≡ faults.Room r = cc in rw same refl
+no_call true sequence (Some d) room fault h = let same : fault ≡ faults.Anchor d = cc in rw same refl
+no_call false sequence differ room fault h = let same : fault ≡ faults.Opened sequence = cc in rw same refl
+
+-- A header without a fault is closed, is the anchor's, and has room.
+pub record IsGate (size : ℕ) (anchor : Header) (which : Which) (header : Header) (sector : List ℕ) : Type 0 where
+  pub is_closed : header.openness ≡ 0
+  pub is_shared : first_difference (header_bytes anchor) sector ≡ None
+  pub has_room : room_fault (size - 1) (place_of which anchor) (place_of (other_of which) anchor) header.geometry.sections ≡ None
+
+pub gate_from : (size : ℕ) (anchor : Header) (which : Which) (header : Header) (sector : List ℕ) → gate_fault size anchor which header sector ≡ None → IsGate size anchor which header sector
+unfolding gate_fault
+gate_from size anchor which header sector h =
+    let parts = closed_from (eqb header.openness 0) header.sequence (first_difference (header_bytes anchor) sector)
+    (room_fault (size - 1) (place_of which anchor) (place_of (other_of which) anchor) header.geometry.sections) h in
+    record { is_closed = eqb-true header.openness 0 parts.0; is_shared = parts.1; has_room = parts.2 }
+
+-- the fault of a header is no failed call
+pub no_call_failed : (size : ℕ) (anchor : Header) (which : Which) (header : Header) (sector : List ℕ) (fault : CopyFault) → gate_fault size anchor which header sector ≡ Some fault
+    → copy_failed {T = Header} (Err fault) ≡ false
+unfolding gate_fault
+no_call_failed size anchor which header sector fault h =
+    no_call (eqb header.openness 0) header.sequence (first_difference (header_bytes anchor) sector)
+    (room_fault (size - 1) (place_of which anchor) (place_of (other_of which) anchor) header.geometry.sections) fault h
+
+-- ---- room
+
+no_header : (bad : Bool) (rest : Option ℕ) → cond bad (Some 0) rest ≡ None → (bad ≡ false) × (rest ≡ None)
+no_header true rest h = absurd cc
+no_header false rest h = (refl, h)
+
+none_map : (o : Option ℕ) → option_map (λ index. 192 + 8 * index) o ≡ None → o ≡ None
+none_map None h = refl
+none_map (Some n) h = absurd cc
+
+none_of : (absent own other meeting : Bool) → (not absent && (own || other || meeting)) ≡ false → absent ≡ false → (own ≡ false) × (other ≡ false) × (meeting ≡ false)
+none_of true own other meeting h present = absurd cc
+none_of false true other meeting h present = absurd cc
+none_of false false true meeting h present = absurd cc
+none_of false false false meeting h present = (refl, refl, h)
+
+-- a present section that has room
+pub record IsInRoom (last own other : ℕ) (sections : List Section) (section : Section) : Type 0 where
+  pub ends : own + section.offset + section.length ≤ last
+  pub other_ends : other + section.offset + section.length ≤ last
+  pub is_apart : meets_copy other sections (own + section.offset) section.length ≡ false
+
+pub section_in_room : (last own other : ℕ) (sections : List Section) → room_fault last own other sections ≡ None
+    → (index : ℕ) (section : Section) → slice_get sections index ≡ Some section → 0 < section.length → IsInRoom last own other sections section
+unfolding room_fault is_out_of_room
+section_in_room last own other sections h index section at some =
+    let rest = no_header (has_no_room last own other sections) (option_map (λ index. 192 + 8 * index) (position (is_out_of_room last own other sections) sections)) h in
+    let none = none_map (position (is_out_of_room last own other sections) sections) rest.1 in
+    let out : is_out_of_room last own other sections section ≡ false = none_passes (is_out_of_room last own other sections) 0 sections index section (sym (position_from-zero (is_out_of_room last own other sections) sections) ∙ none) at in
+    let parts = none_of (eqb section.length 0) (ltb last (own + section.offset + section.length)) (ltb last (other + section.offset + section.length))
+    (meets_copy other sections (own + section.offset) section.length) out (ne_eqb section.length 0 (λ (e : section.length ≡ 0). absurd (omega (arith, some)))) in
+    let one = ltb-false last (own + section.offset + section.length) parts.0 in
+    let two = ltb-false last (other + section.offset + section.length) parts.1 in
+    record { ends = omega (arith, one); other_ends = omega (arith, two); is_apart = parts.2 }
+
+pub sections_fit : (last own other : ℕ) (sections : List Section) → room_fault last own other sections ≡ None → DoFit last own sections
+sections_fit last own other sections h = λ index section at some. (section_in_room last own other sections h index section at some).ends

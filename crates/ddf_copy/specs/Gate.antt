@@ -1,0 +1,52 @@
+-- What may be wrong with the header of a copy (profile).
+use Rattle.std.specs.Prelude.{ℕ, ◌-◌, Bool, not, ◌&&◌, ◌||◌, ◌==◌, nat_le, nat_lt, List, [], ◌∷◌, slice_index, Option, option_map, position, Result, Ok, Err, if◌then◌else◌}
+use Rattle.std.specs.List.{range_with_len}
+use Rattle.ddf_seal.specs.Records.{record_bytes}
+use Rattle.ddf_header.specs.declared.reading.Header.{Header}
+use Rattle.ddf_header.specs.Geometry.{when, first_of}
+use Rattle.ddf_header.specs.declared.fault.HeaderFault.{HeaderFault}
+use Rattle.ddf_header.specs.Header.{decoded, header_signature, header_fields, ok_unless}
+use Rattle.ddf_copy.specs.declared.which.Which.{Which}
+use Rattle.ddf_copy.specs.declared.fault.CopyFault.{CopyFault}
+use Rattle.ddf_copy.specs.declared.fault.CopyFault.TheVariants as faults
+use Rattle.ddf_copy.specs.Which.{kind_of, other_of, place_of}
+use Rattle.ddf_copy.specs.Room.{room_fault}
+
+-- the sector that a header is written as
+abbrev pub header_bytes : Header → List ℕ
+header_bytes header = record_bytes header_signature (header_fields header) header.rest
+
+-- The GUID and the revision, the two LBAs, and all from the workspace length on are the anchor's.
+abbrev pub is_shared : ℕ → Bool
+is_shared at = (nat_le 8 at && nat_lt at 40) || (nat_le 96 at && nat_lt at 112) || (nat_le 116 at && nat_lt at 512)
+
+abbrev pub differ_at : (one other : List ℕ) → ℕ → Bool
+differ_at one other at = is_shared at && not (slice_index one at == slice_index other at)
+
+-- the least offset of such a byte that isn't the anchor's
+unfoldable pub first_difference : (anchor header : List ℕ) → Option ℕ
+first_difference anchor header = position (differ_at anchor header) (range_with_len 0 512)
+
+-- what may be wrong with a header that was read at its place on a disk of so many sectors, in order
+abbrev pub gate_faults : (size : ℕ) → (anchor : Header) → Which → Header → List ℕ → List (Option CopyFault)
+gate_faults size anchor which header sector =
+    when (not (header.openness == 0)) (faults.Opened header.sequence)
+    ∷ option_map faults.Anchor (first_difference (header_bytes anchor) sector)
+    ∷ option_map faults.Room (room_fault (size - 1) (place_of which anchor) (place_of (other_of which) anchor) header.geometry.sections)
+    ∷ []
+
+unfoldable pub gate_fault : (size : ℕ) → (anchor : Header) → Which → Header → List ℕ → Option CopyFault
+gate_fault size anchor which header sector = first_of (gate_faults size anchor which header sector)
+
+-- the header that was read at its place, or what is wrong with it
+abbrev pub gated : (size : ℕ) → (anchor : Header) → Which → (sector : List ℕ) → Result Header HeaderFault → Result Header CopyFault
+gated size anchor which sector (Ok header) = ok_unless (gate_fault size anchor which header sector) header
+gated size anchor which sector (Err fault) = Err (faults.Header fault)
+
+unfoldable pub header_in : (size : ℕ) → (anchor : Header) → Which → (sector : List ℕ) → Result Header CopyFault
+header_in size anchor which sector = gated size anchor which sector (decoded (kind_of which) sector)
+
+-- The header of a copy, where it is one of its kind, is closed, is the anchor's and has room. Otherwise the first fault.
+unfoldable pub header_of : (size : ℕ) → (ℕ → List ℕ) → (anchor : Header) → Which → Result Header CopyFault
+header_of size sector anchor which =
+    if nat_lt (place_of which anchor) size then header_in size anchor which (sector (place_of which anchor)) else Err (faults.Room 0)

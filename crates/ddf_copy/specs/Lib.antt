@@ -1,0 +1,9 @@
+pub mod Anchor
+pub mod Copies
+pub mod Faults
+pub mod Gate
+pub mod Room
+pub mod Sections
+pub mod Which
+pub mod Whole
+pub mod Written

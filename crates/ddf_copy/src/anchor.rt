@@ -1,0 +1,59 @@
+ghost use Rattle.std.specs.Prelude.{◌≡◌, ◌+◌, ◌<◌, ◌≤◌, IfErr, IfOk, false, length, slice_index};
+ghost use Rattle.ddf_bay.specs.ReadsOnly.{ReadsOnly, LooksAt};
+ghost use Rattle.ddf_header.specs.declared.kind.HeaderKind.TheVariants.{Anchor};
+ghost use Rattle.ddf_header.specs.Geometry.{IsSound};
+ghost use Rattle.ddf_header.specs.Header.{IsWritable};
+ghost use Rattle.ddf_copy.specs.Anchor.{anchor_at, anchor_in};
+ghost use Rattle.ddf_copy.specs.Faults.{IsAnchorFaultOf, UpToDisk, anchor_failed};
+
+use crate::fault::AnchorFault;
+use ddf_bay::Bay;
+use ddf_bytes::{Sector, be32};
+use ddf_header::{Header, HeaderKind, decode};
+
+/// The signature of each header.
+const HEADER_SIGNATURE: u32 = 0xDE11_DE11;
+
+/// Reads the anchor, from the slot's last sector. A slot without sectors is asked for one sync instead, and is blank where
+/// that is good.
+#[tactic(auto, unfolding(crate::specs::Anchor::anchor_at))]
+pub fn anchor_of<B: Bay>(bay: &mut B, slot: usize) -> Result<Header, AnchorFault>
+    requires { slot < length (B.sizes bay.old) }
+    ensures anchor { B.tells → UpToDisk slot result (anchor_at (slice_index (B.sizes bay.old) slot) (B.held bay.old slot)) }
+    ensures sound { IfOk result (λ anchor. IsSound anchor.geometry) }
+    ensures writable { IfOk result (IsWritable Anchor) }
+    ensures reads { ReadsOnly B.sizes B.held B.may_hold B.moment B.left_since B.sectors_written bay.old bay.new }
+    ensures look { LooksAt B.failed_reads B.failed_writes bay.old bay.new slot (anchor_failed result) }
+    ensures named { IfErr result (IsAnchorFaultOf slot) }
+    ensures calls { B.calls bay.new ≤ B.calls bay.old + 1 }
+{
+    let size = bay.size(slot);
+    if size == 0 {
+        return match bay.sync(slot) {
+            Ok(()) => Err(AnchorFault::Blank),
+            Err(_) => Err(AnchorFault::Disk(slot)),
+        };
+    }
+    let mut last = [0; 512];
+    match bay.read(slot, size - 1, &mut last) {
+        Ok(()) => anchor_in(&last),
+        Err(_) => Err(AnchorFault::Disk(slot)),
+    }
+}
+
+/// The anchor that stands in a disk's last sector.
+#[tactic(auto, unfolding(crate::specs::Anchor::anchor_in))]
+fn anchor_in(last: &Sector) -> Result<Header, AnchorFault>
+    ensures value { result ≡ anchor_in last.now }
+    ensures sound { IfOk result (λ anchor. IsSound anchor.geometry) }
+    ensures writable { IfOk result (IsWritable Anchor) }
+    ensures no_look { anchor_failed result ≡ false }
+{
+    if be32(last, 0) != HEADER_SIGNATURE {
+        return Err(AnchorFault::Blank);
+    }
+    match decode(last, HeaderKind::Anchor) {
+        Ok(anchor) => Ok(anchor),
+        Err(fault) => Err(AnchorFault::Damaged(fault)),
+    }
+}

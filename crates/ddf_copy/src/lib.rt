@@ -1,0 +1,23 @@
+//! The copies of a disk: whether each is whole, and which of them is the newest.
+#![tactic(auto)]
+
+mod anchor;
+mod copies;
+mod copy;
+mod fault;
+mod gate;
+mod level;
+mod newest_copy;
+mod raw;
+mod reading;
+mod room;
+mod sections;
+mod which;
+
+pub use anchor::anchor_of;
+pub use copies::{Copies, copies_of, newest};
+pub use copy::DiskCopy;
+pub use fault::{AnchorFault, CopyFault, SectionName, ShowFault};
+pub use newest_copy::Newest;
+pub use reading::read_copy;
+pub use which::Which;

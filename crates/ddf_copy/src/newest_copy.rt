@@ -1,0 +1,36 @@
+ghost use Rattle.std.specs.Prelude.{◌≡◌};
+ghost use Rattle.ddf_copy.specs.Copies.{newest_of_both};
+
+use crate::copy::DiskCopy;
+use crate::fault::CopyFault;
+use crate::which::Which;
+
+/// The newest copy of a disk (SNIA DDF 2.0, header update rules).
+#[derive(Debug, Drop)]
+pub enum Newest {
+    /// The only whole copy, or that of the greater sequence.
+    One(Which, DiskCopy),
+    /// Two level copies. The primary one stands for both.
+    Level(DiskCopy),
+    /// No copy is whole: why the primary one isn't, and why the secondary one isn't.
+    Neither(CopyFault, CopyFault),
+    /// Two whole copies of one sequence that aren't level: the primary and the secondary one.
+    TwoDiffer(DiskCopy, DiskCopy),
+}
+
+/// The newest of two whole copies, which are level or not where they have one sequence.
+pub(crate) fn newest_of_both(level: bool, primary: DiskCopy, secondary: DiskCopy) -> Newest
+    ensures { result ≡ newest_of_both level primary secondary }
+{
+    if primary.header.sequence < secondary.header.sequence {
+        return Newest::One(Which::Secondary, secondary);
+    }
+    if secondary.header.sequence < primary.header.sequence {
+        return Newest::One(Which::Primary, primary);
+    }
+    if level {
+        Newest::Level(primary)
+    } else {
+        Newest::TwoDiffer(primary, secondary)
+    }
+}
