@@ -1,19 +1,22 @@
 -- What a header without a fault has.
-use Rattle.std.proofs.Common.{◌≡◌, ℕ, zero, suc, ◌+◌, ◌-◌, ◌*◌, ◌<◌, ◌≤◌, Bool, true, false, cond, not, ◌||◌, ◌&&◌, eqb, ltb, List, [], ◌∷◌, Option, Some, None, Err, refl, sym, ◌∙◌, ap, arith}
+use Rattle.std.proofs.Common.{◌≡◌, ℕ, zero, suc, ◌+◌, ◌-◌, ◌*◌, ◌<◌, ◌≤◌, Bool, true, false, cond, not, ◌||◌, ◌&&◌, eqb, ltb, List, [], ◌∷◌, Option, Some, None, Result, Ok, Err, leb, refl, sym, ◌∙◌, ap, arith}
 use Rattle.std.specs.Prelude.{slice_get, option_map}
 use Rattle.std.specs.List.{position, position_from}
-use Rattle.std.proofs.lemmas.Bool.{ne_eqb, ltb-false, eqb-true}
+use Rattle.std.proofs.lemmas.Bool.{leb-false, ne_eqb, ltb-false, eqb-true}
 use Rattle.std.proofs.lemmas.Iterator.Adapters.{position_from-zero}
 use Rattle.ddf_header.specs.declared.geometry.Section.{Section}
 use Rattle.ddf_header.specs.declared.reading.Header.{Header}
-use Rattle.ddf_header.specs.Geometry.{when, first_of}
+use Rattle.ddf_bytes.specs.Bytes.{bytes_at}
+use Rattle.ddf_header.specs.declared.fault.HeaderFault.{HeaderFault}
+use Rattle.ddf_header.specs.Header.{decoded, first_fault, header_at, ok_unless}
+use Rattle.ddf_header.specs.Geometry.{geometry_at, when, first_of}
 use Rattle.ddf_copy.specs.declared.which.Which.{Which}
 use Rattle.ddf_copy.specs.declared.fault.CopyFault.{CopyFault}
 use Rattle.ddf_copy.specs.declared.fault.CopyFault.TheVariants as faults
 use Rattle.ddf_copy.specs.Faults.{copy_failed}
-use Rattle.ddf_copy.specs.Gate.{first_difference, gate_fault, header_bytes}
+use Rattle.ddf_copy.specs.Gate.{gated, header_in, header_of, first_difference, gate_fault, header_bytes}
 use Rattle.ddf_copy.specs.Room.{DoFit, has_no_room, is_out_of_room, meets_copy, room_fault}
-use Rattle.ddf_copy.specs.Which.{other_of, place_of}
+use Rattle.ddf_copy.specs.Which.{kind_of, other_of, place_of}
 
 -- ---- no place passes
 
@@ -27,7 +30,7 @@ first_fails : (b : Bool) (n : ℕ) (rest : Option ℕ) → cond b (Some n) rest 
 first_fails true n rest h = absurd cc
 first_fails false n rest h = (refl, h)
 
-none_passes : {X : Type 0} (p : X → Bool) (n : ℕ) (xs : List X) (i : ℕ) (x : X) → position_from p n xs ≡ None → slice_get xs i ≡ Some x → p x ≡ false
+pub none_passes : {X : Type 0} (p : X → Bool) (n : ℕ) (xs : List X) (i : ℕ) (x : X) → position_from p n xs ≡ None → slice_get xs i ≡ Some x → p x ≡ false
 none_passes p n [] i x h at = absurd cc
 none_passes p n (y ∷ ys) zero x h at = ap p (sym (same_item y x at)) ∙ (first_fails (p y) n (position_from p (n + 1) ys) h).0
 none_passes p n (y ∷ ys) (suc i) x h at = none_passes p (n + 1) ys i x (first_fails (p y) n (position_from p (n + 1) ys) h).1 at
@@ -108,3 +111,57 @@ section_in_room last own other sections h index section at some =
 
 pub sections_fit : (last own other : ℕ) (sections : List Section) → room_fault last own other sections ≡ None → DoFit last own sections
 sections_fit last own other sections h = λ index section at some. (section_in_room last own other sections h index section at some).ends
+
+-- ---- a header that was read
+
+ok_parts : {E : Type 0} (o : Option E) (value header : Header) → ok_unless o value ≡ Ok header → (o ≡ None) × (value ≡ header)
+ok_parts None value header h = (refl, cc)
+ok_parts (Some e) value header h = absurd cc
+
+gated_parts : (size : ℕ) (anchor : Header) (which : Which) (sector : List ℕ) (read : Result Header HeaderFault) (header : Header) → gated size anchor which sector read ≡ Ok header
+    → (read ≡ Ok header) × (gate_fault size anchor which header sector ≡ None)
+gated_parts size anchor which sector (Ok value) header h =
+    let parts = ok_parts (gate_fault size anchor which value sector) value header h in
+    (ap Ok parts.1, rw parts.1 at parts.0)
+gated_parts size anchor which sector (Err fault) header h = absurd cc
+
+placed_parts : (within : Bool) (found : Result Header CopyFault) (header : Header) → cond within found (Err (faults.Room 0)) ≡ Ok header → found ≡ Ok header
+placed_parts true found header h = h
+placed_parts false found header h = absurd cc
+
+-- A header that was found has what stands in its sector, and is the anchor's.
+pub record IsFound (size : ℕ) (sector : ℕ → List ℕ) (anchor : Header) (which : Which) (header : Header) : Type 0 where
+  pub geometry_is : header.geometry ≡ geometry_at (sector (place_of which anchor))
+  pub guid_is : header.guid ≡ bytes_at (sector (place_of which anchor)) 8 24
+  pub is_gate : IsGate size anchor which header (sector (place_of which anchor))
+
+pub found_is : (size : ℕ) (sector : ℕ → List ℕ) (anchor : Header) (which : Which) (header : Header) → header_of size sector anchor which ≡ Ok header → IsFound size sector anchor which header
+unfolding header_of header_in
+found_is size sector anchor which header h =
+    let bytes = sector (place_of which anchor) in
+    let parts = gated_parts size anchor which bytes (decoded (kind_of which) bytes) header (placed_parts (ltb (place_of which anchor) size) (gated size anchor which bytes (decoded (kind_of which) bytes)) header h) in
+    let value = (ok_parts (first_fault (kind_of which) bytes) (header_at (kind_of which) bytes) header parts.0).1 in
+    record {
+      geometry_is = ap (λ (found : Header). found.geometry) (sym value);
+      guid_is = ap (λ (found : Header). found.guid) (sym value);
+      is_gate = gate_from size anchor which header bytes parts.1;
+    }
+
+-- ---- the headers have room
+
+neither : (own other meeting : Bool) → (own || other || meeting) ≡ false → (own ≡ false) × (other ≡ false) × (meeting ≡ false)
+neither true other meeting h = absurd cc
+neither false true meeting h = absurd cc
+neither false false meeting h = (refl, refl, h)
+
+pub record AreHeadersInRoom (last own other : ℕ) (sections : List Section) : Type 0 where
+  pub own_below : own < last
+  pub other_below : other < last
+  pub is_apart : meets_copy other sections own 1 ≡ false
+
+pub headers_in_room : (last own other : ℕ) (sections : List Section) → room_fault last own other sections ≡ None → AreHeadersInRoom last own other sections
+unfolding room_fault has_no_room
+headers_in_room last own other sections h =
+    let none = no_header (has_no_room last own other sections) (option_map (λ index. 192 + 8 * index) (position (is_out_of_room last own other sections) sections)) h in
+    let parts = neither (leb last own) (leb last other) (meets_copy other sections own 1) none.0 in
+    record { own_below = leb-false last own parts.0; other_below = leb-false last other parts.1; is_apart = parts.2 }

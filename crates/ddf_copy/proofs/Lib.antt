@@ -1,5 +1,11 @@
 pub mod CopiesRead
 pub mod Gates
+pub mod Laid
+pub mod LevelCopies
 pub mod Levels
+pub mod Newests
 pub mod RunsRead
+pub mod Sectors
+pub mod Shared
 pub mod Slots
+pub mod Stands

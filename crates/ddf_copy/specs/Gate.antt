@@ -1,5 +1,5 @@
 -- What may be wrong with the header of a copy (profile).
-use Rattle.std.specs.Prelude.{ℕ, ◌-◌, Bool, not, ◌&&◌, ◌||◌, ◌==◌, nat_le, nat_lt, List, [], ◌∷◌, slice_index, Option, option_map, position, Result, Ok, Err, if◌then◌else◌}
+use Rattle.std.specs.Prelude.{ℕ, ◌-◌, Bool, not, ◌&&◌, ◌||◌, ◌==◌, nat_le, nat_lt, List, [], ◌∷◌, slice_get, true, false, Option, Some, None, option_map, position, Result, Ok, Err, if◌then◌else◌}
 use Rattle.std.specs.List.{range_with_len}
 use Rattle.ddf_seal.specs.Records.{record_bytes}
 use Rattle.ddf_header.specs.declared.reading.Header.{Header}
@@ -20,8 +20,14 @@ header_bytes header = record_bytes header_signature (header_fields header) heade
 abbrev pub is_shared : ℕ → Bool
 is_shared at = (nat_le 8 at && nat_lt at 40) || (nat_le 96 at && nat_lt at 112) || (nat_le 116 at && nat_lt at 512)
 
+-- two bytes, where there are some, are the same
+abbrev pub is_same_byte : Option ℕ → Option ℕ → Bool
+is_same_byte (Some one) (Some other) = one == other
+is_same_byte None None = true
+is_same_byte one other = false
+
 abbrev pub differ_at : (one other : List ℕ) → ℕ → Bool
-differ_at one other at = is_shared at && not (slice_index one at == slice_index other at)
+differ_at one other at = is_shared at && not (is_same_byte (slice_get one at) (slice_get other at))
 
 -- the least offset of such a byte that isn't the anchor's
 unfoldable pub first_difference : (anchor header : List ℕ) → Option ℕ

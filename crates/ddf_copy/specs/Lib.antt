@@ -2,8 +2,11 @@ pub mod Anchor
 pub mod Copies
 pub mod Faults
 pub mod Gate
+pub mod Headers
 pub mod Room
+pub mod Runs
 pub mod Sections
+pub mod Shows
 pub mod Which
 pub mod Whole
 pub mod Written

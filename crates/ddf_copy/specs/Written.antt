@@ -61,7 +61,7 @@ slot_counted geometry (slots.Unused kept) = []
 slot_counted geometry slot = slot_written geometry slot
 
 -- the bytes of each section and of each slot by which copies are compared
-abbrev pub counted : DiskCopy → List (List ℕ)
+unfoldable pub counted : DiskCopy → List (List ℕ)
 counted copy =
     controller_written copy.controller
     ∷ disks_written copy.disks

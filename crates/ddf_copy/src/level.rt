@@ -16,7 +16,7 @@ use ddf_configs::RecordSlot;
 use ddf_header::Geometry;
 
 /// Whether two copies have one sequence, and the same in each section that is read. All unused slots count as equal.
-#[tactic(auto, unfolding(crate::specs::Written::is_level))]
+#[tactic(auto, unfolding(crate::specs::Written::is_level, crate::specs::Written::counted))]
 pub(crate) fn is_level(one: &Whole, other: &Whole) -> bool
     requires one { IsWhole one.now }
     requires other { IsWhole other.now }

@@ -11,8 +11,10 @@ mod newest_copy;
 mod raw;
 mod reading;
 mod room;
+mod run;
 mod sections;
 mod which;
+mod writing;
 
 pub use anchor::anchor_of;
 pub use copies::{Copies, copies_of, newest};
@@ -20,4 +22,5 @@ pub use copy::DiskCopy;
 pub use fault::{AnchorFault, CopyFault, SectionName, ShowFault};
 pub use newest_copy::Newest;
 pub use reading::read_copy;
+pub use run::{Run, runs_of};
 pub use which::Which;

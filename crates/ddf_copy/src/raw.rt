@@ -59,7 +59,7 @@ pub(crate) fn read_raw<B: Bay>(
 }
 
 /// The part of the configuration records that holds whole slots.
-fn whole_slots(geometry: &Geometry) -> Section
+pub(crate) fn whole_slots(geometry: &Geometry) -> Section
     requires { IsSound geometry.now }
     ensures value { result ≡ whole_slots geometry.now }
 {

@@ -63,7 +63,7 @@ log_from_section section long are h =
       };
     }
 
-section_of_log : (log : LogValue) (section : List ℕ) → IsLogOf log section → decoded_log section ≡ Ok log
+pub section_of_log : (log : LogValue) (section : List ℕ) → IsLogOf log section → decoded_log section ≡ Ok log
 section_of_log log section is =
     let long = is.long in
     let seal = check_from_sealed log_signature section (omega arith) is.is_record.are_bytes (lit< tt) is.is_record.is_sealed in
