@@ -8,7 +8,9 @@ use Rattle.ddf_header.specs.declared.geometry.Section.{Section}
 use Rattle.ddf_header.specs.declared.reading.Header.{Header}
 use Rattle.ddf_bytes.specs.Bytes.{bytes_at}
 use Rattle.ddf_header.specs.declared.fault.HeaderFault.{HeaderFault}
-use Rattle.ddf_header.specs.Header.{decoded, first_fault, header_at, ok_unless}
+use Rattle.ddf_header.specs.declared.kind.HeaderKind.{HeaderKind}
+use Rattle.ddf_header.proofs.Decoded.{decoded_is}
+use Rattle.ddf_header.specs.Header.{IsHeaderOf, decoded, first_fault, header_at, ok_unless}
 use Rattle.ddf_header.specs.Geometry.{geometry_at, when, first_of}
 use Rattle.ddf_copy.specs.declared.which.Which.{Which}
 use Rattle.ddf_copy.specs.declared.fault.CopyFault.{CopyFault}
@@ -165,3 +167,8 @@ headers_in_room last own other sections h =
     let none = no_header (has_no_room last own other sections) (option_map (λ index. 192 + 8 * index) (position (is_out_of_room last own other sections) sections)) h in
     let parts = neither (leb last own) (leb last other) (meets_copy other sections own 1) none.0 in
     record { own_below = leb-false last own parts.0; other_below = leb-false last other parts.1; is_apart = parts.2 }
+
+-- ---- a header that stands in its sector
+
+pub geometry_read : (kind : HeaderKind) (sector : List ℕ) (header : Header) → IsHeaderOf kind header sector → geometry_at sector ≡ header.geometry
+geometry_read kind sector header is = ap (λ (found : Header). found.geometry) (ok_parts (first_fault kind sector) (header_at kind sector) header (decoded_is kind sector header is)).1

@@ -4,6 +4,8 @@ use Rattle.std.proofs.lemmas.Bool.{eq-eqb, eqb-true, false≢true}
 use Rattle.std.proofs.lemmas.Slice.Eq.{bytes_eq-Decides}
 use Rattle.std.specs.Str.{bytes_eq}
 use Rattle.ddf_copy.specs.declared.copy.DiskCopy.{DiskCopy}
+use Rattle.ddf_copy.specs.declared.which.Which.{Which}
+use Rattle.ddf_copy.specs.Headers.{written_as}
 use Rattle.ddf_copy.specs.Shows.{IsSame}
 use Rattle.ddf_copy.specs.Written.{are_same, counted, is_level}
 
@@ -55,3 +57,8 @@ same_then one other third first second =
     let a = level_from one other first.are_level in
     let b = level_from other third second.are_level in
     record { same_group = first.same_group ∙ second.same_group; are_level = level_is one third (a.0 ∙ b.0) (a.1 ∙ b.1) }
+
+-- a copy in either place is the same copy
+pub written_same : (copy : DiskCopy) (which : Which) → IsSame (written_as copy which) copy
+unfolding counted
+written_same copy which = record { same_group = refl; are_level = level_is (written_as copy which) copy refl refl }

@@ -1,5 +1,6 @@
 pub mod CopiesRead
 pub mod Gates
+pub mod HeadersWritten
 pub mod Laid
 pub mod LevelCopies
 pub mod Levels

@@ -12,7 +12,7 @@ use Rattle.ddf_copy.specs.Copies.{copy_of, newest_of, newest_of_both}
 use Rattle.ddf_copy.specs.Shows.{IsNewest, IsSame}
 use Rattle.ddf_copy.specs.Which.{other_of}
 use Rattle.ddf_copy.specs.Written.{is_level}
-use Rattle.ddf_copy.proofs.LevelCopies.{level_from, level_is, same_start}
+use Rattle.ddf_copy.proofs.LevelCopies.{level_from, level_is, same_start, same_then}
 
 -- the only whole copy is the newest
 pub newest_of_one : (size : ℕ) (sector : ℕ → List ℕ) (anchor : Header) (which : Which) (copy : DiskCopy) (fault : CopyFault)
@@ -58,3 +58,17 @@ unfolding newest_of
 newest_of_level size sector anchor primary secondary is also level =
     let same = (level_from primary secondary level).0 in
     rw (is, also, level, le-ltb primary.header.sequence secondary.header.sequence (omega (arith, same)), le-ltb secondary.header.sequence primary.header.sequence (omega (arith, same))) refl
+
+-- the same copies, the same newest
+pub newest_same : (size : ℕ) (now before : ℕ → List ℕ) (anchor : Header) (which : Which) → copy_of size now anchor which ≡ copy_of size before anchor which
+    → copy_of size now anchor (other_of which) ≡ copy_of size before anchor (other_of which) → newest_of size now anchor ≡ newest_of size before anchor
+unfolding newest_of
+newest_same size now before anchor Primary one other = rw (one, other) refl
+newest_same size now before anchor Secondary one other = rw (one, other) refl
+
+-- what is the newest is so for each copy that is the same
+pub newest_then : (newest : Newest) (one other : DiskCopy) → IsSame one other → IsNewest newest one → IsNewest newest other
+newest_then (newests.One which found) one other same is = same_then found one other is same
+newest_then (newests.Level found) one other same is = same_then found one other is same
+newest_then (newests.TwoDiffer primary secondary) one other same is = ⊎_elim (λ first. inl (same_then primary one other first same)) (λ second. inr (same_then secondary one other second same)) is
+newest_then (newests.Neither primary secondary) one other same is = is

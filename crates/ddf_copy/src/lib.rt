@@ -6,6 +6,7 @@ mod copies;
 mod copy;
 mod fault;
 mod gate;
+mod headers;
 mod level;
 mod newest_copy;
 mod raw;

@@ -1,9 +1,9 @@
 -- When runs lie apart: in order, one behind the other.
 use Rattle.std.proofs.Common.{◌⊎◌, ℕ, ◌+◌, ◌<◌, ◌≤◌, List, [], ◌∷◌, length, inl, inr, ⊎_elim, arith}
-use Rattle.ddf_update.specs.declared.run.Run.{Run}
+use Rattle.ddf_copy.specs.declared.run.Run.{Run}
 use Rattle.ddf_update.specs.declared.gate.Gate.{Gate}
-use Rattle.ddf_update.specs.Runs.{IsInRuns, AreApart}
-use Rattle.ddf_update.specs.Gate.{IsInCopy, AreBothApart}
+use Rattle.ddf_copy.specs.Runs.{AreApart, IsInCopy, IsInRuns}
+use Rattle.ddf_update.specs.Gate.{AreBothApart}
 
 -- the first run begins at this offset or behind it, and each other one behind the run before it
 abbrev pub AreInOrder : (from : ℕ) → List Run → Type 0

@@ -4,10 +4,10 @@ use Rattle.ddf_bay.specs.Sectors.{Image, Outcomes, IsLeft}
 use Rattle.ddf_bay.specs.Moments.{StopsLeave, IsSettled}
 use Rattle.ddf_bay.proofs.Steps.{stops_then, stops_weaken}
 use Rattle.ddf_bay.proofs.Runs.{inside, after, put_mixes}
-use Rattle.ddf_update.specs.declared.run.Run.{Run}
+use Rattle.ddf_copy.specs.declared.run.Run.{Run}
 use Rattle.ddf_update.specs.declared.gate.Gate.{Gate}
-use Rattle.ddf_update.specs.Runs.{put_runs, AreApart}
-use Rattle.ddf_update.specs.Gate.{IsInCopy, KeepsOutside, HasCopy, IsGated, IsCopied, AreBothApart, IsLeftUpdating, AreCopied}
+use Rattle.ddf_copy.specs.Runs.{AreApart, HasCopy, IsInCopy, put_runs}
+use Rattle.ddf_update.specs.Gate.{KeepsOutside, IsGated, IsCopied, AreBothApart, IsLeftUpdating, AreCopied}
 use Rattle.ddf_update.proofs.Reading.{is_in_runs, behind_header, puts_mix, puts_inside}
 use Rattle.ddf_update.proofs.GateSteps.{one_in}
 

@@ -4,10 +4,11 @@ use Rattle.ddf_bay.specs.Sectors.{Image, Outcomes, IsLeft, put_run}
 use Rattle.ddf_bay.specs.Moments.{StopsLeave, Keeps, IsAmong, IsSettled}
 use Rattle.ddf_bay.proofs.Steps.{stops_then, stops_weaken, stops_all, among_other}
 use Rattle.ddf_bay.proofs.Runs.{put_mixes}
-use Rattle.ddf_update.specs.declared.run.Run.{Run}
+use Rattle.ddf_copy.specs.declared.run.Run.{Run}
 use Rattle.ddf_update.specs.declared.gate.Gate.{Gate}
 use Rattle.ddf_update.specs.Stage.{IsStaged}
-use Rattle.ddf_update.specs.Gate.{IsInCopy, HasCopy, IsLeftUpdating, AreCopied, IsLeftFounding, StopsLeaveSince, IsFounded}
+use Rattle.ddf_update.specs.Gate.{IsLeftUpdating, AreCopied, IsLeftFounding, StopsLeaveSince, IsFounded}
+use Rattle.ddf_copy.specs.Runs.{IsInCopy, HasCopy}
 use Rattle.ddf_update.proofs.GateSteps.{one_in, opened}
 use Rattle.ddf_update.proofs.BothSteps.{copy_kept}
 

@@ -5,11 +5,11 @@ use Rattle.ddf_bay.specs.Sectors.{Image, Outcomes, InRun, put_run}
 use Rattle.ddf_bay.specs.Moments.{StopsLeave, Adds, Mixes, IsAmong, IsSettled}
 use Rattle.ddf_bay.proofs.Steps.{stops_then, stops_weaken}
 use Rattle.ddf_bay.proofs.Runs.{inside, put_mixes}
-use Rattle.ddf_update.specs.declared.run.Run.{Run}
+use Rattle.ddf_copy.specs.declared.run.Run.{Run}
 use Rattle.ddf_update.specs.declared.gate.Gate.{Gate}
-use Rattle.ddf_update.specs.Runs.{InRuns, IsInRuns, put_runs, AreApart}
+use Rattle.ddf_copy.specs.Runs.{AreApart, InRuns, IsInCopy, IsInRuns, put_runs}
 use Rattle.ddf_update.specs.Stage.{AddsRuns, MixesRuns, IsAmongRuns, IsStaged, AreStaged}
-use Rattle.ddf_update.specs.Gate.{IsInCopy, KeepsOutside, StaysOutside, IsGated, IsCopied}
+use Rattle.ddf_update.specs.Gate.{KeepsOutside, StaysOutside, IsGated, IsCopied}
 use Rattle.ddf_update.proofs.Reading.{is_in_runs, off_header, puts_outside, puts_inside}
 
 -- a run of one sector

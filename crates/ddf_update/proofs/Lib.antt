@@ -5,3 +5,6 @@ pub mod BothSteps
 pub mod FoundingSteps
 pub mod Now
 pub mod Apart
+pub mod Changing
+pub mod Anchored
+pub mod FoundingShows

@@ -2,8 +2,8 @@
 use Rattle.std.proofs.Common.{◌≡◌, ◌⊎◌, ℕ, ◌+◌, ◌-◌, ◌<◌, List, [], ◌∷◌, inl, inr, refl, sym, ◌∙◌, ⊎_elim, arith}
 use Rattle.ddf_bay.specs.Sectors.{Image, put_run}
 use Rattle.ddf_bay.proofs.Runs.{inside, put_mixes}
-use Rattle.ddf_update.specs.declared.run.Run.{Run}
-use Rattle.ddf_update.specs.Runs.{InRuns, IsInRuns, put_runs, AreApart}
+use Rattle.ddf_copy.specs.declared.run.Run.{Run}
+use Rattle.ddf_copy.specs.Runs.{InRuns, IsInRuns, put_runs, AreApart}
 
 -- the sectors of runs
 pub is_in_runs : (lba : ℕ) (runs : List Run) (l : ℕ) (bytes : List ℕ) → InRuns lba runs l bytes → IsInRuns lba runs l

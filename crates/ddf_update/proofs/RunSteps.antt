@@ -3,8 +3,8 @@ use Rattle.std.proofs.Common.{◌≡◌, ℕ, zero, suc, ◌+◌, List, [], ◌�
 use Rattle.std.specs.Prelude.{slice_get, Some}
 use Rattle.ddf_bay.specs.Sectors.{Image, Outcomes, InRun}
 use Rattle.ddf_bay.specs.Moments.{Adds, Mixes, IsAmong}
-use Rattle.ddf_update.specs.declared.run.Run.{Run}
-use Rattle.ddf_update.specs.Runs.{InRuns}
+use Rattle.ddf_copy.specs.declared.run.Run.{Run}
+use Rattle.ddf_copy.specs.Runs.{InRuns}
 use Rattle.ddf_update.specs.Stage.{AddsRuns, MixesRuns, IsAmongRuns}
 
 in_one : (lba : ℕ) (runs : List Run) (k : ℕ) (run : Run) (l : ℕ) (bytes : List ℕ) → slice_get runs k ≡ Some run → InRun (lba + run.offset) run.sectors l bytes → InRuns lba runs l bytes

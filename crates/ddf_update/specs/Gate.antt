@@ -2,13 +2,9 @@
 use Rattle.std.specs.Prelude.{◌≡◌, ◌≢◌, ◌⊎◌, ℕ, ◌≤◌, List, [], ◌∷◌}
 use Rattle.ddf_bay.specs.Sectors.{Image, Outcomes, put_run, IsLeft}
 use Rattle.ddf_bay.specs.Moments.{StopsLeave, IsSettled}
-use Rattle.ddf_update.specs.declared.run.Run.{Run}
+use Rattle.ddf_copy.specs.declared.run.Run.{Run}
 use Rattle.ddf_update.specs.declared.gate.Gate.{Gate}
-use Rattle.ddf_update.specs.Runs.{InRuns, IsInRuns, put_runs}
-
--- a sector of a copy: its header, or one of its sections
-abbrev pub IsInCopy : (lba : ℕ) → List Run → ℕ → Type 0
-IsInCopy lba runs l = (l ≡ lba) ⊎ IsInRuns lba runs l
+use Rattle.ddf_copy.specs.Runs.{HasCopy, IsInCopy, InRuns, IsInRuns, put_runs}
 
 -- outside these sectors of a slot a stop leaves what it might leave before
 abbrev pub KeepsOutside : (old new : Outcomes) → (slot : ℕ) → (ℕ → Type 0) → Type 0
@@ -17,11 +13,6 @@ KeepsOutside old new slot IsThere = (s l : ℕ) (bytes : List ℕ) → new s l b
 -- outside these sectors of a slot the bytes stay
 abbrev pub StaysOutside : (old new : Image) → (slot : ℕ) → (ℕ → Type 0) → Type 0
 StaysOutside old new slot IsThere = (s l : ℕ) → (new s l ≡ old s l) ⊎ ((s ≡ slot) × IsThere l)
-
--- a copy stands on a disk: its header, and its sections
-pub record HasCopy (sector : ℕ → List ℕ) (lba : ℕ) (header : List ℕ) (runs : List Run) : Type 0 where
-  pub header_is : sector lba ≡ header
-  pub sections_are : (l : ℕ) (bytes : List ℕ) → InRuns lba runs l bytes → sector l ≡ bytes
 
 -- What a stop leaves while a copy is written: the slot is as it might be left before, or the copy's header is open, or the
 -- copy stands. All outside the copy is as it might be left before.

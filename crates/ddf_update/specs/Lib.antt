@@ -1,3 +1,4 @@
-pub mod Runs
-pub mod Stage
 pub mod Gate
+pub mod Prepared
+pub mod Stage
+pub mod Update

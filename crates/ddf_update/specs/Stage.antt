@@ -2,8 +2,8 @@
 use Rattle.std.specs.Prelude.{◌≡◌, ◌⊎◌, ℕ, List}
 use Rattle.ddf_bay.specs.Sectors.{Image, Outcomes, put_run}
 use Rattle.ddf_bay.specs.Moments.{StopsLeave, Adds, IsAmong, IsSettled}
-use Rattle.ddf_update.specs.declared.run.Run.{Run}
-use Rattle.ddf_update.specs.Runs.{InRuns, put_runs}
+use Rattle.ddf_copy.specs.declared.run.Run.{Run}
+use Rattle.ddf_copy.specs.Runs.{InRuns, put_runs}
 
 -- a stop leaves in each sector what it might leave before, or there the bytes of one of the runs
 abbrev pub AddsRuns : (old new : Outcomes) → (slot lba : ℕ) → List Run → Type 0

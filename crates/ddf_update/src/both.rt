@@ -2,12 +2,13 @@
 ghost use Rattle.std.specs.Prelude.{◌≡◌, ◌≢◌, ◌⊎◌, ◌<◌, ◌≤◌, ◌+◌, ◌*◌, length, OnOk, IfErr, slice_index};
 ghost use Rattle.ddf_bytes.specs.Counts.{Rose};
 ghost use Rattle.ddf_bay.specs.Moments.{StopsLeave, Spends, IsSettled};
-ghost use Rattle.ddf_update.specs.Runs.{sector_count, AreOn, AreApart};
-ghost use Rattle.ddf_update.specs.Gate.{IsInCopy, KeepsOutside, StaysOutside, AreBothApart, IsLeftUpdating, AreCopied};
+ghost use Rattle.ddf_copy.specs.Runs.{AreApart, AreOn, IsInCopy, sector_count};
+ghost use Rattle.ddf_update.specs.Gate.{KeepsOutside, StaysOutside, AreBothApart, IsLeftUpdating, AreCopied};
 
+use crate::Gate;
 use crate::copy::write_copy;
-use crate::{Gate, Run};
 use ddf_bay::{Bay, DiskFault};
+use ddf_copy::Run;
 
 /// Writes the first copy and then the second, both with the same sections. A stop at any moment leaves the second copy
 /// as it was, or the first is whole.

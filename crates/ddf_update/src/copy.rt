@@ -2,13 +2,14 @@
 ghost use Rattle.std.specs.Prelude.{◌≡◌, ◌≢◌, ◌<◌, ◌≤◌, ◌+◌, length, OnOk, IfErr, slice_index};
 ghost use Rattle.ddf_bytes.specs.Counts.{Rose};
 ghost use Rattle.ddf_bay.specs.Moments.{StopsLeave, Spends};
-ghost use Rattle.ddf_update.specs.Runs.{sector_count, AreOn, AreApart};
-ghost use Rattle.ddf_update.specs.Gate.{IsInCopy, KeepsOutside, StaysOutside, IsGated, IsCopied};
+ghost use Rattle.ddf_copy.specs.Runs.{AreApart, AreOn, IsInCopy, sector_count};
+ghost use Rattle.ddf_update.specs.Gate.{KeepsOutside, StaysOutside, IsGated, IsCopied};
 
+use crate::Gate;
 use crate::runs::stage_runs;
 use crate::stage::stage;
-use crate::{Gate, Run};
 use ddf_bay::{Bay, DiskFault};
+use ddf_copy::Run;
 use std::slice;
 
 /// Writes a copy: its open header, its sections, and its closed header, each made sure before the next. A stop at any

@@ -3,14 +3,15 @@ ghost use Rattle.std.specs.Prelude.{◌≡◌, ◌≢◌, ◌⊎◌, ◌<◌, �
 ghost use Rattle.ddf_bytes.specs.Counts.{Rose};
 ghost use Rattle.ddf_bay.specs.Sectors.{IsLeft};
 ghost use Rattle.ddf_bay.specs.Moments.{StopsLeave, Spends};
-ghost use Rattle.ddf_update.specs.Runs.{sector_count, AreOn, AreApart};
-ghost use Rattle.ddf_update.specs.Gate.{IsInCopy, KeepsOutside, StaysOutside, AreBothApart, IsLeftFounding, StopsLeaveSince, IsFounded};
+ghost use Rattle.ddf_copy.specs.Runs.{AreApart, AreOn, IsInCopy, sector_count};
+ghost use Rattle.ddf_update.specs.Gate.{KeepsOutside, StaysOutside, AreBothApart, IsLeftFounding, StopsLeaveSince, IsFounded};
 
+use crate::Gate;
 use crate::both::write_both;
 use crate::stage::stage;
-use crate::{Gate, Run};
 use ddf_bay::{Bay, DiskFault};
 use ddf_bytes::Sector;
+use ddf_copy::Run;
 use std::slice;
 
 /// Makes the slot sure, writes both copies, and then the anchor into the last sector. A stop at any moment leaves the

@@ -4,11 +4,14 @@
 
 mod both;
 mod copy;
+mod disk;
 mod founding;
 mod gate;
-mod run;
+mod prepared;
 mod runs;
 mod stage;
 
+pub use ddf_bay::DiskFault;
+pub use disk::write_disk;
 pub use gate::Gate;
-pub use run::Run;
+pub use prepared::{Mode, Prepared, prepare};

@@ -2,11 +2,11 @@
 ghost use Rattle.std.specs.Prelude.{◌≡◌, ◌≢◌, ◌<◌, ◌≤◌, ◌+◌, length, OnOk, IfErr, slice_index};
 ghost use Rattle.ddf_bytes.specs.Counts.{Rose};
 ghost use Rattle.ddf_bay.specs.Moments.{StopsLeave, Spends};
-ghost use Rattle.ddf_update.specs.Runs.{put_runs, sector_count, AreOn};
+ghost use Rattle.ddf_copy.specs.Runs.{put_runs, sector_count, AreOn};
 ghost use Rattle.ddf_update.specs.Stage.{AddsRuns, MixesRuns, IsAmongRuns, AreStaged};
 
-use crate::Run;
 use ddf_bay::{Bay, DiskFault};
+use ddf_copy::Run;
 
 /// Writes runs behind an LBA, each in one call. They aren't sure before the next good sync.
 pub(crate) fn write_runs<B: Bay>(

@@ -6,7 +6,7 @@ use Rattle.ddf_bay.specs.Sectors.{put_run}
 use Rattle.ddf_bay.specs.Moments.{Mixes, IsAmong}
 use Rattle.ddf_bay.proofs.Steps.{stops_then}
 use Rattle.ddf_bay.proofs.Runs.{put_mixes}
-use Rattle.ddf_update.specs.Runs.{put_runs, sector_count}
+use Rattle.ddf_copy.specs.Runs.{put_runs, sector_count}
 use Rattle.ddf_update.proofs.RunSteps.{rest_is, mixes_more, adds_more, among_more}
 use Rattle.ddf_update.proofs.runs.write_runs.Goals as goal
 

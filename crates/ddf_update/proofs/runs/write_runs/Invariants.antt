@@ -1,6 +1,6 @@
 use Rattle.std.proofs.Common.{◌≡◌, ◌+◌, ◌≤◌, drop}
 use Rattle.ddf_bay.specs.Moments.{StopsLeave}
-use Rattle.ddf_update.specs.Runs.{put_runs, sector_count}
+use Rattle.ddf_copy.specs.Runs.{put_runs, sector_count}
 use Rattle.ddf_update.specs.Stage.{AddsRuns, MixesRuns, IsAmongRuns}
 use Rattle.ddf_update.proofs.runs.write_runs.Given as goal
 

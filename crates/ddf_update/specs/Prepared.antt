@@ -1,0 +1,40 @@
+-- What is prepared of an update: the sectors of a copy, and where they are written.
+use Rattle.std.specs.Prelude.{◌≡◌, ℕ, ◌<◌}
+use Rattle.ddf_header.specs.declared.kind.HeaderKind.TheVariants.{Anchor}
+use Rattle.ddf_header.specs.Header.{IsHeaderOf}
+use Rattle.ddf_copy.specs.declared.copy.DiskCopy.{DiskCopy}
+use Rattle.ddf_copy.specs.declared.which.Which.{Which}
+use Rattle.ddf_copy.specs.declared.which.Which.TheVariants.{Primary}
+use Rattle.ddf_copy.specs.Headers.{anchor_header, closed_header, opened_header}
+use Rattle.ddf_copy.specs.Runs.{AreOn, AreRunsOf}
+use Rattle.ddf_copy.specs.Which.{kind_of, other_of, place_of}
+use Rattle.ddf_update.specs.declared.gate.Gate.{Gate}
+use Rattle.ddf_update.specs.declared.prepared.Mode.{Mode}
+use Rattle.ddf_update.specs.declared.prepared.Mode.TheVariants.{Change, Found}
+use Rattle.ddf_update.specs.declared.prepared.Prepared.{Prepared}
+
+-- Which copy is written first: the one that isn't last. A founding begins with the primary one.
+abbrev pub first_of : Mode → (last : Which) → Which
+first_of Change last = other_of last
+first_of Found last = Primary
+
+-- where a copy is written, and its header while its sections change and behind them
+pub record IsGateOf (copy : DiskCopy) (which : Which) (gate : Gate) : Type 0 where
+  pub lba_is : gate.lba ≡ place_of which copy.header
+  pub opened_is : IsHeaderOf (kind_of which) (opened_header copy which) gate.opened
+  pub closed_is : IsHeaderOf (kind_of which) (closed_header copy which) gate.closed
+
+-- Both copies with the same sections, and the anchor.
+pub record IsPrepared (copy : DiskCopy) (last : Which) (mode : Mode) (prepared : Prepared) : Type 0 where
+  pub mode_is : prepared.mode ≡ mode
+  pub first_is : IsGateOf copy (first_of mode last) prepared.first
+  pub second_is : IsGateOf copy (other_of (first_of mode last)) prepared.second
+  pub runs_are : AreRunsOf copy prepared.runs
+  pub anchor_is : IsHeaderOf Anchor (anchor_header copy) prepared.anchor
+
+-- all that is written lies on a slot of so many sectors
+pub record LiesOn (size : ℕ) (prepared : Prepared) : Type 0 where
+  pub first_header : prepared.first.lba < size
+  pub first_room : AreOn size prepared.first.lba prepared.runs
+  pub second_header : prepared.second.lba < size
+  pub second_room : AreOn size prepared.second.lba prepared.runs

@@ -1,0 +1,96 @@
+// The update of one disk.
+ghost use Rattle.std.specs.Prelude.{◌≡◌, ◌⊎◌, ◌<◌, ◌≤◌, ◌+◌, ◌*◌, length, OnOk, IfErr, slice_index};
+ghost use Rattle.ddf_bytes.specs.Counts.{Rose};
+ghost use Rattle.ddf_bay.specs.Sectors.{IsLeft};
+ghost use Rattle.ddf_bay.specs.Moments.{StopsLeave, Spends};
+ghost use Rattle.ddf_header.specs.declared.reading.Header.{Header};
+ghost use Rattle.ddf_copy.specs.declared.copy.DiskCopy.{DiskCopy};
+ghost use Rattle.ddf_copy.specs.declared.which.Which.{Which};
+ghost use Rattle.ddf_copy.specs.Runs.{sector_count};
+ghost use Rattle.ddf_update.specs.declared.prepared.Mode.{Mode};
+ghost use Rattle.ddf_update.specs.Gate.{StopsLeaveSince};
+ghost use Rattle.ddf_update.specs.Prepared.{IsPrepared, LiesOn};
+ghost use Rattle.ddf_update.specs.Update.{IsBlankOrNew, IsChanged, IsNowFounded, IsOldOrNew, MayChange, MayFound};
+
+use crate::both::write_both;
+use crate::founding::write_founding;
+use crate::prepared::{Mode, Prepared};
+use ddf_bay::{Bay, DiskFault};
+
+/// Writes an update of a disk: each copy with its header open, then its sections, then its header closed, each made sure
+/// before the next. A founding is made sure of the slot first, and writes the anchor last. It takes no memory.
+pub fn write_disk<B: Bay>(bay: &mut B, slot: usize, prepared: &Prepared) -> Result<(), DiskFault>
+    requires slot { slot < length (B.sizes bay.old) }
+    requires on_slot { LiesOn (slice_index (B.sizes bay.old) slot) prepared.now }
+
+    // From entry to exit a stop leaves the copy that the slot showed, or the new one.
+    ensures change { B.tells → (anchor : Header) (last : Which) (old copy : DiskCopy) → IsPrepared copy last Mode.Change prepared.now
+        → MayChange (slice_index (B.sizes bay.old) slot) (B.may_hold bay.old) (B.held bay.old) slot anchor last old copy
+        → StopsLeave B.moment B.left_since bay.old bay.new (IsOldOrNew (slice_index (B.sizes bay.old) slot) (B.may_hold bay.old) (B.held bay.old) slot prepared.now old copy) }
+    ensures changed { B.tells → (anchor : Header) (last : Which) (old copy : DiskCopy) → IsPrepared copy last Mode.Change prepared.now
+        → MayChange (slice_index (B.sizes bay.old) slot) (B.may_hold bay.old) (B.held bay.old) slot anchor last old copy
+        → OnOk result (IsChanged B.held B.may_hold bay.old bay.new (slice_index (B.sizes bay.old) slot) slot anchor prepared.now copy) }
+
+    // Until the first good sync of a founding nothing changes. From then on a stop leaves a blank slot or the new copy.
+    ensures found { B.tells → (last : Which) (copy : DiskCopy) → IsPrepared copy last Mode.Found prepared.now
+        → MayFound (slice_index (B.sizes bay.old) slot) (B.held bay.old) slot copy
+        → StopsLeave B.moment B.left_since bay.old bay.new (IsLeft (B.may_hold bay.old))
+        ⊎ StopsLeaveSince B.may_hold B.moment B.left_since bay.old bay.new (IsBlankOrNew (slice_index (B.sizes bay.old) slot) (B.may_hold bay.old) (B.held bay.old) slot prepared.now copy) }
+    ensures founded { B.tells → (last : Which) (copy : DiskCopy) → IsPrepared copy last Mode.Found prepared.now
+        → MayFound (slice_index (B.sizes bay.old) slot) (B.held bay.old) slot copy
+        → OnOk result (IsNowFounded B.held B.may_hold B.moment B.left_since bay.old bay.new (slice_index (B.sizes bay.old) slot) slot prepared.now copy) }
+
+    // Each copy is written once, and its header twice.
+    ensures spends { Spends B.tells_left B.sizes B.failed_reads B.failed_writes B.sectors_written B.calls bay.old bay.new slot (2 * (sector_count prepared.now.runs + 2) + 1) (2 * (length prepared.now.runs + 5) + 3) }
+    ensures ok { OnOk result (B.failed_writes bay.new ≡ B.failed_writes bay.old) }
+    ensures failed { IfErr result (λ e. (e.0 ≡ slot) × Rose (B.failed_writes bay.old slot) (B.failed_writes bay.new slot)) }
+{
+    match prepared.mode {
+        Mode::Change => change(bay, slot, prepared),
+        Mode::Found => found(bay, slot, prepared),
+    }
+}
+
+/// Writes both copies of a disk that shows one.
+fn change<B: Bay>(bay: &mut B, slot: usize, prepared: &Prepared) -> Result<(), DiskFault>
+    requires slot { slot < length (B.sizes bay.old) }
+    requires on_slot { LiesOn (slice_index (B.sizes bay.old) slot) prepared.now }
+    ensures change { B.tells → (anchor : Header) (last : Which) (old copy : DiskCopy) → IsPrepared copy last Mode.Change prepared.now
+        → MayChange (slice_index (B.sizes bay.old) slot) (B.may_hold bay.old) (B.held bay.old) slot anchor last old copy
+        → StopsLeave B.moment B.left_since bay.old bay.new (IsOldOrNew (slice_index (B.sizes bay.old) slot) (B.may_hold bay.old) (B.held bay.old) slot prepared.now old copy) }
+    ensures changed { B.tells → (anchor : Header) (last : Which) (old copy : DiskCopy) → IsPrepared copy last Mode.Change prepared.now
+        → MayChange (slice_index (B.sizes bay.old) slot) (B.may_hold bay.old) (B.held bay.old) slot anchor last old copy
+        → OnOk result (IsChanged B.held B.may_hold bay.old bay.new (slice_index (B.sizes bay.old) slot) slot anchor prepared.now copy) }
+    ensures spends { Spends B.tells_left B.sizes B.failed_reads B.failed_writes B.sectors_written B.calls bay.old bay.new slot (2 * (sector_count prepared.now.runs + 2)) (2 * (length prepared.now.runs + 5)) }
+    ensures ok { OnOk result (B.failed_writes bay.new ≡ B.failed_writes bay.old) }
+    ensures failed { IfErr result (λ e. (e.0 ≡ slot) × Rose (B.failed_writes bay.old slot) (B.failed_writes bay.new slot)) }
+{
+    let runs = prepared.runs.items();
+    write_both(bay, slot, &prepared.first, &prepared.second, runs)
+}
+
+/// Writes both copies of a blank disk, and then its anchor.
+fn found<B: Bay>(bay: &mut B, slot: usize, prepared: &Prepared) -> Result<(), DiskFault>
+    requires slot { slot < length (B.sizes bay.old) }
+    requires on_slot { LiesOn (slice_index (B.sizes bay.old) slot) prepared.now }
+    ensures found { B.tells → (last : Which) (copy : DiskCopy) → IsPrepared copy last Mode.Found prepared.now
+        → MayFound (slice_index (B.sizes bay.old) slot) (B.held bay.old) slot copy
+        → StopsLeave B.moment B.left_since bay.old bay.new (IsLeft (B.may_hold bay.old))
+        ⊎ StopsLeaveSince B.may_hold B.moment B.left_since bay.old bay.new (IsBlankOrNew (slice_index (B.sizes bay.old) slot) (B.may_hold bay.old) (B.held bay.old) slot prepared.now copy) }
+    ensures founded { B.tells → (last : Which) (copy : DiskCopy) → IsPrepared copy last Mode.Found prepared.now
+        → MayFound (slice_index (B.sizes bay.old) slot) (B.held bay.old) slot copy
+        → OnOk result (IsNowFounded B.held B.may_hold B.moment B.left_since bay.old bay.new (slice_index (B.sizes bay.old) slot) slot prepared.now copy) }
+    ensures spends { Spends B.tells_left B.sizes B.failed_reads B.failed_writes B.sectors_written B.calls bay.old bay.new slot (2 * (sector_count prepared.now.runs + 2) + 1) (2 * (length prepared.now.runs + 5) + 3) }
+    ensures ok { OnOk result (B.failed_writes bay.new ≡ B.failed_writes bay.old) }
+    ensures failed { IfErr result (λ e. (e.0 ≡ slot) × Rose (B.failed_writes bay.old slot) (B.failed_writes bay.new slot)) }
+{
+    let runs = prepared.runs.items();
+    write_founding(
+        bay,
+        slot,
+        &prepared.first,
+        &prepared.second,
+        runs,
+        &prepared.anchor,
+    )
+}

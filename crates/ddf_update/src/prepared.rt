@@ -1,0 +1,75 @@
+ghost use Rattle.std.specs.Prelude.{◌≡◌, IfOk};
+ghost use Rattle.ddf_copy.specs.Written.{IsCopy};
+ghost use Rattle.ddf_update.specs.Prepared.{IsGateOf, IsPrepared, first_of};
+
+use crate::gate::Gate;
+use ddf_bytes::{NoMemory, Sector, Seq};
+use ddf_copy::{DiskCopy, Run, Which, runs_of};
+use ddf_header::encode;
+use std::alloc::Global;
+
+/// How the copies of a disk are written.
+#[derive(Clone, Copy, Debug, PartialEq, Eq)]
+pub enum Mode {
+    /// Those of a disk that shows a copy: the one that isn't the newest, and then the other.
+    Change,
+    /// Those of a disk without an anchor: both, and then the anchor.
+    Found,
+}
+
+/// Every sector of one disk's update, and where it is written.
+#[derive(Debug, Drop)]
+pub struct Prepared {
+    /// How the copies are written.
+    pub mode: Mode,
+    /// The copy that is written first.
+    pub first: Gate,
+    /// The copy that is written behind it.
+    pub second: Gate,
+    /// The sections of both.
+    pub runs: Seq<Run>,
+    /// The anchor, which only a founding writes.
+    pub anchor: Sector,
+}
+
+/// Prepares an update to a copy, which is one that can stand on a disk. `last` is the copy that is written second; a founding
+/// begins with the primary one.
+pub fn prepare(
+    alloc: Global,
+    copy: &DiskCopy,
+    last: Which,
+    mode: Mode,
+) -> Result<Prepared, NoMemory>
+    requires { IsCopy copy.now }
+    ensures { IfOk result (IsPrepared copy.now last mode) }
+{
+    let first = first_of(mode, last);
+    let runs = runs_of(alloc, copy)?;
+    Ok(Prepared {
+        mode,
+        first: gate_of(copy, first),
+        second: gate_of(copy, first.other()),
+        runs,
+        anchor: encode(&copy.anchor_header()),
+    })
+}
+
+fn first_of(mode: Mode, last: Which) -> Which
+    ensures { result ≡ first_of mode last }
+{
+    match mode {
+        Mode::Change => last.other(),
+        Mode::Found => Which::Primary,
+    }
+}
+
+fn gate_of(copy: &DiskCopy, which: Which) -> Gate
+    requires { IsCopy copy.now }
+    ensures { IsGateOf copy.now which result }
+{
+    Gate {
+        lba: which.place(&copy.header),
+        opened: encode(&copy.opened_header(which)),
+        closed: encode(&copy.closed_header(which)),
+    }
+}
