@@ -22,6 +22,7 @@ pub use copies::{Copies, copies_of, newest};
 pub use copy::DiskCopy;
 pub use fault::{AnchorFault, CopyFault, SectionName, ShowFault};
 pub use newest_copy::Newest;
+pub use raw::Raw;
 pub use reading::read_copy;
 pub use run::{Run, runs_of};
 pub use which::Which;

@@ -12,14 +12,20 @@ use ddf_bytes::{Sector, Seq};
 use ddf_header::{ARRAYS, BAD_BLOCKS, CONTROLLER, DISK_DATA, DISKS, Geometry, RECORDS, Section};
 use std::alloc::Global;
 
-/// The sectors of a copy's sections, as they are read.
+/// The sectors of a copy's sections, as they are read and written.
 #[derive(Debug, Drop)]
-pub(crate) struct Raw {
+pub struct Raw {
+    /// The first sector of the controller data.
     pub controller: Sector,
+    /// The physical disk records.
     pub disks: Seq<Sector>,
+    /// The virtual disk records.
     pub arrays: Seq<Sector>,
+    /// The configuration records, as far as there are whole slots.
     pub records: Seq<Sector>,
+    /// The first sector of the physical disk data.
     pub disk_data: Sector,
+    /// The bad block log, none where the section is absent.
     pub bad_blocks: Seq<Sector>,
 }
 

@@ -8,3 +8,5 @@ pub mod Apart
 pub mod Changing
 pub mod Anchored
 pub mod FoundingShows
+pub mod Lies
+pub mod GroupSteps

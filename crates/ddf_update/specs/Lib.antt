@@ -1,4 +1,5 @@
 pub mod Gate
+pub mod Group
 pub mod Prepared
 pub mod Stage
 pub mod Update

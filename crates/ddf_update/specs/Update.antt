@@ -15,11 +15,16 @@ use Rattle.ddf_copy.specs.Runs.{IsInCopy}
 use Rattle.ddf_copy.specs.Shows.{IsNewest, Shows}
 use Rattle.ddf_copy.specs.Written.{is_level}
 use Rattle.ddf_update.specs.declared.prepared.Prepared.{Prepared}
+use Rattle.ddf_update.specs.declared.prepared.Mode.TheVariants.{Found}
 use Rattle.ddf_update.specs.Gate.{StopsLeaveSince}
 
 -- a sector of one of the two copies
 abbrev pub IsInEither : Prepared → ℕ → Type 0
 IsInEither prepared l = IsInCopy prepared.first.lba prepared.runs l ⊎ IsInCopy prepared.second.lba prepared.runs l
+
+-- a sector that an update writes: one of a copy, or the last one of a founding
+abbrev pub IsWritten : (size : ℕ) → Prepared → ℕ → Type 0
+IsWritten size prepared l = IsInEither prepared l ⊎ ((prepared.mode ≡ Found) × (l ≡ size - 1))
 
 -- Both copies are the new one, and level, under this anchor.
 pub record AreBoth (size : ℕ) (sector : ℕ → List ℕ) (anchor : Header) (copy : DiskCopy) : Type 0 where

@@ -1,5 +1,5 @@
 // The update of one disk.
-ghost use Rattle.std.specs.Prelude.{◌≡◌, ◌⊎◌, ◌<◌, ◌≤◌, ◌+◌, ◌*◌, length, OnOk, IfErr, slice_index};
+ghost use Rattle.std.specs.Prelude.{◌≡◌, ◌⊎◌, ◌<◌, ◌≤◌, ◌+◌, ◌-◌, ◌*◌, length, OnOk, IfErr, slice_index};
 ghost use Rattle.ddf_bytes.specs.Counts.{Rose};
 ghost use Rattle.ddf_bay.specs.Sectors.{IsLeft};
 ghost use Rattle.ddf_bay.specs.Moments.{StopsLeave, Spends};
@@ -8,9 +8,9 @@ ghost use Rattle.ddf_copy.specs.declared.copy.DiskCopy.{DiskCopy};
 ghost use Rattle.ddf_copy.specs.declared.which.Which.{Which};
 ghost use Rattle.ddf_copy.specs.Runs.{sector_count};
 ghost use Rattle.ddf_update.specs.declared.prepared.Mode.{Mode};
-ghost use Rattle.ddf_update.specs.Gate.{StopsLeaveSince};
+ghost use Rattle.ddf_update.specs.Gate.{KeepsOutside, StaysOutside, StopsLeaveSince};
 ghost use Rattle.ddf_update.specs.Prepared.{IsPrepared, LiesOn};
-ghost use Rattle.ddf_update.specs.Update.{IsBlankOrNew, IsChanged, IsNowFounded, IsOldOrNew, MayChange, MayFound};
+ghost use Rattle.ddf_update.specs.Update.{IsBlankOrNew, IsChanged, IsInEither, IsNowFounded, IsOldOrNew, IsWritten, MayChange, MayFound};
 
 use crate::both::write_both;
 use crate::founding::write_founding;
@@ -40,8 +40,13 @@ pub fn write_disk<B: Bay>(bay: &mut B, slot: usize, prepared: &Prepared) -> Resu
         → MayFound (slice_index (B.sizes bay.old) slot) (B.held bay.old) slot copy
         → OnOk result (IsNowFounded B.held B.may_hold B.moment B.left_since bay.old bay.new (slice_index (B.sizes bay.old) slot) slot prepared.now copy) }
 
+    // All else stays, and a stop leaves of it what it might have left.
+    ensures held { B.tells → StaysOutside (B.held bay.old) (B.held bay.new) slot (IsWritten (slice_index (B.sizes bay.old) slot) prepared.now) }
+    ensures left { KeepsOutside (B.may_hold bay.old) (B.may_hold bay.new) slot (IsWritten (slice_index (B.sizes bay.old) slot) prepared.now) }
+
     // Each copy is written once, and its header twice.
     ensures spends { Spends B.tells_left B.sizes B.failed_reads B.failed_writes B.sectors_written B.calls bay.old bay.new slot (2 * (sector_count prepared.now.runs + 2) + 1) (2 * (length prepared.now.runs + 5) + 3) }
+    ensures calls { (copy : DiskCopy) (last : Which) (mode : Mode) → IsPrepared copy last mode prepared.now → B.calls bay.new ≤ B.calls bay.old + 25 }
     ensures ok { OnOk result (B.failed_writes bay.new ≡ B.failed_writes bay.old) }
     ensures failed { IfErr result (λ e. (e.0 ≡ slot) × Rose (B.failed_writes bay.old slot) (B.failed_writes bay.new slot)) }
 {
@@ -61,6 +66,8 @@ fn change<B: Bay>(bay: &mut B, slot: usize, prepared: &Prepared) -> Result<(), D
     ensures changed { B.tells → (anchor : Header) (last : Which) (old copy : DiskCopy) → IsPrepared copy last Mode.Change prepared.now
         → MayChange (slice_index (B.sizes bay.old) slot) (B.may_hold bay.old) (B.held bay.old) slot anchor last old copy
         → OnOk result (IsChanged B.held B.may_hold bay.old bay.new (slice_index (B.sizes bay.old) slot) slot anchor prepared.now copy) }
+    ensures held { B.tells → StaysOutside (B.held bay.old) (B.held bay.new) slot (IsInEither prepared.now) }
+    ensures left { KeepsOutside (B.may_hold bay.old) (B.may_hold bay.new) slot (IsInEither prepared.now) }
     ensures spends { Spends B.tells_left B.sizes B.failed_reads B.failed_writes B.sectors_written B.calls bay.old bay.new slot (2 * (sector_count prepared.now.runs + 2)) (2 * (length prepared.now.runs + 5)) }
     ensures ok { OnOk result (B.failed_writes bay.new ≡ B.failed_writes bay.old) }
     ensures failed { IfErr result (λ e. (e.0 ≡ slot) × Rose (B.failed_writes bay.old slot) (B.failed_writes bay.new slot)) }
@@ -80,6 +87,8 @@ fn found<B: Bay>(bay: &mut B, slot: usize, prepared: &Prepared) -> Result<(), Di
     ensures founded { B.tells → (last : Which) (copy : DiskCopy) → IsPrepared copy last Mode.Found prepared.now
         → MayFound (slice_index (B.sizes bay.old) slot) (B.held bay.old) slot copy
         → OnOk result (IsNowFounded B.held B.may_hold B.moment B.left_since bay.old bay.new (slice_index (B.sizes bay.old) slot) slot prepared.now copy) }
+    ensures held { B.tells → StaysOutside (B.held bay.old) (B.held bay.new) slot (λ l. IsInEither prepared.now l ⊎ (l ≡ slice_index (B.sizes bay.old) slot - 1)) }
+    ensures left { KeepsOutside (B.may_hold bay.old) (B.may_hold bay.new) slot (λ l. IsInEither prepared.now l ⊎ (l ≡ slice_index (B.sizes bay.old) slot - 1)) }
     ensures spends { Spends B.tells_left B.sizes B.failed_reads B.failed_writes B.sectors_written B.calls bay.old bay.new slot (2 * (sector_count prepared.now.runs + 2) + 1) (2 * (length prepared.now.runs + 5) + 3) }
     ensures ok { OnOk result (B.failed_writes bay.new ≡ B.failed_writes bay.old) }
     ensures failed { IfErr result (λ e. (e.0 ≡ slot) × Rose (B.failed_writes bay.old slot) (B.failed_writes bay.new slot)) }

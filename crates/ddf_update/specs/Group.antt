@@ -1,0 +1,50 @@
+-- The founding of a group: its disks get their first copies one after another.
+use Rattle.std.specs.Prelude.{◌≡◌, ◌≢◌, ◌⊎◌, ℕ, ◌<◌, ◌≤◌, List, length, slice_get, slice_index, Some, Err}
+use Rattle.ddf_bay.specs.Sectors.{Image, Outcomes}
+use Rattle.ddf_bay.specs.Moments.{IsSettled}
+use Rattle.ddf_copy.specs.declared.copy.DiskCopy.{DiskCopy}
+use Rattle.ddf_copy.specs.declared.which.Which.TheVariants.{Secondary}
+use Rattle.ddf_copy.specs.declared.fault.AnchorFault.TheVariants.{Blank}
+use Rattle.ddf_copy.specs.Anchor.{anchor_at}
+use Rattle.ddf_copy.specs.Headers.{IsUnder, anchor_header}
+use Rattle.ddf_copy.specs.Shows.{Shows}
+use Rattle.ddf_update.specs.declared.prepared.Mode.TheVariants.{Found}
+use Rattle.ddf_update.specs.declared.prepared.Prepared.{Prepared}
+use Rattle.ddf_update.specs.Prepared.{IsPrepared, LiesOn}
+use Rattle.ddf_update.specs.Update.{AreBoth, IsWritten}
+
+-- The slots, each once.
+pub record AreSlots (sizes slots : List ℕ) : Type 0 where
+  pub there : (place slot : ℕ) → slice_get slots place ≡ Some slot → slot < length sizes
+  pub differ : (one other slot : ℕ) → slice_get slots one ≡ Some slot → slice_get slots other ≡ Some slot → one ≡ other
+
+-- an update for each slot, which lies on it
+pub record LieOnSlots (sizes slots : List ℕ) (updates : List Prepared) : Type 0 where
+  pub are_slots : AreSlots sizes slots
+  pub counted : length updates ≡ length slots
+  pub lie_on : (place slot : ℕ) (update : Prepared) → slice_get slots place ≡ Some slot → slice_get updates place ≡ Some update → LiesOn (slice_index sizes slot) update
+
+-- Each slot is blank, and may get the copy at its place.
+pub record MayFoundAll (sizes : List ℕ) (held : Image) (slots : List ℕ) (copy : ℕ → DiskCopy) (updates : List Prepared) : Type 0 where
+  pub are_blank : (place slot : ℕ) → slice_get slots place ≡ Some slot → anchor_at (slice_index sizes slot) (held slot) ≡ Err Blank
+  pub are_under : (place slot : ℕ) → slice_get slots place ≡ Some slot → IsUnder (slice_index sizes slot) (anchor_header (copy place)) (copy place)
+  pub are_prepared : (place : ℕ) (update : Prepared) → slice_get updates place ≡ Some update → IsPrepared (copy place) Secondary Found update
+
+-- A stop leaves each of the slots as it might have left it at the start, or blank, or it shows the copy at its place. Other
+-- slots are as they might be left.
+pub record IsLeftFoundingAll (sizes : List ℕ) (may : Outcomes) (slots : List ℕ) (copy : ℕ → DiskCopy) (image : Image) : Type 0 where
+  pub each : (place slot : ℕ) → slice_get slots place ≡ Some slot
+      → ((l : ℕ) → may slot l (image slot l)) ⊎ (anchor_at (slice_index sizes slot) (image slot) ≡ Err Blank) ⊎ Shows (slice_index sizes slot) (image slot) (copy place)
+  pub others : (s l : ℕ) → ((place : ℕ) → slice_get slots place ≢ Some s) → may s l (image s l)
+
+-- The first slots, so many, have their anchors and copies, sure. All others are as they were.
+pub record AreFounded {D : Type 0} (held : D → Image) (may_hold : D → Outcomes) (old new : D) (sizes slots : List ℕ) (copy : ℕ → DiskCopy) (count : ℕ) : Type 0 where
+  pub are_both : (place slot : ℕ) → place < count → slice_get slots place ≡ Some slot → AreBoth (slice_index sizes slot) (held new slot) (anchor_header (copy place)) (copy place)
+  pub are_settled : (place slot : ℕ) → place < count → slice_get slots place ≡ Some slot → IsSettled (may_hold new) (held new) slot
+  pub others : (s l : ℕ) → ((place : ℕ) → place < count → slice_get slots place ≢ Some s) → held new s l ≡ held old s l
+  pub others_left : (s l : ℕ) (bytes : List ℕ) → ((place : ℕ) → place < count → slice_get slots place ≢ Some s) → may_hold new s l bytes → may_hold old s l bytes
+
+-- a slot is one of these
+pub record IsOneOf (slots : List ℕ) (slot : ℕ) : Type 0 where
+  pub place : ℕ
+  pub is_there : slice_get slots place ≡ Some slot
