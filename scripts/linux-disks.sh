@@ -10,19 +10,13 @@ if [ ! -d "$disks" ]; then
     exit 0
 fi
 
-# The lines that the program prints today: all but those that say whether a copy is whole, and which is the newest.
-printed_today() {
-    grep -vE '^(primary copy|secondary copy|newest) ' "$1"
-}
-
 work=$(mktemp -d)
 trap 'rm -rf "$work"' EXIT
 for archive in "$disks"/*.tar.xz; do
     name=$(basename "$archive" .tar.xz)
     tar -xJf "$archive" -C "$work"
     "$top/ddf" "$work/$name"/*.img -- examine >"$work/$name.told"
-    printed_today "$disks/$name.examine.txt" >"$work/$name.wanted"
-    if ! diff -u "$work/$name.wanted" "$work/$name.told"; then
+    if ! diff -u "$disks/$name.examine.txt" "$work/$name.told"; then
         echo "linux-disks: $name differs" >&2
         exit 1
     fi

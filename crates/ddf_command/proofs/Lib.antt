@@ -3,6 +3,5 @@ mod Grammar
 mod Partway
 mod Told
 mod Names
-mod Within
 mod Listings
 mod Endings

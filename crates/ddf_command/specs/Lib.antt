@@ -4,8 +4,8 @@ pub mod Refusal
 pub mod Hexes
 pub mod Report
 pub mod Records
-pub mod Listing
-pub mod Looks
+pub mod Reasons
+pub mod CopyText
 pub mod Run
 pub mod Status
 pub mod Tells

@@ -13,9 +13,7 @@ use Rattle.ddf_configs.specs.ElementValue.{ElementValue}
 use Rattle.ddf_configs.specs.declared.slot.RecordSlot.{RecordSlot}
 use Rattle.ddf_configs.specs.declared.slot.RecordSlot.TheVariants as slots
 use Rattle.ddf_configs.specs.declared.spare.SpareRecord.{SpareRecord}
-use Rattle.ddf_command.specs.declared.listing.Sections.{Sections}
-use Rattle.ddf_command.specs.declared.listing.Listing.{Listing}
-use Rattle.ddf_command.specs.declared.listing.Listing.TheVariants as listings
+use Rattle.ddf_copy.specs.declared.copy.DiskCopy.{DiskCopy}
 use Rattle.ddf_command.specs.Hexes.{hex8, hex16, hex32}
 
 -- ---- names
@@ -100,13 +98,7 @@ bad_blocks_line None = []
 bad_blocks_line (Some log) = codes "bad blocks " ++ decimal (length log.entries) ++ codes "\n"
 
 -- what the sections of a copy hold
-abbrev pub sections_text : Sections → List ℕ
-sections_text sections =
-    flat_map disk_line sections.disks.rows ++ flat_map array_line sections.arrays.rows
-    ++ record_lines 0 sections.slots ++ bad_blocks_line sections.bad_blocks
-
--- what is listed of the copy that counts
-abbrev pub listing_text : Listing → List ℕ
-listing_text listings.NoCopy = []
-listing_text listings.Unread = codes "sections unread\n"
-listing_text (listings.Sections sections) = sections_text sections
+abbrev pub sections_text : DiskCopy → List ℕ
+sections_text copy =
+    flat_map disk_line copy.disks.rows ++ flat_map array_line copy.arrays.rows
+    ++ record_lines 0 copy.slots ++ bad_blocks_line copy.bad

@@ -2,30 +2,17 @@
 use Rattle.std.specs.Prelude.{ℕ, ◌-◌, List, [], ◌++◌, Option, Some, None, Result, Ok, Err, ◌==◌, nat_lt, codes, if◌then◌else◌}
 use Rattle.std.specs.Fmt.{decimal}
 use Rattle.hex.specs.Hex.{encode_lower}
-use Rattle.ddf_seal.specs.declared.sealing.SealFault.TheVariants as seal_faults
 use Rattle.ddf_header.specs.declared.reading.Header.{Header}
-use Rattle.ddf_header.specs.declared.fault.HeaderFault.{HeaderFault}
-use Rattle.ddf_header.specs.declared.fault.HeaderFault.TheVariants as faults
 use Rattle.ddf_header.specs.Layout.{revision_text}
 use Rattle.ddf_command.specs.declared.disk.HeaderView.{HeaderView}
 use Rattle.ddf_command.specs.declared.disk.HeaderView.TheVariants as header_views
 use Rattle.ddf_command.specs.declared.disk.Headers.{Headers}
 use Rattle.ddf_command.specs.declared.disk.DiskView.{DiskView}
 use Rattle.ddf_command.specs.declared.disk.DiskView.TheVariants as views
-use Rattle.ddf_command.specs.declared.sections.LookFault.{LookFault}
-use Rattle.ddf_command.specs.declared.sections.LookFault.TheVariants.{Disk, Memory}
-use Rattle.ddf_command.specs.Hexes.{hex8, hex32}
-use Rattle.ddf_command.specs.Records.{listing_text}
-
--- why a sector is no header of its kind
-abbrev pub reason_text : HeaderFault → List ℕ
-reason_text (faults.Seal (seal_faults.Signature found)) = codes "signature " ++ hex32 found
-reason_text (faults.Seal (seal_faults.Crc stored counted)) = codes "crc " ++ hex32 stored ++ codes " " ++ hex32 counted
-reason_text faults.Revision = codes "revision"
-reason_text (faults.OpenFlag flag) = codes "openflag " ++ hex8 flag
-reason_text faults.Place = codes "place"
-reason_text (faults.Kind kind) = codes "kind " ++ hex8 kind
-reason_text (faults.Geometry offset) = codes "geometry " ++ decimal offset
+use Rattle.ddf_copy.specs.declared.fault.ShowFault.{ShowFault}
+use Rattle.ddf_copy.specs.declared.fault.ShowFault.TheVariants.{Disk, Memory}
+use Rattle.ddf_command.specs.Reasons.{reason_text}
+use Rattle.ddf_command.specs.CopyText.{copies_text}
 
 -- a primary or secondary header
 abbrev pub header_text : HeaderView → List ℕ
@@ -68,23 +55,23 @@ abbrev pub fault_text : ℕ → List ℕ
 fault_text slot = codes "slot " ++ decimal slot ++ codes " fault\n"
 
 -- the lines of the three headers
-abbrev pub head_text : ℕ → ℕ → Headers → List ℕ
+unfoldable pub head_text : ℕ → ℕ → Headers → List ℕ
 head_text slot sectors headers = group_line slot sectors headers.anchor ++ place_line sectors headers.anchor ++ headers_lines headers
 
 -- what the slot shows
 abbrev pub view_text : ℕ → ℕ → DiskView → List ℕ
 view_text slot sectors views.Blank = codes "slot " ++ decimal slot ++ codes " blank\n"
 view_text slot sectors (views.Damaged fault) = codes "slot " ++ decimal slot ++ codes " damaged " ++ reason_text fault ++ codes "\n"
-view_text slot sectors (views.Headers headers) = head_text slot sectors headers ++ listing_text headers.listing
+view_text slot sectors (views.Headers headers) = head_text slot sectors headers ++ copies_text headers.copies
 
 -- what is told of a look at a slot
-abbrev pub report_text : ℕ → ℕ → Result DiskView LookFault → List ℕ
+abbrev pub report_text : ℕ → ℕ → Result DiskView ShowFault → List ℕ
 report_text slot sectors (Ok view) = view_text slot sectors view
-report_text slot sectors (Err Disk) = fault_text slot
+report_text slot sectors (Err (Disk named)) = fault_text slot
 report_text slot sectors (Err Memory) = []
 
 -- Something is told of it: memory didn't run out.
-abbrev pub IsTold : Result DiskView LookFault → Type 0
+abbrev pub IsTold : Result DiskView ShowFault → Type 0
 IsTold (Ok view) = Unit {0}
-IsTold (Err Disk) = Unit {0}
+IsTold (Err (Disk named)) = Unit {0}
 IsTold (Err Memory) = ⊥

@@ -2,16 +2,16 @@
 ghost use Rattle.std.specs.Prelude.{◌≡◌, ◌<◌, ◌⊎◌, ◌≤◌, length, OnOk, IsErrOf};
 ghost use Rattle.ddf_bytes.specs.Counts.{Rose};
 ghost use Rattle.ddf_bay.specs.ReadsOnly.{ReadsOnly};
+ghost use Rattle.ddf_copy.specs.Faults.{show_failed};
 ghost use Rattle.ddf_command.specs.Examine.{IsExamined, IsSlotShown};
-ghost use Rattle.ddf_command.specs.Looks.{is_disk_fault};
 ghost use Rattle.ddf_command.specs.Status.{code_of};
 
 use crate::disk::{DiskView, view_disk};
 use crate::report::slot_text;
-use crate::sections::LookFault;
 use crate::status::Status;
 use ddf_bay::Bay;
 use ddf_bytes::{Sink, write_all};
+use ddf_copy::ShowFault;
 use std::alloc::Global;
 
 /// Why a command ended before its time.
@@ -59,18 +59,19 @@ fn examine_slot<B: Bay, K: Sink>(
     ensures takes_never_fall { K.empty_takes sink.old ≤ K.empty_takes sink.new }
 {
     let view = view_disk(alloc, bay, slot);
-    let Ok(text) = slot_text(alloc, slot, bay.size(slot), &view) else {
+    let failed = show_failed(&view);
+    let Ok(text) = slot_text(alloc, slot, bay.size(slot), view) else {
         return Err(Stop::Memory);
     };
     if write_all(sink, text.as_bytes()).is_err() {
         return Err(Stop::Output);
     }
-    Ok(is_disk_fault(&view))
+    Ok(failed)
 }
 
 /// Whether a look ended with a call that failed.
-fn is_disk_fault(view: &Result<DiskView, LookFault>) -> bool
-    ensures { result ≡ is_disk_fault view.now }
+fn show_failed(view: &Result<DiskView, ShowFault>) -> bool
+    ensures { result ≡ show_failed view.now }
 {
-    matches!(view, Err(LookFault::Disk))
+    matches!(view, Err(ShowFault::Disk(_)))
 }

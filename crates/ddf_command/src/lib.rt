@@ -7,9 +7,9 @@ mod dispatch;
 mod examine;
 mod listing;
 mod name;
+mod reason;
 mod records;
 mod report;
-mod sections;
 mod status;
 mod words;
 

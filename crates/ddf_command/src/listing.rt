@@ -1,14 +1,14 @@
-// What `examine` lists of the copy that counts.
-ghost use Rattle.std.specs.Prelude.{◌≡◌, ◌++◌, IfOk, IfSome, Some};
+// What `examine` lists of the newest copy.
+ghost use Rattle.std.specs.Prelude.{◌≡◌, ◌++◌, IfOk, IfSome, Some, option_map};
 ghost use Rattle.std.specs.List.{flat_map};
 ghost use Rattle.std.specs.String.{string_bytes};
+ghost use Rattle.ddf_command.specs.CopyText.{listed, newest_text, newest_word};
 ghost use Rattle.ddf_command.specs.Records.{
   array_line,
   bad_blocks_line,
   disk_line,
   element_line,
   guid_text,
-  listing_text,
   member_text,
   record_line,
   record_lines,
@@ -17,57 +17,56 @@ ghost use Rattle.ddf_command.specs.Records.{
 };
 
 use crate::records::{ArrayLine, DiskLine, ElementLayout, ElementName, MemberText};
-use ddf_bytes::{Guid, Hex8, NoMemory, Seq};
+use ddf_bytes::{Guid, Hex8, NoMemory};
 use ddf_configs::{Element, Place, RecordSlot, SpareRecord};
-use ddf_tables::{ArrayRow, ArrayTable, BadBlockLog, DiskRow, DiskTable};
+use ddf_copy::{DiskCopy, Newest, Which};
+use ddf_tables::{ArrayRow, BadBlockLog, DiskRow};
 use std::alloc::Global;
 use std::fmt;
 
-/// What stands in the sections of a copy that `examine` lists.
-#[derive(Debug, Drop)]
-pub(crate) struct Sections {
-    pub disks: DiskTable,
-    pub arrays: ArrayTable,
-    pub slots: Seq<RecordSlot>,
-    pub bad_blocks: Option<BadBlockLog>,
-}
-
-/// What is listed of a disk.
-#[derive(Debug, Drop)]
-pub(crate) enum Listing {
-    /// No header is closed.
-    NoCopy,
-    /// A section of the copy lies past the disk's end, or isn't what it is to be.
-    Unread,
-    /// The sections of the copy.
-    Sections(Sections),
-}
-
-/// Adds the lines of a listing to a text.
-pub(crate) fn push_listing(
-    alloc: Global,
-    text: &mut String,
-    listing: &Listing,
-) -> Result<(), NoMemory>
-    ensures { IfOk result (λ done. string_bytes text.new ≡ string_bytes text.old ++ listing_text listing.now) }
+/// Adds the lines of the newest copy to a text: which one it is, and its records.
+#[tactic(auto, unfolding(crate::specs::CopyText::newest_text))]
+pub(crate) fn push_newest(alloc: Global, text: &mut String, newest: &Newest) -> Result<(), NoMemory>
+    ensures { IfOk result (λ done. string_bytes text.new ≡ string_bytes text.old ++ newest_text newest.now) }
 {
-    match listing {
-        Listing::NoCopy => Ok(()),
-        Listing::Unread => {
-            text.push_str("sections unread\n")?;
-            Ok(())
-        }
-        Listing::Sections(sections) => push_sections(alloc, text, sections),
+    let word = newest_word(newest);
+    push(alloc, text, &format!(in alloc; "newest {word}\n")?)?;
+    match listed_copy(newest) {
+        Some(copy) => push_sections(alloc, text, copy),
+        None => Ok(()),
     }
 }
 
-fn push_sections(alloc: Global, text: &mut String, sections: &Sections) -> Result<(), NoMemory>
-    ensures { IfOk result (λ done. string_bytes text.new ≡ string_bytes text.old ++ sections_text sections.now) }
+/// Which copy is the newest, in one word.
+fn newest_word(newest: &Newest) -> &'static str
+    ensures { result.now ≡ newest_word newest.now }
 {
-    push_all(alloc, text, sections.disks.rows())?;
-    push_all(alloc, text, sections.arrays.rows())?;
-    push_records(alloc, text, sections.slots.items())?;
-    push_bad_blocks(alloc, text, &sections.bad_blocks)?;
+    match newest {
+        Newest::One(Which::Primary, _) => "primary",
+        Newest::One(Which::Secondary, _) => "secondary",
+        Newest::Level(_) => "level",
+        Newest::TwoDiffer(..) => "differ",
+        Newest::Neither(..) => "neither",
+    }
+}
+
+/// The copy whose records are listed.
+fn listed_copy(newest: &Newest) -> Option<&DiskCopy>
+    ensures { option_map (λ copy. copy.now) result ≡ listed newest.now }
+{
+    match newest {
+        Newest::One(_, copy) | Newest::Level(copy) | Newest::TwoDiffer(copy, _) => Some(copy),
+        Newest::Neither(..) => None,
+    }
+}
+
+fn push_sections(alloc: Global, text: &mut String, copy: &DiskCopy) -> Result<(), NoMemory>
+    ensures { IfOk result (λ done. string_bytes text.new ≡ string_bytes text.old ++ sections_text copy.now) }
+{
+    push_all(alloc, text, copy.disks.rows())?;
+    push_all(alloc, text, copy.arrays.rows())?;
+    push_records(alloc, text, copy.slots.items())?;
+    push_bad_blocks(alloc, text, &copy.bad)?;
     Ok(())
 }
 

@@ -1,15 +1,15 @@
 // The lines that `examine` prints of a slot.
 ghost use Rattle.std.specs.Prelude.{◌≡◌, ◌++◌, IfOk};
 ghost use Rattle.std.specs.String.{string_bytes};
+ghost use Rattle.ddf_command.specs.CopyText.{copies_text, copy_lines};
 ghost use Rattle.ddf_command.specs.Report.{IsTold, closed_sequence, closed_text, head_text, report_text, view_text};
-ghost use Rattle.ddf_command.specs.Records.{listing_text};
 
 use crate::disk::{DiskView, HeaderView, Headers};
-use crate::listing::push_listing;
-use crate::sections::LookFault;
-use ddf_bytes::{Hex8, Hex32, NoMemory};
-use ddf_header::{Header, HeaderFault, Revision};
-use ddf_seal::SealFault;
+use crate::listing::push_newest;
+use crate::reason::{CopyReason, Reason};
+use ddf_bytes::NoMemory;
+use ddf_copy::{Copies, CopyFault, DiskCopy, ShowFault};
+use ddf_header::{Header, Revision};
 use std::alloc::Global;
 use std::fmt;
 
@@ -44,9 +44,16 @@ struct HeadersLines<'a>(&'a Headers);
 #[derive(Drop)]
 struct HeaderText<'a>(&'a HeaderView);
 
-/// Why a sector is no header.
+/// Whether a copy is whole.
 #[derive(Drop)]
-struct Reason<'a>(&'a HeaderFault);
+struct CopyLine<'a> {
+    which: &'static str,
+    copy: &'a Result<DiskCopy, CopyFault>,
+}
+
+/// Whether each copy is whole.
+#[derive(Drop)]
+struct CopyLines<'a>(&'a Copies);
 
 /// A revision as it stands in a header.
 #[derive(Drop)]
@@ -57,25 +64,25 @@ pub(crate) fn slot_text(
     alloc: Global,
     slot: usize,
     sectors: u64,
-    view: &Result<DiskView, LookFault>,
+    view: Result<DiskView, ShowFault>,
 ) -> Result<String, NoMemory>
-    ensures text { IfOk result (λ text. string_bytes text ≡ report_text slot sectors view.now) }
-    ensures told { IfOk result (λ text. IsTold view.now) }
+    ensures text { IfOk result (λ text. string_bytes text ≡ report_text slot sectors view) }
+    ensures told { IfOk result (λ text. IsTold view) }
 {
     match view {
         Ok(view) => view_text(alloc, slot, sectors, view),
-        Err(LookFault::Disk) => Ok(format!(in alloc; "slot {slot} fault\n")?),
-        Err(LookFault::Memory) => Err(NoMemory),
+        Err(ShowFault::Disk(_)) => Ok(format!(in alloc; "slot {slot} fault\n")?),
+        Err(ShowFault::Memory) => Err(NoMemory),
     }
 }
 
-fn view_text(alloc: Global, slot: usize, sectors: u64, view: &DiskView) -> Result<String, NoMemory>
-    ensures { IfOk result (λ text. string_bytes text ≡ view_text slot sectors view.now) }
+fn view_text(alloc: Global, slot: usize, sectors: u64, view: DiskView) -> Result<String, NoMemory>
+    ensures { IfOk result (λ text. string_bytes text ≡ view_text slot sectors view) }
 {
     match view {
         DiskView::Blank => Ok(format!(in alloc; "slot {slot} blank\n")?),
         DiskView::Damaged(fault) => {
-            let reason = Reason(fault);
+            let reason = Reason(&fault);
             Ok(format!(in alloc; "slot {slot} damaged {reason}\n")?)
         }
         DiskView::Headers(headers) => headers_text(alloc, slot, sectors, headers),
@@ -86,18 +93,31 @@ fn headers_text(
     alloc: Global,
     slot: usize,
     sectors: u64,
+    headers: Headers,
+) -> Result<String, NoMemory>
+    ensures { IfOk result (λ text. string_bytes text ≡ head_text slot sectors headers ++ copies_text headers.copies) }
+{
+    let mut text = front_text(alloc, slot, sectors, &headers)?;
+    push_newest(alloc, &mut text, &headers.copies.newest())?;
+    Ok(text)
+}
+
+/// The lines of the headers, and whether each copy is whole.
+fn front_text(
+    alloc: Global,
+    slot: usize,
+    sectors: u64,
     headers: &Headers,
 ) -> Result<String, NoMemory>
-    ensures { IfOk result (λ text. string_bytes text ≡ head_text slot sectors headers.now ++ listing_text headers.now.listing) }
+    ensures { IfOk result (λ text. string_bytes text ≡ head_text slot sectors headers.now ++ copy_lines headers.now.copies) }
 {
     let head = HeadText {
         slot,
         sectors,
         headers,
     };
-    let mut text = head.to_string(alloc)?;
-    push_listing(alloc, &mut text, &headers.listing)?;
-    Ok(text)
+    let copies = CopyLines(&headers.copies);
+    Ok(format!(in alloc; "{head}{copies}")?)
 }
 
 impl fmt::Display for HeadText<'_> {
@@ -106,6 +126,7 @@ impl fmt::Display for HeadText<'_> {
 
     ghost output = { λ head. Some (head_text head.slot head.sectors head.headers.now) };
 
+    #[tactic(auto, unfolding(crate::specs::Report::head_text))]
     fn fmt<W: fmt::Write>(&self, f: &mut fmt::Formatter<W>) -> fmt::Result {
         let anchor = &self.headers.anchor;
         let group = GroupLine {
@@ -201,25 +222,37 @@ impl fmt::Display for HeaderText<'_> {
     }
 }
 
-impl fmt::Display for Reason<'_> {
+impl fmt::Display for CopyLines<'_> {
     ghost use Rattle.std.specs.Prelude.{Some};
-    ghost use Rattle.ddf_command.specs.Report.{reason_text};
+    ghost use Rattle.ddf_command.specs.CopyText.{copy_lines};
 
-    ghost output = { λ reason. Some (reason_text reason.0.now) };
+    ghost output = { λ lines. Some (copy_lines lines.0.now) };
+
+    #[tactic(auto, unfolding(crate::specs::CopyText::copy_lines))]
+    fn fmt<W: fmt::Write>(&self, f: &mut fmt::Formatter<W>) -> fmt::Result {
+        let primary = CopyLine {
+            which: "primary",
+            copy: &self.0.primary,
+        };
+        let secondary = CopyLine {
+            which: "secondary",
+            copy: &self.0.secondary,
+        };
+        write!(f, "{primary}{secondary}")
+    }
+}
+
+impl fmt::Display for CopyLine<'_> {
+    ghost use Rattle.std.specs.Prelude.{Some};
+    ghost use Rattle.ddf_command.specs.CopyText.{copy_line};
+
+    ghost output = { λ line. Some (copy_line line.which.now line.copy.now) };
 
     fn fmt<W: fmt::Write>(&self, f: &mut fmt::Formatter<W>) -> fmt::Result {
-        match *self.0 {
-            HeaderFault::Seal(SealFault::Signature(found)) => {
-                write!(f, "signature {}", Hex32(found))
-            }
-            HeaderFault::Seal(SealFault::Crc { stored, counted }) => {
-                write!(f, "crc {} {}", Hex32(stored), Hex32(counted))
-            }
-            HeaderFault::Revision => write!(f, "revision"),
-            HeaderFault::OpenFlag(flag) => write!(f, "openflag {}", Hex8(flag)),
-            HeaderFault::Place => write!(f, "place"),
-            HeaderFault::Kind(kind) => write!(f, "kind {}", Hex8(kind)),
-            HeaderFault::Geometry(offset) => write!(f, "geometry {offset}"),
+        let which = self.which;
+        match self.copy {
+            Ok(_) => writeln!(f, "{which} copy whole"),
+            Err(fault) => writeln!(f, "{which} copy {}", CopyReason(fault)),
         }
     }
 }

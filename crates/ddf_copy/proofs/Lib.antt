@@ -1,6 +1,7 @@
 pub mod CopiesRead
 pub mod Gates
 pub mod HeadersWritten
+pub mod Images
 pub mod Laid
 pub mod LevelCopies
 pub mod Levels

@@ -116,7 +116,7 @@ raw_stands sector lba geometry raw sizes stands =
     rw (controller, disks, arrays, records, disk_data, bad_blocks) refl
 
 -- the header of a copy that can be written under this anchor
-header_stands : (size : ℕ) (sector : ℕ → List ℕ) (anchor : Header) (which : Which) (header : Header) (head : List ℕ) → IsHeaderOf (kind_of which) header head
+pub header_stands : (size : ℕ) (sector : ℕ → List ℕ) (anchor : Header) (which : Which) (header : Header) (head : List ℕ) → IsHeaderOf (kind_of which) header head
     → sector (place_of which anchor) ≡ head → place_of which anchor < size → gate_fault size anchor which header (header_bytes header) ≡ None → header_of size sector anchor which ≡ Ok header
 unfolding header_of header_in
 header_stands size sector anchor which header head is here within gate =

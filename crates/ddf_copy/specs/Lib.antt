@@ -3,6 +3,7 @@ pub mod Copies
 pub mod Faults
 pub mod Gate
 pub mod Headers
+pub mod Image
 pub mod Room
 pub mod Runs
 pub mod Sections

@@ -1,4 +1,6 @@
-// The sections of a new disk's copy, byte by byte, as the format's tables give them.
+// The copies of a new disk, byte by byte, as the format's tables give them.
+ghost use Rattle.std.specs.Prelude.{◌<◌, ◌^◌};
+
 use crate::tests::headers::{ANCHOR, GROUP, PRIMARY, SECONDARY, SECTORS, header};
 use ddf_bay::{Bay, MemoryBay};
 use ddf_bytes::{Sector, put16, put32, put64};
@@ -8,7 +10,7 @@ use std::process::Abort;
 use std::test::Fail;
 
 /// `RDDF-D  `, the timestamp, the number and the salt.
-const DISK: [u8; 24] = *b"RDDF-D  \x52\x85\x4b\x00\0\0\0\0\0\0\0\0\0\0\0\x07";
+pub const DISK: [u8; 24] = *b"RDDF-D  \x52\x85\x4b\x00\0\0\0\0\0\0\0\0\0\0\0\x07";
 
 /// `RDDF-C  `, the timestamp, the number and the salt.
 const CONTROLLER: [u8; 24] = *b"RDDF-C  \x52\x85\x4b\x00\0\0\0\0\0\0\0\0\0\0\0\x07";
@@ -16,19 +18,27 @@ const CONTROLLER: [u8; 24] = *b"RDDF-C  \x52\x85\x4b\x00\0\0\0\0\0\0\0\0\0\0\0\x
 /// What stands in a slot of two sectors.
 pub type Slot = [u8; 1024];
 
-/// The sections of a copy that a test changes.
+/// A header and the sections behind it.
 #[derive(Drop)]
 pub struct CopyBytes {
+    pub header: Sector,
+    pub controller: Sector,
     pub disks: [u8; 1024],
+    pub arrays: [u8; 1024],
     pub slots: [(usize, Slot); 2],
+    pub disk_data: Sector,
     pub bad_blocks: Sector,
 }
 
-/// The sections of a new disk: notes in slot 0, and something in another slot.
-pub fn copy(other: (usize, Slot)) -> CopyBytes {
+/// A copy of a new disk behind this header: notes in slot 0, and something in slot 5.
+pub fn copy(header: Sector, other: Slot) -> CopyBytes {
     CopyBytes {
+        header,
+        controller: named(&CONTROLLER, 0xAD11_1111),
         disks: disks(&[7]),
-        slots: [(0, notes()), other],
+        arrays: arrays(15),
+        slots: [(0, notes()), (5, other)],
+        disk_data: named(&DISK, 0x3333_3333),
         bad_blocks: bad_blocks(0),
     }
 }
@@ -48,6 +58,15 @@ pub fn disks(references: &[u32]) -> [u8; 1024] {
         put16(&mut section, at + 58, 512);
     }
     seal(&mut section, 0x2222_2222);
+    section
+}
+
+/// A table without arrays that states so many rows.
+pub fn arrays(rows: u16) -> [u8; 1024] {
+    let mut section = [0xFF; 1024];
+    put16(&mut section, 8, 0);
+    put16(&mut section, 10, rows);
+    seal(&mut section, 0xDDDD_DDDD);
     section
 }
 
@@ -85,33 +104,41 @@ pub fn memberless(signature: u32) -> Slot {
     slot
 }
 
-/// A slot with a new disk's headers, and this copy behind the primary.
-pub fn labelled(rt: &impl Abort, alloc: Global, copy: &CopyBytes) -> Result<MemoryBay, Fail> {
-    let mut bay = MemoryBay::new(alloc, &[SECTORS], 46, Vec::new(alloc), None)?;
+/// A slot with a new disk's anchor and these two copies.
+pub fn labelled(
+    rt: &impl Abort,
+    alloc: Global,
+    primary: &CopyBytes,
+    secondary: &CopyBytes,
+) -> Result<MemoryBay, Fail> {
+    let mut bay = MemoryBay::new(alloc, &[SECTORS], 89, Vec::new(alloc), None)?;
     put(rt, &mut bay, ANCHOR, &header(0, 0xFF, u32::MAX));
-    put(rt, &mut bay, PRIMARY, &header(1, 0, 1));
-    put(rt, &mut bay, SECONDARY, &header(2, 0, 1));
-    put(rt, &mut bay, PRIMARY + 1, &named(&CONTROLLER, 0xAD11_1111));
-    put_two(rt, &mut bay, PRIMARY + 2, &copy.disks);
-    let mut arrays = [0xFF; 1024];
-    put16(&mut arrays, 8, 0);
-    put16(&mut arrays, 10, 15);
-    seal(&mut arrays, 0xDDDD_DDDD);
-    put_two(rt, &mut bay, PRIMARY + 4, &arrays);
-    for sector in 6..38 {
-        put(rt, &mut bay, PRIMARY + sector, &[0xFF; 512]);
-    }
-    for (place, slot) in &copy.slots {
-        let lba = (PRIMARY + 6).saturating_add((*place as u64).saturating_mul(2));
-        put_two(rt, &mut bay, lba, slot);
-    }
-    put(rt, &mut bay, PRIMARY + 38, &named(&DISK, 0x3333_3333));
-    put(rt, &mut bay, PRIMARY + 39, &copy.bad_blocks);
+    put_copy(rt, &mut bay, PRIMARY, primary);
+    put_copy(rt, &mut bay, SECONDARY, secondary);
     Ok(bay)
 }
 
+/// Writes a copy whose header stands at an LBA.
+fn put_copy(rt: &impl Abort, bay: &mut MemoryBay, lba: u64, copy: &CopyBytes)
+    requires { lba < 2 ^ 16 }
+{
+    put(rt, bay, lba, &copy.header);
+    put(rt, bay, lba + 1, &copy.controller);
+    put_two(rt, bay, lba + 2, &copy.disks);
+    put_two(rt, bay, lba + 4, &copy.arrays);
+    for sector in 6..38 {
+        put(rt, bay, lba + sector, &[0xFF; 512]);
+    }
+    for (place, slot) in &copy.slots {
+        let offset = (*place as u64).saturating_mul(2).saturating_add(6);
+        put_two(rt, bay, lba.saturating_add(offset), slot);
+    }
+    put(rt, bay, lba + 38, &copy.disk_data);
+    put(rt, bay, lba + 39, &copy.bad_blocks);
+}
+
 /// A record of one sector that names something, with reference 7.
-fn named(guid: &[u8; 24], signature: u32) -> Sector {
+pub fn named(guid: &[u8; 24], signature: u32) -> Sector {
     let mut sector = [0xFF; 512];
     sector[8..32].copy_from_slice(guid);
     put32(&mut sector, 32, 7);

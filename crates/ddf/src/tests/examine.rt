@@ -10,22 +10,26 @@ use std::alloc::Global;
 use std::process::Abort;
 use std::test::Fail;
 
-const FIRST_LINES: &str = "\
+const GROUP_LINE: &str = "\
 slot 0 sectors 65536 group 524444462d47202052854b00000000000000000000000007 revision 02.00.00
+";
+
+const PLACE_LINE: &str = "\
 anchor 65535 primary 65495 secondary 65455 workspace 32687 length 32768
 ";
 
-/// A slot with a new disk's anchor and these two headers.
+/// A slot with these three headers, and zeros behind them.
 fn disk(
     rt: &impl Abort,
     alloc: Global,
+    anchor: &Sector,
     primary: &Sector,
     secondary: &Sector,
 ) -> Result<MemoryBay, Fail> {
     let mut bay = MemoryBay::new(alloc, &[SECTORS], 3, Vec::new(alloc), None)?;
     assert_eq!(rt; bay.slots(), 1);
     assert_eq!(rt; bay.size(0), SECTORS);
-    assert!(rt; bay.write(0, ANCHOR, &header(0, 0xFF, u32::MAX)).is_ok());
+    assert!(rt; bay.write(0, ANCHOR, anchor).is_ok());
     assert!(rt; bay.write(0, PRIMARY, primary).is_ok());
     assert!(rt; bay.write(0, SECONDARY, secondary).is_ok());
     Ok(bay)
@@ -34,26 +38,80 @@ fn disk(
 #[test]
 fn headers_are_told(rt: HostRuntime) -> Result<(), Fail> {
     let alloc = rt.alloc();
+    let anchor = header(0, 0xFF, u32::MAX);
     let cases = [
         (
             header(1, 0, 1),
-            header(2, 0, 1),
             "primary header closed sequence 1\nsecondary header closed sequence 1\nclosed both\n",
+            "primary copy controller signature 00000000\n",
         ),
         (
             header(1, 1, 1),
-            header(2, 0, 1),
             "primary header open sequence 1\nsecondary header closed sequence 1\nclosed secondary\n",
+            "primary copy open\n",
         ),
+        // The workspace length is 00007fff in place of 00008000.
         (
-            header(1, 1, 2),
-            header(2, 0, 1),
-            "primary header open sequence 2\nsecondary header closed sequence 1\nclosed secondary\n",
+            changed(1, 4, 116, 32_767),
+            "primary header closed sequence 1\nsecondary header closed sequence 1\nclosed both\n",
+            "primary copy anchor 118\n",
         ),
     ];
-    for (primary, secondary, lines) in cases {
-        let mut bay = disk(&rt, alloc, &primary, &secondary)?;
-        let text = format!(in alloc; "{FIRST_LINES}{lines}sections unread\n")?;
+    for (primary, lines, copy) in cases {
+        let mut bay = disk(&rt, alloc, &anchor, &primary, &header(2, 0, 1))?;
+        let text = format!(in alloc;
+            "{GROUP_LINE}{PLACE_LINE}{lines}{copy}secondary copy controller signature 00000000\nnewest neither\n"
+        )?;
+        assert_told(
+            &rt,
+            alloc,
+            &["d0", "--", "examine"],
+            &mut bay,
+            0,
+            text.as_str(),
+        )?;
+    }
+    Ok(())
+}
+
+#[test]
+fn copies_without_room_are_told(rt: HostRuntime) -> Result<(), Fail> {
+    let alloc = rt.alloc();
+    let cases = [
+        // A disk table at the offset 65535.
+        (
+            [
+                changed(0, 4, 200, 65_535),
+                changed(1, 4, 200, 65_535),
+                changed(2, 4, 200, 65_535),
+            ],
+            "\
+anchor 65535 primary 65495 secondary 65455 workspace 32687 length 32768
+primary header closed sequence 1
+secondary header closed sequence 1
+closed both
+primary copy room 200
+secondary copy room 200
+newest neither
+",
+        ),
+        // The first byte of the anchor's primary LBA is FF.
+        (
+            [changed(0, 1, 96, 0xFF), header(1, 0, 1), header(2, 0, 1)],
+            "\
+anchor 65535 primary 18374686479671689175 secondary 65455 workspace 32687 length 32768
+primary header room
+secondary header closed sequence 1
+closed secondary
+primary copy room 0
+secondary copy anchor 96
+newest neither
+",
+        ),
+    ];
+    for ([anchor, primary, secondary], lines) in cases {
+        let mut bay = disk(&rt, alloc, &anchor, &primary, &secondary)?;
+        let text = format!(in alloc; "{GROUP_LINE}{lines}")?;
         assert_told(
             &rt,
             alloc,
@@ -85,6 +143,7 @@ fn changed(kind: u8, width: usize, at: usize, value: u64) -> Sector
 #[test]
 fn faults_are_told_in_their_order(rt: HostRuntime) -> Result<(), Fail> {
     let alloc = rt.alloc();
+    let anchor = header(0, 0xFF, u32::MAX);
     let mut torn = header(1, 0, 1);
     torn[0] = 0xDF;
     let cases = [
@@ -104,10 +163,14 @@ fn faults_are_told_in_their_order(rt: HostRuntime) -> Result<(), Fail> {
         (changed(1, 4, 236, 8193), "geometry 232"),
     ];
     for (primary, reason) in cases {
-        let mut bay = disk(&rt, alloc, &primary, &header(2, 0, 1))?;
-        let text = format!(in alloc;
-            "{FIRST_LINES}primary header {reason}\nsecondary header closed sequence 1\nclosed secondary\nsections unread\n"
+        let mut bay = disk(&rt, alloc, &anchor, &primary, &header(2, 0, 1))?;
+        let headers = format!(in alloc;
+            "primary header {reason}\nsecondary header closed sequence 1\nclosed secondary\n"
         )?;
+        let copies = format!(in alloc;
+            "primary copy header {reason}\nsecondary copy controller signature 00000000\nnewest neither\n"
+        )?;
+        let text = format!(in alloc; "{GROUP_LINE}{PLACE_LINE}{headers}{copies}")?;
         assert_told(
             &rt,
             alloc,

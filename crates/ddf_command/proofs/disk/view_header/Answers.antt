@@ -9,4 +9,4 @@ unfolding header_view
 returns-in-Ok-clause-view g c = λ tells.
     let bytes = c.in-Ok.ensures.bytes tells in
     let within : nat_lt c.args.lba (slice_index (g.B.Bay.sizes c.args.bay.now) c.args.slot) ≡ true = grind (arith, common_steps) in
-    rw (within, ← bytes) c.header_in.ensures.value
+    rw (within, ← bytes) c.header_in.ensures

@@ -1,7 +1,7 @@
-use Rattle.std.proofs.Common.{◌<◌, ◌∙◌, ap, arith}
+use Rattle.std.proofs.Common.{◌<◌, ◌∙◌, ap, arith, rules}
 use Rattle.ddf_header.specs.declared.geometry.Section.{Section}
 use Rattle.ddf_header.specs.Geometry.{least_bytes}
-use Rattle.ddf_bay.proofs.Looks.{reads_then}
+use Rattle.ddf_bay.proofs.Looks.{looks_then, reads_then}
 use Rattle.ddf_copy.proofs.raw.read_raw.Goals as goal
 
 pub read_first-requires-clause-some : goal.read_first-requires-clause-some
@@ -37,3 +37,24 @@ returns-clause-sizes g c =
       disks_hold = rw c.in_ok-disks.ensures.length (disks.long_enough (disks.needed (omega arith)));
       arrays_hold = rw c.in_ok-arrays.ensures.length (arrays.long_enough (arrays.needed (omega arith)));
     }
+
+pub returns-in_err-records-clause-reads : goal.returns-in_err-records-clause-reads
+returns-in_err-records-clause-reads g c = reads_then (reads_then (reads_then c.read_first.ensures.reads c.read_section.ensures.reads) c.read_section-2.ensures.reads) c.read_section-3.ensures.reads
+
+pub returns-in_err-records-clause-look : goal.returns-in_err-records-clause-look
+returns-in_err-records-clause-look g c = search (rules, looks_then c.args.slot _ (looks_then c.args.slot _ (looks_then c.args.slot _ c.in_ok-controller.ensures.look c.in_ok-disks.ensures.look) c.in_ok-arrays.ensures.look) c.in_err-records.ensures.look)
+
+pub returns-in_err-disk_data-clause-reads : goal.returns-in_err-disk_data-clause-reads
+returns-in_err-disk_data-clause-reads g c = reads_then (reads_then (reads_then (reads_then c.read_first.ensures.reads c.read_section.ensures.reads) c.read_section-2.ensures.reads) c.read_section-3.ensures.reads) c.read_first-2.ensures.reads
+
+pub returns-in_err-disk_data-clause-look : goal.returns-in_err-disk_data-clause-look
+returns-in_err-disk_data-clause-look g c = search (rules, looks_then c.args.slot _ (looks_then c.args.slot _ (looks_then c.args.slot _ (looks_then c.args.slot _ c.in_ok-controller.ensures.look c.in_ok-disks.ensures.look) c.in_ok-arrays.ensures.look) c.in_ok-records.ensures.look) c.in_err-disk_data.ensures.look)
+
+pub returns-in_err-bad_blocks-clause-look : goal.returns-in_err-bad_blocks-clause-look
+returns-in_err-bad_blocks-clause-look g c = search (rules, looks_then c.args.slot _ (looks_then c.args.slot _ (looks_then c.args.slot _ (looks_then c.args.slot _ (looks_then c.args.slot _ c.in_ok-controller.ensures.look c.in_ok-disks.ensures.look) c.in_ok-arrays.ensures.look) c.in_ok-records.ensures.look) c.in_ok-disk_data.ensures.look) c.in_err-bad_blocks.ensures.look)
+
+pub returns-clause-reads : goal.returns-clause-reads
+returns-clause-reads g c = reads_then (reads_then (reads_then (reads_then (reads_then c.read_first.ensures.reads c.read_section.ensures.reads) c.read_section-2.ensures.reads) c.read_section-3.ensures.reads) c.read_first-2.ensures.reads) c.read_section-4.ensures.reads
+
+pub returns-clause-look : goal.returns-clause-look
+returns-clause-look g c = looks_then c.args.slot _ (looks_then c.args.slot _ (looks_then c.args.slot _ (looks_then c.args.slot _ (looks_then c.args.slot _ c.in_ok-controller.ensures.look c.in_ok-disks.ensures.look) c.in_ok-arrays.ensures.look) c.in_ok-records.ensures.look) c.in_ok-disk_data.ensures.look) c.in_ok-bad_blocks.ensures.look
