@@ -1,10 +1,9 @@
 -- The anchor of a disk shares its bytes with the headers of its copies.
-use Rattle.std.proofs.Common.{◌≡◌, ◌⊎◌, ℕ, zero, suc, ◌+◌, ◌<◌, ◌≤◌, ◌^◌, Bool, true, false, not, ◌&&◌, ◌||◌, eqb, leb, ltb, List, [], ◌∷◌, length, get_or, Option, Some, None, refl, sym, ap, ◌∙◌, subst, inl, inr, arith, eq-eqb}
+use Rattle.std.proofs.Common.{◌≡◌, ◌⊎◌, ℕ, zero, suc, ◌+◌, ◌<◌, ◌≤◌, ◌^◌, Bool, true, false, not, ◌&&◌, ◌||◌, leb, ltb, List, [], ◌∷◌, length, get_or, Option, Some, None, refl, sym, ap, ◌∙◌, subst, inl, inr, arith, eq-eqb}
 use Rattle.std.proofs.lemmas.Bool.{leb-true, ltb-true}
 use Rattle.std.proofs.lemmas.Iterator.Adapters.{position_from-zero}
 use Rattle.std.specs.Prelude.{slice_get}
-use Rattle.std.specs.List.{AllByRecursion, position, position_from, range_with_len}
-use Rattle.ddf_seal.specs.Records.{record_bytes}
+use Rattle.std.specs.List.{AllByRecursion, position_from, range_with_len}
 use Rattle.ddf_seal.specs.Seal.{sealed, seal_place}
 use Rattle.ddf_seal.specs.Unread.{Field, Fits, bytes_of, place_of, placed, places, written}
 use Rattle.ddf_seal.proofs.Records.{sealed_outside, written_outside}

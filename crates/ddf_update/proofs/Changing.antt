@@ -1,10 +1,8 @@
 -- What a slot shows while its copies are written.
-use Rattle.std.proofs.Common.{◌≡◌, ◌≢◌, ◌⊎◌, ℕ, ◌+◌, ◌-◌, ◌<◌, ◌≤◌, List, Ok, Err, None, true, refl, sym, ap, ◌∙◌, inl, inr, ⊎_elim, arith, subst}
+use Rattle.std.proofs.Common.{◌≡◌, ◌⊎◌, ℕ, ◌-◌, List, Ok, Err, None, true, refl, sym, ◌∙◌, inl, inr, ⊎_elim, arith, subst}
 use Rattle.ddf_bay.specs.Sectors.{Image, Outcomes}
 use Rattle.ddf_header.specs.declared.reading.Header.{Header}
 use Rattle.ddf_header.specs.Geometry.{geometry_at}
-use Rattle.ddf_header.specs.Header.{IsHeaderOf}
-use Rattle.ddf_header.proofs.Decoded.{decoded_is}
 use Rattle.ddf_header.proofs.Encoded.{encoded_again}
 use Rattle.ddf_copy.specs.declared.copy.DiskCopy.{DiskCopy}
 use Rattle.ddf_copy.specs.declared.fault.CopyFault.TheVariants as faults
@@ -16,18 +14,18 @@ use Rattle.ddf_copy.specs.Copies.{copy_of, newest_of}
 use Rattle.ddf_copy.specs.Gate.{first_difference, header_bytes}
 use Rattle.ddf_copy.specs.Headers.{IsUnder, closed_header, written_as}
 use Rattle.ddf_copy.specs.Room.{room_fault}
-use Rattle.ddf_copy.specs.Runs.{AreApart, AreRunsOf, HasCopy, IsInCopy, IsInParts, parts_of}
-use Rattle.ddf_copy.specs.Shows.{IsNewest, IsSame, Shows}
+use Rattle.ddf_copy.specs.Runs.{AreApart, AreRunsOf, HasCopy, IsInCopy}
+use Rattle.ddf_copy.specs.Shows.{IsNewest}
 use Rattle.ddf_copy.specs.Which.{kind_of, other_of, place_of}
 use Rattle.ddf_copy.specs.Written.{is_level}
-use Rattle.ddf_copy.proofs.Gates.{gate_from, geometry_read, headers_in_room}
-use Rattle.ddf_copy.proofs.Laid.{AreLaid, copies_apart, copy_below, part_in_runs, runs_apart, runs_laid, runs_on}
+use Rattle.ddf_copy.proofs.Gates.{gate_from, geometry_read}
+use Rattle.ddf_copy.proofs.Laid.{AreLaid, copies_apart, copy_below, part_in_runs, runs_apart, runs_laid}
 use Rattle.ddf_copy.proofs.LevelCopies.{level_from, level_is, same_start, same_sym, same_then, written_same}
 use Rattle.ddf_copy.proofs.Newests.{newest_of_level, newest_of_one, newest_of_two, newest_same, newest_then}
 use Rattle.ddf_copy.proofs.Stands.{copy_stands, open_copy, place_within, same_copy}
 use Rattle.ddf_update.specs.declared.gate.Gate.{Gate}
 use Rattle.ddf_update.specs.declared.prepared.Prepared.{Prepared}
-use Rattle.ddf_update.specs.declared.prepared.Mode.TheVariants.{Change, Found}
+use Rattle.ddf_update.specs.declared.prepared.Mode.TheVariants.{Change}
 use Rattle.ddf_update.specs.Gate.{AreBothApart, AreCopied, IsLeftUpdating, IsUntouched, IsUpdating}
 use Rattle.ddf_update.specs.Prepared.{IsGateOf, IsPrepared}
 use Rattle.ddf_update.specs.Update.{AreBoth, IsChanged, IsInEither, IsOldOrNew, MayChange}

@@ -1,24 +1,23 @@
 -- What a slot shows while it gets its first copies.
-use Rattle.std.proofs.Common.{◌≡◌, ◌≢◌, ◌⊎◌, ℕ, ◌-◌, ◌<◌, eqb, List, Ok, Err, true, false, refl, sym, ◌∙◌, inl, inr, ⊎_elim, arith}
+use Rattle.std.proofs.Common.{◌≡◌, ℕ, ◌-◌, ◌<◌, eqb, List, Ok, false, refl, ◌∙◌, inl, inr, ⊎_elim, arith}
 use Rattle.std.proofs.lemmas.Bool.{eq-eqb, ne_eqb}
 use Rattle.std.specs.Int.{w32}
 use Rattle.ddf_bytes.specs.Bytes.{number_at}
-use Rattle.ddf_bay.specs.Sectors.{Image, Outcomes, IsLeft}
+use Rattle.ddf_bay.specs.Sectors.{Image, Outcomes}
 use Rattle.ddf_bay.proofs.Steps.{stops_weaken}
 use Rattle.ddf_header.specs.declared.kind.HeaderKind.TheVariants.{Anchor}
 use Rattle.ddf_header.specs.declared.reading.Header.{Header}
-use Rattle.ddf_header.specs.Header.{IsHeaderOf, decoded, header_signature}
+use Rattle.ddf_header.specs.Header.{IsHeaderOf, header_signature}
 use Rattle.ddf_header.proofs.Decoded.{decoded_is}
 use Rattle.ddf_configs.proofs.SlotValues.{signature_is}
 use Rattle.ddf_copy.specs.declared.copy.DiskCopy.{DiskCopy}
-use Rattle.ddf_copy.specs.declared.fault.AnchorFault.TheVariants.{Blank}
 use Rattle.ddf_copy.specs.declared.which.Which.{Which}
-use Rattle.ddf_copy.specs.declared.which.Which.TheVariants.{Primary, Secondary}
+use Rattle.ddf_copy.specs.declared.which.Which.TheVariants.{Primary}
 use Rattle.ddf_copy.specs.Anchor.{anchor_at, anchor_in}
 use Rattle.ddf_copy.specs.Copies.{newest_of}
-use Rattle.ddf_copy.specs.Headers.{IsUnder, anchor_header, written_as}
-use Rattle.ddf_copy.specs.Runs.{HasCopy, IsInCopy}
-use Rattle.ddf_copy.specs.Shows.{IsNewest, Shows}
+use Rattle.ddf_copy.specs.Headers.{anchor_header}
+use Rattle.ddf_copy.specs.Runs.{HasCopy}
+use Rattle.ddf_copy.specs.Shows.{IsNewest}
 use Rattle.ddf_copy.proofs.LevelCopies.{written_same}
 use Rattle.ddf_copy.proofs.Stands.{place_within}
 use Rattle.ddf_update.specs.declared.prepared.Prepared.{Prepared}

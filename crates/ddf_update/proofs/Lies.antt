@@ -1,6 +1,5 @@
 -- What is prepared lies on the slot, in a few runs.
-use Rattle.std.proofs.Common.{◌≡◌, ℕ, ◌+◌, ◌-◌, ◌<◌, ◌≤◌, List, [], ◌∷◌, length, Some, ◌∙◌, arith}
-use Rattle.std.specs.Prelude.{slice_get}
+use Rattle.std.proofs.Common.{◌≡◌, ℕ, ◌-◌, ◌<◌, ◌≤◌, List, [], ◌∷◌, length, ◌∙◌, arith}
 use Rattle.ddf_header.specs.declared.geometry.Geometry.{Geometry}
 use Rattle.ddf_header.specs.declared.reading.Header.{Header}
 use Rattle.ddf_header.specs.Geometry.{section_of}

@@ -4,7 +4,7 @@ use Rattle.ddf_bay.specs.Sectors.{Image, Outcomes, put_run, IsLeft}
 use Rattle.ddf_bay.specs.Moments.{StopsLeave, IsSettled}
 use Rattle.ddf_copy.specs.declared.run.Run.{Run}
 use Rattle.ddf_update.specs.declared.gate.Gate.{Gate}
-use Rattle.ddf_copy.specs.Runs.{HasCopy, IsInCopy, InRuns, IsInRuns, put_runs}
+use Rattle.ddf_copy.specs.Runs.{HasCopy, IsInCopy, put_runs}
 
 -- outside these sectors of a slot a stop leaves what it might leave before
 abbrev pub KeepsOutside : (old new : Outcomes) → (slot : ℕ) → (ℕ → Type 0) → Type 0

@@ -1,5 +1,5 @@
 -- The founding of a group: its disks get their first copies one after another.
-use Rattle.std.specs.Prelude.{◌≡◌, ◌≢◌, ◌⊎◌, ℕ, ◌<◌, ◌≤◌, List, length, slice_get, slice_index, Some, Err}
+use Rattle.std.specs.Prelude.{◌≡◌, ◌≢◌, ◌⊎◌, ℕ, ◌<◌, List, length, slice_get, slice_index, Some, Err}
 use Rattle.ddf_bay.specs.Sectors.{Image, Outcomes}
 use Rattle.ddf_bay.specs.Moments.{IsSettled}
 use Rattle.ddf_copy.specs.declared.copy.DiskCopy.{DiskCopy}
@@ -11,7 +11,7 @@ use Rattle.ddf_copy.specs.Shows.{Shows}
 use Rattle.ddf_update.specs.declared.prepared.Mode.TheVariants.{Found}
 use Rattle.ddf_update.specs.declared.prepared.Prepared.{Prepared}
 use Rattle.ddf_update.specs.Prepared.{IsPrepared, LiesOn}
-use Rattle.ddf_update.specs.Update.{AreBoth, IsWritten}
+use Rattle.ddf_update.specs.Update.{AreBoth}
 
 -- The slots, each once.
 pub record AreSlots (sizes slots : List ℕ) : Type 0 where

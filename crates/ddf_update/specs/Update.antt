@@ -1,7 +1,7 @@
 -- What an update of one slot promises.
 use Rattle.std.specs.Prelude.{◌≡◌, ◌≢◌, ◌⊎◌, ℕ, ◌-◌, true, Ok, Err, List}
-use Rattle.ddf_bay.specs.Sectors.{Image, Outcomes, IsLeft}
-use Rattle.ddf_bay.specs.Moments.{StopsLeave, IsSettled}
+use Rattle.ddf_bay.specs.Sectors.{Image, Outcomes}
+use Rattle.ddf_bay.specs.Moments.{IsSettled}
 use Rattle.ddf_header.specs.declared.reading.Header.{Header}
 use Rattle.ddf_copy.specs.declared.copy.DiskCopy.{DiskCopy}
 use Rattle.ddf_copy.specs.declared.which.Which.{Which}

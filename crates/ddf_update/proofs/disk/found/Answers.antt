@@ -1,4 +1,4 @@
-use Rattle.std.proofs.Common.{◌-◌, inl, inr, refl, ⊎_elim}
+use Rattle.std.proofs.Common.{inl, inr, refl, ⊎_elim}
 use Rattle.std.proofs.lemmas.Result.{on_ok_weaker}
 use Rattle.std.specs.Prelude.{slice_index}
 use Rattle.ddf_copy.specs.declared.which.Which.TheVariants.{Primary, Secondary}

@@ -1,7 +1,7 @@
-use Rattle.std.proofs.Common.{◌≡◌, ◌<◌, ◌+◌, ◌∙◌, Some, ap, sym, refl, arith, ℕ, List}
+use Rattle.std.proofs.Common.{◌≡◌, ◌∙◌, Some, refl, arith}
 use Rattle.std.proofs.lemmas.Grind.{common_steps}
 use Rattle.std.proofs.lemmas.Option.{slice_get-get_or, slice_get_read}
-use Rattle.std.specs.Prelude.{slice_get, slice_index, slice_index_or}
+use Rattle.std.specs.Prelude.{slice_get, slice_index_or}
 use Rattle.ddf_copy.specs.declared.which.Which.TheVariants.{Secondary}
 use Rattle.ddf_update.specs.Group.{IsOneOf}
 use Rattle.ddf_update.proofs.GroupSteps.{group_founded, group_stops, next_blank}

@@ -1,5 +1,4 @@
 use Rattle.ddf_copy.specs.Which.{kind_of}
-use Rattle.ddf_copy.specs.Headers.{closed_header, opened_header}
 use Rattle.ddf_update.proofs.prepared.gate_of.Goals as goal
 
 pub returns : goal.returns
