@@ -10,3 +10,9 @@ pub mod Anchored
 pub mod FoundingShows
 pub mod Lies
 pub mod GroupSteps
+pub mod NewBytes
+pub mod NewRoom
+pub mod NewRows
+pub mod NewSlots
+pub mod NewUnder
+pub mod FirstCopies

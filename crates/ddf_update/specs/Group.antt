@@ -13,6 +13,11 @@ use Rattle.ddf_update.specs.declared.prepared.Prepared.{Prepared}
 use Rattle.ddf_update.specs.Prepared.{IsPrepared, LiesOn}
 use Rattle.ddf_update.specs.Update.{AreBoth}
 
+-- For each place an update writes its copy, which can be written on a disk of the size at its place.
+pub record AreFirst (sizes : List ℕ) (copy : ℕ → DiskCopy) (updates : List Prepared) : Type 0 where
+  pub are_prepared : (place : ℕ) (update : Prepared) → slice_get updates place ≡ Some update → IsPrepared (copy place) Secondary Found update
+  pub are_under : (place : ℕ) → place < length updates → IsUnder (slice_index sizes place) (anchor_header (copy place)) (copy place)
+
 -- The slots, each once.
 pub record AreSlots (sizes slots : List ℕ) : Type 0 where
   pub there : (place slot : ℕ) → slice_get slots place ≡ Some slot → slot < length sizes

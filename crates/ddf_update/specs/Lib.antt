@@ -3,3 +3,4 @@ pub mod Group
 pub mod Prepared
 pub mod Stage
 pub mod Update
+pub mod NewCopies

@@ -1,13 +1,68 @@
 // The founding of a group.
-ghost use Rattle.std.specs.Prelude.{◌≡◌, ◌≢◌, ◌<◌, ◌≤◌, ◌+◌, ◌*◌, ℕ, length, OnOk, IfErr};
+ghost use Rattle.std.specs.Prelude.{◌≡◌, ◌≢◌, ◌<◌, ◌≤◌, ◌+◌, ◌*◌, ℕ, length, slice_index, OnOk, IfOk, IfErr};
 ghost use Rattle.ddf_bytes.specs.Counts.{Rose};
 ghost use Rattle.ddf_bay.specs.Moments.{StopsLeave};
 ghost use Rattle.ddf_copy.specs.declared.copy.DiskCopy.{DiskCopy};
-ghost use Rattle.ddf_update.specs.Group.{AreFounded, IsLeftFoundingAll, IsOneOf, LieOnSlots, MayFoundAll};
+ghost use Rattle.ddf_copy.specs.Headers.{IsUnder, anchor_header};
+ghost use Rattle.ddf_copy.specs.declared.which.Which.TheVariants.{Secondary};
+ghost use Rattle.ddf_update.specs.declared.prepared.Mode.TheVariants.{Found};
+ghost use Rattle.ddf_update.specs.Prepared.{IsPrepared};
+ghost use Rattle.ddf_update.specs.Group.{AreFirst, AreFounded, IsLeftFoundingAll, IsOneOf, LieOnSlots, MayFoundAll};
+ghost use Rattle.ddf_update.specs.NewCopies.{new_copy, sizes_of};
 
 use crate::disk::write_disk;
-use crate::prepared::Prepared;
+use crate::new_copy::new_copy;
+use crate::prepared::{Mode, Prepared, prepare};
 use ddf_bay::{Bay, DiskFault};
+use ddf_bytes::{NoMemory, Stamp};
+use ddf_copy::Which;
+use std::alloc::Global;
+
+/// Makes the first copies of a new group's disks, each a slot and its size in sectors (profile).
+pub fn found(
+    alloc: Global,
+    disks: &[(usize, u64)],
+    stamp: &Stamp,
+) -> Result<Vec<Prepared>, NoMemory>
+    requires few { length disks.now ≤ 15 }
+    requires large { (i : ℕ) → i < length disks.now → 33000 ≤ slice_index (sizes_of disks.now) i }
+    ensures counted { IfOk result (λ updates. length updates.items ≡ length disks.now) }
+    ensures first { IfOk result (λ updates. AreFirst (sizes_of disks.now) (new_copy stamp.now (sizes_of disks.now)) updates.items) }
+{
+    let sizes = sizes_of(alloc, disks)?;
+    let mut updates = Vec::with_capacity(alloc, sizes.len())?;
+    for place in 0..sizes.len() {
+        updates.push(first_update(alloc, stamp, &sizes, place)?)?;
+    }
+    Ok(updates)
+}
+
+/// Makes the first copies of the disk at a place.
+fn first_update(
+    alloc: Global,
+    stamp: &Stamp,
+    sizes: &[u64],
+    place: usize,
+) -> Result<Prepared, NoMemory>
+    requires few { length sizes.now ≤ 15 }
+    requires within { place < length sizes.now }
+    requires large { (i : ℕ) → i < length sizes.now → 33000 ≤ slice_index sizes.now i }
+    ensures prepared { IfOk result (IsPrepared (new_copy stamp.now sizes.now place) Secondary Found) }
+    ensures under { OnOk result (IsUnder (slice_index sizes.now place) (anchor_header (new_copy stamp.now sizes.now place)) (new_copy stamp.now sizes.now place)) }
+{
+    let copy = new_copy(alloc, stamp, sizes, place)?;
+    prepare(alloc, &copy, Which::Secondary, Mode::Found)
+}
+
+fn sizes_of(alloc: Global, disks: &[(usize, u64)]) -> Result<Vec<u64>, NoMemory>
+    ensures { IfOk result (λ sizes. sizes.items ≡ sizes_of disks.now) }
+{
+    let mut sizes = Vec::with_capacity(alloc, disks.len())?;
+    for (_, size) in disks {
+        sizes.push(*size)?;
+    }
+    Ok(sizes)
+}
 
 /// Writes the first copies of the disks of a new group, one slot after another. It takes no memory.
 pub fn found_disks<B: Bay>(

@@ -1,0 +1,214 @@
+-- The copies of a new group's disks can be written in both places of their disks.
+use Rattle.std.proofs.Common.{◌≡◌, ℕ, ◌-◌, ◌<◌, ◌≤◌, ◌^◌, true, List, ◌∷◌, length, get_or, None, refl, sym, ◌∙◌, subst, inl, inr, arith}
+use Rattle.std.proofs.lemmas.Bool.{ne_eqb}
+use Rattle.std.specs.List.{AllByRecursion}
+use Rattle.ddf_bytes.specs.declared.stamp.Stamp.{Stamp}
+use Rattle.ddf_seal.specs.Seal.{seal_place}
+use Rattle.ddf_seal.specs.Unread.{Fits, placed, places, u32s_at}
+use Rattle.ddf_seal.proofs.Same.{AreWithin, cleared-cleared, cleared_outside, within_from_test}
+use Rattle.ddf_header.specs.declared.kind.HeaderKind.TheVariants.{Primary}
+use Rattle.ddf_header.specs.Geometry.{geometry_fault, is_bad_section, is_long, is_maximum, is_member_maximum, is_short, least_bytes, meets, section_numbers}
+use Rattle.ddf_header.specs.Header.{IsHeader, IsWritable, are_header_places, header_fields, is_open_flag}
+use Rattle.ddf_tables.specs.Sectors.{IsController, IsDiskData, controller_fields, disk_data_fields}
+use Rattle.ddf_tables.specs.Disks.{IsDiskTable}
+use Rattle.ddf_tables.specs.Arrays.{IsArrayTable}
+use Rattle.ddf_tables.specs.BadBlocks.{IsLog}
+use Rattle.ddf_copy.specs.declared.copy.DiskCopy.{DiskCopy}
+use Rattle.ddf_copy.specs.declared.which.Which.{Which}
+use Rattle.ddf_copy.specs.declared.which.Which.TheVariants as whiches
+use Rattle.ddf_copy.specs.Gate.{gate_fault, header_bytes}
+use Rattle.ddf_copy.specs.Headers.{IsUnder, anchor_header, closed_header}
+use Rattle.ddf_copy.specs.Room.{room_fault}
+use Rattle.ddf_copy.specs.Which.{other_of, place_of}
+use Rattle.ddf_copy.specs.Written.{IsCopy}
+use Rattle.ddf_update.specs.NewCopies.{named_controller, named_disk_data, named_header, new_arrays, new_controller, new_copy, new_disk_data, new_disks, new_geometry, new_header, new_header_bytes, new_log, new_sector_bytes}
+use Rattle.ddf_update.proofs.Anchored.{anchor_shares}
+use Rattle.ddf_update.proofs.NewRoom.{IsNear, has_room}
+use Rattle.ddf_update.proofs.NewRows.{reference_fits}
+use Rattle.ddf_update.proofs.NewSlots.{slots_can, slots_fit}
+
+-- ---- the header
+
+length-header_bytes : length new_header_bytes ≡ 512
+unfolding new_header_bytes placed
+length-header_bytes = refl
+
+length-sector_bytes : length new_sector_bytes ≡ 512
+unfolding new_sector_bytes
+length-sector_bytes = refl
+
+header_within : (stamp : Stamp) (size : ℕ) → AreWithin (length new_header_bytes) (seal_place ∷ places (header_fields (named_header stamp size)))
+header_within stamp size =
+    let spans = seal_place ∷ places (header_fields (named_header stamp size)) in
+    subst (λ n. AreWithin n spans) (sym length-header_bytes) (within_from_test 512 spans refl)
+
+pub length-header_rest : (stamp : Stamp) (size : ℕ) → length (new_header stamp size).rest ≡ 512
+length-header_rest stamp size =
+    let spans = seal_place ∷ places (header_fields (named_header stamp size)) in
+    (cleared_outside spans new_header_bytes (header_within stamp size)).size ∙ length-header_bytes
+
+no_geometry_fault : (size : ℕ) → geometry_fault (new_geometry size) ≡ None
+unfolding geometry_fault is_bad_section is_long is_maximum is_member_maximum is_short least_bytes meets
+no_geometry_fault size = refl
+
+places_good : (size : ℕ) → 33000 ≤ size → size < 2 ^ 64 → are_header_places (size - 41) (size - 81) ≡ true
+unfolding are_header_places
+places_good size large fits =
+    let apart = ne_eqb (size - 41) (size - 81) (λ (e : size - 41 ≡ size - 81). absurd (omega (arith, e, large))) in
+    let first = ne_eqb (size - 41) (2 ^ 64 - 1) (λ (e : size - 41 ≡ 2 ^ 64 - 1). absurd (omega (arith, e, fits))) in
+    let second = ne_eqb (size - 81) (2 ^ 64 - 1) (λ (e : size - 81 ≡ 2 ^ 64 - 1). absurd (omega (arith, e, fits))) in
+    rw (apart, first, second) refl
+
+header_is : (stamp : Stamp) (size : ℕ) → 33000 ≤ size → size < 2 ^ 64 → IsHeader Primary (new_header stamp size)
+unfolding is_open_flag
+header_is stamp size large fits = record {
+  of_kind = refl;
+  has_flag = refl;
+  has_places = places_good size large fits;
+  has_geometry = no_geometry_fault size;
+}
+
+sections_fit : (size : ℕ) → Fits (u32s_at 192 16 (section_numbers (new_geometry size).sections))
+sections_fit size = (
+  refl,
+  (
+    omega arith,
+    (
+      omega arith,
+      (
+        omega arith,
+        (
+          omega arith,
+          (
+            omega arith,
+            (
+              omega arith,
+              (
+                omega arith,
+                (
+                  omega arith,
+                  (omega arith, (omega arith, (omega arith, (omega arith, (omega arith, (omega arith, (omega arith, (omega arith, tt)))))))),
+                ),
+              ),
+            ),
+          ),
+        ),
+      ),
+    ),
+  ),
+)
+
+header_writable : (stamp : Stamp) (size : ℕ) → 33000 ≤ size → size < 2 ^ 64 → IsWritable Primary (new_header stamp size)
+header_writable stamp size large fits =
+    let spans = seal_place ∷ places (header_fields (named_header stamp size)) in
+    record {
+      is_header = header_is stamp size large fits;
+      is_record = record {
+        fields_fit = (
+          refl,
+          (
+            refl,
+            (
+              omega arith,
+              (
+                omega arith,
+                (
+                  omega arith,
+                  (
+                    omega (arith, fits),
+                    (
+                      omega (arith, fits),
+                      (
+                        omega arith,
+                        (omega arith, (omega (arith, fits), (omega arith, (omega arith, (omega arith, (omega arith, (omega arith, (sections_fit size, tt)))))))),
+                      ),
+                    ),
+                  ),
+                ),
+              ),
+            ),
+          ),
+        );
+        others_clear = cleared-cleared spans new_header_bytes (header_within stamp size);
+      };
+    }
+
+sections_near : (size : ℕ) → AllByRecursion IsNear (new_geometry size).sections
+sections_near size = (
+  inr (omega arith, omega arith),
+  (inr (omega arith, omega arith), (inr (omega arith, omega arith), (inr (omega arith, omega arith), (inr (omega arith, omega arith), (inr (omega arith, omega arith), (inl refl, (inl refl, tt))))))),
+)
+
+-- ---- the records of one sector
+
+controller_can : (stamp : Stamp) → IsController (new_controller stamp)
+controller_can stamp =
+    let spans = seal_place ∷ places (controller_fields (named_controller stamp)) in
+    record {
+      fields_fit = (refl, tt);
+      others_clear = cleared-cleared spans new_sector_bytes (subst (λ n. AreWithin n spans) (sym length-sector_bytes) (within_from_test 512 spans refl));
+    }
+
+disk_data_can : (stamp : Stamp) (place : ℕ) → place < 15 → IsDiskData (new_disk_data stamp place)
+disk_data_can stamp place lt =
+    let spans = seal_place ∷ places (disk_data_fields (named_disk_data stamp place)) in
+    record {
+      fields_fit = (refl, (omega (arith, reference_fits stamp place lt), tt));
+      others_clear = cleared-cleared spans new_sector_bytes (subst (λ n. AreWithin n spans) (sym length-sector_bytes) (within_from_test 512 spans refl));
+    }
+
+-- ---- the copy
+
+-- the tables and the log of a new copy, as the calls that make them promise them
+pub record AreMade (stamp : Stamp) (sizes : List ℕ) : Type 0 where
+  pub disks_can : IsDiskTable 15 (new_disks stamp sizes)
+  pub disks_size : length (new_disks stamp sizes).rest ≡ 1024
+  pub arrays_can : IsArrayTable 15 new_arrays
+  pub arrays_size : length new_arrays.rest ≡ 1024
+  pub log_can : IsLog new_log
+  pub log_size : length new_log.rest ≡ 512
+
+copy_is : (stamp : Stamp) (sizes : List ℕ) (place : ℕ) → AreMade stamp sizes → place < 15 → 33000 ≤ get_or sizes place 0 → get_or sizes place 0 < 2 ^ 64 → IsCopy (new_copy stamp sizes place)
+copy_is stamp sizes place made lt large fits =
+    let size = get_or sizes place 0 in
+    record {
+      header_can = header_writable stamp size large fits;
+      is_closed = refl;
+      controller_can = controller_can stamp;
+      disks_can = made.disks_can;
+      disks_size = made.disks_size;
+      arrays_can = made.arrays_can;
+      arrays_size = made.arrays_size;
+      slots_can = slots_can stamp size _ 1;
+      slots_fit = slots_fit stamp size;
+      slots_count = refl;
+      disk_data_can = disk_data_can stamp place lt;
+      has_log = (made.log_can, made.log_size, omega arith);
+    }
+
+copy_has_room : (stamp : Stamp) (sizes : List ℕ) (place : ℕ) (which : Which) → 33000 ≤ get_or sizes place 0
+    → room_fault (get_or sizes place 0 - 1) (place_of which (anchor_header (new_copy stamp sizes place))) (place_of (other_of which) (anchor_header (new_copy stamp sizes place))) (new_geometry (get_or sizes place 0)).sections ≡ None
+copy_has_room stamp sizes place whiches.Primary large =
+    let size = get_or sizes place 0 in
+    has_room (size - 1) (size - 41) (size - 81) (new_geometry size).sections
+    (record { own_ends = omega (arith, large); other_ends = omega (arith, large); are_apart = inl (omega (arith, large)) }) (sections_near size)
+copy_has_room stamp sizes place whiches.Secondary large =
+    let size = get_or sizes place 0 in
+    has_room (size - 1) (size - 81) (size - 41) (new_geometry size).sections
+    (record { own_ends = omega (arith, large); other_ends = omega (arith, large); are_apart = inr (omega (arith, large)) }) (sections_near size)
+
+copy_has_gate : (stamp : Stamp) (sizes : List ℕ) (place : ℕ) (which : Which) → IsCopy (new_copy stamp sizes place) → 33000 ≤ get_or sizes place 0
+    → gate_fault (get_or sizes place 0) (anchor_header (new_copy stamp sizes place)) which (closed_header (new_copy stamp sizes place) which) (header_bytes (closed_header (new_copy stamp sizes place) which)) ≡ None
+unfolding gate_fault
+copy_has_gate stamp sizes place which is large =
+    rw (anchor_shares (new_copy stamp sizes place) which is (length-header_rest stamp (get_or sizes place 0)), copy_has_room stamp sizes place which large) refl
+
+copy_in_place : (copy : DiskCopy) (which : Which) → place_of which copy.header ≡ place_of which (anchor_header copy)
+copy_in_place copy whiches.Primary = refl
+copy_in_place copy whiches.Secondary = refl
+
+pub copy_is_under : (stamp : Stamp) (sizes : List ℕ) (place : ℕ) → AreMade stamp sizes → place < 15 → 33000 ≤ get_or sizes place 0 → get_or sizes place 0 < 2 ^ 64
+    → IsUnder (get_or sizes place 0) (anchor_header (new_copy stamp sizes place)) (new_copy stamp sizes place)
+copy_is_under stamp sizes place made lt large fits =
+    let is = copy_is stamp sizes place made lt large fits in
+    record { is_copy = is; in_place = λ which. copy_in_place (new_copy stamp sizes place) which; has_gate = λ which. copy_has_gate stamp sizes place which is large }

@@ -1,0 +1,11 @@
+use Rattle.std.proofs.Common.{◌≡◌, [], ◌∷◌, ap, ◌∙◌}
+use Rattle.ddf_seal.specs.Unread.{cleared, placed}
+use Rattle.ddf_update.specs.NewCopies.{new_entry_bytes}
+use Rattle.ddf_update.proofs.NewBytes.{entry_cleared}
+use Rattle.ddf_update.proofs.new_copy.entry_rest.Goals as goal
+
+pub returns : goal.returns
+unfolding new_entry_bytes placed
+returns c = λ entry.
+    let put : c.put16.new.into ≡ new_entry_bytes = c.put16.ensures.written in
+    c.clear.ensures.unread ∙ ap (cleared (record { at = 0; length = 40 } ∷ [])) put ∙ entry_cleared entry
