@@ -1,7 +1,6 @@
 -- The headers that a copy is written behind can be written.
-use Rattle.std.proofs.Common.{◌≡◌, ℕ, ◌<◌, ◌≤◌, ◌^◌, refl, arith}
+use Rattle.std.proofs.Common.{ℕ, ◌≤◌, refl, arith}
 use Rattle.std.proofs.lemmas.Bool.{le-leb}
-use Rattle.ddf_header.specs.declared.kind.HeaderKind.{HeaderKind}
 use Rattle.ddf_header.specs.declared.kind.HeaderKind.TheVariants.{Anchor}
 use Rattle.ddf_header.specs.declared.reading.Header.{Header}
 use Rattle.ddf_header.specs.Header.{IsWritable, is_open_flag}

@@ -1,13 +1,13 @@
 -- The sections of a copy lie apart, before the last sector, and apart from the other copy.
-use Rattle.std.proofs.Common.{◌≡◌, ◌≢◌, ◌⊎◌, ℕ, zero, suc, ◌+◌, ◌-◌, ◌*◌, ◌/◌, ◌<◌, ◌≤◌, Bool, true, false, not, ◌&&◌, ◌||◌, eqb, ltb, List, [], ◌∷◌, length, take, Option, Some, None, unwrap_or, refl, sym, ap, ◌∙◌, inl, inr, ⊎_elim, arith}
+use Rattle.std.proofs.Common.{◌≡◌, ◌⊎◌, ℕ, zero, suc, ◌+◌, ◌*◌, ◌/◌, ◌<◌, ◌≤◌, Bool, true, false, not, ◌&&◌, ◌||◌, eqb, ltb, List, [], ◌∷◌, length, take, Option, Some, None, unwrap_or, refl, sym, ap, ◌∙◌, inl, inr, ⊎_elim, arith}
 use Rattle.std.proofs.lemmas.Bool.{ltb-false, ne_eqb}
 use Rattle.std.proofs.lemmas.Option.{slice_get-get_or}
 use Rattle.std.proofs.Math.Nat.{div-mul-le_self, le-div_iff_mul-le, mul-le-mul_right}
 use Rattle.std.specs.Prelude.{slice_get}
-use Rattle.std.specs.List.{flat_map, list_any}
+use Rattle.std.specs.List.{list_any}
 use Rattle.ddf_header.specs.declared.geometry.Section.{Section}
 use Rattle.ddf_header.specs.declared.geometry.Geometry.{Geometry}
-use Rattle.ddf_header.specs.Geometry.{IsSound, is_absent, least_bytes, meets, section_numbers, section_of}
+use Rattle.ddf_header.specs.Geometry.{IsSound, least_bytes, meets, section_numbers, section_of}
 use Rattle.ddf_header.proofs.Sound.{sound}
 use Rattle.ddf_copy.specs.declared.copy.DiskCopy.{DiskCopy}
 use Rattle.ddf_copy.specs.declared.raw.Raw.{Raw}
@@ -16,7 +16,7 @@ use Rattle.ddf_copy.specs.Room.{has_sector_of, meets_copy, room_fault, share}
 use Rattle.ddf_copy.specs.Written.{IsCopy}
 use Rattle.ddf_copy.specs.Runs.{AreRunsOf, AreApart, AreOn, IsInCopy, IsInParts, IsInRuns, log_run, parts_of, runs_at}
 use Rattle.ddf_copy.specs.Sections.{HasSizes, whole_slots}
-use Rattle.ddf_copy.proofs.Gates.{IsInRoom, headers_in_room, section_in_room}
+use Rattle.ddf_copy.proofs.Gates.{headers_in_room, section_in_room}
 
 -- ---- runs within sections
 

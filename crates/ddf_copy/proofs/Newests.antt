@@ -1,5 +1,5 @@
 -- What the newest copy of a disk is, by its two copies.
-use Rattle.std.proofs.Common.{◌≡◌, ◌≢◌, ◌⊎◌, ℕ, ◌<◌, ◌≤◌, Bool, true, false, Ok, Err, ltb, List, refl, sym, ap, ◌∙◌, inl, inr, ⊎_elim, arith}
+use Rattle.std.proofs.Common.{◌≡◌, ◌⊎◌, ℕ, Bool, true, Ok, Err, List, refl, sym, inl, inr, ⊎_elim, arith}
 use Rattle.std.proofs.lemmas.Bool.{cases_lt, lt-ltb, le-ltb}
 use Rattle.ddf_header.specs.declared.reading.Header.{Header}
 use Rattle.ddf_copy.specs.declared.copy.DiskCopy.{DiskCopy}

@@ -1,12 +1,11 @@
 -- What headers under one anchor share.
-use Rattle.std.proofs.Common.{◌≡◌, ℕ, zero, suc, ◌+◌, ◌<◌, ◌≤◌, Bool, true, false, not, ◌&&◌, ◌||◌, eqb, List, [], ◌∷◌, take, drop, Option, Some, None, Ok, refl, sym, ap, ◌∙◌, arith, IsTrue}
+use Rattle.std.proofs.Common.{◌≡◌, ℕ, zero, suc, ◌+◌, ◌<◌, ◌≤◌, Bool, true, false, not, ◌&&◌, ◌||◌, List, [], ◌∷◌, take, drop, Option, Some, None, refl, sym, ap, ◌∙◌, arith}
 use Rattle.std.proofs.lemmas.Bool.{eqb-true, le-leb, lt-ltb}
 use Rattle.std.proofs.lemmas.Iterator.Adapters.{position_from-zero}
 use Rattle.std.specs.Prelude.{slice_get}
 use Rattle.std.specs.List.{range_with_len}
 use Rattle.std.specs.Int.{Width, byte_len, from_be_bytes, w16, w32, w64}
 use Rattle.ddf_bytes.specs.Bytes.{bytes_at, number_at}
-use Rattle.ddf_header.specs.declared.geometry.Geometry.{Geometry}
 use Rattle.ddf_header.specs.Geometry.{geometry_at}
 use Rattle.ddf_copy.specs.Gate.{differ_at, first_difference, is_same_byte, is_shared}
 use Rattle.ddf_copy.proofs.Gates.{none_passes}

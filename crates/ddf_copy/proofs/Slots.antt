@@ -13,7 +13,7 @@ use Rattle.ddf_header.specs.declared.geometry.Geometry.{Geometry}
 use Rattle.ddf_configs.specs.declared.slot.RecordSlot.{RecordSlot}
 use Rattle.ddf_configs.specs.declared.slot.RecordSlot.TheVariants as slots
 use Rattle.ddf_configs.specs.Elements.{HasRoom, record_size}
-use Rattle.ddf_configs.specs.Slots.{AreSealed, AreSlotsOf, IsSlotOf, decoded_slots, element_signature, is_known, lists, slot_bytes, slot_count, slots_written, valid_notes}
+use Rattle.ddf_configs.specs.Slots.{AreSealed, AreSlotsOf, IsSlotOf, decoded_slots, element_signature, is_known, lists, slot_bytes, slots_written, valid_notes}
 use Rattle.ddf_configs.specs.Spares.{spare_signature}
 use Rattle.ddf_configs.specs.Vendors.{vendor_signature}
 use Rattle.ddf_configs.proofs.Sections.{none_from_sealed, slots_is}

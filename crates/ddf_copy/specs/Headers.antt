@@ -1,5 +1,5 @@
 -- The headers that a copy is written behind.
-use Rattle.std.specs.Prelude.{◌≡◌, ℕ, ◌<◌, None}
+use Rattle.std.specs.Prelude.{◌≡◌, ℕ, None}
 use Rattle.ddf_header.specs.declared.kind.HeaderKind.TheVariants.{Anchor}
 use Rattle.ddf_header.specs.declared.reading.Header.{Header}
 use Rattle.ddf_copy.specs.declared.copy.DiskCopy.{DiskCopy}

@@ -1,8 +1,7 @@
-use Rattle.std.proofs.Common.{◌≡◌, ◌∙◌, List, ℕ, ap, subst, sym, Ok, arith}
+use Rattle.std.proofs.Common.{◌∙◌, arith}
 use Rattle.ddf_tables.specs.Arrays.{array_signature}
 use Rattle.ddf_tables.proofs.ArrayRows.{array_laws, array_names}
 use Rattle.ddf_tables.proofs.TableSections.{section_of_table}
-use Rattle.ddf_copy.specs.Sections.{bytes_in}
 use Rattle.ddf_copy.specs.Written.{arrays_written}
 use Rattle.ddf_copy.proofs.writing.arrays_of.Goals as goal
 

@@ -1,8 +1,7 @@
-use Rattle.std.proofs.Common.{◌≡◌, ◌∙◌, List, ℕ, ap, subst, sym, Ok, arith}
-use Rattle.ddf_tables.specs.Disks.{IsDiskTableOf, decoded_disks, disk_signature}
+use Rattle.std.proofs.Common.{◌∙◌, arith}
+use Rattle.ddf_tables.specs.Disks.{disk_signature}
 use Rattle.ddf_tables.proofs.DiskRows.{disk_laws, disk_names}
 use Rattle.ddf_tables.proofs.TableSections.{section_of_table}
-use Rattle.ddf_copy.specs.Sections.{bytes_in}
 use Rattle.ddf_copy.specs.Written.{disks_written}
 use Rattle.ddf_copy.proofs.writing.disks_of.Goals as goal
 

@@ -1,5 +1,4 @@
-use Rattle.std.proofs.Common.{◌≡◌, ◌∙◌, length, false, arith}
-use Rattle.std.proofs.lemmas.Bool.{ne_eqb}
+use Rattle.std.proofs.Common.{◌∙◌, arith}
 use Rattle.ddf_tables.proofs.LogValues.{section_of_log}
 use Rattle.ddf_copy.specs.Written.{log_written}
 use Rattle.ddf_copy.proofs.Sectors.{log_is}

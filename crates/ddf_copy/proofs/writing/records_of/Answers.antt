@@ -1,12 +1,11 @@
-use Rattle.std.proofs.Common.{◌≡◌, ◌*◌, ◌/◌, ◌<◌, ◌∙◌, ap, sym, length, arith, ℕ}
+use Rattle.std.proofs.Common.{◌≡◌, ◌*◌, ◌/◌, ◌∙◌, ap, sym, length, arith, ℕ}
 use Rattle.ddf_header.specs.declared.geometry.Section.{Section}
 use Rattle.ddf_header.specs.Geometry.{section_of}
 use Rattle.ddf_header.proofs.Sound.{sound}
 use Rattle.ddf_configs.specs.Elements.{record_size}
-use Rattle.ddf_configs.specs.Slots.{slot_count}
 use Rattle.ddf_configs.proofs.Sound.{room_from_sound}
 use Rattle.ddf_copy.specs.Written.{records_written}
-use Rattle.ddf_copy.proofs.Slots.{count_of_whole, slots_are_read, whole_again}
+use Rattle.ddf_copy.proofs.Slots.{slots_are_read, whole_again}
 use Rattle.ddf_copy.proofs.writing.records_of.Goals as goal
 
 pub whole_slots-requires : goal.whole_slots-requires

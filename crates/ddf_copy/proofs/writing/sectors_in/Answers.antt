@@ -1,4 +1,4 @@
-use Rattle.std.proofs.Common.{◌≡◌, ◌/◌, ◌∙◌, List, ℕ, ap, length, arith}
+use Rattle.std.proofs.Common.{◌/◌, ◌∙◌, List, ℕ, ap, length, arith}
 use Rattle.ddf_copy.specs.Sections.{bytes_in}
 use Rattle.ddf_copy.proofs.Sectors.{chunks_are}
 use Rattle.ddf_copy.proofs.writing.sectors_in.Goals as goal
