@@ -1,13 +1,22 @@
 -- How `examine` ends.
-use Rattle.std.proofs.Common.{◌≡◌, ◌⊎◌, inl, inr, ⊎_elim, ℕ, suc, ◌<◌, List, [], ◌∷◌, length, get_or, replicate, Bool, true, false, refl, sym, arith, if◌then◌else◌}
+use Rattle.std.proofs.Common.{◌≡◌, ◌⊎◌, inl, inr, ⊎_elim, ℕ, suc, ◌<◌, List, [], ◌∷◌, length, get_or, replicate, Bool, true, false, Result, Ok, Err, refl, sym, arith, if◌then◌else◌}
 use Rattle.std.specs.Prelude.{IsTrue}
 use Rattle.std.proofs.lemmas.Bool.{cases_lt}
 use Rattle.std.proofs.lemmas.List.{append-nil, length-replicate}
-use Rattle.ddf_bay.specs.Sectors.{Image}
+use Rattle.ddf_bytes.specs.declared.stamp.Stamp.{Stamp}
+use Rattle.ddf_bay.specs.Sectors.{Image, Outcomes}
+use Rattle.ddf_bay.proofs.Looks.{reads_start}
+use Rattle.ddf_bay.proofs.Steps.{stops_start}
+use Rattle.ddf_update.specs.Group.{IsLeftFoundingAll}
 use Rattle.ddf_command.specs.Examine.{IsExamined, some_failed}
 use Rattle.ddf_command.specs.Run.{IsDone, SomeSlotRose}
 use Rattle.ddf_command.specs.declared.command.Command.{Command}
-use Rattle.ddf_command.specs.declared.command.Command.TheVariants.{Examine}
+use Rattle.ddf_command.specs.declared.command.Command.TheVariants.{Examine, Label}
+use Rattle.ddf_command.specs.declared.failure.Failure.TheVariants.{Memory}
+use Rattle.ddf_command.specs.Label.{label_copy, label_slots}
+use Rattle.ddf_command.specs.declared.command.Asked.{Asked}
+use Rattle.ddf_command.specs.declared.words.WordFault.{WordFault}
+use Rattle.ddf_command.specs.declared.words.WordFault.TheVariants as words
 use Rattle.ddf_command.specs.Words.{Word, GoWrongAt}
 use Rattle.ddf_command.specs.Status.{code_of}
 use Rattle.ddf_command.specs.declared.status.Status.{Status}
@@ -71,12 +80,26 @@ one_place accepted words p q one other = ⊎_elim
     (λ from. ⊎_elim (λ over. absurd (other.no_longer p over one.within one.good)) (λ upto. omega (arith, from, upto)) (cases_lt q p))
     (cases_lt p q)
 
+-- words ask for one thing
+pub same_asked : (result : Result Asked WordFault) (one other : Asked) → result ≡ Ok one → (result ≡ Ok other) ⊎ (result ≡ Err words.Memory) → one ≡ other
+same_asked result one other is (inl also) = cc
+same_asked result one other is (inr memory) = cc
+
 pub stream_status : (s : Status) → code_of s ≡ 6 → s ≡ status.Stream
 stream_status status.Ok e = absurd (omega (arith, e))
+stream_status status.Refused e = absurd (omega (arith, e))
 stream_status status.Words e = absurd (omega (arith, e))
 stream_status status.DiskFault e = absurd (omega (arith, e))
 stream_status status.Memory e = absurd (omega (arith, e))
 stream_status status.Stream e = refl
 
-pub done_nothing : {D : Type 0} (sizes : D → List ℕ) (held : D → Image) (failed_reads failed_writes : D → ℕ → ℕ) (old : D) (told : Type 0) (before : List ℕ) (command : Command) → IsDone sizes held failed_reads failed_writes old old told before before command 5
-done_nothing sizes held failed_reads failed_writes old told before Examine = nothing_done sizes held failed_reads failed_writes old told before
+pub done_nothing : {D : Type 0} (sizes : D → List ℕ) (held : D → Image) (may_hold : D → Outcomes) (moment : D → ℕ) (left_since : D → ℕ → Image → Type 0) (failed_reads failed_writes : D → ℕ → ℕ) (sectors_written : D → ℕ) (old : D) (tells told : Type 0) (before : List ℕ) (stamp : Stamp) (command : Command)
+    → IsDone sizes held may_hold moment left_since failed_reads failed_writes sectors_written old old tells told before before stamp command 5
+done_nothing sizes held may_hold moment left_since failed_reads failed_writes sectors_written old tells told before stamp Examine = nothing_done sizes held failed_reads failed_writes old (tells × told) before
+done_nothing sizes held may_hold moment left_since failed_reads failed_writes sectors_written old tells told before stamp (Label slots) = record {
+  answer = Err Memory;
+  tried = reads_start old;
+  ends = (refl, λ told. refl);
+  any_moment = λ tells. stops_start old (IsLeftFoundingAll (sizes old) (may_hold old) (label_slots (sizes old) slots) (label_copy stamp (sizes old) slots));
+  refused = λ tells refusal is. reads_start old;
+}

@@ -1,12 +1,16 @@
 -- Where words go wrong.
-use Rattle.std.proofs.Common.{◌≡◌, ◌≢◌, ℕ, ◌+◌, ◌-◌, ◌<◌, ◌≤◌, List, [], ◌∷◌, ◌++◌, length, get_or, take, drop, suc, refl, sym, ap, ◌∙◌, ⊎_elim, arith, append_assoc, length-append, length-take, length-drop, add-zero}
+use Rattle.std.proofs.Common.{◌≡◌, ◌≢◌, ℕ, ◌+◌, ◌-◌, ◌<◌, ◌≤◌, List, [], ◌∷◌, ◌++◌, map, inl, inr, ◌⊎◌, add-one, add_comm, length, get_or, take, drop, suc, refl, sym, ap, ◌∙◌, ⊎_elim, arith, append_assoc, length-append, length-take, length-drop, add-zero}
 use Rattle.std.proofs.lemmas.Grind.{common_steps}
 use Rattle.std.proofs.lemmas.Bool.{cases_lt}
-use Rattle.std.proofs.lemmas.List.{get_or_append_left, get_or-append-add, append-nil, take-append-drop, append_cancel_left, take_all, take_at, drop_more}
-use Rattle.std.proofs.Math.Seq.{take-add}
-use Rattle.ddf_command.specs.Words.{Word, dashes, AreImages, IsNextImage, Spells, IsAsked, IsAccepted, IsCommand, Begins, GoWrongAt, LeadsWithImages}
+use Rattle.std.proofs.lemmas.List.{get_or_append_left, get_or-append-add, append-nil, take-append-drop, append_cancel_left, take_all, take_at, drop_more, take_more, map_push, get_or-take, get_or_default}
+use Rattle.std.proofs.Math.Seq.{take-add, get_or-append_seam}
+use Rattle.std.specs.Prelude.{Contains}
+use Rattle.std.specs.Fmt.{decimal}
+use Rattle.ddf_command.proofs.Numbers.{many_slots, word_of_slot, small_slot, same_slot, same_slots}
+use Rattle.ddf_command.specs.Words.{Word, dashes, AreImages, AreSlotWords, NameSlots, IsNextImage, Spells, IsAsked, IsAccepted, IsCommand, Begins, GoWrongAt, LeadsWithImages}
+use Rattle.ddf_command.specs.declared.command.Asked.{Asked}
 use Rattle.ddf_command.specs.declared.command.Command.{Command}
-use Rattle.ddf_command.specs.declared.command.Command.TheVariants.{Examine}
+use Rattle.ddf_command.specs.declared.command.Command.TheVariants.{Examine, Label}
 use Rattle.std.proofs.Common.{codes, None}
 
 module _ (accepted : List Word → Type 0) (words : List Word) where
@@ -43,29 +47,142 @@ module _ (accepted : List Word → Type 0) (words : List Word) where
     no_longer = λ n more le longer. absurd (omega arith);
   }
 
+-- ---- the words of slots
+
+no_slots : AreSlotWords [] []
+no_slots = record { spelled = refl; within = λ i lt. absurd (omega (arith, lt)); different = λ i j lt le. absurd (omega (arith, le)) }
+
+module _ (words : List Word) (slots : List ℕ) (place : ℕ) (lt : place < length words) (so_far : AreSlotWords slots (take place words)) where
+  many : length slots ≡ place
+  many = sym (many_slots slots (take place words) so_far) ∙ length-take place words ∙ omega arith
+
+  module _ (slot : ℕ) (small : slot ≤ 63) (is : get_or words place [] ≡ decimal slot) where
+    -- one slot more
+    pub one_slot_more : (Contains slots slot → ⊥) → AreSlotWords (slots ++ slot ∷ []) (take (place + 1) words)
+    one_slot_more fresh =
+        let long : length (slots ++ slot ∷ []) ≡ place + 1 = length-append slots (slot ∷ []) ∙ omega (arith, many) in
+        let last : get_or (slots ++ slot ∷ []) place 0 ≡ slot = rw (← many) (get_or-append_seam slots slot [] 0) in
+        let front : (k : ℕ) → k < place → get_or (slots ++ slot ∷ []) k 0 ≡ get_or slots k 0 = λ k below. get_or_append_left slots (slot ∷ []) 0 k (omega (arith, many)) in
+        record {
+          spelled = take_more words place [] lt ∙ ap (λ (ws : List Word). ws ++ get_or words place [] ∷ []) so_far.spelled
+              ∙ ap (λ (w : Word). map decimal slots ++ w ∷ []) is ∙ sym (map_push decimal slots slot);
+          within = λ i below. ⊎_elim
+              (λ earlier. rw (front i earlier) (so_far.within i (omega (arith, many))))
+              (λ here. let at : i ≡ place = omega (arith, long) in rw (at, last) small)
+              (cases_lt i place);
+          different = λ i j before below e. ⊎_elim
+              (λ earlier. so_far.different i j before (omega (arith, many)) (sym (front i (omega arith)) ∙ e ∙ front j earlier))
+              (λ here. let at : j ≡ place = omega (arith, long) in
+              fresh (i, omega (arith, many), get_or_default slots i slot 0 (omega (arith, many)) ∙ sym (front i (omega arith)) ∙ e ∙ ap (λ (n : ℕ). get_or (slots ++ slot ∷ []) n 0) at ∙ last))
+              (cases_lt j place);
+        }
+
+  -- no slots are named by words that go on so
+  wrong_slot : ((slots' : List ℕ) → ((k : ℕ) → k < place + 1 → get_or words k [] ≡ decimal (get_or slots' k 0))
+      → ((k : ℕ) → k < place + 1 → get_or slots' k 0 ≤ 63) → ((k : ℕ) → k < place → get_or slots' k 0 ≢ get_or slots' place 0) → ⊥) → GoWrongAt NameSlots words place
+  wrong_slot bad = wrong_word NameSlots words place lt
+      (record { more = []; goes_on = record { slots = slots; are_slots = rw (append-nil (take place words)) so_far } })
+      (λ begun.
+      let slots' = begun.goes_on.slots in
+      let are = begun.goes_on.are_slots in
+      let long : length (take (place + 1) words) ≡ place + 1 = length-take (place + 1) words ∙ omega arith in
+      let all : length (take (place + 1) words ++ begun.more) ≡ place + 1 + length begun.more = length-append (take (place + 1) words) begun.more ∙ omega (arith, long) in
+      let long' = many_slots slots' (take (place + 1) words ++ begun.more) are in
+      bad slots'
+      (λ k below. sym (get_or_append_left (take (place + 1) words) begun.more [] k (omega (arith, long)) ∙ get_or-take (place + 1) words k [] below)
+      ∙ word_of_slot slots' (take (place + 1) words ++ begun.more) are k (omega (arith, all)))
+      (λ k below. small_slot slots' (take (place + 1) words ++ begun.more) are k (omega (arith, all)))
+      (λ k below. are.different k place below (omega (arith, all, long'))))
+
+  -- a word that names no slot
+  pub no_slot : ((slot : ℕ) → slot ≤ 63 → get_or words place [] ≡ decimal slot → ⊥) → GoWrongAt NameSlots words place
+  no_slot none = wrong_slot (λ slots' named small different. none (get_or slots' place 0) (small place (omega arith)) (named place (omega arith)))
+
+  -- a word that names a slot again
+  pub slot_again : (slot : ℕ) → slot ≤ 63 → get_or words place [] ≡ decimal slot → Contains slots slot → GoWrongAt NameSlots words place
+  slot_again slot le is again =
+      let k = again.0 in
+      let below : k < place = omega (arith, many, again.1) in
+      let within : k < length (take place words) = omega (arith, many_slots slots (take place words) so_far, again.1) in
+      let earlier : get_or words k [] ≡ decimal slot =
+      sym (get_or-take place words k [] below) ∙ word_of_slot slots (take place words) so_far k within
+      ∙ ap decimal (get_or_default slots k 0 slot again.1 ∙ again.2) in
+      wrong_slot (λ slots' named small different. different k below
+      (same_slot (get_or slots' k 0) (get_or slots' place 0) (small k (omega arith)) (small place (omega arith))
+      (sym (named k (omega arith)) ∙ earlier ∙ sym is ∙ named place (omega arith))))
+
 -- ---- the words of a command
 
 abbrev pub examine : Word
 examine = codes "examine"
 
+abbrev pub label : Word
+label = codes "label"
+
 -- the words that begin the command
 examine_begins : (place : ℕ) → Begins IsCommand (take place (examine ∷ []))
 examine_begins place = begins_itself IsCommand (examine ∷ []) place (record { command = Examine; spells = refl })
 
-spelled : (words : List Word) (command : Command) → Spells command words → words ≡ examine ∷ []
-spelled words Examine spells = spells
+-- a command has a name
+name_of : (words : List Word) (command : Command) → Spells command words → (rest : List Word) × ((words ≡ examine ∷ rest) ⊎ (words ≡ label ∷ rest))
+name_of words Examine spells = ([], inl spells)
+name_of words (Label slots) spells = (spells.numbers, inr spells.parts)
+
+examine_alone : (rest : List Word) (command : Command) → Spells command (examine ∷ rest) → rest ≡ []
+examine_alone rest Examine spells = cc
+examine_alone rest (Label slots) spells = absurd (omega (arith, ap (λ (ws : List Word). get_or (get_or ws 0 []) 0 0) spells.parts))
+
+label_names : (rest : List Word) (command : Command) → Spells command (label ∷ rest) → NameSlots rest
+label_names rest Examine spells = absurd (omega (arith, ap (λ (ws : List Word). get_or (get_or ws 0 []) 0 0) spells))
+label_names rest (Label slots) spells =
+    let same : rest ≡ spells.numbers = ap (drop 1) spells.parts in
+    record { slots = slots; are_slots = rw same spells.are_slots }
+
+-- words ask for one command
+pub same_command : (words : List Word) (command command' : Command) → Spells command words → Spells command' words → command ≡ command'
+same_command words Examine Examine spells spells' = refl
+same_command words Examine (Label slots) spells spells' = absurd (omega (arith, ap (λ (ws : List Word). get_or (get_or ws 0 []) 0 0) (sym spells ∙ spells'.parts)))
+same_command words (Label slots) Examine spells spells' = absurd (omega (arith, ap (λ (ws : List Word). get_or (get_or ws 0 []) 0 0) (sym spells' ∙ spells.parts)))
+same_command words (Label slots) (Label slots') spells spells' =
+    let same : spells.numbers ≡ spells'.numbers = ap (drop 1) (sym spells.parts ∙ spells'.parts) in
+    ap Label (same_slots slots slots' spells'.numbers (rw same at spells.are_slots) spells'.are_slots)
 
 pub no_command : (words : List Word) → words ≡ [] → GoWrongAt IsCommand words 0
 no_command words e = rw e (wanting_words IsCommand [] (examine_begins 0)
-    (λ is. let e : [] ≡ examine ∷ [] = spelled [] is.command is.spells in cc))
+    (λ is. let name = name_of [] is.command is.spells in ⊎_elim (λ one. cc) (λ other. cc) name.1))
 
-pub other_command : (words rest : List Word) (name : Word) → words ≡ name ∷ rest → name ≢ examine → GoWrongAt IsCommand words 0
-other_command words rest name e other = rw e (wrong_word IsCommand (name ∷ rest) 0 (omega arith) (examine_begins 0)
-    (λ begun. other (let e : name ∷ begun.more ≡ examine ∷ [] = spelled _ begun.goes_on.command begun.goes_on.spells in cc)))
+pub other_command : (words rest : List Word) (name : Word) → words ≡ name ∷ rest → name ≢ examine → name ≢ label → GoWrongAt IsCommand words 0
+other_command words rest name e not_examine not_label = rw e (wrong_word IsCommand (name ∷ rest) 0 (omega arith) (examine_begins 0)
+    (λ begun. let is = name_of _ begun.goes_on.command begun.goes_on.spells in
+    ⊎_elim (λ one. not_examine (ap (λ (ws : List Word). get_or ws 0 []) one)) (λ other. not_label (ap (λ (ws : List Word). get_or ws 0 []) other)) is.1))
 
 pub more_words : (words rest : List Word) (next : Word) → words ≡ examine ∷ next ∷ rest → GoWrongAt IsCommand words 1
 more_words words rest next e = rw e (wrong_word IsCommand (examine ∷ next ∷ rest) 1 (omega arith) (examine_begins 1)
-    (λ begun. let e : examine ∷ next ∷ begun.more ≡ examine ∷ [] = spelled _ begun.goes_on.command begun.goes_on.spells in cc))
+    (λ begun. let e : next ∷ begun.more ≡ [] = examine_alone _ begun.goes_on.command begun.goes_on.spells in cc))
+
+pub label_spelled : (words rest : List Word) (slots : List ℕ) → words ≡ label ∷ rest → AreSlotWords slots rest → Spells (Label slots) words
+label_spelled words rest slots e are = record { numbers = rest; parts = e; are_slots = are }
+
+-- behind `label`, the words go wrong where the words of slots do
+pub wrong_numbers : (words rest : List Word) (place : ℕ) → words ≡ label ∷ rest → GoWrongAt NameSlots rest place → GoWrongAt IsCommand words (1 + place)
+wrong_numbers words rest place e wrong =
+    let begun : (more : List Word) → IsCommand (label ∷ more) → NameSlots more = λ more is. label_names more is.command is.spells in
+    rw (e, add_comm 1 place) record {
+      refused = λ is. wrong.refused (begun rest is);
+      within = omega (arith, wrong.within);
+      good = rw add-one (record {
+        more = wrong.good.more;
+        goes_on = record {
+          command = Label wrong.good.goes_on.slots;
+          spells = record { numbers = take place rest ++ wrong.good.more; parts = refl; are_slots = wrong.good.goes_on.are_slots };
+        };
+      });
+      no_longer = λ n more le longer.
+          let m : ℕ = n - 1 in
+          let is : n ≡ suc m = omega arith in
+          let longer : Begins IsCommand (label ∷ take m rest) = rw is at longer in
+          wrong.no_longer m (omega arith) (omega arith) (record { more = longer.more; goes_on = begun (take m rest ++ longer.more) longer.goes_on });
+    }
 
 -- ---- images and dashes
 
@@ -213,6 +330,14 @@ module _ (words : List Word) (count : ℕ) (leads : LeadsWithImages words count)
   pub is_asked : (command : Command) → Spells command (drop (count + 1) words) → IsAsked words (record { group = None; command = command })
   unfolding rest
   is_asked command spells = record { images = take count words; rest = rest; are_images = leads.are_images; parts = parts; no_group = refl; spells = spells }
+
+  -- words ask for one thing
+  pub same_asked : (command : Command) → Spells command (drop (count + 1) words) → (asked : Asked) → IsAsked words asked → record { group = None; command = command } ≡ asked
+  unfolding rest
+  same_asked command spells asked is =
+      let same : rest ≡ is.rest = same_rest (take count words) rest is.images is.rest leads.are_images is.are_images (sym parts ∙ is.parts) in
+      let one : command ≡ asked.command = same_command rest command asked.command spells (rw same is.spells) in
+      λ i. record { group = sym is.no_group i; command = one i }
 
   accepted_rest : (more : List Word) → IsAccepted (take count words ++ dashes ∷ more) → IsCommand more
   accepted_rest more accepted =

@@ -2,8 +2,12 @@ pub mod Disk
 pub mod Examine
 pub mod Refusal
 pub mod Hexes
+pub mod Answers
+pub mod Label
+pub mod Labels
 pub mod Report
 pub mod Records
+pub mod Quiet
 pub mod Reasons
 pub mod CopyText
 pub mod Run

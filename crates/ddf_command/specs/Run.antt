@@ -1,25 +1,36 @@
 -- What a call of the program does, by the command that its words ask for. Each command has its case in each definition.
-use Rattle.std.specs.Prelude.{◌≡◌, ◌⊎◌, ℕ, ◌<◌, List, length, Bool, false}
+use Rattle.std.specs.Prelude.{◌≡◌, ◌⊎◌, ℕ, ◌<◌, List, length, Bool, true, false}
 use Rattle.ddf_bytes.specs.Counts.{Rose}
-use Rattle.ddf_bay.specs.Sectors.{Image}
+use Rattle.ddf_bytes.specs.declared.stamp.Stamp.{Stamp}
+use Rattle.ddf_bay.specs.Sectors.{Image, Outcomes}
 use Rattle.ddf_command.specs.declared.command.Command.{Command}
-use Rattle.ddf_command.specs.declared.command.Command.TheVariants.{Examine}
+use Rattle.ddf_command.specs.declared.command.Command.TheVariants.{Examine, Label}
 use Rattle.ddf_bay.specs.ReadsOnly.{SlotRose}
 use Rattle.ddf_command.specs.Examine.{IsExamined}
+use Rattle.ddf_command.specs.Label.{IsLabelled}
 use Rattle.ddf_command.specs.Words.{Word, IsAsked}
 use Rattle.ddf_command.specs.declared.command.Asked.{Asked}
 
 -- whether a command may write to the disks
 abbrev pub may_write : Command → Bool
 may_write Examine = false
+may_write (Label slots) = true
+
+-- whether a command may be refused
+abbrev pub may_refuse : Command → Bool
+may_refuse Examine = false
+may_refuse (Label slots) = true
 
 -- The words ask for no command that may write to the disks.
 abbrev pub AsksForNoWrite : List Word → Type 0
 AsksForNoWrite words = (asked : Asked) → IsAsked words asked → may_write asked.command ≡ false
 
--- the command was done, or cut short
-abbrev pub IsDone : {D : Type 0} → (D → List ℕ) → (D → Image) → (D → ℕ → ℕ) → (D → ℕ → ℕ) → D → D → Type 0 → List ℕ → List ℕ → Command → ℕ → Type 0
-IsDone sizes held failed_reads failed_writes old new told before after Examine status = IsExamined sizes held failed_reads failed_writes old new told before after status
+-- the command was done, or it told why not, or was cut short
+abbrev pub IsDone : {D : Type 0} → (D → List ℕ) → (D → Image) → (D → Outcomes) → (D → ℕ) → (D → ℕ → Image → Type 0) → (D → ℕ → ℕ) → (D → ℕ → ℕ) → (D → ℕ) → D → D → (tells told : Type 0) → (before after : List ℕ) → Stamp → Command → ℕ → Type 0
+IsDone sizes held may_hold moment left_since failed_reads failed_writes sectors_written old new tells told before after stamp Examine status =
+    IsExamined sizes held failed_reads failed_writes old new (tells × told) before after status
+IsDone sizes held may_hold moment left_since failed_reads failed_writes sectors_written old new tells told before after stamp (Label slots) status =
+    IsLabelled sizes held may_hold moment left_since failed_reads failed_writes sectors_written old new tells told before after stamp slots status
 
 -- A call on some slot failed.
 pub record SomeSlotRose {D : Type 0} (sizes : D → List ℕ) (failed_reads failed_writes : D → ℕ → ℕ) (old new : D) : Type 0 where

@@ -5,6 +5,7 @@ use Rattle.ddf_command.specs.declared.status.Status.TheVariants as status
 
 abbrev pub code_of : Status → ℕ
 code_of status.Ok = 0
+code_of status.Refused = 1
 code_of status.Words = 2
 code_of status.DiskFault = 3
 code_of status.Memory = 5

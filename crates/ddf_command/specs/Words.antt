@@ -2,11 +2,12 @@
 use Rattle.std.specs.Prelude.{◌≡◌, ◌≢◌, ℕ, ◌≤◌, ◌<◌, List, [], ◌∷◌, ◌++◌, length, map, take, slice_index_or, Bool, nat_le, Option, Some, None, codes, string_bytes, if◌then◌else◌}
 use Rattle.std.specs.List.{position}
 use Rattle.std.specs.Str.{bytes_eq}
+use Rattle.std.specs.Fmt.{decimal}
 use Rattle.std.specs.declared.string.String.{String}
 use Rattle.std.specs.declared.alloc.Global.{Global}
 use Rattle.ddf_command.specs.declared.command.Asked.{Asked}
 use Rattle.ddf_command.specs.declared.command.Command.{Command}
-use Rattle.ddf_command.specs.declared.command.Command.TheVariants.{Examine}
+use Rattle.ddf_command.specs.declared.command.Command.TheVariants.{Examine, Label}
 
 -- a word is its bytes
 abbrev pub Word : Type 0
@@ -32,9 +33,22 @@ pub record IsNextImage (words : List Word) (place : ℕ) : Type 0 where
   pub named : slice_index_or words place [] ≢ []
   pub fresh : (k : ℕ) → k < place → slice_index_or words k [] ≢ slice_index_or words place []
 
+-- The words are the numbers of these slots in decimal, each at most 63, and no two equal.
+pub record AreSlotWords (slots : List ℕ) (words : List Word) : Type 0 where
+  pub spelled : words ≡ map decimal slots
+  pub within : (i : ℕ) → i < length slots → slice_index_or slots i 0 ≤ 63
+  pub different : (i j : ℕ) → i < j → j < length slots → slice_index_or slots i 0 ≢ slice_index_or slots j 0
+
+-- The words are `label` and then the numbers of these slots.
+pub record SpellLabel (slots : List ℕ) (words : List Word) : Type 0 where
+  pub numbers : List Word
+  pub parts : words ≡ codes "label" ∷ numbers
+  pub are_slots : AreSlotWords slots numbers
+
 -- the words of each command, behind the images and the dashes
 abbrev pub Spells : Command → List Word → Type 0
 Spells Examine words = words ≡ codes "examine" ∷ []
+Spells (Label slots) words = SpellLabel slots words
 
 -- The words name images, then a command.
 pub record IsAsked (words : List Word) (asked : Asked) : Type 0 where
@@ -54,6 +68,11 @@ pub record IsAccepted (words : List Word) : Type 0 where
 pub record IsCommand (words : List Word) : Type 0 where
   pub command : Command
   pub spells : Spells command words
+
+-- some slots are named so
+pub record NameSlots (words : List Word) : Type 0 where
+  pub slots : List ℕ
+  pub are_slots : AreSlotWords slots words
 
 -- The first words, so many, are images, and dashes come next.
 pub record LeadsWithImages (words : List Word) (count : ℕ) : Type 0 where

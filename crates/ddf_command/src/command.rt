@@ -1,7 +1,7 @@
-use ddf_bytes::Guid;
+use ddf_bytes::{Guid, Seq};
 
 /// What the words ask for.
-#[derive(Debug, PartialEq, Eq, Drop)]
+#[derive(Debug, Drop)]
 pub struct Asked {
     /// The group that the command is to take, where the words name one.
     pub group: Option<Guid>,
@@ -10,8 +10,13 @@ pub struct Asked {
 }
 
 /// A command of the program.
-#[derive(Debug, PartialEq, Eq, Drop)]
+#[derive(Debug, Drop)]
 pub enum Command {
     /// Shows what the disks hold.
     Examine,
+    /// Makes the first copies of the disks of a new group. Without slots it takes all.
+    Label {
+        /// The slots, each from 0 to 63, in the order of the words.
+        slots: Seq<u8>,
+    },
 }

@@ -1,23 +1,25 @@
 // The call that the program makes.
-ghost use Rattle.std.specs.Prelude.{◌≡◌, ◌⊎◌, ◌≤◌, ℕ, length};
+ghost use Rattle.std.specs.Prelude.{◌≡◌, ◌⊎◌, ◌≤◌, ℕ, true, length};
 ghost use Rattle.ddf_bay.specs.ReadsOnly.{ReadsOnly};
 ghost use Rattle.ddf_command.specs.declared.command.Asked.{Asked};
 ghost use Rattle.ddf_command.specs.Refusal.{words_refusal};
-ghost use Rattle.ddf_command.specs.Run.{IsDone, AsksForNoWrite, SomeSlotRose, SinkRose};
+ghost use Rattle.ddf_command.specs.Run.{IsDone, AsksForNoWrite, SomeSlotRose, SinkRose, may_refuse};
 ghost use Rattle.ddf_command.specs.Status.{code_of};
 ghost use Rattle.ddf_command.specs.Tells.{EndsWith};
 ghost use Rattle.ddf_command.specs.Words.{words_of, slot_count, GoWrongAt, IsAccepted, IsAsked};
 
 use crate::command::Command;
 use crate::examine::examine;
+use crate::label::label;
 use crate::status::Status;
+use crate::tell::tell;
 use crate::words::{WordFault, asked};
 use ddf_bay::Bay;
-use ddf_bytes::{Sink, Source, Stamp, write_all};
+use ddf_bytes::{Sink, Source, Stamp};
 use std::alloc::Global;
 
 /// Does what the words ask for, over the bay of the images that they name, and answers the exit status:
-/// 0 done, 2 the words are no command's, 3 a call on a disk failed, 5 memory ran out, 6 the input or the output failed.
+/// 0 done, 1 it is refused, 2 the words are no command's, 3 a call on a disk failed, 5 memory ran out, 6 the input or the output failed.
 pub fn run<B: Bay, S: Source, K: Sink>(
     alloc: Global,
     words: &[String],
@@ -33,7 +35,7 @@ pub fn run<B: Bay, S: Source, K: Sink>(
     ensures wrong_words_only { result ≡ 2 → (place : ℕ) × GoWrongAt IsAccepted (words_of words.now) place }
 
     // What is told, and with which status.
-    ensures done { (asked : Asked) → IsAsked (words_of words.now) asked → IsDone B.sizes B.held B.failed_reads B.failed_writes bay.old bay.new (B.tells × K.tells) (K.taken sink.old) (K.taken sink.new) asked.command result }
+    ensures done { (asked : Asked) → IsAsked (words_of words.now) asked → IsDone B.sizes B.held B.may_hold B.moment B.left_since B.failed_reads B.failed_writes B.sectors_written bay.old bay.new B.tells K.tells (K.taken sink.old) (K.taken sink.new) stamp asked.command result }
 
     // What stays.
     ensures stays { AsksForNoWrite (words_of words.now) → ReadsOnly B.sizes B.held B.may_hold B.moment B.left_since B.sectors_written bay.old bay.new }
@@ -42,12 +44,13 @@ pub fn run<B: Bay, S: Source, K: Sink>(
     // Each status has its cause.
     ensures disk_fault { result ≡ 3 → SomeSlotRose B.sizes B.failed_reads B.failed_writes bay.old bay.new }
     ensures stream_fault { result ≡ 6 → SinkRose K.faults K.empty_takes sink.old sink.new }
-    ensures complete { IsAccepted (words_of words.now) → (SomeSlotRose B.sizes B.failed_reads B.failed_writes bay.old bay.new → ⊥)
-        → (SinkRose K.faults K.empty_takes sink.old sink.new → ⊥) → (result ≡ 0) ⊎ (result ≡ 5) }
+    ensures complete { (asked : Asked) → IsAsked (words_of words.now) asked → (SomeSlotRose B.sizes B.failed_reads B.failed_writes bay.old bay.new → ⊥)
+        → (SinkRose K.faults K.empty_takes sink.old sink.new → ⊥) → (result ≡ 0) ⊎ (result ≡ 5) ⊎ ((result ≡ 1) × (may_refuse asked.command ≡ true)) }
 {
     match asked(alloc, words) {
         Ok(asked) => match asked.command {
             Command::Examine => examine(alloc, bay, sink).code(),
+            Command::Label { slots } => label(alloc, slots.items(), bay, sink, &stamp).code(),
         },
         Err(WordFault::Place(place)) => refuse_words(alloc, place, sink).code(),
         Err(WordFault::Memory) => Status::Memory.code(),
@@ -59,11 +62,8 @@ fn refuse_words<K: Sink>(alloc: Global, place: usize, sink: &mut K) -> Status
     ensures ends { EndsWith 2 (words_refusal place) K.tells (K.taken sink.old) (K.taken sink.new) (code_of result) }
     ensures stream { result ≡ Status.Stream → SinkRose K.faults K.empty_takes sink.old sink.new }
 {
-    let Ok(text) = format!(in alloc; "refused 10 word {place}\n") else {
-        return Status::Memory;
-    };
-    if write_all(sink, text.as_bytes()).is_err() {
-        return Status::Stream;
+    match format!(in alloc; "refused 10 word {place}\n") {
+        Ok(line) => tell(sink, line.as_bytes(), Status::Words),
+        Err(_) => Status::Memory,
     }
-    Status::Words
 }

@@ -5,12 +5,18 @@ mod command;
 mod disk;
 mod dispatch;
 mod examine;
+mod failure;
+mod label;
+mod label_slots;
 mod listing;
 mod name;
 mod reason;
 mod records;
+mod refusal;
 mod report;
+mod slot_words;
 mod status;
+mod tell;
 mod words;
 
 pub use command::{Asked, Command};

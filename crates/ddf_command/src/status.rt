@@ -6,6 +6,8 @@ ghost use Rattle.ddf_command.specs.Status.{code_of};
 pub(crate) enum Status {
     /// All that was asked for was done.
     Ok = 0,
+    /// It is refused.
+    Refused = 1,
     /// The words are no command's.
     Words = 2,
     /// A call on a disk failed.

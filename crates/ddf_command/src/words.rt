@@ -3,6 +3,7 @@ ghost use Rattle.std.specs.Prelude.{◌≡◌, ◌≢◌, ◌<◌, ◌≤◌, �
 ghost use Rattle.ddf_command.specs.Words.{words_of, images_of, is_dashes, slot_count, IsNextImage, Spells, IsCommand, IsAsked, IsAccepted, LeadsWithImages, GoWrongAt};
 
 use crate::command::{Asked, Command};
+use crate::slot_words::slots_of;
 use std::alloc::Global;
 
 /// The most images that the words may name.
@@ -93,21 +94,26 @@ fn image_count(words: &[String]) -> Result<usize, usize>
     Err(words.len())
 }
 
-/// The command that the words behind the dashes spell, or the place where they go wrong.
-fn command_of(words: &[String]) -> Result<Command, usize>
+/// The command that the words behind the dashes spell, or where they go wrong.
+fn command_of(alloc: Global, words: &[String]) -> Result<Command, WordFault>
     ensures found { IfOk result (λ command. Spells command (words_of words.now)) }
-    ensures wrong { IfErr result (GoWrongAt IsCommand (words_of words.now)) }
+    ensures place { (place : ℕ) → result ≡ Err (WordFault.Place place) → GoWrongAt IsCommand (words_of words.now) place }
 {
     let Some((name, rest)) = words.split_first() else {
-        return Err(0);
+        return Err(WordFault::Place(0));
     };
-    if !is(name, "examine") {
-        return Err(0);
+    match name.as_str() {
+        "examine" => match rest {
+            [] => Ok(Command::Examine),
+            _ => Err(WordFault::Place(1)),
+        },
+        "label" => match slots_of(alloc, rest) {
+            Ok(slots) => Ok(Command::Label { slots }),
+            Err(WordFault::Place(place)) => Err(WordFault::Place(1 + place)),
+            Err(WordFault::Memory) => Err(WordFault::Memory),
+        },
+        _ => Err(WordFault::Place(0)),
     }
-    if !rest.is_empty() {
-        return Err(1);
-    }
-    Ok(Command::Examine)
 }
 
 /// Reads the words: `IMAGE.. -- COMMAND`.
@@ -120,11 +126,12 @@ pub fn asked(alloc: Global, words: &[String]) -> Result<Asked, WordFault>
         Ok(images) => images,
         Err(place) => return Err(WordFault::Place(place)),
     };
-    match command_of(&words[images + 1..]) {
+    match command_of(alloc, &words[images + 1..]) {
         Ok(command) => Ok(Asked {
             group: None,
             command,
         }),
-        Err(place) => Err(WordFault::Place(images + 1 + place)),
+        Err(WordFault::Place(place)) => Err(WordFault::Place(images + 1 + place)),
+        Err(WordFault::Memory) => Err(WordFault::Memory),
     }
 }

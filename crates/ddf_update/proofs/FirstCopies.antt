@@ -1,5 +1,5 @@
 -- The first copies of a new group, disk by disk.
-use Rattle.std.proofs.Common.{◌≡◌, ℕ, zero, suc, List, [], ◌∷◌, ◌++◌, length, map, Result, Ok, Err, Some, length-append, refl, inl, inr, ⊎_elim, arith, ◌⊎◌}
+use Rattle.std.proofs.Common.{◌≡◌, ℕ, zero, suc, List, [], ◌∷◌, ◌++◌, length, Result, Ok, Err, Some, length-append, refl, inl, inr, ⊎_elim, arith, ◌⊎◌}
 use Rattle.std.proofs.lemmas.Bool.{cases_lt}
 use Rattle.std.proofs.lemmas.Option.{slice_get_within}
 use Rattle.std.specs.Prelude.{slice_get, slice_index, IfOk, OnOk}
@@ -12,7 +12,7 @@ use Rattle.ddf_copy.specs.declared.which.Which.TheVariants.{Secondary}
 use Rattle.ddf_copy.specs.Headers.{IsUnder, anchor_header}
 use Rattle.ddf_update.specs.declared.prepared.Mode.TheVariants.{Found}
 use Rattle.ddf_update.specs.declared.prepared.Prepared.{Prepared}
-use Rattle.ddf_update.specs.Group.{AreFirst, AreSlots, LieOnSlots, MayFoundAll}
+use Rattle.ddf_update.specs.Group.{AreFirst, AreSlots, LieOnSlots, MayFoundAll, slot_sizes}
 use Rattle.ddf_update.proofs.Lies.{lies_on}
 use Rattle.ddf_update.specs.Prepared.{IsPrepared}
 
@@ -53,10 +53,6 @@ always_ok (Ok item) holds = holds
 always_ok (Err fault) holds = cc
 
 -- ---- the first copies on their slots
-
--- the sizes of these slots
-abbrev pub slot_sizes : (sizes slots : List ℕ) → List ℕ
-slot_sizes sizes slots = map (slice_index sizes) slots
 
 size_of_slot : (sizes slots : List ℕ) (place slot : ℕ) → slice_get slots place ≡ Some slot → slice_index (slot_sizes sizes slots) place ≡ slice_index sizes slot
 size_of_slot sizes [] place slot at = cc

@@ -1,5 +1,5 @@
 -- The founding of a group: its disks get their first copies one after another.
-use Rattle.std.specs.Prelude.{◌≡◌, ◌≢◌, ◌⊎◌, ℕ, ◌<◌, List, length, slice_get, slice_index, Some, Err}
+use Rattle.std.specs.Prelude.{◌≡◌, ◌≢◌, ◌⊎◌, ℕ, ◌<◌, List, length, map, slice_get, slice_index, Some, Err}
 use Rattle.ddf_bay.specs.Sectors.{Image, Outcomes}
 use Rattle.ddf_bay.specs.Moments.{IsSettled}
 use Rattle.ddf_copy.specs.declared.copy.DiskCopy.{DiskCopy}
@@ -12,6 +12,10 @@ use Rattle.ddf_update.specs.declared.prepared.Mode.TheVariants.{Found}
 use Rattle.ddf_update.specs.declared.prepared.Prepared.{Prepared}
 use Rattle.ddf_update.specs.Prepared.{IsPrepared, LiesOn}
 use Rattle.ddf_update.specs.Update.{AreBoth}
+
+-- the sizes of these slots
+abbrev pub slot_sizes : (sizes slots : List ℕ) → List ℕ
+slot_sizes sizes slots = map (slice_index sizes) slots
 
 -- For each place an update writes its copy, which can be written on a disk of the size at its place.
 pub record AreFirst (sizes : List ℕ) (copy : ℕ → DiskCopy) (updates : List Prepared) : Type 0 where

@@ -1,23 +1,47 @@
-use Rattle.std.proofs.Common.{◌≡◌, ◌∙◌, ℕ, Err, sym, ap, subst}
+use Rattle.std.proofs.Common.{◌≡◌, ◌∙◌, ℕ, Err, sym, ap, subst, inl, inr, ⊎_elim, refl}
+use Rattle.ddf_command.specs.declared.command.Asked.{Asked}
+use Rattle.ddf_command.specs.declared.command.Command.TheVariants.{Examine, Label}
 use Rattle.ddf_command.specs.Words.{words_of, IsAccepted}
 use Rattle.ddf_command.specs.Refusal.{words_refusal}
 use Rattle.ddf_command.specs.Tells.{EndsWith}
-use Rattle.ddf_command.proofs.Endings.{fault_cause, no_fault, done_nothing, one_place, stream_status}
+use Rattle.ddf_command.proofs.Endings.{fault_cause, no_fault, done_nothing, one_place, same_asked, stream_status}
+use Rattle.ddf_command.proofs.LabelEnds.{label_no_fault}
 use Rattle.ddf_command.proofs.dispatch.run.Goals as goal
 
-pub returns-in-Ok-clause-disk_fault : goal.returns-in-Ok-clause-disk_fault
-returns-in-Ok-clause-disk_fault g c = λ e. fault_cause _ _ _ _ _ _ _ _ _ _ c.examine.ensures.examined (sym c.code.ensures ∙ e)
+pub returns-in-Examine-clause-done : goal.returns-in-Examine-clause-done
+returns-in-Examine-clause-done g c = λ asked is.
+    let same : c.in-Ok.asked ≡ asked = same_asked c.asked.result c.in-Ok.asked asked c.in-Ok.is (c.asked.ensures.every asked is) in
+    let one : Examine ≡ asked.command = sym c.in-Examine.is ∙ ap (λ (a : Asked). a.command) same in
+    rw (← one) (rw c.code.ensures c.examine.ensures.examined)
 
-pub returns-in-Ok-clause-complete : goal.returns-in-Ok-clause-complete
-returns-in-Ok-clause-complete g c = λ accepted none good.
-    rw c.code.ensures (no_fault _ _ _ _ _ _ _ _ _ _ c.examine.ensures.examined none (λ six. good (c.examine.ensures.stream (stream_status c.examine.result six))))
+pub returns-in-Examine-clause-disk_fault : goal.returns-in-Examine-clause-disk_fault
+returns-in-Examine-clause-disk_fault g c = λ e. fault_cause _ _ _ _ _ _ _ _ _ _ c.examine.ensures.examined (sym c.code.ensures ∙ e)
+
+pub returns-in-Examine-clause-complete : goal.returns-in-Examine-clause-complete
+returns-in-Examine-clause-complete g c = λ asked is none good.
+    let status = no_fault _ _ _ _ _ _ _ _ _ _ c.examine.ensures.examined none (λ six. good (c.examine.ensures.stream (stream_status c.examine.result six))) in
+    rw c.code.ensures (⊎_elim inl (λ five. inr (inl five)) status)
+
+pub returns-in-Label-clause-done : goal.returns-in-Label-clause-done
+returns-in-Label-clause-done g c = λ asked is.
+    let same : c.in-Ok.asked ≡ asked = same_asked c.asked.result c.in-Ok.asked asked c.in-Ok.is (c.asked.ensures.every asked is) in
+    let one : Label c.in-Label.slots ≡ asked.command = sym c.in-Label.is ∙ ap (λ (a : Asked). a.command) same in
+    let items : c.items.result.now ≡ c.in-Label.slots = c.items.ensures ∙ c.in-Label.slots-is in
+    rw (← one) (rw c.code-in-Label.ensures (rw items at c.label.ensures.labelled))
+
+pub returns-in-Label-clause-complete : goal.returns-in-Label-clause-complete
+returns-in-Label-clause-complete g c = λ asked is none good.
+    let same : c.in-Ok.asked ≡ asked = same_asked c.asked.result c.in-Ok.asked asked c.in-Ok.is (c.asked.ensures.every asked is) in
+    let one : Label c.in-Label.slots ≡ asked.command = sym c.in-Label.is ∙ ap (λ (a : Asked). a.command) same in
+    let status = label_no_fault _ _ _ _ _ _ _ _ _ _ _ _ _ _ _ _ _ c.label.ensures.labelled none (λ six. good (c.label.ensures.stream (stream_status c.label.result six))) in
+    rw (c.code-in-Label.ensures, ← one) (⊎_elim inl (λ other. inr (⊎_elim inl (λ refused. inr (refused, refl)) other)) status)
 
 pub returns-in-Err-Place-clause-wrong_words : goal.returns-in-Err-Place-clause-wrong_words
 returns-in-Err-Place-clause-wrong_words g c = λ place wrong.
     let here = c.asked.ensures.place c.in-Err-Place.place (c.in-Err-Place.is ∙ ap Err c.in-Err-Place.field-0-is) in
     let same : c.in-Err-Place.place ≡ place = one_place IsAccepted (words_of c.args.words.now) c.in-Err-Place.place place here wrong in
     let ends : ℕ → Type 0 = λ p. EndsWith 2 (words_refusal p) g.K.Sink.tells (g.K.Sink.taken c.args.sink.now) (g.K.Sink.taken c.refuse_words.new.sink) c.code-in-Err-Place.result in
-    subst ends same (rw c.code-in-Err-Place.ensures c.refuse_words.ensures.ends)
+    subst ends same (rw (c.code-in-Err-Place.ensures, ← c.in-Err-Place.place-is) c.refuse_words.ensures.ends)
 
 pub returns-in-Err-Place-clause-wrong_words_only : goal.returns-in-Err-Place-clause-wrong_words_only
 returns-in-Err-Place-clause-wrong_words_only g c = λ e. (c.in-Err-Place.place, c.asked.ensures.place c.in-Err-Place.place (c.in-Err-Place.is ∙ ap Err c.in-Err-Place.field-0-is))
@@ -26,7 +50,7 @@ pub returns-in-Err-Place-clause-done : goal.returns-in-Err-Place-clause-done
 returns-in-Err-Place-clause-done g c = λ asked is. absurd ((c.asked.ensures.place c.in-Err-Place.place (c.in-Err-Place.is ∙ ap Err c.in-Err-Place.field-0-is)).refused (record { asked = asked; is_asked = is }))
 
 pub returns-in-Err-Place-clause-complete : goal.returns-in-Err-Place-clause-complete
-returns-in-Err-Place-clause-complete g c = λ accepted none good. absurd ((c.asked.ensures.place c.in-Err-Place.place (c.in-Err-Place.is ∙ ap Err c.in-Err-Place.field-0-is)).refused accepted)
+returns-in-Err-Place-clause-complete g c = λ asked is none good. absurd ((c.asked.ensures.place c.in-Err-Place.place (c.in-Err-Place.is ∙ ap Err c.in-Err-Place.field-0-is)).refused (record { asked = asked; is_asked = is }))
 
 pub returns-in-Err-Memory-clause-done : goal.returns-in-Err-Memory-clause-done
-returns-in-Err-Memory-clause-done g c = λ asked is. rw c.code-in-Err-Memory.ensures (done_nothing _ _ _ _ _ _ _ asked.command)
+returns-in-Err-Memory-clause-done g c = λ asked is. rw c.code-in-Err-Memory.ensures (done_nothing _ _ _ _ _ _ _ _ _ _ _ _ _ asked.command)

@@ -1,0 +1,5 @@
+use Rattle.std.proofs.Common.{◌∙◌}
+use Rattle.ddf_command.proofs.dispatch.refuse_words.Goals as goal
+
+pub returns-in-Ok-clause-ends : goal.returns-in-Ok-clause-ends
+returns-in-Ok-clause-ends g c = rw (c.as_bytes.ensures.value ∙ c.in-Ok.ensures.ok) at c.tell.ensures.ends
