@@ -3,14 +3,15 @@
 const HELP: &str = "\
 Usage: ddf IMAGE.. -- COMMAND
 
-Reads RAID metadata in the SNIA Common RAID Disk Data Format (DDF) on disk images or
-block devices. Slots are the images in their order, from 0.
+Reads and writes RAID metadata in the SNIA Common RAID Disk Data Format (DDF) on disk
+images. Slots are the images in their order, from 0.
 
 Commands:
-  examine    show what each disk holds; nothing is written
+  examine          show what each disk holds; nothing is written
+  label [SLOT..]   make a new group of these blank disks, or of all
 
-Exit status: 0 done, 2 words that are no command's, 3 a disk failed, 5 no memory,
-6 the input or the output failed.
+Exit status: 0 done, 1 refused, 2 words that are no command's, 3 a disk failed,
+5 no memory, 6 the input or the output failed.
 ";
 
 const VERSION: &str = "ddf 0.1.0\n";

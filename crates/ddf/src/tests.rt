@@ -3,4 +3,5 @@ mod copies;
 mod examine;
 mod harness;
 mod headers;
+mod label;
 mod records;

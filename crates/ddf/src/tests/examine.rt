@@ -188,14 +188,6 @@ fn slots_that_are_no_disks_are_told(rt: HostRuntime) -> Result<(), Fail> {
     let alloc = rt.alloc();
     let mut bay = MemoryBay::new(alloc, &[], 0, Vec::new(alloc), None)?;
     assert_told(&rt, alloc, &["--", "examine"], &mut bay, 0, "")?;
-    assert_told(
-        &rt,
-        alloc,
-        &["--", "label"],
-        &mut bay,
-        2,
-        "refused 10 word 1\n",
-    )?;
     let mut bay = MemoryBay::new(alloc, &[SECTORS, 0], 0, Vec::new(alloc), None)?;
     let words = ["d0", "d1", "--", "examine"];
     assert_told(
