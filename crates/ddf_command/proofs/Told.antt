@@ -1,5 +1,5 @@
 -- What is told of a look at a slot.
-use Rattle.std.proofs.Common.{◌≡◌, ℕ, List, false, Result, Ok, Err, refl}
+use Rattle.std.proofs.Common.{◌≡◌, ⊎_elim, inl, inr, ℕ, List, false, Result, Ok, Err, refl}
 use Rattle.std.specs.Prelude.{IfOk, OnOk, slice_index}
 use Rattle.std.specs.Result.{is_err}
 use Rattle.ddf_bay.specs.Sectors.{Image}
@@ -9,6 +9,7 @@ use Rattle.ddf_copy.specs.declared.fault.ShowFault.TheVariants.{Disk, Memory}
 use Rattle.ddf_copy.specs.Faults.{show_failed}
 use Rattle.ddf_command.specs.Disk.{disk_view}
 use Rattle.ddf_command.specs.Examine.{one_text}
+use Rattle.ddf_command.specs.Tells.{ClosesWith, EndsWith}
 use Rattle.ddf_command.specs.Report.{IsTold, report_text}
 
 pub told_text : (slot size : ℕ) (sizes : List ℕ) (held : Image) (view : Result DiskView ShowFault) → size ≡ slice_index sizes slot → IsTold view
@@ -21,3 +22,7 @@ told_text slot size sizes held (Err Memory) e told is = absurd told
 pub on_ok : {T E P : Type 0} (result : Result T E) → is_err result ≡ false → OnOk result P → P
 on_ok (Ok x) e holds = holds
 on_ok (Err fault) e holds = cc
+
+-- what a call tells without memory it tells
+pub closes_ends : {expected : ℕ} {text : List ℕ} {told : Type 0} {before after : List ℕ} {status : ℕ} → ClosesWith expected text told before after status → EndsWith expected text told before after status
+closes_ends closes = record { ends = ⊎_elim inl (λ six. inr (inr six)) closes.ends; tells = closes.tells }

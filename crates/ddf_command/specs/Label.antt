@@ -12,7 +12,7 @@ use Rattle.ddf_command.specs.declared.failure.Failure.TheVariants.{Disk, Memory,
 use Rattle.ddf_command.specs.declared.refusal.Refusal.{Refusal}
 use Rattle.ddf_command.specs.Answers.{IsToldFailure}
 use Rattle.ddf_command.specs.Labels.{chosen, label_refusal}
-use Rattle.ddf_command.specs.Tells.{EndsWith}
+use Rattle.ddf_command.specs.Tells.{ClosesWith}
 
 -- the slots to label on a bay of these sizes
 abbrev pub label_slots : List ℕ → (named : List ℕ) → List ℕ
@@ -37,7 +37,7 @@ IsTried sizes held may_hold moment left_since failed_reads failed_writes sectors
 
 -- what is told of it, and with which status
 abbrev pub IsToldLabel : Result (Unit {0}) Failure → (told : Type 0) → (before after : List ℕ) → (status : ℕ) → Type 0
-IsToldLabel (Ok done) told before after status = EndsWith 0 (codes "ok sequence 1\n") told before after status
+IsToldLabel (Ok done) told before after status = ClosesWith 0 (codes "ok sequence 1\n") told before after status
 IsToldLabel (Err failure) told before after status = IsToldFailure failure told before after status
 
 -- It did this, and said so. A stop leaves each slot as it might have left it before, or blank, or with its copy. Where it is to

@@ -15,3 +15,8 @@ IsCutShort status = (status ≡ 5) ⊎ (status ≡ 6)
 pub record EndsWith (expected : ℕ) (text : List ℕ) (told : Type 0) (before after : List ℕ) (status : ℕ) : Type 0 where
   pub ends : (status ≡ expected) ⊎ IsCutShort status
   pub tells : told → Tells status before after text
+
+-- A call that takes no memory any more tells this text and ends with this status, unless the output gives out.
+pub record ClosesWith (expected : ℕ) (text : List ℕ) (told : Type 0) (before after : List ℕ) (status : ℕ) : Type 0 where
+  pub ends : (status ≡ expected) ⊎ (status ≡ 6)
+  pub tells : told → Tells status before after text

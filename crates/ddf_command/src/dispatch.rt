@@ -1,5 +1,5 @@
 // The call that the program makes.
-ghost use Rattle.std.specs.Prelude.{◌≡◌, ◌⊎◌, ◌≤◌, ℕ, true, length};
+ghost use Rattle.std.specs.Prelude.{◌≡◌, ◌⊎◌, ℕ, true, length};
 ghost use Rattle.ddf_bay.specs.ReadsOnly.{ReadsOnly};
 ghost use Rattle.ddf_command.specs.declared.command.Asked.{Asked};
 ghost use Rattle.ddf_command.specs.Refusal.{words_refusal};

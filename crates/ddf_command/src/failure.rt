@@ -1,17 +1,15 @@
 // Why a command isn't done.
-ghost use Rattle.std.specs.Prelude.{◌≡◌, ◌<◌};
+ghost use Rattle.std.specs.Prelude.{◌≡◌};
 ghost use Rattle.ddf_command.specs.Answers.{IsToldFailure};
-ghost use Rattle.ddf_command.specs.Refusal.{disk_fault_line, refusal_line};
+ghost use Rattle.ddf_command.specs.Refusal.{disk_fault_line};
 ghost use Rattle.ddf_command.specs.Run.{SinkRose};
 ghost use Rattle.ddf_command.specs.Status.{code_of};
-ghost use Rattle.ddf_command.specs.Tells.{EndsWith};
 
 use crate::refusal::Refusal;
 use crate::status::Status;
 use crate::tell::tell;
 use arrayvec::ArrayString;
-use ddf_bay::DiskFault;
-use ddf_bytes::{NoMemory, Sink};
+use ddf_bytes::Sink;
 use itoa::Buffer;
 use std::alloc::Global;
 
@@ -24,14 +22,6 @@ pub(crate) enum Failure {
     Disk(usize),
     /// Memory ran out.
     Memory,
-}
-
-impl From<NoMemory> for Failure {
-    fn from(_: NoMemory) -> Failure
-        ensures { result ≡ Failure.Memory }
-    {
-        Failure::Memory
-    }
 }
 
 /// Prints why a command isn't done, and answers its status. It takes memory for a refusal alone.

@@ -1,5 +1,3 @@
-ghost use Rattle.std.specs.Prelude.{◌≡◌};
-
 use std::fmt;
 
 /// Why a command isn't done though its words are good. Nothing is written then.

@@ -2,15 +2,15 @@
 ghost use Rattle.std.specs.Prelude.{◌≡◌, ◌<◌};
 ghost use Rattle.ddf_command.specs.Run.{SinkRose};
 ghost use Rattle.ddf_command.specs.Status.{code_of};
-ghost use Rattle.ddf_command.specs.Tells.{EndsWith};
+ghost use Rattle.ddf_command.specs.Tells.{ClosesWith};
 
 use crate::status::Status;
 use ddf_bytes::{Sink, write_all};
 
-/// Prints a text, with which a command ends with this status.
+/// Prints a text, with which a command ends with this status. It takes no memory.
 pub(crate) fn tell<K: Sink>(sink: &mut K, text: &[u8], status: Status) -> Status
     requires { code_of status < 5 }
-    ensures ends { EndsWith (code_of status) text.now K.tells (K.taken sink.old) (K.taken sink.new) (code_of result) }
+    ensures ends { ClosesWith (code_of status) text.now K.tells (K.taken sink.old) (K.taken sink.new) (code_of result) }
     ensures stream { result ≡ Status.Stream → SinkRose K.faults K.empty_takes sink.old sink.new }
 {
     match write_all(sink, text) {
