@@ -100,6 +100,6 @@ done_nothing sizes held may_hold moment left_since failed_reads failed_writes se
   answer = Err Memory;
   tried = reads_start old;
   ends = (refl, λ told. refl);
-  any_moment = λ tells. stops_start old (IsLeftFoundingAll (sizes old) (may_hold old) (label_slots (sizes old) slots) (label_copy stamp (sizes old) slots));
+  any_moment = λ tells. stops_start old (IsLeftFoundingAll (sizes old) (may_hold old) (held old) (label_slots (sizes old) slots) (label_copy stamp (sizes old) slots));
   refused = λ tells refusal is. reads_start old;
 }

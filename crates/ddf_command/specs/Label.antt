@@ -40,11 +40,11 @@ abbrev pub IsToldLabel : Result (Unit {0}) Failure → (told : Type 0) → (befo
 IsToldLabel (Ok done) told before after status = ClosesWith 0 (codes "ok sequence 1\n") told before after status
 IsToldLabel (Err failure) told before after status = IsToldFailure failure told before after status
 
--- It did this, and said so. A stop leaves each slot as it might have left it before, or blank, or with its copy. Where it is to
--- be refused nothing is written, whatever it answers.
+-- It did this, and said so. A stop leaves each slot as it might have left it before, or blank, or with its copy, and no sector
+-- before both places of the copy is written. Where it is to be refused nothing is written, whatever it answers.
 pub record IsLabelled {D : Type 0} (sizes : D → List ℕ) (held : D → Image) (may_hold : D → Outcomes) (moment : D → ℕ) (left_since : D → ℕ → Image → Type 0) (failed_reads failed_writes : D → ℕ → ℕ) (sectors_written : D → ℕ) (old new : D) (tells told : Type 0) (before after : List ℕ) (stamp : Stamp) (named : List ℕ) (status : ℕ) : Type 0 where
   pub answer : Result (Unit {0}) Failure
   pub tried : IsTried sizes held may_hold moment left_since failed_reads failed_writes sectors_written old new tells stamp named answer
   pub ends : IsToldLabel answer told before after status
-  pub any_moment : tells → StopsLeave moment left_since old new (IsLeftFoundingAll (sizes old) (may_hold old) (label_slots (sizes old) named) (label_copy stamp (sizes old) named))
+  pub any_moment : tells → StopsLeave moment left_since old new (IsLeftFoundingAll (sizes old) (may_hold old) (held old) (label_slots (sizes old) named) (label_copy stamp (sizes old) named))
   pub refused : tells → (refusal : Refusal) → label_refusal (sizes old) (held old) named ≡ Some refusal → ReadsOnly sizes held may_hold moment left_since sectors_written old new

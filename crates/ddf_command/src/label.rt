@@ -39,7 +39,7 @@ pub(crate) fn label<B: Bay, K: Sink>(
 /// Makes all sectors, and then writes them.
 fn labelled<B: Bay>(alloc: Global, named: &[u8], bay: &mut B, stamp: &Stamp) -> Result<(), Failure>
     ensures tried { IsTried B.sizes B.held B.may_hold B.moment B.left_since B.failed_reads B.failed_writes B.sectors_written bay.old bay.new B.tells stamp.now named.now result }
-    ensures any_moment { B.tells → StopsLeave B.moment B.left_since bay.old bay.new (IsLeftFoundingAll (B.sizes bay.old) (B.may_hold bay.old) (label_slots (B.sizes bay.old) named.now) (label_copy stamp.now (B.sizes bay.old) named.now)) }
+    ensures any_moment { B.tells → StopsLeave B.moment B.left_since bay.old bay.new (IsLeftFoundingAll (B.sizes bay.old) (B.may_hold bay.old) (B.held bay.old) (label_slots (B.sizes bay.old) named.now) (label_copy stamp.now (B.sizes bay.old) named.now)) }
     ensures refused { B.tells → (refusal : Refusal) → label_refusal (B.sizes bay.old) (B.held bay.old) named.now ≡ Some refusal → ReadsOnly B.sizes B.held B.may_hold B.moment B.left_since B.sectors_written bay.old bay.new }
 {
     let slots = match fit_slots(alloc, named, bay) {

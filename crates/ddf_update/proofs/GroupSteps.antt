@@ -8,17 +8,20 @@ use Rattle.ddf_bay.specs.Moments.{StopsLeave}
 use Rattle.ddf_bay.proofs.Steps.{stops_then}
 use Rattle.ddf_header.specs.declared.reading.Header.{Header}
 use Rattle.ddf_copy.specs.declared.copy.DiskCopy.{DiskCopy}
-use Rattle.ddf_copy.specs.declared.which.Which.TheVariants.{Primary}
+use Rattle.ddf_copy.specs.declared.which.Which.TheVariants.{Primary, Secondary}
 use Rattle.ddf_copy.specs.declared.fault.AnchorFault.TheVariants.{Blank}
 use Rattle.ddf_copy.specs.Anchor.{anchor_at}
 use Rattle.ddf_copy.specs.Copies.{newest_of}
-use Rattle.ddf_copy.specs.Headers.{anchor_header}
+use Rattle.ddf_copy.specs.Headers.{IsUnder, anchor_header}
 use Rattle.ddf_copy.specs.Shows.{IsNewest, Shows}
 use Rattle.ddf_copy.proofs.LevelCopies.{written_same}
+use Rattle.ddf_update.specs.declared.prepared.Mode.TheVariants.{Found}
 use Rattle.ddf_update.specs.declared.prepared.Prepared.{Prepared}
+use Rattle.ddf_update.specs.Prepared.{IsPrepared}
 use Rattle.ddf_update.specs.Gate.{StopsLeaveSince}
-use Rattle.ddf_update.specs.Group.{AreFounded, AreSlots, IsLeftFoundingAll, MayFoundAll}
+use Rattle.ddf_update.specs.Group.{AreFounded, AreSlots, IsBefore, IsLeftFoundingAll, MayFoundAll}
 use Rattle.ddf_update.specs.Update.{AreBoth, IsBlankOrNew, IsNowFounded, MayFound}
+use Rattle.ddf_update.proofs.Before.{not_written}
 
 -- a disk with the copy in both places shows it
 both_show : (size : ℕ) (sector : ℕ → List ℕ) (anchor : Header) (copy : DiskCopy) → AreBoth size sector anchor copy → Shows size sector copy
@@ -46,22 +49,39 @@ module _ {D : Type 0} {held : D → Image} {may_hold : D → Outcomes} (sizes sl
     | inr later ↦ inl (λ l. so_far.others_left slot l (image slot l) (later_differs sizes slots are count place slot later here) (left l))
   ]
 
+  -- and of its sectors before both places of its copy
+  before_between : (old now : D) (count : ℕ) → AreFounded held may_hold old now sizes slots copy count → (image : Image) (place slot l : ℕ) → slice_get slots place ≡ Some slot → IsBefore (copy place) l → may_hold now slot l (image slot l)
+      → (image slot l ≡ held old slot l) ⊎ may_hold old slot l (image slot l)
+  before_between old now count so_far image place slot l here front left = elim (cases_lt place count) [
+    | inl earlier ↦ inl (so_far.are_settled place slot earlier here l (image slot l) left ∙ so_far.before place slot l earlier here front)
+    | inr later ↦ inr (so_far.others_left slot l (image slot l) (later_differs sizes slots are count place slot later here) left)
+  ]
+
   -- a stop between two disks
-  image_between : (old now : D) (count : ℕ) → AreFounded held may_hold old now sizes slots copy count → (image : Image) → IsLeft (may_hold now) image → IsLeftFoundingAll sizes (may_hold old) slots copy image
+  image_between : (old now : D) (count : ℕ) → AreFounded held may_hold old now sizes slots copy count → (image : Image) → IsLeft (may_hold now) image → IsLeftFoundingAll sizes (may_hold old) (held old) slots copy image
   image_between old now count so_far image left = record {
     each = λ place slot here. left_between old now count so_far image place slot here (left slot);
+    before = λ place slot l here front. before_between old now count so_far image place slot l here front (left slot l);
     others = λ s l none. so_far.others_left s l (image s l) (λ place earlier. none place) (left s l);
   }
 
   -- a stop while the next disk is written
-  image_within : (old now : D) (count slot : ℕ) (update : Prepared) → AreFounded held may_hold old now sizes slots copy count → slice_get slots count ≡ Some slot → (image : Image)
-      → IsBlankOrNew (slice_index sizes slot) (may_hold now) (held now) slot update (copy count) image → IsLeftFoundingAll sizes (may_hold old) slots copy image
-  image_within old now count slot update so_far at image left = record {
+  image_within : (old now : D) (count slot : ℕ) (update : Prepared) → AreFounded held may_hold old now sizes slots copy count → slice_get slots count ≡ Some slot → IsPrepared (copy count) Secondary Found update → IsUnder (slice_index sizes slot) (anchor_header (copy count)) (copy count) → (image : Image)
+      → IsBlankOrNew (slice_index sizes slot) (may_hold now) (held now) slot update (copy count) image → IsLeftFoundingAll sizes (may_hold old) (held old) slots copy image
+  image_within old now count slot update so_far at is under image left = record {
     each = λ place other here. elim (cases_eq other slot) [
       | inl same ↦
           let place_is : place ≡ count = are.differ place count slot (rw same at here) at in
           rw (same, place_is) (⊎_elim (λ blank. inr (inl blank)) (λ shows. inr (inr shows)) left.shows)
       | inr differ ↦ left_between old now count so_far image place other here (λ l. left.other_slots other l differ)
+    ];
+    before = λ place other l here front. elim (cases_eq other slot) [
+      | inl same ↦
+          let place_is : place ≡ count = are.differ place count slot (rw same at here) at in
+          let stays : held now slot l ≡ held old slot l = so_far.others slot l (later_differs sizes slots are count count slot (omega arith) at) in
+          let written = not_written (slice_index sizes slot) (copy count) update is under l (rw place_is at front) in
+          rw same (inl (⊎_elim (λ as_held. as_held ∙ stays) (λ there. absurd (written there)) (left.outside l)))
+      | inr differ ↦ before_between old now count so_far image place other l here front (left.other_slots other l differ)
     ];
     others = λ s l none.
         let differ : s ≢ slot = λ (same : s ≡ slot). none count (rw same at) in
@@ -70,17 +90,19 @@ module _ {D : Type 0} {held : D → Image} {may_hold : D → Outcomes} (sizes sl
 
 module _ {D : Type 0} {held : D → Image} {may_hold : D → Outcomes} {moment : D → ℕ} {left_since : D → ℕ → Image → Type 0} (sizes slots : List ℕ) (copy : ℕ → DiskCopy) (are : AreSlots sizes slots) where
   pub group_stops : (old now next : D) (count slot : ℕ) (update : Prepared) → AreFounded held may_hold old now sizes slots copy count → slice_get slots count ≡ Some slot
-      → StopsLeave moment left_since old now (IsLeftFoundingAll sizes (may_hold old) slots copy)
+      → IsPrepared (copy count) Secondary Found update → IsUnder (slice_index sizes slot) (anchor_header (copy count)) (copy count)
+      → StopsLeave moment left_since old now (IsLeftFoundingAll sizes (may_hold old) (held old) slots copy)
       → StopsLeave moment left_since now next (IsLeft (may_hold now)) ⊎ StopsLeaveSince may_hold moment left_since now next (IsBlankOrNew (slice_index sizes slot) (may_hold now) (held now) slot update (copy count))
-      → StopsLeave moment left_since old next (IsLeftFoundingAll sizes (may_hold old) slots copy)
-  group_stops old now next count slot update so_far at before step = ⊎_elim
+      → StopsLeave moment left_since old next (IsLeftFoundingAll sizes (may_hold old) (held old) slots copy)
+  group_stops old now next count slot update so_far at is under before step = ⊎_elim
       (λ none. stops_then before none (image_between sizes slots copy are old now count so_far))
-      (λ since. stops_then before since.any_moment (λ image left. ⊎_elim (image_between sizes slots copy are old now count so_far image) (image_within sizes slots copy are old now count slot update so_far at image) left))
+      (λ since. stops_then before since.any_moment (λ image left. ⊎_elim (image_between sizes slots copy are old now count so_far image) (image_within sizes slots copy are old now count slot update so_far at is under image) left))
       step
 
   pub group_founded : (old now next : D) (count slot : ℕ) (update : Prepared) → AreFounded held may_hold old now sizes slots copy count → slice_get slots count ≡ Some slot
+      → IsPrepared (copy count) Secondary Found update → IsUnder (slice_index sizes slot) (anchor_header (copy count)) (copy count)
       → IsNowFounded held may_hold moment left_since now next (slice_index sizes slot) slot update (copy count) → AreFounded held may_hold old next sizes slots copy (count + 1)
-  group_founded old now next count slot update so_far at one = record {
+  group_founded old now next count slot update so_far at is under one = record {
     are_both = λ place other lt here. elim (cases_eq place count) [
       | inl same ↦ let slot_is : other ≡ slot = some_is other slot (sym here ∙ ap (slice_get slots) same ∙ at) in rw (same, slot_is) one.are_both
       | inr differ ↦
@@ -91,6 +113,14 @@ module _ {D : Type 0} {held : D → Image} {may_hold : D → Outcomes} {moment :
       | inl same ↦ let slot_is : other ≡ slot = some_is other slot (sym here ∙ ap (slice_get slots) same ∙ at) in rw slot_is one.is_settled
       | inr differ ↦ λ l bytes may.
           so_far.are_settled place other (omega (arith, lt, differ)) here l bytes (one.others_left other l bytes (apart place other here differ) may) ∙ sym (one.other_slots other l (apart place other here differ))
+    ];
+    before = λ place other l lt here front. elim (cases_eq place count) [
+      | inl same ↦
+          let slot_is : other ≡ slot = some_is other slot (sym here ∙ ap (slice_get slots) same ∙ at) in
+          let stays : held now slot l ≡ held old slot l = so_far.others slot l (later_differs sizes slots are count count slot (omega arith) at) in
+          let written = not_written (slice_index sizes slot) (copy count) update is under l (rw same at front) in
+          rw slot_is (⊎_elim (λ as_held. as_held ∙ stays) (λ there. absurd (written there)) (one.outside l))
+      | inr differ ↦ one.other_slots other l (apart place other here differ) ∙ so_far.before place other l (omega (arith, lt, differ)) here front
     ];
     others = λ s l none.
         let differ : s ≢ slot = λ (same : s ≡ slot). none count (omega arith) (rw same at) in

@@ -9,6 +9,7 @@ pub mod Changing
 pub mod Anchored
 pub mod FoundingShows
 pub mod Lies
+pub mod Before
 pub mod GroupSteps
 pub mod NewBytes
 pub mod NewRoom

@@ -39,17 +39,24 @@ pub record MayFoundAll (sizes : List ℕ) (held : Image) (slots : List ℕ) (cop
   pub are_under : (place slot : ℕ) → slice_get slots place ≡ Some slot → IsUnder (slice_index sizes slot) (anchor_header (copy place)) (copy place)
   pub are_prepared : (place : ℕ) (update : Prepared) → slice_get updates place ≡ Some update → IsPrepared (copy place) Secondary Found update
 
--- A stop leaves each of the slots as it might have left it at the start, or blank, or it shows the copy at its place. Other
--- slots are as they might be left.
-pub record IsLeftFoundingAll (sizes : List ℕ) (may : Outcomes) (slots : List ℕ) (copy : ℕ → DiskCopy) (image : Image) : Type 0 where
+-- a sector before both places of a copy
+abbrev pub IsBefore : DiskCopy → ℕ → Type 0
+IsBefore copy l = (l < copy.header.primary_lba) × (l < copy.header.secondary_lba)
+
+-- A stop leaves each of the slots as it might have left it at the start, or blank, or it shows the copy at its place. The
+-- sectors before both places of this copy are as they were, or as they might be left. Other slots are as they might be left.
+pub record IsLeftFoundingAll (sizes : List ℕ) (may : Outcomes) (held : Image) (slots : List ℕ) (copy : ℕ → DiskCopy) (image : Image) : Type 0 where
   pub each : (place slot : ℕ) → slice_get slots place ≡ Some slot
       → ((l : ℕ) → may slot l (image slot l)) ⊎ (anchor_at (slice_index sizes slot) (image slot) ≡ Err Blank) ⊎ Shows (slice_index sizes slot) (image slot) (copy place)
+  pub before : (place slot l : ℕ) → slice_get slots place ≡ Some slot → IsBefore (copy place) l → (image slot l ≡ held slot l) ⊎ may slot l (image slot l)
   pub others : (s l : ℕ) → ((place : ℕ) → slice_get slots place ≢ Some s) → may s l (image s l)
 
--- The first slots, so many, have their anchors and copies, sure. All others are as they were.
+-- The first slots, so many, have their anchors and copies, sure, and the sectors before these stay. All other slots are as
+-- they were.
 pub record AreFounded {D : Type 0} (held : D → Image) (may_hold : D → Outcomes) (old new : D) (sizes slots : List ℕ) (copy : ℕ → DiskCopy) (count : ℕ) : Type 0 where
   pub are_both : (place slot : ℕ) → place < count → slice_get slots place ≡ Some slot → AreBoth (slice_index sizes slot) (held new slot) (anchor_header (copy place)) (copy place)
   pub are_settled : (place slot : ℕ) → place < count → slice_get slots place ≡ Some slot → IsSettled (may_hold new) (held new) slot
+  pub before : (place slot l : ℕ) → place < count → slice_get slots place ≡ Some slot → IsBefore (copy place) l → held new slot l ≡ held old slot l
   pub others : (s l : ℕ) → ((place : ℕ) → place < count → slice_get slots place ≢ Some s) → held new s l ≡ held old s l
   pub others_left : (s l : ℕ) (bytes : List ℕ) → ((place : ℕ) → place < count → slice_get slots place ≢ Some s) → may_hold new s l bytes → may_hold old s l bytes
 

@@ -72,7 +72,7 @@ pub fn found_disks<B: Bay>(
 ) -> Result<(), DiskFault>
     requires { LieOnSlots (B.sizes bay.old) slots.now updates.now }
     ensures any_moment { B.tells → (copy : ℕ → DiskCopy) → MayFoundAll (B.sizes bay.old) (B.held bay.old) slots.now copy updates.now
-        → StopsLeave B.moment B.left_since bay.old bay.new (IsLeftFoundingAll (B.sizes bay.old) (B.may_hold bay.old) slots.now copy) }
+        → StopsLeave B.moment B.left_since bay.old bay.new (IsLeftFoundingAll (B.sizes bay.old) (B.may_hold bay.old) (B.held bay.old) slots.now copy) }
     ensures founded { B.tells → (copy : ℕ → DiskCopy) → MayFoundAll (B.sizes bay.old) (B.held bay.old) slots.now copy updates.now
         → OnOk result (AreFounded B.held B.may_hold bay.old bay.new (B.sizes bay.old) slots.now copy (length slots.now)) }
     ensures sizes { B.sizes bay.new ≡ B.sizes bay.old }

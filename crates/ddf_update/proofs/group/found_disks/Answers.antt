@@ -29,7 +29,7 @@ returns-in_err-write_disk-clause-any_moment g c = λ tells copy may.
     let so_far = c.loop-place.invariant.founded tells copy may in
     let one = next_blank sizes slots copy c.requires.are_slots c.args.updates.now c.args.bay.now c.loop-place.bay place slot may so_far here in
     let step = rw c.loop-place.invariant.sizes at (c.write_disk.ensures.found tells Secondary (copy place) (may.are_prepared place update there) (rw c.loop-place.invariant.sizes one)) in
-    group_stops sizes slots copy c.requires.are_slots c.args.bay.now c.loop-place.bay c.write_disk.new.bay place slot update so_far here (c.loop-place.invariant.any_moment tells copy may) step
+    group_stops sizes slots copy c.requires.are_slots c.args.bay.now c.loop-place.bay c.write_disk.new.bay place slot update so_far here (may.are_prepared place update there) (may.are_under place slot here) (c.loop-place.invariant.any_moment tells copy may) step
 
 pub returns-in_err-write_disk-clause-failed : goal.returns-in_err-write_disk-clause-failed
 returns-in_err-write_disk-clause-failed g c =
@@ -54,12 +54,12 @@ loop-place-preserved g c =
           let so_far = c.loop-place.invariant.founded tells copy may in
           let one = next_blank sizes slots copy c.requires.are_slots c.args.updates.now c.args.bay.now c.loop-place.bay place slot may so_far here in
           let step = rw c.loop-place.invariant.sizes at (c.write_disk.ensures.found tells Secondary (copy place) (may.are_prepared place update there) (rw c.loop-place.invariant.sizes one)) in
-          group_stops sizes slots copy c.requires.are_slots c.args.bay.now c.loop-place.bay c.write_disk.new.bay place slot update so_far here (c.loop-place.invariant.any_moment tells copy may) step;
+          group_stops sizes slots copy c.requires.are_slots c.args.bay.now c.loop-place.bay c.write_disk.new.bay place slot update so_far here (may.are_prepared place update there) (may.are_under place slot here) (c.loop-place.invariant.any_moment tells copy may) step;
       founded = λ tells copy may.
           let so_far = c.loop-place.invariant.founded tells copy may in
           let one = next_blank sizes slots copy c.requires.are_slots c.args.updates.now c.args.bay.now c.loop-place.bay place slot may so_far here in
           let done = rw c.loop-place.invariant.sizes at (c.in_ok-write_disk.ensures.founded tells Secondary (copy place) (may.are_prepared place update there) (rw c.loop-place.invariant.sizes one)) in
-          group_founded sizes slots copy c.requires.are_slots c.args.bay.now c.loop-place.bay c.write_disk.new.bay place slot update so_far here done;
+          group_founded sizes slots copy c.requires.are_slots c.args.bay.now c.loop-place.bay c.write_disk.new.bay place slot update so_far here (may.are_prepared place update there) (may.are_under place slot here) done;
       sizes = c.write_disk.ensures.spends.same_sizes ∙ c.loop-place.invariant.sizes;
       reads = c.write_disk.ensures.spends.same ∙ c.loop-place.invariant.reads;
       writes = c.in_ok-write_disk.ensures.ok ∙ c.loop-place.invariant.writes;
