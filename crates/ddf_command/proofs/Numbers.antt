@@ -1,56 +1,41 @@
 -- The numbers of slots in decimal.
-use Rattle.std.proofs.Common.{◌≡◌, inl, inr, ⊎_elim, ℕ, ◌+◌, ◌-◌, ◌*◌, ◌/◌, ◌%◌, ◌<◌, ◌≤◌, ◌⊎◌, List, [], ◌∷◌, ◌++◌, length, get_or, ap, sym, ◌∙◌, arith}
+use Rattle.std.proofs.Common.{◌≡◌, ℕ, ◌<◌, ◌≤◌, List, [], length, get_or, true, false, Option, Some, None, ap, sym, ◌∙◌, refl, arith}
 use Rattle.std.specs.Fmt.{decimal}
-use Rattle.std.proofs.lemmas.Bool.{cases_lt}
-use Rattle.std.proofs.lemmas.Fmt.{decimal_digit, decimal_step, decimal_injective}
+use Rattle.std.specs.List.{All, range_with_len}
+use Rattle.std.specs.Str.{bytes_eq}
+use Rattle.std.proofs.lemmas.Bool.{true≢false}
+use Rattle.std.proofs.lemmas.Fmt.{decimal_injective}
 use Rattle.std.proofs.lemmas.List.{get_or-map, length-map}
+use Rattle.std.proofs.lemmas.List.FromFn.{get_or-range_with_len, length-range_with_len}
+use Rattle.std.proofs.lemmas.Slice.Eq.{bytes_eq-Decides}
 use Rattle.std.proofs.Math.Seq.{ext_get_or}
-use Rattle.ddf_command.specs.Words.{Word, AreSlotWords}
-
-two_digits : (n : ℕ) → 10 ≤ n → n < 100 → decimal n ≡ (48 + n / 10) ∷ (48 + n % 10) ∷ []
-two_digits n ten small = decimal_step n ten (omega arith) ∙ ap (λ (ds : List ℕ). ds ++ ((48 + n % 10) ∷ [])) (decimal_digit (n / 10) (omega arith))
-
--- a word of one digit
-pub one_digit_word : (bs : List ℕ) → length bs ≡ 1 → 48 ≤ get_or bs 0 0 → get_or bs 0 0 ≤ 57 → bs ≡ decimal (get_or bs 0 0 - 48)
-one_digit_word [] long low high = absurd (omega (arith, long))
-one_digit_word (x ∷ []) long low high = sym (decimal_digit (x - 48) (omega arith) ∙ ap (λ (n : ℕ). n ∷ []) (omega arith))
-one_digit_word (x ∷ y ∷ more) long low high = absurd (omega (arith, long))
-
--- a word of two digits, of which the first isn't 0
-pub two_digit_word : (bs : List ℕ) → length bs ≡ 2 → 49 ≤ get_or bs 0 0 → get_or bs 0 0 ≤ 57 → 48 ≤ get_or bs 1 0 → get_or bs 1 0 ≤ 57
-    → bs ≡ decimal ((get_or bs 0 0 - 48) * 10 + (get_or bs 1 0 - 48))
-two_digit_word [] long low high low' high' = absurd (omega (arith, long))
-two_digit_word (x ∷ []) long low high low' high' = absurd (omega (arith, long))
-two_digit_word (x ∷ y ∷ []) long low high low' high' =
-    let n : ℕ = (x - 48) * 10 + (y - 48) in
-    let ten : 48 + n / 10 ≡ x = omega arith in
-    let one : 48 + n % 10 ≡ y = omega arith in
-    sym (two_digits n (omega arith) (omega arith) ∙ ap (λ (d : ℕ). d ∷ (48 + n % 10) ∷ []) ten ∙ ap (λ (d : ℕ). x ∷ d ∷ []) one)
-two_digit_word (x ∷ y ∷ z ∷ more) long low high low' high' = absurd (omega (arith, long))
-
--- The word is one digit.
-pub record IsOneDigit (bs : List ℕ) (n : ℕ) : Type 0 where
-  pub long : length bs ≡ 1
-  pub small : n < 10
-  pub digit : get_or bs 0 0 ≡ 48 + n
-
--- The word is two digits, of which the first isn't 0.
-pub record IsTwoDigits (bs : List ℕ) (n : ℕ) : Type 0 where
-  pub long : length bs ≡ 2
-  pub great : 10 ≤ n
-  pub ten : get_or bs 0 0 ≡ 48 + n / 10
-  pub one : get_or bs 1 0 ≡ 48 + n % 10
-
-pub digits_of_slot : (bs : List ℕ) (n : ℕ) → n ≤ 63 → bs ≡ decimal n → IsOneDigit bs n ⊎ IsTwoDigits bs n
-digits_of_slot bs n le e = ⊎_elim
-    (λ below. let is = e ∙ decimal_digit n below in inl (record { long = ap length is; small = below; digit = ap (λ (ds : List ℕ). get_or ds 0 0) is }))
-    (λ great. let is = e ∙ two_digits n great (omega arith) in
-    inr (record { long = ap length is; great = great; ten = ap (λ (ds : List ℕ). get_or ds 0 0) is; one = ap (λ (ds : List ℕ). get_or ds 1 0) is }))
-    (cases_lt n 10)
+use Rattle.ddf_command.proofs.Finds.{found_is, found_passes, none_is}
+use Rattle.ddf_command.specs.Words.{Word, AreSlotWords, slot_of}
 
 -- two numbers of slots that are written alike
 pub same_slot : (m n : ℕ) → m ≤ 63 → n ≤ 63 → decimal m ≡ decimal n → m ≡ n
 same_slot m n small small' e = decimal_injective m n (omega arith) (omega arith) e
+
+small_numbers : All (λ slot. slot ≤ 63) (range_with_len 0 64)
+small_numbers k d lt = rw (get_or-range_with_len 0 64 k d lt) (omega (arith, lt, length-range_with_len 0 64))
+
+pub slot_found : (word : List ℕ) (slot : ℕ) → slot_of word ≡ Some slot → (word ≡ decimal slot) × (slot ≤ 63)
+slot_found word slot found =
+    let test = found_passes (λ n. bytes_eq word (decimal n)) (range_with_len 0 64) slot found in
+    ((bytes_eq-Decides word (decimal slot)).0 test, found_is (λ n. n ≤ 63) (λ n. bytes_eq word (decimal n)) (range_with_len 0 64) slot small_numbers found)
+
+first_is : (word : List ℕ) (slot : ℕ) → slot ≤ 63 → word ≡ decimal slot → (found : Option ℕ) → slot_of word ≡ found → found ≡ Some slot
+first_is word slot small is None none =
+    let fails : bytes_eq word (decimal (get_or (range_with_len 0 64) slot 0)) ≡ false = none_is (λ n. bytes_eq word (decimal n)) (range_with_len 0 64) none slot 0 (omega (arith, small, length-range_with_len 0 64)) in
+    let here : get_or (range_with_len 0 64) slot 0 ≡ slot = get_or-range_with_len 0 64 slot 0 (omega (arith, small)) ∙ omega arith in
+    let holds : bytes_eq word (decimal slot) ≡ true = (bytes_eq-Decides word (decimal slot)).1 is in
+    absurd (true≢false (sym holds ∙ rw here at fails))
+first_is word slot small is (Some other) found =
+    let at = slot_found word other found in
+    ap Some (same_slot other slot at.1 small (sym at.0 ∙ is))
+
+pub slot_every : (word : List ℕ) (slot : ℕ) → slot ≤ 63 → word ≡ decimal slot → slot_of word ≡ Some slot
+slot_every word slot small is = first_is word slot small is (slot_of word) refl
 
 module _ (slots : List ℕ) (words : List Word) (are : AreSlotWords slots words) where
   pub many_slots : length words ≡ length slots

@@ -1,6 +1,6 @@
 -- The words of `ddf`: which lists of words ask for which command, and where other words go wrong.
 use Rattle.std.specs.Prelude.{◌≡◌, ◌≢◌, ℕ, ◌≤◌, ◌<◌, List, [], ◌∷◌, ◌++◌, length, map, take, slice_index_or, Bool, nat_le, Option, Some, None, codes, string_bytes, if◌then◌else◌}
-use Rattle.std.specs.List.{position}
+use Rattle.std.specs.List.{find, position, range_with_len}
 use Rattle.std.specs.Str.{bytes_eq}
 use Rattle.std.specs.Fmt.{decimal}
 use Rattle.std.specs.declared.string.String.{String}
@@ -38,6 +38,10 @@ pub record AreSlotWords (slots : List ℕ) (words : List Word) : Type 0 where
   pub spelled : words ≡ map decimal slots
   pub within : (i : ℕ) → i < length slots → slice_index_or slots i 0 ≤ 63
   pub different : (i j : ℕ) → i < j → j < length slots → slice_index_or slots i 0 ≢ slice_index_or slots j 0
+
+-- the slot whose number in decimal a word is
+abbrev pub slot_of : Word → Option ℕ
+slot_of word = find (λ slot. bytes_eq word (decimal slot)) (range_with_len 0 64)
 
 -- The words are `label` and then the numbers of these slots.
 pub record SpellLabel (slots : List ℕ) (words : List Word) : Type 0 where

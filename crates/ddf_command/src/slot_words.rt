@@ -1,28 +1,29 @@
 // The words behind `label`: the numbers of slots.
-ghost use Rattle.std.specs.Prelude.{◌≡◌, ◌≤◌, ℕ, string_bytes, IfOk, IfSome};
+ghost use Rattle.std.specs.Prelude.{◌≡◌, ℕ, string_bytes, IfOk};
 ghost use Rattle.std.specs.Fmt.{decimal};
-ghost use Rattle.ddf_command.specs.Words.{words_of, AreSlotWords, NameSlots, GoWrongAt};
+ghost use Rattle.std.specs.Str.{bytes_eq};
+ghost use Rattle.ddf_command.specs.Words.{words_of, AreSlotWords, NameSlots, GoWrongAt, slot_of};
 
 use crate::words::WordFault;
 use ddf_bytes::Seq;
+use itoa::Buffer;
 use std::alloc::Global;
 
-/// The greatest number of a slot.
-const LAST_SLOT: u8 = 63;
+/// How many slots there are at the most, numbered from 0.
+const MOST_SLOTS: u8 = 64;
 
 /// The slot that a word names: its number in decimal, without a sign and without a leading zero.
 fn slot_of(word: &String) -> Option<u8>
-    ensures found { IfSome result (λ slot. (string_bytes word.now ≡ decimal slot) × (slot ≤ 63)) }
-    ensures every { (slot : ℕ) → slot ≤ 63 → string_bytes word.now ≡ decimal slot → result ≡ Some slot }
+    ensures { result ≡ slot_of (string_bytes word.now) }
 {
-    match word.as_bytes() {
-        [one @ b'0'..=b'9'] => Some(*one - b'0'),
-        [ten @ b'1'..=b'6', one @ b'0'..=b'9'] => {
-            let slot = (*ten - b'0') * 10 + (*one - b'0');
-            if slot <= LAST_SLOT { Some(slot) } else { None }
-        }
-        _ => None,
-    }
+    (0..MOST_SLOTS).find(|slot| is_number(word, *slot))
+}
+
+/// Whether a word is this number.
+fn is_number(word: &String, slot: u8) -> bool
+    ensures { result ≡ bytes_eq (string_bytes word.now) (decimal slot) }
+{
+    Buffer::new().format(slot) == word.as_str()
 }
 
 /// The slots that the words name, or where they go wrong: a word that names none, or one that an earlier word names.

@@ -12,20 +12,20 @@ use Rattle.ddf_header.proofs.Decoded.{decoded_is}
 use Rattle.ddf_configs.proofs.SlotValues.{signature_is}
 use Rattle.ddf_copy.specs.declared.copy.DiskCopy.{DiskCopy}
 use Rattle.ddf_copy.specs.declared.which.Which.{Which}
-use Rattle.ddf_copy.specs.declared.which.Which.TheVariants.{Primary}
+use Rattle.ddf_copy.specs.declared.which.Which.TheVariants.{Primary, Secondary}
 use Rattle.ddf_copy.specs.Anchor.{anchor_at, anchor_in}
 use Rattle.ddf_copy.specs.Copies.{newest_of}
 use Rattle.ddf_copy.specs.Headers.{anchor_header}
-use Rattle.ddf_copy.specs.Runs.{HasCopy}
+use Rattle.ddf_copy.specs.Runs.{AreApart, HasCopy, IsInCopy}
 use Rattle.ddf_copy.specs.Shows.{IsNewest}
 use Rattle.ddf_copy.proofs.LevelCopies.{written_same}
 use Rattle.ddf_copy.proofs.Stands.{place_within}
 use Rattle.ddf_update.specs.declared.prepared.Prepared.{Prepared}
 use Rattle.ddf_update.specs.declared.prepared.Mode.TheVariants.{Found}
-use Rattle.ddf_update.specs.Gate.{IsFounded, IsLeftFounding, StopsLeaveSince}
+use Rattle.ddf_update.specs.Gate.{AreBothApart, IsFounded, IsLeftFounding, StopsLeaveSince}
 use Rattle.ddf_update.specs.Prepared.{IsPrepared}
 use Rattle.ddf_update.specs.Update.{AreBoth, IsBlankOrNew, IsNowFounded, MayFound}
-use Rattle.ddf_update.proofs.Changing.{both_stand, same_anchor}
+use Rattle.ddf_update.proofs.Changing.{are_apart, both_are_apart, both_stand, not_last, same_anchor}
 
 -- an anchor that stands in the last sector is read there
 anchor_stands : (size : ℕ) (sector : ℕ → List ℕ) (anchor : Header) (bytes : List ℕ) → 0 < size → IsHeaderOf Anchor anchor bytes → sector (size - 1) ≡ bytes → anchor_at size sector ≡ Ok anchor
@@ -52,6 +52,17 @@ module _ (size : ℕ) (may : Outcomes) (held : Image) (slot : ℕ) (last : Which
       let within = place_within size (anchor_header new) new Primary can.is_under in
       let anchored = anchor_stands size now (anchor_header new) prepared.anchor (omega (arith, within)) is.anchor_is anchor in
       both_stand size (anchor_header new) new prepared.runs can.is_under is.runs_are Primary prepared.first prepared.second is.first_is is.second_is now anchored one other
+
+  -- the sections, the copies and the last sector lie apart
+  pub lie_apart : AreApart prepared.runs × AreBothApart prepared.first prepared.second prepared.runs
+      × (IsInCopy prepared.first.lba prepared.runs (size - 1) → ⊥) × (IsInCopy prepared.second.lba prepared.runs (size - 1) → ⊥)
+  lie_apart =
+      let anchor = anchor_header new in (
+        are_apart size anchor new prepared.runs can.is_under is.runs_are,
+        both_are_apart size anchor new prepared.runs can.is_under is.runs_are Primary prepared.first prepared.second is.first_is is.second_is,
+        not_last size anchor new prepared.runs can.is_under is.runs_are Primary prepared.first is.first_is,
+        not_last size anchor new prepared.runs can.is_under is.runs_are Secondary prepared.second is.second_is,
+      )
 
   pub founding : (image : Image) → IsLeftFounding may held slot prepared.first prepared.second prepared.runs (size - 1) prepared.anchor image → IsBlankOrNew size may held slot prepared new image
   founding image left = record {

@@ -1,6 +1,7 @@
 ghost use Rattle.std.specs.Prelude.{◌+◌, ◌≤◌, ◌<◌, ◌^◌};
 
-use crate::tests::harness::{assert_told, called, words_of};
+use crate::tests::copies::put;
+use crate::tests::harness::{assert_examined, assert_told, called, words_of};
 use crate::tests::headers::{ANCHOR, PRIMARY, SECONDARY, SECTORS, header, unsealed};
 use ddf_bay::{Bay, MemoryBay};
 use ddf_bytes::{Sector, put16, put32, put64};
@@ -18,6 +19,8 @@ const PLACE_LINE: &str = "\
 anchor 65535 primary 65495 secondary 65455 workspace 32687 length 32768
 ";
 
+const EXAMINE_TWO: &[&str] = &["d0", "d1", "--", "examine"];
+
 /// A slot with these three headers, and zeros behind them.
 fn disk(
     rt: &impl Abort,
@@ -27,11 +30,9 @@ fn disk(
     secondary: &Sector,
 ) -> Result<MemoryBay, Fail> {
     let mut bay = MemoryBay::new(alloc, &[SECTORS], 3, Vec::new(alloc), None)?;
-    assert_eq!(rt; bay.slots(), 1);
-    assert_eq!(rt; bay.size(0), SECTORS);
-    assert!(rt; bay.write(0, ANCHOR, anchor).is_ok());
-    assert!(rt; bay.write(0, PRIMARY, primary).is_ok());
-    assert!(rt; bay.write(0, SECONDARY, secondary).is_ok());
+    put(rt, &mut bay, ANCHOR, anchor);
+    put(rt, &mut bay, PRIMARY, primary);
+    put(rt, &mut bay, SECONDARY, secondary);
     Ok(bay)
 }
 
@@ -62,14 +63,7 @@ fn headers_are_told(rt: HostRuntime) -> Result<(), Fail> {
         let text = format!(in alloc;
             "{GROUP_LINE}{PLACE_LINE}{lines}{copy}secondary copy controller signature 00000000\nnewest neither\n"
         )?;
-        assert_told(
-            &rt,
-            alloc,
-            &["d0", "--", "examine"],
-            &mut bay,
-            0,
-            text.as_str(),
-        )?;
+        assert_examined(&rt, alloc, &mut bay, text.as_str())?;
     }
     Ok(())
 }
@@ -112,14 +106,7 @@ newest neither
     for ([anchor, primary, secondary], lines) in cases {
         let mut bay = disk(&rt, alloc, &anchor, &primary, &secondary)?;
         let text = format!(in alloc; "{GROUP_LINE}{lines}")?;
-        assert_told(
-            &rt,
-            alloc,
-            &["d0", "--", "examine"],
-            &mut bay,
-            0,
-            text.as_str(),
-        )?;
+        assert_examined(&rt, alloc, &mut bay, text.as_str())?;
     }
     Ok(())
 }
@@ -171,14 +158,7 @@ fn faults_are_told_in_their_order(rt: HostRuntime) -> Result<(), Fail> {
             "primary copy header {reason}\nsecondary copy controller signature 00000000\nnewest neither\n"
         )?;
         let text = format!(in alloc; "{GROUP_LINE}{PLACE_LINE}{headers}{copies}")?;
-        assert_told(
-            &rt,
-            alloc,
-            &["d0", "--", "examine"],
-            &mut bay,
-            0,
-            text.as_str(),
-        )?;
+        assert_examined(&rt, alloc, &mut bay, text.as_str())?;
     }
     Ok(())
 }
@@ -189,37 +169,26 @@ fn slots_that_are_no_disks_are_told(rt: HostRuntime) -> Result<(), Fail> {
     let mut bay = MemoryBay::new(alloc, &[], 0, Vec::new(alloc), None)?;
     assert_told(&rt, alloc, &["--", "examine"], &mut bay, 0, "")?;
     let mut bay = MemoryBay::new(alloc, &[SECTORS, 0], 0, Vec::new(alloc), None)?;
-    let words = ["d0", "d1", "--", "examine"];
-    assert_told(
-        &rt,
-        alloc,
-        &words,
-        &mut bay,
-        0,
-        "slot 0 blank\nslot 1 blank\n",
-    )?;
-    assert_eq!(rt; bay.slots(), 2);
-    bay.unplug(1);
-    assert_told(
-        &rt,
-        alloc,
-        &words,
-        &mut bay,
-        3,
-        "slot 0 blank\nslot 1 fault\n",
-    )?;
-    assert_eq!(rt; bay.slots(), 2);
-    bay.unplug(0);
-    assert_told(
-        &rt,
-        alloc,
-        &words,
-        &mut bay,
-        3,
-        "slot 0 fault\nslot 1 fault\n",
-    )?;
-    for (room, failing, printed) in [(10_000, [0], ""), (0, [9], ""), (8, [9], "slot 0 f")] {
-        let (status, bytes) = called(&rt, alloc, &words, &mut bay, room, &failing)?;
+    let both_blank = "slot 0 blank\nslot 1 blank\n";
+    assert_told(&rt, alloc, EXAMINE_TWO, &mut bay, 0, both_blank)?;
+    let cases = [
+        (1, "slot 0 blank\nslot 1 fault\n"),
+        (0, "slot 0 fault\nslot 1 fault\n"),
+    ];
+    for (slot, text) in cases {
+        assert!(rt; slot < bay.slots());
+        bay.unplug(slot);
+        assert_told(&rt, alloc, EXAMINE_TWO, &mut bay, 3, text)?;
+    }
+    Ok(())
+}
+
+#[test]
+fn an_output_that_fails_is_told(rt: HostRuntime) -> Result<(), Fail> {
+    let alloc = rt.alloc();
+    let mut bay = MemoryBay::new(alloc, &[SECTORS, 0], 0, Vec::new(alloc), None)?;
+    for (room, failing, printed) in [(10_000, [0], ""), (0, [9], ""), (8, [9], "slot 0 b")] {
+        let (status, bytes) = called(&rt, alloc, EXAMINE_TWO, &mut bay, room, &failing)?;
         assert_eq!(rt; status, 6);
         assert_eq!(rt; bytes.as_slice(), printed.as_bytes());
     }

@@ -52,3 +52,26 @@ pub fn assert_told(
     assert_eq!(rt; answer, status, "{text}");
     Ok(())
 }
+
+/// Asserts what `examine` tells of a bay of one slot.
+pub fn assert_examined(
+    rt: &impl Abort,
+    alloc: Global,
+    bay: &mut MemoryBay,
+    text: &str,
+) -> Result<(), Fail> {
+    assert_told(rt, alloc, &["d0", "--", "examine"], bay, 0, text)
+}
+
+/// Asserts what calls on one bay, one after another, answer and print.
+pub fn assert_all_told(
+    rt: &impl Abort,
+    alloc: Global,
+    bay: &mut MemoryBay,
+    calls: &[(&[&str], u8, &str)],
+) -> Result<(), Fail> {
+    for (texts, status, text) in calls {
+        assert_told(rt, alloc, texts, bay, *status, text)?;
+    }
+    Ok(())
+}

@@ -1,8 +1,6 @@
 // The headers of a new disk, byte by byte, as the format's tables give them.
-use ddf_bay::{Bay, MemoryBay};
 use ddf_bytes::{Sector, put16, put32, put64};
 use ddf_seal::seal;
-use std::process::Abort;
 
 pub const SECTORS: u64 = 65_536;
 

@@ -1,6 +1,6 @@
 // `label`: what it tells and writes, what it is refused for, and what a stop in it leaves.
-use crate::tests::copies::bad_blocks;
-use crate::tests::harness::assert_told;
+use crate::tests::copies::{bad_blocks, put};
+use crate::tests::harness::{assert_all_told, assert_examined, assert_told};
 use crate::tests::headers::SECTORS;
 use ddf_bay::{Bay, MemoryBay};
 use std::alloc::Global;
@@ -26,8 +26,6 @@ const BLANK: &str = "slot 0 blank\n";
 
 const LABEL: &[&str] = &["d0", "--", "label"];
 
-const EXAMINE: &[&str] = &["d0", "--", "examine"];
-
 /// A read and a sync, eleven calls for each copy, the anchor and a sync.
 const CALLS: u64 = 26;
 
@@ -44,11 +42,11 @@ fn blank(alloc: Global, failing: &[u64], stop_after: Option<u64>) -> Result<Memo
 fn a_disk_is_labelled(rt: HostRuntime) -> Result<(), Fail> {
     let alloc = rt.alloc();
     let mut bay = blank(alloc, &[], None)?;
-    assert_told(&rt, alloc, EXAMINE, &mut bay, 0, BLANK)?;
+    assert_examined(&rt, alloc, &mut bay, BLANK)?;
     let before = bay.calls();
     assert_told(&rt, alloc, LABEL, &mut bay, 0, "ok sequence 1\n")?;
     assert_eq!(rt; bay.calls().saturating_sub(before), CALLS);
-    assert_told(&rt, alloc, EXAMINE, &mut bay, 0, LABELLED)?;
+    assert_examined(&rt, alloc, &mut bay, LABELLED)?;
     Ok(())
 }
 
@@ -56,13 +54,20 @@ fn a_disk_is_labelled(rt: HostRuntime) -> Result<(), Fail> {
 fn a_group_is_labelled_once(rt: HostRuntime) -> Result<(), Fail> {
     let alloc = rt.alloc();
     let mut bay = MemoryBay::new(alloc, &[SECTORS; 3], 3 * WRITES, Vec::new(alloc), None)?;
-    let words = ["d0", "d1", "d2", "--", "label"];
-    assert_told(&rt, alloc, &words, &mut bay, 0, "ok sequence 1\n")?;
-    let again = "refused 11 slot 0 not blank\n";
-    assert_told(&rt, alloc, &words, &mut bay, 1, again)?;
-    let one = ["d0", "d1", "d2", "--", "label", "2"];
-    let named = "refused 11 slot 2 not blank\n";
-    assert_told(&rt, alloc, &one, &mut bay, 1, named)?;
+    let calls: [(&[&str], u8, &str); 3] = [
+        (&["d0", "d1", "d2", "--", "label"], 0, "ok sequence 1\n"),
+        (
+            &["d0", "d1", "d2", "--", "label"],
+            1,
+            "refused 11 slot 0 not blank\n",
+        ),
+        (
+            &["d0", "d1", "d2", "--", "label", "2"],
+            1,
+            "refused 11 slot 2 not blank\n",
+        ),
+    ];
+    assert_all_told(&rt, alloc, &mut bay, &calls)?;
     Ok(())
 }
 
@@ -73,7 +78,7 @@ fn labels_are_refused(rt: HostRuntime) -> Result<(), Fail> {
     let images = ["--", "label"];
     assert_told(&rt, alloc, &images, &mut none, 1, "refused 14 no slot 0\n")?;
     let mut bay = MemoryBay::new(alloc, &[SECTORS, 32_999], WRITES, Vec::new(alloc), None)?;
-    let cases: [(&[&str], u8, &str); 6] = [
+    let calls: [(&[&str], u8, &str); 7] = [
         (
             &["d0", "d1", "--", "label", "1"],
             1,
@@ -96,18 +101,15 @@ fn labels_are_refused(rt: HostRuntime) -> Result<(), Fail> {
             2,
             "refused 10 word 6\n",
         ),
+        (&["d0", "d1", "--", "label", "0"], 0, "ok sequence 1\n"),
     ];
-    for (words, status, text) in cases {
-        assert_told(&rt, alloc, words, &mut bay, status, text)?;
-    }
+    assert_all_told(&rt, alloc, &mut bay, &calls)?;
     let mut many = MemoryBay::new(alloc, &[33_000; 16], 0, Vec::new(alloc), None)?;
     let all = [
         "0", "1", "2", "3", "4", "5", "6", "7", "8", "9", "10", "11", "12", "13", "14", "15", "--",
         "label",
     ];
     assert_told(&rt, alloc, &all, &mut many, 1, "refused 21 full disks\n")?;
-    let only_first = ["d0", "d1", "--", "label", "0"];
-    assert_told(&rt, alloc, &only_first, &mut bay, 0, "ok sequence 1\n")?;
     Ok(())
 }
 
@@ -132,10 +134,10 @@ fn assert_left(
     let mut bay = blank(alloc, &[], Some(call))?;
     assert_told(rt, alloc, LABEL, &mut bay, 3, "disk fault slot 0\n")?;
     let mut bay = bay.crash(keep, Vec::new(alloc), None);
-    assert_told(rt, alloc, EXAMINE, &mut bay, 0, text)?;
+    assert_examined(rt, alloc, &mut bay, text)?;
     if text == BLANK {
         assert_told(rt, alloc, LABEL, &mut bay, 0, "ok sequence 1\n")?;
-        assert_told(rt, alloc, EXAMINE, &mut bay, 0, LABELLED)?;
+        assert_examined(rt, alloc, &mut bay, LABELLED)?;
     }
     Ok(())
 }
@@ -162,8 +164,6 @@ fn a_disk_that_was_cut_is_blank(rt: HostRuntime) -> Result<(), Fail> {
     let alloc = rt.alloc();
     let mut bay = MemoryBay::new(alloc, &[SECTORS - 1], 1, Vec::new(alloc), None)?;
     // Its last sector is the bad block log of the primary copy.
-    assert_eq!(rt; bay.slots(), 1);
-    assert_eq!(rt; bay.size(0), SECTORS - 1);
-    assert!(rt; bay.write(0, SECTORS - 2, &bad_blocks(0)).is_ok());
-    assert_told(&rt, alloc, EXAMINE, &mut bay, 0, BLANK)
+    put(&rt, &mut bay, SECTORS - 2, &bad_blocks(0));
+    assert_examined(&rt, alloc, &mut bay, BLANK)
 }

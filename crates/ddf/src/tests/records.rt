@@ -2,7 +2,7 @@
 use crate::tests::copies::{
     CopyBytes, DISK, Slot, arrays, bad_blocks, copy, disks, labelled, memberless, named,
 };
-use crate::tests::harness::assert_told;
+use crate::tests::harness::assert_examined;
 use crate::tests::headers::header;
 use ddf_configs::{ElementFault, RecordSlot, decode_slots, encode_slots};
 use ddf_header::{HeaderKind, decode};
@@ -50,14 +50,7 @@ fn assert_copies_told(
 ) -> Result<(), Fail> {
     let mut bay = labelled(rt, alloc, primary, secondary)?;
     let text = format!(in alloc; "{FIRST_LINES}{lines}")?;
-    assert_told(
-        rt,
-        alloc,
-        &["d0", "--", "examine"],
-        &mut bay,
-        0,
-        text.as_str(),
-    )
+    assert_examined(rt, alloc, &mut bay, text.as_str())
 }
 
 #[test]
