@@ -100,7 +100,7 @@ where
 
 /// Names on standard error each path that could not be opened.
 fn name_unopened<R: Files + Eprint>(rt: &R, bay: &FileBay<R>, paths: &[String])
-    requires { length paths.now ≡ length (⟦<FileBay<R> as Bay>⟧.sizes bay.now) }
+    requires { length paths.now ≡ length (⟦<FileBay<R> as Bay>⟧.disks bay.now).sizes }
 {
     for (slot, path) in paths.iter().enumerate() {
         if !bay.opened(slot) {

@@ -5,3 +5,4 @@ pub mod Steps
 pub mod Looks
 mod Finding
 mod Opened
+mod Zeros

@@ -1,38 +1,39 @@
 -- Laws for those who only read a bay.
-use Rattle.std.proofs.Common.{ℕ, List, Bool, false, refl, arith, ◌∙◌, ⊎_elim, inl, inr}
-use Rattle.ddf_bay.specs.Sectors.{Image, Outcomes}
+use Rattle.std.proofs.Common.{ℕ, Bool, false, refl, arith, ◌∙◌, ⊎_elim, inl, inr}
+use Rattle.ddf_bay.specs.State.{BayState}
 use Rattle.ddf_bay.specs.ReadsOnly.{LooksAt, ReadsOnly}
 
-module _ {D : Type 0} {sizes : D → List ℕ} {held : D → Image} {may_hold : D → Outcomes} {moment : D → ℕ} {left_since : D → ℕ → Image → Type 0} {sectors_written : D → ℕ} where
-  -- before the first call
-  pub reads_start : (a : D) → ReadsOnly sizes held may_hold moment left_since sectors_written a a
-  reads_start a = record {
-    same_sizes = refl;
-    same_held = refl;
-    keeps = λ s l bytes may. may;
-    any_moment = record { later = omega arith; since = λ t image le left. inl left };
-    none_written = refl;
-  }
+-- before the first call
+pub reads_start : {D : Type 0} (a : BayState D) → ReadsOnly a a
+reads_start a = record {
+  goes_on = λ bay leads. leads;
+  same_sizes = refl;
+  same_held = refl;
+  keeps = λ s l bytes may. may;
+  any_moment = record { later = omega arith; since = λ t image le left. inl left };
+  none_written = refl;
+}
 
-  -- one call more
-  pub reads_then : {a b c : D} → ReadsOnly sizes held may_hold moment left_since sectors_written a b → ReadsOnly sizes held may_hold moment left_since sectors_written b c → ReadsOnly sizes held may_hold moment left_since sectors_written a c
-  reads_then so_far next = record {
-    same_sizes = next.same_sizes ∙ so_far.same_sizes;
-    same_held = next.same_held ∙ so_far.same_held;
-    keeps = λ s l bytes may. so_far.keeps s l bytes (next.keeps s l bytes may);
-    any_moment = record {
-      later = omega (arith, so_far.any_moment.later, next.any_moment.later);
-      since = λ t image le left. ⊎_elim
-          (so_far.any_moment.since t image le)
-          (λ now. inr (λ s l. so_far.keeps s l (image s l) (now s l)))
-          (next.any_moment.since t image (omega (arith, le, so_far.any_moment.later)) left);
-    };
-    none_written = next.none_written ∙ so_far.none_written;
-  }
+-- one call more
+pub reads_then : {D : Type 0} {a b c : BayState D} → ReadsOnly a b → ReadsOnly b c → ReadsOnly a c
+reads_then so_far next = record {
+  goes_on = λ bay leads. so_far.goes_on bay (next.goes_on bay leads);
+  same_sizes = next.same_sizes ∙ so_far.same_sizes;
+  same_held = next.same_held ∙ so_far.same_held;
+  keeps = λ s l bytes may. so_far.keeps s l bytes (next.keeps s l bytes may);
+  any_moment = record {
+    later = omega (arith, so_far.any_moment.later, next.any_moment.later);
+    since = λ t image le left. ⊎_elim
+        (so_far.any_moment.since t image le)
+        (λ now. inr (λ s l. so_far.keeps s l (image s l) (now s l)))
+        (next.any_moment.since t image (omega (arith, le, so_far.any_moment.later)) left);
+  };
+  none_written = next.none_written ∙ so_far.none_written;
+}
 
 -- one look more at a slot, behind one of which no call failed
-pub looks_then : {D : Type 0} {failed_reads failed_writes : D → ℕ → ℕ} {a b c : D} (slot : ℕ) (failed : Bool)
-    → LooksAt failed_reads failed_writes a b slot false → LooksAt failed_reads failed_writes b c slot failed → LooksAt failed_reads failed_writes a c slot failed
+pub looks_then : {D : Type 0} {a b c : BayState D} (slot : ℕ) (failed : Bool)
+    → LooksAt a b slot false → LooksAt b c slot failed → LooksAt a c slot failed
 looks_then slot failed so_far next =
     let reads = (so_far.same refl).0 in
     let writes = (so_far.same refl).1 in

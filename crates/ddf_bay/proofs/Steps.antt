@@ -1,38 +1,37 @@
 -- Laws for those who call a bay: how they go on from call to call.
-use Rattle.std.proofs.Common.{◌≡◌, ◌≢◌, ◌⊎◌, ℕ, ◌+◌, ◌≤◌, List, inl, inr, ⊎_elim, refl, sym, ◌∙◌, arith}
+use Rattle.std.proofs.Common.{◌≡◌, ◌≢◌, ◌⊎◌, ℕ, ◌+◌, ◌≤◌, List, inl, inr, ⊎_elim, refl, sym, ap, ◌∙◌, arith}
 use Rattle.ddf_bytes.specs.Counts.{Rose}
 use Rattle.ddf_bay.specs.Sectors.{Image, Outcomes, IsLeft, InRun}
-use Rattle.ddf_bay.specs.Moments.{StopsLeave, Spends, Keeps, Adds, Mixes, IsSettled, IsAmong}
+use Rattle.ddf_bay.specs.State.{BayState}
+use Rattle.ddf_bay.specs.Moments.{StopsLeave, Spends, SpendsOver, SpendsReads, SpendsWrites, Keeps, Adds, Mixes, IsSettled, IsAmong}
 
--- a bay's moments and images
-module _ {D : Type 0} {moment : D → ℕ} {left_since : D → ℕ → Image → Type 0} where
-  -- before the first call
-  pub stops_start : (a : D) (P : Image → Type 0) → StopsLeave moment left_since a a P
-  stops_start a P = record { later = omega arith; since = λ t image le left. inl left }
+-- before the first call
+pub stops_start : {D : Type 0} (a : BayState D) (P : Image → Type 0) → StopsLeave a a P
+stops_start a P = record { later = omega arith; since = λ t image le left. inl left }
 
-  -- after one call more
-  pub stops_then : {a b c : D} {P Q : Image → Type 0} → StopsLeave moment left_since a b P → StopsLeave moment left_since b c Q
-      → ((image : Image) → Q image → P image) → StopsLeave moment left_since a c P
-  stops_then so_far step here = record {
-    later = omega (arith, so_far.later, step.later);
-    since = λ t image le left. ⊎_elim (so_far.since t image le) (λ now. inr (here image now)) (step.since t image (omega (arith, le, so_far.later)) left);
-  }
+-- after one call more
+pub stops_then : {D : Type 0} {a b c : BayState D} {P Q : Image → Type 0} → StopsLeave a b P → StopsLeave b c Q
+    → ((image : Image) → Q image → P image) → StopsLeave a c P
+stops_then so_far step here = record {
+  later = omega (arith, so_far.later, step.later);
+  since = λ t image le left. ⊎_elim (so_far.since t image le) (λ now. inr (here image now)) (step.since t image (omega (arith, le, so_far.later)) left);
+}
 
-  -- with less said of the images
-  pub stops_weaken : {a b : D} {P Q : Image → Type 0} → StopsLeave moment left_since a b Q
-      → ((image : Image) → Q image → P image) → StopsLeave moment left_since a b P
-  stops_weaken step here = record {
-    later = step.later;
-    since = λ t image le left. ⊎_elim inl (λ now. inr (here image now)) (step.since t image le left);
-  }
+-- with less said of the images
+pub stops_weaken : {D : Type 0} {a b : BayState D} {P Q : Image → Type 0} → StopsLeave a b Q
+    → ((image : Image) → Q image → P image) → StopsLeave a b P
+stops_weaken step here = record {
+  later = step.later;
+  since = λ t image le left. ⊎_elim inl (λ now. inr (here image now)) (step.since t image le left);
+}
 
-  -- all images since the first call, where those that a stop may leave before it have P too
-  pub stops_all : (may_hold : D → Outcomes) {a b : D} {P : Image → Type 0}
-      → ((bay : D) (image : Image) → left_since bay (moment bay) image → IsLeft (may_hold bay) image)
-      → StopsLeave moment left_since a b P → ((image : Image) → IsLeft (may_hold a) image → P image)
-      → (image : Image) → left_since b (moment a) image → P image
-  stops_all may_hold {a = a} only_now steps at_first image left =
-      ⊎_elim (λ before. at_first image (only_now a image before)) (λ now. now) (steps.since (moment a) image (omega arith) left)
+-- all images since the first call, where those that a stop may leave before it have P too
+pub stops_all : {D : Type 0} {a b : BayState D} {P : Image → Type 0}
+    → ((image : Image) → a.left_since a.moment image → IsLeft a.may_hold image)
+    → StopsLeave a b P → ((image : Image) → IsLeft a.may_hold image → P image)
+    → (image : Image) → b.left_since a.moment image → P image
+stops_all {a = a} only_now steps at_first image left =
+    ⊎_elim (λ before. at_first image (only_now image before)) (λ now. now) (steps.since a.moment image (omega arith) left)
 
 -- what a stop may leave, from call to call
 pub keeps_start : (may : Outcomes) → Keeps may may
@@ -120,9 +119,10 @@ pub rose_since : (a b c : ℕ) → a ≤ b → Rose b c → Rose a c
 rose_since a b c up rose = ⊎_elim (λ below. inl (omega arith)) inr rose
 
 -- what calls on one slot cost, together
-module _ {D : Type 0} {tells_left : D → Type 0} {sizes : D → List ℕ} {kept rising : D → ℕ → ℕ} {sectors_written calls : D → ℕ} {slot : ℕ} where
-  pub spends_start : (a : D) → Spends tells_left sizes kept rising sectors_written calls a a slot 0 0
+module _ {D : Type 0} {kept rising : BayState D → ℕ → ℕ} {slot : ℕ} where
+  pub spends_start : (a : BayState D) → Spends kept rising a a slot 0 0
   spends_start a = record {
+    goes_on = λ bay leads. leads;
     told = λ told. told;
     same_sizes = refl;
     same = refl;
@@ -134,9 +134,10 @@ module _ {D : Type 0} {tells_left : D → Type 0} {sizes : D → List ℕ} {kept
     calls_most = omega arith;
   }
 
-  pub spends_then : {a b c : D} {n m i j : ℕ} → Spends tells_left sizes kept rising sectors_written calls a b slot n i → Spends tells_left sizes kept rising sectors_written calls b c slot m j
-      → Spends tells_left sizes kept rising sectors_written calls a c slot (n + m) (i + j)
+  pub spends_then : {a b c : BayState D} {n m i j : ℕ} → Spends kept rising a b slot n i → Spends kept rising b c slot m j
+      → Spends kept rising a c slot (n + m) (i + j)
   spends_then first second = record {
+    goes_on = λ bay leads. first.goes_on bay (second.goes_on bay leads);
     told = λ told. first.told (second.told told);
     same_sizes = second.same_sizes ∙ first.same_sizes;
     same = second.same ∙ first.same;
@@ -147,3 +148,71 @@ module _ {D : Type 0} {tells_left : D → Type 0} {sizes : D → List ℕ} {kept
     calls_up = omega (arith, first.calls_up, second.calls_up);
     calls_most = omega (arith, first.calls_most, second.calls_most);
   }
+
+-- what calls on any slots cost, together
+pub over_start : {D : Type 0} (a : BayState D) → SpendsOver a a 0 0
+over_start a = record {
+  goes_on = λ bay leads. leads;
+  told = λ told. told;
+  same_sizes = refl;
+  reads_rise = λ s. omega arith;
+  writes_rise = λ s. omega arith;
+  written_up = omega arith;
+  written = omega arith;
+  calls_up = omega arith;
+  calls_most = omega arith;
+}
+
+pub over_then : {D : Type 0} {a b c : BayState D} {n m i j : ℕ} → SpendsOver a b n i → SpendsOver b c m j → SpendsOver a c (n + m) (i + j)
+over_then first second = record {
+  goes_on = λ bay leads. first.goes_on bay (second.goes_on bay leads);
+  told = λ told. first.told (second.told told);
+  same_sizes = second.same_sizes ∙ first.same_sizes;
+  reads_rise = λ s. omega (arith, first.reads_rise s, second.reads_rise s);
+  writes_rise = λ s. omega (arith, first.writes_rise s, second.writes_rise s);
+  written_up = omega (arith, first.written_up, second.written_up);
+  written = omega (arith, first.written, second.written);
+  calls_up = omega (arith, first.calls_up, second.calls_up);
+  calls_most = omega (arith, first.calls_most, second.calls_most);
+}
+
+-- less is said of them
+pub over_most : {D : Type 0} {a b : BayState D} {n i : ℕ} (m j : ℕ) → SpendsOver a b n i → n ≤ m → i ≤ j → SpendsOver a b m j
+over_most m j spends sectors most = record {
+  goes_on = spends.goes_on;
+  told = spends.told;
+  same_sizes = spends.same_sizes;
+  reads_rise = spends.reads_rise;
+  writes_rise = spends.writes_rise;
+  written_up = spends.written_up;
+  written = omega (arith, spends.written, sectors);
+  calls_up = spends.calls_up;
+  calls_most = omega (arith, spends.calls_most, most);
+}
+
+-- calls on one slot
+pub over_writes : {D : Type 0} {a b : BayState D} {slot n i : ℕ} → SpendsWrites a b slot n i → SpendsOver a b n i
+over_writes spends = record {
+  goes_on = spends.goes_on;
+  told = spends.told;
+  same_sizes = spends.same_sizes;
+  reads_rise = λ s. let same = ap (λ (counts : ℕ → ℕ). counts s) spends.same in omega (arith, same);
+  writes_rise = spends.rises;
+  written_up = spends.written_up;
+  written = spends.written;
+  calls_up = spends.calls_up;
+  calls_most = spends.calls_most;
+}
+
+pub over_reads : {D : Type 0} {a b : BayState D} {slot i : ℕ} → SpendsReads a b slot i → SpendsOver a b 0 i
+over_reads spends = record {
+  goes_on = spends.goes_on;
+  told = spends.told;
+  same_sizes = spends.same_sizes;
+  reads_rise = spends.rises;
+  writes_rise = λ s. let same = ap (λ (counts : ℕ → ℕ). counts s) spends.same in omega (arith, same);
+  written_up = spends.written_up;
+  written = spends.written;
+  calls_up = spends.calls_up;
+  calls_most = spends.calls_most;
+}

@@ -1,4 +1,5 @@
 pub mod Sectors
+pub mod State
 pub mod Moments
 pub mod ReadsOnly
 pub mod Counting

@@ -1,8 +1,8 @@
 -- What a bay in memory is made of, and what each call makes of it.
-use Rattle.std.specs.Prelude.{ℕ, ◌+◌, ◌-◌, ◌^◌, ◌<◌, List, [], ◌++◌, length, replicate, Bool, true, false, ◌==◌, ◌||◌, Option, slice_index, slice_index_or, slice_set}
+use Rattle.std.specs.Prelude.{◌≡◌, ◌⊎◌, ℕ, ◌+◌, ◌-◌, ◌^◌, ◌<◌, ◌≤◌, None, List, [], ◌++◌, length, replicate, Bool, true, false, ◌==◌, ◌||◌, Option, slice_index, slice_index_or, slice_set}
 use Rattle.std.specs.List.{list_any}
 use Rattle.ddf_bay.specs.Counting.{one_more, with_one_more}
-use Rattle.ddf_bay.specs.Sectors.{Image, Outcomes}
+use Rattle.ddf_bay.specs.State.{BayState}
 use Rattle.ddf_bay.specs.Records.{held_of, MayHold, LeftSince, is_reached, settled, run_records, survivors}
 use Rattle.ddf_bay.specs.declared.record.Record.{Record}
 use Rattle.ddf_bay.specs.declared.memory.MemoryBay.{MemoryBay}
@@ -42,37 +42,43 @@ state_of bay = record {
   calls = bay.made;
 }
 
--- what the bay tells
-abbrev pub sizes_of : MemoryBay → List ℕ
-sizes_of bay = bay.sizes.items
+-- no call is listed, and no slot is unplugged
+pub record IsHealthy (bay : MemoryState) : Type 0 where
+  pub none_listed : bay.failing ≡ []
+  pub never_over : bay.stop_after ≡ None
+  pub plugged : (slot : ℕ) → slice_index_or bay.unplugged slot false ≡ false
 
-abbrev pub held_by : MemoryBay → Image
-held_by bay = held_of bay.log.records.items
+-- there is no room left for a run as long as one of the slots
+pub record IsShort (bay : MemoryState) : Type 0 where
+  pub slot : ℕ
+  pub less : bay.room < slice_index bay.sizes slot
 
-abbrev pub moment_of : MemoryBay → ℕ
-moment_of bay = bay.clock
+-- Calls keep what fails and how many sectors can be written in all. On a bay in health no call fails while there is room.
+pub record MayBecome (bay next : MemoryState) : Type 0 where
+  pub same_sizes : next.sizes ≡ bay.sizes
+  pub same_failing : next.failing ≡ bay.failing
+  pub same_stop : next.stop_after ≡ bay.stop_after
+  pub same_unplugged : next.unplugged ≡ bay.unplugged
+  pub same_room : next.room + next.written ≡ bay.room + bay.written
+  pub written_up : bay.written ≤ next.written
+  pub no_reads : IsHealthy bay → next.failed_reads ≡ bay.failed_reads
+  pub no_writes : IsHealthy bay → (next.failed_writes ≡ bay.failed_writes) ⊎ IsShort next
 
--- it tells what a stop may leave while its clock is below its last value
-abbrev pub TellsLeft : MemoryBay → Type 0
-TellsLeft bay = bay.clock < 2 ^ 64 - 1
-
-abbrev pub MayLeave : MemoryBay → Outcomes
-MayLeave bay s l bytes = (bay.clock < 2 ^ 64 - 1) × MayHold bay.clock bay.log.records.items s l bytes
-
-abbrev pub MightHaveLeft : MemoryBay → ℕ → Image → Type 0
-MightHaveLeft bay t image = (bay.clock < 2 ^ 64 - 1) × LeftSince bay.clock bay.log.records.items t image
-
-abbrev pub failed_reads_of : MemoryBay → ℕ → ℕ
-failed_reads_of bay s = slice_index bay.read_faults s
-
-abbrev pub failed_writes_of : MemoryBay → ℕ → ℕ
-failed_writes_of bay s = slice_index bay.write_faults s
-
-abbrev pub written_of : MemoryBay → ℕ
-written_of bay = bay.written
-
-abbrev pub calls_of : MemoryBay → ℕ
-calls_of bay = bay.made
+-- what the bay tells: of what a stop may leave while its clock is below its last value
+abbrev pub disks_of : MemoryBay → BayState MemoryBay
+disks_of bay = record {
+  sizes = bay.sizes.items;
+  held = held_of bay.log.records.items;
+  tells_left = bay.clock < 2 ^ 64 - 1;
+  may_hold = λ s l bytes. (bay.clock < 2 ^ 64 - 1) × MayHold bay.clock bay.log.records.items s l bytes;
+  moment = bay.clock;
+  left_since = λ t image. (bay.clock < 2 ^ 64 - 1) × LeftSince bay.clock bay.log.records.items t image;
+  failed_reads = slice_index bay.read_faults;
+  failed_writes = slice_index bay.write_faults;
+  sectors_written = bay.written;
+  calls = bay.made;
+  leads_to = λ next. MayBecome (state_of bay) (state_of next);
+}
 
 -- a bay of zeros
 abbrev pub blank : List ℕ → ℕ → List ℕ → Option ℕ → MemoryState

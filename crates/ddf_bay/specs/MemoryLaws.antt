@@ -1,13 +1,14 @@
 -- The trait's laws for a bay in memory, and what its clock adds: past the last value nothing is told.
 use Rattle.std.specs.Prelude.{◌≡◌, ◌⊎◌, ℕ, ◌+◌, ◌-◌, ◌^◌, ◌<◌, ◌≤◌, List, [], ◌∷◌, ◌++◌, zero, suc, Bool, IsTrue, nat_le, slice_index}
 use Rattle.std.specs.List.{list_all}
-use Rattle.std.proofs.Common.{arith, subst, inl, inr, ⊎_elim}
+use Rattle.std.proofs.Common.{arith, refl, subst, inl, inr, ⊎_elim}
 use Rattle.std.proofs.lemmas.Bool.{cases_lt}
 use Rattle.std.proofs.lemmas.Grind.{common_steps}
 use Rattle.ddf_bay.specs.declared.record.Record.{Record}
 use Rattle.ddf_bay.specs.Sectors.{InRun}
+use Rattle.ddf_bay.specs.Memory.{MayBecome, MemoryState}
 use Rattle.ddf_bay.specs.Records.{MayHold, LeftSince, held_of, are_past, settled, run_records, survivors}
-use Rattle.ddf_bay.specs.RecordLaws.{left_later, left_before, left_added, sync_keeps, sync_before, survivors_left, survivors_settled, stop_before}
+use Rattle.ddf_bay.specs.RecordLaws.{left_later, left_before, left_added, sync_keeps, sync_before, survivors_left, survivors_settled, stop_before, left_after_run, left_after_sync}
 
 pub left_only : (clock : ℕ) (rs : List Record) (image : ℕ → ℕ → List ℕ) → (clock < 2 ^ 64 - 1) × LeftSince clock rs clock image → (s l : ℕ) → (clock < 2 ^ 64 - 1) × MayHold clock rs s l (image s l)
 left_only clock rs image left s l =
@@ -86,3 +87,40 @@ stop_since clock keep rs past t image le (told, left) =
     (λ here. let same : left.moment ≡ clock = omega (arith, here, left.until) in
     inr (λ s l. (told, stop_keeps clock keep rs s l (image s l) past (subst (λ (m : ℕ). MayHold m (survivors clock keep rs) s l (image s l)) same (left.left s l)))))
     (cases_lt left.moment clock)
+
+-- ---- what was told is told on
+
+pub still_remembers : (clock now : ℕ) (rs rs' : List Record) → clock ≤ now → now < 2 ^ 64 - 1
+    → ((m s l : ℕ) (v : List ℕ) → m ≤ clock → MayHold m rs s l v → MayHold m rs' s l v)
+    → (t : ℕ) (image : ℕ → ℕ → List ℕ) → t ≤ clock → (clock < 2 ^ 64 - 1) × LeftSince clock rs t image → (now < 2 ^ 64 - 1) × LeftSince now rs' t image
+still_remembers clock now rs rs' up told same t image le left =
+    (told, record { moment = left.1.moment; from = left.1.from; until = omega (arith, left.1.until, up); left = λ s l. same left.1.moment s l (image s l) left.1.until (left.1.left s l) })
+
+pub same_remembers : (clock now : ℕ) (rs : List Record) → clock ≤ now → now < 2 ^ 64 - 1
+    → (t : ℕ) (image : ℕ → ℕ → List ℕ) → t ≤ clock → (clock < 2 ^ 64 - 1) × LeftSince clock rs t image → (now < 2 ^ 64 - 1) × LeftSince now rs t image
+same_remembers clock now rs up told = still_remembers clock now rs rs up told (λ m s l v le left. left)
+
+pub run_remembers : (clock now : ℕ) (rs : List Record) (slot lba : ℕ) (vs : List (List ℕ)) → clock ≤ now → now < 2 ^ 64 - 1
+    → (t : ℕ) (image : ℕ → ℕ → List ℕ) → t ≤ clock → (clock < 2 ^ 64 - 1) × LeftSince clock rs t image → (now < 2 ^ 64 - 1) × LeftSince now (rs ++ run_records slot lba now vs) t image
+run_remembers clock now rs slot lba vs up told = still_remembers clock now rs (rs ++ run_records slot lba now vs) up told (λ m s l v le left. left_after_run m rs slot lba now vs s l v left)
+
+pub sync_remembers : (clock now slot : ℕ) (rs : List Record) → clock ≤ now → (now < 2 ^ 64 - 1 → now ≡ clock + 1) → now < 2 ^ 64 - 1
+    → (t : ℕ) (image : ℕ → ℕ → List ℕ) → t ≤ clock → (clock < 2 ^ 64 - 1) × LeftSince clock rs t image → (now < 2 ^ 64 - 1) × LeftSince now (settled slot now rs) t image
+sync_remembers clock now slot rs up moves told =
+    let e = moves told in
+    still_remembers clock now rs (settled slot now rs) up told (λ m s l v le left. left_after_sync m slot now rs s l v (omega (arith, e, le)) left)
+
+-- ---- what calls may make of a bay
+
+-- none has to change it
+pub becomes_start : (bay : MemoryState) → MayBecome bay bay
+becomes_start bay = record {
+  same_sizes = refl;
+  same_failing = refl;
+  same_stop = refl;
+  same_unplugged = refl;
+  same_room = refl;
+  written_up = omega arith;
+  no_reads = λ healthy. refl;
+  no_writes = λ healthy. inl refl;
+}

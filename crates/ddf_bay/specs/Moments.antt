@@ -1,25 +1,56 @@
 -- How a bay goes on from call to call: what stops on the way may leave, and what the calls cost.
 use Rattle.std.specs.Prelude.{◌≡◌, ◌≢◌, ◌⊎◌, ℕ, ◌+◌, ◌≤◌, List}
 use Rattle.ddf_bay.specs.Sectors.{Image, Outcomes, InRun}
+use Rattle.ddf_bay.specs.State.{BayState}
 
 -- A stop at some moment on the way from old to new leaves an image that has P. In new no other images are told since an
 -- earlier moment than those that were told of it in old, and those.
-pub record StopsLeave {D : Type 0} (moment : D → ℕ) (left_since : D → ℕ → Image → Type 0) (old new : D) (P : Image → Type 0) : Type 0 where
-  pub later : moment old ≤ moment new
-  pub since : (t : ℕ) (image : Image) → t ≤ moment old → left_since new t image → left_since old t image ⊎ P image
+pub record StopsLeave {D : Type 0} (old new : BayState D) (P : Image → Type 0) : Type 0 where
+  pub later : old.moment ≤ new.moment
+  pub since : (t : ℕ) (image : Image) → t ≤ old.moment → new.left_since t image → old.left_since t image ⊎ P image
+
+-- Calls make nothing of the later bay that they might not make of the earlier one.
+abbrev pub GoesOn : {D : Type 0} (old new : BayState D) → Type 0
+GoesOn {D = D} old new = (bay : D) → new.leads_to bay → old.leads_to bay
+
+-- What stops at the moments up to old might have left is told in new too, while it tells at all.
+abbrev pub Remembers : {D : Type 0} (old new : BayState D) → Type 0
+Remembers old new = new.tells_left → (t : ℕ) (image : Image) → t ≤ old.moment → old.left_since t image → new.left_since t image
 
 -- What calls on one slot leave of sizes and counts: one kind of faults stays, the other rises at most on this slot, and at
 -- most so many sectors are written in at most so many calls.
-pub record Spends {D : Type 0} (tells_left : D → Type 0) (sizes : D → List ℕ) (kept rising : D → ℕ → ℕ) (sectors_written calls : D → ℕ) (old new : D) (slot sectors most : ℕ) : Type 0 where
-  pub told : tells_left new → tells_left old
-  pub same_sizes : sizes new ≡ sizes old
+pub record Spends {D : Type 0} (kept rising : BayState D → ℕ → ℕ) (old new : BayState D) (slot sectors most : ℕ) : Type 0 where
+  pub goes_on : GoesOn old new
+  pub told : new.tells_left → old.tells_left
+  pub same_sizes : new.sizes ≡ old.sizes
   pub same : kept new ≡ kept old
   pub rises : (s : ℕ) → rising old s ≤ rising new s
   pub other_slots : (s : ℕ) → s ≢ slot → rising new s ≡ rising old s
-  pub written_up : sectors_written old ≤ sectors_written new
-  pub written : sectors_written new ≤ sectors_written old + sectors
-  pub calls_up : calls old ≤ calls new
-  pub calls_most : calls new ≤ calls old + most
+  pub written_up : old.sectors_written ≤ new.sectors_written
+  pub written : new.sectors_written ≤ old.sectors_written + sectors
+  pub calls_up : old.calls ≤ new.calls
+  pub calls_most : new.calls ≤ old.calls + most
+
+-- one read of a slot
+abbrev pub SpendsReads : {D : Type 0} (old new : BayState D) → (slot most : ℕ) → Type 0
+SpendsReads old new slot most = Spends (λ disks. disks.failed_writes) (λ disks. disks.failed_reads) old new slot 0 most
+
+-- writes and syncs of a slot
+abbrev pub SpendsWrites : {D : Type 0} (old new : BayState D) → (slot sectors most : ℕ) → Type 0
+SpendsWrites old new slot sectors most = Spends (λ disks. disks.failed_reads) (λ disks. disks.failed_writes) old new slot sectors most
+
+-- What calls on any slots leave of sizes and counts: no count of faults falls, and at most so many sectors are written in at
+-- most so many calls.
+pub record SpendsOver {D : Type 0} (old new : BayState D) (sectors most : ℕ) : Type 0 where
+  pub goes_on : GoesOn old new
+  pub told : new.tells_left → old.tells_left
+  pub same_sizes : new.sizes ≡ old.sizes
+  pub reads_rise : (s : ℕ) → old.failed_reads s ≤ new.failed_reads s
+  pub writes_rise : (s : ℕ) → old.failed_writes s ≤ new.failed_writes s
+  pub written_up : old.sectors_written ≤ new.sectors_written
+  pub written : new.sectors_written ≤ old.sectors_written + sectors
+  pub calls_up : old.calls ≤ new.calls
+  pub calls_most : new.calls ≤ old.calls + most
 
 -- a stop leaves in no sector what it might not leave before
 abbrev pub Keeps : Outcomes → Outcomes → Type 0

@@ -6,7 +6,7 @@ use Rattle.std.proofs.lemmas.Bool.{cases_lt}
 use Rattle.std.proofs.lemmas.Grind.{common_steps}
 use Rattle.ddf_bay.specs.declared.record.Record.{Record}
 use Rattle.ddf_bay.specs.Sectors.{InRun, put_run}
-use Rattle.ddf_bay.specs.Records.{held_of, zeros, is_at, is_sure, newest, sure_bytes, IsPending, MayHold, are_past, settled, run_records, survivors}
+use Rattle.ddf_bay.specs.Records.{held_of, zeros, is_at, is_sure, newest, sure_bytes, IsPending, MayHold, are_past, are_whole, settled, run_records, survivors}
 
 -- records that tell of no later moment still don't when time goes on
 pub past_later : (m n : ℕ) (rs : List Record) → m ≤ n → IsTrue (are_past m rs) → IsTrue (are_past n rs)
@@ -200,3 +200,50 @@ pending_stop m now keep (r ∷ rs) s l v lt h = grind (arith, common_steps, pend
 pub stop_before : (m now : ℕ) (keep : List Bool) (rs : List Record) (s l : ℕ) (v : List ℕ) → m < now → MayHold m (survivors now keep rs) s l v → MayHold m rs s l v
 stop_before m now keep rs s l v lt (inl e) = inl (e ∙ sure_stop m now keep rs s l zeros lt)
 stop_before m now keep rs s l v lt (inr h) = inr (pending_stop m now keep rs s l v lt h)
+
+-- What a stop at an earlier moment might have left, it might have left by the records of later calls too.
+pending_more : (m : ℕ) (rs ts : List Record) (s l : ℕ) (v : List ℕ) → IsPending m rs s l v → IsPending m (rs ++ ts) s l v
+pending_more m [] ts s l v h = absurd h
+pending_more m (r ∷ rs) ts s l v (inl h) = inl h
+pending_more m (r ∷ rs) ts s l v (inr h) = inr (pending_more m rs ts s l v h)
+
+pub left_after_run : (m : ℕ) (rs : List Record) (slot lba now : ℕ) (vs : List (List ℕ)) (s l : ℕ) (v : List ℕ) → MayHold m rs s l v → MayHold m (rs ++ run_records slot lba now vs) s l v
+left_after_run m rs slot lba now vs s l v (inl e) = inl (e ∙ sym (sure_before m rs slot lba now vs s l zeros))
+left_after_run m rs slot lba now vs s l v (inr h) = inr (pending_more m rs (run_records slot lba now vs) s l v h)
+
+pending_after_sync : (m slot now : ℕ) (rs : List Record) (s l : ℕ) (v : List ℕ) → m < now → IsPending m rs s l v → IsPending m (settled slot now rs) s l v
+pending_after_sync m slot now [] s l v lt h = h
+pending_after_sync m slot now (r ∷ rs) s l v lt h = grind (arith, common_steps, pending_after_sync m slot now rs s l v lt)
+
+pub left_after_sync : (m slot now : ℕ) (rs : List Record) (s l : ℕ) (v : List ℕ) → m < now → MayHold m rs s l v → MayHold m (settled slot now rs) s l v
+left_after_sync m slot now rs s l v lt (inl e) = inl (e ∙ sym (sure_sync m slot now rs s l zeros lt))
+left_after_sync m slot now rs s l v lt (inr h) = inr (pending_after_sync m slot now rs s l v lt h)
+
+-- Each record has the bytes of a whole sector, and so has what a stop may leave.
+sure_whole : (m : ℕ) (rs : List Record) (s l : ℕ) (d : List ℕ) → IsTrue (are_whole rs) → length d ≡ 512 → length (sure_bytes m rs s l d) ≡ 512
+sure_whole m [] s l d whole long = long
+sure_whole m (r ∷ rs) s l d whole long = grind (arith, common_steps, sure_whole m rs s l)
+
+pending_whole : (m : ℕ) (rs : List Record) (s l : ℕ) (v : List ℕ) → IsTrue (are_whole rs) → IsPending m rs s l v → length v ≡ 512
+pending_whole m [] s l v whole h = absurd h
+pending_whole m (r ∷ rs) s l v whole h = grind (arith, common_steps, pending_whole m rs s l v)
+
+zeros_whole : length zeros ≡ 512
+unfolding zeros
+zeros_whole = refl
+
+pub left_whole : (m : ℕ) (rs : List Record) (s l : ℕ) (v : List ℕ) → IsTrue (are_whole rs) → MayHold m rs s l v → length v ≡ 512
+left_whole m rs s l v whole (inl e) = ap length e ∙ sure_whole m rs s l zeros whole zeros_whole
+left_whole m rs s l v whole (inr h) = pending_whole m rs s l v whole h
+
+pub whole_added : (rs : List Record) (r : Record) → IsTrue (are_whole rs) → length r.bytes ≡ 512 → IsTrue (are_whole (rs ++ r ∷ []))
+whole_added [] r whole long = grind (arith, common_steps)
+whole_added (q ∷ rs) r whole long = grind (arith, common_steps, whole_added rs r)
+
+pub whole_sync : (slot now : ℕ) (rs : List Record) → IsTrue (are_whole rs) → IsTrue (are_whole (settled slot now rs))
+whole_sync slot now [] whole = whole
+whole_sync slot now (r ∷ rs) whole = grind (arith, common_steps, whole_sync slot now rs)
+
+pub whole_stop : (now : ℕ) (keep : List Bool) (rs : List Record) → IsTrue (are_whole rs) → IsTrue (are_whole (survivors now keep rs))
+whole_stop now keep [] whole = whole
+whole_stop now keep (r ∷ rs) whole = grind (arith, common_steps, whole_stop now keep rs, whole_stop now (drop 1 keep) rs)

@@ -1,5 +1,5 @@
 -- What a bay in memory holds: a record for each sector written, in the order of the writes, over zeros.
-use Rattle.std.specs.Prelude.{◌≡◌, ◌⊎◌, ℕ, ◌+◌, ◌≤◌, List, [], ◌∷◌, replicate, drop, Bool, true, false, not, ◌==◌, ◌&&◌, nat_le, if◌then◌else◌, map, filter, Option, Some, None, IsTrue, is_none, is_some}
+use Rattle.std.specs.Prelude.{◌≡◌, ◌⊎◌, ℕ, ◌+◌, ◌≤◌, List, [], ◌∷◌, length, replicate, drop, Bool, true, false, not, ◌==◌, ◌&&◌, nat_le, if◌then◌else◌, map, filter, Option, Some, None, IsTrue, is_none, is_some}
 use Rattle.ddf_bay.specs.Sectors.{Image}
 use Rattle.ddf_bay.specs.declared.record.Record.{Record}
 
@@ -53,6 +53,11 @@ pub record LeftSince (clock : ℕ) (rs : List Record) (t : ℕ) (image : Image) 
   pub from : t ≤ moment
   pub until : moment ≤ clock
   pub left : (s l : ℕ) → MayHold moment rs s l (image s l)
+
+-- each record has the bytes of a whole sector
+abbrev pub are_whole : List Record → Bool
+are_whole [] = true
+are_whole (r ∷ rs) = (length r.bytes == 512) && are_whole rs
 
 -- no moment that the record tells of is later than this one
 abbrev pub is_past : ℕ → Record → Bool

@@ -2,7 +2,8 @@
 ghost use Rattle.std.specs.Prelude.{◌≡◌, ◌<◌, ◌≤◌, ◌+◌, ◌^◌, [], ◌∷◌, List, ℕ, length, OnOk, OnErr, slice_index};
 ghost use Rattle.ddf_bytes.specs.Counts.{Rose};
 ghost use Rattle.ddf_bay.specs.Sectors.{IsLeft, IsRead, put_run};
-ghost use Rattle.ddf_bay.specs.Moments.{StopsLeave, Spends, Keeps, Adds, Mixes, IsSettled, IsAmong};
+ghost use Rattle.ddf_bay.specs.State.{BayState};
+ghost use Rattle.ddf_bay.specs.Moments.{StopsLeave, Remembers, SpendsReads, SpendsWrites, Keeps, Adds, Mixes, IsSettled, IsAmong};
 
 use ddf_bytes::Sector;
 
@@ -17,126 +18,110 @@ pub struct BayFailed;
 /// A bay tells what it holds where its type does so, and what a stop may leave where it can. All clauses on the
 /// latter are upper bounds, so one that tells nothing meets them.
 pub trait Bay {
-    /// The sizes of the slots, in sectors.
-    ghost sizes: { Self → List ℕ };
+    /// What it tells of its disks at this moment.
+    ghost disks: { Self → BayState Self };
 
     /// A bay of this type tells the bytes that it holds.
     ghost tells: { Type 0 };
 
-    /// The bytes of each sector of each slot, as reads give them.
-    ghost held: { Self → ℕ → ℕ → List ℕ };
-
-    /// The bay tells at this moment what a stop may leave.
-    ghost tells_left: { Self → Type 0 };
-
-    /// The bytes that a stop at this moment may leave in a sector of a slot, each sector by itself.
-    ghost may_hold: { Self → ℕ → ℕ → List ℕ → Type 0 };
-
-    /// The moment, as a number that doesn't fall.
-    ghost moment: { Self → ℕ };
-
-    /// The images that a stop at some moment from that one on might have left, over all slots at one moment.
-    ghost left_since: { Self → ℕ → (ℕ → ℕ → List ℕ) → Type 0 };
-
-    /// How many reads of a slot failed. It stands still at its last value, as each count does.
-    ghost failed_reads: { Self → ℕ → ℕ };
-
-    /// How many writes and syncs of a slot failed.
-    ghost failed_writes: { Self → ℕ → ℕ };
-
-    /// How many sectors were written, over all slots.
-    ghost sectors_written: { Self → ℕ };
-
-    /// How many calls were made of the five that reach a disk.
-    ghost calls: { Self → ℕ };
-
     /// How many slots there are.
     fn slots(&self) -> usize
-        ensures slots { result ≡ length (sizes self.now) }
+        ensures slots { result ≡ length (disks self.now).sizes }
         ensures few { result ≤ 64 };
 
     /// The size of a slot, in sectors.
     fn size(&self, slot: usize) -> u64
-        requires { slot < length (sizes self.now) }
-        ensures size { result ≡ slice_index (sizes self.now) slot }
+        requires { slot < length (disks self.now).sizes }
+        ensures size { result ≡ slice_index (disks self.now).sizes slot }
         ensures small { result ≤ 2 ^ 55 };
 
     /// Reads a sector. A failed read changes nothing but the counts.
     fn read(&mut self, slot: usize, lba: u64, into: &mut Sector) -> Result<(), BayFailed>
-        requires slot { slot < length (sizes self.old) }
-        requires sector { lba < slice_index (sizes self.old) slot }
-        ensures bytes { tells → OnOk result (into.new ≡ held self.old slot lba) }
-        ensures held { held self.new ≡ held self.old }
-        ensures left { Keeps (may_hold self.old) (may_hold self.new) }
-        ensures any_moment { StopsLeave moment left_since self.old self.new (IsLeft (may_hold self.old)) }
-        ensures ok { OnOk result (failed_reads self.new ≡ failed_reads self.old) }
-        ensures failed { OnErr result (Rose (failed_reads self.old slot) (failed_reads self.new slot)) }
-        ensures spends { Spends tells_left sizes failed_writes failed_reads sectors_written calls self.old self.new slot 0 1 };
+        requires slot { slot < length (disks self.old).sizes }
+        requires sector { lba < slice_index (disks self.old).sizes slot }
+        ensures bytes { tells → OnOk result (into.new ≡ (disks self.old).held slot lba) }
+        ensures held { (disks self.new).held ≡ (disks self.old).held }
+        ensures left { Keeps (disks self.old).may_hold (disks self.new).may_hold }
+        ensures any_moment { StopsLeave (disks self.old) (disks self.new) (IsLeft (disks self.old).may_hold) }
+        ensures remembers { Remembers (disks self.old) (disks self.new) }
+        ensures ok { OnOk result ((disks self.new).failed_reads ≡ (disks self.old).failed_reads) }
+        ensures failed { OnErr result (Rose ((disks self.old).failed_reads slot) ((disks self.new).failed_reads slot)) }
+        ensures spends { SpendsReads (disks self.old) (disks self.new) slot 1 };
 
     /// Reads a run of sectors in one call.
     fn read_run(&mut self, slot: usize, lba: u64, into: &mut [Sector]) -> Result<(), BayFailed>
-        requires slot { slot < length (sizes self.old) }
+        requires slot { slot < length (disks self.old).sizes }
         requires some { 0 < length into.old }
-        requires sectors { lba + length into.old ≤ slice_index (sizes self.old) slot }
-        ensures bytes { tells → OnOk result (IsRead (held self.old slot) lba into.new) }
-        ensures held { held self.new ≡ held self.old }
-        ensures left { Keeps (may_hold self.old) (may_hold self.new) }
-        ensures any_moment { StopsLeave moment left_since self.old self.new (IsLeft (may_hold self.old)) }
-        ensures ok { OnOk result (failed_reads self.new ≡ failed_reads self.old) }
-        ensures failed { OnErr result (Rose (failed_reads self.old slot) (failed_reads self.new slot)) }
-        ensures spends { Spends tells_left sizes failed_writes failed_reads sectors_written calls self.old self.new slot 0 1 };
+        requires sectors { lba + length into.old ≤ slice_index (disks self.old).sizes slot }
+        ensures bytes { tells → OnOk result (IsRead ((disks self.old).held slot) lba into.new) }
+        ensures held { (disks self.new).held ≡ (disks self.old).held }
+        ensures left { Keeps (disks self.old).may_hold (disks self.new).may_hold }
+        ensures any_moment { StopsLeave (disks self.old) (disks self.new) (IsLeft (disks self.old).may_hold) }
+        ensures remembers { Remembers (disks self.old) (disks self.new) }
+        ensures ok { OnOk result ((disks self.new).failed_reads ≡ (disks self.old).failed_reads) }
+        ensures failed { OnErr result (Rose ((disks self.old).failed_reads slot) ((disks self.new).failed_reads slot)) }
+        ensures spends { SpendsReads (disks self.old) (disks self.new) slot 1 };
 
     /// Writes a sector. After a failure it holds its old or its new bytes.
     fn write(&mut self, slot: usize, lba: u64, from: &Sector) -> Result<(), BayFailed>
-        requires slot { slot < length (sizes self.old) }
-        requires sector { lba < slice_index (sizes self.old) slot }
-        ensures held { tells → OnOk result (held self.new ≡ put_run (held self.old) slot lba (from.now ∷ [])) }
-        ensures held_failed { tells → OnErr result (Mixes (held self.old) (held self.new) slot lba (from.now ∷ [])) }
-        ensures left { Adds (may_hold self.old) (may_hold self.new) slot lba (from.now ∷ []) }
-        ensures any_moment { StopsLeave moment left_since self.old self.new (IsAmong (may_hold self.old) slot lba (from.now ∷ [])) }
-        ensures ok { OnOk result (failed_writes self.new ≡ failed_writes self.old) }
-        ensures failed { OnErr result (Rose (failed_writes self.old slot) (failed_writes self.new slot)) }
-        ensures spends { Spends tells_left sizes failed_reads failed_writes sectors_written calls self.old self.new slot 1 1 };
+        requires slot { slot < length (disks self.old).sizes }
+        requires sector { lba < slice_index (disks self.old).sizes slot }
+        ensures held { tells → OnOk result ((disks self.new).held ≡ put_run (disks self.old).held slot lba (from.now ∷ [])) }
+        ensures held_failed { tells → OnErr result (Mixes (disks self.old).held (disks self.new).held slot lba (from.now ∷ [])) }
+        ensures left { Adds (disks self.old).may_hold (disks self.new).may_hold slot lba (from.now ∷ []) }
+        ensures any_moment { StopsLeave (disks self.old) (disks self.new) (IsAmong (disks self.old).may_hold slot lba (from.now ∷ [])) }
+        ensures remembers { Remembers (disks self.old) (disks self.new) }
+        ensures ok { OnOk result ((disks self.new).failed_writes ≡ (disks self.old).failed_writes) }
+        ensures failed { OnErr result (Rose ((disks self.old).failed_writes slot) ((disks self.new).failed_writes slot)) }
+        ensures spends { SpendsWrites (disks self.old) (disks self.new) slot 1 1 };
 
     /// Writes a run of sectors in one call. After a failure each of them holds, by itself, its old or its new bytes.
     fn write_run(&mut self, slot: usize, lba: u64, from: &[Sector]) -> Result<(), BayFailed>
-        requires slot { slot < length (sizes self.old) }
+        requires slot { slot < length (disks self.old).sizes }
         requires some { 0 < length from.now }
-        requires sectors { lba + length from.now ≤ slice_index (sizes self.old) slot }
-        ensures held { tells → OnOk result (held self.new ≡ put_run (held self.old) slot lba from.now) }
-        ensures held_failed { tells → OnErr result (Mixes (held self.old) (held self.new) slot lba from.now) }
-        ensures left { Adds (may_hold self.old) (may_hold self.new) slot lba from.now }
-        ensures any_moment { StopsLeave moment left_since self.old self.new (IsAmong (may_hold self.old) slot lba from.now) }
-        ensures ok { OnOk result (failed_writes self.new ≡ failed_writes self.old) }
-        ensures failed { OnErr result (Rose (failed_writes self.old slot) (failed_writes self.new slot)) }
-        ensures spends { Spends tells_left sizes failed_reads failed_writes sectors_written calls self.old self.new slot (length from.now) 1 };
+        requires sectors { lba + length from.now ≤ slice_index (disks self.old).sizes slot }
+        ensures held { tells → OnOk result ((disks self.new).held ≡ put_run (disks self.old).held slot lba from.now) }
+        ensures held_failed { tells → OnErr result (Mixes (disks self.old).held (disks self.new).held slot lba from.now) }
+        ensures left { Adds (disks self.old).may_hold (disks self.new).may_hold slot lba from.now }
+        ensures any_moment { StopsLeave (disks self.old) (disks self.new) (IsAmong (disks self.old).may_hold slot lba from.now) }
+        ensures remembers { Remembers (disks self.old) (disks self.new) }
+        ensures ok { OnOk result ((disks self.new).failed_writes ≡ (disks self.old).failed_writes) }
+        ensures failed { OnErr result (Rose ((disks self.old).failed_writes slot) ((disks self.new).failed_writes slot)) }
+        ensures spends { SpendsWrites (disks self.old) (disks self.new) slot (length from.now) 1 };
 
     /// Makes all that was written to the slot sure: a stop then leaves what the slot holds.
     fn sync(&mut self, slot: usize) -> Result<(), BayFailed>
-        requires { slot < length (sizes self.old) }
-        ensures durable { OnOk result (IsSettled (may_hold self.new) (held self.new) slot) }
-        ensures held { held self.new ≡ held self.old }
-        ensures left { Keeps (may_hold self.old) (may_hold self.new) }
-        ensures any_moment { StopsLeave moment left_since self.old self.new (IsLeft (may_hold self.old)) }
-        ensures ok { OnOk result (failed_writes self.new ≡ failed_writes self.old) }
-        ensures failed { OnErr result (Rose (failed_writes self.old slot) (failed_writes self.new slot)) }
-        ensures spends { Spends tells_left sizes failed_reads failed_writes sectors_written calls self.old self.new slot 0 1 };
+        requires { slot < length (disks self.old).sizes }
+        ensures durable { OnOk result (IsSettled (disks self.new).may_hold (disks self.new).held slot) }
+        ensures held { (disks self.new).held ≡ (disks self.old).held }
+        ensures left { Keeps (disks self.old).may_hold (disks self.new).may_hold }
+        ensures any_moment { StopsLeave (disks self.old) (disks self.new) (IsLeft (disks self.old).may_hold) }
+        ensures remembers { Remembers (disks self.old) (disks self.new) }
+        ensures ok { OnOk result ((disks self.new).failed_writes ≡ (disks self.old).failed_writes) }
+        ensures failed { OnErr result (Rose ((disks self.old).failed_writes slot) ((disks self.new).failed_writes slot)) }
+        ensures spends { SpendsWrites (disks self.old) (disks self.new) slot 0 1 };
 
     /// There are few slots.
-    ghost few: { (bay : Self) → length (sizes bay) ≤ 64 };
+    ghost few: { (bay : Self) → length (disks bay).sizes ≤ 64 };
 
     /// Slots are small enough that no sector's number overflows.
-    ghost small: { (bay : Self) (slot : ℕ) → slice_index (sizes bay) slot ≤ 2 ^ 55 };
+    ghost small: { (bay : Self) (slot : ℕ) → slice_index (disks bay).sizes slot ≤ 2 ^ 55 };
 
     /// Since this moment there is no other.
-    ghost only_now: { (bay : Self) (image : ℕ → ℕ → List ℕ) → left_since bay (moment bay) image → IsLeft (may_hold bay) image };
+    ghost only_now: { (bay : Self) (image : ℕ → ℕ → List ℕ) → (disks bay).left_since (disks bay).moment image → IsLeft (disks bay).may_hold image };
 
     /// This moment is one of those since an earlier one.
-    ghost counts_now: { (bay : Self) (t : ℕ) (image : ℕ → ℕ → List ℕ) → t ≤ moment bay → IsLeft (may_hold bay) image → left_since bay t image };
+    ghost counts_now: { (bay : Self) (t : ℕ) (image : ℕ → ℕ → List ℕ) → t ≤ (disks bay).moment → IsLeft (disks bay).may_hold image → (disks bay).left_since t image };
 
     /// Where an image is told, the bay tells at this moment what a stop may leave.
-    ghost told_since: { (bay : Self) (t : ℕ) (image : ℕ → ℕ → List ℕ) → left_since bay t image → tells_left bay };
+    ghost told_since: { (bay : Self) (t : ℕ) (image : ℕ → ℕ → List ℕ) → (disks bay).left_since t image → (disks bay).tells_left };
+
+    /// A sector is whole: what a stop may leave in it has 512 bytes.
+    ghost whole: { (bay : Self) (s l : ℕ) (bytes : List ℕ) → (disks bay).may_hold s l bytes → length bytes ≡ 512 };
+
+    /// A bay is one that calls may make of it: none has to change it.
+    ghost leads: { (bay : Self) → (disks bay).leads_to bay };
 
     /// The bay as it reads is one of its images.
-    ghost held_is_left: { (bay : Self) → tells_left bay → IsLeft (may_hold bay) (held bay) };
+    ghost held_is_left: { (bay : Self) → (disks bay).tells_left → IsLeft (disks bay).may_hold (disks bay).held };
 }

@@ -14,11 +14,11 @@ pub(crate) fn tell<B: Bay>(
     second: &Sector,
     third: &Sector,
 ) -> Result<(), BayFailed>
-    requires slot { slot < length (B.sizes bay.old) }
-    requires three { 2 < slice_index (B.sizes bay.old) slot }
-    ensures sizes { B.sizes bay.new ≡ B.sizes bay.old }
-    ensures any_moment { B.tells → StopsLeave B.moment B.left_since bay.old bay.new
-        (λ image. B.may_hold bay.old slot 2 (image slot 2) ⊎ ((image slot 0 ≡ first.now) × (image slot 1 ≡ second.now))) }
+    requires slot { slot < length (B.disks bay.old).sizes }
+    requires three { 2 < slice_index (B.disks bay.old).sizes slot }
+    ensures sizes { (B.disks bay.new).sizes ≡ (B.disks bay.old).sizes }
+    ensures any_moment { B.tells → StopsLeave (B.disks bay.old) (B.disks bay.new)
+        (λ image. (B.disks bay.old).may_hold slot 2 (image slot 2) ⊎ ((image slot 0 ≡ first.now) × (image slot 1 ≡ second.now))) }
 {
     bay.write(slot, 0, first)?;
     bay.write(slot, 1, second)?;

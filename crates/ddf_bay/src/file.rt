@@ -2,7 +2,7 @@
 ghost use Rattle.std.specs.Prelude.{◌≡◌, ◌<◌, ◌≤◌, ◌+◌, ◌^◌, [], List, ℕ, false, length, is_some, IfOk, OnOk, OnErr, IsErr, IsTrue, slice_index, nat_le};
 ghost use Rattle.std.specs.List.{list_all};
 ghost use Rattle.ddf_bytes.specs.Counts.{Rose};
-ghost use Rattle.ddf_bay.specs.Moments.{Spends};
+ghost use Rattle.ddf_bay.specs.Moments.{Remembers, SpendsWrites};
 ghost use Rattle.ddf_bay.specs.Files.{AreEmptyUnlessOpen};
 
 use crate::counts::{next, raise};
@@ -55,13 +55,15 @@ fn open_slot<R: Files>(rt: &R, path: &str) -> (Option<R::File>, u64)
 }
 
 impl<R: Files> FileBay<R> {
-    ghost use Rattle.ddf_bay.specs.FileBays.{has_opened};
+    ghost use Rattle.ddf_bay.specs.FileBays.{disks_of, has_opened};
 
     /// Opens each path for reading and writing. One that can't be opened so, or has no end to seek to, is a slot of
     /// size 0 whose syncs fail. A size is that of the file or block device in whole sectors.
     pub fn open(rt: &R, alloc: Global, paths: &[String]) -> Result<FileBay<R>, NoMemory>
         requires { length paths.now ≤ 64 }
-        ensures { IfOk result (λ bay. length (⟦<FileBay<R> as Bay>⟧.sizes bay) ≡ length paths.now) }
+        ensures slots { IfOk result (λ bay. length (disks_of bay).sizes ≡ length paths.now) }
+        ensures counts { IfOk result (λ bay. (s : ℕ) → ((disks_of bay).failed_reads s ≡ 0) × ((disks_of bay).failed_writes s ≡ 0)) }
+        ensures calls { IfOk result (λ bay. (disks_of bay).calls ≡ 0) }
     {
         let mut files = Vec::with_capacity(alloc, paths.len())?;
         let mut sizes = Vec::with_capacity(alloc, paths.len())?;
@@ -82,39 +84,21 @@ impl<R: Files> FileBay<R> {
 
     /// Whether the slot's path could be opened for reading and writing.
     pub fn opened(&self, slot: usize) -> bool
-        requires { slot < length (⟦<FileBay<R> as Bay>⟧.sizes self.now) }
+        requires { slot < length (disks_of self.now).sizes }
         ensures opened { result ≡ has_opened self.now slot }
-        ensures closed { result ≡ false → slice_index (⟦<FileBay<R> as Bay>⟧.sizes self.now) slot ≡ 0 }
+        ensures closed { result ≡ false → slice_index (disks_of self.now).sizes slot ≡ 0 }
     {
         self.files[slot].is_some()
     }
 }
 
 impl<R: Files> Bay for FileBay<R> {
-    ghost use Rattle.ddf_bay.specs.FileBays.{has_opened};
+    ghost use Rattle.ddf_bay.specs.FileBays.{disks_of, has_opened};
     ghost use Rattle.ddf_bay.specs.MemoryLaws.{size_small};
 
-    ghost sizes = { λ b. b.sizes.items };
+    ghost disks = { disks_of };
 
     ghost tells = { ⊥ };
-
-    ghost held = { λ b s l. [] };
-
-    ghost tells_left = { λ b. ⊥ };
-
-    ghost may_hold = { λ b s l bytes. ⊥ };
-
-    ghost moment = { λ b. 0 };
-
-    ghost left_since = { λ b t image. ⊥ };
-
-    ghost failed_reads = { λ b s. slice_index b.read_faults s };
-
-    ghost failed_writes = { λ b s. slice_index b.write_faults s };
-
-    ghost sectors_written = { λ b. b.written };
-
-    ghost calls = { λ b. b.made };
 
     ghost few = { λ b. b.few };
 
@@ -125,6 +109,10 @@ impl<R: Files> Bay for FileBay<R> {
     ghost counts_now = { λ b t image le left. left 0 0 };
 
     ghost told_since = { λ b t image left. left };
+
+    ghost whole = { λ b s l bytes left. absurd left };
+
+    ghost leads = { λ b. tt };
 
     ghost held_is_left = { λ b told s l. told };
 
@@ -164,10 +152,11 @@ impl<R: Files> Bay for FileBay<R> {
     }
 
     fn sync(&mut self, slot: usize) -> Result<(), BayFailed>
-        requires { slot < length (⟦<FileBay<R> as Bay>⟧.sizes self.old) }
-        ensures ok { OnOk result (⟦<FileBay<R> as Bay>⟧.failed_writes self.new ≡ ⟦<FileBay<R> as Bay>⟧.failed_writes self.old) }
-        ensures failed { OnErr result (Rose (⟦<FileBay<R> as Bay>⟧.failed_writes self.old slot) (⟦<FileBay<R> as Bay>⟧.failed_writes self.new slot)) }
-        ensures spends { Spends ⟦<FileBay<R> as Bay>⟧.tells_left ⟦<FileBay<R> as Bay>⟧.sizes ⟦<FileBay<R> as Bay>⟧.failed_reads ⟦<FileBay<R> as Bay>⟧.failed_writes ⟦<FileBay<R> as Bay>⟧.sectors_written ⟦<FileBay<R> as Bay>⟧.calls self.old self.new slot 0 1 }
+        requires { slot < length (disks_of self.old).sizes }
+        ensures ok { OnOk result ((disks_of self.new).failed_writes ≡ (disks_of self.old).failed_writes) }
+        ensures failed { OnErr result (Rose ((disks_of self.old).failed_writes slot) ((disks_of self.new).failed_writes slot)) }
+        ensures remembers { Remembers (disks_of self.old) (disks_of self.new) }
+        ensures spends { SpendsWrites (disks_of self.old) (disks_of self.new) slot 0 1 }
 
         // One that could not be opened fails.
         ensures closed { has_opened self.old slot ≡ false → IsErr result }

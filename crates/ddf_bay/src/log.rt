@@ -1,7 +1,7 @@
-ghost use Rattle.std.specs.Prelude.{◌≡◌, ◌<◌, ◌≤◌, ◌+◌, ◌-◌, ◌^◌, [], ◌∷◌, ◌++◌, List, length, vec_len, vec_capacity, IfOk};
+ghost use Rattle.std.specs.Prelude.{◌≡◌, ◌<◌, ◌≤◌, ◌+◌, ◌-◌, ◌^◌, [], ◌∷◌, ◌++◌, List, length, vec_len, vec_capacity, IfOk, IsTrue};
 ghost use Rattle.std.specs.HashMap.{hash_map_len, spare};
 ghost use Rattle.ddf_bay.specs.Sectors.{IsRead};
-ghost use Rattle.ddf_bay.specs.Records.{held_of, newest, zeros, settled, run_records, survivors};
+ghost use Rattle.ddf_bay.specs.Records.{are_whole, held_of, newest, zeros, settled, run_records, survivors};
 ghost use Rattle.ddf_bay.specs.Finding.{noted, Finds, IsWithin};
 
 use crate::index::{Index, Place, note};
@@ -23,6 +23,7 @@ pub(crate) struct Log {
     ghost spare: { vec_len records + room ≤ hash_map_len index + spare index },
     ghost finds: { Finds (noted index) records.items },
     ghost within: { IsWithin (noted index) records.items },
+    ghost whole: { IsTrue (are_whole records.items) },
 }
 
 impl Log {
@@ -59,8 +60,10 @@ impl Log {
         }
     }
 
+    #[tactic(auto, using(crate::specs::RecordLaws::whole_added))]
     fn push_one(&mut self, entry: Record)
-        requires { 0 < self.old.room }
+        requires room { 0 < self.old.room }
+        requires whole { length entry.bytes ≡ 512 }
         ensures records { self.new.records.items ≡ self.old.records.items ++ entry ∷ [] }
         ensures room { self.new.room + 1 ≡ self.old.room }
     {
@@ -90,7 +93,7 @@ impl Log {
             self.push_one(Record {
                 slot,
                 lba: at,
-                bytes: *first,
+                bytes: bytes_of(first),
                 at: now,
                 settled: None,
             });
@@ -108,6 +111,7 @@ impl Log {
     }
 
     /// What a stop makes of the records.
+    #[tactic(auto, using(crate::specs::RecordLaws::whole_stop))]
     pub fn stop(&mut self, now: u64, keep: &[bool])
         ensures records { self.new.records.items ≡ survivors now keep.now self.old.records.items }
         ensures room { self.new.room ≡ self.old.room }
@@ -115,6 +119,14 @@ impl Log {
         keep_some(&mut self.records, now, keep);
         note_all(&mut self.index, self.records.as_slice());
     }
+}
+
+/// The bytes of a sector.
+fn bytes_of(sector: &Sector) -> Sector
+    ensures value { result ≡ sector.now }
+    ensures whole { length result ≡ 512 }
+{
+    *sector
 }
 
 /// A sector that was never written.

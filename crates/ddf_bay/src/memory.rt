@@ -33,7 +33,7 @@ pub struct MemoryBay {
 }
 
 impl MemoryBay {
-    ghost use Rattle.ddf_bay.specs.Memory.{state_of, sizes_of, held_by, moment_of, TellsLeft, MayLeave, MightHaveLeft, calls_of, blank, fails_next, without, stopped};
+    ghost use Rattle.ddf_bay.specs.Memory.{state_of, disks_of, blank, fails_next, without, stopped};
 
     /// Slots of these sizes, in sectors, that hold zeros, with room for so many sectors to be written. The calls with
     /// the listed numbers fail, and all from `stop_after` on.
@@ -47,9 +47,9 @@ impl MemoryBay {
         requires few { length sizes.now ≤ 64 }
         requires small { IsTrue (list_all (λ n. nat_le n (2 ^ 55)) sizes.now) }
         ensures state { IfOk result (λ bay. state_of bay ≡ blank sizes.now writes failing.items stop_after) }
-        ensures sizes { IfOk result (λ bay. sizes_of bay ≡ sizes.now) }
-        ensures held { IfOk result (λ bay. (s l : ℕ) → held_by bay s l ≡ zeros) }
-        ensures settled { IfOk result (λ bay. (s : ℕ) → IsSettled (MayLeave bay) (held_by bay) s) }
+        ensures sizes { IfOk result (λ bay. (disks_of bay).sizes ≡ sizes.now) }
+        ensures held { IfOk result (λ bay. (s l : ℕ) → (disks_of bay).held s l ≡ zeros) }
+        ensures settled { IfOk result (λ bay. (s : ℕ) → IsSettled (disks_of bay).may_hold (disks_of bay).held s) }
     {
         let sizes = sizes.to_vec(alloc)?;
         let log = Log::new(alloc, writes)?;
@@ -69,7 +69,7 @@ impl MemoryBay {
 
     /// Makes every later call on the slot fail.
     pub fn unplug(&mut self, slot: usize)
-        requires { slot < length (sizes_of self.old) }
+        requires { slot < length (disks_of self.old).sizes }
         ensures { state_of self.new ≡ without (state_of self.old) slot }
     {
         self.unplugged[slot] = true;
@@ -80,9 +80,9 @@ impl MemoryBay {
     /// isn't true. Numbers begin at 0 again, unplugged slots are there again, and the room that is left stays.
     pub fn crash(self, keep: &[bool], failing: Vec<u64>, stop_after: Option<u64>) -> MemoryBay
         ensures state { state_of result ≡ stopped (state_of self) keep.now failing.items stop_after }
-        ensures left { TellsLeft self → IsLeft (MayLeave self) (held_by result) }
-        ensures settled { (s : ℕ) → IsSettled (MayLeave result) (held_by result) s }
-        ensures any_moment { StopsLeave moment_of MightHaveLeft self result (IsLeft (MayLeave self)) }
+        ensures left { (disks_of self).tells_left → IsLeft (disks_of self).may_hold (disks_of result).held }
+        ensures settled { (s : ℕ) → IsSettled (disks_of result).may_hold (disks_of result).held s }
+        ensures any_moment { StopsLeave (disks_of self) (disks_of result) (IsLeft (disks_of self).may_hold) }
     {
         let mut bay = self;
         let now = bay.clock;
@@ -96,7 +96,7 @@ impl MemoryBay {
 
     /// How many calls were made since the start or the last stop.
     pub fn calls(&self) -> u64
-        ensures { result ≡ calls_of self.now }
+        ensures { result ≡ (disks_of self.now).calls }
     {
         self.made
     }

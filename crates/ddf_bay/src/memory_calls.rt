@@ -2,7 +2,7 @@
 ghost use Rattle.std.specs.Prelude.{◌≡◌, ◌≢◌, ◌⊎◌, ◌<◌, ◌≤◌, ◌+◌, ◌-◌, ◌^◌, [], ◌∷◌, ◌||◌, List, ℕ, length, OnOk, OnErr, is_err, slice_index, nat_lt};
 ghost use Rattle.ddf_bytes.specs.Counts.{Rose};
 ghost use Rattle.ddf_bay.specs.Sectors.{IsLeft, IsRead, put_run};
-ghost use Rattle.ddf_bay.specs.Moments.{StopsLeave, Spends, Keeps, Adds, IsSettled, IsAmong};
+ghost use Rattle.ddf_bay.specs.Moments.{StopsLeave, Remembers, SpendsReads, SpendsWrites, Keeps, Adds, IsSettled, IsAmong};
 
 use crate::counts::{next, raise};
 use crate::{Bay, BayFailed, MemoryBay};
@@ -10,32 +10,14 @@ use ddf_bytes::Sector;
 use std::slice;
 
 impl Bay for MemoryBay {
-    ghost use Rattle.ddf_bay.specs.Memory.{state_of, sizes_of, held_by, moment_of, TellsLeft, MayLeave, MightHaveLeft, failed_reads_of, failed_writes_of, written_of, calls_of};
+    ghost use Rattle.ddf_bay.specs.Memory.{state_of, disks_of};
     ghost use Rattle.ddf_bay.specs.Memory.{fails_next, called, read_failed, write_failed, run_written, synced};
-    ghost use Rattle.ddf_bay.specs.MemoryLaws.{left_only, left_counts, size_small};
-    ghost use Rattle.ddf_bay.specs.RecordLaws.{held_left};
+    ghost use Rattle.ddf_bay.specs.MemoryLaws.{becomes_start, left_only, left_counts, size_small};
+    ghost use Rattle.ddf_bay.specs.RecordLaws.{held_left, left_whole};
 
-    ghost sizes = { sizes_of };
+    ghost disks = { disks_of };
 
     ghost tells = { Unit {0} };
-
-    ghost held = { held_by };
-
-    ghost tells_left = { TellsLeft };
-
-    ghost may_hold = { MayLeave };
-
-    ghost moment = { moment_of };
-
-    ghost left_since = { MightHaveLeft };
-
-    ghost failed_reads = { failed_reads_of };
-
-    ghost failed_writes = { failed_writes_of };
-
-    ghost sectors_written = { written_of };
-
-    ghost calls = { calls_of };
 
     ghost few = { λ b. b.few };
 
@@ -46,6 +28,10 @@ impl Bay for MemoryBay {
     ghost counts_now = { λ b t image le left. left_counts b.clock b.log.records.items t image le left };
 
     ghost told_since = { λ b t image left. left.0 };
+
+    ghost whole = { λ b s l bytes left. left_whole b.clock b.log.records.items s l bytes b.log.whole left.1 };
+
+    ghost leads = { λ b. becomes_start (state_of b) };
 
     ghost held_is_left = { λ b told s l. (told, held_left b.clock b.log.records.items s l b.past) };
 
@@ -58,15 +44,16 @@ impl Bay for MemoryBay {
     }
 
     fn read(&mut self, slot: usize, lba: u64, into: &mut Sector) -> Result<(), BayFailed>
-        requires slot { slot < length (sizes_of self.old) }
-        requires sector { lba < slice_index (sizes_of self.old) slot }
-        ensures bytes { OnOk result (into.new ≡ held_by self.old slot lba) }
-        ensures held { held_by self.new ≡ held_by self.old }
-        ensures left { Keeps (MayLeave self.old) (MayLeave self.new) }
-        ensures any_moment { StopsLeave moment_of MightHaveLeft self.old self.new (IsLeft (MayLeave self.old)) }
-        ensures ok { OnOk result (failed_reads_of self.new ≡ failed_reads_of self.old) }
-        ensures failed { OnErr result (Rose (failed_reads_of self.old slot) (failed_reads_of self.new slot)) }
-        ensures spends { Spends TellsLeft sizes_of failed_writes_of failed_reads_of written_of calls_of self.old self.new slot 0 1 }
+        requires slot { slot < length (disks_of self.old).sizes }
+        requires sector { lba < slice_index (disks_of self.old).sizes slot }
+        ensures bytes { OnOk result (into.new ≡ (disks_of self.old).held slot lba) }
+        ensures held { (disks_of self.new).held ≡ (disks_of self.old).held }
+        ensures left { Keeps (disks_of self.old).may_hold (disks_of self.new).may_hold }
+        ensures any_moment { StopsLeave (disks_of self.old) (disks_of self.new) (IsLeft (disks_of self.old).may_hold) }
+        ensures remembers { Remembers (disks_of self.old) (disks_of self.new) }
+        ensures ok { OnOk result ((disks_of self.new).failed_reads ≡ (disks_of self.old).failed_reads) }
+        ensures failed { OnErr result (Rose ((disks_of self.old).failed_reads slot) ((disks_of self.new).failed_reads slot)) }
+        ensures spends { SpendsReads (disks_of self.old) (disks_of self.new) slot 1 }
 
         // Exactly these calls fail, and this is what is left of the bay.
         ensures fails { is_err result ≡ fails_next (state_of self.old) slot }
@@ -85,16 +72,17 @@ impl Bay for MemoryBay {
     }
 
     fn read_run(&mut self, slot: usize, lba: u64, into: &mut [Sector]) -> Result<(), BayFailed>
-        requires slot { slot < length (sizes_of self.old) }
+        requires slot { slot < length (disks_of self.old).sizes }
         requires some { 0 < length into.old }
-        requires sectors { lba + length into.old ≤ slice_index (sizes_of self.old) slot }
-        ensures bytes { OnOk result (IsRead (held_by self.old slot) lba into.new) }
-        ensures held { held_by self.new ≡ held_by self.old }
-        ensures left { Keeps (MayLeave self.old) (MayLeave self.new) }
-        ensures any_moment { StopsLeave moment_of MightHaveLeft self.old self.new (IsLeft (MayLeave self.old)) }
-        ensures ok { OnOk result (failed_reads_of self.new ≡ failed_reads_of self.old) }
-        ensures failed { OnErr result (Rose (failed_reads_of self.old slot) (failed_reads_of self.new slot)) }
-        ensures spends { Spends TellsLeft sizes_of failed_writes_of failed_reads_of written_of calls_of self.old self.new slot 0 1 }
+        requires sectors { lba + length into.old ≤ slice_index (disks_of self.old).sizes slot }
+        ensures bytes { OnOk result (IsRead ((disks_of self.old).held slot) lba into.new) }
+        ensures held { (disks_of self.new).held ≡ (disks_of self.old).held }
+        ensures left { Keeps (disks_of self.old).may_hold (disks_of self.new).may_hold }
+        ensures any_moment { StopsLeave (disks_of self.old) (disks_of self.new) (IsLeft (disks_of self.old).may_hold) }
+        ensures remembers { Remembers (disks_of self.old) (disks_of self.new) }
+        ensures ok { OnOk result ((disks_of self.new).failed_reads ≡ (disks_of self.old).failed_reads) }
+        ensures failed { OnErr result (Rose ((disks_of self.old).failed_reads slot) ((disks_of self.new).failed_reads slot)) }
+        ensures spends { SpendsReads (disks_of self.old) (disks_of self.new) slot 1 }
 
         // Exactly these calls fail, and this is what is left of the bay.
         ensures fails { is_err result ≡ fails_next (state_of self.old) slot }
@@ -113,15 +101,16 @@ impl Bay for MemoryBay {
     }
 
     fn write(&mut self, slot: usize, lba: u64, from: &Sector) -> Result<(), BayFailed>
-        requires slot { slot < length (sizes_of self.old) }
-        requires sector { lba < slice_index (sizes_of self.old) slot }
-        ensures held { OnOk result (held_by self.new ≡ put_run (held_by self.old) slot lba (from.now ∷ [])) }
-        ensures held_failed { OnErr result (held_by self.new ≡ held_by self.old) }
-        ensures left { Adds (MayLeave self.old) (MayLeave self.new) slot lba (from.now ∷ []) }
-        ensures any_moment { StopsLeave moment_of MightHaveLeft self.old self.new (IsAmong (MayLeave self.old) slot lba (from.now ∷ [])) }
-        ensures ok { OnOk result (failed_writes_of self.new ≡ failed_writes_of self.old) }
-        ensures failed { OnErr result (Rose (failed_writes_of self.old slot) (failed_writes_of self.new slot)) }
-        ensures spends { Spends TellsLeft sizes_of failed_reads_of failed_writes_of written_of calls_of self.old self.new slot 1 1 }
+        requires slot { slot < length (disks_of self.old).sizes }
+        requires sector { lba < slice_index (disks_of self.old).sizes slot }
+        ensures held { OnOk result ((disks_of self.new).held ≡ put_run (disks_of self.old).held slot lba (from.now ∷ [])) }
+        ensures held_failed { OnErr result ((disks_of self.new).held ≡ (disks_of self.old).held) }
+        ensures left { Adds (disks_of self.old).may_hold (disks_of self.new).may_hold slot lba (from.now ∷ []) }
+        ensures any_moment { StopsLeave (disks_of self.old) (disks_of self.new) (IsAmong (disks_of self.old).may_hold slot lba (from.now ∷ [])) }
+        ensures remembers { Remembers (disks_of self.old) (disks_of self.new) }
+        ensures ok { OnOk result ((disks_of self.new).failed_writes ≡ (disks_of self.old).failed_writes) }
+        ensures failed { OnErr result (Rose ((disks_of self.old).failed_writes slot) ((disks_of self.new).failed_writes slot)) }
+        ensures spends { SpendsWrites (disks_of self.old) (disks_of self.new) slot 1 1 }
 
         // Exactly these calls fail, and this is what is left of the bay.
         ensures fails { is_err result ≡ fails_next (state_of self.old) slot || nat_lt (state_of self.old).room 1 }
@@ -132,16 +121,17 @@ impl Bay for MemoryBay {
     }
 
     fn write_run(&mut self, slot: usize, lba: u64, from: &[Sector]) -> Result<(), BayFailed>
-        requires slot { slot < length (sizes_of self.old) }
+        requires slot { slot < length (disks_of self.old).sizes }
         requires some { 0 < length from.now }
-        requires sectors { lba + length from.now ≤ slice_index (sizes_of self.old) slot }
-        ensures held { OnOk result (held_by self.new ≡ put_run (held_by self.old) slot lba from.now) }
-        ensures held_failed { OnErr result (held_by self.new ≡ held_by self.old) }
-        ensures left { Adds (MayLeave self.old) (MayLeave self.new) slot lba from.now }
-        ensures any_moment { StopsLeave moment_of MightHaveLeft self.old self.new (IsAmong (MayLeave self.old) slot lba from.now) }
-        ensures ok { OnOk result (failed_writes_of self.new ≡ failed_writes_of self.old) }
-        ensures failed { OnErr result (Rose (failed_writes_of self.old slot) (failed_writes_of self.new slot)) }
-        ensures spends { Spends TellsLeft sizes_of failed_reads_of failed_writes_of written_of calls_of self.old self.new slot (length from.now) 1 }
+        requires sectors { lba + length from.now ≤ slice_index (disks_of self.old).sizes slot }
+        ensures held { OnOk result ((disks_of self.new).held ≡ put_run (disks_of self.old).held slot lba from.now) }
+        ensures held_failed { OnErr result ((disks_of self.new).held ≡ (disks_of self.old).held) }
+        ensures left { Adds (disks_of self.old).may_hold (disks_of self.new).may_hold slot lba from.now }
+        ensures any_moment { StopsLeave (disks_of self.old) (disks_of self.new) (IsAmong (disks_of self.old).may_hold slot lba from.now) }
+        ensures remembers { Remembers (disks_of self.old) (disks_of self.new) }
+        ensures ok { OnOk result ((disks_of self.new).failed_writes ≡ (disks_of self.old).failed_writes) }
+        ensures failed { OnErr result (Rose ((disks_of self.old).failed_writes slot) ((disks_of self.new).failed_writes slot)) }
+        ensures spends { SpendsWrites (disks_of self.old) (disks_of self.new) slot (length from.now) 1 }
 
         // Exactly these calls fail, and this is what is left of the bay.
         ensures fails { is_err result ≡ fails_next (state_of self.old) slot || nat_lt (state_of self.old).room (length from.now) }
@@ -162,14 +152,15 @@ impl Bay for MemoryBay {
     }
 
     fn sync(&mut self, slot: usize) -> Result<(), BayFailed>
-        requires { slot < length (sizes_of self.old) }
-        ensures durable { OnOk result (IsSettled (MayLeave self.new) (held_by self.new) slot) }
-        ensures held { held_by self.new ≡ held_by self.old }
-        ensures left { Keeps (MayLeave self.old) (MayLeave self.new) }
-        ensures any_moment { StopsLeave moment_of MightHaveLeft self.old self.new (IsLeft (MayLeave self.old)) }
-        ensures ok { OnOk result (failed_writes_of self.new ≡ failed_writes_of self.old) }
-        ensures failed { OnErr result (Rose (failed_writes_of self.old slot) (failed_writes_of self.new slot)) }
-        ensures spends { Spends TellsLeft sizes_of failed_reads_of failed_writes_of written_of calls_of self.old self.new slot 0 1 }
+        requires { slot < length (disks_of self.old).sizes }
+        ensures durable { OnOk result (IsSettled (disks_of self.new).may_hold (disks_of self.new).held slot) }
+        ensures held { (disks_of self.new).held ≡ (disks_of self.old).held }
+        ensures left { Keeps (disks_of self.old).may_hold (disks_of self.new).may_hold }
+        ensures any_moment { StopsLeave (disks_of self.old) (disks_of self.new) (IsLeft (disks_of self.old).may_hold) }
+        ensures remembers { Remembers (disks_of self.old) (disks_of self.new) }
+        ensures ok { OnOk result ((disks_of self.new).failed_writes ≡ (disks_of self.old).failed_writes) }
+        ensures failed { OnErr result (Rose ((disks_of self.old).failed_writes slot) ((disks_of self.new).failed_writes slot)) }
+        ensures spends { SpendsWrites (disks_of self.old) (disks_of self.new) slot 0 1 }
 
         // Exactly these calls fail, and this is what is left of the bay.
         ensures fails { is_err result ≡ fails_next (state_of self.old) slot }

@@ -9,18 +9,18 @@ use std::test::Fail;
 
 /// Fills a sector with a byte, and tells whether the write was good.
 fn put<B: Bay>(bay: &mut B, slot: usize, lba: u64, byte: u8) -> bool
-    requires slot { slot < length (B.sizes bay.old) }
-    requires sector { lba < slice_index (B.sizes bay.old) slot }
-    ensures { B.sizes bay.new ≡ B.sizes bay.old }
+    requires slot { slot < length (B.disks bay.old).sizes }
+    requires sector { lba < slice_index (B.disks bay.old).sizes slot }
+    ensures { (B.disks bay.new).sizes ≡ (B.disks bay.old).sizes }
 {
     bay.write(slot, lba, &[byte; 512]).is_ok()
 }
 
 /// Fills two sectors in one run.
 fn put_two<B: Bay>(bay: &mut B, slot: usize, lba: u64, bytes: [u8; 2]) -> bool
-    requires slot { slot < length (B.sizes bay.old) }
-    requires sectors { lba + 1 < slice_index (B.sizes bay.old) slot }
-    ensures { B.sizes bay.new ≡ B.sizes bay.old }
+    requires slot { slot < length (B.disks bay.old).sizes }
+    requires sectors { lba + 1 < slice_index (B.disks bay.old).sizes slot }
+    ensures { (B.disks bay.new).sizes ≡ (B.disks bay.old).sizes }
 {
     let [first, second] = bytes;
     bay.write_run(slot, lba, &[[first; 512], [second; 512]])
@@ -29,9 +29,9 @@ fn put_two<B: Bay>(bay: &mut B, slot: usize, lba: u64, bytes: [u8; 2]) -> bool
 
 /// The first byte of a sector, or 255 where the read fails.
 fn get<B: Bay>(bay: &mut B, slot: usize, lba: u64) -> u8
-    requires slot { slot < length (B.sizes bay.old) }
-    requires sector { lba < slice_index (B.sizes bay.old) slot }
-    ensures { B.sizes bay.new ≡ B.sizes bay.old }
+    requires slot { slot < length (B.disks bay.old).sizes }
+    requires sector { lba < slice_index (B.disks bay.old).sizes slot }
+    ensures { (B.disks bay.new).sizes ≡ (B.disks bay.old).sizes }
 {
     let mut sector = [0; 512];
     match bay.read(slot, lba, &mut sector) {
@@ -42,9 +42,9 @@ fn get<B: Bay>(bay: &mut B, slot: usize, lba: u64) -> u8
 
 /// The first bytes of two sectors, read in one run.
 fn get_two<B: Bay>(bay: &mut B, slot: usize, lba: u64) -> [u8; 2]
-    requires slot { slot < length (B.sizes bay.old) }
-    requires sectors { lba + 1 < slice_index (B.sizes bay.old) slot }
-    ensures { B.sizes bay.new ≡ B.sizes bay.old }
+    requires slot { slot < length (B.disks bay.old).sizes }
+    requires sectors { lba + 1 < slice_index (B.disks bay.old).sizes slot }
+    ensures { (B.disks bay.new).sizes ≡ (B.disks bay.old).sizes }
 {
     let mut sectors = [[0; 512]; 2];
     match bay.read_run(slot, lba, &mut sectors) {
@@ -54,15 +54,15 @@ fn get_two<B: Bay>(bay: &mut B, slot: usize, lba: u64) -> [u8; 2]
 }
 
 fn sync<B: Bay>(bay: &mut B, slot: usize) -> bool
-    requires { slot < length (B.sizes bay.old) }
-    ensures { B.sizes bay.new ≡ B.sizes bay.old }
+    requires { slot < length (B.disks bay.old).sizes }
+    ensures { (B.disks bay.new).sizes ≡ (B.disks bay.old).sizes }
 {
     bay.sync(slot).is_ok()
 }
 
 /// A bay with sector 3 of slot 0 made sure, and after that four writes of which none is.
 fn pending(alloc: Global) -> Result<MemoryBay, NoMemory>
-    ensures { IfOk result (λ bay. ⟦<MemoryBay as Bay>⟧.sizes bay ≡ 9 ∷ 9 ∷ []) }
+    ensures { IfOk result (λ bay. (⟦<MemoryBay as Bay>⟧.disks bay).sizes ≡ 9 ∷ 9 ∷ []) }
 {
     let mut bay = MemoryBay::new(alloc, &[9, 9], 10, Vec::new(alloc), None)?;
     put(&mut bay, 0, 3, 1);

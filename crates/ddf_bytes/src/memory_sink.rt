@@ -1,4 +1,4 @@
-ghost use Rattle.std.specs.Prelude.{◌≡◌, ◌≤◌, ◌<◌, ◌+◌, ◌-◌, ◌++◌, ℕ, List, [], length, take, min, IfOk, OnOk, OnErr, IsErr, IsTrue, ◌↔◌, vec_len, vec_capacity};
+ghost use Rattle.std.specs.Prelude.{◌≡◌, ◌≤◌, ◌<◌, ◌+◌, ◌-◌, ◌^◌, ◌++◌, ℕ, List, [], length, take, min, IfOk, OnOk, OnErr, IsErr, IsTrue, ◌↔◌, vec_len, vec_capacity};
 ghost use Rattle.ddf_bytes.specs.Counts.{Rose};
 ghost use Rattle.ddf_bytes.specs.Memory.{is_listed};
 
@@ -92,6 +92,9 @@ impl Sink for MemorySink {
         ensures fits { IfOk result (λ count. count ≡ min self.old.room (length piece.now)) }
         ensures room { IfOk result (λ count. self.new.room ≡ self.old.room - count) }
         ensures same_list { self.new.failing ≡ self.old.failing }
+        ensures numbered { self.new.calls ≡ min (self.old.calls + 1) (2 ^ 64 - 1) }
+        ensures counted { OnErr result (self.new.faults ≡ min (self.old.faults + 1) (2 ^ 64 - 1)) }
+        ensures same_room { OnErr result (self.new.room ≡ self.old.room) }
     {
         let fails = self.failing.contains(&self.calls);
         self.calls = self.calls.saturating_add(1);

@@ -1,4 +1,4 @@
-ghost use Rattle.std.specs.Prelude.{◌≡◌, ◌≤◌, ◌<◌, ◌-◌, ℕ, List, [], length, drop, min, IfOk, OnOk, OnErr, IsErr, IsTrue, ◌↔◌, vec_len};
+ghost use Rattle.std.specs.Prelude.{◌≡◌, ◌≤◌, ◌<◌, ◌+◌, ◌-◌, ◌^◌, ℕ, List, [], length, drop, min, IfOk, OnOk, OnErr, IsErr, IsTrue, ◌↔◌, vec_len};
 ghost use Rattle.ddf_bytes.specs.Counts.{Rose};
 ghost use Rattle.ddf_bytes.specs.Streams.{Gives};
 ghost use Rattle.ddf_bytes.specs.Memory.{is_listed};
@@ -72,6 +72,8 @@ impl Source for MemorySource {
         // Exactly the listed calls fail.
         ensures listed { IsErr result ↔ IsTrue (is_listed self.old.failing self.old.calls) }
         ensures same_list { self.new.failing ≡ self.old.failing }
+        ensures numbered { self.new.calls ≡ min (self.old.calls + 1) (2 ^ 64 - 1) }
+        ensures counted { OnErr result (self.new.faults ≡ min (self.old.faults + 1) (2 ^ 64 - 1)) }
     {
         let fails = self.failing.contains(&self.calls);
         self.calls = self.calls.saturating_add(1);

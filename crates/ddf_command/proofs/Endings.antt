@@ -4,7 +4,7 @@ use Rattle.std.specs.Prelude.{IsTrue}
 use Rattle.std.proofs.lemmas.Bool.{cases_lt}
 use Rattle.std.proofs.lemmas.List.{append-nil, length-replicate}
 use Rattle.ddf_bytes.specs.declared.stamp.Stamp.{Stamp}
-use Rattle.ddf_bay.specs.Sectors.{Image, Outcomes}
+use Rattle.ddf_bay.specs.State.{BayState}
 use Rattle.ddf_bay.proofs.Looks.{reads_start}
 use Rattle.ddf_bay.proofs.Steps.{stops_start}
 use Rattle.ddf_update.specs.Group.{IsLeftFoundingAll}
@@ -41,32 +41,32 @@ fault_status : (b : Bool) (status : ℕ) → status ≡ 3 → status ≡ (if b t
 fault_status true status three e = refl
 fault_status false status three e = absurd (omega (arith, three, e))
 
-module _ {D : Type 0} (sizes : D → List ℕ) (held : D → Image) (failed_reads failed_writes : D → ℕ → ℕ) (old new : D) (told : Type 0) (before after : List ℕ) where
-  slot_rose : (status : ℕ) → (examined : IsExamined sizes held failed_reads failed_writes old new told before after status) → some_failed examined.failed ≡ true → SomeSlotRose sizes failed_reads failed_writes old new
+module _ {D : Type 0} (old new : BayState D) (told : Type 0) (before after : List ℕ) where
+  slot_rose : (status : ℕ) → (examined : IsExamined old new told before after status) → some_failed examined.failed ≡ true → SomeSlotRose old new
   slot_rose status examined some =
       let first = first_failed examined.failed some in
       record { slot = first.0; there = omega (arith, first.1.0, examined.every_slot); rose = examined.are_failed.rose first.0 first.1.0 first.1.1 }
 
   -- status 3 comes from a slot
-  pub fault_cause : (status : ℕ) → IsExamined sizes held failed_reads failed_writes old new told before after status → status ≡ 3 → SomeSlotRose sizes failed_reads failed_writes old new
+  pub fault_cause : (status : ℕ) → IsExamined old new told before after status → status ≡ 3 → SomeSlotRose old new
   fault_cause status examined e = ⊎_elim
       (λ ends. slot_rose status examined (fault_status (some_failed examined.failed) status e ends))
       (λ short. absurd (⊎_elim (λ five. omega (arith, e, five)) (λ six. omega (arith, e, six)) short))
       examined.ends_with.ends
 
   -- where nothing failed it is done, or memory ran out
-  pub no_fault : (status : ℕ) → IsExamined sizes held failed_reads failed_writes old new told before after status → (SomeSlotRose sizes failed_reads failed_writes old new → ⊥) → (status ≡ 6 → ⊥) → (status ≡ 0) ⊎ (status ≡ 5)
+  pub no_fault : (status : ℕ) → IsExamined old new told before after status → (SomeSlotRose old new → ⊥) → (status ≡ 6 → ⊥) → (status ≡ 0) ⊎ (status ≡ 5)
   no_fault status examined none good = ⊎_elim
       (λ ends. by_test (some_failed examined.failed) (λ some. absurd (none (slot_rose status examined some))) (λ quiet. inl (quiet_status (some_failed examined.failed) status ends quiet)))
       (λ short. ⊎_elim inr (λ six. absurd (good six)) short)
       examined.ends_with.ends
 
 -- nothing was done before memory ran out
-nothing_done : {D : Type 0} (sizes : D → List ℕ) (held : D → Image) (failed_reads failed_writes : D → ℕ → ℕ) (old : D) (told : Type 0) (before : List ℕ) → IsExamined sizes held failed_reads failed_writes old old told before before 5
-nothing_done sizes held failed_reads failed_writes old told before = record {
-  failed = replicate (length (sizes old)) false;
-  every_slot = length-replicate (length (sizes old)) false;
-  are_failed = failed_padded failed_reads failed_writes old old [] (length (sizes old)) (record { rose = λ s lt. absurd (omega (arith, lt)); same = λ s lt. absurd (omega (arith, lt)) }) (λ s le. (refl, refl));
+nothing_done : {D : Type 0} (old : BayState D) (told : Type 0) (before : List ℕ) → IsExamined old old told before before 5
+nothing_done old told before = record {
+  failed = replicate (length old.sizes) false;
+  every_slot = length-replicate (length old.sizes) false;
+  are_failed = failed_padded old old [] (length old.sizes) (record { rose = λ s lt. absurd (omega (arith, lt)); same = λ s lt. absurd (omega (arith, lt)) }) (λ s le. (refl, refl));
   ends_with = record {
     ends = inr (inl refl);
     tells = λ tells. record { whole = λ low. absurd (omega (arith, low)); front = record { count = 0; within = omega arith; front = sym (append-nil before) } };
@@ -93,13 +93,13 @@ stream_status status.DiskFault e = absurd (omega (arith, e))
 stream_status status.Memory e = absurd (omega (arith, e))
 stream_status status.Stream e = refl
 
-pub done_nothing : {D : Type 0} (sizes : D → List ℕ) (held : D → Image) (may_hold : D → Outcomes) (moment : D → ℕ) (left_since : D → ℕ → Image → Type 0) (failed_reads failed_writes : D → ℕ → ℕ) (sectors_written : D → ℕ) (old : D) (tells told : Type 0) (before : List ℕ) (stamp : Stamp) (command : Command)
-    → IsDone sizes held may_hold moment left_since failed_reads failed_writes sectors_written old old tells told before before stamp command 5
-done_nothing sizes held may_hold moment left_since failed_reads failed_writes sectors_written old tells told before stamp Examine = nothing_done sizes held failed_reads failed_writes old (tells × told) before
-done_nothing sizes held may_hold moment left_since failed_reads failed_writes sectors_written old tells told before stamp (Label slots) = record {
+pub done_nothing : {D : Type 0} (old : BayState D) (tells told : Type 0) (before : List ℕ) (stamp : Stamp) (command : Command)
+    → IsDone old old tells told before before stamp command 5
+done_nothing old tells told before stamp Examine = nothing_done old (tells × told) before
+done_nothing old tells told before stamp (Label slots) = record {
   answer = Err Memory;
   tried = reads_start old;
   ends = (refl, λ told. refl);
-  any_moment = λ tells. stops_start old (IsLeftFoundingAll (sizes old) (may_hold old) (held old) (label_slots (sizes old) slots) (label_copy stamp (sizes old) slots));
+  any_moment = λ tells. stops_start old (IsLeftFoundingAll old (label_slots old.sizes slots) (label_copy stamp old.sizes slots));
   refused = λ tells refusal is. reads_start old;
 }

@@ -11,3 +11,4 @@ mod Chosen
 mod Fits
 mod LabelEnds
 mod Labelled
+mod Quiet

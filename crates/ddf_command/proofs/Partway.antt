@@ -5,6 +5,7 @@ use Rattle.std.proofs.lemmas.List.{append-nil, take_all, take-append-le, get_or_
 use Rattle.std.proofs.Math.Seq.{take-append-add}
 use Rattle.std.proofs.lemmas.Bool.{cases_lt}
 use Rattle.ddf_bytes.specs.Streams.{TakesFront}
+use Rattle.ddf_bay.specs.State.{BayState}
 use Rattle.ddf_bay.specs.Sectors.{Image}
 use Rattle.ddf_bay.specs.ReadsOnly.{LooksAt, SlotRose, SlotSame}
 use Rattle.ddf_command.specs.Examine.{one_text, slots_text, AreFailed, some_failed, IsExamined, IsSlotShown}
@@ -26,17 +27,17 @@ some_failed-append (false ∷ fs) b = some_failed-append fs b
 
 -- ---- the slots that failed
 
-module _ {D : Type 0} (failed_reads failed_writes : D → ℕ → ℕ) where
-  abbrev Rises : D → D → ℕ → Type 0
-  Rises = SlotRose failed_reads failed_writes
+module _ where
+  abbrev Rises : {D : Type 0} → BayState D → BayState D → ℕ → Type 0
+  Rises = SlotRose
 
-  abbrev Rests : D → D → ℕ → Type 0
-  Rests = SlotSame failed_reads failed_writes
+  abbrev Rests : {D : Type 0} → BayState D → BayState D → ℕ → Type 0
+  Rests = SlotSame
 
-  module _ (old now next : D) (fs : List Bool) (b : Bool) (so_far : AreFailed failed_reads failed_writes old now fs)
-      (later : (s : ℕ) → length fs ≤ s → SlotSame failed_reads failed_writes old now s) (look : LooksAt failed_reads failed_writes now next (length fs) b) where
+  module _ {D : Type 0} (old now next : BayState D) (fs : List Bool) (b : Bool) (so_far : AreFailed old now fs)
+      (later : (s : ℕ) → length fs ≤ s → SlotSame old now s) (look : LooksAt now next (length fs) b) where
     -- other slots stay
-    still : (s : ℕ) → s ≢ length fs → SlotSame failed_reads failed_writes now next s
+    still : (s : ℕ) → s ≢ length fs → SlotSame now next s
     still s differs = (look.reads.other_slots s differs, look.writes.other_slots s differs)
 
     same_on : (s : ℕ) → s ≢ length fs → Rests old now s → Rests old next s
@@ -64,7 +65,7 @@ module _ {D : Type 0} (failed_reads failed_writes : D → ℕ → ℕ) where
     one_longer : length (fs ++ b ∷ []) ≡ length fs + 1
     one_longer = length-append fs (b ∷ [])
 
-    pub failed_more : AreFailed failed_reads failed_writes old next (fs ++ b ∷ [])
+    pub failed_more : AreFailed old next (fs ++ b ∷ [])
     failed_more = record {
       rose = λ s lt h. ⊎_elim
           (λ before. rose_on s (λ e. omega (arith, e, before)) (so_far.rose s before (rw (earlier s before) at h)))
@@ -76,12 +77,12 @@ module _ {D : Type 0} (failed_reads failed_writes : D → ℕ → ℕ) where
           (cases_lt s (length fs));
     }
 
-    pub later_more : (s : ℕ) → length fs + 1 ≤ s → SlotSame failed_reads failed_writes old next s
+    pub later_more : (s : ℕ) → length fs + 1 ≤ s → SlotSame old next s
     later_more s beyond = same_on s (λ e. omega (arith, e, beyond)) (later s (omega arith))
 
   -- slots that were not looked at did not fail
-  pub failed_padded : (old now : D) (fs : List Bool) (count : ℕ) → AreFailed failed_reads failed_writes old now fs
-      → ((s : ℕ) → length fs ≤ s → SlotSame failed_reads failed_writes old now s) → AreFailed failed_reads failed_writes old now (fs ++ replicate count false)
+  pub failed_padded : {D : Type 0} (old now : BayState D) (fs : List Bool) (count : ℕ) → AreFailed old now fs
+      → ((s : ℕ) → length fs ≤ s → SlotSame old now s) → AreFailed old now (fs ++ replicate count false)
   failed_padded old now fs count so_far later = record {
     rose = λ s lt h. ⊎_elim
         (λ before. so_far.rose s before (rw (get_or_append_left fs (replicate count false) false s before) at h))
@@ -101,13 +102,13 @@ module _ {D : Type 0} (failed_reads failed_writes : D → ℕ → ℕ) where
 -- ---- the whole
 
 -- So many slots were shown.
-pub record IsPartway {D : Type 0} (sizes : D → List ℕ) (held : D → Image) (failed_reads failed_writes : D → ℕ → ℕ) (old now : D) (slot : ℕ) (told : Type 0) (before after : List ℕ) (fault : Bool) : Type 0 where
+pub record IsPartway {D : Type 0} (old now : BayState D) (slot : ℕ) (told : Type 0) (before after : List ℕ) (fault : Bool) : Type 0 where
   pub failed : List Bool
   pub slots : length failed ≡ slot
-  pub are_failed : AreFailed failed_reads failed_writes old now failed
-  pub later : (s : ℕ) → slot ≤ s → SlotSame failed_reads failed_writes old now s
+  pub are_failed : AreFailed old now failed
+  pub later : (s : ℕ) → slot ≤ s → SlotSame old now s
   pub fault_is : fault ≡ some_failed failed
-  pub tells : told → after ≡ before ++ slots_text 0 failed (sizes old) (held old)
+  pub tells : told → after ≡ before ++ slots_text 0 failed old.sizes old.held
 
 -- ---- the text
 
@@ -147,9 +148,9 @@ answered : (result : Result Bool Stop) (b failed : Bool) → result ≡ Ok b →
 answered (Ok a) b failed e h = cc
 answered (Err stop) b failed e h = cc
 
-module _ {D : Type 0} (sizes : D → List ℕ) (held : D → Image) (failed_reads failed_writes : D → ℕ → ℕ) (told : Type 0) where
+module _ (told : Type 0) where
   -- before the first slot
-  pub partway_start : (a : D) (before : List ℕ) → IsPartway sizes held failed_reads failed_writes a a 0 told before before false
+  pub partway_start : {D : Type 0} (a : BayState D) (before : List ℕ) → IsPartway a a 0 told before before false
   partway_start a before = record {
     failed = [];
     slots = refl;
@@ -159,54 +160,54 @@ module _ {D : Type 0} (sizes : D → List ℕ) (held : D → Image) (failed_read
     tells = λ tells. sym (append-nil before);
   }
 
-  module _ (old now next : D) (slot : ℕ) (before after later : List ℕ) (fault : Bool) (result : Result Bool Stop)
-      (so_far : IsPartway sizes held failed_reads failed_writes old now slot told before after fault)
-      (same_sizes : sizes now ≡ sizes old) (same_held : held now ≡ held old)
-      (shown : IsSlotShown sizes held failed_reads failed_writes now next slot told after later result) where
-    look : LooksAt failed_reads failed_writes now next (length so_far.failed) shown.failed
+  module _ {D : Type 0} (old now next : BayState D) (slot : ℕ) (before after later : List ℕ) (fault : Bool) (result : Result Bool Stop)
+      (so_far : IsPartway old now slot told before after fault)
+      (same_sizes : now.sizes ≡ old.sizes) (same_held : now.held ≡ old.held)
+      (shown : IsSlotShown now next slot told after later result) where
+    look : LooksAt now next (length so_far.failed) shown.failed
     look = rw so_far.slots shown.look
 
-    rest : (s : ℕ) → length so_far.failed ≤ s → SlotSame failed_reads failed_writes old now s
+    rest : (s : ℕ) → length so_far.failed ≤ s → SlotSame old now s
     rest s le = so_far.later s (omega (arith, so_far.slots))
 
     failed : List Bool
     failed = so_far.failed ++ shown.failed ∷ []
 
-    more : AreFailed failed_reads failed_writes old next (so_far.failed ++ shown.failed ∷ [])
-    more = failed_more failed_reads failed_writes old now next so_far.failed shown.failed so_far.are_failed rest look
+    more : AreFailed old next (so_far.failed ++ shown.failed ∷ [])
+    more = failed_more old now next so_far.failed shown.failed so_far.are_failed rest look
 
-    beyond : (s : ℕ) → length so_far.failed + 1 ≤ s → SlotSame failed_reads failed_writes old next s
-    beyond = later_more failed_reads failed_writes old now next so_far.failed shown.failed so_far.are_failed rest look
+    beyond : (s : ℕ) → length so_far.failed + 1 ≤ s → SlotSame old next s
+    beyond = later_more old now next so_far.failed shown.failed so_far.are_failed rest look
 
     next_slot : length (so_far.failed ++ shown.failed ∷ []) ≡ slot + 1
     next_slot = length-append so_far.failed (shown.failed ∷ []) ∙ omega (arith, so_far.slots)
 
-    same_text : one_text slot shown.failed (sizes now) (held now) ≡ one_text (length so_far.failed) shown.failed (sizes old) (held old)
+    same_text : one_text slot shown.failed now.sizes now.held ≡ one_text (length so_far.failed) shown.failed old.sizes old.held
     same_text = rw (same_sizes, same_held, so_far.slots) refl
 
     -- one slot more
-    pub partway_more : (b : Bool) → result ≡ Ok b → IsPartway sizes held failed_reads failed_writes old next (slot + 1) told before later (fault || b)
+    pub partway_more : (b : Bool) → result ≡ Ok b → IsPartway old next (slot + 1) told before later (fault || b)
     partway_more b ok = record {
       failed = so_far.failed ++ shown.failed ∷ [];
       slots = next_slot;
       are_failed = more;
       later = λ s le. beyond s (omega (arith, so_far.slots));
       fault_is = rw (so_far.fault_is, answered result b shown.failed ok shown.answer) (sym (some_failed-append so_far.failed shown.failed));
-      tells = λ tells. whole_told before after later so_far.failed shown.failed (sizes old) (held old) (so_far.tells tells) (on_ok result b ok (shown.whole tells) ∙ ap (λ (ts : List ℕ). after ++ ts) same_text);
+      tells = λ tells. whole_told before after later so_far.failed shown.failed old.sizes old.held (so_far.tells tells) (on_ok result b ok (shown.whole tells) ∙ ap (λ (ts : List ℕ). after ++ ts) same_text);
     }
 
     -- memory or the output gave out
-    pub partway_stopped : (status : ℕ) → slot < length (sizes old) → (status ≡ 5) ⊎ (status ≡ 6) → IsExamined sizes held failed_reads failed_writes old next told before later status
+    pub partway_stopped : (status : ℕ) → slot < length old.sizes → (status ≡ 5) ⊎ (status ≡ 6) → IsExamined old next told before later status
     partway_stopped status lt stop = record {
-      failed = (so_far.failed ++ shown.failed ∷ []) ++ replicate (length (sizes old) - (slot + 1)) false;
-      every_slot = length-append (so_far.failed ++ shown.failed ∷ []) (replicate (length (sizes old) - (slot + 1)) false) ∙ omega (arith, next_slot, length-replicate (length (sizes old) - (slot + 1)) false);
-      are_failed = failed_padded failed_reads failed_writes old next (so_far.failed ++ shown.failed ∷ []) (length (sizes old) - (slot + 1)) more (λ s le. beyond s (omega (arith, next_slot, so_far.slots)));
-      ends_with = record { ends = inr stop; tells = λ tells. record { whole = λ low. absurd (⊎_elim (λ e. omega (arith, e, low)) (λ e. omega (arith, e, low)) stop); front = rw append_assoc (front_told before after later so_far.failed (replicate (length (sizes old) - (slot + 1)) false) shown.failed (sizes old) (held old) (so_far.tells tells) (rw same_text at (shown.front tells))) } };
+      failed = (so_far.failed ++ shown.failed ∷ []) ++ replicate (length old.sizes - (slot + 1)) false;
+      every_slot = length-append (so_far.failed ++ shown.failed ∷ []) (replicate (length old.sizes - (slot + 1)) false) ∙ omega (arith, next_slot, length-replicate (length old.sizes - (slot + 1)) false);
+      are_failed = failed_padded old next (so_far.failed ++ shown.failed ∷ []) (length old.sizes - (slot + 1)) more (λ s le. beyond s (omega (arith, next_slot, so_far.slots)));
+      ends_with = record { ends = inr stop; tells = λ tells. record { whole = λ low. absurd (⊎_elim (λ e. omega (arith, e, low)) (λ e. omega (arith, e, low)) stop); front = rw append_assoc (front_told before after later so_far.failed (replicate (length old.sizes - (slot + 1)) false) shown.failed old.sizes old.held (so_far.tells tells) (rw same_text at (shown.front tells))) } };
     }
 
   -- after the last slot
-  pub partway_done : (old now : D) (slot : ℕ) (before after : List ℕ) (fault : Bool) (status : ℕ) → IsPartway sizes held failed_reads failed_writes old now slot told before after fault
-      → slot ≡ length (sizes old) → status ≡ (if fault then 3 else 0) → IsExamined sizes held failed_reads failed_writes old now told before after status
+  pub partway_done : {D : Type 0} (old now : BayState D) (slot : ℕ) (before after : List ℕ) (fault : Bool) (status : ℕ) → IsPartway old now slot told before after fault
+      → slot ≡ length old.sizes → status ≡ (if fault then 3 else 0) → IsExamined old now told before after status
   partway_done old now slot before after fault status so_far last e = record {
     failed = so_far.failed;
     every_slot = so_far.slots ∙ last;
@@ -215,7 +216,7 @@ module _ {D : Type 0} (sizes : D → List ℕ) (held : D → Image) (failed_read
       ends = inl (e ∙ ap (λ (b : Bool). if b then 3 else 0) so_far.fault_is);
       tells = λ tells. record {
         whole = λ low. so_far.tells tells;
-        front = record { count = length (slots_text 0 so_far.failed (sizes old) (held old)); within = omega arith; front = so_far.tells tells ∙ ap (λ (ts : List ℕ). before ++ ts) (sym (take_all _ (slots_text 0 so_far.failed (sizes old) (held old)) (omega arith))) };
+        front = record { count = length (slots_text 0 so_far.failed old.sizes old.held); within = omega arith; front = so_far.tells tells ∙ ap (λ (ts : List ℕ). before ++ ts) (sym (take_all _ (slots_text 0 so_far.failed old.sizes old.held) (omega arith))) };
       };
     };
   }

@@ -2,6 +2,7 @@
 use Rattle.std.specs.Prelude.{◌≡◌, ℕ, suc, ◌<◌, List, [], ◌∷◌, ◌++◌, length, Bool, false, Result, IfOk, OnOk, IsTrue, slice_index, slice_index_or, if◌then◌else◌}
 use Rattle.std.specs.List.{list_any}
 use Rattle.ddf_bytes.specs.Streams.{TakesFront}
+use Rattle.ddf_bay.specs.State.{BayState}
 use Rattle.ddf_bay.specs.Sectors.{Image}
 use Rattle.ddf_bay.specs.ReadsOnly.{LooksAt, SlotRose, SlotSame}
 use Rattle.ddf_command.specs.declared.examine.Stop.{Stop}
@@ -20,25 +21,25 @@ slots_text slot [] sizes held = []
 slots_text slot (failed ∷ others) sizes held = one_text slot failed sizes held ++ slots_text (suc slot) others sizes held
 
 -- Of the first slots, so many, it is told whether a call on them failed.
-pub record AreFailed {D : Type 0} (failed_reads failed_writes : D → ℕ → ℕ) (old new : D) (failed : List Bool) : Type 0 where
-  pub rose : (s : ℕ) → s < length failed → IsTrue (slice_index_or failed s false) → SlotRose failed_reads failed_writes old new s
-  pub same : (s : ℕ) → s < length failed → slice_index_or failed s false ≡ false → SlotSame failed_reads failed_writes old new s
+pub record AreFailed {D : Type 0} (old new : BayState D) (failed : List Bool) : Type 0 where
+  pub rose : (s : ℕ) → s < length failed → IsTrue (slice_index_or failed s false) → SlotRose old new s
+  pub same : (s : ℕ) → s < length failed → slice_index_or failed s false ≡ false → SlotSame old new s
 
 -- some slot failed
 abbrev pub some_failed : List Bool → Bool
 some_failed failed = list_any (λ f. f) failed
 
 -- What the slots showed was told, up to where memory or the output gave out.
-pub record IsExamined {D : Type 0} (sizes : D → List ℕ) (held : D → Image) (failed_reads failed_writes : D → ℕ → ℕ) (old new : D) (told : Type 0) (before after : List ℕ) (status : ℕ) : Type 0 where
+pub record IsExamined {D : Type 0} (old new : BayState D) (told : Type 0) (before after : List ℕ) (status : ℕ) : Type 0 where
   pub failed : List Bool
-  pub every_slot : length failed ≡ length (sizes old)
-  pub are_failed : AreFailed failed_reads failed_writes old new failed
-  pub ends_with : EndsWith (if some_failed failed then 3 else 0) (slots_text 0 failed (sizes old) (held old)) told before after status
+  pub every_slot : length failed ≡ length old.sizes
+  pub are_failed : AreFailed old new failed
+  pub ends_with : EndsWith (if some_failed failed then 3 else 0) (slots_text 0 failed old.sizes old.held) told before after status
 
 -- The lines of one slot were told, or a front of them where memory or the output gave out.
-pub record IsSlotShown {D : Type 0} (sizes : D → List ℕ) (held : D → Image) (failed_reads failed_writes : D → ℕ → ℕ) (old new : D) (slot : ℕ) (told : Type 0) (before after : List ℕ) (result : Result Bool Stop) : Type 0 where
+pub record IsSlotShown {D : Type 0} (old new : BayState D) (slot : ℕ) (told : Type 0) (before after : List ℕ) (result : Result Bool Stop) : Type 0 where
   pub failed : Bool
-  pub look : LooksAt failed_reads failed_writes old new slot failed
+  pub look : LooksAt old new slot failed
   pub answer : IfOk result (λ answer. answer ≡ failed)
-  pub whole : told → OnOk result (after ≡ before ++ one_text slot failed (sizes old) (held old))
-  pub front : told → TakesFront before after (one_text slot failed (sizes old) (held old))
+  pub whole : told → OnOk result (after ≡ before ++ one_text slot failed old.sizes old.held)
+  pub front : told → TakesFront before after (one_text slot failed old.sizes old.held)

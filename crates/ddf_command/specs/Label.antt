@@ -1,7 +1,7 @@
 -- What `label` does, and how it ends.
 use Rattle.std.specs.Prelude.{◌≡◌, ℕ, ◌<◌, List, length, codes, Some, None, Result, Ok, Err}
 use Rattle.ddf_bytes.specs.declared.stamp.Stamp.{Stamp}
-use Rattle.ddf_bay.specs.Sectors.{Image, Outcomes}
+use Rattle.ddf_bay.specs.State.{BayState}
 use Rattle.ddf_bay.specs.Moments.{StopsLeave}
 use Rattle.ddf_bay.specs.ReadsOnly.{ReadsOnly, SlotRose}
 use Rattle.ddf_copy.specs.declared.copy.DiskCopy.{DiskCopy}
@@ -24,16 +24,16 @@ label_copy stamp sizes named = new_copy stamp (slot_sizes sizes (label_slots siz
 
 -- What it did, by its answer: the slots have their copies, sure; or else it was refused and nothing was written, or a call on a
 -- slot failed, or memory ran out and nothing was written.
-abbrev pub IsTried : {D : Type 0} → (D → List ℕ) → (D → Image) → (D → Outcomes) → (D → ℕ) → (D → ℕ → Image → Type 0) → (D → ℕ → ℕ) → (D → ℕ → ℕ) → (D → ℕ) → D → D → Type 0 → Stamp → List ℕ → Result (Unit {0}) Failure → Type 0
-IsTried sizes held may_hold moment left_since failed_reads failed_writes sectors_written old new tells stamp named (Ok done) =
-    tells → (label_refusal (sizes old) (held old) named ≡ None)
-    × AreFounded held may_hold old new (sizes old) (label_slots (sizes old) named) (label_copy stamp (sizes old) named) (length (label_slots (sizes old) named))
-IsTried sizes held may_hold moment left_since failed_reads failed_writes sectors_written old new tells stamp named (Err (Refused refusal)) =
-    (tells → label_refusal (sizes old) (held old) named ≡ Some refusal) × ReadsOnly sizes held may_hold moment left_since sectors_written old new
-IsTried sizes held may_hold moment left_since failed_reads failed_writes sectors_written old new tells stamp named (Err (Disk slot)) =
-    (slot < length (sizes old)) × SlotRose failed_reads failed_writes old new slot
-IsTried sizes held may_hold moment left_since failed_reads failed_writes sectors_written old new tells stamp named (Err Memory) =
-    ReadsOnly sizes held may_hold moment left_since sectors_written old new
+abbrev pub IsTried : {D : Type 0} (old new : BayState D) → (tells : Type 0) → Stamp → (named : List ℕ) → Result (Unit {0}) Failure → Type 0
+IsTried old new tells stamp named (Ok done) =
+    tells → (label_refusal old.sizes old.held named ≡ None)
+    × AreFounded old new (label_slots old.sizes named) (label_copy stamp old.sizes named) (length (label_slots old.sizes named))
+IsTried old new tells stamp named (Err (Refused refusal)) =
+    (tells → label_refusal old.sizes old.held named ≡ Some refusal) × ReadsOnly old new
+IsTried old new tells stamp named (Err (Disk slot)) =
+    (slot < length old.sizes) × SlotRose old new slot
+IsTried old new tells stamp named (Err Memory) =
+    ReadsOnly old new
 
 -- what is told of it, and with which status
 abbrev pub IsToldLabel : Result (Unit {0}) Failure → (told : Type 0) → (before after : List ℕ) → (status : ℕ) → Type 0
@@ -42,9 +42,9 @@ IsToldLabel (Err failure) told before after status = IsToldFailure failure told 
 
 -- It did this, and said so. A stop leaves each slot as it might have left it before, or blank, or with its copy, and no sector
 -- before both places of the copy is written. Where it is to be refused nothing is written, whatever it answers.
-pub record IsLabelled {D : Type 0} (sizes : D → List ℕ) (held : D → Image) (may_hold : D → Outcomes) (moment : D → ℕ) (left_since : D → ℕ → Image → Type 0) (failed_reads failed_writes : D → ℕ → ℕ) (sectors_written : D → ℕ) (old new : D) (tells told : Type 0) (before after : List ℕ) (stamp : Stamp) (named : List ℕ) (status : ℕ) : Type 0 where
+pub record IsLabelled {D : Type 0} (old new : BayState D) (tells told : Type 0) (before after : List ℕ) (stamp : Stamp) (named : List ℕ) (status : ℕ) : Type 0 where
   pub answer : Result (Unit {0}) Failure
-  pub tried : IsTried sizes held may_hold moment left_since failed_reads failed_writes sectors_written old new tells stamp named answer
+  pub tried : IsTried old new tells stamp named answer
   pub ends : IsToldLabel answer told before after status
-  pub any_moment : tells → StopsLeave moment left_since old new (IsLeftFoundingAll (sizes old) (may_hold old) (held old) (label_slots (sizes old) named) (label_copy stamp (sizes old) named))
-  pub refused : tells → (refusal : Refusal) → label_refusal (sizes old) (held old) named ≡ Some refusal → ReadsOnly sizes held may_hold moment left_since sectors_written old new
+  pub any_moment : tells → StopsLeave old new (IsLeftFoundingAll old (label_slots old.sizes named) (label_copy stamp old.sizes named))
+  pub refused : tells → (refusal : Refusal) → label_refusal old.sizes old.held named ≡ Some refusal → ReadsOnly old new

@@ -1,6 +1,7 @@
 -- What `label` is refused for.
 use Rattle.std.specs.Prelude.{◌≡◌, ℕ, ◌<◌, ◌≤◌, Bool, true, false, not, ◌==◌, nat_le, nat_lt, List, [], ◌∷◌, length, All, Option, Some, option_map, Result, Err, slice_index, filter}
 use Rattle.std.specs.List.{find, list_any, range_with_len}
+use Rattle.ddf_bay.specs.State.{BayState}
 use Rattle.ddf_bay.specs.Sectors.{Image}
 use Rattle.ddf_bay.specs.ReadsOnly.{SlotRose}
 use Rattle.ddf_header.specs.declared.reading.Header.{Header}
@@ -79,7 +80,7 @@ pub record IsFit (sizes slots : List ℕ) : Type 0 where
   pub large : All (λ slot. least_sectors ≤ slice_index sizes slot) slots
 
 -- why slots aren't labelled, before one is written
-abbrev pub IsFitFailure : {D : Type 0} → (D → List ℕ) → (D → Image) → (D → ℕ → ℕ) → (D → ℕ → ℕ) → D → D → Type 0 → List ℕ → Failure → Type 0
-IsFitFailure sizes held failed_reads failed_writes old new tells named (Refused refusal) = tells → label_refusal (sizes old) (held old) named ≡ Some refusal
-IsFitFailure sizes held failed_reads failed_writes old new tells named (Disk slot) = (slot < length (sizes old)) × SlotRose failed_reads failed_writes old new slot
-IsFitFailure sizes held failed_reads failed_writes old new tells named Memory = Unit {0}
+abbrev pub IsFitFailure : {D : Type 0} (old new : BayState D) → (tells : Type 0) → (named : List ℕ) → Failure → Type 0
+IsFitFailure old new tells named (Refused refusal) = tells → label_refusal old.sizes old.held named ≡ Some refusal
+IsFitFailure old new tells named (Disk slot) = (slot < length old.sizes) × SlotRose old new slot
+IsFitFailure old new tells named Memory = Unit {0}

@@ -2,7 +2,7 @@
 use Rattle.std.specs.Prelude.{◌≡◌, ◌⊎◌, ℕ, ◌<◌, List, length, Bool, true, false}
 use Rattle.ddf_bytes.specs.Counts.{Rose}
 use Rattle.ddf_bytes.specs.declared.stamp.Stamp.{Stamp}
-use Rattle.ddf_bay.specs.Sectors.{Image, Outcomes}
+use Rattle.ddf_bay.specs.State.{BayState}
 use Rattle.ddf_command.specs.declared.command.Command.{Command}
 use Rattle.ddf_command.specs.declared.command.Command.TheVariants.{Examine, Label}
 use Rattle.ddf_bay.specs.ReadsOnly.{SlotRose}
@@ -26,17 +26,17 @@ abbrev pub AsksForNoWrite : List Word → Type 0
 AsksForNoWrite words = (asked : Asked) → IsAsked words asked → may_write asked.command ≡ false
 
 -- the command was done, or it told why not, or was cut short
-abbrev pub IsDone : {D : Type 0} → (D → List ℕ) → (D → Image) → (D → Outcomes) → (D → ℕ) → (D → ℕ → Image → Type 0) → (D → ℕ → ℕ) → (D → ℕ → ℕ) → (D → ℕ) → D → D → (tells told : Type 0) → (before after : List ℕ) → Stamp → Command → ℕ → Type 0
-IsDone sizes held may_hold moment left_since failed_reads failed_writes sectors_written old new tells told before after stamp Examine status =
-    IsExamined sizes held failed_reads failed_writes old new (tells × told) before after status
-IsDone sizes held may_hold moment left_since failed_reads failed_writes sectors_written old new tells told before after stamp (Label slots) status =
-    IsLabelled sizes held may_hold moment left_since failed_reads failed_writes sectors_written old new tells told before after stamp slots status
+abbrev pub IsDone : {D : Type 0} (old new : BayState D) → (tells told : Type 0) → (before after : List ℕ) → Stamp → Command → ℕ → Type 0
+IsDone old new tells told before after stamp Examine status =
+    IsExamined old new (tells × told) before after status
+IsDone old new tells told before after stamp (Label slots) status =
+    IsLabelled old new tells told before after stamp slots status
 
 -- A call on some slot failed.
-pub record SomeSlotRose {D : Type 0} (sizes : D → List ℕ) (failed_reads failed_writes : D → ℕ → ℕ) (old new : D) : Type 0 where
+pub record SomeSlotRose {D : Type 0} (old new : BayState D) : Type 0 where
   pub slot : ℕ
-  pub there : slot < length (sizes old)
-  pub rose : SlotRose failed_reads failed_writes old new slot
+  pub there : slot < length old.sizes
+  pub rose : SlotRose old new slot
 
 -- A call on an output failed, or took nothing.
 abbrev pub SinkRose : {D : Type 0} → (D → ℕ) → (D → ℕ) → D → D → Type 0

@@ -1,6 +1,7 @@
 // What a slot shows of itself: its anchor, the two headers that the anchor names, and its copies.
 ghost use Rattle.std.specs.Prelude.{◌≡◌, ◌<◌, IfOk, length, slice_index};
 ghost use Rattle.ddf_header.specs.Header.{decoded};
+ghost use Rattle.ddf_bay.specs.State.{on_slot};
 ghost use Rattle.ddf_bay.specs.ReadsOnly.{ReadsOnly, LooksAt};
 ghost use Rattle.ddf_copy.specs.Faults.{show_failed};
 ghost use Rattle.ddf_command.specs.Disk.{decoded_view, disk_view, header_view, headers_view};
@@ -49,10 +50,10 @@ pub(crate) fn view_disk<B: Bay>(
     bay: &mut B,
     slot: usize,
 ) -> Result<DiskView, ShowFault>
-    requires { slot < length (B.sizes bay.old) }
-    ensures view { B.tells → IfOk result (λ view. view ≡ disk_view (slice_index (B.sizes bay.old) slot) (B.held bay.old slot)) }
-    ensures reads { ReadsOnly B.sizes B.held B.may_hold B.moment B.left_since B.sectors_written bay.old bay.new }
-    ensures look { LooksAt B.failed_reads B.failed_writes bay.old bay.new slot (show_failed result) }
+    requires { slot < length (B.disks bay.old).sizes }
+    ensures view { B.tells → IfOk result (λ view. view ≡ on_slot disk_view (B.disks bay.old) slot) }
+    ensures reads { ReadsOnly (B.disks bay.old) (B.disks bay.new) }
+    ensures look { LooksAt (B.disks bay.old) (B.disks bay.new) slot (show_failed result) }
 {
     match anchor_of(bay, slot) {
         Ok(anchor) => {
@@ -72,10 +73,10 @@ fn view_headers<B: Bay>(
     slot: usize,
     anchor: &Header,
 ) -> Result<Headers, ShowFault>
-    requires { slot < length (B.sizes bay.old) }
-    ensures view { B.tells → IfOk result (λ view. view ≡ headers_view (slice_index (B.sizes bay.old) slot) (B.held bay.old slot) anchor.now) }
-    ensures reads { ReadsOnly B.sizes B.held B.may_hold B.moment B.left_since B.sectors_written bay.old bay.new }
-    ensures look { LooksAt B.failed_reads B.failed_writes bay.old bay.new slot (show_failed result) }
+    requires { slot < length (B.disks bay.old).sizes }
+    ensures view { B.tells → IfOk result (λ view. view ≡ on_slot headers_view (B.disks bay.old) slot anchor.now) }
+    ensures reads { ReadsOnly (B.disks bay.old) (B.disks bay.new) }
+    ensures look { LooksAt (B.disks bay.old) (B.disks bay.new) slot (show_failed result) }
 {
     let primary = view_header(bay, slot, anchor.primary_lba, HeaderKind::Primary)?;
     let secondary = view_header(bay, slot, anchor.secondary_lba, HeaderKind::Secondary)?;
@@ -96,10 +97,10 @@ fn view_header<B: Bay>(
     lba: u64,
     kind: HeaderKind,
 ) -> Result<HeaderView, ShowFault>
-    requires { slot < length (B.sizes bay.old) }
-    ensures view { B.tells → IfOk result (λ view. view ≡ header_view (slice_index (B.sizes bay.old) slot) (B.held bay.old slot) lba kind) }
-    ensures reads { ReadsOnly B.sizes B.held B.may_hold B.moment B.left_since B.sectors_written bay.old bay.new }
-    ensures look { LooksAt B.failed_reads B.failed_writes bay.old bay.new slot (show_failed result) }
+    requires { slot < length (B.disks bay.old).sizes }
+    ensures view { B.tells → IfOk result (λ view. view ≡ on_slot header_view (B.disks bay.old) slot lba kind) }
+    ensures reads { ReadsOnly (B.disks bay.old) (B.disks bay.new) }
+    ensures look { LooksAt (B.disks bay.old) (B.disks bay.new) slot (show_failed result) }
 {
     if lba >= bay.size(slot) {
         return Ok(HeaderView::Room);

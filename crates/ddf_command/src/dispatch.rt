@@ -1,5 +1,6 @@
 // The call that the program makes.
 ghost use Rattle.std.specs.Prelude.{◌≡◌, ◌⊎◌, ℕ, true, length};
+ghost use Rattle.ddf_bay.specs.Moments.{GoesOn};
 ghost use Rattle.ddf_bay.specs.ReadsOnly.{ReadsOnly};
 ghost use Rattle.ddf_command.specs.declared.command.Asked.{Asked};
 ghost use Rattle.ddf_command.specs.Refusal.{words_refusal};
@@ -28,23 +29,24 @@ pub fn run<B: Bay, S: Source, K: Sink>(
     sink: &mut K,
     stamp: Stamp,
 ) -> u8
-    requires slots { length (B.sizes bay.old) ≡ slot_count (words_of words.now) }
+    requires slots { length (B.disks bay.old).sizes ≡ slot_count (words_of words.now) }
 
     // Words that are no command's are refused at the place where they go wrong, and no others are.
     ensures wrong_words { (place : ℕ) → GoWrongAt IsAccepted (words_of words.now) place → EndsWith 2 (words_refusal place) K.tells (K.taken sink.old) (K.taken sink.new) result }
     ensures wrong_words_only { result ≡ 2 → (place : ℕ) × GoWrongAt IsAccepted (words_of words.now) place }
 
     // What is told, and with which status.
-    ensures done { (asked : Asked) → IsAsked (words_of words.now) asked → IsDone B.sizes B.held B.may_hold B.moment B.left_since B.failed_reads B.failed_writes B.sectors_written bay.old bay.new B.tells K.tells (K.taken sink.old) (K.taken sink.new) stamp asked.command result }
+    ensures done { (asked : Asked) → IsAsked (words_of words.now) asked → IsDone (B.disks bay.old) (B.disks bay.new) B.tells K.tells (K.taken sink.old) (K.taken sink.new) stamp asked.command result }
 
     // What stays.
-    ensures stays { AsksForNoWrite (words_of words.now) → ReadsOnly B.sizes B.held B.may_hold B.moment B.left_since B.sectors_written bay.old bay.new }
+    ensures stays { AsksForNoWrite (words_of words.now) → ReadsOnly (B.disks bay.old) (B.disks bay.new) }
+    ensures goes_on { GoesOn (B.disks bay.old) (B.disks bay.new) }
     ensures source { source.new ≡ source.old }
 
     // Each status has its cause.
-    ensures disk_fault { result ≡ 3 → SomeSlotRose B.sizes B.failed_reads B.failed_writes bay.old bay.new }
+    ensures disk_fault { result ≡ 3 → SomeSlotRose (B.disks bay.old) (B.disks bay.new) }
     ensures stream_fault { result ≡ 6 → SinkRose K.faults K.empty_takes sink.old sink.new }
-    ensures complete { (asked : Asked) → IsAsked (words_of words.now) asked → (SomeSlotRose B.sizes B.failed_reads B.failed_writes bay.old bay.new → ⊥)
+    ensures complete { (asked : Asked) → IsAsked (words_of words.now) asked → (SomeSlotRose (B.disks bay.old) (B.disks bay.new) → ⊥)
         → (SinkRose K.faults K.empty_takes sink.old sink.new → ⊥) → (result ≡ 0) ⊎ (result ≡ 5) ⊎ ((result ≡ 1) × (may_refuse asked.command ≡ true)) }
 {
     match asked(alloc, words) {

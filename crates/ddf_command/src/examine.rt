@@ -25,8 +25,8 @@ pub(crate) enum Stop {
 
 /// Prints what each slot shows.
 pub(crate) fn examine<B: Bay, K: Sink>(alloc: Global, bay: &mut B, sink: &mut K) -> Status
-    ensures examined { IsExamined B.sizes B.held B.failed_reads B.failed_writes bay.old bay.new (B.tells × K.tells) (K.taken sink.old) (K.taken sink.new) (code_of result) }
-    ensures reads { ReadsOnly B.sizes B.held B.may_hold B.moment B.left_since B.sectors_written bay.old bay.new }
+    ensures examined { IsExamined (B.disks bay.old) (B.disks bay.new) (B.tells × K.tells) (K.taken sink.old) (K.taken sink.new) (code_of result) }
+    ensures reads { ReadsOnly (B.disks bay.old) (B.disks bay.new) }
     ensures stream { result ≡ Status.Stream → Rose (K.faults sink.old) (K.faults sink.new) ⊎ Rose (K.empty_takes sink.old) (K.empty_takes sink.new) }
     ensures never_falls { K.faults sink.old ≤ K.faults sink.new }
     ensures takes_never_fall { K.empty_takes sink.old ≤ K.empty_takes sink.new }
@@ -49,9 +49,9 @@ fn examine_slot<B: Bay, K: Sink>(
     slot: usize,
     sink: &mut K,
 ) -> Result<bool, Stop>
-    requires { slot < length (B.sizes bay.old) }
-    ensures shown { IsSlotShown B.sizes B.held B.failed_reads B.failed_writes bay.old bay.new slot (B.tells × K.tells) (K.taken sink.old) (K.taken sink.new) result }
-    ensures reads { ReadsOnly B.sizes B.held B.may_hold B.moment B.left_since B.sectors_written bay.old bay.new }
+    requires { slot < length (B.disks bay.old).sizes }
+    ensures shown { IsSlotShown (B.disks bay.old) (B.disks bay.new) slot (B.tells × K.tells) (K.taken sink.old) (K.taken sink.new) result }
+    ensures reads { ReadsOnly (B.disks bay.old) (B.disks bay.new) }
     ensures ok { OnOk result (K.faults sink.new ≡ K.faults sink.old) }
     ensures ok_takes { OnOk result (K.empty_takes sink.new ≡ K.empty_takes sink.old) }
     ensures output { IsErrOf result Stop.Output → Rose (K.faults sink.old) (K.faults sink.new) ⊎ Rose (K.empty_takes sink.old) (K.empty_takes sink.new) }

@@ -1,6 +1,6 @@
 // `label`: the first copies of a new group's disks.
 ghost use Rattle.std.specs.Prelude.{◌≡◌, ◌<◌, Some, All, IfOk, length};
-ghost use Rattle.ddf_bay.specs.Moments.{StopsLeave};
+ghost use Rattle.ddf_bay.specs.Moments.{GoesOn, StopsLeave};
 ghost use Rattle.ddf_bay.specs.ReadsOnly.{ReadsOnly};
 ghost use Rattle.ddf_update.specs.Group.{AreFirst, IsLeftFoundingAll, slot_sizes};
 ghost use Rattle.ddf_update.specs.NewCopies.{new_copy};
@@ -27,7 +27,8 @@ pub(crate) fn label<B: Bay, K: Sink>(
     sink: &mut K,
     stamp: &Stamp,
 ) -> Status
-    ensures labelled { IsLabelled B.sizes B.held B.may_hold B.moment B.left_since B.failed_reads B.failed_writes B.sectors_written bay.old bay.new B.tells K.tells (K.taken sink.old) (K.taken sink.new) stamp.now named.now (code_of result) }
+    ensures labelled { IsLabelled (B.disks bay.old) (B.disks bay.new) B.tells K.tells (K.taken sink.old) (K.taken sink.new) stamp.now named.now (code_of result) }
+    ensures goes_on { GoesOn (B.disks bay.old) (B.disks bay.new) }
     ensures stream { result ≡ Status.Stream → SinkRose K.faults K.empty_takes sink.old sink.new }
 {
     match labelled(alloc, named, bay, stamp) {
@@ -38,9 +39,10 @@ pub(crate) fn label<B: Bay, K: Sink>(
 
 /// Makes all sectors, and then writes them.
 fn labelled<B: Bay>(alloc: Global, named: &[u8], bay: &mut B, stamp: &Stamp) -> Result<(), Failure>
-    ensures tried { IsTried B.sizes B.held B.may_hold B.moment B.left_since B.failed_reads B.failed_writes B.sectors_written bay.old bay.new B.tells stamp.now named.now result }
-    ensures any_moment { B.tells → StopsLeave B.moment B.left_since bay.old bay.new (IsLeftFoundingAll (B.sizes bay.old) (B.may_hold bay.old) (B.held bay.old) (label_slots (B.sizes bay.old) named.now) (label_copy stamp.now (B.sizes bay.old) named.now)) }
-    ensures refused { B.tells → (refusal : Refusal) → label_refusal (B.sizes bay.old) (B.held bay.old) named.now ≡ Some refusal → ReadsOnly B.sizes B.held B.may_hold B.moment B.left_since B.sectors_written bay.old bay.new }
+    ensures tried { IsTried (B.disks bay.old) (B.disks bay.new) B.tells stamp.now named.now result }
+    ensures any_moment { B.tells → StopsLeave (B.disks bay.old) (B.disks bay.new) (IsLeftFoundingAll (B.disks bay.old) (label_slots (B.disks bay.old).sizes named.now) (label_copy stamp.now (B.disks bay.old).sizes named.now)) }
+    ensures goes_on { GoesOn (B.disks bay.old) (B.disks bay.new) }
+    ensures refused { B.tells → (refusal : Refusal) → label_refusal (B.disks bay.old).sizes (B.disks bay.old).held named.now ≡ Some refusal → ReadsOnly (B.disks bay.old) (B.disks bay.new) }
 {
     let slots = match fit_slots(alloc, named, bay) {
         Ok(slots) => slots,
@@ -62,10 +64,10 @@ fn first_updates<B: Bay>(
     slots: &[usize],
     stamp: &Stamp,
 ) -> Result<Vec<Prepared>, NoMemory>
-    requires fit { IsFit (B.sizes bay.now) slots.now }
-    requires there { All (λ slot. slot < length (B.sizes bay.now)) slots.now }
+    requires fit { IsFit (B.disks bay.now).sizes slots.now }
+    requires there { All (λ slot. slot < length (B.disks bay.now).sizes) slots.now }
     ensures counted { IfOk result (λ updates. length updates.items ≡ length slots.now) }
-    ensures first { IfOk result (λ updates. AreFirst (slot_sizes (B.sizes bay.now) slots.now) (new_copy stamp.now (slot_sizes (B.sizes bay.now) slots.now)) updates.items) }
+    ensures first { IfOk result (λ updates. AreFirst (slot_sizes (B.disks bay.now).sizes slots.now) (new_copy stamp.now (slot_sizes (B.disks bay.now).sizes slots.now)) updates.items) }
 {
     let mut disks = Vec::with_capacity(alloc, slots.len())?;
     for slot in slots {

@@ -25,12 +25,12 @@ pub(crate) fn fit_slots<B: Bay>(
     named: &[u8],
     bay: &mut B,
 ) -> Result<Vec<usize>, Failure>
-    ensures slots { IfOk result (λ slots. slots.items ≡ label_slots (B.sizes bay.old) named.now) }
-    ensures fit { IfOk result (λ slots. IsFit (B.sizes bay.old) slots.items) }
-    ensures unrefused { B.tells → OnOk result (label_refusal (B.sizes bay.old) (B.held bay.old) named.now ≡ None) }
-    ensures failed { IfErr result (IsFitFailure B.sizes B.held B.failed_reads B.failed_writes bay.old bay.new B.tells named.now) }
-    ensures quiet { OnOk result (IsQuiet B.failed_reads B.failed_writes bay.old bay.new) }
-    ensures reads { ReadsOnly B.sizes B.held B.may_hold B.moment B.left_since B.sectors_written bay.old bay.new }
+    ensures slots { IfOk result (λ slots. slots.items ≡ label_slots (B.disks bay.old).sizes named.now) }
+    ensures fit { IfOk result (λ slots. IsFit (B.disks bay.old).sizes slots.items) }
+    ensures unrefused { B.tells → OnOk result (label_refusal (B.disks bay.old).sizes (B.disks bay.old).held named.now ≡ None) }
+    ensures failed { IfErr result (IsFitFailure (B.disks bay.old) (B.disks bay.new) B.tells named.now) }
+    ensures quiet { OnOk result (IsQuiet (B.disks bay.old) (B.disks bay.new)) }
+    ensures reads { ReadsOnly (B.disks bay.old) (B.disks bay.new) }
 {
     let count = bay.slots();
     if let Some(slot) = missing(count, named) {
@@ -95,12 +95,12 @@ fn is_named(named: &[u8], slot: usize) -> bool
 
 /// What these slots are refused for. All their anchors are read before.
 fn unfit<B: Bay>(bay: &mut B, slots: &[usize]) -> Result<Option<Refusal>, DiskFault>
-    requires { All (λ slot. slot < length (B.sizes bay.old)) slots.now }
-    ensures answer { B.tells → IfOk result (λ refusal. refusal ≡ unfit (B.sizes bay.old) (B.held bay.old) slots.now) }
-    ensures fit { IfOk result (λ refusal. refusal ≡ None → IsFit (B.sizes bay.old) slots.now) }
-    ensures failed { IfErr result (λ e. (e.0 < length (B.sizes bay.old)) × SlotRose B.failed_reads B.failed_writes bay.old bay.new e.0) }
-    ensures quiet { OnOk result (IsQuiet B.failed_reads B.failed_writes bay.old bay.new) }
-    ensures reads { ReadsOnly B.sizes B.held B.may_hold B.moment B.left_since B.sectors_written bay.old bay.new }
+    requires { All (λ slot. slot < length (B.disks bay.old).sizes) slots.now }
+    ensures answer { B.tells → IfOk result (λ refusal. refusal ≡ unfit (B.disks bay.old).sizes (B.disks bay.old).held slots.now) }
+    ensures fit { IfOk result (λ refusal. refusal ≡ None → IsFit (B.disks bay.old).sizes slots.now) }
+    ensures failed { IfErr result (λ e. (e.0 < length (B.disks bay.old).sizes) × SlotRose (B.disks bay.old) (B.disks bay.new) e.0) }
+    ensures quiet { OnOk result (IsQuiet (B.disks bay.old) (B.disks bay.new)) }
+    ensures reads { ReadsOnly (B.disks bay.old) (B.disks bay.new) }
 {
     match first_anchored(bay, slots) {
         Ok(anchored) => Ok(misfit(bay, slots, anchored)),
@@ -110,8 +110,8 @@ fn unfit<B: Bay>(bay: &mut B, slots: &[usize]) -> Result<Option<Refusal>, DiskFa
 
 /// What slots are refused for of which this is the first with an anchor.
 fn misfit<B: Bay>(bay: &B, slots: &[usize], anchored: Option<usize>) -> Option<Refusal>
-    requires { All (λ slot. slot < length (B.sizes bay.now)) slots.now }
-    ensures { result ≡ misfit (B.sizes bay.now) anchored slots.now }
+    requires { All (λ slot. slot < length (B.disks bay.now).sizes) slots.now }
+    ensures { result ≡ misfit (B.disks bay.now).sizes anchored slots.now }
 {
     if let Some(slot) = anchored {
         return Some(Refusal::NotBlank(slot));
@@ -127,8 +127,8 @@ fn misfit<B: Bay>(bay: &B, slots: &[usize], anchored: Option<usize>) -> Option<R
 
 /// The first of the slots with too few sectors.
 fn first_small<B: Bay>(bay: &B, slots: &[usize]) -> Option<usize>
-    requires { All (λ slot. slot < length (B.sizes bay.now)) slots.now }
-    ensures { result ≡ find (is_small (B.sizes bay.now)) slots.now }
+    requires { All (λ slot. slot < length (B.disks bay.now).sizes) slots.now }
+    ensures { result ≡ find (is_small (B.disks bay.now).sizes) slots.now }
 {
     slots
         .iter()
@@ -138,11 +138,11 @@ fn first_small<B: Bay>(bay: &B, slots: &[usize]) -> Option<usize>
 
 /// The first of the slots that isn't blank. The anchors of all are read.
 fn first_anchored<B: Bay>(bay: &mut B, slots: &[usize]) -> Result<Option<usize>, DiskFault>
-    requires { All (λ slot. slot < length (B.sizes bay.old)) slots.now }
-    ensures answer { B.tells → IfOk result (λ first. first ≡ find (is_anchored (B.sizes bay.old) (B.held bay.old)) slots.now) }
-    ensures failed { IfErr result (λ e. (e.0 < length (B.sizes bay.old)) × SlotRose B.failed_reads B.failed_writes bay.old bay.new e.0) }
-    ensures quiet { OnOk result (IsQuiet B.failed_reads B.failed_writes bay.old bay.new) }
-    ensures reads { ReadsOnly B.sizes B.held B.may_hold B.moment B.left_since B.sectors_written bay.old bay.new }
+    requires { All (λ slot. slot < length (B.disks bay.old).sizes) slots.now }
+    ensures answer { B.tells → IfOk result (λ first. first ≡ find (is_anchored (B.disks bay.old).sizes (B.disks bay.old).held) slots.now) }
+    ensures failed { IfErr result (λ e. (e.0 < length (B.disks bay.old).sizes) × SlotRose (B.disks bay.old) (B.disks bay.new) e.0) }
+    ensures quiet { OnOk result (IsQuiet (B.disks bay.old) (B.disks bay.new)) }
+    ensures reads { ReadsOnly (B.disks bay.old) (B.disks bay.new) }
 {
     let mut first = None;
     for slot in slots {
@@ -154,11 +154,11 @@ fn first_anchored<B: Bay>(bay: &mut B, slots: &[usize]) -> Result<Option<usize>,
 
 /// Whether a slot's last sector begins as an anchor.
 fn is_anchored<B: Bay>(bay: &mut B, slot: usize) -> Result<bool, DiskFault>
-    requires { slot < length (B.sizes bay.old) }
-    ensures answer { B.tells → IfOk result (λ anchored. anchored ≡ is_anchored (B.sizes bay.old) (B.held bay.old) slot) }
-    ensures failed { IfErr result (λ e. (e.0 ≡ slot) × SlotRose B.failed_reads B.failed_writes bay.old bay.new slot) }
-    ensures quiet { OnOk result (IsQuiet B.failed_reads B.failed_writes bay.old bay.new) }
-    ensures reads { ReadsOnly B.sizes B.held B.may_hold B.moment B.left_since B.sectors_written bay.old bay.new }
+    requires { slot < length (B.disks bay.old).sizes }
+    ensures answer { B.tells → IfOk result (λ anchored. anchored ≡ is_anchored (B.disks bay.old).sizes (B.disks bay.old).held slot) }
+    ensures failed { IfErr result (λ e. (e.0 ≡ slot) × SlotRose (B.disks bay.old) (B.disks bay.new) slot) }
+    ensures quiet { OnOk result (IsQuiet (B.disks bay.old) (B.disks bay.new)) }
+    ensures reads { ReadsOnly (B.disks bay.old) (B.disks bay.new) }
 {
     match anchor_of(bay, slot) {
         Err(AnchorFault::Blank) => Ok(false),

@@ -17,12 +17,14 @@ gate_can header Primary openness low can =
     record {
       is_header = record { of_kind = refl; has_flag = le-leb openness 15 low; has_places = can.is_header.has_places; has_geometry = can.is_header.has_geometry };
       is_record = record { fields_fit = (fits.0, (fits.1.0, (fits.1.1.0, (fits.1.1.1.0, (omega (arith, low), (fits.1.1.1.1.1.0, (fits.1.1.1.1.1.1.0, (omega arith, fits.1.1.1.1.1.1.1.1)))))))); others_clear = can.is_record.others_clear };
+      rest_size = can.rest_size;
     }
 gate_can header Secondary openness low can =
     let fits = can.is_record.fields_fit in
     record {
       is_header = record { of_kind = refl; has_flag = le-leb openness 15 low; has_places = can.is_header.has_places; has_geometry = can.is_header.has_geometry };
       is_record = record { fields_fit = (fits.0, (fits.1.0, (fits.1.1.0, (fits.1.1.1.0, (omega (arith, low), (fits.1.1.1.1.1.0, (fits.1.1.1.1.1.1.0, (omega arith, fits.1.1.1.1.1.1.1.1)))))))); others_clear = can.is_record.others_clear };
+      rest_size = can.rest_size;
     }
 
 pub anchor_can : (header : Header) → IsWritable header.kind header → IsWritable Anchor (record header { kind = Anchor; openness = 0xFF; sequence = 0xFFFF_FFFF })
@@ -32,4 +34,5 @@ anchor_can header can =
     record {
       is_header = record { of_kind = refl; has_flag = refl; has_places = can.is_header.has_places; has_geometry = can.is_header.has_geometry };
       is_record = record { fields_fit = (fits.0, (fits.1.0, (omega arith, (fits.1.1.1.0, (omega arith, (fits.1.1.1.1.1.0, (fits.1.1.1.1.1.1.0, (omega arith, fits.1.1.1.1.1.1.1.1)))))))); others_clear = can.is_record.others_clear };
+      rest_size = can.rest_size;
     }

@@ -1,10 +1,14 @@
+pub mod Again
+pub mod Anchored
 pub mod CopiesRead
 pub mod Gates
 pub mod HeadersWritten
 pub mod Images
 pub mod Laid
+pub mod LastCopies
 pub mod LevelCopies
 pub mod Levels
+pub mod NewestUnder
 pub mod Newests
 pub mod RunsRead
 pub mod Sectors

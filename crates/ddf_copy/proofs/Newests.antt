@@ -50,6 +50,27 @@ newest_of_two size sector anchor Primary one other is also when = rw (is, also) 
 newest_of_two size sector anchor Secondary one other is also when =
     rw (is, also) (⊎_elim inr inl (either_is (is_level other one) other one (λ same. turned other one (when (sym same)))))
 
+-- they don't differ where they are level or have two sequences
+differ_not : (level : Bool) (primary secondary p s : DiskCopy) → (primary.header.sequence ≡ secondary.header.sequence → level ≡ true)
+    → newest_of_both level primary secondary ≡ newests.TwoDiffer p s → ⊥
+differ_not level primary secondary p s when h = elim (cases_lt primary.header.sequence secondary.header.sequence) [
+  | inl less ↦ let found = rw (lt-ltb primary.header.sequence secondary.header.sequence less) at h in absurd cc
+  | inr more ↦ elim (cases_lt secondary.header.sequence primary.header.sequence) [
+    | inl less ↦ let found = rw (le-ltb primary.header.sequence secondary.header.sequence (omega arith), lt-ltb secondary.header.sequence primary.header.sequence less) at h in absurd cc
+    | inr also ↦
+        let same : primary.header.sequence ≡ secondary.header.sequence = omega arith in
+        let found = rw (le-ltb primary.header.sequence secondary.header.sequence (omega arith), le-ltb secondary.header.sequence primary.header.sequence (omega arith), when same) at h in absurd cc
+  ]
+]
+
+pub never_differ : (size : ℕ) (sector : ℕ → List ℕ) (anchor : Header) (which : Which) (one other p s : DiskCopy)
+    → copy_of size sector anchor which ≡ Ok one → copy_of size sector anchor (other_of which) ≡ Ok other
+    → (one.header.sequence ≡ other.header.sequence → is_level one other ≡ true)
+    → newest_of size sector anchor ≡ newests.TwoDiffer p s → ⊥
+unfolding newest_of
+never_differ size sector anchor Primary one other p s is also when h = differ_not (is_level one other) one other p s when (rw (is, also) at h)
+never_differ size sector anchor Secondary one other p s is also when h = differ_not (is_level other one) other one p s (λ same. turned other one (when (sym same))) (rw (is, also) at h)
+
 -- two level copies
 pub newest_of_level : (size : ℕ) (sector : ℕ → List ℕ) (anchor : Header) (primary secondary : DiskCopy)
     → copy_of size sector anchor Primary ≡ Ok primary → copy_of size sector anchor Secondary ≡ Ok secondary → is_level primary secondary ≡ true

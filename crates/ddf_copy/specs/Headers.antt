@@ -2,6 +2,7 @@
 use Rattle.std.specs.Prelude.{◌≡◌, ℕ, None}
 use Rattle.ddf_header.specs.declared.kind.HeaderKind.TheVariants.{Anchor}
 use Rattle.ddf_header.specs.declared.reading.Header.{Header}
+use Rattle.ddf_header.specs.Header.{IsHeaderOf}
 use Rattle.ddf_copy.specs.declared.copy.DiskCopy.{DiskCopy}
 use Rattle.ddf_copy.specs.declared.which.Which.{Which}
 use Rattle.ddf_copy.specs.Gate.{gate_fault, header_bytes}
@@ -29,3 +30,12 @@ pub record IsUnder (size : ℕ) (anchor : Header) (copy : DiskCopy) : Type 0 whe
   pub is_copy : IsCopy copy
   pub in_place : (which : Which) → place_of which copy.header ≡ place_of which anchor
   pub has_gate : (which : Which) → gate_fault size anchor which (closed_header copy which) (header_bytes (closed_header copy which)) ≡ None
+
+-- an anchor is the value of the sector that it is written as
+abbrev pub IsAnchor : Header → Type 0
+IsAnchor anchor = IsHeaderOf Anchor anchor (header_bytes anchor)
+
+-- A header of a copy that was read in its place, under an anchor.
+pub record IsReadHeader (size : ℕ) (anchor : Header) (which : Which) (header : Header) : Type 0 where
+  pub is_header : IsHeaderOf (kind_of which) header (header_bytes header)
+  pub has_gate : gate_fault size anchor which header (header_bytes header) ≡ None

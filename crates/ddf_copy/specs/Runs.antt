@@ -8,7 +8,8 @@ use Rattle.ddf_header.specs.Geometry.{section_of}
 use Rattle.ddf_copy.specs.declared.copy.DiskCopy.{DiskCopy}
 use Rattle.ddf_copy.specs.declared.raw.Raw.{Raw}
 use Rattle.ddf_copy.specs.declared.run.Run.{Run}
-use Rattle.ddf_copy.specs.Sections.{HasSizes, copy_in, whole_slots}
+use Rattle.ddf_copy.specs.Sections.{HasSizes, copy_in, raw_bytes, whole_slots}
+use Rattle.ddf_copy.specs.Written.{sections_written}
 
 -- ---- where they lie
 
@@ -82,6 +83,7 @@ pub record AreRunsOf (copy : DiskCopy) (runs : List Run) : Type 0 where
   pub raw : Raw
   pub is_read : IsReadAs copy raw
   pub has_sizes : HasSizes copy.header.geometry raw
+  pub is_written : raw_bytes raw ≡ sections_written copy
   pub are_runs : runs ≡ runs_at copy.header.geometry raw
 
 -- ---- where a copy is read

@@ -1,9 +1,14 @@
 -- A whole copy as it was read.
-use Rattle.std.specs.Prelude.{◌≡◌, ℕ, List, [], ◌∷◌, Result, Ok, Err}
+use Rattle.std.specs.Prelude.{◌≡◌, ℕ, List, [], ◌∷◌, Result, Ok, Err, IfOk}
+use Rattle.ddf_copy.specs.declared.copies.Copies.{Copies}
+use Rattle.ddf_copy.specs.declared.newest_copy.Newest.{Newest}
+use Rattle.ddf_copy.specs.declared.newest_copy.Newest.TheVariants as newests
 use Rattle.ddf_copy.specs.declared.copy.DiskCopy.{DiskCopy}
 use Rattle.ddf_copy.specs.declared.fault.CopyFault.{CopyFault}
 use Rattle.ddf_copy.specs.declared.raw.Raw.{Raw}
 use Rattle.ddf_copy.specs.declared.reading.Whole.{Whole}
+use Rattle.ddf_header.specs.declared.reading.Header.{Header}
+use Rattle.ddf_copy.specs.Headers.{IsUnder}
 use Rattle.ddf_copy.specs.Sections.{bytes_in, raw_bytes}
 use Rattle.ddf_copy.specs.Written.{IsCopy, sections_written}
 
@@ -24,3 +29,27 @@ sections_counted raw = raw.controller ∷ bytes_in raw.disks ∷ bytes_in raw.ar
 abbrev pub AreWhole : Result Whole CopyFault → Type 0
 AreWhole (Ok whole) = IsWhole whole
 AreWhole (Err fault) = Unit {0}
+
+-- each copy that is whole can be written
+abbrev pub AreCopies : Copies → Type 0
+AreCopies copies = IfOk copies.primary IsCopy × IfOk copies.secondary IsCopy
+
+abbrev pub IsNewestCopy : Newest → Type 0
+IsNewestCopy (newests.One which copy) = IsCopy copy
+IsNewestCopy (newests.Level copy) = IsCopy copy
+IsNewestCopy (newests.TwoDiffer primary secondary) = IsCopy primary × IsCopy secondary
+IsNewestCopy (newests.Neither first second) = Unit {0}
+
+-- each copy that is whole can be written again, in both places of a disk of so many sectors with this anchor
+abbrev pub IsWholeUnder : (size : ℕ) → (anchor : Header) → Result Whole CopyFault → Type 0
+IsWholeUnder size anchor (Ok whole) = IsUnder size anchor whole.copy
+IsWholeUnder size anchor (Err fault) = Unit {0}
+
+abbrev pub AreUnder : (size : ℕ) → (anchor : Header) → Copies → Type 0
+AreUnder size anchor copies = IfOk copies.primary (IsUnder size anchor) × IfOk copies.secondary (IsUnder size anchor)
+
+abbrev pub IsNewestUnder : (size : ℕ) → (anchor : Header) → Newest → Type 0
+IsNewestUnder size anchor (newests.One which copy) = IsUnder size anchor copy
+IsNewestUnder size anchor (newests.Level copy) = IsUnder size anchor copy
+IsNewestUnder size anchor (newests.TwoDiffer primary secondary) = IsUnder size anchor primary × IsUnder size anchor secondary
+IsNewestUnder size anchor (newests.Neither first second) = Unit {0}

@@ -1,10 +1,13 @@
-ghost use Rattle.std.specs.Prelude.{◌≡◌, ◌+◌, ◌<◌, ◌≤◌, IfErr, IfOk, false, length, slice_index};
+ghost use Rattle.std.specs.Prelude.{◌≡◌, ◌+◌, ◌<◌, ◌≤◌, IfErr, IfOk, Err, false, length, slice_index};
+ghost use Rattle.ddf_bay.specs.Moments.{IsSettled};
+ghost use Rattle.ddf_bay.specs.State.{on_slot};
 ghost use Rattle.ddf_bay.specs.ReadsOnly.{ReadsOnly, LooksAt};
 ghost use Rattle.ddf_header.specs.declared.kind.HeaderKind.TheVariants.{Anchor};
 ghost use Rattle.ddf_header.specs.Geometry.{IsSound};
 ghost use Rattle.ddf_header.specs.Header.{IsWritable};
 ghost use Rattle.ddf_copy.specs.Anchor.{anchor_at, anchor_in};
 ghost use Rattle.ddf_copy.specs.Faults.{IsAnchorFaultOf, UpToDisk, anchor_failed};
+ghost use Rattle.ddf_copy.specs.Headers.{IsAnchor};
 
 use crate::fault::AnchorFault;
 use ddf_bay::Bay;
@@ -18,14 +21,17 @@ const HEADER_SIGNATURE: u32 = 0xDE11_DE11;
 /// that is good.
 #[tactic(auto, unfolding(crate::specs::Anchor::anchor_at))]
 pub fn anchor_of<B: Bay>(bay: &mut B, slot: usize) -> Result<Header, AnchorFault>
-    requires { slot < length (B.sizes bay.old) }
-    ensures anchor { B.tells → UpToDisk slot result (anchor_at (slice_index (B.sizes bay.old) slot) (B.held bay.old slot)) }
+    requires { slot < length (B.disks bay.old).sizes }
+    ensures anchor { B.tells → UpToDisk slot result (on_slot anchor_at (B.disks bay.old) slot) }
     ensures sound { IfOk result (λ anchor. IsSound anchor.geometry) }
     ensures writable { IfOk result (IsWritable Anchor) }
-    ensures reads { ReadsOnly B.sizes B.held B.may_hold B.moment B.left_since B.sectors_written bay.old bay.new }
-    ensures look { LooksAt B.failed_reads B.failed_writes bay.old bay.new slot (anchor_failed result) }
+    ensures spelled { IfOk result IsAnchor }
+    ensures reads { ReadsOnly (B.disks bay.old) (B.disks bay.new) }
+    ensures look { LooksAt (B.disks bay.old) (B.disks bay.new) slot (anchor_failed result) }
     ensures named { IfErr result (IsAnchorFaultOf slot) }
-    ensures calls { B.calls bay.new ≤ B.calls bay.old + 1 }
+    ensures calls { (B.disks bay.new).calls ≤ (B.disks bay.old).calls + 1 }
+    // A slot without sectors is blank only behind a good sync.
+    ensures asked { slice_index (B.disks bay.old).sizes slot ≡ 0 → result ≡ Err AnchorFault.Blank → IsSettled (B.disks bay.new).may_hold (B.disks bay.new).held slot }
 {
     let size = bay.size(slot);
     if size == 0 {
@@ -47,6 +53,7 @@ fn anchor_in(last: &Sector) -> Result<Header, AnchorFault>
     ensures value { result ≡ anchor_in last.now }
     ensures sound { IfOk result (λ anchor. IsSound anchor.geometry) }
     ensures writable { IfOk result (IsWritable Anchor) }
+    ensures spelled { IfOk result IsAnchor }
     ensures no_look { anchor_failed result ≡ false }
 {
     if be32(last, 0) != HEADER_SIGNATURE {

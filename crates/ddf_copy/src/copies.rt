@@ -1,9 +1,12 @@
 // Both copies of a disk, and which of them is the newest.
-ghost use Rattle.std.specs.Prelude.{◌≡◌, ◌⊎◌, ◌+◌, ◌<◌, ◌≤◌, IfErr, IfOk, Err, Bool, false, length, slice_index};
+ghost use Rattle.std.specs.Prelude.{◌≡◌, ◌⊎◌, ◌+◌, ◌<◌, ◌≤◌, ℕ, IfErr, IfOk, Err, Bool, false, length, slice_index};
+ghost use Rattle.ddf_bay.specs.State.{on_slot};
 ghost use Rattle.ddf_bay.specs.ReadsOnly.{ReadsOnly, LooksAt};
+ghost use Rattle.ddf_header.specs.declared.reading.Header.{Header};
 ghost use Rattle.ddf_copy.specs.Copies.{are_level, copies_of, copy_of, newest_in, newest_of, newest_of_copies};
 ghost use Rattle.ddf_copy.specs.Faults.{IsShowFaultOf, show_failed};
-ghost use Rattle.ddf_copy.specs.Whole.{AreWhole, IsWhole, copy_read};
+ghost use Rattle.ddf_copy.specs.Headers.{IsAnchor, IsUnder};
+ghost use Rattle.ddf_copy.specs.Whole.{AreCopies, AreUnder, AreWhole, IsNewestCopy, IsNewestUnder, IsWhole, IsWholeUnder, copy_read};
 ghost use Rattle.ddf_copy.specs.Written.{IsCopy};
 ghost use Rattle.ddf_copy.specs.declared.fault.CopyFault.{CopyFault};
 
@@ -32,7 +35,9 @@ pub struct Copies {
 impl Copies {
     /// The newest of the copies that are whole.
     pub fn newest(self) -> Newest
-        ensures { result ≡ newest_of_copies self }
+        ensures value { result ≡ newest_of_copies self }
+        ensures writable { AreCopies self → IsNewestCopy result }
+        ensures under { (size : ℕ) (anchor : Header) → AreUnder size anchor self → IsNewestUnder size anchor result }
     {
         match (self.primary, self.secondary) {
             (Ok(primary), Ok(secondary)) => newest_of_both(self.level, primary, secondary),
@@ -52,12 +57,14 @@ pub fn newest<B: Bay>(
     slot: usize,
     anchor: &Header,
 ) -> Result<Newest, ShowFault>
-    requires { slot < length (B.sizes bay.old) }
-    ensures newest { B.tells → IfOk result (λ newest. newest ≡ newest_of (slice_index (B.sizes bay.old) slot) (B.held bay.old slot) anchor.now) }
-    ensures reads { ReadsOnly B.sizes B.held B.may_hold B.moment B.left_since B.sectors_written bay.old bay.new }
-    ensures look { LooksAt B.failed_reads B.failed_writes bay.old bay.new slot (show_failed result) }
+    requires { slot < length (B.disks bay.old).sizes }
+    ensures writable { IfOk result IsNewestCopy }
+    ensures under { IsAnchor anchor.now → IfOk result (IsNewestUnder (slice_index (B.disks bay.old).sizes slot) anchor.now) }
+    ensures newest { B.tells → IfOk result (λ newest. newest ≡ on_slot newest_of (B.disks bay.old) slot anchor.now) }
+    ensures reads { ReadsOnly (B.disks bay.old) (B.disks bay.new) }
+    ensures look { LooksAt (B.disks bay.old) (B.disks bay.new) slot (show_failed result) }
     ensures named { IfErr result (IsShowFaultOf slot) }
-    ensures calls { B.calls bay.new ≤ B.calls bay.old + 14 }
+    ensures calls { (B.disks bay.new).calls ≤ (B.disks bay.old).calls + 14 }
 {
     let copies = copies_of(alloc, bay, slot, anchor)?;
     Ok(copies.newest())
@@ -71,12 +78,14 @@ pub fn copies_of<B: Bay>(
     slot: usize,
     anchor: &Header,
 ) -> Result<Copies, ShowFault>
-    requires { slot < length (B.sizes bay.old) }
-    ensures copies { B.tells → IfOk result (λ copies. copies ≡ copies_of (slice_index (B.sizes bay.old) slot) (B.held bay.old slot) anchor.now) }
-    ensures reads { ReadsOnly B.sizes B.held B.may_hold B.moment B.left_since B.sectors_written bay.old bay.new }
-    ensures look { LooksAt B.failed_reads B.failed_writes bay.old bay.new slot (show_failed result) }
+    requires { slot < length (B.disks bay.old).sizes }
+    ensures writable { IfOk result AreCopies }
+    ensures under { IsAnchor anchor.now → IfOk result (AreUnder (slice_index (B.disks bay.old).sizes slot) anchor.now) }
+    ensures copies { B.tells → IfOk result (λ copies. copies ≡ on_slot copies_of (B.disks bay.old) slot anchor.now) }
+    ensures reads { ReadsOnly (B.disks bay.old) (B.disks bay.new) }
+    ensures look { LooksAt (B.disks bay.old) (B.disks bay.new) slot (show_failed result) }
     ensures named { IfErr result (IsShowFaultOf slot) }
-    ensures calls { B.calls bay.new ≤ B.calls bay.old + 14 }
+    ensures calls { (B.disks bay.new).calls ≤ (B.disks bay.old).calls + 14 }
 {
     let primary = look(alloc, bay, slot, anchor, Which::Primary)?;
     let secondary = look(alloc, bay, slot, anchor, Which::Secondary)?;
@@ -96,13 +105,14 @@ fn look<B: Bay>(
     anchor: &Header,
     which: Which,
 ) -> Result<Result<Whole, CopyFault>, ShowFault>
-    requires { slot < length (B.sizes bay.old) }
-    ensures copy { B.tells → IfOk result (λ found. copy_read found ≡ copy_of (slice_index (B.sizes bay.old) slot) (B.held bay.old slot) anchor.now which) }
+    requires { slot < length (B.disks bay.old).sizes }
+    ensures copy { B.tells → IfOk result (λ found. copy_read found ≡ on_slot copy_of (B.disks bay.old) slot anchor.now which) }
     ensures whole { IfOk result AreWhole }
-    ensures reads { ReadsOnly B.sizes B.held B.may_hold B.moment B.left_since B.sectors_written bay.old bay.new }
-    ensures look { LooksAt B.failed_reads B.failed_writes bay.old bay.new slot (show_failed result) }
+    ensures under { IsAnchor anchor.now → IfOk result (IsWholeUnder (slice_index (B.disks bay.old).sizes slot) anchor.now) }
+    ensures reads { ReadsOnly (B.disks bay.old) (B.disks bay.new) }
+    ensures look { LooksAt (B.disks bay.old) (B.disks bay.new) slot (show_failed result) }
     ensures named { IfErr result (IsShowFaultOf slot) }
-    ensures calls { B.calls bay.new ≤ B.calls bay.old + 7 }
+    ensures calls { (B.disks bay.new).calls ≤ (B.disks bay.old).calls + 7 }
 {
     match read_whole(alloc, bay, slot, anchor, which) {
         Ok(whole) => Ok(Ok(whole)),
@@ -125,7 +135,9 @@ fn are_level(primary: &Result<Whole, CopyFault>, secondary: &Result<Whole, CopyF
 }
 
 fn copy_read(found: Result<Whole, CopyFault>) -> Result<DiskCopy, CopyFault>
-    ensures { result ≡ copy_read found }
+    ensures value { result ≡ copy_read found }
+    ensures writable { AreWhole found → IfOk result IsCopy }
+    ensures under { (size : ℕ) (anchor : Header) → IsWholeUnder size anchor found → IfOk result (IsUnder size anchor) }
 {
     match found {
         Ok(whole) => Ok(whole.copy),

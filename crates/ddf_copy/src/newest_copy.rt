@@ -1,5 +1,6 @@
 ghost use Rattle.std.specs.Prelude.{◌≡◌};
 ghost use Rattle.ddf_copy.specs.Copies.{newest_of_both};
+ghost use Rattle.ddf_copy.specs.Shows.{IsLast, last_of};
 
 use crate::copy::DiskCopy;
 use crate::fault::CopyFault;
@@ -16,6 +17,26 @@ pub enum Newest {
     Neither(CopyFault, CopyFault),
     /// Two whole copies of one sequence that aren't level: the primary and the secondary one.
     TwoDiffer(DiskCopy, DiskCopy),
+}
+
+impl Newest {
+    /// The copy that an update of the disk writes last (profile): the newest one, and of two of one sequence the secondary
+    /// one. A disk with no whole copy has none; the answer is then the secondary one too.
+    pub fn last(&self) -> Which
+        ensures value { result ≡ last_of self.now }
+        ensures shown { IsLast self.now result }
+    {
+        self.place()
+    }
+
+    fn place(&self) -> Which
+        ensures { result ≡ last_of self.now }
+    {
+        match self {
+            Newest::One(which, _) => *which,
+            Newest::Level(_) | Newest::TwoDiffer(..) | Newest::Neither(..) => Which::Secondary,
+        }
+    }
 }
 
 /// The newest of two whole copies, which are level or not where they have one sequence.

@@ -37,16 +37,16 @@ pub(crate) fn read_raw<B: Bay>(
     lba: u64,
     geometry: &Geometry,
 ) -> Result<Raw, CopyFault>
-    requires slot { slot < length (B.sizes bay.old) }
+    requires slot { slot < length (B.disks bay.old).sizes }
     requires sound { IsSound geometry.now }
-    requires some { 0 < slice_index (B.sizes bay.old) slot }
-    requires fit { DoFit (slice_index (B.sizes bay.old) slot - 1) lba geometry.now.sections }
-    ensures raw { B.tells → IfOk result (λ raw. raw ≡ raw_at (B.held bay.old slot) lba geometry.now) }
+    requires some { 0 < slice_index (B.disks bay.old).sizes slot }
+    requires fit { DoFit (slice_index (B.disks bay.old).sizes slot - 1) lba geometry.now.sections }
+    ensures raw { B.tells → IfOk result (λ raw. raw ≡ raw_at ((B.disks bay.old).held slot) lba geometry.now) }
     ensures sizes { IfOk result (HasSizes geometry.now) }
-    ensures reads { ReadsOnly B.sizes B.held B.may_hold B.moment B.left_since B.sectors_written bay.old bay.new }
-    ensures look { LooksAt B.failed_reads B.failed_writes bay.old bay.new slot (copy_failed result) }
+    ensures reads { ReadsOnly (B.disks bay.old) (B.disks bay.new) }
+    ensures look { LooksAt (B.disks bay.old) (B.disks bay.new) slot (copy_failed result) }
     ensures named { IfErr result (IsLookFaultOf slot) }
-    ensures calls { B.calls bay.new ≤ B.calls bay.old + 6 }
+    ensures calls { (B.disks bay.new).calls ≤ (B.disks bay.old).calls + 6 }
 {
     let controller = read_first(bay, slot, lba, geometry.section(CONTROLLER))?;
     let disks = read_section(alloc, bay, slot, lba, geometry.section(DISKS))?;
@@ -84,14 +84,14 @@ fn read_first<B: Bay>(
     lba: u64,
     section: Section,
 ) -> Result<Sector, CopyFault>
-    requires slot { slot < length (B.sizes bay.old) }
+    requires slot { slot < length (B.disks bay.old).sizes }
     requires some { 0 < section.length }
-    requires fits { lba + section.offset + section.length < slice_index (B.sizes bay.old) slot }
-    ensures sector { B.tells → IfOk result (λ sector. sector ≡ B.held bay.old slot (lba + section.offset)) }
-    ensures reads { ReadsOnly B.sizes B.held B.may_hold B.moment B.left_since B.sectors_written bay.old bay.new }
-    ensures look { LooksAt B.failed_reads B.failed_writes bay.old bay.new slot (copy_failed result) }
+    requires fits { lba + section.offset + section.length < slice_index (B.disks bay.old).sizes slot }
+    ensures sector { B.tells → IfOk result (λ sector. sector ≡ (B.disks bay.old).held slot (lba + section.offset)) }
+    ensures reads { ReadsOnly (B.disks bay.old) (B.disks bay.new) }
+    ensures look { LooksAt (B.disks bay.old) (B.disks bay.new) slot (copy_failed result) }
     ensures named { IfErr result (IsLookFaultOf slot) }
-    ensures calls { B.calls bay.new ≤ B.calls bay.old + 1 }
+    ensures calls { (B.disks bay.new).calls ≤ (B.disks bay.old).calls + 1 }
 {
     let mut sector = [0; 512];
     match bay.read(slot, lba + u64::from(section.offset), &mut sector) {
@@ -108,14 +108,14 @@ fn read_section<B: Bay>(
     lba: u64,
     section: Section,
 ) -> Result<Seq<Sector>, CopyFault>
-    requires slot { slot < length (B.sizes bay.old) }
-    requires fits { 0 < section.length → lba + section.offset + section.length < slice_index (B.sizes bay.old) slot }
-    ensures sectors { B.tells → IfOk result (λ sectors. sectors ≡ sectors_at (B.held bay.old slot) lba section) }
+    requires slot { slot < length (B.disks bay.old).sizes }
+    requires fits { 0 < section.length → lba + section.offset + section.length < slice_index (B.disks bay.old).sizes slot }
+    ensures sectors { B.tells → IfOk result (λ sectors. sectors ≡ sectors_at ((B.disks bay.old).held slot) lba section) }
     ensures length { IfOk result (λ sectors. length sectors ≡ section.length) }
-    ensures reads { ReadsOnly B.sizes B.held B.may_hold B.moment B.left_since B.sectors_written bay.old bay.new }
-    ensures look { LooksAt B.failed_reads B.failed_writes bay.old bay.new slot (copy_failed result) }
+    ensures reads { ReadsOnly (B.disks bay.old) (B.disks bay.new) }
+    ensures look { LooksAt (B.disks bay.old) (B.disks bay.new) slot (copy_failed result) }
     ensures named { IfErr result (IsLookFaultOf slot) }
-    ensures calls { B.calls bay.new ≤ B.calls bay.old + 1 }
+    ensures calls { (B.disks bay.new).calls ≤ (B.disks bay.old).calls + 1 }
 {
     if section.length == 0 {
         return Ok(Seq::new(Vec::new(alloc)));

@@ -1,11 +1,13 @@
 // Reading a copy.
 ghost use Rattle.std.specs.Prelude.{◌≡◌, ◌⊎◌, ◌+◌, ◌-◌, ◌<◌, ◌≤◌, IfErr, IfOk, Err, false, length, slice_index};
+ghost use Rattle.ddf_bay.specs.State.{on_slot};
 ghost use Rattle.ddf_bay.specs.ReadsOnly.{ReadsOnly, LooksAt};
 ghost use Rattle.ddf_header.specs.Geometry.{IsSound};
 ghost use Rattle.ddf_header.specs.Header.{IsWritable};
 ghost use Rattle.ddf_copy.specs.Copies.{copy_of};
 ghost use Rattle.ddf_copy.specs.Faults.{IsCopyFaultOf, UpToLook, copy_failed};
 ghost use Rattle.ddf_copy.specs.Gate.{header_in, header_of};
+ghost use Rattle.ddf_copy.specs.Headers.{IsAnchor, IsReadHeader, IsUnder};
 ghost use Rattle.ddf_copy.specs.Room.{DoFit};
 ghost use Rattle.ddf_copy.specs.Whole.{IsWhole, copy_read};
 ghost use Rattle.ddf_copy.specs.Which.{place_of};
@@ -40,13 +42,15 @@ pub fn read_copy<B: Bay>(
     anchor: &Header,
     which: Which,
 ) -> Result<DiskCopy, CopyFault>
-    requires { slot < length (B.sizes bay.old) }
-    ensures copy { B.tells → UpToLook slot result (copy_of (slice_index (B.sizes bay.old) slot) (B.held bay.old slot) anchor.now which) }
+    requires { slot < length (B.disks bay.old).sizes }
+    ensures copy { B.tells → UpToLook slot result (on_slot copy_of (B.disks bay.old) slot anchor.now which) }
     ensures writable { IfOk result IsCopy }
-    ensures reads { ReadsOnly B.sizes B.held B.may_hold B.moment B.left_since B.sectors_written bay.old bay.new }
-    ensures look { LooksAt B.failed_reads B.failed_writes bay.old bay.new slot (copy_failed result) }
+    // It can be written again, in both places.
+    ensures under { IsAnchor anchor.now → IfOk result (IsUnder (slice_index (B.disks bay.old).sizes slot) anchor.now) }
+    ensures reads { ReadsOnly (B.disks bay.old) (B.disks bay.new) }
+    ensures look { LooksAt (B.disks bay.old) (B.disks bay.new) slot (copy_failed result) }
     ensures named { IfErr result (IsCopyFaultOf slot) }
-    ensures calls { B.calls bay.new ≤ B.calls bay.old + 7 }
+    ensures calls { (B.disks bay.new).calls ≤ (B.disks bay.old).calls + 7 }
 {
     match read_whole(alloc, bay, slot, anchor, which) {
         Ok(whole) => Ok(whole.copy),
@@ -63,13 +67,14 @@ pub(crate) fn read_whole<B: Bay>(
     anchor: &Header,
     which: Which,
 ) -> Result<Whole, CopyFault>
-    requires { slot < length (B.sizes bay.old) }
-    ensures copy { B.tells → UpToLook slot (copy_read result) (copy_of (slice_index (B.sizes bay.old) slot) (B.held bay.old slot) anchor.now which) }
+    requires { slot < length (B.disks bay.old).sizes }
+    ensures copy { B.tells → UpToLook slot (copy_read result) (on_slot copy_of (B.disks bay.old) slot anchor.now which) }
     ensures whole { IfOk result IsWhole }
-    ensures reads { ReadsOnly B.sizes B.held B.may_hold B.moment B.left_since B.sectors_written bay.old bay.new }
-    ensures look { LooksAt B.failed_reads B.failed_writes bay.old bay.new slot (copy_failed result) }
+    ensures under { IsAnchor anchor.now → IfOk result (λ whole. IsUnder (slice_index (B.disks bay.old).sizes slot) anchor.now whole.copy) }
+    ensures reads { ReadsOnly (B.disks bay.old) (B.disks bay.new) }
+    ensures look { LooksAt (B.disks bay.old) (B.disks bay.new) slot (copy_failed result) }
     ensures named { IfErr result (IsCopyFaultOf slot) }
-    ensures calls { B.calls bay.new ≤ B.calls bay.old + 7 }
+    ensures calls { (B.disks bay.new).calls ≤ (B.disks bay.old).calls + 7 }
 {
     let header = read_header(bay, slot, anchor, which)?;
     let raw = read_raw(alloc, bay, slot, which.place(anchor), &header.geometry)?;
@@ -87,17 +92,18 @@ fn read_header<B: Bay>(
     anchor: &Header,
     which: Which,
 ) -> Result<Header, CopyFault>
-    requires { slot < length (B.sizes bay.old) }
-    ensures header { B.tells → (result ≡ header_of (slice_index (B.sizes bay.old) slot) (B.held bay.old slot) anchor.now which) ⊎ (result ≡ Err (CopyFault.Disk slot)) }
+    requires { slot < length (B.disks bay.old).sizes }
+    ensures header { B.tells → (result ≡ on_slot header_of (B.disks bay.old) slot anchor.now which) ⊎ (result ≡ Err (CopyFault.Disk slot)) }
     ensures sound { IfOk result (λ header. IsSound header.geometry) }
     ensures writable { IfOk result (λ header. IsWritable header.kind header) }
     ensures closed { IfOk result (λ header. header.openness ≡ 0) }
-    ensures some { IfOk result (λ header. 0 < slice_index (B.sizes bay.old) slot) }
-    ensures fit { IfOk result (λ header. DoFit (slice_index (B.sizes bay.old) slot - 1) (place_of which anchor.now) header.geometry.sections) }
-    ensures reads { ReadsOnly B.sizes B.held B.may_hold B.moment B.left_since B.sectors_written bay.old bay.new }
-    ensures look { LooksAt B.failed_reads B.failed_writes bay.old bay.new slot (copy_failed result) }
+    ensures some { IfOk result (λ header. 0 < slice_index (B.disks bay.old).sizes slot) }
+    ensures fit { IfOk result (λ header. DoFit (slice_index (B.disks bay.old).sizes slot - 1) (place_of which anchor.now) header.geometry.sections) }
+    ensures read { IfOk result (IsReadHeader (slice_index (B.disks bay.old).sizes slot) anchor.now which) }
+    ensures reads { ReadsOnly (B.disks bay.old) (B.disks bay.new) }
+    ensures look { LooksAt (B.disks bay.old) (B.disks bay.new) slot (copy_failed result) }
     ensures named { IfErr result (IsCopyFaultOf slot) }
-    ensures calls { B.calls bay.new ≤ B.calls bay.old + 1 }
+    ensures calls { (B.disks bay.new).calls ≤ (B.disks bay.old).calls + 1 }
 {
     let size = bay.size(slot);
     let lba = which.place(anchor);
@@ -120,6 +126,7 @@ fn header_in(size: u64, anchor: &Header, which: Which, sector: &Sector) -> Resul
     ensures writable { IfOk result (λ header. IsWritable header.kind header) }
     ensures closed { IfOk result (λ header. header.openness ≡ 0) }
     ensures fit { IfOk result (λ header. DoFit (size - 1) (place_of which anchor.now) header.geometry.sections) }
+    ensures read { IfOk result (IsReadHeader size anchor.now which) }
     ensures no_look { copy_failed result ≡ false }
 {
     match decode(sector, which.kind()) {

@@ -35,6 +35,7 @@ pub(crate) fn copy_in(alloc: Global, header: &Header, raw: &Raw) -> Result<DiskC
     ensures copy { UpToMemory result (copy_in header.now raw.now) }
     ensures written { IfOk result (λ copy. sections_written copy ≡ raw_bytes raw.now) }
     ensures writable { IfOk result IsCopy }
+    ensures header { IfOk result (λ copy. copy.header ≡ header.now) }
     ensures no_look { copy_failed result ≡ false }
 {
     let controller = controller_in(&raw.controller)?;

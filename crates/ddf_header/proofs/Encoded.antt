@@ -1,9 +1,9 @@
 -- A header that is written is the value of its sector, and the sector that it was read from.
-use Rattle.std.proofs.Common.{◌≡◌, ℕ, List, ◌∷◌, length, refl, sym, ◌∙◌, subst}
+use Rattle.std.proofs.Common.{◌≡◌, ℕ, List, ◌∷◌, length, refl, sym, ap, ◌∙◌, subst}
 use Rattle.ddf_seal.specs.Seal.{seal_place}
 use Rattle.ddf_seal.specs.Unread.{AreBytes, places}
 use Rattle.ddf_seal.specs.Records.{record_bytes}
-use Rattle.ddf_seal.proofs.Same.{AreWithin, within_from_test}
+use Rattle.ddf_seal.proofs.Same.{AreWithin, cleared_outside, within_from_test}
 use Rattle.ddf_seal.proofs.Records.{AreAllApart, apart_from_test, record_again, record_from_bytes, record_written, length-record_bytes}
 use Rattle.ddf_header.specs.declared.kind.HeaderKind.{HeaderKind}
 use Rattle.ddf_header.specs.declared.reading.Header.{Header}
@@ -28,9 +28,15 @@ encoded_is kind header size can are =
       is_header = can.is_header;
     }
 
+-- the rest of a header that was read is a sector
+rest_from_value : (kind : HeaderKind) (header : Header) (sector : List ℕ) → IsHeaderOf kind header sector → length header.rest ≡ 512
+rest_from_value kind header sector is =
+    ap length is.is_record.others_stay ∙ (cleared_outside (seal_place ∷ places (header_fields header)) sector (within header (length sector) is.size)).size ∙ is.size
+
 -- the value of a sector can be written
 pub writable_from_value : (kind : HeaderKind) (header : Header) (sector : List ℕ) → IsHeaderOf kind header sector → IsWritable kind header
 writable_from_value kind header sector is = record {
   is_header = is.is_header;
   is_record = record_from_bytes header_signature (header_fields header) header.rest sector (within header (length sector) is.size) is.is_record;
+  rest_size = rest_from_value kind header sector is;
 }

@@ -58,10 +58,11 @@ pub record IsHeader (kind : HeaderKind) (header : Header) : Type 0 where
   pub has_places : IsTrue (are_header_places header.primary_lba header.secondary_lba)
   pub has_geometry : geometry_fault header.geometry ≡ None
 
--- A header can be written: its numbers fit, and its rest has zeros in the places of the fields.
+-- A header can be written: its numbers fit, and its rest is a sector with zeros in the places of the fields.
 pub record IsWritable (kind : HeaderKind) (header : Header) : Type 0 where
   pub is_header : IsHeader kind header
   pub is_record : IsRecord (header_fields header) header.rest
+  pub rest_size : length header.rest ≡ 512
 
 -- A header is the value of 512 bytes: it is sealed, each field has the value that stands at its offset, the rest is all
 -- other bytes, and the values are ones that it may have.

@@ -8,7 +8,7 @@ use Rattle.ddf_seal.specs.declared.sealing.SealFault.{SealFault}
 use Rattle.ddf_seal.specs.Seal.{seal_check, seal_place, IsSealed}
 use Rattle.ddf_seal.specs.Unread.{Field, AreBytes, places, is_within}
 use Rattle.ddf_seal.specs.Records.{record_bytes}
-use Rattle.ddf_seal.proofs.Same.{AreWithin, within_from_test}
+use Rattle.ddf_seal.proofs.Same.{AreWithin, cleared_outside, within_from_test}
 use Rattle.ddf_seal.proofs.Seals.{sealed_from_check, check_from_sealed}
 use Rattle.ddf_seal.proofs.Records.{apart_from_test, record_again, record_from_bytes, record_written, length-record_bytes}
 use Rattle.ddf_tables.specs.declared.controller.Controller.{Controller}
@@ -64,7 +64,12 @@ controller_again controller sector is =
 pub controller_writable : (sector : List ℕ) (result : Result Controller SealFault) → length sector ≡ 512 → AreBytes sector → result ≡ sealed_value controller_signature (controller_at sector) sector → IfOk result IsController
 controller_writable sector result size are exact =
     if_ok_from (λ controller. IsControllerOf controller sector) IsController result (controller_both_ways sector result size are exact)
-    (λ controller is. record_from_bytes controller_signature (controller_fields controller) controller.rest sector (within (length sector) (controller_fields controller) is.size refl) is.is_record)
+    (λ controller is.
+    let inside = within (length sector) (controller_fields controller) is.size refl in
+    record {
+      is_record = record_from_bytes controller_signature (controller_fields controller) controller.rest sector inside is.is_record;
+      rest_size = ap length is.is_record.others_stay ∙ (cleared_outside (seal_place ∷ places (controller_fields controller)) sector inside).size ∙ is.size;
+    })
 
 pub controller_is_written : (controller : Controller) → length controller.rest ≡ 512 → IsController controller → AreBytes (record_bytes controller_signature (controller_fields controller) controller.rest)
     → IsControllerOf controller (record_bytes controller_signature (controller_fields controller) controller.rest)
@@ -72,8 +77,8 @@ controller_is_written controller size can are =
     let fields = controller_fields controller in
     let inside = within (length controller.rest) fields size refl in
     record {
-      size = length-record_bytes controller_signature fields controller.rest inside can.fields_fit ∙ size;
-      is_record = record_written controller_signature fields controller.rest inside (apart_from_test (seal_place ∷ places fields) refl) can are;
+      size = length-record_bytes controller_signature fields controller.rest inside can.is_record.fields_fit ∙ size;
+      is_record = record_written controller_signature fields controller.rest inside (apart_from_test (seal_place ∷ places fields) refl) can.is_record are;
     }
 
 -- ---- physical disk data
@@ -97,7 +102,12 @@ disk_data_again disk sector is = record_again disk_data_signature (disk_data_fie
 pub disk_data_writable : (sector : List ℕ) (result : Result DiskData SealFault) → length sector ≡ 512 → AreBytes sector → result ≡ sealed_value disk_data_signature (disk_data_at sector) sector → IfOk result IsDiskData
 disk_data_writable sector result size are exact =
     if_ok_from (λ disk. IsDiskDataOf disk sector) IsDiskData result (disk_data_both_ways sector result size are exact)
-    (λ disk is. record_from_bytes disk_data_signature (disk_data_fields disk) disk.rest sector (within (length sector) (disk_data_fields disk) is.size refl) is.is_record)
+    (λ disk is.
+    let inside = within (length sector) (disk_data_fields disk) is.size refl in
+    record {
+      is_record = record_from_bytes disk_data_signature (disk_data_fields disk) disk.rest sector inside is.is_record;
+      rest_size = ap length is.is_record.others_stay ∙ (cleared_outside (seal_place ∷ places (disk_data_fields disk)) sector inside).size ∙ is.size;
+    })
 
 pub disk_data_is_written : (disk : DiskData) → length disk.rest ≡ 512 → IsDiskData disk → AreBytes (record_bytes disk_data_signature (disk_data_fields disk) disk.rest)
     → IsDiskDataOf disk (record_bytes disk_data_signature (disk_data_fields disk) disk.rest)
@@ -105,6 +115,6 @@ disk_data_is_written disk size can are =
     let fields = disk_data_fields disk in
     let inside = within (length disk.rest) fields size refl in
     record {
-      size = length-record_bytes disk_data_signature fields disk.rest inside can.fields_fit ∙ size;
-      is_record = record_written disk_data_signature fields disk.rest inside (apart_from_test (seal_place ∷ places fields) refl) can are;
+      size = length-record_bytes disk_data_signature fields disk.rest inside can.is_record.fields_fit ∙ size;
+      is_record = record_written disk_data_signature fields disk.rest inside (apart_from_test (seal_place ∷ places fields) refl) can.is_record are;
     }

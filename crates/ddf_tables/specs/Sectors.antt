@@ -29,8 +29,9 @@ pub record IsControllerOf (controller : Controller) (sector : List ℕ) : Type 0
   pub is_record : IsRecordOf controller_signature (controller_fields controller) controller.rest sector
 
 -- A controller can be written.
-abbrev pub IsController : Controller → Type 0
-IsController controller = IsRecord (controller_fields controller) controller.rest
+pub record IsController (controller : Controller) : Type 0 where
+  pub is_record : IsRecord (controller_fields controller) controller.rest
+  pub rest_size : length controller.rest ≡ 512
 
 -- the controller that stands in a sector
 abbrev pub controller_at : List ℕ → Controller
@@ -56,8 +57,9 @@ pub record IsDiskDataOf (disk : DiskData) (sector : List ℕ) : Type 0 where
   pub is_record : IsRecordOf disk_data_signature (disk_data_fields disk) disk.rest sector
 
 -- The disk data can be written.
-abbrev pub IsDiskData : DiskData → Type 0
-IsDiskData disk = IsRecord (disk_data_fields disk) disk.rest
+pub record IsDiskData (disk : DiskData) : Type 0 where
+  pub is_record : IsRecord (disk_data_fields disk) disk.rest
+  pub rest_size : length disk.rest ≡ 512
 
 -- the disk data that stand in a sector
 abbrev pub disk_data_at : List ℕ → DiskData

@@ -1,5 +1,6 @@
 -- What a stop leaves while two copies are written one after the other.
 use Rattle.std.proofs.Common.{◌≡◌, ◌⊎◌, ℕ, ◌-◌, List, [], ◌∷◌, get_or, inl, inr, refl, ◌∙◌, ⊎_elim, arith}
+use Rattle.ddf_bay.specs.State.{BayState}
 use Rattle.ddf_bay.specs.Sectors.{Image, Outcomes, IsLeft}
 use Rattle.ddf_bay.specs.Moments.{StopsLeave, IsSettled}
 use Rattle.ddf_bay.proofs.Steps.{stops_then, stops_weaken}
@@ -19,30 +20,30 @@ copy_kept before now lba header runs stood kept = record {
   sections_are = λ l bytes there. kept l (inr (is_in_runs lba runs l bytes there)) ∙ stood.sections_are l bytes there;
 }
 
-module _ {D : Type 0} {held : D → Image} {may_hold : D → Outcomes} {moment : D → ℕ} {left_since : D → ℕ → Image → Type 0} {a b : D} {slot : ℕ} {gate : Gate} {runs : List Run} where
+module _ {D : Type 0} {a b : BayState D} {slot : ℕ} {gate : Gate} {runs : List Run} where
   -- a copy that was written stands
-  pub copy_stands : AreApart runs → IsCopied held may_hold moment left_since a b slot gate runs → HasCopy (held b slot) gate.lba gate.closed runs
+  pub copy_stands : AreApart runs → IsCopied a b slot gate runs → HasCopy (b.held slot) gate.lba gate.closed runs
   copy_stands apart done = record {
     header_is =
         let e : gate.lba - gate.lba ≡ 0 = omega arith in
         let zeroth : get_or (gate.closed ∷ []) (gate.lba - gate.lba) [] ≡ gate.closed = rw e refl in
         done.written slot gate.lba ∙ inside sections slot gate.lba (gate.closed ∷ []) gate.lba (omega arith) (omega arith) ∙ zeroth;
     sections_are = λ l bytes there.
-        done.written slot l ∙ after sections slot gate.lba (gate.closed ∷ []) slot l (omega (arith, behind_header gate.lba runs l apart (is_in_runs gate.lba runs l bytes there))) ∙ puts_inside (held a) slot gate.lba runs l bytes apart there;
+        done.written slot l ∙ after sections slot gate.lba (gate.closed ∷ []) slot l (omega (arith, behind_header gate.lba runs l apart (is_in_runs gate.lba runs l bytes there))) ∙ puts_inside a.held slot gate.lba runs l bytes apart there;
   }
     where
       sections : Image
-      sections = put_runs (held a) slot gate.lba runs
+      sections = put_runs a.held slot gate.lba runs
 
   -- and all outside it is as it was
-  pub copy_outside : IsCopied held may_hold moment left_since a b slot gate runs → (s l : ℕ) → (held b s l ≡ held a s l) ⊎ ((s ≡ slot) × IsInCopy gate.lba runs l)
+  pub copy_outside : IsCopied a b slot gate runs → (s l : ℕ) → (b.held s l ≡ a.held s l) ⊎ ((s ≡ slot) × IsInCopy gate.lba runs l)
   copy_outside done s l = ⊎_elim
       (λ same. ⊎_elim
       (λ was. inl (done.written s l ∙ same ∙ was))
-      (λ here. inr (here.0, inr (is_in_runs gate.lba runs l (put_runs (held a) slot gate.lba runs s l) here.1)))
-      (puts_mix (held a) slot gate.lba runs s l))
+      (λ here. inr (here.0, inr (is_in_runs gate.lba runs l (put_runs a.held slot gate.lba runs s l) here.1)))
+      (puts_mix a.held slot gate.lba runs s l))
       (λ here. inr (here.0, inl (one_in gate.lba l gate.closed _ here.1).0))
-      (put_mixes (put_runs (held a) slot gate.lba runs) slot gate.lba (gate.closed ∷ []) s l)
+      (put_mixes (put_runs a.held slot gate.lba runs) slot gate.lba (gate.closed ∷ []) s l)
 
 module _ (may : Outcomes) (held : Image) (slot : ℕ) (first second : Gate) (runs : List Run) (image : Image) (both : AreBothApart first second runs) where
   -- while the first copy is written
@@ -99,28 +100,28 @@ updating_start may held slot first second runs image settled left = record {
   };
 }
 
-module _ {D : Type 0} (held : D → Image) (may_hold : D → Outcomes) (moment : D → ℕ) (left_since : D → ℕ → Image → Type 0) (a b c : D) (slot : ℕ) (first second : Gate) (runs : List Run)
-    (apart : AreApart runs) (both : AreBothApart first second runs) (one : IsCopied held may_hold moment left_since a b slot first runs) where
+module _ {D : Type 0} (a b c : BayState D) (slot : ℕ) (first second : Gate) (runs : List Run)
+    (apart : AreApart runs) (both : AreBothApart first second runs) (one : IsCopied a b slot first runs) where
   -- both copies, the second of which may have failed
-  pub both_moments : IsSettled (may_hold a) (held a) slot → StopsLeave moment left_since b c (IsGated (may_hold b) slot second runs)
-      → StopsLeave moment left_since a c (IsLeftUpdating (may_hold a) (held a) slot first second runs)
+  pub both_moments : IsSettled a.may_hold a.held slot → StopsLeave b c (IsGated b.may_hold slot second runs)
+      → StopsLeave a c (IsLeftUpdating a.may_hold a.held slot first second runs)
   both_moments settled two = stops_then
-      (stops_weaken one.any_moment (λ image gated. first_image (may_hold a) (held a) slot first second runs image both settled gated))
+      (stops_weaken one.any_moment (λ image gated. first_image a.may_hold a.held slot first second runs image both settled gated))
       two
-      (λ image gated. second_image (may_hold a) (held a) slot first second runs image both (may_hold b) (held b) one.left stays (copy_stands apart one) one.durable gated)
+      (λ image gated. second_image a.may_hold a.held slot first second runs image both b.may_hold b.held one.left stays (copy_stands apart one) one.durable gated)
     where
-      stays : (l : ℕ) → (held b slot l ≡ held a slot l) ⊎ IsInCopy first.lba runs l
+      stays : (l : ℕ) → (b.held slot l ≡ a.held slot l) ⊎ IsInCopy first.lba runs l
       stays l = ⊎_elim inl (λ new. inr new.1) (copy_outside one slot l)
 
   -- both are there
-  pub both_copied : IsCopied held may_hold moment left_since b c slot second runs → AreCopied held may_hold a c slot first second runs
+  pub both_copied : IsCopied b c slot second runs → AreCopied a c slot first second runs
   both_copied two = record {
     other_slots = λ s l differs. ⊎_elim (λ same. same) (λ new. absurd (differs new.0)) (copy_outside two s l) ∙ ⊎_elim (λ same. same) (λ new. absurd (differs new.0)) (copy_outside one s l);
     outside = λ l. ⊎_elim
         (λ same. ⊎_elim (λ was. inl (same ∙ was)) (λ new. inr (inl new.1)) (copy_outside one slot l))
         (λ new. inr (inr new.1))
         (copy_outside two slot l);
-    first_is = copy_kept (held b slot) (held c slot) first.lba first.closed runs (copy_stands apart one) (λ l there. ⊎_elim (λ same. same) (λ new. absurd (both l there new.1)) (copy_outside two slot l));
+    first_is = copy_kept (b.held slot) (c.held slot) first.lba first.closed runs (copy_stands apart one) (λ l there. ⊎_elim (λ same. same) (λ new. absurd (both l there new.1)) (copy_outside two slot l));
     second_is = copy_stands apart two;
     durable = two.durable;
     left = λ s l bytes differs now. ⊎_elim

@@ -1,6 +1,7 @@
 -- What a slot shows while its copies are written.
 use Rattle.std.proofs.Common.{◌≡◌, ◌⊎◌, ℕ, ◌-◌, List, Ok, Err, None, true, refl, sym, ◌∙◌, inl, inr, ⊎_elim, arith, subst}
-use Rattle.ddf_bay.specs.Sectors.{Image, Outcomes}
+use Rattle.ddf_bay.specs.State.{BayState, size_of}
+use Rattle.ddf_bay.specs.Sectors.{Image}
 use Rattle.ddf_header.specs.declared.reading.Header.{Header}
 use Rattle.ddf_header.specs.Geometry.{geometry_at}
 use Rattle.ddf_header.proofs.Encoded.{encoded_again}
@@ -21,14 +22,15 @@ use Rattle.ddf_copy.specs.Written.{is_level}
 use Rattle.ddf_copy.proofs.Gates.{gate_from, geometry_read}
 use Rattle.ddf_copy.proofs.Laid.{AreLaid, copies_apart, copy_below, part_in_runs, runs_apart, runs_laid}
 use Rattle.ddf_copy.proofs.LevelCopies.{level_from, level_is, same_start, same_sym, same_then, written_same}
-use Rattle.ddf_copy.proofs.Newests.{newest_of_level, newest_of_one, newest_of_two, newest_same, newest_then}
+use Rattle.ddf_copy.specs.declared.newest_copy.Newest.TheVariants as newests
+use Rattle.ddf_copy.proofs.Newests.{never_differ, newest_of_level, newest_of_one, newest_of_two, newest_same, newest_then}
 use Rattle.ddf_copy.proofs.Stands.{copy_stands, open_copy, place_within, same_copy}
 use Rattle.ddf_update.specs.declared.gate.Gate.{Gate}
 use Rattle.ddf_update.specs.declared.prepared.Prepared.{Prepared}
 use Rattle.ddf_update.specs.declared.prepared.Mode.TheVariants.{Change}
-use Rattle.ddf_update.specs.Gate.{AreBothApart, AreCopied, IsLeftUpdating, IsUntouched, IsUpdating}
+use Rattle.ddf_update.specs.Gate.{AreBothApart, AreCopied, IsLeftUpdating, IsPartly, IsUntouched, IsUpdating}
 use Rattle.ddf_update.specs.Prepared.{IsGateOf, IsPrepared}
-use Rattle.ddf_update.specs.Update.{AreBoth, IsChanged, IsInEither, IsOldOrNew, MayChange}
+use Rattle.ddf_update.specs.Update.{AreBoth, AreReadPartly, IsChanged, IsChanging, IsInEither, IsOldOrNew, IsReadPartly, MayChange}
 
 other_other : (which : Which) → other_of (other_of which) ≡ which
 other_other Primary = refl
@@ -114,8 +116,14 @@ either_is size now anchor which old new is also newer =
     let level = λ (same : new.header.sequence ≡ old.header.sequence). level_then written new old (written_same new which).are_level (newer same) in
     ⊎_elim (λ first. inr (newest_then (newest_of size now anchor) written new (written_same new which) first)) inl (newest_of_two size now anchor which written old is also level)
 
-module _ (size : ℕ) (may : Outcomes) (held : Image) (slot : ℕ) (anchor : Header) (last : Which) (old new : DiskCopy) (runs : List Run) (first second : Gate)
-    (can : MayChange size may held slot anchor last old new) (are : AreRunsOf new runs) (is : IsGateOf new (other_of last) first) (also : IsGateOf new (other_of (other_of last)) second) where
+module _ {D : Type 0} (disks : BayState D) (slot : ℕ) (anchor : Header) (last : Which) (old new : DiskCopy) (runs : List Run) (first second : Gate)
+    (can : MayChange disks slot anchor last old new) (are : AreRunsOf new runs) (is : IsGateOf new (other_of last) first) (also : IsGateOf new (other_of (other_of last)) second) where
+  abbrev size : ℕ
+  size = size_of disks slot
+
+  abbrev held : Image
+  held = disks.held
+
   second_is : IsGateOf new last second
   second_is = rw (other_other last) at also
 
@@ -154,38 +162,91 @@ module _ (size : ℕ) (may : Outcomes) (held : Image) (slot : ℕ) (anchor : Hea
         ]
   ]
 
+  alike : (now : ℕ → List ℕ) → IsUpdating (held slot) first second runs now → (p s : DiskCopy) → newest_of size now anchor ≡ newests.TwoDiffer p s → newest_of size (held slot) anchor ≡ newests.TwoDiffer p s
+  alike now updating p s differ =
+      let written = written_as new (other_of last) in
+      let newer = λ (same : written.header.sequence ≡ old.header.sequence). level_then written new old (written_same new (other_of last)).are_level (can.is_newer same) in
+      elim updating.copies [
+        | inl before ↦
+            let kept = untouched_copy size anchor new runs can.is_under are last second second_is (held slot) now before.1 in
+            let last_is = kept ∙ can.last_is in
+            elim before.0 [
+              | inl same ↦ sym (newest_same size now (held slot) anchor last kept (untouched_copy size anchor new runs can.is_under are (other_of last) first is (held slot) now same)) ∙ differ
+              | inr begun ↦ elim begun [
+                | inl opened ↦
+                    let one = sym (newest_of_one size now anchor last old (faults.Opened new.header.sequence) last_is (open_is_not_whole size anchor new runs can.is_under are (other_of last) first is now opened)) ∙ differ in absurd cc
+                | inr stands ↦ absurd (never_differ size now anchor (other_of last) written old p s (new_copy_stands size anchor new runs can.is_under are (other_of last) first is now stands) (rw (other_other last) last_is) newer differ)
+              ]
+            ]
+        | inr after ↦
+            let first_is = new_copy_stands size anchor new runs can.is_under are (other_of last) first is now after.0 in
+            elim after.1 [
+              | inl same ↦
+                  let last_is = untouched_copy size anchor new runs can.is_under are last second second_is (held slot) now same ∙ can.last_is in
+                  absurd (never_differ size now anchor (other_of last) written old p s first_is (rw (other_other last) last_is) newer differ)
+              | inr begun ↦ elim begun [
+                | inl opened ↦
+                    let fault = open_is_not_whole size anchor new runs can.is_under are last second second_is now opened in
+                    let one = sym (newest_of_one size now anchor (other_of last) written (faults.Opened new.header.sequence) first_is (rw (other_other last) fault)) ∙ differ in absurd cc
+                | inr stands ↦
+                    let second_stands = new_copy_stands size anchor new runs can.is_under are last second second_is now stands in
+                    absurd (never_differ size now anchor (other_of last) written (written_as new last) p s first_is (rw (other_other last) second_stands)
+                    (λ same. level_then written new (written_as new last) (written_same new (other_of last)).are_level (same_sym (written_as new last) new (written_same new last)).are_level) differ)
+              ]
+            ]
+      ]
+
+  read_partly : (which : Which) (gate : Gate) → IsGateOf new which gate → (now : ℕ → List ℕ) → IsPartly (held slot) now gate runs → IsReadPartly size (held slot) now anchor which new
+  read_partly which gate here now partly = elim partly [
+    | inl same ↦ inl (untouched_copy size anchor new runs can.is_under are which gate here (held slot) now same)
+    | inr begun ↦ elim begun [
+      | inl opened ↦ inr (inl (open_is_not_whole size anchor new runs can.is_under are which gate here now opened))
+      | inr stands ↦ inr (inr (new_copy_stands size anchor new runs can.is_under are which gate here now stands))
+    ]
+  ]
+
+  read_both : (now : ℕ → List ℕ) → IsUpdating (held slot) first second runs now → AreReadPartly size (held slot) now anchor last new
+  read_both now updating = elim updating.copies [
+    | inl before ↦ inl (read_partly (other_of last) first is now before.0, untouched_copy size anchor new runs can.is_under are last second second_is (held slot) now before.1)
+    | inr after ↦ inr (new_copy_stands size anchor new runs can.is_under are (other_of last) first is now after.0, read_partly last second second_is now after.1)
+  ]
+
 -- ---- all of the slot
 
 pub same_anchor : (size : ℕ) (now before : ℕ → List ℕ) → now (size - 1) ≡ before (size - 1) → anchor_at size now ≡ anchor_at size before
 unfolding anchor_at
 same_anchor size now before same = rw same refl
 
-module _ (size : ℕ) (may : Outcomes) (held : Image) (slot : ℕ) (anchor : Header) (last : Which) (old new : DiskCopy) (prepared : Prepared)
-    (is : IsPrepared new last Change prepared) (can : MayChange size may held slot anchor last old new) where
-  anchored : (now : ℕ → List ℕ) → ((l : ℕ) → (now l ≡ held slot l) ⊎ IsInEither prepared l) → anchor_at size now ≡ Ok anchor
-  anchored now outside =
-      let last_same : now (size - 1) ≡ held slot (size - 1) = ⊎_elim (λ same. same) (λ in_copy. absurd (⊎_elim
-      (λ in_first. not_last size anchor new prepared.runs can.is_under is.runs_are (other_of last) prepared.first is.first_is in_first)
-      (λ in_second. not_last size anchor new prepared.runs can.is_under is.runs_are (other_of (other_of last)) prepared.second is.second_is in_second) in_copy)) (outside (size - 1)) in
-      same_anchor size now (held slot) last_same ∙ can.is_anchored
+module _ {D : Type 0} (disks : BayState D) (slot : ℕ) (anchor : Header) (last : Which) (old new : DiskCopy) (prepared : Prepared)
+    (is : IsPrepared new last Change prepared) (can : MayChange disks slot anchor last old new) where
+  abbrev here_size : ℕ
+  here_size = size_of disks slot
 
-  pub changing : (image : Image) → IsLeftUpdating may held slot prepared.first prepared.second prepared.runs image → IsOldOrNew size may held slot prepared old new image
+  anchored : (now : ℕ → List ℕ) → ((l : ℕ) → (now l ≡ disks.held slot l) ⊎ IsInEither prepared l) → anchor_at here_size now ≡ Ok anchor
+  anchored now outside =
+      let last_same : now (here_size - 1) ≡ disks.held slot (here_size - 1) = ⊎_elim (λ same. same) (λ in_copy. absurd (⊎_elim
+      (λ in_first. not_last here_size anchor new prepared.runs can.is_under is.runs_are (other_of last) prepared.first is.first_is in_first)
+      (λ in_second. not_last here_size anchor new prepared.runs can.is_under is.runs_are (other_of (other_of last)) prepared.second is.second_is in_second) in_copy)) (outside (here_size - 1)) in
+      same_anchor here_size now (disks.held slot) last_same ∙ can.is_anchored
+
+  pub changing : (image : Image) → IsLeftUpdating disks.may_hold disks.held slot prepared.first prepared.second prepared.runs image → IsOldOrNew disks slot prepared anchor last old new image
   changing image left =
       let here = anchored (image slot) left.here.outside in
-      record {
+      let is_changing : IsChanging here_size (disks.held slot) (image slot) prepared anchor last old new = record {
         shows = ⊎_elim (λ newest. inl (record { anchor = anchor; is_anchored = here; is_newest = newest })) (λ newest. inr (record { anchor = anchor; is_anchored = here; is_newest = newest }))
-            (shown size may held slot anchor last old new prepared.runs prepared.first prepared.second can is.runs_are is.first_is is.second_is (image slot) left.here);
+            (shown disks slot anchor last old new prepared.runs prepared.first prepared.second can is.runs_are is.first_is is.second_is (image slot) left.here);
+        is_anchored = here;
+        copies = read_both disks slot anchor last old new prepared.runs prepared.first prepared.second can is.runs_are is.first_is is.second_is (image slot) left.here;
+        alike = alike disks slot anchor last old new prepared.runs prepared.first prepared.second can is.runs_are is.first_is is.second_is (image slot) left.here;
         outside = left.here.outside;
-        other_slots = left.other_slots;
-      }
+      } in
+      record { here = is_changing; other_slots = left.other_slots }
 
-  pub changed : {D : Type 0} (held_of : D → Image) (may_hold : D → Outcomes) (before after : D) → held_of before ≡ held → may_hold before ≡ may
-      → AreCopied held_of may_hold before after slot prepared.first prepared.second prepared.runs → IsChanged held_of may_hold before after size slot anchor prepared new
-  changed held_of may_hold before after same_held same_may copied =
-      let outside = λ (l : ℕ). let at = copied.outside l in rw same_held at at in
+  pub changed : (after : BayState D) → AreCopied disks after slot prepared.first prepared.second prepared.runs → IsChanged disks after slot anchor prepared new
+  changed after copied =
       record {
-        are_both = both_stand size anchor new prepared.runs can.is_under is.runs_are (other_of last) prepared.first prepared.second is.first_is is.second_is (held_of after slot)
-            (anchored (held_of after slot) outside) copied.first_is copied.second_is;
+        are_both = both_stand here_size anchor new prepared.runs can.is_under is.runs_are (other_of last) prepared.first prepared.second is.first_is is.second_is (after.held slot)
+            (anchored (after.held slot) copied.outside) copied.first_is copied.second_is;
         is_settled = copied.durable;
         outside = copied.outside;
         other_slots = copied.other_slots;

@@ -4,7 +4,7 @@ use Rattle.std.proofs.lemmas.Bool.{cases_lt}
 use Rattle.std.proofs.lemmas.Option.{slice_get_within}
 use Rattle.std.specs.Prelude.{slice_get, slice_index, IfOk, OnOk}
 use Rattle.ddf_bytes.specs.declared.no_memory.NoMemory.{NoMemory}
-use Rattle.ddf_bay.specs.Sectors.{Image}
+use Rattle.ddf_bay.specs.State.{BayState}
 use Rattle.ddf_copy.specs.declared.copy.DiskCopy.{DiskCopy}
 use Rattle.ddf_copy.specs.declared.fault.AnchorFault.TheVariants.{Blank}
 use Rattle.ddf_copy.specs.Anchor.{anchor_at}
@@ -70,5 +70,5 @@ module _ (sizes slots : List ℕ) (copy : ℕ → DiskCopy) (updates : List Prep
     lie_on = λ place slot update here there. lies_on (slice_index sizes slot) (anchor_header (copy place)) (copy place) Secondary Found update (under_on_slot place slot here) (first.are_prepared place update there);
   }
 
-  pub may_found_all : (held : Image) → ((place slot : ℕ) → slice_get slots place ≡ Some slot → anchor_at (slice_index sizes slot) (held slot) ≡ Err Blank) → MayFoundAll sizes held slots copy updates
-  may_found_all held blank = record { are_blank = blank; are_under = under_on_slot; are_prepared = first.are_prepared }
+  pub may_found_all : {D : Type 0} (disks : BayState D) → disks.sizes ≡ sizes → ((place slot : ℕ) → slice_get slots place ≡ Some slot → anchor_at (slice_index sizes slot) (disks.held slot) ≡ Err Blank) → MayFoundAll disks slots copy updates
+  may_found_all disks same_sizes blank = record { are_blank = rw same_sizes blank; are_under = rw same_sizes under_on_slot; are_prepared = first.are_prepared }

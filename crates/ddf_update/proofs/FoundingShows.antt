@@ -3,7 +3,8 @@ use Rattle.std.proofs.Common.{◌≡◌, ℕ, ◌-◌, ◌<◌, eqb, List, Ok, f
 use Rattle.std.proofs.lemmas.Bool.{eq-eqb, ne_eqb}
 use Rattle.std.specs.Int.{w32}
 use Rattle.ddf_bytes.specs.Bytes.{number_at}
-use Rattle.ddf_bay.specs.Sectors.{Image, Outcomes}
+use Rattle.ddf_bay.specs.State.{BayState, size_of}
+use Rattle.ddf_bay.specs.Sectors.{Image}
 use Rattle.ddf_bay.proofs.Steps.{stops_weaken}
 use Rattle.ddf_header.specs.declared.kind.HeaderKind.TheVariants.{Anchor}
 use Rattle.ddf_header.specs.declared.reading.Header.{Header}
@@ -14,11 +15,8 @@ use Rattle.ddf_copy.specs.declared.copy.DiskCopy.{DiskCopy}
 use Rattle.ddf_copy.specs.declared.which.Which.{Which}
 use Rattle.ddf_copy.specs.declared.which.Which.TheVariants.{Primary, Secondary}
 use Rattle.ddf_copy.specs.Anchor.{anchor_at, anchor_in}
-use Rattle.ddf_copy.specs.Copies.{newest_of}
 use Rattle.ddf_copy.specs.Headers.{anchor_header}
 use Rattle.ddf_copy.specs.Runs.{AreApart, HasCopy, IsInCopy}
-use Rattle.ddf_copy.specs.Shows.{IsNewest}
-use Rattle.ddf_copy.proofs.LevelCopies.{written_same}
 use Rattle.ddf_copy.proofs.Stands.{place_within}
 use Rattle.ddf_update.specs.declared.prepared.Prepared.{Prepared}
 use Rattle.ddf_update.specs.declared.prepared.Mode.TheVariants.{Found}
@@ -35,8 +33,8 @@ anchor_stands size sector anchor bytes some is here =
     let present : eqb size 0 ≡ false = ne_eqb size 0 (λ (e : size ≡ 0). absurd (omega (arith, some, e))) in
     rw (present, here, eq-eqb (number_at w32 bytes 0) header_signature signature, decoded_is Anchor bytes anchor is) refl
 
-pub since_weaken : {D : Type 0} {may_hold : D → Outcomes} {moment : D → ℕ} {left_since : D → ℕ → Image → Type 0} {old new : D} {P Q : Image → Type 0}
-    → ((image : Image) → P image → Q image) → StopsLeaveSince may_hold moment left_since old new P → StopsLeaveSince may_hold moment left_since old new Q
+pub since_weaken : {D : Type 0} {old new : BayState D} {P Q : Image → Type 0}
+    → ((image : Image) → P image → Q image) → StopsLeaveSince old new P → StopsLeaveSince old new Q
 since_weaken weaker since = record {
   synced = since.synced;
   from = since.from;
@@ -45,7 +43,10 @@ since_weaken weaker since = record {
   since = λ image left. weaker image (since.since image left);
 }
 
-module _ (size : ℕ) (may : Outcomes) (held : Image) (slot : ℕ) (last : Which) (new : DiskCopy) (prepared : Prepared) (is : IsPrepared new last Found prepared) (can : MayFound size held slot new) where
+module _ {D : Type 0} (disks : BayState D) (slot : ℕ) (last : Which) (new : DiskCopy) (prepared : Prepared) (is : IsPrepared new last Found prepared) (can : MayFound disks slot new) where
+  abbrev size : ℕ
+  size = size_of disks slot
+
   both : (now : ℕ → List ℕ) → now (size - 1) ≡ prepared.anchor → HasCopy now prepared.first.lba prepared.first.closed prepared.runs → HasCopy now prepared.second.lba prepared.second.closed prepared.runs
       → AreBoth size now (anchor_header new) new
   both now anchor one other =
@@ -64,25 +65,21 @@ module _ (size : ℕ) (may : Outcomes) (held : Image) (slot : ℕ) (last : Which
         not_last size anchor new prepared.runs can.is_under is.runs_are Secondary prepared.second is.second_is,
       )
 
-  pub founding : (image : Image) → IsLeftFounding may held slot prepared.first prepared.second prepared.runs (size - 1) prepared.anchor image → IsBlankOrNew size may held slot prepared new image
+  pub founding : (image : Image) → IsLeftFounding disks.may_hold disks.held slot prepared.first prepared.second prepared.runs (size - 1) prepared.anchor image → IsBlankOrNew disks slot prepared new image
   founding image left = record {
     shows = ⊎_elim
-        (λ same. inl (same_anchor size (image slot) (held slot) same ∙ can.is_blank))
-        (λ stands.
-        let are = both (image slot) stands.0 stands.1 stands.2 in
-        let newest : IsNewest (newest_of size (image slot) (anchor_header new)) new = rw are.are_level (written_same new Primary) in
-        inr (record { anchor = anchor_header new; is_anchored = are.is_anchored; is_newest = newest }))
+        (λ same. inl (same_anchor size (image slot) (disks.held slot) same ∙ can.is_blank))
+        (λ stands. inr (both (image slot) stands.0 stands.1 stands.2))
         left.here.anchored;
     outside = λ l. ⊎_elim inl (λ there. ⊎_elim (λ first. inr (inl (inl first))) (λ behind. ⊎_elim (λ second. inr (inl (inr second))) (λ at. inr (inr at)) behind) there) (left.here.outside l);
     other_slots = left.other_slots;
   }
 
-  pub founded : {D : Type 0} (held_of : D → Image) (may_hold : D → Outcomes) (moment : D → ℕ) (left_since : D → ℕ → Image → Type 0) (before after : D) → held_of before ≡ held → may_hold before ≡ may
-      → IsFounded held_of may_hold moment left_since before after slot prepared.first prepared.second prepared.runs (size - 1) prepared.anchor → IsNowFounded held_of may_hold moment left_since before after size slot prepared new
-  founded held_of may_hold moment left_since before after same_held same_may was = record {
-    are_both = both (held_of after slot) was.anchor_is was.first_is was.second_is;
+  pub founded : (after : BayState D) → IsFounded disks after slot prepared.first prepared.second prepared.runs (size - 1) prepared.anchor → IsNowFounded disks after slot prepared new
+  founded after was = record {
+    are_both = both (after.held slot) was.anchor_is was.first_is was.second_is;
     is_settled = was.durable;
-    since = since_weaken (λ image left. rw (same_may, same_held) (founding image (rw (same_may, same_held) at left))) was.since;
+    since = since_weaken founding was.since;
     outside = λ l. ⊎_elim inl (λ there. ⊎_elim (λ first. inr (inl (inl first))) (λ behind. ⊎_elim (λ second. inr (inl (inr second))) (λ at. inr (inr at)) behind) there) (was.outside l);
     other_slots = was.other_slots;
     others_left = was.left;

@@ -1,6 +1,7 @@
 -- What a stop leaves in each of the three steps of a copy.
 use Rattle.std.proofs.lemmas.Grind.{common_steps}
 use Rattle.std.proofs.Common.{◌≡◌, ◌⊎◌, ℕ, ◌+◌, ◌-◌, List, [], ◌∷◌, get_or, inl, inr, refl, sym, ◌∙◌, ap, subst, ⊎_elim, arith}
+use Rattle.ddf_bay.specs.State.{BayState}
 use Rattle.ddf_bay.specs.Sectors.{Image, Outcomes, InRun, put_run}
 use Rattle.ddf_bay.specs.Moments.{StopsLeave, Adds, Mixes, IsAmong, IsSettled}
 use Rattle.ddf_bay.proofs.Steps.{stops_then, stops_weaken}
@@ -98,12 +99,12 @@ module _ (may : Outcomes) (slot : ℕ) (gate : Gate) (runs : List Run) (image : 
             (among slot l)
 
 -- the header is open after the first step
-pub opened : {D : Type 0} {held : D → Image} {may_hold : D → Outcomes} {moment : D → ℕ} {left_since : D → ℕ → Image → Type 0} {a b : D} {slot lba : ℕ} {bytes : List ℕ}
-    → IsStaged held may_hold moment left_since a b slot lba (bytes ∷ []) → held b slot lba ≡ bytes
-opened {held = held} {a = a} {slot = slot} {lba = lba} {bytes = bytes} first =
+pub opened : {D : Type 0} {a b : BayState D} {slot lba : ℕ} {bytes : List ℕ}
+    → IsStaged a b slot lba (bytes ∷ []) → b.held slot lba ≡ bytes
+opened {a = a} {slot = slot} {lba = lba} {bytes = bytes} first =
     let e : lba - lba ≡ 0 = omega arith in
     let zeroth : get_or (bytes ∷ []) (lba - lba) [] ≡ bytes = rw e refl in
-    ap (λ (f : Image). f slot lba) first.written ∙ inside (held a) slot lba (bytes ∷ []) lba (omega arith) (omega arith) ∙ zeroth
+    ap (λ (f : Image). f slot lba) first.written ∙ inside a.held slot lba (bytes ∷ []) lba (omega arith) (omega arith) ∙ zeroth
 
 -- The closed header covers the open one.
 same_over : (f g : Image) (slot lba : ℕ) (bytes : List ℕ) (s l : ℕ) → ((s ≡ slot) × (l ≡ lba)) ⊎ (f s l ≡ g s l)
@@ -127,42 +128,42 @@ three_runs image slot lba open_bytes closed_bytes runs s l =
     (λ here. inl (here.0, (one_in lba l open_bytes (put_run image slot lba (open_bytes ∷ []) s l) here.1).0))
     (put_mixes image slot lba (open_bytes ∷ []) s l))
 
-module _ {D : Type 0} {held : D → Image} {may_hold : D → Outcomes} {moment : D → ℕ} {left_since : D → ℕ → Image → Type 0} {a b c : D} {slot : ℕ} {gate : Gate} {runs : List Run} where
+module _ {D : Type 0} {a b c : BayState D} {slot : ℕ} {gate : Gate} {runs : List Run} where
   -- the first two steps, the second of which may have failed
-  pub filled_moments : AreApart runs → IsStaged held may_hold moment left_since a b slot gate.lba (gate.opened ∷ [])
-      → StopsLeave moment left_since b c (IsAmongRuns (may_hold b) slot gate.lba runs)
-      → StopsLeave moment left_since a c (IsGated (may_hold a) slot gate runs)
+  pub filled_moments : AreApart runs → IsStaged a b slot gate.lba (gate.opened ∷ [])
+      → StopsLeave b c (IsAmongRuns b.may_hold slot gate.lba runs)
+      → StopsLeave a c (IsGated a.may_hold slot gate runs)
   filled_moments apart first second = stops_then
-      (stops_weaken first.any_moment (opening (may_hold a) slot gate runs))
+      (stops_weaken first.any_moment (opening a.may_hold slot gate runs))
       second
-      (λ image among. filling (may_hold a) slot gate runs image (may_hold b) (held b) (header_keeps (may_hold a) (may_hold b) slot gate runs gate.opened first.left) first.durable (opened first) apart among)
+      (λ image among. filling a.may_hold slot gate runs image b.may_hold b.held (header_keeps a.may_hold b.may_hold slot gate runs gate.opened first.left) first.durable (opened first) apart among)
 
   -- all three, the last of which may have failed
-  pub gated : {d : D} → AreApart runs → IsStaged held may_hold moment left_since a b slot gate.lba (gate.opened ∷ [])
-      → AreStaged held may_hold moment left_since b c slot gate.lba runs
-      → StopsLeave moment left_since c d (IsAmong (may_hold c) slot gate.lba (gate.closed ∷ []))
-      → StopsLeave moment left_since a d (IsGated (may_hold a) slot gate runs)
+  pub gated : {d : BayState D} → AreApart runs → IsStaged a b slot gate.lba (gate.opened ∷ [])
+      → AreStaged b c slot gate.lba runs
+      → StopsLeave c d (IsAmong c.may_hold slot gate.lba (gate.closed ∷ []))
+      → StopsLeave a d (IsGated a.may_hold slot gate runs)
   gated apart first second third = stops_then
       (filled_moments apart first second.any_moment)
       third
-      (λ image among. closing (may_hold a) slot gate runs image (may_hold c) (held c) (two_keep (may_hold a) (may_hold b) (may_hold c) slot gate runs gate.opened first.left second.left) second.durable still_open apart filled among)
+      (λ image among. closing a.may_hold slot gate runs image c.may_hold c.held (two_keep a.may_hold b.may_hold c.may_hold slot gate runs gate.opened first.left second.left) second.durable still_open apart filled among)
     where
-      still_open : held c slot gate.lba ≡ gate.opened
-      still_open = ap (λ (f : Image). f slot gate.lba) second.written ∙ puts_outside (held b) slot gate.lba runs gate.lba (off_header gate.lba runs apart) ∙ opened first
+      still_open : c.held slot gate.lba ≡ gate.opened
+      still_open = ap (λ (f : Image). f slot gate.lba) second.written ∙ puts_outside b.held slot gate.lba runs gate.lba (off_header gate.lba runs apart) ∙ opened first
 
-      filled : (l : ℕ) (bytes : List ℕ) → InRuns gate.lba runs l bytes → held c slot l ≡ bytes
-      filled l bytes there = ap (λ (f : Image). f slot l) second.written ∙ puts_inside (held b) slot gate.lba runs l bytes apart there
+      filled : (l : ℕ) (bytes : List ℕ) → InRuns gate.lba runs l bytes → c.held slot l ≡ bytes
+      filled l bytes there = ap (λ (f : Image). f slot l) second.written ∙ puts_inside b.held slot gate.lba runs l bytes apart there
 
   -- after all three the copy stands
-  pub copied : {d : D} → AreApart runs → IsStaged held may_hold moment left_since a b slot gate.lba (gate.opened ∷ [])
-      → AreStaged held may_hold moment left_since b c slot gate.lba runs
-      → IsStaged held may_hold moment left_since c d slot gate.lba (gate.closed ∷ [])
-      → IsCopied held may_hold moment left_since a d slot gate runs
+  pub copied : {d : BayState D} → AreApart runs → IsStaged a b slot gate.lba (gate.opened ∷ [])
+      → AreStaged b c slot gate.lba runs
+      → IsStaged c d slot gate.lba (gate.closed ∷ [])
+      → IsCopied a d slot gate runs
   copied {d = d} apart first second third = record {
     written = λ s l.
         let e = ap (λ (f : Image). put_run f slot gate.lba (gate.closed ∷ [])) (second.written ∙ ap (λ (f : Image). put_runs f slot gate.lba runs) first.written) in
-        ap (λ (f : Image). f s l) (third.written ∙ e) ∙ three_runs (held a) slot gate.lba gate.opened gate.closed runs s l;
+        ap (λ (f : Image). f s l) (third.written ∙ e) ∙ three_runs a.held slot gate.lba gate.opened gate.closed runs s l;
     durable = third.durable;
-    left = three_keep (may_hold a) (may_hold b) (may_hold c) slot gate runs gate.opened first.left second.left (may_hold d) gate.closed third.left;
+    left = three_keep a.may_hold b.may_hold c.may_hold slot gate runs gate.opened first.left second.left d.may_hold gate.closed third.left;
     any_moment = gated apart first second third.any_moment;
   }

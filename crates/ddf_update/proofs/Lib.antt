@@ -6,11 +6,12 @@ pub mod FoundingSteps
 pub mod Now
 pub mod Apart
 pub mod Changing
-pub mod Anchored
 pub mod FoundingShows
 pub mod Lies
 pub mod Before
+pub mod Costs
 pub mod GroupSteps
+pub mod ChangeSteps
 pub mod NewBytes
 pub mod NewRoom
 pub mod NewRows

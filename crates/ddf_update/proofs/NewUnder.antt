@@ -22,7 +22,7 @@ use Rattle.ddf_copy.specs.Room.{room_fault}
 use Rattle.ddf_copy.specs.Which.{other_of, place_of}
 use Rattle.ddf_copy.specs.Written.{IsCopy}
 use Rattle.ddf_update.specs.NewCopies.{named_controller, named_disk_data, named_header, new_arrays, new_controller, new_copy, new_disk_data, new_disks, new_geometry, new_header, new_header_bytes, new_log, new_sector_bytes}
-use Rattle.ddf_update.proofs.Anchored.{anchor_shares}
+use Rattle.ddf_copy.proofs.Anchored.{anchor_shares}
 use Rattle.ddf_update.proofs.NewRoom.{IsNear, has_room}
 use Rattle.ddf_update.proofs.NewRows.{reference_fits}
 use Rattle.ddf_update.proofs.NewSlots.{slots_can, slots_fit}
@@ -131,6 +131,7 @@ header_writable stamp size large fits =
         );
         others_clear = cleared-cleared spans new_header_bytes (header_within stamp size);
       };
+      rest_size = length-header_rest stamp size;
     }
 
 sections_near : (size : ℕ) → AllByRecursion IsNear (new_geometry size).sections
@@ -144,17 +145,19 @@ sections_near size = (
 controller_can : (stamp : Stamp) → IsController (new_controller stamp)
 controller_can stamp =
     let spans = seal_place ∷ places (controller_fields (named_controller stamp)) in
+    let inside = subst (λ n. AreWithin n spans) (sym length-sector_bytes) (within_from_test 512 spans refl) in
     record {
-      fields_fit = (refl, tt);
-      others_clear = cleared-cleared spans new_sector_bytes (subst (λ n. AreWithin n spans) (sym length-sector_bytes) (within_from_test 512 spans refl));
+      is_record = record { fields_fit = (refl, tt); others_clear = cleared-cleared spans new_sector_bytes inside };
+      rest_size = (cleared_outside spans new_sector_bytes inside).size ∙ length-sector_bytes;
     }
 
 disk_data_can : (stamp : Stamp) (place : ℕ) → place < 15 → IsDiskData (new_disk_data stamp place)
 disk_data_can stamp place lt =
     let spans = seal_place ∷ places (disk_data_fields (named_disk_data stamp place)) in
+    let inside = subst (λ n. AreWithin n spans) (sym length-sector_bytes) (within_from_test 512 spans refl) in
     record {
-      fields_fit = (refl, (omega (arith, reference_fits stamp place lt), tt));
-      others_clear = cleared-cleared spans new_sector_bytes (subst (λ n. AreWithin n spans) (sym length-sector_bytes) (within_from_test 512 spans refl));
+      is_record = record { fields_fit = (refl, (omega (arith, reference_fits stamp place lt), tt)); others_clear = cleared-cleared spans new_sector_bytes inside };
+      rest_size = (cleared_outside spans new_sector_bytes inside).size ∙ length-sector_bytes;
     }
 
 -- ---- the copy

@@ -1,5 +1,6 @@
 -- A copy that is written behind a gate: its header stands open while its sections change.
 use Rattle.std.specs.Prelude.{◌≡◌, ◌≢◌, ◌⊎◌, ℕ, ◌≤◌, List, [], ◌∷◌}
+use Rattle.ddf_bay.specs.State.{BayState}
 use Rattle.ddf_bay.specs.Sectors.{Image, Outcomes, put_run, IsLeft}
 use Rattle.ddf_bay.specs.Moments.{StopsLeave, IsSettled}
 use Rattle.ddf_copy.specs.declared.run.Run.{Run}
@@ -21,11 +22,11 @@ pub record IsGated (may : Outcomes) (slot : ℕ) (gate : Gate) (runs : List Run)
   pub copy : ((l : ℕ) → may slot l (image slot l)) ⊎ (image slot gate.lba ≡ gate.opened) ⊎ HasCopy (image slot) gate.lba gate.closed runs
 
 -- A copy was written behind its gate and made sure.
-pub record IsCopied {D : Type 0} (held : D → Image) (may_hold : D → Outcomes) (moment : D → ℕ) (left_since : D → ℕ → Image → Type 0) (old new : D) (slot : ℕ) (gate : Gate) (runs : List Run) : Type 0 where
-  pub written : (s l : ℕ) → held new s l ≡ put_run (put_runs (held old) slot gate.lba runs) slot gate.lba (gate.closed ∷ []) s l
-  pub durable : IsSettled (may_hold new) (held new) slot
-  pub left : (s l : ℕ) (bytes : List ℕ) → may_hold new s l bytes → may_hold old s l bytes ⊎ ((s ≡ slot) × IsInCopy gate.lba runs l)
-  pub any_moment : StopsLeave moment left_since old new (IsGated (may_hold old) slot gate runs)
+pub record IsCopied {D : Type 0} (old new : BayState D) (slot : ℕ) (gate : Gate) (runs : List Run) : Type 0 where
+  pub written : (s l : ℕ) → new.held s l ≡ put_run (put_runs old.held slot gate.lba runs) slot gate.lba (gate.closed ∷ []) s l
+  pub durable : IsSettled new.may_hold new.held slot
+  pub left : (s l : ℕ) (bytes : List ℕ) → new.may_hold s l bytes → old.may_hold s l bytes ⊎ ((s ≡ slot) × IsInCopy gate.lba runs l)
+  pub any_moment : StopsLeave old new (IsGated old.may_hold slot gate runs)
 
 -- ---- both copies
 
@@ -54,13 +55,13 @@ pub record IsLeftUpdating (may : Outcomes) (held : Image) (slot : ℕ) (first se
   pub here : IsUpdating (held slot) first second runs (image slot)
 
 -- Both copies were written and made sure.
-pub record AreCopied {D : Type 0} (held : D → Image) (may_hold : D → Outcomes) (old new : D) (slot : ℕ) (first second : Gate) (runs : List Run) : Type 0 where
-  pub other_slots : (s l : ℕ) → s ≢ slot → held new s l ≡ held old s l
-  pub outside : (l : ℕ) → (held new slot l ≡ held old slot l) ⊎ IsInCopy first.lba runs l ⊎ IsInCopy second.lba runs l
-  pub first_is : HasCopy (held new slot) first.lba first.closed runs
-  pub second_is : HasCopy (held new slot) second.lba second.closed runs
-  pub durable : IsSettled (may_hold new) (held new) slot
-  pub left : (s l : ℕ) (bytes : List ℕ) → s ≢ slot → may_hold new s l bytes → may_hold old s l bytes
+pub record AreCopied {D : Type 0} (old new : BayState D) (slot : ℕ) (first second : Gate) (runs : List Run) : Type 0 where
+  pub other_slots : (s l : ℕ) → s ≢ slot → new.held s l ≡ old.held s l
+  pub outside : (l : ℕ) → (new.held slot l ≡ old.held slot l) ⊎ IsInCopy first.lba runs l ⊎ IsInCopy second.lba runs l
+  pub first_is : HasCopy (new.held slot) first.lba first.closed runs
+  pub second_is : HasCopy (new.held slot) second.lba second.closed runs
+  pub durable : IsSettled new.may_hold new.held slot
+  pub left : (s l : ℕ) (bytes : List ℕ) → s ≢ slot → new.may_hold s l bytes → old.may_hold s l bytes
 
 -- ---- a founding
 
@@ -78,20 +79,20 @@ pub record IsLeftFounding (may : Outcomes) (held : Image) (slot : ℕ) (first se
 
 -- A call made sure of a slot first, at a moment on the way: before it a stop leaves what it might have left at the
 -- start, and from it on an image that has P.
-pub record StopsLeaveSince {D : Type 0} (may_hold : D → Outcomes) (moment : D → ℕ) (left_since : D → ℕ → Image → Type 0) (old new : D) (P : Image → Type 0) : Type 0 where
+pub record StopsLeaveSince {D : Type 0} (old new : BayState D) (P : Image → Type 0) : Type 0 where
   pub synced : ℕ
-  pub from : moment old ≤ synced
-  pub until : synced ≤ moment new
-  pub any_moment : StopsLeave moment left_since old new (λ image. IsLeft (may_hold old) image ⊎ P image)
-  pub since : (image : Image) → left_since new synced image → P image
+  pub from : old.moment ≤ synced
+  pub until : synced ≤ new.moment
+  pub any_moment : StopsLeave old new (λ image. IsLeft old.may_hold image ⊎ P image)
+  pub since : (image : Image) → new.left_since synced image → P image
 
 -- The slot got its copies and its anchor, all of it sure.
-pub record IsFounded {D : Type 0} (held : D → Image) (may_hold : D → Outcomes) (moment : D → ℕ) (left_since : D → ℕ → Image → Type 0) (old new : D) (slot : ℕ) (first second : Gate) (runs : List Run) (last : ℕ) (anchor : List ℕ) : Type 0 where
-  pub since : StopsLeaveSince may_hold moment left_since old new (IsLeftFounding (may_hold old) (held old) slot first second runs last anchor)
-  pub other_slots : (s l : ℕ) → s ≢ slot → held new s l ≡ held old s l
-  pub outside : (l : ℕ) → (held new slot l ≡ held old slot l) ⊎ IsInCopy first.lba runs l ⊎ IsInCopy second.lba runs l ⊎ (l ≡ last)
-  pub anchor_is : held new slot last ≡ anchor
-  pub first_is : HasCopy (held new slot) first.lba first.closed runs
-  pub second_is : HasCopy (held new slot) second.lba second.closed runs
-  pub durable : IsSettled (may_hold new) (held new) slot
-  pub left : (s l : ℕ) (bytes : List ℕ) → s ≢ slot → may_hold new s l bytes → may_hold old s l bytes
+pub record IsFounded {D : Type 0} (old new : BayState D) (slot : ℕ) (first second : Gate) (runs : List Run) (last : ℕ) (anchor : List ℕ) : Type 0 where
+  pub since : StopsLeaveSince old new (IsLeftFounding old.may_hold old.held slot first second runs last anchor)
+  pub other_slots : (s l : ℕ) → s ≢ slot → new.held s l ≡ old.held s l
+  pub outside : (l : ℕ) → (new.held slot l ≡ old.held slot l) ⊎ IsInCopy first.lba runs l ⊎ IsInCopy second.lba runs l ⊎ (l ≡ last)
+  pub anchor_is : new.held slot last ≡ anchor
+  pub first_is : HasCopy (new.held slot) first.lba first.closed runs
+  pub second_is : HasCopy (new.held slot) second.lba second.closed runs
+  pub durable : IsSettled new.may_hold new.held slot
+  pub left : (s l : ℕ) (bytes : List ℕ) → s ≢ slot → new.may_hold s l bytes → old.may_hold s l bytes

@@ -1,5 +1,6 @@
 pub mod Gate
 pub mod Group
+pub mod Changes
 pub mod Prepared
 pub mod Stage
 pub mod Update

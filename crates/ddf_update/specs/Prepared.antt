@@ -1,12 +1,13 @@
 -- What is prepared of an update: the sectors of a copy, and where they are written.
-use Rattle.std.specs.Prelude.{◌≡◌, ℕ, ◌<◌}
+use Rattle.std.specs.Prelude.{◌≡◌, ℕ, ◌+◌, ◌*◌, ◌<◌, List, length}
+use Rattle.std.specs.List.{sum_by}
 use Rattle.ddf_header.specs.declared.kind.HeaderKind.TheVariants.{Anchor}
 use Rattle.ddf_header.specs.Header.{IsHeaderOf}
 use Rattle.ddf_copy.specs.declared.copy.DiskCopy.{DiskCopy}
 use Rattle.ddf_copy.specs.declared.which.Which.{Which}
 use Rattle.ddf_copy.specs.declared.which.Which.TheVariants.{Primary}
 use Rattle.ddf_copy.specs.Headers.{anchor_header, closed_header, opened_header}
-use Rattle.ddf_copy.specs.Runs.{AreOn, AreRunsOf}
+use Rattle.ddf_copy.specs.Runs.{AreOn, AreRunsOf, sector_count}
 use Rattle.ddf_copy.specs.Which.{kind_of, other_of, place_of}
 use Rattle.ddf_update.specs.declared.gate.Gate.{Gate}
 use Rattle.ddf_update.specs.declared.prepared.Mode.{Mode}
@@ -38,3 +39,18 @@ pub record LiesOn (size : ℕ) (prepared : Prepared) : Type 0 where
   pub first_room : AreOn size prepared.first.lba prepared.runs
   pub second_header : prepared.second.lba < size
   pub second_room : AreOn size prepared.second.lba prepared.runs
+
+-- the most sectors that an update writes: each copy once, and its header twice, and the anchor
+abbrev pub most_sectors : Prepared → ℕ
+most_sectors prepared = 2 * (sector_count prepared.runs + 2) + 1
+
+-- the most calls that it makes
+abbrev pub most_calls : Prepared → ℕ
+most_calls prepared = 2 * (length prepared.runs + 5) + 3
+
+-- and of all updates of a list
+abbrev pub all_sectors : List Prepared → ℕ
+all_sectors updates = sum_by most_sectors updates
+
+abbrev pub all_calls : List Prepared → ℕ
+all_calls updates = sum_by most_calls updates

@@ -1,5 +1,6 @@
 -- Writes that are made sure: of sectors that follow one another, and of the runs of a copy.
 use Rattle.std.specs.Prelude.{◌≡◌, ◌⊎◌, ℕ, List}
+use Rattle.ddf_bay.specs.State.{BayState}
 use Rattle.ddf_bay.specs.Sectors.{Image, Outcomes, put_run}
 use Rattle.ddf_bay.specs.Moments.{StopsLeave, Adds, IsAmong, IsSettled}
 use Rattle.ddf_copy.specs.declared.run.Run.{Run}
@@ -18,15 +19,15 @@ abbrev pub IsAmongRuns : Outcomes → (slot lba : ℕ) → List Run → Image �
 IsAmongRuns may slot lba runs image = (s l : ℕ) → may s l (image s l) ⊎ ((s ≡ slot) × InRuns lba runs l (image s l))
 
 -- Sectors were written to a slot and made sure, and nothing else is pending there.
-pub record IsStaged {D : Type 0} (held : D → Image) (may_hold : D → Outcomes) (moment : D → ℕ) (left_since : D → ℕ → Image → Type 0) (old new : D) (slot lba : ℕ) (sectors : List (List ℕ)) : Type 0 where
-  pub written : held new ≡ put_run (held old) slot lba sectors
-  pub durable : IsSettled (may_hold new) (held new) slot
-  pub left : Adds (may_hold old) (may_hold new) slot lba sectors
-  pub any_moment : StopsLeave moment left_since old new (IsAmong (may_hold old) slot lba sectors)
+pub record IsStaged {D : Type 0} (old new : BayState D) (slot lba : ℕ) (sectors : List (List ℕ)) : Type 0 where
+  pub written : new.held ≡ put_run old.held slot lba sectors
+  pub durable : IsSettled new.may_hold new.held slot
+  pub left : Adds old.may_hold new.may_hold slot lba sectors
+  pub any_moment : StopsLeave old new (IsAmong old.may_hold slot lba sectors)
 
 -- So were the runs of a copy.
-pub record AreStaged {D : Type 0} (held : D → Image) (may_hold : D → Outcomes) (moment : D → ℕ) (left_since : D → ℕ → Image → Type 0) (old new : D) (slot lba : ℕ) (runs : List Run) : Type 0 where
-  pub written : held new ≡ put_runs (held old) slot lba runs
-  pub durable : IsSettled (may_hold new) (held new) slot
-  pub left : AddsRuns (may_hold old) (may_hold new) slot lba runs
-  pub any_moment : StopsLeave moment left_since old new (IsAmongRuns (may_hold old) slot lba runs)
+pub record AreStaged {D : Type 0} (old new : BayState D) (slot lba : ℕ) (runs : List Run) : Type 0 where
+  pub written : new.held ≡ put_runs old.held slot lba runs
+  pub durable : IsSettled new.may_hold new.held slot
+  pub left : AddsRuns old.may_hold new.may_hold slot lba runs
+  pub any_moment : StopsLeave old new (IsAmongRuns old.may_hold slot lba runs)

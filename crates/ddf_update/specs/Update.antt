@@ -1,18 +1,21 @@
 -- What an update of one slot promises.
 use Rattle.std.specs.Prelude.{◌≡◌, ◌≢◌, ◌⊎◌, ℕ, ◌-◌, true, Ok, Err, List}
-use Rattle.ddf_bay.specs.Sectors.{Image, Outcomes}
+use Rattle.ddf_copy.specs.declared.fault.CopyFault.TheVariants.{Opened}
+use Rattle.ddf_bay.specs.State.{BayState, size_of}
+use Rattle.ddf_bay.specs.Sectors.{Image}
 use Rattle.ddf_bay.specs.Moments.{IsSettled}
 use Rattle.ddf_header.specs.declared.reading.Header.{Header}
 use Rattle.ddf_copy.specs.declared.copy.DiskCopy.{DiskCopy}
 use Rattle.ddf_copy.specs.declared.which.Which.{Which}
 use Rattle.ddf_copy.specs.declared.which.Which.TheVariants.{Primary, Secondary}
 use Rattle.ddf_copy.specs.declared.fault.AnchorFault.TheVariants.{Blank}
-use Rattle.ddf_copy.specs.declared.newest_copy.Newest.TheVariants.{Level}
+use Rattle.ddf_copy.specs.declared.newest_copy.Newest.TheVariants.{Level, TwoDiffer}
 use Rattle.ddf_copy.specs.Anchor.{anchor_at}
 use Rattle.ddf_copy.specs.Copies.{copy_of, newest_of}
 use Rattle.ddf_copy.specs.Headers.{IsUnder, anchor_header, written_as}
 use Rattle.ddf_copy.specs.Runs.{IsInCopy}
 use Rattle.ddf_copy.specs.Shows.{IsNewest, Shows}
+use Rattle.ddf_copy.specs.Which.{other_of}
 use Rattle.ddf_copy.specs.Written.{is_level}
 use Rattle.ddf_update.specs.declared.prepared.Prepared.{Prepared}
 use Rattle.ddf_update.specs.declared.prepared.Mode.TheVariants.{Found}
@@ -37,48 +40,69 @@ pub record AreBoth (size : ℕ) (sector : ℕ → List ℕ) (anchor : Header) (c
 
 -- A slot may get a new copy: nothing is pending there, it shows its copy `last`, the new copy can be written under its anchor,
 -- and is level with the old one where the sequences are equal.
-pub record MayChange (size : ℕ) (may : Outcomes) (held : Image) (slot : ℕ) (anchor : Header) (last : Which) (old new : DiskCopy) : Type 0 where
-  pub is_settled : IsSettled may held slot
-  pub is_anchored : anchor_at size (held slot) ≡ Ok anchor
-  pub last_is : copy_of size (held slot) anchor last ≡ Ok old
-  pub is_newest : IsNewest (newest_of size (held slot) anchor) old
-  pub is_under : IsUnder size anchor new
+pub record MayChange {D : Type 0} (disks : BayState D) (slot : ℕ) (anchor : Header) (last : Which) (old new : DiskCopy) : Type 0 where
+  pub is_settled : IsSettled disks.may_hold disks.held slot
+  pub is_anchored : anchor_at (size_of disks slot) (disks.held slot) ≡ Ok anchor
+  pub last_is : copy_of (size_of disks slot) (disks.held slot) anchor last ≡ Ok old
+  pub is_newest : IsNewest (newest_of (size_of disks slot) (disks.held slot) anchor) old
+  pub is_under : IsUnder (size_of disks slot) anchor new
   pub is_newer : new.header.sequence ≡ old.header.sequence → is_level new old ≡ true
 
--- A stop leaves a slot that shows the old copy or the new one. All outside the two copies is as it was, and other slots are
--- as they might be left before.
-pub record IsOldOrNew (size : ℕ) (may : Outcomes) (held : Image) (slot : ℕ) (prepared : Prepared) (old new : DiskCopy) (image : Image) : Type 0 where
-  pub shows : Shows size (image slot) old ⊎ Shows size (image slot) new
-  pub outside : (l : ℕ) → (image slot l ≡ held slot l) ⊎ IsInEither prepared l
-  pub other_slots : (s l : ℕ) → s ≢ slot → may s l (image s l)
+-- a copy is read as it was before, or its header is open, or it is the new one
+abbrev pub IsReadPartly : (size : ℕ) (before now : ℕ → List ℕ) (anchor : Header) → Which → DiskCopy → Type 0
+IsReadPartly size before now anchor which new =
+    (copy_of size now anchor which ≡ copy_of size before anchor which)
+    ⊎ (copy_of size now anchor which ≡ Err (Opened new.header.sequence))
+    ⊎ (copy_of size now anchor which ≡ Ok (written_as new which))
+
+-- The copy `last` changes only once the other one is the new one.
+abbrev pub AreReadPartly : (size : ℕ) (before now : ℕ → List ℕ) (anchor : Header) → (last : Which) → DiskCopy → Type 0
+AreReadPartly size before now anchor last new =
+    (IsReadPartly size before now anchor (other_of last) new × (copy_of size now anchor last ≡ copy_of size before anchor last))
+    ⊎ ((copy_of size now anchor (other_of last) ≡ Ok (written_as new (other_of last))) × IsReadPartly size before now anchor last new)
+
+-- What a stop leaves of the sectors of a slot that gets a new copy: it shows the old copy or the new one, and all outside the
+-- two copies is as it was.
+pub record IsChanging (size : ℕ) (before now : ℕ → List ℕ) (prepared : Prepared) (anchor : Header) (last : Which) (old new : DiskCopy) : Type 0 where
+  pub shows : Shows size now old ⊎ Shows size now new
+  pub is_anchored : anchor_at size now ≡ Ok anchor
+  pub copies : AreReadPartly size before now anchor last new
+  -- Its two copies don't differ, unless those that it had did.
+  pub alike : (primary secondary : DiskCopy) → newest_of size now anchor ≡ TwoDiffer primary secondary → newest_of size before anchor ≡ TwoDiffer primary secondary
+  pub outside : (l : ℕ) → (now l ≡ before l) ⊎ IsInEither prepared l
+
+-- A stop leaves a slot that shows the old copy or the new one, and other slots as they might be left before.
+pub record IsOldOrNew {D : Type 0} (before : BayState D) (slot : ℕ) (prepared : Prepared) (anchor : Header) (last : Which) (old new : DiskCopy) (image : Image) : Type 0 where
+  pub here : IsChanging (size_of before slot) (before.held slot) (image slot) prepared anchor last old new
+  pub other_slots : (s l : ℕ) → s ≢ slot → before.may_hold s l (image s l)
 
 -- The slot has the new copy in both places, and nothing is pending there.
-pub record IsChanged {D : Type 0} (held : D → Image) (may_hold : D → Outcomes) (old new : D) (size slot : ℕ) (anchor : Header) (prepared : Prepared) (copy : DiskCopy) : Type 0 where
-  pub are_both : AreBoth size (held new slot) anchor copy
-  pub is_settled : IsSettled (may_hold new) (held new) slot
-  pub outside : (l : ℕ) → (held new slot l ≡ held old slot l) ⊎ IsInEither prepared l
-  pub other_slots : (s l : ℕ) → s ≢ slot → held new s l ≡ held old s l
-  pub others_left : (s l : ℕ) (bytes : List ℕ) → s ≢ slot → may_hold new s l bytes → may_hold old s l bytes
+pub record IsChanged {D : Type 0} (old new : BayState D) (slot : ℕ) (anchor : Header) (prepared : Prepared) (copy : DiskCopy) : Type 0 where
+  pub are_both : AreBoth (size_of old slot) (new.held slot) anchor copy
+  pub is_settled : IsSettled new.may_hold new.held slot
+  pub outside : (l : ℕ) → (new.held slot l ≡ old.held slot l) ⊎ IsInEither prepared l
+  pub other_slots : (s l : ℕ) → s ≢ slot → new.held s l ≡ old.held s l
+  pub others_left : (s l : ℕ) (bytes : List ℕ) → s ≢ slot → new.may_hold s l bytes → old.may_hold s l bytes
 
 -- ---- a founding
 
 -- A slot may get its first copies: its last sector doesn't begin as an anchor, and the copy can be written under its own.
-pub record MayFound (size : ℕ) (held : Image) (slot : ℕ) (new : DiskCopy) : Type 0 where
-  pub is_blank : anchor_at size (held slot) ≡ Err Blank
-  pub is_under : IsUnder size (anchor_header new) new
+pub record MayFound {D : Type 0} (disks : BayState D) (slot : ℕ) (new : DiskCopy) : Type 0 where
+  pub is_blank : anchor_at (size_of disks slot) (disks.held slot) ≡ Err Blank
+  pub is_under : IsUnder (size_of disks slot) (anchor_header new) new
 
--- A stop leaves a slot that is blank or shows the new copy. All outside the two copies and the anchor is as it was, and other
+-- A stop leaves a slot that is blank or has the new copy in both places. All outside the two copies and the anchor is as it was, and other
 -- slots are as they might be left before.
-pub record IsBlankOrNew (size : ℕ) (may : Outcomes) (held : Image) (slot : ℕ) (prepared : Prepared) (new : DiskCopy) (image : Image) : Type 0 where
-  pub shows : (anchor_at size (image slot) ≡ Err Blank) ⊎ Shows size (image slot) new
-  pub outside : (l : ℕ) → (image slot l ≡ held slot l) ⊎ IsInEither prepared l ⊎ (l ≡ size - 1)
-  pub other_slots : (s l : ℕ) → s ≢ slot → may s l (image s l)
+pub record IsBlankOrNew {D : Type 0} (before : BayState D) (slot : ℕ) (prepared : Prepared) (new : DiskCopy) (image : Image) : Type 0 where
+  pub shows : (anchor_at (size_of before slot) (image slot) ≡ Err Blank) ⊎ AreBoth (size_of before slot) (image slot) (anchor_header new) new
+  pub outside : (l : ℕ) → (image slot l ≡ before.held slot l) ⊎ IsInEither prepared l ⊎ (l ≡ size_of before slot - 1)
+  pub other_slots : (s l : ℕ) → s ≢ slot → before.may_hold s l (image s l)
 
 -- The slot has its anchor and the new copy in both places, and nothing is pending there.
-pub record IsNowFounded {D : Type 0} (held : D → Image) (may_hold : D → Outcomes) (moment : D → ℕ) (left_since : D → ℕ → Image → Type 0) (old new : D) (size slot : ℕ) (prepared : Prepared) (copy : DiskCopy) : Type 0 where
-  pub are_both : AreBoth size (held new slot) (anchor_header copy) copy
-  pub is_settled : IsSettled (may_hold new) (held new) slot
-  pub since : StopsLeaveSince may_hold moment left_since old new (IsBlankOrNew size (may_hold old) (held old) slot prepared copy)
-  pub outside : (l : ℕ) → (held new slot l ≡ held old slot l) ⊎ IsInEither prepared l ⊎ (l ≡ size - 1)
-  pub other_slots : (s l : ℕ) → s ≢ slot → held new s l ≡ held old s l
-  pub others_left : (s l : ℕ) (bytes : List ℕ) → s ≢ slot → may_hold new s l bytes → may_hold old s l bytes
+pub record IsNowFounded {D : Type 0} (old new : BayState D) (slot : ℕ) (prepared : Prepared) (copy : DiskCopy) : Type 0 where
+  pub are_both : AreBoth (size_of old slot) (new.held slot) (anchor_header copy) copy
+  pub is_settled : IsSettled new.may_hold new.held slot
+  pub since : StopsLeaveSince old new (IsBlankOrNew old slot prepared copy)
+  pub outside : (l : ℕ) → (new.held slot l ≡ old.held slot l) ⊎ IsInEither prepared l ⊎ (l ≡ size_of old slot - 1)
+  pub other_slots : (s l : ℕ) → s ≢ slot → new.held s l ≡ old.held s l
+  pub others_left : (s l : ℕ) (bytes : List ℕ) → s ≢ slot → new.may_hold s l bytes → old.may_hold s l bytes

@@ -2,7 +2,7 @@
 ghost use Rattle.std.specs.Prelude.{◌≡◌, ◌⊎◌, ◌<◌, ◌≤◌, ◌+◌, ◌-◌, ◌*◌, length, OnOk, IfErr, slice_index};
 ghost use Rattle.ddf_bytes.specs.Counts.{Rose};
 ghost use Rattle.ddf_bay.specs.Sectors.{IsLeft};
-ghost use Rattle.ddf_bay.specs.Moments.{StopsLeave, Spends};
+ghost use Rattle.ddf_bay.specs.Moments.{StopsLeave, SpendsWrites};
 ghost use Rattle.ddf_header.specs.declared.reading.Header.{Header};
 ghost use Rattle.ddf_copy.specs.declared.copy.DiskCopy.{DiskCopy};
 ghost use Rattle.ddf_copy.specs.declared.which.Which.{Which};
@@ -20,35 +20,35 @@ use ddf_bay::{Bay, DiskFault};
 /// Writes an update of a disk: each copy with its header open, then its sections, then its header closed, each made sure
 /// before the next. A founding is made sure of the slot first, and writes the anchor last. It takes no memory.
 pub fn write_disk<B: Bay>(bay: &mut B, slot: usize, prepared: &Prepared) -> Result<(), DiskFault>
-    requires slot { slot < length (B.sizes bay.old) }
-    requires on_slot { LiesOn (slice_index (B.sizes bay.old) slot) prepared.now }
+    requires slot { slot < length (B.disks bay.old).sizes }
+    requires on_slot { LiesOn (slice_index (B.disks bay.old).sizes slot) prepared.now }
 
     // From entry to exit a stop leaves the copy that the slot showed, or the new one.
     ensures change { B.tells → (anchor : Header) (last : Which) (old copy : DiskCopy) → IsPrepared copy last Mode.Change prepared.now
-        → MayChange (slice_index (B.sizes bay.old) slot) (B.may_hold bay.old) (B.held bay.old) slot anchor last old copy
-        → StopsLeave B.moment B.left_since bay.old bay.new (IsOldOrNew (slice_index (B.sizes bay.old) slot) (B.may_hold bay.old) (B.held bay.old) slot prepared.now old copy) }
+        → MayChange (B.disks bay.old) slot anchor last old copy
+        → StopsLeave (B.disks bay.old) (B.disks bay.new) (IsOldOrNew (B.disks bay.old) slot prepared.now anchor last old copy) }
     ensures changed { B.tells → (anchor : Header) (last : Which) (old copy : DiskCopy) → IsPrepared copy last Mode.Change prepared.now
-        → MayChange (slice_index (B.sizes bay.old) slot) (B.may_hold bay.old) (B.held bay.old) slot anchor last old copy
-        → OnOk result (IsChanged B.held B.may_hold bay.old bay.new (slice_index (B.sizes bay.old) slot) slot anchor prepared.now copy) }
+        → MayChange (B.disks bay.old) slot anchor last old copy
+        → OnOk result (IsChanged (B.disks bay.old) (B.disks bay.new) slot anchor prepared.now copy) }
 
     // Until the first good sync of a founding nothing changes. From then on a stop leaves a blank slot or the new copy.
     ensures found { B.tells → (last : Which) (copy : DiskCopy) → IsPrepared copy last Mode.Found prepared.now
-        → MayFound (slice_index (B.sizes bay.old) slot) (B.held bay.old) slot copy
-        → StopsLeave B.moment B.left_since bay.old bay.new (IsLeft (B.may_hold bay.old))
-        ⊎ StopsLeaveSince B.may_hold B.moment B.left_since bay.old bay.new (IsBlankOrNew (slice_index (B.sizes bay.old) slot) (B.may_hold bay.old) (B.held bay.old) slot prepared.now copy) }
+        → MayFound (B.disks bay.old) slot copy
+        → StopsLeave (B.disks bay.old) (B.disks bay.new) (IsLeft (B.disks bay.old).may_hold)
+        ⊎ StopsLeaveSince (B.disks bay.old) (B.disks bay.new) (IsBlankOrNew (B.disks bay.old) slot prepared.now copy) }
     ensures founded { B.tells → (last : Which) (copy : DiskCopy) → IsPrepared copy last Mode.Found prepared.now
-        → MayFound (slice_index (B.sizes bay.old) slot) (B.held bay.old) slot copy
-        → OnOk result (IsNowFounded B.held B.may_hold B.moment B.left_since bay.old bay.new (slice_index (B.sizes bay.old) slot) slot prepared.now copy) }
+        → MayFound (B.disks bay.old) slot copy
+        → OnOk result (IsNowFounded (B.disks bay.old) (B.disks bay.new) slot prepared.now copy) }
 
     // All else stays, and a stop leaves of it what it might have left.
-    ensures held { B.tells → StaysOutside (B.held bay.old) (B.held bay.new) slot (IsWritten (slice_index (B.sizes bay.old) slot) prepared.now) }
-    ensures left { KeepsOutside (B.may_hold bay.old) (B.may_hold bay.new) slot (IsWritten (slice_index (B.sizes bay.old) slot) prepared.now) }
+    ensures held { B.tells → StaysOutside (B.disks bay.old).held (B.disks bay.new).held slot (IsWritten (slice_index (B.disks bay.old).sizes slot) prepared.now) }
+    ensures left { KeepsOutside (B.disks bay.old).may_hold (B.disks bay.new).may_hold slot (IsWritten (slice_index (B.disks bay.old).sizes slot) prepared.now) }
 
     // Each copy is written once, and its header twice.
-    ensures spends { Spends B.tells_left B.sizes B.failed_reads B.failed_writes B.sectors_written B.calls bay.old bay.new slot (2 * (sector_count prepared.now.runs + 2) + 1) (2 * (length prepared.now.runs + 5) + 3) }
-    ensures calls { (copy : DiskCopy) (last : Which) (mode : Mode) → IsPrepared copy last mode prepared.now → B.calls bay.new ≤ B.calls bay.old + 25 }
-    ensures ok { OnOk result (B.failed_writes bay.new ≡ B.failed_writes bay.old) }
-    ensures failed { IfErr result (λ e. (e.0 ≡ slot) × Rose (B.failed_writes bay.old slot) (B.failed_writes bay.new slot)) }
+    ensures spends { SpendsWrites (B.disks bay.old) (B.disks bay.new) slot (2 * (sector_count prepared.now.runs + 2) + 1) (2 * (length prepared.now.runs + 5) + 3) }
+    ensures calls { (copy : DiskCopy) (last : Which) (mode : Mode) → IsPrepared copy last mode prepared.now → (B.disks bay.new).calls ≤ (B.disks bay.old).calls + 25 }
+    ensures ok { OnOk result ((B.disks bay.new).failed_writes ≡ (B.disks bay.old).failed_writes) }
+    ensures failed { IfErr result (λ e. (e.0 ≡ slot) × Rose ((B.disks bay.old).failed_writes slot) ((B.disks bay.new).failed_writes slot)) }
 {
     match prepared.mode {
         Mode::Change => change(bay, slot, prepared),
@@ -58,19 +58,19 @@ pub fn write_disk<B: Bay>(bay: &mut B, slot: usize, prepared: &Prepared) -> Resu
 
 /// Writes both copies of a disk that shows one.
 fn change<B: Bay>(bay: &mut B, slot: usize, prepared: &Prepared) -> Result<(), DiskFault>
-    requires slot { slot < length (B.sizes bay.old) }
-    requires on_slot { LiesOn (slice_index (B.sizes bay.old) slot) prepared.now }
+    requires slot { slot < length (B.disks bay.old).sizes }
+    requires on_slot { LiesOn (slice_index (B.disks bay.old).sizes slot) prepared.now }
     ensures change { B.tells → (anchor : Header) (last : Which) (old copy : DiskCopy) → IsPrepared copy last Mode.Change prepared.now
-        → MayChange (slice_index (B.sizes bay.old) slot) (B.may_hold bay.old) (B.held bay.old) slot anchor last old copy
-        → StopsLeave B.moment B.left_since bay.old bay.new (IsOldOrNew (slice_index (B.sizes bay.old) slot) (B.may_hold bay.old) (B.held bay.old) slot prepared.now old copy) }
+        → MayChange (B.disks bay.old) slot anchor last old copy
+        → StopsLeave (B.disks bay.old) (B.disks bay.new) (IsOldOrNew (B.disks bay.old) slot prepared.now anchor last old copy) }
     ensures changed { B.tells → (anchor : Header) (last : Which) (old copy : DiskCopy) → IsPrepared copy last Mode.Change prepared.now
-        → MayChange (slice_index (B.sizes bay.old) slot) (B.may_hold bay.old) (B.held bay.old) slot anchor last old copy
-        → OnOk result (IsChanged B.held B.may_hold bay.old bay.new (slice_index (B.sizes bay.old) slot) slot anchor prepared.now copy) }
-    ensures held { B.tells → StaysOutside (B.held bay.old) (B.held bay.new) slot (IsInEither prepared.now) }
-    ensures left { KeepsOutside (B.may_hold bay.old) (B.may_hold bay.new) slot (IsInEither prepared.now) }
-    ensures spends { Spends B.tells_left B.sizes B.failed_reads B.failed_writes B.sectors_written B.calls bay.old bay.new slot (2 * (sector_count prepared.now.runs + 2)) (2 * (length prepared.now.runs + 5)) }
-    ensures ok { OnOk result (B.failed_writes bay.new ≡ B.failed_writes bay.old) }
-    ensures failed { IfErr result (λ e. (e.0 ≡ slot) × Rose (B.failed_writes bay.old slot) (B.failed_writes bay.new slot)) }
+        → MayChange (B.disks bay.old) slot anchor last old copy
+        → OnOk result (IsChanged (B.disks bay.old) (B.disks bay.new) slot anchor prepared.now copy) }
+    ensures held { B.tells → StaysOutside (B.disks bay.old).held (B.disks bay.new).held slot (IsInEither prepared.now) }
+    ensures left { KeepsOutside (B.disks bay.old).may_hold (B.disks bay.new).may_hold slot (IsInEither prepared.now) }
+    ensures spends { SpendsWrites (B.disks bay.old) (B.disks bay.new) slot (2 * (sector_count prepared.now.runs + 2)) (2 * (length prepared.now.runs + 5)) }
+    ensures ok { OnOk result ((B.disks bay.new).failed_writes ≡ (B.disks bay.old).failed_writes) }
+    ensures failed { IfErr result (λ e. (e.0 ≡ slot) × Rose ((B.disks bay.old).failed_writes slot) ((B.disks bay.new).failed_writes slot)) }
 {
     let runs = prepared.runs.items();
     write_both(bay, slot, &prepared.first, &prepared.second, runs)
@@ -78,20 +78,20 @@ fn change<B: Bay>(bay: &mut B, slot: usize, prepared: &Prepared) -> Result<(), D
 
 /// Writes both copies of a blank disk, and then its anchor.
 fn found<B: Bay>(bay: &mut B, slot: usize, prepared: &Prepared) -> Result<(), DiskFault>
-    requires slot { slot < length (B.sizes bay.old) }
-    requires on_slot { LiesOn (slice_index (B.sizes bay.old) slot) prepared.now }
+    requires slot { slot < length (B.disks bay.old).sizes }
+    requires on_slot { LiesOn (slice_index (B.disks bay.old).sizes slot) prepared.now }
     ensures found { B.tells → (last : Which) (copy : DiskCopy) → IsPrepared copy last Mode.Found prepared.now
-        → MayFound (slice_index (B.sizes bay.old) slot) (B.held bay.old) slot copy
-        → StopsLeave B.moment B.left_since bay.old bay.new (IsLeft (B.may_hold bay.old))
-        ⊎ StopsLeaveSince B.may_hold B.moment B.left_since bay.old bay.new (IsBlankOrNew (slice_index (B.sizes bay.old) slot) (B.may_hold bay.old) (B.held bay.old) slot prepared.now copy) }
+        → MayFound (B.disks bay.old) slot copy
+        → StopsLeave (B.disks bay.old) (B.disks bay.new) (IsLeft (B.disks bay.old).may_hold)
+        ⊎ StopsLeaveSince (B.disks bay.old) (B.disks bay.new) (IsBlankOrNew (B.disks bay.old) slot prepared.now copy) }
     ensures founded { B.tells → (last : Which) (copy : DiskCopy) → IsPrepared copy last Mode.Found prepared.now
-        → MayFound (slice_index (B.sizes bay.old) slot) (B.held bay.old) slot copy
-        → OnOk result (IsNowFounded B.held B.may_hold B.moment B.left_since bay.old bay.new (slice_index (B.sizes bay.old) slot) slot prepared.now copy) }
-    ensures held { B.tells → StaysOutside (B.held bay.old) (B.held bay.new) slot (λ l. IsInEither prepared.now l ⊎ (l ≡ slice_index (B.sizes bay.old) slot - 1)) }
-    ensures left { KeepsOutside (B.may_hold bay.old) (B.may_hold bay.new) slot (λ l. IsInEither prepared.now l ⊎ (l ≡ slice_index (B.sizes bay.old) slot - 1)) }
-    ensures spends { Spends B.tells_left B.sizes B.failed_reads B.failed_writes B.sectors_written B.calls bay.old bay.new slot (2 * (sector_count prepared.now.runs + 2) + 1) (2 * (length prepared.now.runs + 5) + 3) }
-    ensures ok { OnOk result (B.failed_writes bay.new ≡ B.failed_writes bay.old) }
-    ensures failed { IfErr result (λ e. (e.0 ≡ slot) × Rose (B.failed_writes bay.old slot) (B.failed_writes bay.new slot)) }
+        → MayFound (B.disks bay.old) slot copy
+        → OnOk result (IsNowFounded (B.disks bay.old) (B.disks bay.new) slot prepared.now copy) }
+    ensures held { B.tells → StaysOutside (B.disks bay.old).held (B.disks bay.new).held slot (λ l. IsInEither prepared.now l ⊎ (l ≡ slice_index (B.disks bay.old).sizes slot - 1)) }
+    ensures left { KeepsOutside (B.disks bay.old).may_hold (B.disks bay.new).may_hold slot (λ l. IsInEither prepared.now l ⊎ (l ≡ slice_index (B.disks bay.old).sizes slot - 1)) }
+    ensures spends { SpendsWrites (B.disks bay.old) (B.disks bay.new) slot (2 * (sector_count prepared.now.runs + 2) + 1) (2 * (length prepared.now.runs + 5) + 3) }
+    ensures ok { OnOk result ((B.disks bay.new).failed_writes ≡ (B.disks bay.old).failed_writes) }
+    ensures failed { IfErr result (λ e. (e.0 ≡ slot) × Rose ((B.disks bay.old).failed_writes slot) ((B.disks bay.new).failed_writes slot)) }
 {
     let runs = prepared.runs.items();
     write_founding(

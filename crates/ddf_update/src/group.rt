@@ -1,12 +1,12 @@
 // The founding of a group.
 ghost use Rattle.std.specs.Prelude.{◌≡◌, ◌<◌, ◌≤◌, ℕ, length, slice_index, OnOk, IfOk, IfErr};
 ghost use Rattle.ddf_bytes.specs.Counts.{Rose};
-ghost use Rattle.ddf_bay.specs.Moments.{StopsLeave};
+ghost use Rattle.ddf_bay.specs.Moments.{SpendsOver, StopsLeave};
 ghost use Rattle.ddf_copy.specs.declared.copy.DiskCopy.{DiskCopy};
 ghost use Rattle.ddf_copy.specs.Headers.{IsUnder, anchor_header};
 ghost use Rattle.ddf_copy.specs.declared.which.Which.TheVariants.{Secondary};
 ghost use Rattle.ddf_update.specs.declared.prepared.Mode.TheVariants.{Found};
-ghost use Rattle.ddf_update.specs.Prepared.{IsPrepared};
+ghost use Rattle.ddf_update.specs.Prepared.{IsPrepared, all_calls, all_sectors};
 ghost use Rattle.ddf_update.specs.Group.{AreFirst, AreFounded, IsLeftFoundingAll, IsOneOf, LieOnSlots, MayFoundAll};
 ghost use Rattle.ddf_update.specs.NewCopies.{new_copy, sizes_of};
 
@@ -70,16 +70,15 @@ pub fn found_disks<B: Bay>(
     slots: &[usize],
     updates: &[Prepared],
 ) -> Result<(), DiskFault>
-    requires { LieOnSlots (B.sizes bay.old) slots.now updates.now }
-    ensures any_moment { B.tells → (copy : ℕ → DiskCopy) → MayFoundAll (B.sizes bay.old) (B.held bay.old) slots.now copy updates.now
-        → StopsLeave B.moment B.left_since bay.old bay.new (IsLeftFoundingAll (B.sizes bay.old) (B.may_hold bay.old) (B.held bay.old) slots.now copy) }
-    ensures founded { B.tells → (copy : ℕ → DiskCopy) → MayFoundAll (B.sizes bay.old) (B.held bay.old) slots.now copy updates.now
-        → OnOk result (AreFounded B.held B.may_hold bay.old bay.new (B.sizes bay.old) slots.now copy (length slots.now)) }
-    ensures sizes { B.sizes bay.new ≡ B.sizes bay.old }
-    ensures reads { B.failed_reads bay.new ≡ B.failed_reads bay.old }
-    ensures rises { (s : ℕ) → B.failed_writes bay.old s ≤ B.failed_writes bay.new s }
-    ensures ok { OnOk result (B.failed_writes bay.new ≡ B.failed_writes bay.old) }
-    ensures failed { IfErr result (λ e. IsOneOf slots.now e.0 × Rose (B.failed_writes bay.old e.0) (B.failed_writes bay.new e.0)) }
+    requires { LieOnSlots (B.disks bay.old).sizes slots.now updates.now }
+    ensures any_moment { B.tells → (copy : ℕ → DiskCopy) → MayFoundAll (B.disks bay.old) slots.now copy updates.now
+        → StopsLeave (B.disks bay.old) (B.disks bay.new) (IsLeftFoundingAll (B.disks bay.old) slots.now copy) }
+    ensures founded { B.tells → (copy : ℕ → DiskCopy) → MayFoundAll (B.disks bay.old) slots.now copy updates.now
+        → OnOk result (AreFounded (B.disks bay.old) (B.disks bay.new) slots.now copy (length slots.now)) }
+    ensures reads { (B.disks bay.new).failed_reads ≡ (B.disks bay.old).failed_reads }
+    ensures spends { SpendsOver (B.disks bay.old) (B.disks bay.new) (all_sectors updates.now) (all_calls updates.now) }
+    ensures ok { OnOk result ((B.disks bay.new).failed_writes ≡ (B.disks bay.old).failed_writes) }
+    ensures failed { IfErr result (λ e. IsOneOf slots.now e.0 × Rose ((B.disks bay.old).failed_writes e.0) ((B.disks bay.new).failed_writes e.0)) }
 {
     for (place, update) in updates.iter().enumerate() {
         write_disk(bay, slots[place], update)?;

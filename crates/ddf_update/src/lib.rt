@@ -3,6 +3,7 @@
 #![tactic(auto)]
 
 mod both;
+mod changes;
 mod copy;
 mod disk;
 mod founding;
@@ -13,6 +14,7 @@ mod prepared;
 mod runs;
 mod stage;
 
+pub use changes::write_disks;
 pub use ddf_bay::DiskFault;
 pub use disk::write_disk;
 pub use gate::Gate;

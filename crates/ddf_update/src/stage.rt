@@ -1,7 +1,7 @@
 // One run of sectors, made sure at once.
 ghost use Rattle.std.specs.Prelude.{◌≡◌, ◌≢◌, ◌<◌, ◌≤◌, ◌+◌, length, OnOk, IfErr, slice_index};
 ghost use Rattle.ddf_bytes.specs.Counts.{Rose};
-ghost use Rattle.ddf_bay.specs.Moments.{StopsLeave, Spends, Adds, Mixes, IsAmong};
+ghost use Rattle.ddf_bay.specs.Moments.{StopsLeave, SpendsWrites, Adds, Mixes, IsAmong};
 ghost use Rattle.ddf_update.specs.Stage.{IsStaged};
 
 use ddf_bay::{Bay, DiskFault};
@@ -14,16 +14,16 @@ pub(crate) fn stage<B: Bay>(
     lba: u64,
     sectors: &[Sector],
 ) -> Result<(), DiskFault>
-    requires slot { slot < length (B.sizes bay.old) }
+    requires slot { slot < length (B.disks bay.old).sizes }
     requires some { 0 < length sectors.now }
-    requires room { lba + length sectors.now ≤ slice_index (B.sizes bay.old) slot }
-    ensures staged { B.tells → OnOk result (IsStaged B.held B.may_hold B.moment B.left_since bay.old bay.new slot lba sectors.now) }
-    ensures held { B.tells → Mixes (B.held bay.old) (B.held bay.new) slot lba sectors.now }
-    ensures left { Adds (B.may_hold bay.old) (B.may_hold bay.new) slot lba sectors.now }
-    ensures any_moment { StopsLeave B.moment B.left_since bay.old bay.new (IsAmong (B.may_hold bay.old) slot lba sectors.now) }
-    ensures ok { OnOk result (B.failed_writes bay.new ≡ B.failed_writes bay.old) }
-    ensures failed { IfErr result (λ e. (e.0 ≡ slot) × Rose (B.failed_writes bay.old slot) (B.failed_writes bay.new slot)) }
-    ensures spends { Spends B.tells_left B.sizes B.failed_reads B.failed_writes B.sectors_written B.calls bay.old bay.new slot (length sectors.now) 2 }
+    requires room { lba + length sectors.now ≤ slice_index (B.disks bay.old).sizes slot }
+    ensures staged { B.tells → OnOk result (IsStaged (B.disks bay.old) (B.disks bay.new) slot lba sectors.now) }
+    ensures held { B.tells → Mixes (B.disks bay.old).held (B.disks bay.new).held slot lba sectors.now }
+    ensures left { Adds (B.disks bay.old).may_hold (B.disks bay.new).may_hold slot lba sectors.now }
+    ensures any_moment { StopsLeave (B.disks bay.old) (B.disks bay.new) (IsAmong (B.disks bay.old).may_hold slot lba sectors.now) }
+    ensures ok { OnOk result ((B.disks bay.new).failed_writes ≡ (B.disks bay.old).failed_writes) }
+    ensures failed { IfErr result (λ e. (e.0 ≡ slot) × Rose ((B.disks bay.old).failed_writes slot) ((B.disks bay.new).failed_writes slot)) }
+    ensures spends { SpendsWrites (B.disks bay.old) (B.disks bay.new) slot (length sectors.now) 2 }
 {
     bay.write_run(slot, lba, sectors)
         .map_err(|_| DiskFault(slot))?;

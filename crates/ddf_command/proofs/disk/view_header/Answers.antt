@@ -8,5 +8,5 @@ pub returns-in-Ok-clause-view : goal.returns-in-Ok-clause-view
 unfolding header_view
 returns-in-Ok-clause-view g c = λ tells.
     let bytes = c.in-Ok.ensures.bytes tells in
-    let within : nat_lt c.args.lba (slice_index (g.B.Bay.sizes c.args.bay.now) c.args.slot) ≡ true = grind (arith, common_steps) in
+    let within : nat_lt c.args.lba (slice_index (g.B.Bay.disks c.args.bay.now).sizes c.args.slot) ≡ true = grind (arith, common_steps) in
     rw (within, ← bytes) c.header_in.ensures

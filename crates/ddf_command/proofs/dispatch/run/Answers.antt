@@ -15,11 +15,11 @@ returns-in-Examine-clause-done g c = λ asked is.
     rw (← one) (rw c.code.ensures c.examine.ensures.examined)
 
 pub returns-in-Examine-clause-disk_fault : goal.returns-in-Examine-clause-disk_fault
-returns-in-Examine-clause-disk_fault g c = λ e. fault_cause _ _ _ _ _ _ _ _ _ _ c.examine.ensures.examined (sym c.code.ensures ∙ e)
+returns-in-Examine-clause-disk_fault g c = λ e. fault_cause _ _ _ _ _ _ c.examine.ensures.examined (sym c.code.ensures ∙ e)
 
 pub returns-in-Examine-clause-complete : goal.returns-in-Examine-clause-complete
 returns-in-Examine-clause-complete g c = λ asked is none good.
-    let status = no_fault _ _ _ _ _ _ _ _ _ _ c.examine.ensures.examined none (λ six. good (c.examine.ensures.stream (stream_status c.examine.result six))) in
+    let status = no_fault _ _ _ _ _ _ c.examine.ensures.examined none (λ six. good (c.examine.ensures.stream (stream_status c.examine.result six))) in
     rw c.code.ensures (⊎_elim inl (λ five. inr (inl five)) status)
 
 pub returns-in-Label-clause-done : goal.returns-in-Label-clause-done
@@ -33,7 +33,7 @@ pub returns-in-Label-clause-complete : goal.returns-in-Label-clause-complete
 returns-in-Label-clause-complete g c = λ asked is none good.
     let same : c.in-Ok.asked ≡ asked = same_asked c.asked.result c.in-Ok.asked asked c.in-Ok.is (c.asked.ensures.every asked is) in
     let one : Label c.in-Label.slots ≡ asked.command = sym c.in-Label.is ∙ ap (λ (a : Asked). a.command) same in
-    let status = label_no_fault _ _ _ _ _ _ _ _ _ _ _ _ _ _ _ _ _ c.label.ensures.labelled none (λ six. good (c.label.ensures.stream (stream_status c.label.result six))) in
+    let status = label_no_fault _ _ _ _ _ _ _ _ _ c.label.ensures.labelled none (λ six. good (c.label.ensures.stream (stream_status c.label.result six))) in
     rw (c.code-in-Label.ensures, ← one) (⊎_elim inl (λ other. inr (⊎_elim inl (λ refused. inr (refused, refl)) other)) status)
 
 pub returns-in-Err-Place-clause-wrong_words : goal.returns-in-Err-Place-clause-wrong_words
@@ -53,4 +53,4 @@ pub returns-in-Err-Place-clause-complete : goal.returns-in-Err-Place-clause-comp
 returns-in-Err-Place-clause-complete g c = λ asked is none good. absurd ((c.asked.ensures.place c.in-Err-Place.place (c.in-Err-Place.is ∙ ap Err c.in-Err-Place.field-0-is)).refused (record { asked = asked; is_asked = is }))
 
 pub returns-in-Err-Memory-clause-done : goal.returns-in-Err-Memory-clause-done
-returns-in-Err-Memory-clause-done g c = λ asked is. rw c.code-in-Err-Memory.ensures (done_nothing _ _ _ _ _ _ _ _ _ _ _ _ _ asked.command)
+returns-in-Err-Memory-clause-done g c = λ asked is. rw c.code-in-Err-Memory.ensures (done_nothing _ _ _ _ _ asked.command)

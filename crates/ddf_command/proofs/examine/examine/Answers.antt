@@ -6,26 +6,26 @@ use Rattle.ddf_command.proofs.examine.examine.Goals as goal
 pub loop-slot-init : goal.loop-slot-init
 loop-slot-init g c = record {
   end = c.slots-slot-end.ensures.slots;
-  partway = partway_start _ _ _ _ _ c.args.bay.now _;
-  reads = reads_start c.args.bay.now;
+  partway = partway_start _ _ _;
+  reads = reads_start _;
   faults = refl;
   takes = refl;
 }
 
 pub returns-in-Err-Memory-clause-examined : goal.returns-in-Err-Memory-clause-examined
 returns-in-Err-Memory-clause-examined g c =
-    let lt : c.loop-slot.slot < length (g.B.Bay.sizes c.args.bay.now) = omega (arith, c.loop-slot-test.true, c.loop-slot.invariant.end) in
-    partway_stopped _ _ _ _ _ _ _ _ _ _ _ _ _ _ c.loop-slot.invariant.partway c.loop-slot.invariant.reads.same_sizes c.loop-slot.invariant.reads.same_held c.examine_slot.ensures.shown 5 lt (inl refl)
+    let lt : c.loop-slot.slot < length (g.B.Bay.disks c.args.bay.now).sizes = omega (arith, c.loop-slot-test.true, c.loop-slot.invariant.end) in
+    partway_stopped _ _ _ _ _ _ _ _ _ _ c.loop-slot.invariant.partway c.loop-slot.invariant.reads.same_sizes c.loop-slot.invariant.reads.same_held c.examine_slot.ensures.shown 5 lt (inl refl)
 
 pub returns-in-Err-Output-clause-examined : goal.returns-in-Err-Output-clause-examined
 returns-in-Err-Output-clause-examined g c =
-    let lt : c.loop-slot.slot < length (g.B.Bay.sizes c.args.bay.now) = omega (arith, c.loop-slot-test.true, c.loop-slot.invariant.end) in
-    partway_stopped _ _ _ _ _ _ _ _ _ _ _ _ _ _ c.loop-slot.invariant.partway c.loop-slot.invariant.reads.same_sizes c.loop-slot.invariant.reads.same_held c.examine_slot.ensures.shown 6 lt (inr refl)
+    let lt : c.loop-slot.slot < length (g.B.Bay.disks c.args.bay.now).sizes = omega (arith, c.loop-slot-test.true, c.loop-slot.invariant.end) in
+    partway_stopped _ _ _ _ _ _ _ _ _ _ c.loop-slot.invariant.partway c.loop-slot.invariant.reads.same_sizes c.loop-slot.invariant.reads.same_held c.examine_slot.ensures.shown 6 lt (inr refl)
 
 pub loop-slot-preserved : goal.loop-slot-preserved
 loop-slot-preserved g c = record {
   end = c.loop-slot.invariant.end;
-  partway = partway_more _ _ _ _ _ _ _ _ _ _ _ _ _ _ c.loop-slot.invariant.partway c.loop-slot.invariant.reads.same_sizes c.loop-slot.invariant.reads.same_held c.examine_slot.ensures.shown c.in-Ok.failed c.in-Ok.is;
+  partway = partway_more _ _ _ _ _ _ _ _ _ _ c.loop-slot.invariant.partway c.loop-slot.invariant.reads.same_sizes c.loop-slot.invariant.reads.same_held c.examine_slot.ensures.shown c.in-Ok.failed c.in-Ok.is;
   reads = reads_then c.loop-slot.invariant.reads c.examine_slot.ensures.reads;
   faults = c.in-Ok.ensures.ok ∙ c.loop-slot.invariant.faults;
   takes = c.in-Ok.ensures.ok_takes ∙ c.loop-slot.invariant.takes;
@@ -33,10 +33,10 @@ loop-slot-preserved g c = record {
 
 pub returns-then-fault-clause-examined : goal.returns-then-fault-clause-examined
 returns-then-fault-clause-examined g c =
-    let all : c.loop-slot.slot ≡ length (g.B.Bay.sizes c.args.bay.now) = omega (arith, c.loop-slot-test.false, c.loop-slot.auto.slot-end, c.loop-slot.invariant.end) in
-    partway_done _ _ _ _ _ _ _ _ _ _ _ _ c.loop-slot.invariant.partway all (rw c.if-fault.true refl)
+    let all : c.loop-slot.slot ≡ length (g.B.Bay.disks c.args.bay.now).sizes = omega (arith, c.loop-slot-test.false, c.loop-slot.auto.slot-end, c.loop-slot.invariant.end) in
+    partway_done _ _ _ _ _ _ _ _ c.loop-slot.invariant.partway all (rw c.if-fault.true refl)
 
 pub returns-else-fault-clause-examined : goal.returns-else-fault-clause-examined
 returns-else-fault-clause-examined g c =
-    let all : c.loop-slot.slot ≡ length (g.B.Bay.sizes c.args.bay.now) = omega (arith, c.loop-slot-test.false, c.loop-slot.auto.slot-end, c.loop-slot.invariant.end) in
-    partway_done _ _ _ _ _ _ _ _ _ _ _ _ c.loop-slot.invariant.partway all (rw c.if-fault.false refl)
+    let all : c.loop-slot.slot ≡ length (g.B.Bay.disks c.args.bay.now).sizes = omega (arith, c.loop-slot-test.false, c.loop-slot.auto.slot-end, c.loop-slot.invariant.end) in
+    partway_done _ _ _ _ _ _ _ _ c.loop-slot.invariant.partway all (rw c.if-fault.false refl)

@@ -5,9 +5,9 @@ use Rattle.ddf_command.proofs.examine.examine.Given as goal
 
 abbrev pub invariant-loop-slot : goal.invariant-loop-slot
 invariant-loop-slot g l = record {
-  end : l.slot-end ≡ length (g.B.Bay.sizes l.initial.bay);
-  partway : IsPartway g.B.Bay.sizes g.B.Bay.held g.B.Bay.failed_reads g.B.Bay.failed_writes l.initial.bay l.bay l.slot (g.B.Bay.tells × g.K.Sink.tells) (g.K.Sink.taken l.initial.sink) (g.K.Sink.taken l.sink) l.fault;
-  reads : ReadsOnly g.B.Bay.sizes g.B.Bay.held g.B.Bay.may_hold g.B.Bay.moment g.B.Bay.left_since g.B.Bay.sectors_written l.initial.bay l.bay;
+  end : l.slot-end ≡ length (g.B.Bay.disks l.initial.bay).sizes;
+  partway : IsPartway (g.B.Bay.disks l.initial.bay) (g.B.Bay.disks l.bay) l.slot (g.B.Bay.tells × g.K.Sink.tells) (g.K.Sink.taken l.initial.sink) (g.K.Sink.taken l.sink) l.fault;
+  reads : ReadsOnly (g.B.Bay.disks l.initial.bay) (g.B.Bay.disks l.bay);
   faults : g.K.Sink.faults l.sink ≡ g.K.Sink.faults l.initial.sink;
   takes : g.K.Sink.empty_takes l.sink ≡ g.K.Sink.empty_takes l.initial.sink;
 }

@@ -8,7 +8,7 @@ use Rattle.ddf_command.proofs.label.first_updates.Goals as goal
 
 pub found-requires-clause-large : goal.found-requires-clause-large
 found-requires-clause-large g c =
-    let sizes : List ℕ = g.B.Bay.sizes c.args.bay.now in
+    let sizes : List ℕ = (g.B.Bay.disks c.args.bay.now).sizes in
     let slots : List ℕ = c.args.slots.now in
     let all : length slots ≤ c.loop-slot.slot-index = omega (arith, c.loop-slot-test.false, c.loop-slot.auto.slot-index-end, c.loop-slot.invariant.end) in
     let made : sizes_of c.deref.result.now ≡ slot_sizes sizes slots = ap sizes_of c.deref.ensures.value ∙ c.loop-slot.invariant.so_far ∙ ap (slot_sizes sizes) (take_all c.loop-slot.slot-index slots all) in

@@ -6,5 +6,5 @@ use Rattle.ddf_command.proofs.label.first_updates.Given as goal
 abbrev pub invariant-loop-slot : goal.invariant-loop-slot
 invariant-loop-slot g l = record {
   end : l.slot-index-end ≡ length l.fn.slots;
-  so_far : sizes_of l.disks.items ≡ slot_sizes (g.B.Bay.sizes l.initial.bay) (take l.slot-index l.fn.slots);
+  so_far : sizes_of l.disks.items ≡ slot_sizes (g.B.Bay.disks l.initial.bay).sizes (take l.slot-index l.fn.slots);
 }

@@ -28,7 +28,7 @@ pub returns-clause-tried : goal.returns-clause-tried
 returns-clause-tried g c =
     let one = rw (c.deref-2.ensures.value ∙ c.in-Ok.ensures.slots) at c.in-Err-found_disks.ensures.failed.0 in
     let rose = rw (c.in-Ok.ensures.quiet c.in-Err-found_disks.field-0.0).1 at c.in-Err-found_disks.ensures.failed.1 in
-    ((chosen_once (g.B.Bay.sizes c.args.bay.now) c.args.named.now).there one.place c.in-Err-found_disks.field-0.0 one.is_there, inr rose)
+    ((chosen_once (g.B.Bay.disks c.args.bay.now).sizes c.args.named.now).there one.place c.in-Err-found_disks.field-0.0 one.is_there, inr rose)
 
 pub returns-clause-any_moment : goal.returns-clause-any_moment
 returns-clause-any_moment g c = λ tells.

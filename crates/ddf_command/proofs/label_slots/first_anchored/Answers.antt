@@ -12,5 +12,5 @@ loop-slot-preserved g c = record {
   first_is = λ tells.
       let lt : c.loop-slot.slot-index < length c.args.slots.now = omega (arith, c.loop-slot-test.true, c.loop-slot.invariant.end) in
       let anchored = rw (c.loop-slot.invariant.reads.same_sizes, c.loop-slot.invariant.reads.same_held) at (c.in_ok-anchored.ensures.answer tells) in
-      rw (c.or-first.ensures, c.then_some.ensures, anchored, c.loop-slot.invariant.first_is tells) (find_more (is_anchored (g.B.Bay.sizes c.args.bay.now) (g.B.Bay.held c.args.bay.now)) c.args.slots.now c.loop-slot.slot-index lt);
+      rw (c.or-first.ensures, c.then_some.ensures, anchored, c.loop-slot.invariant.first_is tells) (find_more (is_anchored (g.B.Bay.disks c.args.bay.now).sizes (g.B.Bay.disks c.args.bay.now).held) c.args.slots.now c.loop-slot.slot-index lt);
 }

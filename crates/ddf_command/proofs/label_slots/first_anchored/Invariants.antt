@@ -8,7 +8,7 @@ use Rattle.ddf_command.proofs.label_slots.first_anchored.Given as goal
 abbrev pub invariant-loop-slot : goal.invariant-loop-slot
 invariant-loop-slot g l = record {
   end : l.slot-index-end ≡ length l.fn.slots;
-  reads : ReadsOnly g.B.Bay.sizes g.B.Bay.held g.B.Bay.may_hold g.B.Bay.moment g.B.Bay.left_since g.B.Bay.sectors_written l.initial.bay l.bay;
-  quiet : IsQuiet g.B.Bay.failed_reads g.B.Bay.failed_writes l.initial.bay l.bay;
-  first_is : g.B.Bay.tells → l.first ≡ find (is_anchored (g.B.Bay.sizes l.initial.bay) (g.B.Bay.held l.initial.bay)) (take l.slot-index l.fn.slots);
+  reads : ReadsOnly (g.B.Bay.disks l.initial.bay) (g.B.Bay.disks l.bay);
+  quiet : IsQuiet (g.B.Bay.disks l.initial.bay) (g.B.Bay.disks l.bay);
+  first_is : g.B.Bay.tells → l.first ≡ find (is_anchored (g.B.Bay.disks l.initial.bay).sizes (g.B.Bay.disks l.initial.bay).held) (take l.slot-index l.fn.slots);
 }

@@ -11,6 +11,6 @@ returns c =
     let copies = c.args.headers.copies in
     let front : List ℕ = head_text c.args.slot c.args.sectors c.args.headers ++ copy_lines copies in
     c.in_ok-push_newest.ensures
-    ∙ ap (λ (newest : Newest). string_bytes c.in_ok-text.text ++ newest_text newest) c.newest.ensures
+    ∙ ap (λ (newest : Newest). string_bytes c.in_ok-text.text ++ newest_text newest) c.newest.ensures.value
     ∙ ap (λ (text : List ℕ). text ++ newest_text (newest_of_copies copies)) c.in_ok-text.ensures
     ∙ append_assoc (head_text c.args.slot c.args.sectors c.args.headers) (copy_lines copies) (newest_text (newest_of_copies copies))

@@ -58,3 +58,8 @@ returns-clause-reads g c = reads_then (reads_then (reads_then (reads_then (reads
 
 pub returns-clause-look : goal.returns-clause-look
 returns-clause-look g c = looks_then c.args.slot _ (looks_then c.args.slot _ (looks_then c.args.slot _ (looks_then c.args.slot _ (looks_then c.args.slot _ c.in_ok-controller.ensures.look c.in_ok-disks.ensures.look) c.in_ok-arrays.ensures.look) c.in_ok-records.ensures.look) c.in_ok-disk_data.ensures.look) c.in_ok-bad_blocks.ensures.look
+
+pub read_section-requires-4-clause-fits : goal.read_section-requires-4-clause-fits
+read_section-requires-4-clause-fits g c = λ some.
+    let sizes = c.read_first-2.ensures.reads.same_sizes ∙ c.read_section-3.ensures.reads.same_sizes ∙ c.read_section-2.ensures.reads.same_sizes ∙ c.read_section.ensures.reads.same_sizes ∙ c.read_first.ensures.reads.same_sizes in
+    rw sizes (omega (arith, c.requires.some, c.requires.fit 5 c.section-5.result c.section-5.ensures.found some))

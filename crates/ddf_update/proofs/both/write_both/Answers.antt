@@ -3,15 +3,15 @@ use Rattle.ddf_update.proofs.both.write_both.Goals as goal
 
 pub returns-in_err-write_copy-2-clause-any_moment : goal.returns-in_err-write_copy-2-clause-any_moment
 returns-in_err-write_copy-2-clause-any_moment g c = λ tells settled apart both.
-    both_moments g.B.Bay.held g.B.Bay.may_hold g.B.Bay.moment g.B.Bay.left_since c.args.bay.now c.write_copy.new.bay c.write_copy-2.new.bay c.args.slot c.args.first.now c.args.second.now c.args.runs.now apart both
+    both_moments (g.B.Bay.disks c.args.bay.now) (g.B.Bay.disks c.write_copy.new.bay) (g.B.Bay.disks c.write_copy-2.new.bay) c.args.slot c.args.first.now c.args.second.now c.args.runs.now apart both
     (c.in_ok-write_copy.ensures.copied tells apart) settled (c.write_copy-2.ensures.any_moment tells apart)
 
 pub returns-clause-any_moment : goal.returns-clause-any_moment
 returns-clause-any_moment g c = λ tells settled apart both.
-    both_moments g.B.Bay.held g.B.Bay.may_hold g.B.Bay.moment g.B.Bay.left_since c.args.bay.now c.write_copy.new.bay c.write_copy-2.new.bay c.args.slot c.args.first.now c.args.second.now c.args.runs.now apart both
+    both_moments (g.B.Bay.disks c.args.bay.now) (g.B.Bay.disks c.write_copy.new.bay) (g.B.Bay.disks c.write_copy-2.new.bay) c.args.slot c.args.first.now c.args.second.now c.args.runs.now apart both
     (c.in_ok-write_copy.ensures.copied tells apart) settled (c.write_copy-2.ensures.any_moment tells apart)
 
 pub returns-clause-copied : goal.returns-clause-copied
 returns-clause-copied g c = λ tells apart both.
-    both_copied g.B.Bay.held g.B.Bay.may_hold g.B.Bay.moment g.B.Bay.left_since c.args.bay.now c.write_copy.new.bay c.write_copy-2.new.bay c.args.slot c.args.first.now c.args.second.now c.args.runs.now apart both
+    both_copied (g.B.Bay.disks c.args.bay.now) (g.B.Bay.disks c.write_copy.new.bay) (g.B.Bay.disks c.write_copy-2.new.bay) c.args.slot c.args.first.now c.args.second.now c.args.runs.now apart both
     (c.in_ok-write_copy.ensures.copied tells apart) (c.in_ok-write_copy-2.ensures.copied tells apart)

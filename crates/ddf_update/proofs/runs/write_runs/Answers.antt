@@ -28,18 +28,18 @@ write_run-requires-clause-sectors g c =
 pub returns-in_err-map_err-clause-left : goal.returns-in_err-map_err-clause-left
 returns-in_err-map_err-clause-left g c =
     let at : slice_get c.args.runs.now c.loop-run.run-index ≡ Some c.run-item.result = slice_get_read c.args.runs.now _ c.loop-run.run-index c.run-item.result refl c.loop-run-test.true c.run-item.is in
-    adds_more (g.B.Bay.may_hold c.args.bay.now) (g.B.Bay.may_hold c.loop-run.bay) (g.B.Bay.may_hold c.write_run.new.self) c.args.slot c.args.lba c.args.runs.now c.loop-run.run-index c.run-item.result at c.loop-run.invariant.left (rw (c.items.ensures, c.from.ensures) at c.write_run.ensures.left)
+    adds_more (g.B.Bay.disks c.args.bay.now).may_hold (g.B.Bay.disks c.loop-run.bay).may_hold (g.B.Bay.disks c.write_run.new.self).may_hold c.args.slot c.args.lba c.args.runs.now c.loop-run.run-index c.run-item.result at c.loop-run.invariant.left (rw (c.items.ensures, c.from.ensures) at c.write_run.ensures.left)
 
 pub returns-in_err-map_err-clause-any_moment : goal.returns-in_err-map_err-clause-any_moment
 returns-in_err-map_err-clause-any_moment g c =
     let at : slice_get c.args.runs.now c.loop-run.run-index ≡ Some c.run-item.result = slice_get_read c.args.runs.now _ c.loop-run.run-index c.run-item.result refl c.loop-run-test.true c.run-item.is in
-    stops_then {Q = IsAmong (g.B.Bay.may_hold c.loop-run.bay) c.args.slot (c.args.lba + c.from.result) c.items.result.now} c.loop-run.invariant.any_moment c.write_run.ensures.any_moment (λ image among. among_more (g.B.Bay.may_hold c.args.bay.now) (g.B.Bay.may_hold c.loop-run.bay) (g.B.Bay.may_hold c.write_run.new.self) c.args.slot c.args.lba c.args.runs.now c.loop-run.run-index c.run-item.result at c.loop-run.invariant.left image (rw (c.items.ensures, c.from.ensures) at among))
+    stops_then {Q = IsAmong (g.B.Bay.disks c.loop-run.bay).may_hold c.args.slot (c.args.lba + c.from.result) c.items.result.now} c.loop-run.invariant.any_moment c.write_run.ensures.any_moment (λ image among. among_more (g.B.Bay.disks c.args.bay.now).may_hold (g.B.Bay.disks c.loop-run.bay).may_hold (g.B.Bay.disks c.write_run.new.self).may_hold c.args.slot c.args.lba c.args.runs.now c.loop-run.run-index c.run-item.result at c.loop-run.invariant.left image (rw (c.items.ensures, c.from.ensures) at among))
 
 pub returns-in_err-map_err-clause-held : goal.returns-in_err-map_err-clause-held
 returns-in_err-map_err-clause-held g c = λ tells.
     let at : slice_get c.args.runs.now c.loop-run.run-index ≡ Some c.run-item.result = slice_get_read c.args.runs.now _ c.loop-run.run-index c.run-item.result refl c.loop-run-test.true c.run-item.is in
-    let mixes : Mixes (g.B.Bay.held c.loop-run.bay) (g.B.Bay.held c.write_run.new.self) c.args.slot (c.args.lba + c.from.result) c.items.result.now = grind (arith, common_steps, c.write_run.ensures.held_failed tells) in
-    mixes_more (g.B.Bay.held c.args.bay.now) (g.B.Bay.held c.loop-run.bay) (g.B.Bay.held c.write_run.new.self) c.args.slot c.args.lba c.args.runs.now c.loop-run.run-index c.run-item.result at (c.loop-run.invariant.held tells) (rw (c.items.ensures, c.from.ensures) at mixes)
+    let mixes : Mixes (g.B.Bay.disks c.loop-run.bay).held (g.B.Bay.disks c.write_run.new.self).held c.args.slot (c.args.lba + c.from.result) c.items.result.now = grind (arith, common_steps, c.write_run.ensures.held_failed tells) in
+    mixes_more (g.B.Bay.disks c.args.bay.now).held (g.B.Bay.disks c.loop-run.bay).held (g.B.Bay.disks c.write_run.new.self).held c.args.slot c.args.lba c.args.runs.now c.loop-run.run-index c.run-item.result at (c.loop-run.invariant.held tells) (rw (c.items.ensures, c.from.ensures) at mixes)
 
 pub loop-run-preserved : goal.loop-run-preserved
 loop-run-preserved g c =
@@ -48,15 +48,16 @@ loop-run-preserved g c =
     let counted = ap sector_count rest in
     record {
       written_runs = λ tells.
-          let done : g.B.Bay.held c.write_run.new.self ≡ put_run (g.B.Bay.held c.loop-run.bay) c.args.slot (c.args.lba + c.from.result) c.items.result.now = grind (arith, common_steps, c.write_run.ensures.held tells) in
-          rw (done, c.items.ensures, c.from.ensures) (sym (ap (put_runs (g.B.Bay.held c.loop-run.bay) c.args.slot c.args.lba) rest) ∙ c.loop-run.invariant.written_runs tells);
+          let done : (g.B.Bay.disks c.write_run.new.self).held ≡ put_run (g.B.Bay.disks c.loop-run.bay).held c.args.slot (c.args.lba + c.from.result) c.items.result.now = grind (arith, common_steps, c.write_run.ensures.held tells) in
+          rw (done, c.items.ensures, c.from.ensures) (sym (ap (put_runs (g.B.Bay.disks c.loop-run.bay).held c.args.slot c.args.lba) rest) ∙ c.loop-run.invariant.written_runs tells);
       held = λ tells.
-          let done : g.B.Bay.held c.write_run.new.self ≡ put_run (g.B.Bay.held c.loop-run.bay) c.args.slot (c.args.lba + c.from.result) c.items.result.now = grind (arith, common_steps, c.write_run.ensures.held tells) in
-          let mixes : Mixes (g.B.Bay.held c.loop-run.bay) (g.B.Bay.held c.write_run.new.self) c.args.slot (c.args.lba + c.from.result) c.items.result.now =
-          rw done (put_mixes (g.B.Bay.held c.loop-run.bay) c.args.slot (c.args.lba + c.from.result) c.items.result.now) in
-          mixes_more (g.B.Bay.held c.args.bay.now) (g.B.Bay.held c.loop-run.bay) (g.B.Bay.held c.write_run.new.self) c.args.slot c.args.lba c.args.runs.now c.loop-run.run-index c.run-item.result at (c.loop-run.invariant.held tells) (rw (c.items.ensures, c.from.ensures) at mixes);
-      left = adds_more (g.B.Bay.may_hold c.args.bay.now) (g.B.Bay.may_hold c.loop-run.bay) (g.B.Bay.may_hold c.write_run.new.self) c.args.slot c.args.lba c.args.runs.now c.loop-run.run-index c.run-item.result at c.loop-run.invariant.left (rw (c.items.ensures, c.from.ensures) at c.write_run.ensures.left);
-      any_moment = stops_then {Q = IsAmong (g.B.Bay.may_hold c.loop-run.bay) c.args.slot (c.args.lba + c.from.result) c.items.result.now} c.loop-run.invariant.any_moment c.write_run.ensures.any_moment (λ image among. among_more (g.B.Bay.may_hold c.args.bay.now) (g.B.Bay.may_hold c.loop-run.bay) (g.B.Bay.may_hold c.write_run.new.self) c.args.slot c.args.lba c.args.runs.now c.loop-run.run-index c.run-item.result at c.loop-run.invariant.left image (rw (c.items.ensures, c.from.ensures) at among));
+          let done : (g.B.Bay.disks c.write_run.new.self).held ≡ put_run (g.B.Bay.disks c.loop-run.bay).held c.args.slot (c.args.lba + c.from.result) c.items.result.now = grind (arith, common_steps, c.write_run.ensures.held tells) in
+          let mixes : Mixes (g.B.Bay.disks c.loop-run.bay).held (g.B.Bay.disks c.write_run.new.self).held c.args.slot (c.args.lba + c.from.result) c.items.result.now =
+          rw done (put_mixes (g.B.Bay.disks c.loop-run.bay).held c.args.slot (c.args.lba + c.from.result) c.items.result.now) in
+          mixes_more (g.B.Bay.disks c.args.bay.now).held (g.B.Bay.disks c.loop-run.bay).held (g.B.Bay.disks c.write_run.new.self).held c.args.slot c.args.lba c.args.runs.now c.loop-run.run-index c.run-item.result at (c.loop-run.invariant.held tells) (rw (c.items.ensures, c.from.ensures) at mixes);
+      left = adds_more (g.B.Bay.disks c.args.bay.now).may_hold (g.B.Bay.disks c.loop-run.bay).may_hold (g.B.Bay.disks c.write_run.new.self).may_hold c.args.slot c.args.lba c.args.runs.now c.loop-run.run-index c.run-item.result at c.loop-run.invariant.left (rw (c.items.ensures, c.from.ensures) at c.write_run.ensures.left);
+      any_moment = stops_then {Q = IsAmong (g.B.Bay.disks c.loop-run.bay).may_hold c.args.slot (c.args.lba + c.from.result) c.items.result.now} c.loop-run.invariant.any_moment c.write_run.ensures.any_moment (λ image among. among_more (g.B.Bay.disks c.args.bay.now).may_hold (g.B.Bay.disks c.loop-run.bay).may_hold (g.B.Bay.disks c.write_run.new.self).may_hold c.args.slot c.args.lba c.args.runs.now c.loop-run.run-index c.run-item.result at c.loop-run.invariant.left image (rw (c.items.ensures, c.from.ensures) at among));
+      goes_on = λ bay leads. c.loop-run.invariant.goes_on bay (c.write_run.ensures.spends.goes_on bay leads);
       told = grind (arith, common_steps);
       sizes = grind (arith, common_steps);
       writes = grind (arith, common_steps);

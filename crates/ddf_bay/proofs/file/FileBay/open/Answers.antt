@@ -3,6 +3,7 @@ use Rattle.std.proofs.lemmas.Grind.{common_steps}
 use Rattle.std.proofs.Common.{arith}
 use Rattle.std.proofs.lemmas.List.Folds.{list_all-append}
 use Rattle.ddf_bay.proofs.Opened.{closed_pushed}
+use Rattle.ddf_bay.proofs.Zeros.{zeros_at}
 use Rattle.ddf_bay.proofs.file.FileBay.open.Goals as goal
 
 pub loop-path-preserved : goal.loop-path-preserved
@@ -14,3 +15,6 @@ loop-path-preserved g c =
       small = grind (arith, common_steps, c.in_ok-push-2.ensures.items, list_all-append);
       closed = closed_pushed c.loop-path.files.items c.push.new.self.items c.loop-path.sizes.items c.push-in-loop-path.new.self.items c.open_slot-file.result.0 c.open_slot-file.result.1 (so_far.files ∙ sym so_far.sizes) c.open_slot-file.ensures.closed so_far.closed c.in_ok-push.ensures.items c.in_ok-push-2.ensures.items;
     }
+
+pub returns-clause-counts : goal.returns-clause-counts
+returns-clause-counts g c s = (zeros_at 64 s, zeros_at 64 s)

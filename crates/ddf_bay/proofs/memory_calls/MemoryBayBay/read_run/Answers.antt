@@ -1,5 +1,5 @@
 use Rattle.ddf_bay.specs.RecordLaws.{past_later}
-use Rattle.ddf_bay.specs.MemoryLaws.{still_left, still_since}
+use Rattle.ddf_bay.specs.MemoryLaws.{same_remembers, still_left, still_since}
 use Rattle.ddf_bay.proofs.memory_calls.MemoryBayBay.read_run.Goals as goal
 
 pub invariant_of-self : goal.invariant_of-self
@@ -19,3 +19,9 @@ returns-clause-left c = still_left c.args.self.now.clock c.next-self.result c.ar
 
 pub returns-clause-any_moment : goal.returns-clause-any_moment
 returns-clause-any_moment c = record { later = c.next-self.ensures.least; since = still_since c.args.self.now.clock c.next-self.result c.args.self.now.log.records.items c.args.self.now.past c.next-self.ensures.least c.next-self.ensures.more }
+
+pub returns-then-fails-clause-remembers : goal.returns-then-fails-clause-remembers
+returns-then-fails-clause-remembers c told = same_remembers c.args.self.now.clock c.next-self.result c.args.self.now.log.records.items c.next-self.ensures.least told
+
+pub returns-clause-remembers : goal.returns-clause-remembers
+returns-clause-remembers c told = same_remembers c.args.self.now.clock c.next-self.result c.args.self.now.log.records.items c.next-self.ensures.least told

@@ -1,7 +1,7 @@
 use Rattle.std.proofs.Common.{sym, ◌∙◌, arith}
 use Rattle.ddf_bay.specs.Records.{zeros}
 use Rattle.ddf_bay.specs.RecordLaws.{past_later, past_sync, held_sync, sync_settles, newest_sync}
-use Rattle.ddf_bay.specs.MemoryLaws.{still_left, still_since, sync_left, sync_since}
+use Rattle.ddf_bay.specs.MemoryLaws.{same_remembers, sync_remembers, still_left, still_since, sync_left, sync_since}
 use Rattle.ddf_bay.proofs.memory_calls.MemoryBayBay.sync.Goals as goal
 
 pub invariant_of-self : goal.invariant_of-self
@@ -32,3 +32,9 @@ returns-clause-left c = rw c.settle.ensures.records (sync_left c.args.self.now.c
 
 pub returns-clause-any_moment : goal.returns-clause-any_moment
 returns-clause-any_moment c = record { later = c.next-self.ensures.least; since = rw c.settle.ensures.records (sync_since c.args.self.now.clock c.next-self.result c.args.slot c.args.self.now.log.records.items c.args.self.now.past c.next-self.ensures.least c.next-self.ensures.more) }
+
+pub returns-then-fails-clause-remembers : goal.returns-then-fails-clause-remembers
+returns-then-fails-clause-remembers c told = same_remembers c.args.self.now.clock c.next-self.result c.args.self.now.log.records.items c.next-self.ensures.least told
+
+pub returns-clause-remembers : goal.returns-clause-remembers
+returns-clause-remembers c told = rw c.settle.ensures.records (sync_remembers c.args.self.now.clock c.next-self.result c.args.slot c.args.self.now.log.records.items c.next-self.ensures.least c.next-self.ensures.more told)

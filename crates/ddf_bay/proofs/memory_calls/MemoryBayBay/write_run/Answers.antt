@@ -1,6 +1,6 @@
 use Rattle.std.proofs.Common.{arith, inl, inr, ⊎_elim}
 use Rattle.ddf_bay.specs.RecordLaws.{past_later, past_added, held_run}
-use Rattle.ddf_bay.specs.MemoryLaws.{still_left, still_since, run_left, run_since}
+use Rattle.ddf_bay.specs.MemoryLaws.{same_remembers, run_remembers, still_left, still_since, run_left, run_since}
 use Rattle.ddf_bay.proofs.memory_calls.MemoryBayBay.write_run.Goals as goal
 
 pub invariant_of-self : goal.invariant_of-self
@@ -28,3 +28,9 @@ returns-clause-left c = rw c.push.ensures.records (run_left c.args.self.now.cloc
 
 pub returns-clause-any_moment : goal.returns-clause-any_moment
 returns-clause-any_moment c = record { later = c.next-self.ensures.least; since = rw c.push.ensures.records (run_since c.args.self.now.clock c.next-self.result c.args.self.now.log.records.items c.args.slot c.args.lba c.args.from.now c.args.self.now.past c.next-self.ensures.least c.next-self.ensures.more) }
+
+pub returns-then-fails-clause-remembers : goal.returns-then-fails-clause-remembers
+returns-then-fails-clause-remembers c told = same_remembers c.args.self.now.clock c.next-self.result c.args.self.now.log.records.items c.next-self.ensures.least told
+
+pub returns-clause-remembers : goal.returns-clause-remembers
+returns-clause-remembers c told = rw c.push.ensures.records (run_remembers c.args.self.now.clock c.next-self.result c.args.self.now.log.records.items c.args.slot c.args.lba c.args.from.now c.next-self.ensures.least told)
