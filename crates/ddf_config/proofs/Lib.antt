@@ -1,0 +1,5 @@
+pub mod Shapes
+pub mod Starts
+pub mod Entries
+pub mod Finds
+pub mod Firsts

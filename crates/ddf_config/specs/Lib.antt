@@ -1,0 +1,13 @@
+pub mod ElementValue
+pub mod Configuration
+pub mod Entries
+pub mod Members
+pub mod Seats
+pub mod Refusals
+pub mod Levels
+pub mod Within
+pub mod Extents
+pub mod Room
+pub mod Shapes
+pub mod Served
+pub mod States

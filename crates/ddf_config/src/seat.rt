@@ -1,0 +1,27 @@
+ghost use Rattle.std.specs.Prelude.{◌≡◌};
+ghost use Rattle.ddf_config.specs.Seats.{slot_of};
+
+/// The slot of a current member.
+#[derive(Clone, Copy, Debug, Default, PartialEq, Eq)]
+pub struct Seat {
+    /// The reference of the member.
+    pub reference: u32,
+    /// The number of the slot.
+    pub slot: usize,
+    /// The least LBA of the disk's workspace, primary header and secondary header: extents end at or below it.
+    pub floor: u64,
+    /// The count of the disk's bad block log.
+    pub bad: u16,
+}
+
+/// The slot of a member's seat. 64, which is no slot, where it has none.
+pub fn slot_of(seats: &[Seat], reference: u32) -> usize
+    ensures { result ≡ slot_of seats.now reference }
+{
+    for seat in seats {
+        if seat.reference == reference {
+            return seat.slot;
+        }
+    }
+    64
+}

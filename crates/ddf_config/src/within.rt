@@ -1,0 +1,98 @@
+//! Which disks an array can do without, as far as the configuration alone tells.
+ghost use Rattle.std.specs.Prelude.{◌≡◌};
+ghost use Rattle.std.specs.List.{list_any, list_all};
+ghost use Rattle.ddf_config.specs.Within.{is_available, lacks_one, has_parity, has_enough, is_part_within, is_within};
+
+use crate::lookup::is_current;
+use crate::{Array, ElementPlan, Member, Position};
+use indexmap::IndexMap;
+
+/// Whether a position is in sync and its member current.
+fn is_available(members: &IndexMap<u32, Member>, position: &Position) -> bool
+    ensures { result ≡ is_available members.now.entries position.now }
+{
+    position.synced && is_current(members, position.reference)
+}
+
+/// RAID 4 and 5.
+fn has_parity(level: u8) -> bool
+    ensures { result ≡ has_parity level }
+{
+    level == 0x04 || level == 0x05
+}
+
+fn has_available(members: &IndexMap<u32, Member>, positions: &[Position]) -> bool
+    ensures { result ≡ list_any (is_available members.now.entries) positions.now }
+{
+    positions
+        .iter()
+        .any(|position| is_available(members, position))
+}
+
+fn all_available(members: &IndexMap<u32, Member>, positions: &[Position]) -> bool
+    ensures { result ≡ list_all (is_available members.now.entries) positions.now }
+{
+    positions
+        .iter()
+        .all(|position| is_available(members, position))
+}
+
+/// Whether at most one position isn't available.
+fn lacks_one(members: &IndexMap<u32, Member>, positions: &[Position]) -> bool
+    ensures { result ≡ lacks_one (is_available members.now.entries) positions.now }
+{
+    let away = positions
+        .iter()
+        .filter(|position| !is_available(members, *position))
+        .count();
+    away <= 1
+}
+
+/// Whether enough positions are available for the level.
+fn has_enough(members: &IndexMap<u32, Member>, level: u8, positions: &[Position]) -> bool
+    ensures { result ≡ has_enough level (is_available members.now.entries) positions.now }
+{
+    if level == 0x01 {
+        has_available(members, positions)
+    } else if has_parity(level) {
+        lacks_one(members, positions)
+    } else {
+        all_available(members, positions)
+    }
+}
+
+/// Whether an element is within its level: it can do without its positions that are out of sync or whose
+/// member isn't current. RAID 1 needs one position, RAID 4 and 5 all but one, every other level all. An
+/// element of which no disk tells isn't within its level.
+pub fn is_part_within(members: &IndexMap<u32, Member>, part: &Option<ElementPlan>) -> bool
+    ensures { result ≡ is_part_within (is_available members.now.entries) part.now }
+{
+    match part {
+        Some(element) => has_enough(members, element.level, element.positions.as_slice()),
+        None => false,
+    }
+}
+
+/// Whether some element is within its level.
+pub fn has_part_within(members: &IndexMap<u32, Member>, parts: &[Option<ElementPlan>]) -> bool
+    ensures { result ≡ list_any (is_part_within (is_available members.now.entries)) parts.now }
+{
+    parts.iter().any(|part| is_part_within(members, part))
+}
+
+fn all_parts_within(members: &IndexMap<u32, Member>, parts: &[Option<ElementPlan>]) -> bool
+    ensures { result ≡ list_all (is_part_within (is_available members.now.entries)) parts.now }
+{
+    parts.iter().all(|part| is_part_within(members, part))
+}
+
+/// Whether an array is within its level: each element is, or where they are mirrored one of them.
+pub fn is_within(members: &IndexMap<u32, Member>, array: &Array) -> bool
+    ensures { result ≡ is_within (is_available members.now.entries) array.now }
+{
+    if array.is_mirrored() {
+        has_part_within(members, array.elements.items())
+    } else {
+        all_parts_within(members, array.elements.items())
+    }
+}

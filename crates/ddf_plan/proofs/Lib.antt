@@ -1,0 +1,4 @@
+pub mod Afters
+pub mod Kept
+pub mod Clear
+pub mod Made

@@ -1,0 +1,30 @@
+-- What is left of spares without an array, and why an array can't be deleted.
+use Rattle.std.specs.Prelude.{ℕ, not, List, [], ◌∷◌, Option, filter, is_none}
+use Rattle.std.specs.Map.{lookup}
+use Rattle.ddf_config.specs.declared.member.SpareUse.{SpareUse}
+use Rattle.ddf_config.specs.declared.member.SpareUse.TheVariants.{No, Global, Dedicated}
+use Rattle.ddf_config.specs.declared.refusal.Refusal.{Refusal}
+use Rattle.ddf_config.specs.declared.refusal.Refusal.TheVariants.{NoArray}
+use Rattle.ddf_config.specs.Configuration.{Configuration}
+use Rattle.ddf_config.specs.Members.{same_guid}
+use Rattle.ddf_config.specs.Refusals.{first_refusal, refuse_if}
+use Rattle.ddf_plan.specs.Refusals.{spent}
+
+-- a spare for no array is none
+abbrev pub dedicated : List (List ℕ) → SpareUse
+dedicated [] = No
+dedicated (guid ∷ guids) = Dedicated (guid ∷ guids)
+
+-- the use as a spare without an array
+abbrev pub use_without : List ℕ → SpareUse → SpareUse
+use_without guid No = No
+use_without guid Global = Global
+use_without guid (Dedicated guids) = dedicated (filter (λ other. not (same_guid guid other)) guids)
+
+-- an array that isn't there
+abbrev pub no_array : Configuration → List ℕ → Option Refusal
+no_array config guid = refuse_if (is_none (lookup (same_guid guid) config.arrays)) NoArray
+
+-- in order: the array is there, and the sequence number has a step left
+abbrev pub delete_refusal : Configuration → List ℕ → Option Refusal
+delete_refusal config guid = first_refusal (no_array config guid ∷ spent config.sequence 1 ∷ [])

@@ -1,0 +1,129 @@
+//! A new array: where its extents lie, and its state.
+ghost use Rattle.std.specs.Prelude.{◌≡◌, ◌≤◌, length, map, option_map, IfOk};
+ghost use Rattle.ddf_plan.specs.Create.{element_strip, placed_position, placed_element, placed_parts, created_state, created};
+
+use arrayvec::ArrayVec;
+use ddf_bytes::{NoMemory, Seq};
+use ddf_config::{Array, ElementPlan, Extent, Member, Position, start_on, strip_sectors};
+use indexmap::IndexMap;
+use std::alloc::Global;
+
+/// The mark of an array that isn't consistent.
+const MARK: u8 = 0x10;
+
+/// The sectors of a strip of an element of an array with so many elements.
+pub(crate) fn element_strip(elements: usize, element: &ElementPlan) -> u64
+    ensures value { result ≡ element_strip elements element.now }
+    ensures some { 1 ≤ result }
+{
+    match strip_sectors(elements, element) {
+        Some(strip) => strip,
+        None => 1,
+    }
+}
+
+fn placed_position(
+    alloc: Global,
+    members: &IndexMap<u32, Member>,
+    all: &[Extent],
+    strip: u64,
+    blocks: u64,
+    position: Position,
+) -> Result<Position, NoMemory>
+    requires { 1 ≤ strip }
+    ensures { IfOk result (λ placed. placed ≡ placed_position members.now.entries all.now strip blocks position) }
+{
+    let start = start_on(alloc, members, all, strip, blocks, position.reference)?;
+    Ok(Position {
+        start: start.unwrap_or(position.start),
+        ..position
+    })
+}
+
+fn placed_positions(
+    alloc: Global,
+    members: &IndexMap<u32, Member>,
+    all: &[Extent],
+    strip: u64,
+    blocks: u64,
+    positions: &[Position],
+) -> Result<ArrayVec<Position, 64>, NoMemory>
+    requires strip { 1 ≤ strip }
+    requires few { length positions.now ≤ 64 }
+    ensures { IfOk result (λ placed. placed.items ≡ map (placed_position members.now.entries all.now strip blocks) positions.now) }
+{
+    let mut placed = ArrayVec::new();
+    for position in positions {
+        placed.push(placed_position(alloc, members, all, strip, blocks, *position)?);
+    }
+    Ok(placed)
+}
+
+fn placed_part(
+    alloc: Global,
+    members: &IndexMap<u32, Member>,
+    all: &[Extent],
+    elements: usize,
+    part: &Option<ElementPlan>,
+) -> Result<Option<ElementPlan>, NoMemory>
+    ensures { IfOk result (λ placed. placed ≡ option_map (placed_element members.now.entries all.now elements) part.now) }
+{
+    match part {
+        Some(element) => {
+            let strip = element_strip(elements, element);
+            let positions = placed_positions(
+                alloc,
+                members,
+                all,
+                strip,
+                element.blocks,
+                element.positions.as_slice(),
+            )?;
+            Ok(Some(element.with_positions(positions)))
+        }
+        None => Ok(None),
+    }
+}
+
+fn placed_parts(
+    alloc: Global,
+    members: &IndexMap<u32, Member>,
+    all: &[Extent],
+    array: &Array,
+) -> Result<Vec<Option<ElementPlan>>, NoMemory>
+    ensures { IfOk result (λ placed. placed.items ≡ placed_parts members.now.entries all.now array.now) }
+{
+    let parts = array.elements.items();
+    let mut placed = Vec::with_capacity(alloc, parts.len())?;
+    for part in parts {
+        let next = placed_part(alloc, members, all, parts.len(), part)?;
+        placed.push(next)?;
+    }
+    Ok(placed)
+}
+
+fn created_state(array: &Array) -> u8
+    ensures { result ≡ created_state array.now }
+{
+    if array.is_redundant() { MARK } else { 0 }
+}
+
+/// A new array, with its extents at their starts, and marked where it is redundant.
+pub(crate) fn created(
+    alloc: Global,
+    members: &IndexMap<u32, Member>,
+    all: &[Extent],
+    array: &Array,
+) -> Result<Array, NoMemory>
+    ensures { IfOk result (λ new. new ≡ created members.now.entries all.now array.now) }
+{
+    let parts = placed_parts(alloc, members, all, array)?;
+    Ok(Array {
+        name: array.name,
+        number: array.number,
+        secondary: array.secondary,
+        elements: Seq::new(parts),
+        state: created_state(array),
+        init: array.init,
+    })
+}

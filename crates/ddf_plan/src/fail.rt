@@ -1,0 +1,57 @@
+//! A disk that counts as failed. What it makes of the configuration is what a loss makes of it.
+ghost use Rattle.std.specs.Prelude.{◌≡◌};
+ghost use Rattle.ddf_plan.specs.Fail.{is_last, would_be_lost, any_would_be_lost, fail_refusal};
+
+use crate::refuse::{not_current, spent};
+use ddf_config::{Array, Config, Member, Refusal, Seat, is_within, slot_of};
+use indexmap::IndexMap;
+
+/// Whether no more than one member is current.
+fn is_last(config: &Config) -> bool
+    ensures { result ≡ is_last config.now }
+{
+    let current = config
+        .members
+        .iter()
+        .filter(|entry| !entry.1.missing)
+        .count();
+    current <= 1
+}
+
+/// Whether an array is within its level, and would not be with the members after.
+fn would_be_lost(
+    members: &IndexMap<u32, Member>,
+    members_after: &IndexMap<u32, Member>,
+    array: &Array,
+) -> bool
+    ensures { result ≡ would_be_lost members.now.entries members_after.now.entries array.now }
+{
+    is_within(members, array) && !is_within(members_after, array)
+}
+
+fn any_would_be_lost(config: &Config, members_after: &IndexMap<u32, Member>) -> bool
+    ensures { result ≡ any_would_be_lost config.now members_after.now.entries }
+{
+    config.arrays.iter().any(|(_, array)| would_be_lost(&config.members, members_after, array))
+}
+
+/// Why a disk can't count as failed. The members are those after the failure.
+pub(crate) fn fail_refusal(
+    config: &Config,
+    members_after: &IndexMap<u32, Member>,
+    seats: &[Seat],
+    reference: u32,
+) -> Option<Refusal>
+    ensures { result ≡ fail_refusal config.now members_after.now.entries seats.now reference }
+{
+    if let Some(refusal) = not_current(config, seats, &[reference]) {
+        return Some(refusal);
+    }
+    if is_last(config) {
+        return Some(Refusal::InUse(slot_of(seats, reference)));
+    }
+    if any_would_be_lost(config, members_after) {
+        return Some(Refusal::Lost);
+    }
+    spent(config.sequence, 2)
+}
