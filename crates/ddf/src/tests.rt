@@ -1,7 +1,10 @@
 // The program's calls over bays in memory: what is printed, and with which status.
+mod bay;
 mod copies;
 mod examine;
 mod harness;
 mod headers;
 mod label;
+mod primary;
 mod records;
+mod secondary;

@@ -12,6 +12,7 @@ reads_start a = record {
   keeps = λ s l bytes may. may;
   any_moment = record { later = omega arith; since = λ t image le left. inl left };
   none_written = refl;
+  none_asked = refl;
 }
 
 -- one call more
@@ -29,6 +30,7 @@ reads_then so_far next = record {
         (next.any_moment.since t image (omega (arith, le, so_far.any_moment.later)) left);
   };
   none_written = next.none_written ∙ so_far.none_written;
+  none_asked = next.none_asked ∙ so_far.none_asked;
 }
 
 -- one look more at a slot, behind one of which no call failed

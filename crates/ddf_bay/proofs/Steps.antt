@@ -3,7 +3,7 @@ use Rattle.std.proofs.Common.{◌≡◌, ◌≢◌, ◌⊎◌, ℕ, ◌+◌, ◌
 use Rattle.ddf_bytes.specs.Counts.{Rose}
 use Rattle.ddf_bay.specs.Sectors.{Image, Outcomes, IsLeft, InRun}
 use Rattle.ddf_bay.specs.State.{BayState}
-use Rattle.ddf_bay.specs.Moments.{StopsLeave, Spends, SpendsOver, SpendsReads, SpendsWrites, Keeps, Adds, Mixes, IsSettled, IsAmong}
+use Rattle.ddf_bay.specs.Moments.{StopsLeave, Spends, SpendsOver, Costs, SpendsReads, SpendsWrites, Keeps, Adds, Mixes, IsSettled, IsAmong}
 
 -- before the first call
 pub stops_start : {D : Type 0} (a : BayState D) (P : Image → Type 0) → StopsLeave a a P
@@ -118,7 +118,39 @@ rose_then a b c up rose later = ⊎_elim (λ below. inl (omega arith)) (λ last.
 pub rose_since : (a b c : ℕ) → a ≤ b → Rose b c → Rose a c
 rose_since a b c up rose = ⊎_elim (λ below. inl (omega arith)) inr rose
 
--- what calls on one slot cost, together
+-- what calls cost, together
+pub costs_start : {D : Type 0} (a : BayState D) → Costs a a 0 0
+costs_start a = record {
+  asked_up = omega arith;
+  asked = omega arith;
+  written_up = omega arith;
+  written = omega arith;
+  calls_up = omega arith;
+  calls_most = omega arith;
+}
+
+pub costs_then : {D : Type 0} {a b c : BayState D} {n m i j : ℕ} → Costs a b n i → Costs b c m j → Costs a c (n + m) (i + j)
+costs_then first second = record {
+  asked_up = omega (arith, first.asked_up, second.asked_up);
+  asked = omega (arith, first.asked, second.asked);
+  written_up = omega (arith, first.written_up, second.written_up);
+  written = omega (arith, first.written, second.written);
+  calls_up = omega (arith, first.calls_up, second.calls_up);
+  calls_most = omega (arith, first.calls_most, second.calls_most);
+}
+
+-- less is said of them
+pub costs_most : {D : Type 0} {a b : BayState D} {n i : ℕ} (m j : ℕ) → Costs a b n i → n ≤ m → i ≤ j → Costs a b m j
+costs_most m j costs sectors most = record {
+  asked_up = costs.asked_up;
+  asked = omega (arith, costs.asked, sectors);
+  written_up = costs.written_up;
+  written = omega (arith, costs.written, sectors);
+  calls_up = costs.calls_up;
+  calls_most = omega (arith, costs.calls_most, most);
+}
+
+-- what calls on one slot leave, together
 module _ {D : Type 0} {kept rising : BayState D → ℕ → ℕ} {slot : ℕ} where
   pub spends_start : (a : BayState D) → Spends kept rising a a slot 0 0
   spends_start a = record {
@@ -128,10 +160,7 @@ module _ {D : Type 0} {kept rising : BayState D → ℕ → ℕ} {slot : ℕ} wh
     same = refl;
     rises = λ s. omega arith;
     other_slots = λ s differs. refl;
-    written_up = omega arith;
-    written = omega arith;
-    calls_up = omega arith;
-    calls_most = omega arith;
+    costs = costs_start a;
   }
 
   pub spends_then : {a b c : BayState D} {n m i j : ℕ} → Spends kept rising a b slot n i → Spends kept rising b c slot m j
@@ -143,13 +172,10 @@ module _ {D : Type 0} {kept rising : BayState D → ℕ → ℕ} {slot : ℕ} wh
     same = second.same ∙ first.same;
     rises = λ s. omega (arith, first.rises s, second.rises s);
     other_slots = λ s differs. second.other_slots s differs ∙ first.other_slots s differs;
-    written_up = omega (arith, first.written_up, second.written_up);
-    written = omega (arith, first.written, second.written);
-    calls_up = omega (arith, first.calls_up, second.calls_up);
-    calls_most = omega (arith, first.calls_most, second.calls_most);
+    costs = costs_then first.costs second.costs;
   }
 
--- what calls on any slots cost, together
+-- what calls on any slots leave, together
 pub over_start : {D : Type 0} (a : BayState D) → SpendsOver a a 0 0
 over_start a = record {
   goes_on = λ bay leads. leads;
@@ -157,10 +183,7 @@ over_start a = record {
   same_sizes = refl;
   reads_rise = λ s. omega arith;
   writes_rise = λ s. omega arith;
-  written_up = omega arith;
-  written = omega arith;
-  calls_up = omega arith;
-  calls_most = omega arith;
+  costs = costs_start a;
 }
 
 pub over_then : {D : Type 0} {a b c : BayState D} {n m i j : ℕ} → SpendsOver a b n i → SpendsOver b c m j → SpendsOver a c (n + m) (i + j)
@@ -170,10 +193,7 @@ over_then first second = record {
   same_sizes = second.same_sizes ∙ first.same_sizes;
   reads_rise = λ s. omega (arith, first.reads_rise s, second.reads_rise s);
   writes_rise = λ s. omega (arith, first.writes_rise s, second.writes_rise s);
-  written_up = omega (arith, first.written_up, second.written_up);
-  written = omega (arith, first.written, second.written);
-  calls_up = omega (arith, first.calls_up, second.calls_up);
-  calls_most = omega (arith, first.calls_most, second.calls_most);
+  costs = costs_then first.costs second.costs;
 }
 
 -- less is said of them
@@ -184,10 +204,7 @@ over_most m j spends sectors most = record {
   same_sizes = spends.same_sizes;
   reads_rise = spends.reads_rise;
   writes_rise = spends.writes_rise;
-  written_up = spends.written_up;
-  written = omega (arith, spends.written, sectors);
-  calls_up = spends.calls_up;
-  calls_most = omega (arith, spends.calls_most, most);
+  costs = costs_most m j spends.costs sectors most;
 }
 
 -- calls on one slot
@@ -198,10 +215,7 @@ over_writes spends = record {
   same_sizes = spends.same_sizes;
   reads_rise = λ s. let same = ap (λ (counts : ℕ → ℕ). counts s) spends.same in omega (arith, same);
   writes_rise = spends.rises;
-  written_up = spends.written_up;
-  written = spends.written;
-  calls_up = spends.calls_up;
-  calls_most = spends.calls_most;
+  costs = spends.costs;
 }
 
 pub over_reads : {D : Type 0} {a b : BayState D} {slot i : ℕ} → SpendsReads a b slot i → SpendsOver a b 0 i
@@ -211,8 +225,5 @@ over_reads spends = record {
   same_sizes = spends.same_sizes;
   reads_rise = spends.rises;
   writes_rise = λ s. let same = ap (λ (counts : ℕ → ℕ). counts s) spends.same in omega (arith, same);
-  written_up = spends.written_up;
-  written = spends.written;
-  calls_up = spends.calls_up;
-  calls_most = spends.calls_most;
+  costs = spends.costs;
 }

@@ -23,6 +23,7 @@ disks_of bay = record {
   failed_reads = slice_index bay.read_faults;
   failed_writes = slice_index bay.write_faults;
   sectors_written = bay.written;
+  sectors_asked = bay.asked;
   calls = bay.made;
   leads_to = λ next. Unit {0};
 }

@@ -1,5 +1,5 @@
 -- What a bay in memory is made of, and what each call makes of it.
-use Rattle.std.specs.Prelude.{◌≡◌, ◌⊎◌, ℕ, ◌+◌, ◌-◌, ◌^◌, ◌<◌, ◌≤◌, None, List, [], ◌++◌, length, replicate, Bool, true, false, ◌==◌, ◌||◌, Option, slice_index, slice_index_or, slice_set}
+use Rattle.std.specs.Prelude.{◌≡◌, ◌⊎◌, ℕ, ◌+◌, ◌-◌, ◌^◌, ◌<◌, ◌≤◌, None, List, [], ◌++◌, length, min, replicate, Bool, true, false, ◌==◌, ◌||◌, Option, slice_index, slice_index_or, slice_set}
 use Rattle.std.specs.List.{list_any}
 use Rattle.ddf_bay.specs.Counting.{one_more, with_one_more}
 use Rattle.ddf_bay.specs.State.{BayState}
@@ -13,6 +13,8 @@ pub record MemoryState : Type 0 where
   pub records : List Record
   -- the sectors that were written so far, those included that a stop dropped
   pub written : ℕ
+  -- the sectors that it was asked to write: those of failed writes too, but for those before the last stop
+  pub asked : ℕ
   -- how many more sectors can be written
   pub room : ℕ
   -- the numbers of the calls that fail
@@ -32,6 +34,7 @@ state_of bay = record {
   sizes = bay.sizes.items;
   records = bay.log.records.items;
   written = bay.written;
+  asked = bay.asked;
   room = bay.log.room;
   failing = bay.failing.items;
   stop_after = bay.stop_after;
@@ -48,10 +51,9 @@ pub record IsHealthy (bay : MemoryState) : Type 0 where
   pub never_over : bay.stop_after ≡ None
   pub plugged : (slot : ℕ) → slice_index_or bay.unplugged slot false ≡ false
 
--- there is no room left for a run as long as one of the slots
-pub record IsShort (bay : MemoryState) : Type 0 where
-  pub slot : ℕ
-  pub less : bay.room < slice_index bay.sizes slot
+-- it was asked to write more sectors than it ever had room for
+abbrev pub IsShort : MemoryState → Type 0
+IsShort bay = bay.room + bay.written < bay.asked
 
 -- Calls keep what fails and how many sectors can be written in all. On a bay in health no call fails while there is room.
 pub record MayBecome (bay next : MemoryState) : Type 0 where
@@ -61,6 +63,7 @@ pub record MayBecome (bay next : MemoryState) : Type 0 where
   pub same_unplugged : next.unplugged ≡ bay.unplugged
   pub same_room : next.room + next.written ≡ bay.room + bay.written
   pub written_up : bay.written ≤ next.written
+  pub asked_up : bay.asked ≤ next.asked
   pub no_reads : IsHealthy bay → next.failed_reads ≡ bay.failed_reads
   pub no_writes : IsHealthy bay → (next.failed_writes ≡ bay.failed_writes) ⊎ IsShort next
 
@@ -76,6 +79,7 @@ disks_of bay = record {
   failed_reads = slice_index bay.read_faults;
   failed_writes = slice_index bay.write_faults;
   sectors_written = bay.written;
+  sectors_asked = bay.asked;
   calls = bay.made;
   leads_to = λ next. MayBecome (state_of bay) (state_of next);
 }
@@ -86,6 +90,7 @@ blank sizes writes failing stop_after = record {
   sizes = sizes;
   records = [];
   written = 0;
+  asked = 0;
   room = writes;
   failing = failing;
   stop_after = stop_after;
@@ -109,13 +114,22 @@ called bay = record bay { clock = one_more bay.clock; calls = one_more bay.calls
 abbrev pub read_failed : MemoryState → ℕ → MemoryState
 read_failed bay slot = record (called bay) { failed_reads = with_one_more bay.failed_reads slot }
 
--- a write or a sync of the slot failed
-abbrev pub write_failed : MemoryState → ℕ → MemoryState
-write_failed bay slot = record (called bay) { failed_writes = with_one_more bay.failed_writes slot }
+-- a sync of the slot failed
+abbrev pub sync_failed : MemoryState → ℕ → MemoryState
+sync_failed bay slot = record (called bay) { failed_writes = with_one_more bay.failed_writes slot }
+
+-- so many more sectors, up to the last value of the count
+abbrev pub with_asked : ℕ → ℕ → ℕ
+with_asked asked count = min (asked + count) (2 ^ 128 - 1)
+
+-- a write of so many sectors to the slot failed
+abbrev pub write_failed : MemoryState → ℕ → ℕ → MemoryState
+write_failed bay slot count = record (called bay) { failed_writes = with_one_more bay.failed_writes slot; asked = with_asked bay.asked count }
 
 -- a run was written
 abbrev pub run_written : MemoryState → ℕ → ℕ → List (List ℕ) → MemoryState
 run_written bay slot lba sectors = record (called bay) {
+  asked = with_asked bay.asked (length sectors);
   records = bay.records ++ run_records slot lba (one_more bay.clock) sectors;
   written = bay.written + length sectors;
   room = bay.room - length sectors;
@@ -129,12 +143,13 @@ synced bay slot = record (called bay) { records = settled slot (one_more bay.clo
 abbrev pub without : MemoryState → ℕ → MemoryState
 without bay slot = record bay { unplugged = slice_set bay.unplugged slot true }
 
--- a stop came, and all slots are there again
+-- a stop came, and all slots are there again: what was asked for is counted anew from what was written
 abbrev pub stopped : MemoryState → List Bool → List ℕ → Option ℕ → MemoryState
 stopped bay keep failing stop_after = record bay {
   records = survivors bay.clock keep bay.records;
   failing = failing;
   stop_after = stop_after;
   unplugged = replicate 64 false;
+  asked = bay.written;
   calls = 0;
 }

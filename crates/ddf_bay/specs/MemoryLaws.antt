@@ -121,6 +121,7 @@ becomes_start bay = record {
   same_unplugged = refl;
   same_room = refl;
   written_up = omega arith;
+  asked_up = omega arith;
   no_reads = λ healthy. refl;
   no_writes = λ healthy. inl refl;
 }

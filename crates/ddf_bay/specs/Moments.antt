@@ -17,8 +17,16 @@ GoesOn {D = D} old new = (bay : D) → new.leads_to bay → old.leads_to bay
 abbrev pub Remembers : {D : Type 0} (old new : BayState D) → Type 0
 Remembers old new = new.tells_left → (t : ℕ) (image : Image) → t ≤ old.moment → old.left_since t image → new.left_since t image
 
--- What calls on one slot leave of sizes and counts: one kind of faults stays, the other rises at most on this slot, and at
--- most so many sectors are written in at most so many calls.
+-- At most so many sectors are asked for and written, in at most so many calls, and no such count falls.
+pub record Costs {D : Type 0} (old new : BayState D) (sectors most : ℕ) : Type 0 where
+  pub asked_up : old.sectors_asked ≤ new.sectors_asked
+  pub asked : new.sectors_asked ≤ old.sectors_asked + sectors
+  pub written_up : old.sectors_written ≤ new.sectors_written
+  pub written : new.sectors_written ≤ old.sectors_written + sectors
+  pub calls_up : old.calls ≤ new.calls
+  pub calls_most : new.calls ≤ old.calls + most
+
+-- What calls on one slot leave of sizes and counts: one kind of faults stays, and the other rises at most on this slot.
 pub record Spends {D : Type 0} (kept rising : BayState D → ℕ → ℕ) (old new : BayState D) (slot sectors most : ℕ) : Type 0 where
   pub goes_on : GoesOn old new
   pub told : new.tells_left → old.tells_left
@@ -26,10 +34,7 @@ pub record Spends {D : Type 0} (kept rising : BayState D → ℕ → ℕ) (old n
   pub same : kept new ≡ kept old
   pub rises : (s : ℕ) → rising old s ≤ rising new s
   pub other_slots : (s : ℕ) → s ≢ slot → rising new s ≡ rising old s
-  pub written_up : old.sectors_written ≤ new.sectors_written
-  pub written : new.sectors_written ≤ old.sectors_written + sectors
-  pub calls_up : old.calls ≤ new.calls
-  pub calls_most : new.calls ≤ old.calls + most
+  pub costs : Costs old new sectors most
 
 -- one read of a slot
 abbrev pub SpendsReads : {D : Type 0} (old new : BayState D) → (slot most : ℕ) → Type 0
@@ -39,18 +44,14 @@ SpendsReads old new slot most = Spends (λ disks. disks.failed_writes) (λ disks
 abbrev pub SpendsWrites : {D : Type 0} (old new : BayState D) → (slot sectors most : ℕ) → Type 0
 SpendsWrites old new slot sectors most = Spends (λ disks. disks.failed_reads) (λ disks. disks.failed_writes) old new slot sectors most
 
--- What calls on any slots leave of sizes and counts: no count of faults falls, and at most so many sectors are written in at
--- most so many calls.
+-- What calls on any slots leave of sizes and counts: no count of faults falls.
 pub record SpendsOver {D : Type 0} (old new : BayState D) (sectors most : ℕ) : Type 0 where
   pub goes_on : GoesOn old new
   pub told : new.tells_left → old.tells_left
   pub same_sizes : new.sizes ≡ old.sizes
   pub reads_rise : (s : ℕ) → old.failed_reads s ≤ new.failed_reads s
   pub writes_rise : (s : ℕ) → old.failed_writes s ≤ new.failed_writes s
-  pub written_up : old.sectors_written ≤ new.sectors_written
-  pub written : new.sectors_written ≤ old.sectors_written + sectors
-  pub calls_up : old.calls ≤ new.calls
-  pub calls_most : new.calls ≤ old.calls + most
+  pub costs : Costs old new sectors most
 
 -- a stop leaves in no sector what it might not leave before
 abbrev pub Keeps : Outcomes → Outcomes → Type 0

@@ -5,7 +5,7 @@ use Rattle.ddf_bay.specs.Sectors.{IsLeft}
 use Rattle.ddf_bay.specs.State.{BayState}
 use Rattle.ddf_bay.specs.Moments.{GoesOn, StopsLeave, Keeps}
 
--- The sectors stay, a stop on the way leaves what it might have left before, and nothing was written.
+-- The sectors stay, a stop on the way leaves what it might have left before, and no write was asked for.
 pub record ReadsOnly {D : Type 0} (old new : BayState D) : Type 0 where
   pub goes_on : GoesOn old new
   pub same_sizes : new.sizes ≡ old.sizes
@@ -13,6 +13,7 @@ pub record ReadsOnly {D : Type 0} (old new : BayState D) : Type 0 where
   pub keeps : Keeps old.may_hold new.may_hold
   pub any_moment : StopsLeave old new (IsLeft old.may_hold)
   pub none_written : new.sectors_written ≡ old.sectors_written
+  pub none_asked : new.sectors_asked ≡ old.sectors_asked
 
 -- Failures of a kind were counted on one slot alone.
 pub record FaultsOn {D : Type 0} (faults : BayState D → ℕ → ℕ) (old new : BayState D) (slot : ℕ) : Type 0 where

@@ -21,6 +21,8 @@ pub record BayState (D : Type 0) : Type 1 where
   pub failed_writes : ℕ → ℕ
   -- how many sectors were written, over all slots
   pub sectors_written : ℕ
+  -- how many sectors it was asked to write: those of failed writes too
+  pub sectors_asked : ℕ
   -- how many calls were made of the five that reach a disk
   pub calls : ℕ
   -- the bays that calls may make of it: a call leads to one of these, and from there to no others

@@ -23,6 +23,7 @@ pub struct FileBay<R: Files> {
     read_faults: [u64; 64],
     write_faults: [u64; 64],
     written: u64,
+    asked: u64,
     made: u64,
     ghost few: { length sizes.items ≤ 64 },
     ghost small: { IsTrue (list_all (λ n. nat_le n (2 ^ 55)) sizes.items) },
@@ -78,6 +79,7 @@ impl<R: Files> FileBay<R> {
             read_faults: [0; 64],
             write_faults: [0; 64],
             written: 0,
+            asked: 0,
             made: 0,
         })
     }
@@ -143,10 +145,12 @@ impl<R: Files> Bay for FileBay<R> {
 
     fn write_run(&mut self, slot: usize, lba: u64, from: &[Sector]) -> Result<(), BayFailed> {
         self.made = next(self.made);
-        self.written = self.written.saturating_add(from.len() as u64);
+        self.asked = self.asked.saturating_add(from.len() as u64);
         let outcome = write_bytes(&mut self.files[slot], lba, from.as_flattened());
         if outcome.is_err() {
             raise(&mut self.write_faults, slot);
+        } else {
+            self.written = self.written.saturating_add(from.len() as u64);
         }
         outcome
     }

@@ -4,8 +4,6 @@
 mod bay;
 mod counts;
 mod disk_fault;
-#[cfg(test)]
-mod example;
 mod file;
 mod index;
 mod log;
@@ -13,8 +11,6 @@ mod memory;
 mod memory_calls;
 mod record;
 mod records;
-#[cfg(test)]
-mod tests;
 mod transfer;
 
 pub use bay::{Bay, BayFailed};

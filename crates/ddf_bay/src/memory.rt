@@ -19,6 +19,7 @@ pub struct MemoryBay {
     pub(crate) sizes: Vec<u64>,
     pub(crate) log: Log,
     pub(crate) written: u64,
+    pub(crate) asked: u128,
     pub(crate) failing: Vec<u64>,
     pub(crate) stop_after: Option<u64>,
     pub(crate) unplugged: [bool; 64],
@@ -30,6 +31,7 @@ pub struct MemoryBay {
     ghost small: { IsTrue (list_all (λ n. nat_le n (2 ^ 55)) sizes.items) },
     ghost past: { IsTrue (are_past clock log.records.items) },
     ghost counted: { written + log.room < 2 ^ 64 },
+    ghost wanted: { written ≤ asked },
 }
 
 impl MemoryBay {
@@ -57,6 +59,7 @@ impl MemoryBay {
             sizes,
             log,
             written: 0,
+            asked: 0,
             failing,
             stop_after,
             unplugged: [false; 64],
@@ -77,7 +80,8 @@ impl MemoryBay {
 
     /// A stop, and a start with other calls that fail. Of the writes that no sync made sure those are dropped whose
     /// place in `keep` isn't true: places count these writes in the order of the calls, and one past the end of `keep`
-    /// isn't true. Numbers begin at 0 again, unplugged slots are there again, and the room that is left stays.
+    /// isn't true. Numbers begin at 0 again, unplugged slots are there again, the room that is left stays, and the
+    /// sectors that were asked for are counted anew from those written.
     pub fn crash(self, keep: &[bool], failing: Vec<u64>, stop_after: Option<u64>) -> MemoryBay
         ensures state { state_of result ≡ stopped (state_of self) keep.now failing.items stop_after }
         ensures left { (disks_of self).tells_left → IsLeft (disks_of self).may_hold (disks_of result).held }
@@ -90,6 +94,7 @@ impl MemoryBay {
         bay.failing = failing;
         bay.stop_after = stop_after;
         bay.unplugged = [false; 64];
+        bay.asked = u128::from(bay.written);
         bay.made = 0;
         bay
     }

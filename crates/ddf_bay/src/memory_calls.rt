@@ -11,7 +11,7 @@ use std::slice;
 
 impl Bay for MemoryBay {
     ghost use Rattle.ddf_bay.specs.Memory.{state_of, disks_of};
-    ghost use Rattle.ddf_bay.specs.Memory.{fails_next, called, read_failed, write_failed, run_written, synced};
+    ghost use Rattle.ddf_bay.specs.Memory.{fails_next, called, read_failed, write_failed, run_written, sync_failed, synced};
     ghost use Rattle.ddf_bay.specs.MemoryLaws.{becomes_start, left_only, left_counts, size_small};
     ghost use Rattle.ddf_bay.specs.RecordLaws.{held_left, left_whole};
 
@@ -115,7 +115,7 @@ impl Bay for MemoryBay {
         // Exactly these calls fail, and this is what is left of the bay.
         ensures fails { is_err result ≡ fails_next (state_of self.old) slot || nat_lt (state_of self.old).room 1 }
         ensures state_ok { OnOk result (state_of self.new ≡ run_written (state_of self.old) slot lba (from.now ∷ [])) }
-        ensures state_failed { OnErr result (state_of self.new ≡ write_failed (state_of self.old) slot) }
+        ensures state_failed { OnErr result (state_of self.new ≡ write_failed (state_of self.old) slot 1) }
     {
         self.write_run(slot, lba, slice::from_ref(from))
     }
@@ -136,11 +136,12 @@ impl Bay for MemoryBay {
         // Exactly these calls fail, and this is what is left of the bay.
         ensures fails { is_err result ≡ fails_next (state_of self.old) slot || nat_lt (state_of self.old).room (length from.now) }
         ensures state_ok { OnOk result (state_of self.new ≡ run_written (state_of self.old) slot lba from.now) }
-        ensures state_failed { OnErr result (state_of self.new ≡ write_failed (state_of self.old) slot) }
+        ensures state_failed { OnErr result (state_of self.new ≡ write_failed (state_of self.old) slot (length from.now)) }
     {
         let fails = self.fails(slot);
         self.clock = next(self.clock);
         self.made = next(self.made);
+        self.asked = self.asked.saturating_add(from.len() as u128);
         if fails || self.log.room < from.len() {
             raise(&mut self.write_faults, slot);
             return Err(BayFailed);
@@ -165,7 +166,7 @@ impl Bay for MemoryBay {
         // Exactly these calls fail, and this is what is left of the bay.
         ensures fails { is_err result ≡ fails_next (state_of self.old) slot }
         ensures state_ok { OnOk result (state_of self.new ≡ synced (state_of self.old) slot) }
-        ensures state_failed { OnErr result (state_of self.new ≡ write_failed (state_of self.old) slot) }
+        ensures state_failed { OnErr result (state_of self.new ≡ sync_failed (state_of self.old) slot) }
     {
         let fails = self.fails(slot);
         self.clock = next(self.clock);

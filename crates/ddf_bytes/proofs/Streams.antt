@@ -3,7 +3,7 @@ use Rattle.std.proofs.Common.{◌≡◌, ℕ, ◌+◌, ◌-◌, ◌≤◌, List,
 use Rattle.std.proofs.Math.Seq.{take-add}
 use Rattle.std.proofs.lemmas.Grind.{common_steps}
 use Rattle.std.proofs.lemmas.List.{take-append-le, drop-drop, drop_at, take_at}
-use Rattle.ddf_bytes.specs.Streams.{Gives}
+use Rattle.ddf_bytes.specs.Streams.{SourceState, Gives}
 use borrow.Rule.Slice.PartMut.{put_mid}
 
 -- so many bytes more were taken, of the rest of the piece
@@ -23,14 +23,14 @@ pub length_front : (xs : List ℕ) (n : ℕ) → n ≤ length xs → length (tak
 length_front xs n within = grind (arith, common_steps)
 
 -- so many bytes more came, into the rest of the piece
-pub gives_more : (old mid new into part : List ℕ) (done count : ℕ) → done ≤ length into → length part ≡ length into - done → count ≤ length part
+pub gives_more : (old mid new : SourceState) (into part : List ℕ) (done count : ℕ) → done ≤ length into → length part ≡ length into - done → count ≤ length part
     → Gives old mid into done → Gives mid new part count → Gives old new (put_mid done (length into - done) into part) (done + count)
 gives_more old mid new into part done count within fits some so_far step =
     let rest : List ℕ = drop (length into - done) (drop done into) in
-    let later : take count part ≡ take count (drop done old) = step.first ∙ ap (take count) so_far.others in
+    let later : take count part ≡ take count (drop done old.left) = step.first ∙ ap (take count) so_far.others in
     record {
       first = take_both (take done into) part rest done count (length_front into done within) some
-          ∙ (rw (so_far.first, later) (sym (take-add done count old)));
-      enough = omega (arith, so_far.enough, step.enough, ap length so_far.others, length-drop done old);
-      others = step.others ∙ ap (drop count) so_far.others ∙ drop-drop count done old;
+          ∙ (rw (so_far.first, later) (sym (take-add done count old.left)));
+      enough = omega (arith, so_far.enough, step.enough, ap length so_far.others, length-drop done old.left);
+      others = step.others ∙ ap (drop count) so_far.others ∙ drop-drop count done old.left;
     }

@@ -3,4 +3,5 @@ pub mod Counts
 pub mod Guids
 pub mod Memory
 pub mod Stamps
+pub mod Std
 pub mod Streams

@@ -1,6 +1,7 @@
 ghost use Rattle.std.specs.Prelude.{◌≡◌, ◌≤◌, ◌<◌, ◌+◌, ◌-◌, ◌^◌, ◌++◌, ℕ, List, [], length, take, min, IfOk, OnOk, OnErr, IsErr, IsTrue, ◌↔◌, vec_len, vec_capacity};
 ghost use Rattle.ddf_bytes.specs.Counts.{Rose};
-ghost use Rattle.ddf_bytes.specs.Memory.{is_listed};
+ghost use Rattle.ddf_bytes.specs.Streams.{SinkNeverFalls};
+ghost use Rattle.ddf_bytes.specs.Memory.{is_listed, output_of};
 
 use crate::{Failed, NoMemory, Sink};
 use std::alloc::Global;
@@ -20,9 +21,9 @@ pub struct MemorySink {
 
 impl Model for MemorySink {
     ghost use Rattle.std.specs.Prelude.{◌≤◌, ◌+◌, vec_len, vec_capacity};
-    ghost use Rattle.ddf_bytes.specs.Memory.{OutputState};
+    ghost use Rattle.ddf_bytes.specs.Memory.{MemoryOutput};
 
-    ghost Value = { OutputState };
+    ghost Value = { MemoryOutput };
 
     ghost view = { λ s. record { taken = s.taken.items; room = s.room; failing = s.failing.items; calls = s.calls; faults = s.faults; empty_takes = s.empty_takes } };
 
@@ -68,11 +69,7 @@ fn push_all(taken: &mut Vec<u8>, bytes: &[u8])
 impl Sink for MemorySink {
     ghost tells = { Unit {0} };
 
-    ghost taken = { λ s. s.taken };
-
-    ghost faults = { λ s. s.faults };
-
-    ghost empty_takes = { λ s. s.empty_takes };
+    ghost output = { output_of };
 
     fn write(&mut self, piece: &[u8]) -> Result<usize, Failed>
         ensures within { IfOk result (λ count. count ≤ length piece.now) }
@@ -80,12 +77,11 @@ impl Sink for MemorySink {
         ensures bytes_failed { OnErr result (self.new.taken ≡ self.old.taken) }
         ensures ok { OnOk result (self.new.faults ≡ self.old.faults) }
         ensures failed { OnErr result (Rose self.old.faults self.new.faults) }
-        ensures never_falls { self.old.faults ≤ self.new.faults }
+        ensures never_falls { SinkNeverFalls (output_of self.old) (output_of self.new) }
         ensures some { IfOk result (λ count. 0 < count → self.new.empty_takes ≡ self.old.empty_takes) }
         ensures none { 0 < length piece.now → result ≡ Ok 0 → Rose self.old.empty_takes self.new.empty_takes }
         ensures none_of_none { length piece.now ≡ 0 → self.new.empty_takes ≡ self.old.empty_takes }
         ensures failed_takes { OnErr result (self.new.empty_takes ≡ self.old.empty_takes) }
-        ensures takes_never_fall { self.old.empty_takes ≤ self.new.empty_takes }
 
         // Exactly the listed calls fail, and the others take what fits.
         ensures listed { IsErr result ↔ IsTrue (is_listed self.old.failing self.old.calls) }

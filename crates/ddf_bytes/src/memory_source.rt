@@ -1,7 +1,7 @@
-ghost use Rattle.std.specs.Prelude.{◌≡◌, ◌≤◌, ◌<◌, ◌+◌, ◌-◌, ◌^◌, ℕ, List, [], length, drop, min, IfOk, OnOk, OnErr, IsErr, IsTrue, ◌↔◌, vec_len};
+ghost use Rattle.std.specs.Prelude.{◌≡◌, ◌≤◌, ◌<◌, ◌+◌, ◌-◌, ◌^◌, ℕ, List, [], length, take, min, IfOk, OnOk, OnErr, IsErr, IsTrue, ◌↔◌, vec_len};
 ghost use Rattle.ddf_bytes.specs.Counts.{Rose};
 ghost use Rattle.ddf_bytes.specs.Streams.{Gives};
-ghost use Rattle.ddf_bytes.specs.Memory.{is_listed};
+ghost use Rattle.ddf_bytes.specs.Memory.{is_listed, input_of};
 
 use crate::{Failed, Source};
 use std::marker::Model;
@@ -19,9 +19,9 @@ pub struct MemorySource {
 
 impl Model for MemorySource {
     ghost use Rattle.std.specs.Prelude.{◌≤◌, vec_len, drop};
-    ghost use Rattle.ddf_bytes.specs.Memory.{InputState};
+    ghost use Rattle.ddf_bytes.specs.Memory.{MemoryInput};
 
-    ghost Value = { InputState };
+    ghost Value = { MemoryInput };
 
     ghost view = { λ s. record { left = drop s.at s.bytes.items; failing = s.failing.items; calls = s.calls; faults = s.faults } };
 
@@ -46,7 +46,8 @@ impl MemorySource {
 /// Copies a front of the bytes, as many as fit.
 fn copy_front(from: &[u8], into: &mut [u8]) -> usize
     ensures count { result ≡ min (length into.old) (length from.now) }
-    ensures bytes { Gives from.now (drop result from.now) into.new result }
+    ensures bytes { take result into.new ≡ take result from.now }
+    ensures enough { result ≤ length from.now }
 {
     let count = into.len().min(from.len());
     into[..count].copy_from_slice(&from[..count]);
@@ -56,13 +57,11 @@ fn copy_front(from: &[u8], into: &mut [u8]) -> usize
 impl Source for MemorySource {
     ghost tells = { Unit {0} };
 
-    ghost left = { λ s. s.left };
-
-    ghost faults = { λ s. s.faults };
+    ghost input = { input_of };
 
     fn read(&mut self, into: &mut [u8]) -> Result<usize, Failed>
         ensures within { IfOk result (λ count. count ≤ length into.old) }
-        ensures bytes { IfOk result (Gives self.old.left self.new.left into.new) }
+        ensures bytes { IfOk result (Gives (input_of self.old) (input_of self.new) into.new) }
         ensures end { 0 < length into.old → result ≡ Ok 0 → self.old.left ≡ [] }
         ensures bytes_failed { OnErr result (self.new.left ≡ self.old.left) }
         ensures ok { OnOk result (self.new.faults ≡ self.old.faults) }

@@ -1,6 +1,6 @@
-ghost use Rattle.std.specs.Prelude.{◌≡◌, ◌≤◌, ◌<◌, ◌++◌, ℕ, List, length, take, IfOk, OnOk, OnErr, IsErrOf};
+ghost use Rattle.std.specs.Prelude.{◌≡◌, ◌≤◌, ◌<◌, ◌++◌, length, take, IfOk, OnOk, OnErr, IsErrOf};
 ghost use Rattle.ddf_bytes.specs.Counts.{Rose};
-ghost use Rattle.ddf_bytes.specs.Streams.{TakesFront};
+ghost use Rattle.ddf_bytes.specs.Streams.{SinkState, SinkNeverFalls, SinkSame, TakesFront};
 
 use crate::Failed;
 use thiserror::Error;
@@ -10,28 +10,21 @@ pub trait Sink {
     /// A sink of this type tells the bytes that it took.
     ghost tells: { Type 0 };
 
-    /// The bytes that were taken.
-    ghost taken: { Self → List ℕ };
-
-    /// How many writes failed. It stands still at its last value.
-    ghost faults: { Self → ℕ };
-
-    /// How many writes of a piece that isn't empty took nothing. It stands still at its last value.
-    ghost empty_takes: { Self → ℕ };
+    /// What it tells at this moment.
+    ghost output: { Self → SinkState };
 
     /// Writes a front of the piece and answers how many bytes of it were taken.
     fn write(&mut self, piece: &[u8]) -> Result<usize, Failed>
         ensures within { IfOk result (λ count. count ≤ length piece.now) }
-        ensures bytes { tells → IfOk result (λ count. taken self.new ≡ taken self.old ++ take count piece.now) }
-        ensures bytes_failed { tells → OnErr result (taken self.new ≡ taken self.old) }
-        ensures ok { OnOk result (faults self.new ≡ faults self.old) }
-        ensures failed { OnErr result (Rose (faults self.old) (faults self.new)) }
-        ensures never_falls { faults self.old ≤ faults self.new }
-        ensures some { IfOk result (λ count. 0 < count → empty_takes self.new ≡ empty_takes self.old) }
-        ensures none { 0 < length piece.now → result ≡ Ok 0 → Rose (empty_takes self.old) (empty_takes self.new) }
-        ensures none_of_none { length piece.now ≡ 0 → empty_takes self.new ≡ empty_takes self.old }
-        ensures failed_takes { OnErr result (empty_takes self.new ≡ empty_takes self.old) }
-        ensures takes_never_fall { empty_takes self.old ≤ empty_takes self.new };
+        ensures bytes { tells → IfOk result (λ count. (output self.new).taken ≡ (output self.old).taken ++ take count piece.now) }
+        ensures bytes_failed { tells → OnErr result ((output self.new).taken ≡ (output self.old).taken) }
+        ensures ok { OnOk result ((output self.new).faults ≡ (output self.old).faults) }
+        ensures failed { OnErr result (Rose (output self.old).faults (output self.new).faults) }
+        ensures some { IfOk result (λ count. 0 < count → (output self.new).empty_takes ≡ (output self.old).empty_takes) }
+        ensures none { 0 < length piece.now → result ≡ Ok 0 → Rose (output self.old).empty_takes (output self.new).empty_takes }
+        ensures none_of_none { length piece.now ≡ 0 → (output self.new).empty_takes ≡ (output self.old).empty_takes }
+        ensures failed_takes { OnErr result ((output self.new).empty_takes ≡ (output self.old).empty_takes) }
+        ensures never_falls { SinkNeverFalls (output self.old) (output self.new) };
 }
 
 /// Why the output could not be written.
@@ -47,14 +40,12 @@ pub enum SinkFault {
 
 /// Writes the whole piece. After a fault a front of it was taken.
 pub fn write_all<K: Sink>(sink: &mut K, piece: &[u8]) -> Result<(), SinkFault>
-    ensures written { K.tells → OnOk result (K.taken sink.new ≡ K.taken sink.old ++ piece.now) }
-    ensures front { K.tells → TakesFront (K.taken sink.old) (K.taken sink.new) piece.now }
-    ensures ok { OnOk result (K.faults sink.new ≡ K.faults sink.old) }
-    ensures ok_takes { OnOk result (K.empty_takes sink.new ≡ K.empty_takes sink.old) }
-    ensures failed { IsErrOf result SinkFault.Failed → Rose (K.faults sink.old) (K.faults sink.new) }
-    ensures nothing { IsErrOf result SinkFault.Nothing → Rose (K.empty_takes sink.old) (K.empty_takes sink.new) }
-    ensures never_falls { K.faults sink.old ≤ K.faults sink.new }
-    ensures takes_never_fall { K.empty_takes sink.old ≤ K.empty_takes sink.new }
+    ensures written { K.tells → OnOk result ((K.output sink.new).taken ≡ (K.output sink.old).taken ++ piece.now) }
+    ensures front { K.tells → TakesFront (K.output sink.old) (K.output sink.new) piece.now }
+    ensures ok { OnOk result (SinkSame (K.output sink.old) (K.output sink.new)) }
+    ensures failed { IsErrOf result SinkFault.Failed → Rose (K.output sink.old).faults (K.output sink.new).faults }
+    ensures nothing { IsErrOf result SinkFault.Nothing → Rose (K.output sink.old).empty_takes (K.output sink.new).empty_takes }
+    ensures never_falls { SinkNeverFalls (K.output sink.old) (K.output sink.new) }
 {
     let mut done = 0;
     while done < piece.len() {

@@ -1,4 +1,4 @@
-ghost use Rattle.std.specs.Prelude.{[]};
+ghost use Rattle.std.specs.Prelude.{◌≡◌};
 
 use crate::{Failed, Sink};
 use std::io::Write;
@@ -13,8 +13,13 @@ pub struct StdSink<W> {
 }
 
 impl<W> StdSink<W> {
-    /// A sink over this writer.
-    pub fn new(writer: W) -> StdSink<W> {
+    ghost use Rattle.ddf_bytes.specs.Std.{std_output};
+
+    /// A sink over this writer, of which no write failed or took nothing yet.
+    pub fn new(writer: W) -> StdSink<W>
+        ensures faults { (std_output result).faults ≡ 0 }
+        ensures empty_takes { (std_output result).empty_takes ≡ 0 }
+    {
         StdSink {
             writer,
             faults: 0,
@@ -26,11 +31,9 @@ impl<W> StdSink<W> {
 impl<W: Write> Sink for StdSink<W> {
     ghost tells = { ⊥ };
 
-    ghost taken = { λ s. [] };
+    ghost use Rattle.ddf_bytes.specs.Std.{std_output};
 
-    ghost faults = { λ s. s.faults };
-
-    ghost empty_takes = { λ s. s.empty_takes };
+    ghost output = { std_output };
 
     fn write(&mut self, piece: &[u8]) -> Result<usize, Failed> {
         match self.writer.write(piece) {

@@ -1,4 +1,4 @@
-ghost use Rattle.std.specs.Prelude.{[]};
+ghost use Rattle.std.specs.Prelude.{◌≡◌};
 
 use crate::{Failed, Source};
 use std::io::Read;
@@ -12,8 +12,12 @@ pub struct StdSource<R> {
 }
 
 impl<R> StdSource<R> {
-    /// A source over this reader.
-    pub fn new(reader: R) -> StdSource<R> {
+    ghost use Rattle.ddf_bytes.specs.Std.{std_input};
+
+    /// A source over this reader, of which no read failed yet.
+    pub fn new(reader: R) -> StdSource<R>
+        ensures { (std_input result).faults ≡ 0 }
+    {
         StdSource { reader, faults: 0 }
     }
 }
@@ -21,9 +25,9 @@ impl<R> StdSource<R> {
 impl<R: Read> Source for StdSource<R> {
     ghost tells = { ⊥ };
 
-    ghost left = { λ s. [] };
+    ghost use Rattle.ddf_bytes.specs.Std.{std_input};
 
-    ghost faults = { λ s. s.faults };
+    ghost input = { std_input };
 
     fn read(&mut self, into: &mut [u8]) -> Result<usize, Failed> {
         match self.reader.read(into) {

@@ -8,16 +8,18 @@ use Rattle.ddf_bay.specs.State.{BayState}
 use Rattle.ddf_bay.proofs.Looks.{reads_start}
 use Rattle.ddf_bay.proofs.Steps.{stops_start}
 use Rattle.ddf_update.specs.Group.{IsLeftFoundingAll}
+use Rattle.ddf_bytes.specs.Streams.{SinkState}
+use Rattle.ddf_command.specs.Call.{Answer, Work, answer_of, work_of}
 use Rattle.ddf_command.specs.Examine.{IsExamined, some_failed}
 use Rattle.ddf_command.specs.Run.{IsDone, SomeSlotRose}
-use Rattle.ddf_command.specs.declared.command.Command.{Command}
-use Rattle.ddf_command.specs.declared.command.Command.TheVariants.{Examine, Label}
+use Rattle.ddf_words.specs.declared.command.Command.{Command}
+use Rattle.ddf_words.specs.declared.command.Command.TheVariants.{Examine, Label}
 use Rattle.ddf_command.specs.declared.failure.Failure.TheVariants.{Memory}
 use Rattle.ddf_command.specs.Label.{label_copy, label_slots}
-use Rattle.ddf_command.specs.declared.command.Asked.{Asked}
-use Rattle.ddf_command.specs.declared.words.WordFault.{WordFault}
-use Rattle.ddf_command.specs.declared.words.WordFault.TheVariants as words
-use Rattle.ddf_command.specs.Words.{Word, GoWrongAt}
+use Rattle.ddf_words.specs.declared.command.Asked.{Asked}
+use Rattle.ddf_words.specs.declared.words.WordFault.{WordFault}
+use Rattle.ddf_words.specs.declared.words.WordFault.TheVariants as words
+use Rattle.ddf_words.specs.Words.{Word, GoWrongAt}
 use Rattle.ddf_command.specs.Status.{code_of}
 use Rattle.ddf_command.specs.declared.status.Status.{Status}
 use Rattle.ddf_command.specs.declared.status.Status.TheVariants as status
@@ -41,36 +43,34 @@ fault_status : (b : Bool) (status : ℕ) → status ≡ 3 → status ≡ (if b t
 fault_status true status three e = refl
 fault_status false status three e = absurd (omega (arith, three, e))
 
-module _ {D : Type 0} (old new : BayState D) (told : Type 0) (before after : List ℕ) where
-  slot_rose : (status : ℕ) → (examined : IsExamined old new told before after status) → some_failed examined.failed ≡ true → SomeSlotRose old new
-  slot_rose status examined some =
+module _ {D : Type 0} (work : Work D) (answer : Answer) where
+  slot_rose : (examined : IsExamined work answer) → some_failed examined.failed ≡ true → SomeSlotRose work.old work.new
+  slot_rose examined some =
       let first = first_failed examined.failed some in
       record { slot = first.0; there = omega (arith, first.1.0, examined.every_slot); rose = examined.are_failed.rose first.0 first.1.0 first.1.1 }
 
   -- status 3 comes from a slot
-  pub fault_cause : (status : ℕ) → IsExamined old new told before after status → status ≡ 3 → SomeSlotRose old new
-  fault_cause status examined e = ⊎_elim
-      (λ ends. slot_rose status examined (fault_status (some_failed examined.failed) status e ends))
+  pub fault_cause : IsExamined work answer → answer.status ≡ 3 → SomeSlotRose work.old work.new
+  fault_cause examined e = ⊎_elim
+      (λ ends. slot_rose examined (fault_status (some_failed examined.failed) answer.status e ends))
       (λ short. absurd (⊎_elim (λ five. omega (arith, e, five)) (λ six. omega (arith, e, six)) short))
-      examined.ends_with.ends
+      examined.ends
 
   -- where nothing failed it is done, or memory ran out
-  pub no_fault : (status : ℕ) → IsExamined old new told before after status → (SomeSlotRose old new → ⊥) → (status ≡ 6 → ⊥) → (status ≡ 0) ⊎ (status ≡ 5)
-  no_fault status examined none good = ⊎_elim
-      (λ ends. by_test (some_failed examined.failed) (λ some. absurd (none (slot_rose status examined some))) (λ quiet. inl (quiet_status (some_failed examined.failed) status ends quiet)))
+  pub no_fault : IsExamined work answer → (SomeSlotRose work.old work.new → ⊥) → (answer.status ≡ 6 → ⊥) → (answer.status ≡ 0) ⊎ (answer.status ≡ 5)
+  no_fault examined none good = ⊎_elim
+      (λ ends. by_test (some_failed examined.failed) (λ some. absurd (none (slot_rose examined some))) (λ quiet. inl (quiet_status (some_failed examined.failed) answer.status ends quiet)))
       (λ short. ⊎_elim inr (λ six. absurd (good six)) short)
-      examined.ends_with.ends
+      examined.ends
 
 -- nothing was done before memory ran out
-nothing_done : {D : Type 0} (old : BayState D) (told : Type 0) (before : List ℕ) → IsExamined old old told before before 5
-nothing_done old told before = record {
+nothing_done : {D : Type 0} (old : BayState D) (tells told : Type 0) (before : SinkState) → IsExamined (work_of tells old old) (answer_of told before before 5)
+nothing_done old tells told before = record {
   failed = replicate (length old.sizes) false;
   every_slot = length-replicate (length old.sizes) false;
   are_failed = failed_padded old old [] (length old.sizes) (record { rose = λ s lt. absurd (omega (arith, lt)); same = λ s lt. absurd (omega (arith, lt)) }) (λ s le. (refl, refl));
-  ends_with = record {
-    ends = inr (inl refl);
-    tells = λ tells. record { whole = λ low. absurd (omega (arith, low)); front = record { count = 0; within = omega arith; front = sym (append-nil before) } };
-  };
+  ends = inr (inl refl);
+  tells = λ disks output. record { whole = λ low. absurd (omega (arith, low)); front = record { count = 0; within = omega arith; front = sym (append-nil before.taken) } };
 }
 
 -- words go wrong at one place
@@ -93,11 +93,11 @@ stream_status status.DiskFault e = absurd (omega (arith, e))
 stream_status status.Memory e = absurd (omega (arith, e))
 stream_status status.Stream e = refl
 
-pub done_nothing : {D : Type 0} (old : BayState D) (tells told : Type 0) (before : List ℕ) (stamp : Stamp) (command : Command)
-    → IsDone old old tells told before before stamp command 5
-done_nothing old tells told before stamp Examine = nothing_done old (tells × told) before
+pub done_nothing : {D : Type 0} (old : BayState D) (tells told : Type 0) (before : SinkState) (stamp : Stamp) (command : Command)
+    → IsDone (work_of tells old old) stamp command (answer_of told before before 5)
+done_nothing old tells told before stamp Examine = nothing_done old tells told before
 done_nothing old tells told before stamp (Label slots) = record {
-  answer = Err Memory;
+  outcome = Err Memory;
   tried = reads_start old;
   ends = (refl, λ told. refl);
   any_moment = λ tells. stops_start old (IsLeftFoundingAll old (label_slots old.sizes slots) (label_copy stamp old.sizes slots));

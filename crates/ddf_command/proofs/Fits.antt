@@ -13,10 +13,10 @@ use Rattle.ddf_copy.specs.declared.fault.AnchorFault.{AnchorFault}
 use Rattle.ddf_copy.specs.declared.fault.AnchorFault.TheVariants as anchors
 use Rattle.ddf_copy.specs.declared.fault.AnchorFault.TheVariants.{Blank, Damaged}
 use Rattle.ddf_copy.specs.Anchor.{anchor_at}
-use Rattle.ddf_command.proofs.Finds.{none_is}
-use Rattle.ddf_command.specs.declared.refusal.FullTable.TheVariants.{Disks}
-use Rattle.ddf_command.specs.declared.refusal.Refusal.{Refusal}
-use Rattle.ddf_command.specs.declared.refusal.Refusal.TheVariants.{Full, NoSlot, NotBlank, Small}
+use Rattle.ddf_words.proofs.Finds.{none_is}
+use Rattle.ddf_config.specs.declared.refusal.FullTable.TheVariants.{Disks}
+use Rattle.ddf_config.specs.declared.refusal.Refusal.{Refusal}
+use Rattle.ddf_config.specs.declared.refusal.Refusal.TheVariants.{Full, NoSlot, NotBlank, Small}
 use Rattle.ddf_update.specs.Group.{slot_sizes}
 use Rattle.ddf_command.specs.Labels.{IsFit, chosen, is_anchored, is_blank, is_small, label_refusal, least_sectors, misfit, missing, most_disks, unfit}
 

@@ -1,12 +1,6 @@
-mod Lists
-mod Grammar
-mod Numbers
 mod Partway
 mod Told
-mod Names
-mod Listings
 mod Endings
-mod Finds
 mod Chosen
 mod Fits
 mod LabelEnds

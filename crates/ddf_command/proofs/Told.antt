@@ -3,14 +3,15 @@ use Rattle.std.proofs.Common.{◌≡◌, ⊎_elim, inl, inr, ℕ, List, false, R
 use Rattle.std.specs.Prelude.{IfOk, OnOk, slice_index}
 use Rattle.std.specs.Result.{is_err}
 use Rattle.ddf_bay.specs.Sectors.{Image}
-use Rattle.ddf_command.specs.declared.disk.DiskView.{DiskView}
+use Rattle.ddf_text.specs.declared.view.DiskView.{DiskView}
 use Rattle.ddf_copy.specs.declared.fault.ShowFault.{ShowFault}
 use Rattle.ddf_copy.specs.declared.fault.ShowFault.TheVariants.{Disk, Memory}
 use Rattle.ddf_copy.specs.Faults.{show_failed}
 use Rattle.ddf_command.specs.Disk.{disk_view}
 use Rattle.ddf_command.specs.Examine.{one_text}
+use Rattle.ddf_command.specs.Call.{Answer}
 use Rattle.ddf_command.specs.Tells.{ClosesWith, EndsWith}
-use Rattle.ddf_command.specs.Report.{IsTold, report_text}
+use Rattle.ddf_text.specs.Report.{IsTold, report_text}
 
 pub told_text : (slot size : ℕ) (sizes : List ℕ) (held : Image) (view : Result DiskView ShowFault) → size ≡ slice_index sizes slot → IsTold view
     → IfOk view (λ v. v ≡ disk_view (slice_index sizes slot) (held slot)) → report_text slot size view ≡ one_text slot (show_failed view) sizes held
@@ -24,5 +25,5 @@ on_ok (Ok x) e holds = holds
 on_ok (Err fault) e holds = cc
 
 -- what a call tells without memory it tells
-pub closes_ends : {expected : ℕ} {text : List ℕ} {told : Type 0} {before after : List ℕ} {status : ℕ} → ClosesWith expected text told before after status → EndsWith expected text told before after status
+pub closes_ends : {expected : ℕ} {text : List ℕ} {answer : Answer} → ClosesWith expected text answer → EndsWith expected text answer
 closes_ends closes = record { ends = ⊎_elim inl (λ six. inr (inr six)) closes.ends; tells = closes.tells }

@@ -9,11 +9,11 @@ use Rattle.ddf_copy.specs.declared.fault.AnchorFault.{AnchorFault}
 use Rattle.ddf_copy.specs.declared.fault.AnchorFault.TheVariants.{Damaged}
 use Rattle.ddf_copy.specs.Anchor.{anchor_at}
 use Rattle.ddf_copy.specs.Copies.{copies_of}
-use Rattle.ddf_command.specs.declared.disk.HeaderView.{HeaderView}
-use Rattle.ddf_command.specs.declared.disk.HeaderView.TheVariants as header_views
-use Rattle.ddf_command.specs.declared.disk.Headers.{Headers}
-use Rattle.ddf_command.specs.declared.disk.DiskView.{DiskView}
-use Rattle.ddf_command.specs.declared.disk.DiskView.TheVariants as views
+use Rattle.ddf_text.specs.declared.view.HeaderView.{HeaderView}
+use Rattle.ddf_text.specs.declared.view.HeaderView.TheVariants as header_views
+use Rattle.ddf_text.specs.declared.view.Headers.{Headers}
+use Rattle.ddf_text.specs.declared.view.DiskView.{DiskView}
+use Rattle.ddf_text.specs.declared.view.DiskView.TheVariants as views
 
 abbrev pub decoded_view : Result Header HeaderFault → HeaderView
 decoded_view (Ok header) = header_views.Header header

@@ -11,9 +11,9 @@ use Rattle.ddf_copy.specs.declared.fault.AnchorFault.TheVariants.{Blank}
 use Rattle.ddf_copy.specs.Anchor.{anchor_at}
 use Rattle.ddf_command.specs.declared.failure.Failure.{Failure}
 use Rattle.ddf_command.specs.declared.failure.Failure.TheVariants.{Disk, Memory, Refused}
-use Rattle.ddf_command.specs.declared.refusal.FullTable.TheVariants.{Disks}
-use Rattle.ddf_command.specs.declared.refusal.Refusal.{Refusal}
-use Rattle.ddf_command.specs.declared.refusal.Refusal.TheVariants.{Full, NoSlot, NotBlank, Small}
+use Rattle.ddf_config.specs.declared.refusal.FullTable.TheVariants.{Disks}
+use Rattle.ddf_config.specs.declared.refusal.Refusal.{Refusal}
+use Rattle.ddf_config.specs.declared.refusal.Refusal.TheVariants.{Full, NoSlot, NotBlank, Small}
 
 -- ---- which slots
 

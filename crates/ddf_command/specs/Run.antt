@@ -1,15 +1,16 @@
 -- What a call of the program does, by the command that its words ask for. Each command has its case in each definition.
-use Rattle.std.specs.Prelude.{◌≡◌, ◌⊎◌, ℕ, ◌<◌, List, length, Bool, true, false}
-use Rattle.ddf_bytes.specs.Counts.{Rose}
+use Rattle.std.specs.Prelude.{◌≡◌, ℕ, ◌<◌, List, [], ◌∷◌, length, Bool, true, false, ◌==◌}
+use Rattle.std.specs.List.{list_any}
 use Rattle.ddf_bytes.specs.declared.stamp.Stamp.{Stamp}
 use Rattle.ddf_bay.specs.State.{BayState}
-use Rattle.ddf_command.specs.declared.command.Command.{Command}
-use Rattle.ddf_command.specs.declared.command.Command.TheVariants.{Examine, Label}
+use Rattle.ddf_words.specs.declared.command.Command.{Command}
+use Rattle.ddf_words.specs.declared.command.Command.TheVariants.{Examine, Label}
 use Rattle.ddf_bay.specs.ReadsOnly.{SlotRose}
+use Rattle.ddf_command.specs.Call.{Answer, Work}
 use Rattle.ddf_command.specs.Examine.{IsExamined}
 use Rattle.ddf_command.specs.Label.{IsLabelled}
-use Rattle.ddf_command.specs.Words.{Word, IsAsked}
-use Rattle.ddf_command.specs.declared.command.Asked.{Asked}
+use Rattle.ddf_words.specs.Words.{Word, IsAsked}
+use Rattle.ddf_words.specs.declared.command.Asked.{Asked}
 
 -- whether a command may write to the disks
 abbrev pub may_write : Command → Bool
@@ -26,18 +27,20 @@ abbrev pub AsksForNoWrite : List Word → Type 0
 AsksForNoWrite words = (asked : Asked) → IsAsked words asked → may_write asked.command ≡ false
 
 -- the command was done, or it told why not, or was cut short
-abbrev pub IsDone : {D : Type 0} (old new : BayState D) → (tells told : Type 0) → (before after : List ℕ) → Stamp → Command → ℕ → Type 0
-IsDone old new tells told before after stamp Examine status =
-    IsExamined old new (tells × told) before after status
-IsDone old new tells told before after stamp (Label slots) status =
-    IsLabelled old new tells told before after stamp slots status
+abbrev pub IsDone : {D : Type 0} → Work D → Stamp → Command → Answer → Type 0
+IsDone work stamp Examine answer = IsExamined work answer
+IsDone work stamp (Label slots) answer = IsLabelled work stamp slots answer
+
+-- the statuses that a call may end with
+abbrev pub is_status : ℕ → Bool
+is_status number = list_any (λ status. status == number) (0 ∷ 1 ∷ 2 ∷ 3 ∷ 5 ∷ 6 ∷ [])
+
+-- those of calls that wrote nothing: it was refused, the words were no command's, or memory ran out
+abbrev pub is_unwritten : ℕ → Bool
+is_unwritten number = list_any (λ status. status == number) (1 ∷ 2 ∷ 5 ∷ [])
 
 -- A call on some slot failed.
 pub record SomeSlotRose {D : Type 0} (old new : BayState D) : Type 0 where
   pub slot : ℕ
   pub there : slot < length old.sizes
   pub rose : SlotRose old new slot
-
--- A call on an output failed, or took nothing.
-abbrev pub SinkRose : {D : Type 0} → (D → ℕ) → (D → ℕ) → D → D → Type 0
-SinkRose faults empty_takes old new = Rose (faults old) (faults new) ⊎ Rose (empty_takes old) (empty_takes new)

@@ -8,40 +8,10 @@ ghost use Rattle.ddf_command.specs.Disk.{decoded_view, disk_view, header_view, h
 
 use ddf_bay::Bay;
 use ddf_bytes::Sector;
-use ddf_copy::{AnchorFault, Copies, ShowFault, anchor_of, copies_of};
-use ddf_header::{Header, HeaderFault, HeaderKind, decode};
+use ddf_copy::{AnchorFault, ShowFault, anchor_of, copies_of};
+use ddf_header::{Header, HeaderKind, decode};
+use ddf_text::{DiskView, HeaderView, Headers};
 use std::alloc::Global;
-
-/// What stands where the anchor says that a header is.
-#[derive(Clone, Copy, Debug, PartialEq, Eq)]
-pub(crate) enum HeaderView {
-    /// A header of the kind.
-    Header(Header),
-    /// No sector: the disk ends before.
-    Room,
-    /// No header of the kind.
-    Fault(HeaderFault),
-}
-
-/// The three headers of a disk, and its copies.
-#[derive(Debug, Drop)]
-pub(crate) struct Headers {
-    pub anchor: Header,
-    pub primary: HeaderView,
-    pub secondary: HeaderView,
-    pub copies: Copies,
-}
-
-/// What a slot shows of itself.
-#[derive(Debug, Drop)]
-pub(crate) enum DiskView {
-    /// It has no anchor: it has no sector, or its last one has another signature.
-    Blank,
-    /// Its anchor is wrong.
-    Damaged(HeaderFault),
-    /// Its headers and copies.
-    Headers(Headers),
-}
 
 /// Reads what the slot shows of itself.
 #[tactic(auto, unfolding(crate::specs::Disk::disk_view))]

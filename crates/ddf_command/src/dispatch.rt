@@ -1,22 +1,25 @@
 // The call that the program makes.
-ghost use Rattle.std.specs.Prelude.{◌≡◌, ◌⊎◌, ℕ, true, length};
+ghost use Rattle.std.specs.Prelude.{◌≡◌, ◌⊎◌, ℕ, true, length, IsTrue};
 ghost use Rattle.ddf_bay.specs.Moments.{GoesOn};
 ghost use Rattle.ddf_bay.specs.ReadsOnly.{ReadsOnly};
-ghost use Rattle.ddf_command.specs.declared.command.Asked.{Asked};
-ghost use Rattle.ddf_command.specs.Refusal.{words_refusal};
-ghost use Rattle.ddf_command.specs.Run.{IsDone, AsksForNoWrite, SomeSlotRose, SinkRose, may_refuse};
+ghost use Rattle.ddf_words.specs.declared.command.Asked.{Asked};
+ghost use Rattle.ddf_text.specs.Refusal.{refusal_line};
+ghost use Rattle.ddf_bytes.specs.Streams.{SinkRose};
+ghost use Rattle.ddf_command.specs.Call.{answer_of, work_of};
+ghost use Rattle.ddf_command.specs.Run.{IsDone, AsksForNoWrite, SomeSlotRose, is_status, is_unwritten, may_refuse};
 ghost use Rattle.ddf_command.specs.Status.{code_of};
 ghost use Rattle.ddf_command.specs.Tells.{EndsWith};
-ghost use Rattle.ddf_command.specs.Words.{words_of, slot_count, GoWrongAt, IsAccepted, IsAsked};
+ghost use Rattle.ddf_words.specs.Words.{words_of, slot_count, GoWrongAt, IsAccepted, IsAsked};
 
-use crate::command::Command;
-use crate::examine::examine;
-use crate::label::label;
+use crate::commands::examine::examine;
+use crate::commands::label::label;
 use crate::status::Status;
 use crate::tell::tell;
-use crate::words::{WordFault, asked};
 use ddf_bay::Bay;
 use ddf_bytes::{Sink, Source, Stamp};
+use ddf_config::Refusal;
+use ddf_text::RefusalText;
+use ddf_words::{Command, WordFault, asked};
 use std::alloc::Global;
 
 /// Does what the words ask for, over the bay of the images that they name, and answers the exit status:
@@ -32,11 +35,15 @@ pub fn run<B: Bay, S: Source, K: Sink>(
     requires slots { length (B.disks bay.old).sizes ≡ slot_count (words_of words.now) }
 
     // Words that are no command's are refused at the place where they go wrong, and no others are.
-    ensures wrong_words { (place : ℕ) → GoWrongAt IsAccepted (words_of words.now) place → EndsWith 2 (words_refusal place) K.tells (K.taken sink.old) (K.taken sink.new) result }
+    ensures wrong_words { (place : ℕ) → GoWrongAt IsAccepted (words_of words.now) place → EndsWith 2 (refusal_line (Refusal.Words place)) (answer_of K.tells (K.output sink.old) (K.output sink.new) result) }
     ensures wrong_words_only { result ≡ 2 → (place : ℕ) × GoWrongAt IsAccepted (words_of words.now) place }
 
     // What is told, and with which status.
-    ensures done { (asked : Asked) → IsAsked (words_of words.now) asked → IsDone (B.disks bay.old) (B.disks bay.new) B.tells K.tells (K.taken sink.old) (K.taken sink.new) stamp asked.command result }
+    ensures done { (asked : Asked) → IsAsked (words_of words.now) asked → IsDone (work_of B.tells (B.disks bay.old) (B.disks bay.new)) stamp asked.command (answer_of K.tells (K.output sink.old) (K.output sink.new) result) }
+
+    // It ends with one of these statuses, and at those of these that are unwritten no sector was written.
+    ensures status { IsTrue (is_status result) }
+    ensures unwritten { IsTrue (is_unwritten result) → ReadsOnly (B.disks bay.old) (B.disks bay.new) }
 
     // What stays.
     ensures stays { AsksForNoWrite (words_of words.now) → ReadsOnly (B.disks bay.old) (B.disks bay.new) }
@@ -45,9 +52,9 @@ pub fn run<B: Bay, S: Source, K: Sink>(
 
     // Each status has its cause.
     ensures disk_fault { result ≡ 3 → SomeSlotRose (B.disks bay.old) (B.disks bay.new) }
-    ensures stream_fault { result ≡ 6 → SinkRose K.faults K.empty_takes sink.old sink.new }
+    ensures stream_fault { result ≡ 6 → SinkRose (K.output sink.old) (K.output sink.new) }
     ensures complete { (asked : Asked) → IsAsked (words_of words.now) asked → (SomeSlotRose (B.disks bay.old) (B.disks bay.new) → ⊥)
-        → (SinkRose K.faults K.empty_takes sink.old sink.new → ⊥) → (result ≡ 0) ⊎ (result ≡ 5) ⊎ ((result ≡ 1) × (may_refuse asked.command ≡ true)) }
+        → (SinkRose (K.output sink.old) (K.output sink.new) → ⊥) → (result ≡ 0) ⊎ (result ≡ 5) ⊎ ((result ≡ 1) × (may_refuse asked.command ≡ true)) }
 {
     match asked(alloc, words) {
         Ok(asked) => match asked.command {
@@ -61,10 +68,10 @@ pub fn run<B: Bay, S: Source, K: Sink>(
 
 /// Prints the refusal of words that go wrong at a place.
 fn refuse_words<K: Sink>(alloc: Global, place: usize, sink: &mut K) -> Status
-    ensures ends { EndsWith 2 (words_refusal place) K.tells (K.taken sink.old) (K.taken sink.new) (code_of result) }
-    ensures stream { result ≡ Status.Stream → SinkRose K.faults K.empty_takes sink.old sink.new }
+    ensures ends { EndsWith 2 (refusal_line (Refusal.Words place)) (answer_of K.tells (K.output sink.old) (K.output sink.new) (code_of result)) }
+    ensures stream { result ≡ Status.Stream → SinkRose (K.output sink.old) (K.output sink.new) }
 {
-    match format!(in alloc; "refused 10 word {place}\n") {
+    match format!(in alloc; "{}\n", RefusalText(Refusal::Words(place))) {
         Ok(line) => tell(sink, line.as_bytes(), Status::Words),
         Err(_) => Status::Memory,
     }

@@ -1,24 +1,13 @@
-//! The commands of `ddf`: its words, its text, and the call that the program makes.
+//! The commands of `ddf`, and the call that the program makes.
 #![tactic(auto)]
 
-mod command;
+mod commands;
 mod disk;
 mod dispatch;
-mod examine;
 mod failure;
-mod label;
-mod label_slots;
-mod listing;
-mod name;
-mod reason;
-mod records;
-mod refusal;
-mod report;
-mod slot_words;
 mod status;
 mod tell;
-mod words;
 
-pub use command::{Asked, Command};
+pub use ddf_config::{FullTable, Refusal};
+pub use ddf_words::{Asked, Command, WordFault, asked, image_paths, slot_paths};
 pub use dispatch::run;
-pub use words::{WordFault, asked, image_paths, slot_paths};

@@ -1,6 +1,7 @@
 // What a command prints at its end.
 ghost use Rattle.std.specs.Prelude.{◌≡◌, ◌<◌};
-ghost use Rattle.ddf_command.specs.Run.{SinkRose};
+ghost use Rattle.ddf_bytes.specs.Streams.{SinkRose};
+ghost use Rattle.ddf_command.specs.Call.{answer_of};
 ghost use Rattle.ddf_command.specs.Status.{code_of};
 ghost use Rattle.ddf_command.specs.Tells.{ClosesWith};
 
@@ -10,8 +11,8 @@ use ddf_bytes::{Sink, write_all};
 /// Prints a text, with which a command ends with this status. It takes no memory.
 pub(crate) fn tell<K: Sink>(sink: &mut K, text: &[u8], status: Status) -> Status
     requires { code_of status < 5 }
-    ensures ends { ClosesWith (code_of status) text.now K.tells (K.taken sink.old) (K.taken sink.new) (code_of result) }
-    ensures stream { result ≡ Status.Stream → SinkRose K.faults K.empty_takes sink.old sink.new }
+    ensures ends { ClosesWith (code_of status) text.now (answer_of K.tells (K.output sink.old) (K.output sink.new) (code_of result)) }
+    ensures stream { result ≡ Status.Stream → SinkRose (K.output sink.old) (K.output sink.new) }
 {
     match write_all(sink, text) {
         Ok(()) => status,

@@ -18,6 +18,3 @@ pub use laws::{
 pub use layout::Layout;
 pub use parity::ParityLayout;
 pub use shape::Shape;
-
-#[cfg(test)]
-mod tests;

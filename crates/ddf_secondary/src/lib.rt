@@ -21,6 +21,3 @@ pub use laws::{
 pub use level::SecondaryLevel;
 pub use spot::Spot;
 pub use tiers::Tiers;
-
-#[cfg(test)]
-mod tests;

@@ -2,7 +2,7 @@ use Rattle.std.proofs.Common.{◌≡◌, ◌∙◌, Ok, ap, refl, rules, ⊎_eli
 use Rattle.std.specs.Prelude.{slice_index}
 use Rattle.ddf_bay.proofs.Looks.{looks_then, reads_then}
 use Rattle.ddf_copy.specs.Anchor.{anchor_at}
-use Rattle.ddf_command.specs.declared.disk.DiskView.TheVariants as views
+use Rattle.ddf_text.specs.declared.view.DiskView.TheVariants as views
 use Rattle.ddf_command.specs.Disk.{anchored_view, disk_view, headers_view}
 use Rattle.ddf_command.proofs.disk.view_disk.Goals as goal
 

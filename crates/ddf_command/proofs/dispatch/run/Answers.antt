@@ -1,8 +1,10 @@
 use Rattle.std.proofs.Common.{◌≡◌, ◌∙◌, ℕ, Err, sym, ap, subst, inl, inr, ⊎_elim, refl}
-use Rattle.ddf_command.specs.declared.command.Asked.{Asked}
-use Rattle.ddf_command.specs.declared.command.Command.TheVariants.{Examine, Label}
-use Rattle.ddf_command.specs.Words.{words_of, IsAccepted}
-use Rattle.ddf_command.specs.Refusal.{words_refusal}
+use Rattle.ddf_words.specs.declared.command.Asked.{Asked}
+use Rattle.ddf_words.specs.declared.command.Command.TheVariants.{Examine, Label}
+use Rattle.ddf_words.specs.Words.{words_of, IsAccepted}
+use Rattle.ddf_config.specs.declared.refusal.Refusal.TheVariants.{Words}
+use Rattle.ddf_text.specs.Refusal.{refusal_line}
+use Rattle.ddf_command.specs.Call.{answer_of}
 use Rattle.ddf_command.specs.Tells.{EndsWith}
 use Rattle.ddf_command.proofs.Endings.{fault_cause, no_fault, done_nothing, one_place, same_asked, stream_status}
 use Rattle.ddf_command.proofs.LabelEnds.{label_no_fault}
@@ -15,11 +17,11 @@ returns-in-Examine-clause-done g c = λ asked is.
     rw (← one) (rw c.code.ensures c.examine.ensures.examined)
 
 pub returns-in-Examine-clause-disk_fault : goal.returns-in-Examine-clause-disk_fault
-returns-in-Examine-clause-disk_fault g c = λ e. fault_cause _ _ _ _ _ _ c.examine.ensures.examined (sym c.code.ensures ∙ e)
+returns-in-Examine-clause-disk_fault g c = λ e. fault_cause _ _ c.examine.ensures.examined (sym c.code.ensures ∙ e)
 
 pub returns-in-Examine-clause-complete : goal.returns-in-Examine-clause-complete
 returns-in-Examine-clause-complete g c = λ asked is none good.
-    let status = no_fault _ _ _ _ _ _ c.examine.ensures.examined none (λ six. good (c.examine.ensures.stream (stream_status c.examine.result six))) in
+    let status = no_fault _ _ c.examine.ensures.examined none (λ six. good (c.examine.ensures.stream (stream_status c.examine.result six))) in
     rw c.code.ensures (⊎_elim inl (λ five. inr (inl five)) status)
 
 pub returns-in-Label-clause-done : goal.returns-in-Label-clause-done
@@ -33,14 +35,14 @@ pub returns-in-Label-clause-complete : goal.returns-in-Label-clause-complete
 returns-in-Label-clause-complete g c = λ asked is none good.
     let same : c.in-Ok.asked ≡ asked = same_asked c.asked.result c.in-Ok.asked asked c.in-Ok.is (c.asked.ensures.every asked is) in
     let one : Label c.in-Label.slots ≡ asked.command = sym c.in-Label.is ∙ ap (λ (a : Asked). a.command) same in
-    let status = label_no_fault _ _ _ _ _ _ _ _ _ c.label.ensures.labelled none (λ six. good (c.label.ensures.stream (stream_status c.label.result six))) in
+    let status = label_no_fault _ _ _ _ c.label.ensures.labelled none (λ six. good (c.label.ensures.stream (stream_status c.label.result six))) in
     rw (c.code-in-Label.ensures, ← one) (⊎_elim inl (λ other. inr (⊎_elim inl (λ refused. inr (refused, refl)) other)) status)
 
 pub returns-in-Err-Place-clause-wrong_words : goal.returns-in-Err-Place-clause-wrong_words
 returns-in-Err-Place-clause-wrong_words g c = λ place wrong.
     let here = c.asked.ensures.place c.in-Err-Place.place (c.in-Err-Place.is ∙ ap Err c.in-Err-Place.field-0-is) in
     let same : c.in-Err-Place.place ≡ place = one_place IsAccepted (words_of c.args.words.now) c.in-Err-Place.place place here wrong in
-    let ends : ℕ → Type 0 = λ p. EndsWith 2 (words_refusal p) g.K.Sink.tells (g.K.Sink.taken c.args.sink.now) (g.K.Sink.taken c.refuse_words.new.sink) c.code-in-Err-Place.result in
+    let ends : ℕ → Type 0 = λ p. EndsWith 2 (refusal_line (Words p)) (answer_of g.K.Sink.tells (g.K.Sink.output c.args.sink.now) (g.K.Sink.output c.refuse_words.new.sink) c.code-in-Err-Place.result) in
     subst ends same (rw (c.code-in-Err-Place.ensures, ← c.in-Err-Place.place-is) c.refuse_words.ensures.ends)
 
 pub returns-in-Err-Place-clause-wrong_words_only : goal.returns-in-Err-Place-clause-wrong_words_only

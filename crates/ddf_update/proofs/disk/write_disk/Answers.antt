@@ -5,9 +5,9 @@ use Rattle.ddf_update.proofs.disk.write_disk.Goals as goal
 pub returns-in-Change-clause-calls : goal.returns-in-Change-clause-calls
 returns-in-Change-clause-calls g c = λ copy last mode is.
     let few = few_runs copy c.args.prepared.now.runs is.runs_are in
-    omega (arith, few, c.change.ensures.spends.calls_most)
+    omega (arith, few, c.change.ensures.spends.costs.calls_most)
 
 pub returns-in-Found-clause-calls : goal.returns-in-Found-clause-calls
 returns-in-Found-clause-calls g c = λ copy last mode is.
     let few = few_runs copy c.args.prepared.now.runs is.runs_are in
-    omega (arith, few, c.found.ensures.spends.calls_most)
+    omega (arith, few, c.found.ensures.spends.costs.calls_most)

@@ -62,8 +62,10 @@ loop-run-preserved g c =
       sizes = grind (arith, common_steps);
       writes = grind (arith, common_steps);
       reads = grind (arith, common_steps);
+      asked_up = grind (arith, common_steps);
+      asked = omega (arith, counted, c.write_run.ensures.spends.costs.asked, c.loop-run.invariant.asked, ap length c.items.ensures);
       written_up = grind (arith, common_steps);
-      written = omega (arith, counted, c.write_run.ensures.spends.written, c.loop-run.invariant.written, ap length c.items.ensures);
+      written = omega (arith, counted, c.write_run.ensures.spends.costs.written, c.loop-run.invariant.written, ap length c.items.ensures);
       calls_up = grind (arith, common_steps);
       calls = grind (arith, common_steps);
     }

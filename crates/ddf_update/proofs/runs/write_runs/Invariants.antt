@@ -15,6 +15,8 @@ invariant-loop-run g l = record {
   sizes : (g.B.Bay.disks l.bay).sizes ≡ (g.B.Bay.disks l.initial.bay).sizes;
   writes : (g.B.Bay.disks l.bay).failed_writes ≡ (g.B.Bay.disks l.initial.bay).failed_writes;
   reads : (g.B.Bay.disks l.bay).failed_reads ≡ (g.B.Bay.disks l.initial.bay).failed_reads;
+  asked_up : (g.B.Bay.disks l.initial.bay).sectors_asked ≤ (g.B.Bay.disks l.bay).sectors_asked;
+  asked : (g.B.Bay.disks l.bay).sectors_asked + sector_count (drop l.run-index l.runs) ≤ (g.B.Bay.disks l.initial.bay).sectors_asked + sector_count l.runs;
   written_up : (g.B.Bay.disks l.initial.bay).sectors_written ≤ (g.B.Bay.disks l.bay).sectors_written;
   written : (g.B.Bay.disks l.bay).sectors_written + sector_count (drop l.run-index l.runs) ≤ (g.B.Bay.disks l.initial.bay).sectors_written + sector_count l.runs;
   calls_up : (g.B.Bay.disks l.initial.bay).calls ≤ (g.B.Bay.disks l.bay).calls;

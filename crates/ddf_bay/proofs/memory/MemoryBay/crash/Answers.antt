@@ -9,6 +9,7 @@ invariant_of-bay c = record {
   small = c.args.self.small;
   past = rw c.stop.ensures.records (survivors_past c.args.self.clock c.args.keep.now c.args.self.log.records.items c.args.self.past);
   counted = omega (arith, c.stop.ensures.room, c.args.self.counted);
+  wanted = omega arith;
 }
 
 pub returns-clause-left : goal.returns-clause-left

@@ -3,10 +3,10 @@ use Rattle.ddf_bay.specs.MemoryLaws.{same_remembers, still_left, still_since}
 use Rattle.ddf_bay.proofs.memory_calls.MemoryBayBay.read.Goals as goal
 
 pub invariant_of-self : goal.invariant_of-self
-invariant_of-self c = record { few = c.args.self.now.few; small = c.args.self.now.small; past = past_later c.args.self.now.clock c.next-self.result c.args.self.now.log.records.items c.next-self.ensures.least c.args.self.now.past; counted = c.args.self.now.counted }
+invariant_of-self c = record { few = c.args.self.now.few; small = c.args.self.now.small; past = past_later c.args.self.now.clock c.next-self.result c.args.self.now.log.records.items c.next-self.ensures.least c.args.self.now.past; counted = c.args.self.now.counted; wanted = c.args.self.now.wanted }
 
 pub invariant_of-self-else-fails : goal.invariant_of-self-else-fails
-invariant_of-self-else-fails c = record { few = c.args.self.now.few; small = c.args.self.now.small; past = past_later c.args.self.now.clock c.next-self.result c.args.self.now.log.records.items c.next-self.ensures.least c.args.self.now.past; counted = c.args.self.now.counted }
+invariant_of-self-else-fails c = record { few = c.args.self.now.few; small = c.args.self.now.small; past = past_later c.args.self.now.clock c.next-self.result c.args.self.now.log.records.items c.next-self.ensures.least c.args.self.now.past; counted = c.args.self.now.counted; wanted = c.args.self.now.wanted }
 
 pub returns-then-fails-clause-left : goal.returns-then-fails-clause-left
 returns-then-fails-clause-left c = still_left c.args.self.now.clock c.next-self.result c.args.self.now.log.records.items c.args.self.now.past c.next-self.ensures.least c.next-self.ensures.more

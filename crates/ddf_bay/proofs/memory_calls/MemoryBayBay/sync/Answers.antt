@@ -5,7 +5,7 @@ use Rattle.ddf_bay.specs.MemoryLaws.{same_remembers, sync_remembers, still_left,
 use Rattle.ddf_bay.proofs.memory_calls.MemoryBayBay.sync.Goals as goal
 
 pub invariant_of-self : goal.invariant_of-self
-invariant_of-self c = record { few = c.args.self.now.few; small = c.args.self.now.small; past = past_later c.args.self.now.clock c.next-self.result c.args.self.now.log.records.items c.next-self.ensures.least c.args.self.now.past; counted = c.args.self.now.counted }
+invariant_of-self c = record { few = c.args.self.now.few; small = c.args.self.now.small; past = past_later c.args.self.now.clock c.next-self.result c.args.self.now.log.records.items c.next-self.ensures.least c.args.self.now.past; counted = c.args.self.now.counted; wanted = c.args.self.now.wanted }
 
 pub returns-then-fails-clause-left : goal.returns-then-fails-clause-left
 returns-then-fails-clause-left c = still_left c.args.self.now.clock c.next-self.result c.args.self.now.log.records.items c.args.self.now.past c.next-self.ensures.least c.next-self.ensures.more
@@ -19,6 +19,7 @@ invariant_of-self-2 c = record {
   small = c.args.self.now.small;
   past = rw c.settle.ensures.records (past_sync c.args.slot c.next-self.result c.args.self.now.log.records.items (past_later c.args.self.now.clock c.next-self.result c.args.self.now.log.records.items c.next-self.ensures.least c.args.self.now.past));
   counted = omega (arith, c.settle.ensures.room, c.args.self.now.counted);
+  wanted = c.args.self.now.wanted;
 }
 
 pub returns-clause-durable : goal.returns-clause-durable

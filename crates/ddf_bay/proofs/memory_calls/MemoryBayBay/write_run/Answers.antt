@@ -1,10 +1,11 @@
 use Rattle.std.proofs.Common.{arith, inl, inr, ⊎_elim}
+use Rattle.std.proofs.lemmas.Grind.{common_steps}
 use Rattle.ddf_bay.specs.RecordLaws.{past_later, past_added, held_run}
 use Rattle.ddf_bay.specs.MemoryLaws.{same_remembers, run_remembers, still_left, still_since, run_left, run_since}
 use Rattle.ddf_bay.proofs.memory_calls.MemoryBayBay.write_run.Goals as goal
 
 pub invariant_of-self : goal.invariant_of-self
-invariant_of-self c = record { few = c.args.self.now.few; small = c.args.self.now.small; past = past_later c.args.self.now.clock c.next-self.result c.args.self.now.log.records.items c.next-self.ensures.least c.args.self.now.past; counted = c.args.self.now.counted }
+invariant_of-self c = record { few = c.args.self.now.few; small = c.args.self.now.small; past = past_later c.args.self.now.clock c.next-self.result c.args.self.now.log.records.items c.next-self.ensures.least c.args.self.now.past; counted = c.args.self.now.counted; wanted = grind (arith, common_steps, c.saturating_add-self.ensures, c.args.self.now.wanted, c.args.self.now.counted) }
 
 pub returns-then-fails-clause-left : goal.returns-then-fails-clause-left
 returns-then-fails-clause-left c = λ s l v left. inl (still_left c.args.self.now.clock c.next-self.result c.args.self.now.log.records.items c.args.self.now.past c.next-self.ensures.least c.next-self.ensures.more s l v left)
@@ -18,6 +19,7 @@ invariant_of-self-2 c = record {
   small = c.args.self.now.small;
   past = rw c.push.ensures.records (past_added c.next-self.result c.args.self.now.log.records.items c.args.slot c.args.lba c.args.from.now (past_later c.args.self.now.clock c.next-self.result c.args.self.now.log.records.items c.next-self.ensures.least c.args.self.now.past));
   counted = omega (arith, c.push.ensures.room, c.args.self.now.counted);
+  wanted = grind (arith, common_steps, c.saturating_add-self.ensures, c.args.self.now.wanted, c.args.self.now.counted);
 }
 
 pub returns-clause-held : goal.returns-clause-held

@@ -1,5 +1,0 @@
-use Rattle.std.proofs.Common.{append_assoc}
-use Rattle.ddf_command.proofs.report.view_text.Goals as goal
-
-pub returns-in_ok-format-in-Damaged : goal.returns-in_ok-format-in-Damaged
-returns-in_ok-format-in-Damaged c = rw c.in-Damaged.is (simp append_assoc c.in_ok-format-in-Damaged.ensures.ok)

@@ -1,0 +1,4 @@
+// The commands, a file each.
+pub(crate) mod examine;
+pub(crate) mod label;
+mod label_slots;

@@ -1,0 +1,104 @@
+-- The lines that `examine` prints of the records of a copy.
+use Rattle.std.specs.Prelude.{ℕ, suc, Bool, ◌&&◌, ◌||◌, not, ◌==◌, nat_le, List, [], ◌∷◌, ◌++◌, length, drop, take, Option, Some, None, codes, if◌then◌else◌}
+use Rattle.std.specs.List.{flat_map, list_all, prefix_len}
+use Rattle.std.specs.Fmt.{decimal}
+use Rattle.hex.specs.Hex.{encode_lower}
+use Rattle.ddf_tables.specs.declared.disks.DiskRow.{DiskRow}
+use Rattle.ddf_tables.specs.declared.disks.DiskRow.TheVariants as disk_rows
+use Rattle.ddf_tables.specs.declared.arrays.ArrayRow.{ArrayRow}
+use Rattle.ddf_tables.specs.declared.arrays.ArrayRow.TheVariants as array_rows
+use Rattle.ddf_tables.specs.BadBlocks.{LogValue}
+use Rattle.ddf_configs.specs.declared.place.Place.{Place}
+use Rattle.ddf_configs.specs.ElementValue.{ElementValue}
+use Rattle.ddf_configs.specs.declared.slot.RecordSlot.{RecordSlot}
+use Rattle.ddf_configs.specs.declared.slot.RecordSlot.TheVariants as slots
+use Rattle.ddf_configs.specs.declared.spare.SpareRecord.{SpareRecord}
+use Rattle.ddf_copy.specs.declared.copy.DiskCopy.{DiskCopy}
+use Rattle.ddf_text.specs.Hexes.{hex8, hex16, hex32}
+
+-- ---- names
+
+-- a character that isn't a space and prints
+abbrev pub is_plain : ℕ → Bool
+is_plain byte = nat_le 0x21 byte && nat_le byte 0x7E
+
+-- how many of these stand in front of the padding
+abbrev pub plain_len : List ℕ → ℕ
+plain_len name = prefix_len is_plain name
+
+abbrev pub are_all : ℕ → List ℕ → Bool
+are_all value bytes = list_all (λ byte. byte == value) bytes
+
+-- one such character or more, and behind them spaces alone or zeros alone
+abbrev pub is_plain_name : List ℕ → Bool
+is_plain_name name =
+    let padding = drop (plain_len name) name in
+    not (plain_len name == 0) && (are_all 0x20 padding || are_all 0 padding)
+
+-- a name as it prints
+abbrev pub name_text : List ℕ → List ℕ
+name_text name = if is_plain_name name then take (plain_len name) name else codes "hex:" ++ encode_lower name
+
+-- ---- lines
+
+abbrev pub disk_line : DiskRow → List ℕ
+disk_line (disk_rows.Entry disk) =
+    codes "disk " ++ hex32 disk.reference ++ codes " " ++ encode_lower disk.guid ++ codes " type " ++ hex16 disk.kind.0
+    ++ codes " state " ++ hex16 disk.state.0 ++ codes " size " ++ decimal disk.size ++ codes "\n"
+disk_line (disk_rows.Unused whole) = []
+
+abbrev pub array_line : ArrayRow → List ℕ
+array_line (array_rows.Entry array) =
+    codes "array " ++ name_text array.name ++ codes " " ++ encode_lower array.guid ++ codes " number " ++ decimal array.number
+    ++ codes " state " ++ hex8 array.state ++ codes " init " ++ hex8 array.init ++ codes "\n"
+array_line (array_rows.Unused whole) = []
+
+abbrev pub member_text : Place → List ℕ
+member_text member = codes " " ++ hex32 member.reference ++ codes "+" ++ decimal member.start
+
+-- which element of which array
+abbrev pub element_name : ElementValue → List ℕ
+element_name element = codes " " ++ encode_lower element.array ++ codes " " ++ decimal element.index ++ codes " of " ++ decimal element.elements
+
+-- how it lies on its members
+abbrev pub element_layout : ElementValue → List ℕ
+element_layout element =
+    codes " level " ++ hex8 element.level ++ codes " " ++ hex8 element.qualifier ++ codes " strip " ++ decimal element.strip
+    ++ codes " blocks " ++ decimal element.blocks ++ codes " members"
+
+abbrev pub record_head : ℕ → List ℕ
+record_head slot = codes "record " ++ decimal slot ++ codes " "
+
+abbrev pub element_line : ℕ → List ℕ → ElementValue → List ℕ
+element_line slot kind element = record_head slot ++ kind ++ element_name element ++ element_layout element ++ flat_map member_text element.members ++ codes "\n"
+
+abbrev pub guid_text : List ℕ → List ℕ
+guid_text guid = codes " " ++ encode_lower guid
+
+abbrev pub spare_line : ℕ → SpareRecord → List ℕ
+spare_line slot spare = record_head slot ++ codes "spare " ++ hex8 spare.kind ++ flat_map guid_text spare.arrays ++ codes "\n"
+
+-- the line of a slot of the configuration records
+abbrev pub record_line : ℕ → RecordSlot → List ℕ
+record_line slot (slots.Element element) = element_line slot (codes "element") element
+record_line slot (slots.Copied element) = element_line slot (codes "copy") element
+record_line slot (slots.Spare spare) = spare_line slot spare
+record_line slot (slots.Notes notes) = record_head slot ++ codes "notes sequence " ++ decimal notes.sequence ++ codes "\n"
+record_line slot (slots.Vendor guid rest) = record_head slot ++ codes "vendor " ++ encode_lower guid ++ codes "\n"
+record_line slot (slots.Unread fault rest) = codes "record " ++ decimal slot ++ codes " unread\n"
+record_line slot (slots.Unused rest) = []
+
+-- those of all slots, from one on
+abbrev pub record_lines : ℕ → List RecordSlot → List ℕ
+record_lines slot [] = []
+record_lines slot (held ∷ others) = record_line slot held ++ record_lines (suc slot) others
+
+abbrev pub bad_blocks_line : Option LogValue → List ℕ
+bad_blocks_line None = []
+bad_blocks_line (Some log) = codes "bad blocks " ++ decimal (length log.entries) ++ codes "\n"
+
+-- what the sections of a copy hold
+abbrev pub sections_text : DiskCopy → List ℕ
+sections_text copy =
+    flat_map disk_line copy.disks.rows ++ flat_map array_line copy.arrays.rows
+    ++ record_lines 0 copy.slots ++ bad_blocks_line copy.bad

@@ -1,0 +1,4 @@
+mod Lists
+mod Grammar
+mod Numbers
+pub mod Finds

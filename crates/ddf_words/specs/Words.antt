@@ -1,0 +1,112 @@
+-- The words of `ddf`: which lists of words ask for which command, and where other words go wrong.
+use Rattle.std.specs.Prelude.{◌≡◌, ◌≢◌, ℕ, ◌≤◌, ◌<◌, List, [], ◌∷◌, ◌++◌, length, map, take, slice_index_or, Bool, nat_le, Option, Some, None, codes, string_bytes, if◌then◌else◌}
+use Rattle.std.specs.List.{find, position, range_with_len}
+use Rattle.std.specs.Str.{bytes_eq}
+use Rattle.std.specs.Fmt.{decimal}
+use Rattle.std.specs.declared.string.String.{String}
+use Rattle.std.specs.declared.alloc.Global.{Global}
+use Rattle.ddf_words.specs.declared.command.Asked.{Asked}
+use Rattle.ddf_words.specs.declared.command.Command.{Command}
+use Rattle.ddf_words.specs.declared.command.Command.TheVariants.{Examine, Label}
+
+-- a word is its bytes
+abbrev pub Word : Type 0
+Word = List ℕ
+
+abbrev pub words_of : List (String Global) → List Word
+words_of words = map string_bytes words
+
+-- the word between images and command
+abbrev pub dashes : Word
+dashes = codes "--"
+
+-- At most 64 paths of images, none of them empty or as another.
+pub record AreImages (images : List Word) : Type 0 where
+  pub few : length images ≤ 64
+  pub named : (i : ℕ) → i < length images → slice_index_or images i [] ≢ []
+  pub paths : (i : ℕ) → i < length images → slice_index_or images i [] ≢ dashes
+  pub different : (i j : ℕ) → i < j → j < length images → slice_index_or images i [] ≢ slice_index_or images j []
+
+-- A word may stand among the images, behind the words before it.
+pub record IsNextImage (words : List Word) (place : ℕ) : Type 0 where
+  pub few : place < 64
+  pub named : slice_index_or words place [] ≢ []
+  pub fresh : (k : ℕ) → k < place → slice_index_or words k [] ≢ slice_index_or words place []
+
+-- The words are the numbers of these slots in decimal, each at most 63, and no two equal.
+pub record AreSlotWords (slots : List ℕ) (words : List Word) : Type 0 where
+  pub spelled : words ≡ map decimal slots
+  pub within : (i : ℕ) → i < length slots → slice_index_or slots i 0 ≤ 63
+  pub different : (i j : ℕ) → i < j → j < length slots → slice_index_or slots i 0 ≢ slice_index_or slots j 0
+
+-- the slot whose number in decimal a word is
+abbrev pub slot_of : Word → Option ℕ
+slot_of word = find (λ slot. bytes_eq word (decimal slot)) (range_with_len 0 64)
+
+-- The words are `label` and then the numbers of these slots.
+pub record SpellLabel (slots : List ℕ) (words : List Word) : Type 0 where
+  pub numbers : List Word
+  pub parts : words ≡ codes "label" ∷ numbers
+  pub are_slots : AreSlotWords slots numbers
+
+-- the words of each command, behind the images and the dashes
+abbrev pub Spells : Command → List Word → Type 0
+Spells Examine words = words ≡ codes "examine" ∷ []
+Spells (Label slots) words = SpellLabel slots words
+
+-- The words name images, then a command.
+pub record IsAsked (words : List Word) (asked : Asked) : Type 0 where
+  pub images : List Word
+  pub rest : List Word
+  pub are_images : AreImages images
+  pub parts : words ≡ images ++ dashes ∷ rest
+  pub no_group : asked.group ≡ None
+  pub spells : Spells asked.command rest
+
+-- some command is asked for
+pub record IsAccepted (words : List Word) : Type 0 where
+  pub asked : Asked
+  pub is_asked : IsAsked words asked
+
+-- some command is spelled so
+pub record IsCommand (words : List Word) : Type 0 where
+  pub command : Command
+  pub spells : Spells command words
+
+-- some slots are named so
+pub record NameSlots (words : List Word) : Type 0 where
+  pub slots : List ℕ
+  pub are_slots : AreSlotWords slots words
+
+-- The first words, so many, are images, and dashes come next.
+pub record LeadsWithImages (words : List Word) (count : ℕ) : Type 0 where
+  pub within : count < length words
+  pub are_images : AreImages (take count words)
+  pub dashes_next : slice_index_or words count [] ≡ dashes
+
+-- Some accepted list of words begins with these.
+pub record Begins (accepted : List Word → Type 0) (words : List Word) : Type 0 where
+  pub more : List Word
+  pub goes_on : accepted (words ++ more)
+
+-- The words are not accepted, and so many of them are the most with which an accepted list begins.
+pub record GoWrongAt (accepted : List Word → Type 0) (words : List Word) (place : ℕ) : Type 0 where
+  pub refused : accepted words → ⊥
+  pub within : place ≤ length words
+  pub good : Begins accepted (take place words)
+  pub no_longer : (n : ℕ) → place < n → n ≤ length words → Begins accepted (take n words) → ⊥
+
+abbrev pub is_dashes : Word → Bool
+is_dashes word = bytes_eq word dashes
+
+abbrev pub words_before : List Word → Option ℕ → List Word
+words_before words None = []
+words_before words (Some count) = take count words
+
+-- the words before the first dashes, and none where there are no dashes
+abbrev pub images_of : List Word → List Word
+images_of words = words_before words (position is_dashes words)
+
+-- how many slots the words name: none where there are more than 64
+abbrev pub slot_count : List Word → ℕ
+slot_count words = if nat_le (length (images_of words)) 64 then length (images_of words) else 0

@@ -1,0 +1,9 @@
+//! The words of `ddf`: the images, and the command that is asked for.
+#![tactic(auto)]
+
+mod command;
+mod slot_words;
+mod words;
+
+pub use command::{Asked, Command};
+pub use words::{MOST_IMAGES, WordFault, asked, image_paths, slot_paths};
