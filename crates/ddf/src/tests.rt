@@ -1,6 +1,7 @@
 // The program's calls over bays in memory: what is printed, and with which status.
 mod bay;
 mod copies;
+mod crc;
 mod examine;
 mod harness;
 mod headers;

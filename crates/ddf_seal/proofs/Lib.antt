@@ -1,4 +1,5 @@
 pub mod CrcSteps
+pub mod CrcTables
 pub mod Placing
 pub mod Same
 pub mod Spelled

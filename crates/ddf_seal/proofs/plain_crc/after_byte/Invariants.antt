@@ -1,6 +1,6 @@
 use Rattle.std.proofs.Common.{◌≡◌, ◌-◌}
 use Rattle.ddf_seal.specs.Crc.{bit_steps}
-use Rattle.ddf_seal.proofs.crc.after_byte.Given as goal
+use Rattle.ddf_seal.proofs.plain_crc.after_byte.Given as goal
 
 abbrev pub invariant-loop : goal.invariant-loop
 invariant-loop l = bit_steps (8 - l.counter) l.register ≡ bit_steps 8 l.initial.register
