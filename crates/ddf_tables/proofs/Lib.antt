@@ -1,5 +1,6 @@
 pub mod Nones
 pub mod Parts
+pub mod SeenNames
 pub mod TableRows
 pub mod TableValues
 pub mod TableSections

@@ -1,12 +1,13 @@
 ghost use Rattle.std.specs.Prelude.{◌≡◌};
-ghost use Rattle.std.specs.List.{list_any};
 ghost use Rattle.ddf_seal.specs.Unread.{written};
-ghost use Rattle.ddf_tables.specs.Arrays.{array_at, array_fields, has_guid};
+ghost use Rattle.ddf_tables.specs.Arrays.{array_at, array_fields};
 
 use crate::fault::TableFault;
 use crate::row::{Row, is_unused};
-use ddf_bytes::{Guid, be16, put16};
+use ddf_bytes::{Guid, NoMemory, be16, put16};
 use ddf_seal::{Span, clear, guid_at, place};
+use std::alloc::Global;
+use std::collections::BTreeSet;
 
 /// A used entry of the virtual disk records (SNIA DDF 2.0).
 #[derive(Clone, Copy, Debug, PartialEq, Eq)]
@@ -106,32 +107,18 @@ impl Row for ArrayRow {
         matches!(self, ArrayRow::Entry(_))
     }
 
-    #[tactic(auto, unfolding(crate::specs::Arrays::array_twice))]
-    fn twice(&self, earlier: &[ArrayRow]) -> Option<TableFault> {
-        match self {
-            ArrayRow::Entry(entry) if is_among(earlier, &entry.guid) => {
-                Some(TableFault::TwiceSameGuid(entry.guid))
+    fn first_twice(alloc: Global, rows: &[ArrayRow]) -> Result<Option<TableFault>, NoMemory> {
+        let mut seen = BTreeSet::new(alloc);
+        for row in rows {
+            if let ArrayRow::Entry(entry) = row {
+                let guid = entry.guid;
+                if !seen.insert(guid.bytes())? {
+                    return Ok(Some(TableFault::TwiceSameGuid(guid)));
+                }
             }
-            ArrayRow::Entry(_) | ArrayRow::Unused(_) => None,
         }
+        Ok(None)
     }
-}
-
-impl ArrayRow {
-    fn has_guid(&self, guid: &Guid) -> bool
-        ensures { result ≡ has_guid guid.now self.now }
-    {
-        match self {
-            ArrayRow::Entry(entry) => entry.guid == *guid,
-            ArrayRow::Unused(_) => false,
-        }
-    }
-}
-
-fn is_among(rows: &[ArrayRow], guid: &Guid) -> bool
-    ensures { result ≡ list_any (has_guid guid.now) rows.now }
-{
-    rows.iter().any(|row| row.has_guid(guid))
 }
 
 fn entry_at(bytes: [u8; 64]) -> ArrayEntry

@@ -1,13 +1,14 @@
 ghost use Rattle.std.specs.Prelude.{◌≡◌};
-ghost use Rattle.std.specs.List.{list_any};
 ghost use Rattle.ddf_seal.specs.Unread.{written};
-ghost use Rattle.ddf_tables.specs.Disks.{disk_at, disk_fields, has_reference};
+ghost use Rattle.ddf_tables.specs.Disks.{disk_at, disk_fields};
 
 use crate::bits::{DiskState, DiskType};
 use crate::fault::TableFault;
 use crate::row::{Row, is_unused};
-use ddf_bytes::{Guid, be16, be32, be64, put16, put32, put64};
+use ddf_bytes::{Guid, NoMemory, be16, be32, be64, put16, put32, put64};
 use ddf_seal::{Span, clear, guid_at, place};
+use std::alloc::Global;
+use std::collections::BTreeSet;
 
 /// A used entry of the physical disk records (SNIA DDF 2.0).
 #[derive(Clone, Copy, Debug, PartialEq, Eq)]
@@ -110,34 +111,18 @@ impl Row for DiskRow {
         matches!(self, DiskRow::Entry(_))
     }
 
-    #[tactic(auto, unfolding(crate::specs::Disks::disk_twice))]
-    fn twice(&self, earlier: &[DiskRow]) -> Option<TableFault> {
-        match self {
-            DiskRow::Entry(entry) => {
+    fn first_twice(alloc: Global, rows: &[DiskRow]) -> Result<Option<TableFault>, NoMemory> {
+        let mut seen = BTreeSet::new(alloc);
+        for row in rows {
+            if let DiskRow::Entry(entry) = row {
                 let reference = entry.reference;
-                if reference == NO_REFERENCE || is_among(earlier, reference) {
-                    Some(TableFault::TwiceSameReference(reference))
-                } else {
-                    None
+                if reference == NO_REFERENCE || !seen.insert(reference)? {
+                    return Ok(Some(TableFault::TwiceSameReference(reference)));
                 }
             }
-            DiskRow::Unused(_) => None,
         }
+        Ok(None)
     }
-}
-
-impl DiskRow {
-    fn has_reference(&self, reference: u32) -> bool
-        ensures { result ≡ has_reference reference self.now }
-    {
-        matches!(self, DiskRow::Entry(entry) if entry.reference == reference)
-    }
-}
-
-fn is_among(rows: &[DiskRow], reference: u32) -> bool
-    ensures { result ≡ list_any (has_reference reference) rows.now }
-{
-    rows.iter().any(|row| row.has_reference(reference))
 }
 
 fn entry_at(bytes: [u8; 64]) -> DiskEntry

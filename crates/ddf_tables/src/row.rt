@@ -1,8 +1,10 @@
-ghost use Rattle.std.specs.Prelude.{◌≡◌, length};
+ghost use Rattle.std.specs.Prelude.{◌≡◌, length, IfOk};
 ghost use Rattle.ddf_tables.specs.Rows.{is_unused};
+ghost use Rattle.ddf_tables.specs.Tables.{first_twice};
 
 use crate::fault::TableFault;
-use ddf_bytes::Guid;
+use ddf_bytes::{Guid, NoMemory};
+use std::alloc::Global;
 
 /// A row of a table, of 64 bytes.
 pub(crate) trait Row: Copy {
@@ -35,9 +37,9 @@ pub(crate) trait Row: Copy {
     fn is_used(&self) -> bool
         ensures { result ≡ is_used_row self.now };
 
-    /// What is wrong with it, by the rows before it.
-    fn twice(&self, earlier: &[Self]) -> Option<TableFault>
-        ensures { result ≡ twice_after earlier.now self.now };
+    /// What is wrong with the first row with which something is wrong, by the rows before it.
+    fn first_twice(alloc: Global, rows: &[Self]) -> Result<Option<TableFault>, NoMemory>
+        ensures { IfOk result (λ fault. fault ≡ first_twice twice_after rows.now) };
 }
 
 /// Whether a row of this GUID is unused: all its bytes are FF.

@@ -6,7 +6,6 @@ ghost use Rattle.ddf_tables.specs.Tables.{
   TableValue,
   blank_table,
   decoded_table,
-  first_twice,
   replaced_table,
   rows_at,
   table_bytes,
@@ -64,7 +63,10 @@ impl<R: Row> Table<R> {
         let Ok(rows) = read_rows(alloc, section, max) else {
             return Err(TableFault::Memory);
         };
-        if let Some(fault) = first_twice(rows.as_slice()) {
+        let Ok(twice) = R::first_twice(alloc, rows.as_slice()) else {
+            return Err(TableFault::Memory);
+        };
+        if let Some(fault) = twice {
             return Err(fault);
         }
         let Ok(rest) = unread(alloc, section, max) else {
@@ -153,18 +155,6 @@ fn read_rows<R: Row>(alloc: Global, section: &[u8], max: u16) -> Result<Vec<R>, 
         rows.push(R::read(&section[at..at + ROW]))?;
     }
     Ok(rows)
-}
-
-/// What is wrong with the first row that something is wrong with.
-fn first_twice<R: Row>(rows: &[R]) -> Option<TableFault>
-    ensures { result ≡ first_twice R.twice_after rows.now }
-{
-    for (index, row) in rows.iter().enumerate() {
-        if let Some(fault) = row.twice(&rows[..index]) {
-            return Some(fault);
-        }
-    }
-    None
 }
 
 fn count_used<R: Row>(rows: &[R]) -> usize
