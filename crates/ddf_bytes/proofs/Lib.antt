@@ -1,2 +1,3 @@
 mod Streams
 mod HexDigits
+pub mod Nones

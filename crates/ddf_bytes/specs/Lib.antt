@@ -1,4 +1,5 @@
 pub mod Bytes
+pub mod Choices
 pub mod Counts
 pub mod Guids
 pub mod Memory

@@ -7,7 +7,7 @@ use Rattle.std.proofs.lemmas.List.Elements.{All-filter, All-from_get_or, filter-
 use Rattle.std.proofs.lemmas.Bool.{cases_Bool}
 use Rattle.std.proofs.lemmas.List.FromFn.{get_or-range_with_len, length-range_with_len, map-range_with_len_more}
 use Rattle.ddf_update.specs.Group.{AreSlots}
-use Rattle.ddf_command.specs.Labels.{chosen, is_chosen}
+use Rattle.ddf_command.specs.LabelRefusal.{chosen, is_chosen}
 
 -- ---- one slot more
 

@@ -6,9 +6,9 @@ use Rattle.std.specs.List.{All, find}
 use Rattle.std.specs.Option.{option_or}
 use Rattle.std.specs.Prelude.{get_or, nat_lt, not, option_map, slice_get, slice_index}
 use Rattle.std.proofs.lemmas.Option.{get_or_from_slice_get, slice_get_within}
+use Rattle.ddf_bytes.specs.Choices.{first_of, when}
 use Rattle.ddf_bay.specs.Sectors.{Image}
 use Rattle.ddf_header.specs.declared.reading.Header.{Header}
-use Rattle.ddf_header.specs.Geometry.{first_of, when}
 use Rattle.ddf_copy.specs.declared.fault.AnchorFault.{AnchorFault}
 use Rattle.ddf_copy.specs.declared.fault.AnchorFault.TheVariants as anchors
 use Rattle.ddf_copy.specs.declared.fault.AnchorFault.TheVariants.{Blank, Damaged}
@@ -18,7 +18,7 @@ use Rattle.ddf_config.specs.declared.refusal.FullTable.TheVariants.{Disks}
 use Rattle.ddf_config.specs.declared.refusal.Refusal.{Refusal}
 use Rattle.ddf_config.specs.declared.refusal.Refusal.TheVariants.{Full, NoSlot, NotBlank, Small}
 use Rattle.ddf_update.specs.Group.{slot_sizes}
-use Rattle.ddf_command.specs.Labels.{IsFit, chosen, is_anchored, is_blank, is_small, label_refusal, least_sectors, misfit, missing, most_disks, unfit}
+use Rattle.ddf_command.specs.LabelRefusal.{IsFit, chosen, is_anchored, is_blank, is_small, label_refusal, least_sectors, misfit, missing, most_disks, unfit}
 
 none_of : (one other : Option Refusal) → option_or one other ≡ None → (one ≡ None) × (other ≡ None)
 none_of None other none = (refl, none)

@@ -8,11 +8,11 @@ use Rattle.ddf_bay.specs.ReadsOnly.{ReadsOnly}
 use Rattle.ddf_bay.proofs.Steps.{stops_then, stops_weaken}
 use Rattle.ddf_copy.specs.declared.copy.DiskCopy.{DiskCopy}
 use Rattle.ddf_update.specs.declared.prepared.Prepared.{Prepared}
-use Rattle.ddf_update.specs.Group.{AreFirst, AreFounded, IsLeftFoundingAll, LieOnSlots, MayFoundAll, slot_sizes}
+use Rattle.ddf_update.specs.Group.{AreFirst, HaveFirstCopies, IsLeftFoundingAll, LieOnSlots, MayFoundAll, slot_sizes}
 use Rattle.ddf_update.specs.NewCopies.{new_copy}
 use Rattle.ddf_update.proofs.FirstCopies.{lie_on_slots, may_found_all}
 use Rattle.ddf_command.specs.Label.{label_copy, label_slots}
-use Rattle.ddf_command.specs.Labels.{label_refusal}
+use Rattle.ddf_command.specs.LabelRefusal.{label_refusal}
 use Rattle.ddf_command.proofs.Chosen.{chosen_once}
 use Rattle.ddf_command.proofs.Fits.{all_blank}
 
@@ -32,7 +32,7 @@ module _ {D : Type 0} (a b : BayState D) (slots : List ℕ) (copy : ℕ → Disk
   pub stops_founding : (c : BayState D) → StopsLeave b c (IsLeftFoundingAll b slots copy) → StopsLeave a c (IsLeftFoundingAll a slots copy)
   stops_founding c step = stops_then (stops_weaken reads.any_moment left_before) step left_while
 
-  pub founded_since : (c : BayState D) (count : ℕ) → AreFounded b c slots copy count → AreFounded a c slots copy count
+  pub founded_since : (c : BayState D) (count : ℕ) → HaveFirstCopies b c slots copy count → HaveFirstCopies a c slots copy count
   founded_since c count founded = record {
     are_both = rw reads.same_sizes at founded.are_both;
     are_settled = founded.are_settled;
@@ -69,6 +69,6 @@ module _ {D : Type 0} (a b : BayState D) (named slots : List ℕ) (stamp : Stamp
   label_stops c none step = stops_founding a b (label_slots sizes named) copy reads c (rw are at step copy (may none))
 
   pub label_founded : (c : BayState D) → label_refusal sizes a.held named ≡ None
-      → ((one : ℕ → DiskCopy) → MayFoundAll b slots one updates → AreFounded b c slots one (length slots))
-      → AreFounded a c (label_slots sizes named) copy (length (label_slots sizes named))
+      → ((one : ℕ → DiskCopy) → MayFoundAll b slots one updates → HaveFirstCopies b c slots one (length slots))
+      → HaveFirstCopies a c (label_slots sizes named) copy (length (label_slots sizes named))
   label_founded c none step = founded_since a b (label_slots sizes named) copy reads c (length (label_slots sizes named)) (rw are at step copy (may none))

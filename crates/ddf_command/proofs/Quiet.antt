@@ -6,7 +6,7 @@ use Rattle.ddf_bay.specs.ReadsOnly.{LooksAt}
 use Rattle.ddf_header.specs.declared.reading.Header.{Header}
 use Rattle.ddf_copy.specs.declared.fault.AnchorFault.{AnchorFault}
 use Rattle.ddf_copy.specs.Faults.{UpToDisk, anchor_failed}
-use Rattle.ddf_command.specs.Labels.{is_blank}
+use Rattle.ddf_command.specs.LabelRefusal.{is_blank}
 use Rattle.ddf_command.specs.Quiet.{IsQuiet}
 
 pub quiet_look : {D : Type 0} {old new : BayState D} {slot : ℕ} {failed : Bool} → LooksAt old new slot failed → failed ≡ false → IsQuiet old new

@@ -4,14 +4,14 @@ use Rattle.ddf_bytes.specs.declared.stamp.Stamp.{Stamp}
 use Rattle.ddf_bay.specs.Moments.{StopsLeave}
 use Rattle.ddf_bay.specs.ReadsOnly.{ReadsOnly, SlotRose}
 use Rattle.ddf_copy.specs.declared.copy.DiskCopy.{DiskCopy}
-use Rattle.ddf_update.specs.Group.{AreFounded, IsLeftFoundingAll, slot_sizes}
+use Rattle.ddf_update.specs.Group.{HaveFirstCopies, IsLeftFoundingAll, slot_sizes}
 use Rattle.ddf_update.specs.NewCopies.{new_copy}
 use Rattle.ddf_command.specs.declared.failure.Failure.{Failure}
 use Rattle.ddf_command.specs.declared.failure.Failure.TheVariants.{Disk, Memory, Refused}
 use Rattle.ddf_config.specs.declared.refusal.Refusal.{Refusal}
 use Rattle.ddf_command.specs.Answers.{IsToldFailure}
 use Rattle.ddf_command.specs.Call.{Answer, Work}
-use Rattle.ddf_command.specs.Labels.{chosen, label_refusal}
+use Rattle.ddf_command.specs.LabelRefusal.{chosen, label_refusal}
 use Rattle.ddf_command.specs.Tells.{ClosesWith}
 
 -- the slots to label on a bay of these sizes
@@ -27,7 +27,7 @@ label_copy stamp sizes named = new_copy stamp (slot_sizes sizes (label_slots siz
 abbrev pub IsTried : {D : Type 0} → Work D → Stamp → (named : List ℕ) → Result (Unit {0}) Failure → Type 0
 IsTried work stamp named (Ok done) =
     work.tells → (label_refusal work.old.sizes work.old.held named ≡ None)
-    × AreFounded work.old work.new (label_slots work.old.sizes named) (label_copy stamp work.old.sizes named) (length (label_slots work.old.sizes named))
+    × HaveFirstCopies work.old work.new (label_slots work.old.sizes named) (label_copy stamp work.old.sizes named) (length (label_slots work.old.sizes named))
 IsTried work stamp named (Err (Refused refusal)) =
     (work.tells → label_refusal work.old.sizes work.old.held named ≡ Some refusal) × ReadsOnly work.old work.new
 IsTried work stamp named (Err (Disk slot)) =

@@ -5,6 +5,6 @@ pub mod Tells
 pub mod Answers
 pub mod Quiet
 pub mod Examine
-pub mod Labels
+pub mod LabelRefusal
 pub mod Label
 pub mod Run

@@ -5,14 +5,14 @@ use Rattle.std.specs.List.{range_with_len}
 use Rattle.std.specs.Int.{w16, w32, w64}
 use Rattle.std.proofs.lemmas.Bool.{ltb-false, eqb-false}
 use Rattle.ddf_bytes.specs.Bytes.{number_at}
+use Rattle.ddf_bytes.specs.Choices.{when}
+use Rattle.ddf_bytes.proofs.Nones.{none_first}
 use Rattle.ddf_seal.specs.Seal.{IsSealed, seal_place}
 use Rattle.ddf_seal.specs.Unread.{AreBytes, cleared, places, numbers32_at, numbers64_at}
 use Rattle.ddf_seal.specs.Records.{record_bytes}
 use Rattle.ddf_seal.proofs.Same.{cleared_outside}
 use Rattle.ddf_seal.proofs.Records.{record_again, record_from_bytes, record_written, length-record_bytes}
 use Rattle.ddf_header.specs.declared.geometry.Geometry.{Geometry}
-use Rattle.ddf_header.specs.Geometry.{when}
-use Rattle.ddf_header.proofs.Nones.{none_first}
 use Rattle.ddf_configs.specs.declared.place.Place.{Place}
 use Rattle.ddf_configs.specs.declared.fault.ElementFault.TheVariants as faults
 use Rattle.ddf_configs.specs.ElementValue.{ElementValue}

@@ -3,7 +3,7 @@ use Rattle.std.proofs.Common.{◌≡◌, ℕ, zero, suc, ◌+◌, ◌<◌, List,
 use Rattle.std.specs.Prelude.{slice_get}
 use Rattle.std.specs.Option.{option_or}
 use Rattle.std.specs.List.{range_with_len}
-use Rattle.ddf_header.specs.Geometry.{first_of}
+use Rattle.ddf_bytes.specs.Choices.{first_of}
 
 abbrev some : {X : Type 0} → X → Option X
 some x = Some x

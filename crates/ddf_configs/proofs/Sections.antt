@@ -8,6 +8,7 @@ use Rattle.std.proofs.Math.Nat.{div-mul-le_self, mul-le-mul_right}
 use Rattle.std.proofs.lemmas.Bool.{eqb-true}
 use Rattle.std.proofs.lemmas.List.FromFn.{length-map-range_with_len}
 use Rattle.ddf_bytes.specs.Bytes.{number_at}
+use Rattle.ddf_bytes.specs.Choices.{first_of, ok_unless}
 use Rattle.ddf_seal.specs.Seal.{seal_check}
 use Rattle.ddf_seal.specs.Unread.{AreBytes}
 use Rattle.ddf_seal.specs.declared.sealing.SealFault.{SealFault}
@@ -15,8 +16,6 @@ use Rattle.ddf_seal.proofs.Placing.{length-bytes_at}
 use Rattle.ddf_seal.proofs.Spelled.{AreBytes-bytes_at}
 use Rattle.ddf_seal.proofs.Seals.{sealed_from_check, check_from_sealed}
 use Rattle.ddf_header.specs.declared.geometry.Geometry.{Geometry}
-use Rattle.ddf_header.specs.Geometry.{first_of}
-use Rattle.ddf_header.specs.Header.{ok_unless}
 use Rattle.ddf_configs.specs.declared.fault.SlotFault.{SlotFault}
 use Rattle.ddf_configs.specs.declared.fault.SlotFault.TheVariants as faults
 use Rattle.ddf_configs.specs.declared.notes.Notes.{Notes}

@@ -5,11 +5,11 @@ use Rattle.std.specs.Int.{w32, from_be_bytes}
 use Rattle.std.proofs.lemmas.Bool.{eq-eqb, ne_eqb, eqb-true}
 use Rattle.std.proofs.lemmas.Nat.{from_be_bytes-to_be_bytes_4}
 use Rattle.ddf_bytes.specs.Bytes.{bytes_at, number_at}
+use Rattle.ddf_bytes.specs.Choices.{when}
 use Rattle.ddf_seal.specs.Seal.{IsSealed}
 use Rattle.ddf_seal.specs.Records.{record_bytes}
 use Rattle.ddf_seal.specs.Unread.{AreBytes}
 use Rattle.ddf_header.specs.declared.geometry.Geometry.{Geometry}
-use Rattle.ddf_header.specs.Geometry.{when}
 use Rattle.ddf_configs.specs.declared.fault.ElementFault.{ElementFault}
 use Rattle.ddf_configs.specs.declared.notes.Notes.{Notes}
 use Rattle.ddf_configs.specs.declared.slot.RecordSlot.{RecordSlot}

@@ -3,12 +3,12 @@ use Rattle.std.specs.Prelude.{◌≡◌, ℕ, ◌+◌, ◌*◌, ◌/◌, ◌≤�
 use Rattle.std.specs.List.{list_any, range_with_len}
 use Rattle.std.specs.Int.{w16, w32, w64}
 use Rattle.ddf_bytes.specs.Bytes.{bytes_at, number_at}
+use Rattle.ddf_bytes.specs.Choices.{first_of, when}
 use Rattle.ddf_seal.specs.declared.unread.Span.{Span}
 use Rattle.ddf_seal.specs.Seal.{seal_place}
 use Rattle.ddf_seal.specs.Records.{IsRecord, IsRecordOf}
 use Rattle.ddf_seal.specs.Unread.{Field, u8_at, u16_at, u32_at, u64_at, u32s_at, u64s_at, plain_at, numbers32_at, cleared, places}
 use Rattle.ddf_header.specs.declared.geometry.Geometry.{Geometry}
-use Rattle.ddf_header.specs.Geometry.{when, first_of}
 use Rattle.ddf_configs.specs.declared.place.Place.{Place}
 use Rattle.ddf_configs.specs.declared.fault.ElementFault.{ElementFault}
 use Rattle.ddf_configs.specs.declared.fault.ElementFault.TheVariants as faults

@@ -5,12 +5,11 @@ use Rattle.std.specs.List.{AllByRecursion, flat_map, range_with_len}
 use Rattle.std.specs.Int.{w32}
 use Rattle.std.specs.Str.{bytes_eq}
 use Rattle.ddf_bytes.specs.Bytes.{bytes_at, number_at}
+use Rattle.ddf_bytes.specs.Choices.{first_of, ok_unless, when}
 use Rattle.ddf_seal.specs.Seal.{IsSealed, seal_check}
 use Rattle.ddf_seal.specs.Records.{record_bytes}
 use Rattle.ddf_seal.specs.Unread.{AreBytes}
 use Rattle.ddf_header.specs.declared.geometry.Geometry.{Geometry}
-use Rattle.ddf_header.specs.Geometry.{when, first_of}
-use Rattle.ddf_header.specs.Header.{ok_unless}
 use Rattle.ddf_configs.specs.declared.fault.ElementFault.{ElementFault}
 use Rattle.ddf_configs.specs.declared.fault.SlotFault.{SlotFault}
 use Rattle.ddf_configs.specs.declared.fault.SlotFault.TheVariants as faults

@@ -15,7 +15,7 @@ use Rattle.ddf_copy.specs.Gate.{differ_at, first_difference, gate_fault, header_
 use Rattle.ddf_copy.specs.Headers.{IsAnchor, IsReadHeader, IsUnder, anchor_header, closed_header}
 use Rattle.ddf_copy.specs.Room.{has_no_room, has_sector_of, is_out_of_room, meets_copy, room_fault, share}
 use Rattle.ddf_copy.specs.Which.{other_of, place_of}
-use Rattle.ddf_copy.specs.Written.{IsCopy}
+use Rattle.ddf_copy.specs.Written.{CanBeCopy}
 use Rattle.ddf_copy.proofs.Gates.{gate_from, headers_in_room, section_in_room}
 use Rattle.ddf_copy.proofs.Shared.{bytes_same, same_at}
 use Rattle.std.proofs.Common.{subst}
@@ -173,7 +173,7 @@ room_for last anchor sections Primary Secondary h = room_turn last anchor.primar
 room_for last anchor sections Secondary Primary h = room_turn last anchor.secondary_lba anchor.primary_lba sections h
 room_for last anchor sections Secondary Secondary h = h
 
-pub under_again : (size : ℕ) (anchor : Header) (which : Which) (copy : DiskCopy) → IsCopy copy → ((also : Which) → place_of also copy.header ≡ place_of also anchor)
+pub under_again : (size : ℕ) (anchor : Header) (which : Which) (copy : DiskCopy) → CanBeCopy copy → ((also : Which) → place_of also copy.header ≡ place_of also anchor)
     → gate_fault size anchor which (closed_header copy which) (header_bytes (closed_header copy which)) ≡ None → IsUnder size anchor copy
 under_again size anchor which copy is places gate =
     let long = is.header_can.rest_size in
@@ -213,7 +213,7 @@ closed_is : (copy : DiskCopy) (which : Which) → copy.header.kind ≡ kind_of w
 closed_is copy which kind closed = rw (← kind, ← closed) refl
 
 -- A copy that was read can be written again, in both places.
-pub under_read : (size : ℕ) (anchor : Header) (which : Which) (copy : DiskCopy) → IsAnchor anchor → IsCopy copy → IsReadHeader size anchor which copy.header → IsUnder size anchor copy
+pub under_read : (size : ℕ) (anchor : Header) (which : Which) (copy : DiskCopy) → IsAnchor anchor → CanBeCopy copy → IsReadHeader size anchor which copy.header → IsUnder size anchor copy
 under_read size anchor which copy anchored is read =
     let found = gate_from size anchor which copy.header (header_bytes copy.header) read.has_gate in
     let same = closed_is copy which read.is_header.is_header.of_kind found.is_closed in
@@ -234,7 +234,7 @@ no_fault T slot faults.Memory h = tt
 
 -- ---- a copy that is rewritten
 
-shares_anchor : (anchor : Header) (old new : DiskCopy) (which also : Which) → IsCopy old → IsCopy new → anchor_header new ≡ anchor_header old
+shares_anchor : (anchor : Header) (old new : DiskCopy) (which also : Which) → CanBeCopy old → CanBeCopy new → anchor_header new ≡ anchor_header old
     → first_difference (header_bytes anchor) (header_bytes (closed_header old which)) ≡ None → first_difference (header_bytes anchor) (header_bytes (closed_header new also)) ≡ None
 shares_anchor anchor old new which also old_is new_is same shared =
     let new_shares = subst (λ (header : Header). first_difference (header_bytes header) (header_bytes (closed_header new also)) ≡ None) same (anchor_shares new also new_is new_is.header_can.rest_size) in
@@ -251,7 +251,7 @@ same_place old new same Primary = ap (λ (header : Header). header.primary_lba) 
 same_place old new same Secondary = ap (λ (header : Header). header.secondary_lba) same
 
 -- A copy whose header differs in its sequence, kind and flag alone can be written where the old one can.
-pub under_changed : (size : ℕ) (anchor : Header) (old new : DiskCopy) → IsUnder size anchor old → IsCopy new → anchor_header new ≡ anchor_header old → IsUnder size anchor new
+pub under_changed : (size : ℕ) (anchor : Header) (old new : DiskCopy) → IsUnder size anchor old → CanBeCopy new → anchor_header new ≡ anchor_header old → IsUnder size anchor new
 under_changed size anchor old new under is same =
     let geometry : new.header.geometry ≡ old.header.geometry = ap (λ (header : Header). header.geometry) same in
     record {
@@ -269,7 +269,7 @@ same_lba anchor old new size under primary secondary Primary = sym (primary ∙ 
 same_lba anchor old new size under primary secondary Secondary = sym (secondary ∙ under.in_place Secondary)
 
 -- A copy of another group, in the places and with the sections of the old one, can be written under its own anchor.
-pub under_adopted : (size : ℕ) (anchor : Header) (old new : DiskCopy) → IsUnder size anchor old → IsCopy new → new.header.geometry ≡ old.header.geometry
+pub under_adopted : (size : ℕ) (anchor : Header) (old new : DiskCopy) → IsUnder size anchor old → CanBeCopy new → new.header.geometry ≡ old.header.geometry
     → new.header.primary_lba ≡ old.header.primary_lba → new.header.secondary_lba ≡ old.header.secondary_lba → IsUnder size (anchor_header new) new
 under_adopted size anchor old new under is geometry primary secondary =
     let places = same_lba anchor old new size under primary secondary in

@@ -19,7 +19,7 @@ use Rattle.ddf_copy.specs.declared.which.Which.{Which}
 use Rattle.ddf_copy.specs.Gate.{differ_at, first_difference, header_bytes, is_same_byte, is_shared}
 use Rattle.ddf_copy.specs.Headers.{anchor_header, closed_header}
 use Rattle.ddf_copy.specs.Which.{kind_of}
-use Rattle.ddf_copy.specs.Written.{IsCopy}
+use Rattle.ddf_copy.specs.Written.{CanBeCopy}
 
 -- ---- fields that differ in some places only
 
@@ -189,7 +189,7 @@ no_difference one other same =
     (λ shared. rw (same_get one other at same.size (same.same at (shared_from at shared))) (same_is (slice_get other at))))
 
 -- The anchor and each header share the bytes that headers are compared by.
-pub anchor_shares : (copy : DiskCopy) (which : Which) → IsCopy copy → length copy.header.rest ≡ 512 → first_difference (header_bytes (anchor_header copy)) (header_bytes (closed_header copy which)) ≡ None
+pub anchor_shares : (copy : DiskCopy) (which : Which) → CanBeCopy copy → length copy.header.rest ≡ 512 → first_difference (header_bytes (anchor_header copy)) (header_bytes (closed_header copy which)) ≡ None
 anchor_shares copy which is size =
     let header = copy.header in
     let fit = is.header_can.is_record.fields_fit in

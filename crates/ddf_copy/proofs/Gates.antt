@@ -7,11 +7,12 @@ use Rattle.std.proofs.lemmas.Iterator.Adapters.{position_from-zero}
 use Rattle.ddf_header.specs.declared.geometry.Section.{Section}
 use Rattle.ddf_header.specs.declared.reading.Header.{Header}
 use Rattle.ddf_bytes.specs.Bytes.{bytes_at}
+use Rattle.ddf_bytes.specs.Choices.{first_of, ok_unless, when}
 use Rattle.ddf_header.specs.declared.fault.HeaderFault.{HeaderFault}
 use Rattle.ddf_header.specs.declared.kind.HeaderKind.{HeaderKind}
 use Rattle.ddf_header.proofs.Decoded.{decoded_is}
-use Rattle.ddf_header.specs.Header.{IsHeaderOf, decoded, first_fault, header_at, ok_unless}
-use Rattle.ddf_header.specs.Geometry.{geometry_at, when, first_of}
+use Rattle.ddf_header.specs.Header.{IsHeaderOf, decoded, first_fault, header_at}
+use Rattle.ddf_header.specs.Geometry.{geometry_at}
 use Rattle.ddf_copy.specs.declared.which.Which.{Which}
 use Rattle.ddf_copy.specs.declared.fault.CopyFault.{CopyFault}
 use Rattle.ddf_copy.specs.declared.fault.CopyFault.TheVariants as faults

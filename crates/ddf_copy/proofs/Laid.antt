@@ -13,8 +13,8 @@ use Rattle.ddf_copy.specs.declared.copy.DiskCopy.{DiskCopy}
 use Rattle.ddf_copy.specs.declared.raw.Raw.{Raw}
 use Rattle.ddf_copy.specs.declared.run.Run.{Run}
 use Rattle.ddf_copy.specs.Room.{has_sector_of, meets_copy, room_fault, share}
-use Rattle.ddf_copy.specs.Written.{IsCopy}
-use Rattle.ddf_copy.specs.Runs.{AreRunsOf, AreApart, AreOn, IsInCopy, IsInParts, IsInRuns, log_run, parts_of, runs_at}
+use Rattle.ddf_copy.specs.Written.{CanBeCopy}
+use Rattle.ddf_copy.specs.Runs.{AreRunsOf, AreApart, AreOn, IsInCopy, IsInParts, RunsCover, log_run, parts_of, runs_at}
 use Rattle.ddf_copy.specs.Sections.{HasSizes, whole_slots}
 use Rattle.ddf_copy.proofs.Gates.{headers_in_room, section_in_room}
 
@@ -89,7 +89,7 @@ sections_apart geometry sound eight i j l less below a b c d =
 
 -- a sector of a later run lies in no earlier section
 later_apart : (geometry : Geometry) → IsSound geometry → length geometry.sections ≡ 8 → (i k l : ℕ) (runs : List Run) → i < k → AreWithin geometry k runs
-    → (section_of geometry i).offset ≤ l → l < (section_of geometry i).offset + (section_of geometry i).length → IsInRuns 0 runs l → ⊥
+    → (section_of geometry i).offset ≤ l → l < (section_of geometry i).offset + (section_of geometry i).length → RunsCover 0 runs l → ⊥
 later_apart geometry sound eight i k l [] less within from below in_runs = in_runs
 later_apart geometry sound eight i k l (run ∷ runs) less within from below in_runs = ⊎_elim
     (λ here.
@@ -134,7 +134,7 @@ on_from last own other geometry eight room k (first ∷ runs) within (suc i) run
 pub runs_on : (last own other : ℕ) (geometry : Geometry) (runs : List Run) → AreLaid geometry runs → room_fault last own other geometry.sections ≡ None → AreOn last own runs
 runs_on last own other geometry runs laid room = on_from last own other geometry laid.are_eight room 0 runs laid.are_within
 
-in_runs_below : (last lba : ℕ) (runs : List Run) → AreOn last lba runs → (l : ℕ) → IsInRuns lba runs l → l < last
+in_runs_below : (last lba : ℕ) (runs : List Run) → AreOn last lba runs → (l : ℕ) → RunsCover lba runs l → l < last
 in_runs_below last lba [] on l in_runs = absurd in_runs
 in_runs_below last lba (run ∷ runs) on l in_runs = ⊎_elim (λ here. omega (arith, here.1, (on 0 run refl).1)) (λ later. in_runs_below last lba runs (λ k other at. on (suc k) other at) l later) in_runs
 
@@ -159,7 +159,7 @@ unshared one many other more l none a b c d = ⊎_elim
     either false b h = inl refl
 
 unmet_run : (geometry : Geometry) → length geometry.sections ≡ 8 → (lba at many l k : ℕ) (runs : List Run) → AreWithin geometry k runs → list_any (has_sector_of lba at many) geometry.sections ≡ false
-    → at ≤ l → l < at + many → IsInRuns lba runs l → ⊥
+    → at ≤ l → l < at + many → RunsCover lba runs l → ⊥
 unmet_run geometry eight lba at many l k [] within none from below in_runs = in_runs
 unmet_run geometry eight lba at many l k (run ∷ runs) within none from below in_runs = ⊎_elim
     (λ here.
@@ -186,7 +186,7 @@ unmet geometry runs laid lba at many l none from below in_copy =
     in_copy
 
 run_apart : (last own other : ℕ) (geometry : Geometry) (all : List Run) → AreLaid geometry all → room_fault last own other geometry.sections ≡ None → (l k : ℕ) (runs : List Run) → AreWithin geometry k runs
-    → IsInRuns own runs l → IsInCopy other all l → ⊥
+    → RunsCover own runs l → IsInCopy other all l → ⊥
 run_apart last own other geometry all laid room l k [] within in_runs in_other = in_runs
 run_apart last own other geometry all laid room l k (run ∷ runs) within in_runs in_other = ⊎_elim
     (λ here.
@@ -257,7 +257,7 @@ are_laid geometry raw sound eight sizes = record {
 -- ---- where they are read
 
 -- the runs lie in the parts that are read, and have all their sectors
-pub part_in_runs : (geometry : Geometry) (raw : Raw) → HasSizes geometry raw → (lba l : ℕ) → IsInParts lba (parts_of geometry) l → IsInRuns lba (runs_at geometry raw) l
+pub part_in_runs : (geometry : Geometry) (raw : Raw) → HasSizes geometry raw → (lba l : ℕ) → IsInParts lba (parts_of geometry) l → RunsCover lba (runs_at geometry raw) l
 part_in_runs geometry raw sizes lba l in_parts = ⊎_elim
     (λ here. inl (here.0, omega (arith, here.1)))
     (λ behind. ⊎_elim
@@ -275,7 +275,7 @@ part_in_runs geometry raw sizes lba l in_parts = ⊎_elim
     behind)
     in_parts
   where
-    log_part : (sectors : List (List ℕ)) → length sectors ≡ (section_of geometry 5).length → IsInParts lba (section_of geometry 5 ∷ []) l → IsInRuns lba (log_run (section_of geometry 5) sectors) l
+    log_part : (sectors : List (List ℕ)) → length sectors ≡ (section_of geometry 5).length → IsInParts lba (section_of geometry 5 ∷ []) l → RunsCover lba (log_run (section_of geometry 5) sectors) l
     log_part [] size behind = ⊎_elim (λ here. absurd (omega (arith, size, here.0, here.1))) (λ none. absurd none) behind
     log_part (sector ∷ sectors) size behind = ⊎_elim (λ here. inl (here.0, omega (arith, size, here.1))) (λ none. absurd none) behind
 
@@ -285,7 +285,7 @@ length-numbers : (sections : List Section) → length (section_numbers sections)
 length-numbers [] = refl
 length-numbers (section ∷ sections) = let rest = length-numbers sections in omega (arith, rest)
 
-pub eight_sections : (copy : DiskCopy) → IsCopy copy → length copy.header.geometry.sections ≡ 8
+pub eight_sections : (copy : DiskCopy) → CanBeCopy copy → length copy.header.geometry.sections ≡ 8
 eight_sections copy is =
     let fits = is.header_can.is_record.fields_fit in
     let numbers = fits.1.1.1.1.1.1.1.1.1.1.1.1.1.1.1.0 in
@@ -293,6 +293,6 @@ eight_sections copy is =
     omega (arith, count, length-numbers copy.header.geometry.sections)
 
 -- the runs that a copy is written as
-pub runs_laid : (copy : DiskCopy) (runs : List Run) → IsCopy copy → AreRunsOf copy runs → AreLaid copy.header.geometry runs
+pub runs_laid : (copy : DiskCopy) (runs : List Run) → CanBeCopy copy → AreRunsOf copy runs → AreLaid copy.header.geometry runs
 runs_laid copy runs is are =
     rw are.are_runs (are_laid copy.header.geometry are.raw (sound copy.header.geometry is.header_can.is_header.has_geometry) (eight_sections copy is) are.has_sizes)

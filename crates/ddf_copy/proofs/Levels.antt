@@ -18,7 +18,7 @@ use Rattle.ddf_copy.specs.declared.copy.DiskCopy.{DiskCopy}
 use Rattle.ddf_copy.specs.declared.reading.Whole.{Whole}
 use Rattle.ddf_copy.specs.Sections.{bytes_in}
 use Rattle.ddf_copy.specs.Whole.{IsWhole}
-use Rattle.ddf_copy.specs.Written.{IsCopy, are_same, records_written, slot_counted, slot_counted_at}
+use Rattle.ddf_copy.specs.Written.{CanBeCopy, are_same, records_written, slot_counted, slot_counted_at}
 
 -- ---- item by item
 
@@ -92,7 +92,7 @@ slots_differ one other differ =
 
 -- ---- the bytes of a slot
 
-room_of : (copy : DiskCopy) → IsCopy copy → HasRoom copy.header.geometry
+room_of : (copy : DiskCopy) → CanBeCopy copy → HasRoom copy.header.geometry
 room_of copy is = room_from_sound copy.header.geometry (sound copy.header.geometry is.header_can.is_header.has_geometry)
 
 records_are : (whole : Whole) → IsWhole whole → slots_written whole.copy.header.geometry whole.copy.slots ≡ bytes_in whole.raw.records

@@ -1,11 +1,11 @@
 -- What may be wrong with the header of a copy (profile).
 use Rattle.std.specs.Prelude.{ℕ, ◌-◌, Bool, not, ◌&&◌, ◌||◌, ◌==◌, nat_le, nat_lt, List, [], ◌∷◌, slice_get, true, false, Option, Some, None, option_map, position, Result, Ok, Err, if◌then◌else◌}
 use Rattle.std.specs.List.{range_with_len}
+use Rattle.ddf_bytes.specs.Choices.{first_of, ok_unless, when}
 use Rattle.ddf_seal.specs.Records.{record_bytes}
 use Rattle.ddf_header.specs.declared.reading.Header.{Header}
-use Rattle.ddf_header.specs.Geometry.{when, first_of}
 use Rattle.ddf_header.specs.declared.fault.HeaderFault.{HeaderFault}
-use Rattle.ddf_header.specs.Header.{decoded, header_signature, header_fields, ok_unless}
+use Rattle.ddf_header.specs.Header.{decoded, header_signature, header_fields}
 use Rattle.ddf_copy.specs.declared.which.Which.{Which}
 use Rattle.ddf_copy.specs.declared.fault.CopyFault.{CopyFault}
 use Rattle.ddf_copy.specs.declared.fault.CopyFault.TheVariants as faults

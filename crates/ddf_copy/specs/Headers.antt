@@ -7,7 +7,7 @@ use Rattle.ddf_copy.specs.declared.copy.DiskCopy.{DiskCopy}
 use Rattle.ddf_copy.specs.declared.which.Which.{Which}
 use Rattle.ddf_copy.specs.Gate.{gate_fault, header_bytes}
 use Rattle.ddf_copy.specs.Which.{kind_of, place_of}
-use Rattle.ddf_copy.specs.Written.{IsCopy}
+use Rattle.ddf_copy.specs.Written.{CanBeCopy}
 
 -- the header of a copy in its place
 abbrev pub closed_header : DiskCopy → Which → Header
@@ -27,7 +27,7 @@ written_as copy which = record copy { header = closed_header copy which }
 
 -- A copy can be written in both places of a disk of so many sectors with this anchor, so that it is whole there.
 pub record IsUnder (size : ℕ) (anchor : Header) (copy : DiskCopy) : Type 0 where
-  pub is_copy : IsCopy copy
+  pub is_copy : CanBeCopy copy
   pub in_place : (which : Which) → place_of which copy.header ≡ place_of which anchor
   pub has_gate : (which : Which) → gate_fault size anchor which (closed_header copy which) (header_bytes (closed_header copy which)) ≡ None
 

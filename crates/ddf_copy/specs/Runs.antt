@@ -19,9 +19,9 @@ InRuns lba [] l bytes = ⊥
 InRuns lba (run ∷ runs) l bytes = InRun (lba + run.offset) run.sectors l bytes ⊎ InRuns lba runs l bytes
 
 -- a sector of one of the runs
-abbrev pub IsInRuns : (lba : ℕ) → List Run → ℕ → Type 0
-IsInRuns lba [] l = ⊥
-IsInRuns lba (run ∷ runs) l = ((lba + run.offset ≤ l) × (l < lba + run.offset + length run.sectors)) ⊎ IsInRuns lba runs l
+abbrev pub RunsCover : (lba : ℕ) → List Run → ℕ → Type 0
+RunsCover lba [] l = ⊥
+RunsCover lba (run ∷ runs) l = ((lba + run.offset ≤ l) × (l < lba + run.offset + length run.sectors)) ⊎ RunsCover lba runs l
 
 -- an image with these runs on a slot
 abbrev pub put_runs : Image → (slot lba : ℕ) → List Run → Image
@@ -39,13 +39,13 @@ AreOn size lba runs = (k : ℕ) (run : Run) → slice_get runs k ≡ Some run �
 -- no run lies on the header, and no two share a sector
 abbrev pub AreApart : List Run → Type 0
 AreApart [] = Unit {0}
-AreApart (run ∷ runs) = (0 < run.offset) × ((l : ℕ) → run.offset ≤ l → l < run.offset + length run.sectors → IsInRuns 0 runs l → ⊥) × AreApart runs
+AreApart (run ∷ runs) = (0 < run.offset) × ((l : ℕ) → run.offset ≤ l → l < run.offset + length run.sectors → RunsCover 0 runs l → ⊥) × AreApart runs
 
 -- ---- a copy on a disk
 
 -- a sector of a copy: its header, or one of its sections
 abbrev pub IsInCopy : (lba : ℕ) → List Run → ℕ → Type 0
-IsInCopy lba runs l = (l ≡ lba) ⊎ IsInRuns lba runs l
+IsInCopy lba runs l = (l ≡ lba) ⊎ RunsCover lba runs l
 
 -- a copy stands on a disk: its header, and its sections
 pub record HasCopy (sector : ℕ → List ℕ) (lba : ℕ) (header : List ℕ) (runs : List Run) : Type 0 where

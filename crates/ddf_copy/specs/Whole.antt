@@ -10,7 +10,7 @@ use Rattle.ddf_copy.specs.declared.reading.Whole.{Whole}
 use Rattle.ddf_header.specs.declared.reading.Header.{Header}
 use Rattle.ddf_copy.specs.Headers.{IsUnder}
 use Rattle.ddf_copy.specs.Sections.{bytes_in, raw_bytes}
-use Rattle.ddf_copy.specs.Written.{IsCopy, sections_written}
+use Rattle.ddf_copy.specs.Written.{CanBeCopy, sections_written}
 
 -- what was read, but for its sectors
 abbrev pub copy_read : Result Whole CopyFault → Result DiskCopy CopyFault
@@ -19,7 +19,7 @@ copy_read (Err fault) = Err fault
 
 -- The sectors are those that the copy is written as.
 pub record IsWhole (whole : Whole) : Type 0 where
-  pub is_copy : IsCopy whole.copy
+  pub is_copy : CanBeCopy whole.copy
   pub is_written : sections_written whole.copy ≡ raw_bytes whole.raw
 
 -- the bytes of each section but the configuration records
@@ -32,12 +32,12 @@ AreWhole (Err fault) = Unit {0}
 
 -- each copy that is whole can be written
 abbrev pub AreCopies : Copies → Type 0
-AreCopies copies = IfOk copies.primary IsCopy × IfOk copies.secondary IsCopy
+AreCopies copies = IfOk copies.primary CanBeCopy × IfOk copies.secondary CanBeCopy
 
 abbrev pub IsNewestCopy : Newest → Type 0
-IsNewestCopy (newests.One which copy) = IsCopy copy
-IsNewestCopy (newests.Level copy) = IsCopy copy
-IsNewestCopy (newests.TwoDiffer primary secondary) = IsCopy primary × IsCopy secondary
+IsNewestCopy (newests.One which copy) = CanBeCopy copy
+IsNewestCopy (newests.Level copy) = CanBeCopy copy
+IsNewestCopy (newests.TwoDiffer primary secondary) = CanBeCopy primary × CanBeCopy secondary
 IsNewestCopy (newests.Neither first second) = Unit {0}
 
 -- each copy that is whole can be written again, in both places of a disk of so many sectors with this anchor

@@ -91,7 +91,7 @@ HasLog section None = section.length ≡ 0
 HasLog section (Some log) = IsLog log × (length log.rest ≡ 512 * section.length) × (0 < section.length)
 
 -- A copy can be written so that it is read as this copy: each of its records can, in the section that the header gives.
-pub record IsCopy (copy : DiskCopy) : Type 0 where
+pub record CanBeCopy (copy : DiskCopy) : Type 0 where
   pub header_can : IsWritable copy.header.kind copy.header
   pub is_closed : copy.header.openness ≡ 0
   pub controller_can : IsController copy.controller

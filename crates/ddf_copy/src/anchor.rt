@@ -12,10 +12,7 @@ ghost use Rattle.ddf_copy.specs.Headers.{IsAnchor};
 use crate::fault::AnchorFault;
 use ddf_bay::Bay;
 use ddf_bytes::{Sector, be32};
-use ddf_header::{Header, HeaderKind, decode};
-
-/// The signature of each header.
-const HEADER_SIGNATURE: u32 = 0xDE11_DE11;
+use ddf_header::{HEADER_SIGNATURE, Header, HeaderKind, decode};
 
 /// Reads the anchor, from the slot's last sector. A slot without sectors is asked for one sync instead, and is blank where
 /// that is good.

@@ -7,7 +7,7 @@ ghost use Rattle.ddf_copy.specs.Copies.{are_level, copies_of, copy_of, newest_in
 ghost use Rattle.ddf_copy.specs.Faults.{IsShowFaultOf, show_failed};
 ghost use Rattle.ddf_copy.specs.Headers.{IsAnchor, IsUnder};
 ghost use Rattle.ddf_copy.specs.Whole.{AreCopies, AreUnder, AreWhole, IsNewestCopy, IsNewestUnder, IsWhole, IsWholeUnder, copy_read};
-ghost use Rattle.ddf_copy.specs.Written.{IsCopy};
+ghost use Rattle.ddf_copy.specs.Written.{CanBeCopy};
 ghost use Rattle.ddf_copy.specs.declared.fault.CopyFault.{CopyFault};
 
 use crate::copy::DiskCopy;
@@ -136,7 +136,7 @@ fn are_level(primary: &Result<Whole, CopyFault>, secondary: &Result<Whole, CopyF
 
 fn copy_read(found: Result<Whole, CopyFault>) -> Result<DiskCopy, CopyFault>
     ensures value { result ≡ copy_read found }
-    ensures writable { AreWhole found → IfOk result IsCopy }
+    ensures writable { AreWhole found → IfOk result CanBeCopy }
     ensures under { (size : ℕ) (anchor : Header) → IsWholeUnder size anchor found → IfOk result (IsUnder size anchor) }
 {
     match found {

@@ -4,7 +4,7 @@ ghost use Rattle.ddf_header.specs.Header.{IsWritable};
 ghost use Rattle.ddf_header.specs.declared.kind.HeaderKind.{HeaderKind};
 ghost use Rattle.ddf_copy.specs.Headers.{anchor_header, closed_header, opened_header};
 ghost use Rattle.ddf_copy.specs.Which.{kind_of};
-ghost use Rattle.ddf_copy.specs.Written.{IsCopy};
+ghost use Rattle.ddf_copy.specs.Written.{CanBeCopy};
 
 use crate::copy::DiskCopy;
 use crate::which::Which;
@@ -22,7 +22,7 @@ impl DiskCopy {
     /// The copy's header in its place, with its gate closed.
     pub fn closed_header(&self, which: Which) -> Header
         ensures value { result ≡ closed_header self.now which }
-        ensures writable { IsCopy self.now → IsWritable (kind_of which) result }
+        ensures writable { CanBeCopy self.now → IsWritable (kind_of which) result }
     {
         Header {
             kind: which.kind(),
@@ -34,7 +34,7 @@ impl DiskCopy {
     /// The copy's header in its place, with its gate open.
     pub fn opened_header(&self, which: Which) -> Header
         ensures value { result ≡ opened_header self.now which }
-        ensures writable { IsCopy self.now → IsWritable (kind_of which) result }
+        ensures writable { CanBeCopy self.now → IsWritable (kind_of which) result }
     {
         Header {
             kind: which.kind(),
@@ -46,7 +46,7 @@ impl DiskCopy {
     /// The anchor of a disk with this copy.
     pub fn anchor_header(&self) -> Header
         ensures value { result ≡ anchor_header self.now }
-        ensures writable { IsCopy self.now → IsWritable HeaderKind.Anchor result }
+        ensures writable { CanBeCopy self.now → IsWritable HeaderKind.Anchor result }
     {
         Header {
             kind: HeaderKind::Anchor,

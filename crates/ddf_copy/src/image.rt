@@ -7,7 +7,7 @@ ghost use Rattle.ddf_copy.specs.Headers.{IsUnder, written_as};
 ghost use Rattle.ddf_copy.specs.Image.{AreLong, HoldsImage, image_written};
 ghost use Rattle.ddf_copy.specs.Sections.{bytes_in, raw_bytes};
 ghost use Rattle.ddf_copy.specs.Which.{place_of};
-ghost use Rattle.ddf_copy.specs.Written.{IsCopy};
+ghost use Rattle.ddf_copy.specs.Written.{CanBeCopy};
 
 use crate::copy::DiskCopy;
 use crate::raw::Raw;
@@ -20,7 +20,7 @@ use std::alloc::Global;
 /// The bytes of a copy in its place: the sector of its closed header, and behind it those of its sections that are written,
 /// in the order of the header. The copy is one that can stand on a disk.
 pub fn image_of(alloc: Global, copy: &DiskCopy, which: Which) -> Result<Vec<u8>, NoMemory>
-    requires { IsCopy copy.now }
+    requires { CanBeCopy copy.now }
     ensures image { IfOk result (λ image. image.items ≡ image_written copy.now which) }
 
     // A disk that holds these bytes where they are read, under an anchor that the copy fits, has the copy whole.

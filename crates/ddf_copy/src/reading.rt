@@ -11,7 +11,7 @@ ghost use Rattle.ddf_copy.specs.Headers.{IsAnchor, IsReadHeader, IsUnder};
 ghost use Rattle.ddf_copy.specs.Room.{DoFit};
 ghost use Rattle.ddf_copy.specs.Whole.{IsWhole, copy_read};
 ghost use Rattle.ddf_copy.specs.Which.{place_of};
-ghost use Rattle.ddf_copy.specs.Written.{IsCopy};
+ghost use Rattle.ddf_copy.specs.Written.{CanBeCopy};
 ghost use Rattle.ddf_copy.specs.declared.fault.CopyFault.{CopyFault};
 
 use crate::copy::DiskCopy;
@@ -44,7 +44,7 @@ pub fn read_copy<B: Bay>(
 ) -> Result<DiskCopy, CopyFault>
     requires { slot < length (B.disks bay.old).sizes }
     ensures copy { B.tells → UpToLook slot result (on_slot copy_of (B.disks bay.old) slot anchor.now which) }
-    ensures writable { IfOk result IsCopy }
+    ensures writable { IfOk result CanBeCopy }
     // It can be written again, in both places.
     ensures under { IsAnchor anchor.now → IfOk result (IsUnder (slice_index (B.disks bay.old).sizes slot) anchor.now) }
     ensures reads { ReadsOnly (B.disks bay.old) (B.disks bay.new) }

@@ -1,6 +1,6 @@
 ghost use Rattle.std.specs.Prelude.{◌≡◌, IfOk, [], ◌∷◌};
 ghost use Rattle.ddf_copy.specs.Runs.{AreRunsOf, run_of, runs_at};
-ghost use Rattle.ddf_copy.specs.Written.{IsCopy};
+ghost use Rattle.ddf_copy.specs.Written.{CanBeCopy};
 ghost use Rattle.ddf_header.specs.Geometry.{IsSound};
 
 use crate::copy::DiskCopy;
@@ -22,7 +22,7 @@ pub struct Run {
 
 /// The sections that a copy is written as, in the order of the header. The copy is one that can stand on a disk.
 pub fn runs_of(alloc: Global, copy: &DiskCopy) -> Result<Seq<Run>, NoMemory>
-    requires { IsCopy copy.now }
+    requires { CanBeCopy copy.now }
     ensures { IfOk result (AreRunsOf copy.now) }
 {
     let raw = raw_of(alloc, copy)?;

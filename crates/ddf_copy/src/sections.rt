@@ -11,7 +11,7 @@ ghost use Rattle.ddf_configs.specs.Slots.{CanBeSlots, DoFit, decoded_slots};
 ghost use Rattle.ddf_copy.specs.declared.fault.SectionName.{SectionName};
 ghost use Rattle.ddf_copy.specs.Faults.{UpToMemory, copy_failed};
 ghost use Rattle.ddf_copy.specs.Sections.{HasSizes, bytes_in, copy_in, in_section, in_sector, in_slots, log_in, raw_bytes, whole_slots};
-ghost use Rattle.ddf_copy.specs.Written.{HasLog, IsCopy, arrays_written, controller_written, disk_data_written, disks_written, log_written, records_written, sections_written};
+ghost use Rattle.ddf_copy.specs.Written.{HasLog, CanBeCopy, arrays_written, controller_written, disk_data_written, disks_written, log_written, records_written, sections_written};
 
 use crate::copy::DiskCopy;
 use crate::fault::{CopyFault, SectionName};
@@ -34,7 +34,7 @@ pub(crate) fn copy_in(alloc: Global, header: &Header, raw: &Raw) -> Result<DiskC
     requires sizes { HasSizes header.now.geometry raw.now }
     ensures copy { UpToMemory result (copy_in header.now raw.now) }
     ensures written { IfOk result (λ copy. sections_written copy ≡ raw_bytes raw.now) }
-    ensures writable { IfOk result IsCopy }
+    ensures writable { IfOk result CanBeCopy }
     ensures header { IfOk result (λ copy. copy.header ≡ header.now) }
     ensures no_look { copy_failed result ≡ false }
 {

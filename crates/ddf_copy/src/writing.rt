@@ -10,7 +10,7 @@ ghost use Rattle.ddf_configs.specs.Slots.{AreSlotsOf, CanBeSlots, DoFit, decoded
 ghost use Rattle.ddf_header.specs.declared.geometry.Section.{Section};
 ghost use Rattle.ddf_copy.specs.Runs.{IsReadAs};
 ghost use Rattle.ddf_copy.specs.Sections.{HasSizes, bytes_in, log_in, raw_bytes, whole_slots};
-ghost use Rattle.ddf_copy.specs.Written.{HasLog, IsCopy, arrays_written, controller_written, disk_data_written, disks_written, log_written, records_written, sections_written};
+ghost use Rattle.ddf_copy.specs.Written.{HasLog, CanBeCopy, arrays_written, controller_written, disk_data_written, disks_written, log_written, records_written, sections_written};
 
 use crate::copy::DiskCopy;
 use crate::raw::{Raw, whole_slots};
@@ -25,7 +25,7 @@ use std::alloc::Global;
 
 /// The sectors of each section of a copy.
 pub(crate) fn raw_of(alloc: Global, copy: &DiskCopy) -> Result<Raw, NoMemory>
-    requires { IsCopy copy.now }
+    requires { CanBeCopy copy.now }
     ensures read { IfOk result (IsReadAs copy.now) }
     ensures sizes { IfOk result (HasSizes copy.now.header.geometry) }
     ensures written { IfOk result (λ raw. raw_bytes raw ≡ sections_written copy.now) }
@@ -64,7 +64,7 @@ fn sectors_in(alloc: Global, bytes: &[u8]) -> Result<Seq<Sector>, NoMemory>
 }
 
 fn disks_of(alloc: Global, copy: &DiskCopy) -> Result<Seq<Sector>, NoMemory>
-    requires { IsCopy copy.now }
+    requires { CanBeCopy copy.now }
     ensures written { IfOk result (λ sectors. bytes_in sectors ≡ disks_written copy.now.disks) }
     ensures read { IfOk result (λ sectors. decoded_disks copy.now.header.geometry.max_disks (bytes_in sectors) ≡ Ok copy.now.disks) }
     ensures size { IfOk result (λ sectors. length sectors ≡ (section_of copy.now.header.geometry 1).length) }
@@ -76,7 +76,7 @@ fn disks_of(alloc: Global, copy: &DiskCopy) -> Result<Seq<Sector>, NoMemory>
 }
 
 fn arrays_of(alloc: Global, copy: &DiskCopy) -> Result<Seq<Sector>, NoMemory>
-    requires { IsCopy copy.now }
+    requires { CanBeCopy copy.now }
     ensures written { IfOk result (λ sectors. bytes_in sectors ≡ arrays_written copy.now.arrays) }
     ensures read { IfOk result (λ sectors. decoded_arrays copy.now.header.geometry.max_arrays (bytes_in sectors) ≡ Ok copy.now.arrays) }
     ensures size { IfOk result (λ sectors. length sectors ≡ (section_of copy.now.header.geometry 2).length) }
@@ -89,7 +89,7 @@ fn arrays_of(alloc: Global, copy: &DiskCopy) -> Result<Seq<Sector>, NoMemory>
 
 /// The whole slots.
 fn records_of(alloc: Global, copy: &DiskCopy) -> Result<Seq<Sector>, NoMemory>
-    requires { IsCopy copy.now }
+    requires { CanBeCopy copy.now }
     ensures written { IfOk result (λ sectors. bytes_in sectors ≡ records_written copy.now.header.geometry copy.now.slots) }
     ensures read { IfOk result (λ sectors. decoded_slots copy.now.header.geometry copy.now.header.guid copy.now.header.sequence (bytes_in sectors) ≡ Ok copy.now.slots) }
     ensures size { IfOk result (λ sectors. length sectors ≡ (whole_slots copy.now.header.geometry).length) }

@@ -7,6 +7,8 @@ use Rattle.std.specs.Int.{w64}
 use Rattle.std.proofs.lemmas.Bool.{eqb-true}
 use Rattle.std.proofs.lemmas.Slice.Eq.{bytes_eq-Decides}
 use Rattle.ddf_bytes.specs.Bytes.{bytes_at, number_at}
+use Rattle.ddf_bytes.specs.Choices.{ok_unless, when}
+use Rattle.ddf_bytes.proofs.Nones.{none_first, none_map, none_when_not}
 use Rattle.ddf_seal.specs.Seal.{seal_check}
 use Rattle.ddf_seal.specs.Unread.{AreBytes}
 use Rattle.ddf_seal.specs.declared.sealing.SealFault.{SealFault}
@@ -20,9 +22,8 @@ use Rattle.ddf_header.specs.declared.reading.Header.{Header}
 use Rattle.ddf_header.specs.declared.fault.HeaderFault.{HeaderFault}
 use Rattle.ddf_header.specs.declared.fault.HeaderFault.TheVariants as faults
 use Rattle.ddf_header.specs.Layout.{kind_code, revision_text, revision_of}
-use Rattle.ddf_header.specs.Geometry.{geometry_at, geometry_fault, when, IsSound}
-use Rattle.ddf_header.specs.Header.{header_signature, is_open_flag, are_header_places, IsHeaderOf, IsWritable, faults_of, first_fault, header_at, ok_unless, decoded}
-use Rattle.ddf_header.proofs.Nones.{none_first, none_when, none_map}
+use Rattle.ddf_header.specs.Geometry.{geometry_at, geometry_fault, IsSound}
+use Rattle.ddf_header.specs.Header.{header_signature, is_open_flag, are_header_places, IsHeaderOf, IsWritable, faults_of, first_fault, header_at, decoded}
 use Rattle.ddf_header.proofs.Sound.{sound}
 use Rattle.ddf_header.proofs.Encoded.{writable_from_value}
 use Rattle.ddf_header.proofs.Faults.{KindStands, no_fault}
@@ -58,11 +59,11 @@ conditions kind sector h =
               before = record { seal_stands = none_err seal (none_map faults.Seal (result_err seal) none.0) };
               revision_stands = some_revision (revision_of (bytes_at sector 32 8)) none.1.0;
             };
-            flag_stands = none_when (is_open_flag kind (slice_index sector 48)) (faults.OpenFlag (slice_index sector 48)) none.1.1.0;
+            flag_stands = none_when_not (is_open_flag kind (slice_index sector 48)) (faults.OpenFlag (slice_index sector 48)) none.1.1.0;
           };
-          places_stand = none_when (are_header_places (number_at w64 sector 96) (number_at w64 sector 104)) faults.Place none.1.1.1.0;
+          places_stand = none_when_not (are_header_places (number_at w64 sector 96) (number_at w64 sector 104)) faults.Place none.1.1.1.0;
         };
-        kind_stands = eqb-true (slice_index sector 112) (kind_code kind) (none_when (eqb (slice_index sector 112) (kind_code kind)) (faults.Kind (slice_index sector 112)) none.1.1.1.1.0);
+        kind_stands = eqb-true (slice_index sector 112) (kind_code kind) (none_when_not (eqb (slice_index sector 112) (kind_code kind)) (faults.Kind (slice_index sector 112)) none.1.1.1.1.0);
       },
       none_map faults.Geometry (geometry_fault (geometry_at sector)) none.1.1.1.1.1.0,
     )

@@ -1,4 +1,3 @@
-pub mod Nones
 pub mod Faults
 pub mod Sections
 pub mod Sound

@@ -4,10 +4,10 @@ use Rattle.std.specs.Prelude.{slice_get}
 use Rattle.std.specs.List.{list_any, enumerate_from, position_from}
 use Rattle.std.proofs.lemmas.Bool.{cases_eq, eq-eqb, ne_eqb, ltb-false, eqb-true, eqb-false}
 use Rattle.std.proofs.lemmas.Iterator.Adapters.{position_from-zero}
+use Rattle.ddf_bytes.proofs.Nones.{none_first, none_map, none_when_not}
 use Rattle.ddf_header.specs.declared.geometry.Section.{Section}
 use Rattle.ddf_header.specs.declared.geometry.Geometry.{Geometry}
 use Rattle.ddf_header.specs.Geometry.{is_maximum, is_member_maximum, record_sectors, least_bytes, is_short, is_long, meets, is_bad_section, bad_section, geometry_faults_of, geometry_fault, IsGoodSection, IsSound}
-use Rattle.ddf_header.proofs.Nones.{none_first, none_when, none_map}
 
 -- ---- no place passes
 
@@ -86,10 +86,10 @@ sound geometry h =
     let no_section : position_from (test geometry) 0 (enumerate_from 0 geometry.sections) ≡ None =
     sym (position_from-zero (test geometry) (enumerate_from 0 geometry.sections)) ∙ none_map (λ (index : ℕ). 192 + 8 * index) (bad_section geometry) none.1.1.1.1.0 in
     record {
-      disks_known = none_when (is_maximum geometry.max_disks) 128 none.0;
-      arrays_known = none_when (is_maximum geometry.max_arrays) 130 none.1.0;
-      records_fit = eqb-true geometry.record_length (record_sectors geometry.max_members) (none_when (eqb geometry.record_length (record_sectors geometry.max_members)) 134 none.1.1.0);
-      members_known = none_when (is_member_maximum geometry.max_members) 136 none.1.1.1.0;
+      disks_known = none_when_not (is_maximum geometry.max_disks) 128 none.0;
+      arrays_known = none_when_not (is_maximum geometry.max_arrays) 130 none.1.0;
+      records_fit = eqb-true geometry.record_length (record_sectors geometry.max_members) (none_when_not (eqb geometry.record_length (record_sectors geometry.max_members)) 134 none.1.1.0);
+      members_known = none_when_not (is_member_maximum geometry.max_members) 136 none.1.1.1.0;
       sections_good = λ index section at.
           good_section geometry index section (ap (λ (n : ℕ). is_bad_section geometry n section) (sym (zero-add index))
           ∙ none_passes (test geometry) 0 (enumerate_from 0 geometry.sections) index (0 + index, section) no_section (numbered 0 geometry.sections index section at));

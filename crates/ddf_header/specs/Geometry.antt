@@ -4,6 +4,7 @@ use Rattle.std.specs.List.{flat_map, list_any, enumerate_from}
 use Rattle.std.specs.Option.{option_or}
 use Rattle.std.specs.Int.{w16, w32, w64}
 use Rattle.ddf_bytes.specs.Bytes.{number_at}
+use Rattle.ddf_bytes.specs.Choices.{first_of, when}
 use Rattle.ddf_seal.specs.Unread.{Field, u16_at, u32_at, u64_at, u32s_at}
 use Rattle.ddf_header.specs.declared.geometry.Section.{Section}
 use Rattle.ddf_header.specs.declared.geometry.Geometry.{Geometry}
@@ -102,14 +103,6 @@ is_bad_section geometry index section =
     || list_any (meets section) (take index geometry.sections))
 
 -- ---- what is wrong with it
-
-abbrev pub when : {X : Type 0} → Bool → X → Option X
-when test x = if test then Some x else None
-
--- the first that is there
-abbrev pub first_of : {X : Type 0} → List (Option X) → Option X
-first_of [] = None
-first_of (o ∷ os) = option_or o (first_of os)
 
 -- the place of the first section that is not as it may be
 abbrev pub bad_section : Geometry → Option ℕ

@@ -3,6 +3,7 @@ use Rattle.std.specs.Prelude.{◌≡◌, ℕ, ◌-◌, ◌^◌, Bool, true, not,
 use Rattle.std.specs.Result.{result_err}
 use Rattle.std.specs.Int.{w32, w64}
 use Rattle.ddf_bytes.specs.Bytes.{bytes_at, number_at}
+use Rattle.ddf_bytes.specs.Choices.{first_of, when, ok_unless}
 use Rattle.ddf_seal.specs.Seal.{seal_check, seal_place}
 use Rattle.ddf_seal.specs.Records.{IsRecord, IsRecordOf}
 use Rattle.ddf_seal.specs.Unread.{Field, u8_at, u32_at, u64_at, plain_at, cleared, places}
@@ -13,7 +14,7 @@ use Rattle.ddf_header.specs.declared.reading.Header.{Header}
 use Rattle.ddf_header.specs.declared.fault.HeaderFault.{HeaderFault}
 use Rattle.ddf_header.specs.declared.fault.HeaderFault.TheVariants as faults
 use Rattle.ddf_header.specs.Layout.{kind_code, revision_text, revision_of}
-use Rattle.ddf_header.specs.Geometry.{geometry_at, geometry_fields, geometry_fault, when, first_of}
+use Rattle.ddf_header.specs.Geometry.{geometry_at, geometry_fields, geometry_fault}
 
 abbrev pub header_signature : ℕ
 header_signature = 0xDE11_DE11
@@ -105,10 +106,6 @@ named kind sector = record {
 -- the header that stands in a sector
 abbrev pub header_at : HeaderKind → List ℕ → Header
 header_at kind sector = record (named kind sector) { rest = unread (named kind sector) sector }
-
-abbrev pub ok_unless : {T E : Type 0} → Option E → T → Result T E
-ok_unless None x = Ok x
-ok_unless (Some e) x = Err e
 
 -- the first fault, or else the header
 abbrev pub decoded : HeaderKind → List ℕ → Result Header HeaderFault

@@ -1,7 +1,8 @@
 // Where the fields of a header stand in its sector (SNIA DDF 2.0).
 use ddf_seal::{SEAL, Span};
 
-pub(crate) const SIGNATURE: u32 = 0xDE11_DE11;
+/// The signature of each header (SNIA DDF 2.0).
+pub const HEADER_SIGNATURE: u32 = 0xDE11_DE11;
 
 pub(crate) const GUID: usize = 8;
 

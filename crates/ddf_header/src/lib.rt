@@ -14,5 +14,6 @@ pub use geometry::{
     VENDOR_LOGS,
 };
 pub use kind::{HeaderKind, Revision};
+pub use layout::HEADER_SIGNATURE;
 pub use reading::{Header, decode};
 pub use writing::encode;

@@ -48,7 +48,7 @@ pub fn decode(sector: &Sector, kind: HeaderKind) -> Result<Header, HeaderFault>
 fn read(sector: &Sector, kind: HeaderKind) -> Result<Header, HeaderFault>
     ensures { result ≡ decoded kind sector.now }
 {
-    if let Err(fault) = check(sector, layout::SIGNATURE) {
+    if let Err(fault) = check(sector, layout::HEADER_SIGNATURE) {
         return Err(HeaderFault::Seal(fault));
     }
     let Some(revision) = Revision::from_text(&sector[layout::REVISION..layout::REVISION + 8]) else {

@@ -39,7 +39,7 @@ fn write(sector: &mut [u8], header: &Header)
 {
     put_names(sector, header);
     header.geometry.put(sector);
-    seal(sector, layout::SIGNATURE);
+    seal(sector, layout::HEADER_SIGNATURE);
 }
 
 /// Writes the fields before the geometry.

@@ -1,4 +1,4 @@
-pub mod Nones
+pub mod Answers
 pub mod Parts
 pub mod SeenNames
 pub mod TableRows

@@ -7,6 +7,8 @@ use Rattle.std.proofs.lemmas.Bool.{ltb-false, le-ltb}
 use Rattle.std.proofs.lemmas.List.{length-replicate}
 use Rattle.ddf_bytes.specs.declared.no_memory.NoMemory.{NoMemory}
 use Rattle.ddf_bytes.specs.Bytes.{number_at}
+use Rattle.ddf_bytes.specs.Choices.{first_of, ok_unless}
+use Rattle.ddf_bytes.proofs.Nones.{none_first, none_map, none_when}
 use Rattle.ddf_seal.specs.declared.unread.Span.{Span}
 use Rattle.ddf_seal.specs.Seal.{seal_check, seal_place}
 use Rattle.ddf_seal.specs.Unread.{AreBytes, places, cleared}
@@ -17,9 +19,9 @@ use Rattle.ddf_tables.specs.declared.bad_blocks.BadBlock.{BadBlock}
 use Rattle.ddf_tables.specs.declared.fault.TableFault.{TableFault}
 use Rattle.ddf_tables.specs.declared.fault.TableFault.TheVariants as faults
 use Rattle.ddf_tables.specs.Places.{each_at}
-use Rattle.ddf_tables.specs.Faults.{first_of, ok_unless, UpToMemory}
+use Rattle.ddf_tables.specs.Faults.{UpToMemory}
 use Rattle.ddf_tables.specs.BadBlocks.{LogValue, log_signature, log_fields, IsLogOf, IsLog, log_bytes, entry_at, unread_of_log, log_at, entries_that_fit, log_faults, decoded_log, blank_log}
-use Rattle.ddf_tables.proofs.Nones.{none_first, none_when, none_map, none_err, if_ok, if_ok_then}
+use Rattle.ddf_tables.proofs.Answers.{none_err, if_ok, if_ok_then}
 use Rattle.ddf_tables.proofs.Parts.{length-each_at}
 use Rattle.ddf_tables.proofs.LogEntries.{places_of_entries, entries_within, apart_from_entries, entries_apart, entries_stand, entries_only}
 

@@ -4,11 +4,11 @@ use Rattle.std.specs.List.{AllByRecursion, IsDistinct, filter_map, list_any}
 use Rattle.std.specs.Option.{option_or}
 use Rattle.std.proofs.Math.Seq.{take-append_seam}
 use Rattle.std.proofs.lemmas.List.Folds.{list_any-append}
+use Rattle.ddf_bytes.specs.Choices.{when}
+use Rattle.ddf_bytes.proofs.Nones.{none_when}
 use Rattle.ddf_tables.specs.declared.fault.TableFault.{TableFault}
-use Rattle.ddf_tables.specs.Faults.{when}
 use Rattle.ddf_tables.specs.Rows.{has_name, twice_by, HaveOwnNames}
 use Rattle.ddf_tables.specs.Tables.{first_twice}
-use Rattle.ddf_tables.proofs.Nones.{none_when}
 use Rattle.ddf_tables.proofs.TableRows.{faults_from}
 
 pub record NameLaws {Row : Type 0} (twice : List Row → Row → Option TableFault) (HaveNames : List Row → Type 0) : Type 0 where

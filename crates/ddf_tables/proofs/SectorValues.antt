@@ -4,6 +4,7 @@ use Rattle.std.proofs.Common.{◌≡◌, ◌↔◌, ℕ, ◌<◌, ◌^◌, List,
 use Rattle.std.specs.Prelude.{IfOk}
 use Rattle.std.specs.List.{list_all}
 use Rattle.std.specs.Result.{result_err}
+use Rattle.ddf_bytes.specs.Choices.{ok_unless}
 use Rattle.ddf_seal.specs.declared.sealing.SealFault.{SealFault}
 use Rattle.ddf_seal.specs.Seal.{seal_check, seal_place, IsSealed}
 use Rattle.ddf_seal.specs.Unread.{Field, AreBytes, places, is_within}
@@ -13,7 +14,6 @@ use Rattle.ddf_seal.proofs.Seals.{sealed_from_check, check_from_sealed}
 use Rattle.ddf_seal.proofs.Records.{apart_from_test, record_again, record_from_bytes, record_written, length-record_bytes}
 use Rattle.ddf_tables.specs.declared.controller.Controller.{Controller}
 use Rattle.ddf_tables.specs.declared.disk_data.DiskData.{DiskData}
-use Rattle.ddf_tables.specs.Faults.{ok_unless}
 use Rattle.ddf_tables.specs.Sectors.{sealed_value, controller_signature, controller_fields, IsControllerOf, IsController, controller_at, disk_data_signature, disk_data_fields, IsDiskDataOf, IsDiskData, disk_data_at}
 
 -- ---- records of one sector

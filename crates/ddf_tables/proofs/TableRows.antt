@@ -4,10 +4,10 @@ use Rattle.std.specs.List.{enumerate_from, flat_map}
 use Rattle.std.specs.Option.{option_or}
 use Rattle.std.proofs.lemmas.List.{take_more}
 use Rattle.std.proofs.lemmas.List.Concat.{flat_map-append}
+use Rattle.ddf_bytes.specs.Choices.{first_of}
 use Rattle.ddf_seal.specs.Unread.{placed}
 use Rattle.ddf_seal.proofs.Same.{placed_after}
 use Rattle.ddf_tables.specs.declared.fault.TableFault.{TableFault}
-use Rattle.ddf_tables.specs.Faults.{first_of}
 
 -- what is wrong with rows that stand from some place on among all, by those before them
 abbrev pub faults_from : {Row : Type 0} → (List Row → Row → Option TableFault) → List Row → ℕ → List Row → Option TableFault

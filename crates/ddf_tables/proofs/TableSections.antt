@@ -9,6 +9,8 @@ use Rattle.std.proofs.lemmas.List.{length-replicate}
 use Rattle.std.proofs.lemmas.List.Sums.{count_by-le-length}
 use Rattle.ddf_bytes.specs.declared.no_memory.NoMemory.{NoMemory}
 use Rattle.ddf_bytes.specs.Bytes.{bytes_at, number_at}
+use Rattle.ddf_bytes.specs.Choices.{first_of, ok_unless}
+use Rattle.ddf_bytes.proofs.Nones.{none_first, none_map, none_when_not}
 use Rattle.ddf_seal.specs.Seal.{seal_check, seal_place}
 use Rattle.ddf_seal.specs.Unread.{AreBytes}
 use Rattle.ddf_seal.specs.Records.{IsRecordOf, IsRecord, record_bytes}
@@ -17,9 +19,9 @@ use Rattle.ddf_seal.proofs.Seals.{sealed_from_check, check_from_sealed}
 use Rattle.ddf_seal.proofs.Records.{AreAllApart, record_again, record_from_bytes, record_written, length-record_bytes}
 use Rattle.ddf_tables.specs.declared.fault.TableFault.{TableFault}
 use Rattle.ddf_tables.specs.declared.fault.TableFault.TheVariants as faults
-use Rattle.ddf_tables.specs.Faults.{first_of, ok_unless, UpToMemory}
+use Rattle.ddf_tables.specs.Faults.{UpToMemory}
 use Rattle.ddf_tables.specs.Tables.{TableValue, table_fields, first_twice, IsTableOf, IsTable, table_places, unread_of_table, table_bytes, rows_at, table_at, table_faults, decoded_table, blank_table, replaced_table}
-use Rattle.ddf_tables.proofs.Nones.{none_first, none_when_not, none_map, none_err, if_ok, if_ok_then}
+use Rattle.ddf_tables.proofs.Answers.{none_err, if_ok, if_ok_then}
 use Rattle.ddf_tables.proofs.Parts.{length-each_at}
 use Rattle.ddf_tables.proofs.Names.{NameLaws}
 use Rattle.ddf_tables.proofs.TableValues.{RowLaws, rows_at_stand, rows_at_only, row_bytes_again, rows_are_good, length-row_bytes, rows_stand_written}

@@ -4,6 +4,7 @@ use Rattle.std.specs.List.{flat_map}
 use Rattle.std.specs.Result.{result_err}
 use Rattle.std.specs.Int.{w16, w32, w64}
 use Rattle.ddf_bytes.specs.Bytes.{number_at}
+use Rattle.ddf_bytes.specs.Choices.{first_of, ok_unless, when}
 use Rattle.ddf_seal.specs.declared.unread.Span.{Span}
 use Rattle.ddf_seal.specs.Seal.{seal_check, seal_place}
 use Rattle.ddf_seal.specs.Records.{IsRecord, IsRecordOf, record_bytes}
@@ -12,7 +13,6 @@ use Rattle.ddf_tables.specs.declared.bad_blocks.BadBlock.{BadBlock}
 use Rattle.ddf_tables.specs.declared.fault.TableFault.{TableFault}
 use Rattle.ddf_tables.specs.declared.fault.TableFault.TheVariants as faults
 use Rattle.ddf_tables.specs.Places.{each_at}
-use Rattle.ddf_tables.specs.Faults.{when, first_of, ok_unless}
 
 -- What contracts see of a log: its entries in order, the count and the first LBA of the spare blocks, and the section with
 -- zeros in the places of all fields.

@@ -2,8 +2,8 @@
 use Rattle.std.specs.Prelude.{◌≡◌, ℕ, Bool, false, ◌==◌, ◌||◌, List, Option}
 use Rattle.std.specs.List.{AllByRecursion, IsDistinct, filter_map, list_all, list_any}
 use Rattle.std.specs.Option.{option_and_then, option_map_or}
+use Rattle.ddf_bytes.specs.Choices.{when}
 use Rattle.ddf_tables.specs.declared.fault.TableFault.{TableFault}
-use Rattle.ddf_tables.specs.Faults.{when}
 
 -- a GUID of bytes FF
 abbrev pub is_unused : List ℕ → Bool

@@ -3,13 +3,13 @@ use Rattle.std.specs.Prelude.{◌≡◌, ℕ, List, [], ◌∷◌, length, Resul
 use Rattle.std.specs.Result.{result_err}
 use Rattle.std.specs.Int.{w32}
 use Rattle.ddf_bytes.specs.Bytes.{bytes_at, number_at}
+use Rattle.ddf_bytes.specs.Choices.{ok_unless}
 use Rattle.ddf_seal.specs.declared.sealing.SealFault.{SealFault}
 use Rattle.ddf_seal.specs.Seal.{seal_check, seal_place}
 use Rattle.ddf_seal.specs.Records.{IsRecord, IsRecordOf}
 use Rattle.ddf_seal.specs.Unread.{Field, u32_at, plain_at, cleared}
 use Rattle.ddf_tables.specs.declared.controller.Controller.{Controller}
 use Rattle.ddf_tables.specs.declared.disk_data.DiskData.{DiskData}
-use Rattle.ddf_tables.specs.Faults.{ok_unless}
 
 -- the fault of a seal, or else the value
 abbrev pub sealed_value : {T : Type 0} → ℕ → T → List ℕ → Result T SealFault

@@ -4,6 +4,7 @@ use Rattle.std.specs.List.{AllByRecursion, enumerate_from, flat_map}
 use Rattle.std.specs.Result.{result_err}
 use Rattle.std.specs.Int.{w16}
 use Rattle.ddf_bytes.specs.Bytes.{bytes_at, number_at}
+use Rattle.ddf_bytes.specs.Choices.{first_of, ok_unless, when}
 use Rattle.ddf_seal.specs.declared.unread.Span.{Span}
 use Rattle.ddf_seal.specs.Seal.{seal_check, seal_place}
 use Rattle.ddf_seal.specs.Records.{IsRecordOf, record_bytes}
@@ -11,7 +12,6 @@ use Rattle.ddf_seal.specs.Unread.{Field, u16_at, plain_at, cleared}
 use Rattle.ddf_tables.specs.declared.fault.TableFault.{TableFault}
 use Rattle.ddf_tables.specs.declared.fault.TableFault.TheVariants as faults
 use Rattle.ddf_tables.specs.Places.{each_at}
-use Rattle.ddf_tables.specs.Faults.{when, first_of, ok_unless}
 
 -- What contracts see of a table: the populated count as it is stored, the rows in order, and the section with zeros in
 -- the places of the seal, the two counts and the rows.

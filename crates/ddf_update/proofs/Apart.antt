@@ -2,7 +2,7 @@
 use Rattle.std.proofs.Common.{◌⊎◌, ℕ, ◌+◌, ◌<◌, ◌≤◌, List, [], ◌∷◌, length, inl, inr, ⊎_elim, arith}
 use Rattle.ddf_copy.specs.declared.run.Run.{Run}
 use Rattle.ddf_update.specs.declared.gate.Gate.{Gate}
-use Rattle.ddf_copy.specs.Runs.{AreApart, IsInCopy, IsInRuns}
+use Rattle.ddf_copy.specs.Runs.{AreApart, IsInCopy, RunsCover}
 use Rattle.ddf_update.specs.Gate.{AreBothApart}
 
 -- the first run begins at this offset or behind it, and each other one behind the run before it
@@ -15,7 +15,7 @@ abbrev pub end_of : (from : ℕ) → List Run → ℕ
 end_of from [] = from
 end_of from (run ∷ runs) = end_of (run.offset + length run.sectors) runs
 
-past_from : (from lba : ℕ) (runs : List Run) (l : ℕ) → AreInOrder from runs → IsInRuns lba runs l → lba + from ≤ l
+past_from : (from lba : ℕ) (runs : List Run) (l : ℕ) → AreInOrder from runs → RunsCover lba runs l → lba + from ≤ l
 past_from from lba [] l order there = absurd there
 past_from from lba (run ∷ runs) l order (inl there) = omega (arith, order.0, there.0)
 past_from from lba (run ∷ runs) l order (inr there) = omega (arith, order.0, past_from (run.offset + length run.sectors) lba runs l order.1 there)
@@ -24,7 +24,7 @@ from_below : (from : ℕ) (runs : List Run) → AreInOrder from runs → from �
 from_below from [] order = omega arith
 from_below from (run ∷ runs) order = omega (arith, order.0, from_below (run.offset + length run.sectors) runs order.1)
 
-before_end : (from lba : ℕ) (runs : List Run) (l : ℕ) → AreInOrder from runs → IsInRuns lba runs l → l < lba + end_of from runs
+before_end : (from lba : ℕ) (runs : List Run) (l : ℕ) → AreInOrder from runs → RunsCover lba runs l → l < lba + end_of from runs
 before_end from lba [] l order there = absurd there
 before_end from lba (run ∷ runs) l order (inl there) = omega (arith, there.1, from_below (run.offset + length run.sectors) runs order.1)
 before_end from lba (run ∷ runs) l order (inr there) = before_end (run.offset + length run.sectors) lba runs l order.1 there

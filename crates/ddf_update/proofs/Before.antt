@@ -4,7 +4,7 @@ use Rattle.ddf_copy.specs.declared.copy.DiskCopy.{DiskCopy}
 use Rattle.ddf_copy.specs.declared.run.Run.{Run}
 use Rattle.ddf_copy.specs.declared.which.Which.TheVariants.{Primary, Secondary}
 use Rattle.ddf_copy.specs.Headers.{IsUnder, anchor_header}
-use Rattle.ddf_copy.specs.Runs.{IsInCopy, IsInRuns}
+use Rattle.ddf_copy.specs.Runs.{IsInCopy, RunsCover}
 use Rattle.ddf_copy.proofs.Stands.{place_within}
 use Rattle.ddf_update.specs.declared.prepared.Prepared.{Prepared}
 use Rattle.ddf_update.specs.declared.prepared.Mode.TheVariants.{Found}
@@ -12,7 +12,7 @@ use Rattle.ddf_update.specs.Group.{IsBefore}
 use Rattle.ddf_update.specs.Prepared.{IsPrepared}
 use Rattle.ddf_update.specs.Update.{IsInEither}
 
-runs_behind : (lba : ℕ) (runs : List Run) (l : ℕ) → IsInRuns lba runs l → lba ≤ l
+runs_behind : (lba : ℕ) (runs : List Run) (l : ℕ) → RunsCover lba runs l → lba ≤ l
 runs_behind lba [] l there = absurd there
 runs_behind lba (run ∷ runs) l (inl there) = omega (arith, there.0)
 runs_behind lba (run ∷ runs) l (inr there) = runs_behind lba runs l there

@@ -8,7 +8,7 @@ use Rattle.ddf_bay.proofs.Runs.{inside, after, put_mixes}
 use Rattle.ddf_copy.specs.declared.run.Run.{Run}
 use Rattle.ddf_update.specs.declared.gate.Gate.{Gate}
 use Rattle.ddf_copy.specs.Runs.{AreApart, HasCopy, IsInCopy, put_runs}
-use Rattle.ddf_update.specs.Gate.{KeepsOutside, IsGated, IsCopied, AreBothApart, IsLeftUpdating, AreCopied}
+use Rattle.ddf_update.specs.Gate.{KeepsOutside, IsGated, IsCopyWritten, AreBothApart, IsLeftUpdating, AreBothWritten}
 use Rattle.ddf_update.proofs.Reading.{is_in_runs, behind_header, puts_mix, puts_inside}
 use Rattle.ddf_update.proofs.GateSteps.{one_in}
 
@@ -22,7 +22,7 @@ copy_kept before now lba header runs stood kept = record {
 
 module _ {D : Type 0} {a b : BayState D} {slot : ℕ} {gate : Gate} {runs : List Run} where
   -- a copy that was written stands
-  pub copy_stands : AreApart runs → IsCopied a b slot gate runs → HasCopy (b.held slot) gate.lba gate.closed runs
+  pub copy_stands : AreApart runs → IsCopyWritten a b slot gate runs → HasCopy (b.held slot) gate.lba gate.closed runs
   copy_stands apart done = record {
     header_is =
         let e : gate.lba - gate.lba ≡ 0 = omega arith in
@@ -36,7 +36,7 @@ module _ {D : Type 0} {a b : BayState D} {slot : ℕ} {gate : Gate} {runs : List
       sections = put_runs a.held slot gate.lba runs
 
   -- and all outside it is as it was
-  pub copy_outside : IsCopied a b slot gate runs → (s l : ℕ) → (b.held s l ≡ a.held s l) ⊎ ((s ≡ slot) × IsInCopy gate.lba runs l)
+  pub copy_outside : IsCopyWritten a b slot gate runs → (s l : ℕ) → (b.held s l ≡ a.held s l) ⊎ ((s ≡ slot) × IsInCopy gate.lba runs l)
   copy_outside done s l = ⊎_elim
       (λ same. ⊎_elim
       (λ was. inl (done.written s l ∙ same ∙ was))
@@ -101,7 +101,7 @@ updating_start may held slot first second runs image settled left = record {
 }
 
 module _ {D : Type 0} (a b c : BayState D) (slot : ℕ) (first second : Gate) (runs : List Run)
-    (apart : AreApart runs) (both : AreBothApart first second runs) (one : IsCopied a b slot first runs) where
+    (apart : AreApart runs) (both : AreBothApart first second runs) (one : IsCopyWritten a b slot first runs) where
   -- both copies, the second of which may have failed
   pub both_moments : IsSettled a.may_hold a.held slot → StopsLeave b c (IsGated b.may_hold slot second runs)
       → StopsLeave a c (IsLeftUpdating a.may_hold a.held slot first second runs)
@@ -114,7 +114,7 @@ module _ {D : Type 0} (a b c : BayState D) (slot : ℕ) (first second : Gate) (r
       stays l = ⊎_elim inl (λ new. inr new.1) (copy_outside one slot l)
 
   -- both are there
-  pub both_copied : IsCopied b c slot second runs → AreCopied a c slot first second runs
+  pub both_copied : IsCopyWritten b c slot second runs → AreBothWritten a c slot first second runs
   both_copied two = record {
     other_slots = λ s l differs. ⊎_elim (λ same. same) (λ new. absurd (differs new.0)) (copy_outside two s l) ∙ ⊎_elim (λ same. same) (λ new. absurd (differs new.0)) (copy_outside one s l);
     outside = λ l. ⊎_elim

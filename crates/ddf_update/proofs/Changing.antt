@@ -28,7 +28,7 @@ use Rattle.ddf_copy.proofs.Stands.{copy_stands, open_copy, place_within, same_co
 use Rattle.ddf_update.specs.declared.gate.Gate.{Gate}
 use Rattle.ddf_update.specs.declared.prepared.Prepared.{Prepared}
 use Rattle.ddf_update.specs.declared.prepared.Mode.TheVariants.{Change}
-use Rattle.ddf_update.specs.Gate.{AreBothApart, AreCopied, IsLeftUpdating, IsPartly, IsUntouched, IsUpdating}
+use Rattle.ddf_update.specs.Gate.{AreBothApart, AreBothWritten, IsLeftUpdating, IsPartly, IsUntouched, IsUpdating}
 use Rattle.ddf_update.specs.Prepared.{IsGateOf, IsPrepared}
 use Rattle.ddf_update.specs.Update.{AreBoth, AreReadPartly, IsChanged, IsChanging, IsInEither, IsOldOrNew, IsReadPartly, MayChange}
 
@@ -242,7 +242,7 @@ module _ {D : Type 0} (disks : BayState D) (slot : ℕ) (anchor : Header) (last 
       } in
       record { here = is_changing; other_slots = left.other_slots }
 
-  pub changed : (after : BayState D) → AreCopied disks after slot prepared.first prepared.second prepared.runs → IsChanged disks after slot anchor prepared new
+  pub changed : (after : BayState D) → AreBothWritten disks after slot prepared.first prepared.second prepared.runs → IsChanged disks after slot anchor prepared new
   changed after copied =
       record {
         are_both = both_stand here_size anchor new prepared.runs can.is_under is.runs_are (other_of last) prepared.first prepared.second is.first_is is.second_is (after.held slot)

@@ -20,9 +20,9 @@ use Rattle.ddf_copy.specs.Runs.{AreApart, HasCopy, IsInCopy}
 use Rattle.ddf_copy.proofs.Stands.{place_within}
 use Rattle.ddf_update.specs.declared.prepared.Prepared.{Prepared}
 use Rattle.ddf_update.specs.declared.prepared.Mode.TheVariants.{Found}
-use Rattle.ddf_update.specs.Gate.{AreBothApart, IsFounded, IsLeftFounding, StopsLeaveSince}
+use Rattle.ddf_update.specs.Gate.{AreBothApart, IsFoundingWritten, IsLeftFounding, StopsLeaveSince}
 use Rattle.ddf_update.specs.Prepared.{IsPrepared}
-use Rattle.ddf_update.specs.Update.{AreBoth, IsBlankOrNew, IsNowFounded, MayFound}
+use Rattle.ddf_update.specs.Update.{AreBoth, IsBlankOrNew, HasFirstCopy, MayFound}
 use Rattle.ddf_update.proofs.Changing.{are_apart, both_are_apart, both_stand, not_last, same_anchor}
 
 -- an anchor that stands in the last sector is read there
@@ -75,7 +75,7 @@ module _ {D : Type 0} (disks : BayState D) (slot : ℕ) (last : Which) (new : Di
     other_slots = left.other_slots;
   }
 
-  pub founded : (after : BayState D) → IsFounded disks after slot prepared.first prepared.second prepared.runs (size - 1) prepared.anchor → IsNowFounded disks after slot prepared new
+  pub founded : (after : BayState D) → IsFoundingWritten disks after slot prepared.first prepared.second prepared.runs (size - 1) prepared.anchor → HasFirstCopy disks after slot prepared new
   founded after was = record {
     are_both = both (after.held slot) was.anchor_is was.first_is was.second_is;
     is_settled = was.durable;

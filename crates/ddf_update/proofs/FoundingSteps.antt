@@ -8,7 +8,7 @@ use Rattle.ddf_bay.proofs.Runs.{put_mixes}
 use Rattle.ddf_copy.specs.declared.run.Run.{Run}
 use Rattle.ddf_update.specs.declared.gate.Gate.{Gate}
 use Rattle.ddf_update.specs.Stage.{IsStaged}
-use Rattle.ddf_update.specs.Gate.{IsLeftUpdating, AreCopied, IsLeftFounding, StopsLeaveSince, IsFounded}
+use Rattle.ddf_update.specs.Gate.{IsLeftUpdating, AreBothWritten, IsLeftFounding, StopsLeaveSince, IsFoundingWritten}
 use Rattle.ddf_copy.specs.Runs.{IsInCopy, HasCopy}
 use Rattle.ddf_update.proofs.GateSteps.{one_in, opened}
 use Rattle.ddf_update.proofs.BothSteps.{copy_kept}
@@ -54,7 +54,7 @@ module _ {D : Type 0} (a b : BayState D) (slot : ℕ) (first second : Gate) (run
     }
 
     -- while the anchor is written, and both copies stand
-    pub founding_anchor : (c : BayState D) → AreCopied b c slot first second runs → IsAmong c.may_hold slot last (anchor ∷ []) image
+    pub founding_anchor : (c : BayState D) → AreBothWritten b c slot first second runs → IsAmong c.may_hold slot last (anchor ∷ []) image
         → IsLeftFounding a.may_hold a.held slot first second runs last anchor image
     founding_anchor c copies among = record {
       other_slots = λ s l differs. keeps s l (image s l) (copies.left s l (image s l) differs (among_other c.may_hold slot last (anchor ∷ []) image among s l differs));
@@ -88,7 +88,7 @@ module _ {D : Type 0} (a b : BayState D) (slot : ℕ) (first second : Gate) (run
     pub founding_moments : StopsLeaveSince a c (IsLeftFounding a.may_hold a.held slot first second runs last anchor)
     founding_moments = since_sync only_now synced (stops_weaken updates founding_copies) (λ image. founding_start image settled)
 
-    module _ (d : BayState D) (copies : AreCopied b c slot first second runs) where
+    module _ (d : BayState D) (copies : AreBothWritten b c slot first second runs) where
       -- and the anchor, which may have failed
       pub anchor_moments : StopsLeave c d (IsAmong c.may_hold slot last (anchor ∷ []))
           → StopsLeaveSince a d (IsLeftFounding a.may_hold a.held slot first second runs last anchor)
@@ -97,7 +97,7 @@ module _ {D : Type 0} (a b : BayState D) (slot : ℕ) (first second : Gate) (run
           (λ image. founding_start image settled)
 
       -- all of it is there
-      pub all_founded : IsStaged c d slot last (anchor ∷ []) → IsFounded a d slot first second runs last anchor
+      pub all_founded : IsStaged c d slot last (anchor ∷ []) → IsFoundingWritten a d slot first second runs last anchor
       all_founded step = record {
         since = anchor_moments step.any_moment;
         other_slots = λ s l differs.

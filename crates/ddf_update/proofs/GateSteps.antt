@@ -8,9 +8,9 @@ use Rattle.ddf_bay.proofs.Steps.{stops_then, stops_weaken}
 use Rattle.ddf_bay.proofs.Runs.{inside, put_mixes}
 use Rattle.ddf_copy.specs.declared.run.Run.{Run}
 use Rattle.ddf_update.specs.declared.gate.Gate.{Gate}
-use Rattle.ddf_copy.specs.Runs.{AreApart, InRuns, IsInCopy, IsInRuns, put_runs}
+use Rattle.ddf_copy.specs.Runs.{AreApart, InRuns, IsInCopy, RunsCover, put_runs}
 use Rattle.ddf_update.specs.Stage.{AddsRuns, MixesRuns, IsAmongRuns, IsStaged, AreStaged}
-use Rattle.ddf_update.specs.Gate.{KeepsOutside, StaysOutside, IsGated, IsCopied}
+use Rattle.ddf_update.specs.Gate.{KeepsOutside, StaysOutside, IsGated, IsCopyWritten}
 use Rattle.ddf_update.proofs.Reading.{is_in_runs, off_header, puts_outside, puts_inside}
 
 -- a run of one sector
@@ -95,7 +95,7 @@ module _ (may : Outcomes) (slot : ℕ) (gate : Gate) (runs : List Run) (image : 
         stands : (l : ℕ) (bytes : List ℕ) → InRuns gate.lba runs l bytes → image slot l ≡ bytes
         stands l bytes there = ⊎_elim
             (λ was. settled l (image slot l) was ∙ filled l bytes there)
-            (λ new. absurd (off_header gate.lba runs apart (subst (IsInRuns gate.lba runs) (one_in gate.lba l gate.closed (image slot l) new.1).0 (is_in_runs gate.lba runs l bytes there))))
+            (λ new. absurd (off_header gate.lba runs apart (subst (RunsCover gate.lba runs) (one_in gate.lba l gate.closed (image slot l) new.1).0 (is_in_runs gate.lba runs l bytes there))))
             (among slot l)
 
 -- the header is open after the first step
@@ -158,7 +158,7 @@ module _ {D : Type 0} {a b c : BayState D} {slot : ℕ} {gate : Gate} {runs : Li
   pub copied : {d : BayState D} → AreApart runs → IsStaged a b slot gate.lba (gate.opened ∷ [])
       → AreStaged b c slot gate.lba runs
       → IsStaged c d slot gate.lba (gate.closed ∷ [])
-      → IsCopied a d slot gate runs
+      → IsCopyWritten a d slot gate runs
   copied {d = d} apart first second third = record {
     written = λ s l.
         let e = ap (λ (f : Image). put_run f slot gate.lba (gate.closed ∷ [])) (second.written ∙ ap (λ (f : Image). put_runs f slot gate.lba runs) first.written) in

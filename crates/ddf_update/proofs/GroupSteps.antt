@@ -16,8 +16,8 @@ use Rattle.ddf_update.specs.declared.prepared.Mode.TheVariants.{Found}
 use Rattle.ddf_update.specs.declared.prepared.Prepared.{Prepared}
 use Rattle.ddf_update.specs.Prepared.{IsPrepared}
 use Rattle.ddf_update.specs.Gate.{StopsLeaveSince}
-use Rattle.ddf_update.specs.Group.{AreFounded, AreSlots, IsBefore, IsLeftFoundingAll, MayFoundAll}
-use Rattle.ddf_update.specs.Update.{AreBoth, IsBlankOrNew, IsNowFounded, MayFound}
+use Rattle.ddf_update.specs.Group.{HaveFirstCopies, AreSlots, IsBefore, IsLeftFoundingAll, MayFoundAll}
+use Rattle.ddf_update.specs.Update.{AreBoth, IsBlankOrNew, HasFirstCopy, MayFound}
 use Rattle.ddf_update.proofs.Before.{not_written}
 
 abbrev pub some_place : ℕ → Option ℕ
@@ -30,7 +30,7 @@ later_differs sizes slots are count place slot later here other earlier there =
 
 module _ {D : Type 0} (old : BayState D) (slots : List ℕ) (copy : ℕ → DiskCopy) (are : AreSlots old.sizes slots) where
   -- what is left of a slot at a moment between two disks
-  left_between : (now : BayState D) (count : ℕ) → AreFounded old now slots copy count → (image : Image) (place slot : ℕ) → slice_get slots place ≡ Some slot → ((l : ℕ) → now.may_hold slot l (image slot l))
+  left_between : (now : BayState D) (count : ℕ) → HaveFirstCopies old now slots copy count → (image : Image) (place slot : ℕ) → slice_get slots place ≡ Some slot → ((l : ℕ) → now.may_hold slot l (image slot l))
       → ((l : ℕ) → old.may_hold slot l (image slot l)) ⊎ (anchor_at (slice_index old.sizes slot) (image slot) ≡ Err Blank) ⊎ AreBoth (slice_index old.sizes slot) (image slot) (anchor_header (copy place)) (copy place)
   left_between now count so_far image place slot here left = elim (cases_lt place count) [
     | inl earlier ↦
@@ -40,7 +40,7 @@ module _ {D : Type 0} (old : BayState D) (slots : List ℕ) (copy : ℕ → Disk
   ]
 
   -- and of its sectors before both places of its copy
-  before_between : (now : BayState D) (count : ℕ) → AreFounded old now slots copy count → (image : Image) (place slot l : ℕ) → slice_get slots place ≡ Some slot → IsBefore (copy place) l → now.may_hold slot l (image slot l)
+  before_between : (now : BayState D) (count : ℕ) → HaveFirstCopies old now slots copy count → (image : Image) (place slot l : ℕ) → slice_get slots place ≡ Some slot → IsBefore (copy place) l → now.may_hold slot l (image slot l)
       → (image slot l ≡ old.held slot l) ⊎ old.may_hold slot l (image slot l)
   before_between now count so_far image place slot l here front left = elim (cases_lt place count) [
     | inl earlier ↦ inl (so_far.are_settled place slot earlier here l (image slot l) left ∙ so_far.before place slot l earlier here front)
@@ -48,7 +48,7 @@ module _ {D : Type 0} (old : BayState D) (slots : List ℕ) (copy : ℕ → Disk
   ]
 
   -- a stop between two disks
-  image_between : (now : BayState D) (count : ℕ) → AreFounded old now slots copy count → (image : Image) → IsLeft now.may_hold image → IsLeftFoundingAll old slots copy image
+  image_between : (now : BayState D) (count : ℕ) → HaveFirstCopies old now slots copy count → (image : Image) → IsLeft now.may_hold image → IsLeftFoundingAll old slots copy image
   image_between now count so_far image left = record {
     each = λ place slot here. left_between now count so_far image place slot here (left slot);
     before = λ place slot l here front. before_between now count so_far image place slot l here front (left slot l);
@@ -56,7 +56,7 @@ module _ {D : Type 0} (old : BayState D) (slots : List ℕ) (copy : ℕ → Disk
   }
 
   -- a stop while the next disk is written
-  image_within : (now : BayState D) (same_sizes : now.sizes ≡ old.sizes) (count slot : ℕ) (update : Prepared) → AreFounded old now slots copy count → slice_get slots count ≡ Some slot → IsPrepared (copy count) Secondary Found update → IsUnder (slice_index old.sizes slot) (anchor_header (copy count)) (copy count) → (image : Image)
+  image_within : (now : BayState D) (same_sizes : now.sizes ≡ old.sizes) (count slot : ℕ) (update : Prepared) → HaveFirstCopies old now slots copy count → slice_get slots count ≡ Some slot → IsPrepared (copy count) Secondary Found update → IsUnder (slice_index old.sizes slot) (anchor_header (copy count)) (copy count) → (image : Image)
       → IsBlankOrNew now slot update (copy count) image → IsLeftFoundingAll old slots copy image
   image_within now same_sizes count slot update so_far at is under image left = record {
     each = λ place other here. elim (cases_eq other slot) [
@@ -79,7 +79,7 @@ module _ {D : Type 0} (old : BayState D) (slots : List ℕ) (copy : ℕ → Disk
   }
 
 module _ {D : Type 0} (old : BayState D) (slots : List ℕ) (copy : ℕ → DiskCopy) (are : AreSlots old.sizes slots) where
-  pub group_stops : (now next : BayState D) (same_sizes : now.sizes ≡ old.sizes) (count slot : ℕ) (update : Prepared) → AreFounded old now slots copy count → slice_get slots count ≡ Some slot
+  pub group_stops : (now next : BayState D) (same_sizes : now.sizes ≡ old.sizes) (count slot : ℕ) (update : Prepared) → HaveFirstCopies old now slots copy count → slice_get slots count ≡ Some slot
       → IsPrepared (copy count) Secondary Found update → IsUnder (slice_index old.sizes slot) (anchor_header (copy count)) (copy count)
       → StopsLeave old now (IsLeftFoundingAll old slots copy)
       → StopsLeave now next (IsLeft now.may_hold) ⊎ StopsLeaveSince now next (IsBlankOrNew now slot update (copy count))
@@ -89,9 +89,9 @@ module _ {D : Type 0} (old : BayState D) (slots : List ℕ) (copy : ℕ → Disk
       (λ since. stops_then before since.any_moment (λ image left. ⊎_elim (image_between old slots copy are now count so_far image) (image_within old slots copy are now same_sizes count slot update so_far at is under image) left))
       step
 
-  pub group_founded : (now next : BayState D) (same_sizes : now.sizes ≡ old.sizes) (count slot : ℕ) (update : Prepared) → AreFounded old now slots copy count → slice_get slots count ≡ Some slot
+  pub group_founded : (now next : BayState D) (same_sizes : now.sizes ≡ old.sizes) (count slot : ℕ) (update : Prepared) → HaveFirstCopies old now slots copy count → slice_get slots count ≡ Some slot
       → IsPrepared (copy count) Secondary Found update → IsUnder (slice_index old.sizes slot) (anchor_header (copy count)) (copy count)
-      → IsNowFounded now next slot update (copy count) → AreFounded old next slots copy (count + 1)
+      → HasFirstCopy now next slot update (copy count) → HaveFirstCopies old next slots copy (count + 1)
   group_founded now next same_sizes count slot update so_far at is under one = record {
     are_both = λ place other lt here. elim (cases_eq place count) [
       | inl same ↦ let slot_is : other ≡ slot = some_is other slot (sym here ∙ ap (slice_get slots) same ∙ at) in rw (same, slot_is) (rw same_sizes at one.are_both)
@@ -128,7 +128,7 @@ module _ {D : Type 0} (old : BayState D) (slots : List ℕ) (copy : ℕ → Disk
 
 -- the next disk is still blank
 pub next_blank : {D : Type 0} (old : BayState D) (slots : List ℕ) (copy : ℕ → DiskCopy) → AreSlots old.sizes slots → (updates : List Prepared) (now : BayState D) (same_sizes : now.sizes ≡ old.sizes) (count slot : ℕ)
-    → MayFoundAll old slots copy updates → AreFounded old now slots copy count → slice_get slots count ≡ Some slot → MayFound now slot (copy count)
+    → MayFoundAll old slots copy updates → HaveFirstCopies old now slots copy count → slice_get slots count ≡ Some slot → MayFound now slot (copy count)
 next_blank old slots copy are updates now same_sizes count slot may so_far at =
     let same : now.held slot ≡ old.held slot = fun_ext (λ l. so_far.others slot l (later_differs old.sizes slots are count count slot (omega arith) at)) in
     record { is_blank = rw same_sizes (ap (anchor_at (slice_index old.sizes slot)) same ∙ may.are_blank count slot at); is_under = rw same_sizes (may.are_under count slot at) }

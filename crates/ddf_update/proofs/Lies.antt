@@ -17,7 +17,7 @@ use Rattle.ddf_copy.proofs.Stands.{place_within}
 use Rattle.ddf_update.specs.declared.gate.Gate.{Gate}
 use Rattle.ddf_update.specs.declared.prepared.Mode.{Mode}
 use Rattle.ddf_update.specs.declared.prepared.Prepared.{Prepared}
-use Rattle.ddf_update.specs.Prepared.{IsGateOf, IsPrepared, LiesOn, first_of}
+use Rattle.ddf_update.specs.Prepared.{IsGateOf, IsPrepared, LiesOn, written_first}
 
 log_few : (geometry : Geometry) (sectors : List (List ℕ)) → length (log_run (section_of geometry 5) sectors) ≤ 1
 log_few geometry [] = omega arith
@@ -43,8 +43,8 @@ runs_within size anchor copy which gate runs under is are = λ k run at.
 
 pub lies_on : (size : ℕ) (anchor : Header) (copy : DiskCopy) (last : Which) (mode : Mode) (prepared : Prepared) → IsUnder size anchor copy → IsPrepared copy last mode prepared → LiesOn size prepared
 lies_on size anchor copy last mode prepared under is = record {
-  first_header = gate_within size anchor copy (first_of mode last) prepared.first under is.first_is;
-  first_room = runs_within size anchor copy (first_of mode last) prepared.first prepared.runs under is.first_is is.runs_are;
-  second_header = gate_within size anchor copy (other_of (first_of mode last)) prepared.second under is.second_is;
-  second_room = runs_within size anchor copy (other_of (first_of mode last)) prepared.second prepared.runs under is.second_is is.runs_are;
+  first_header = gate_within size anchor copy (written_first mode last) prepared.first under is.first_is;
+  first_room = runs_within size anchor copy (written_first mode last) prepared.first prepared.runs under is.first_is is.runs_are;
+  second_header = gate_within size anchor copy (other_of (written_first mode last)) prepared.second under is.second_is;
+  second_room = runs_within size anchor copy (other_of (written_first mode last)) prepared.second prepared.runs under is.second_is is.runs_are;
 }

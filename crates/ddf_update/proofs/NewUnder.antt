@@ -20,7 +20,7 @@ use Rattle.ddf_copy.specs.Gate.{gate_fault, header_bytes}
 use Rattle.ddf_copy.specs.Headers.{IsUnder, anchor_header, closed_header}
 use Rattle.ddf_copy.specs.Room.{room_fault}
 use Rattle.ddf_copy.specs.Which.{other_of, place_of}
-use Rattle.ddf_copy.specs.Written.{IsCopy}
+use Rattle.ddf_copy.specs.Written.{CanBeCopy}
 use Rattle.ddf_update.specs.NewCopies.{named_controller, named_disk_data, named_header, new_arrays, new_controller, new_copy, new_disk_data, new_disks, new_geometry, new_header, new_header_bytes, new_log, new_sector_bytes}
 use Rattle.ddf_copy.proofs.Anchored.{anchor_shares}
 use Rattle.ddf_update.proofs.NewRoom.{IsNear, has_room}
@@ -171,7 +171,7 @@ pub record AreMade (stamp : Stamp) (sizes : List ℕ) : Type 0 where
   pub log_can : IsLog new_log
   pub log_size : length new_log.rest ≡ 512
 
-copy_is : (stamp : Stamp) (sizes : List ℕ) (place : ℕ) → AreMade stamp sizes → place < 15 → 33000 ≤ get_or sizes place 0 → get_or sizes place 0 < 2 ^ 64 → IsCopy (new_copy stamp sizes place)
+copy_is : (stamp : Stamp) (sizes : List ℕ) (place : ℕ) → AreMade stamp sizes → place < 15 → 33000 ≤ get_or sizes place 0 → get_or sizes place 0 < 2 ^ 64 → CanBeCopy (new_copy stamp sizes place)
 copy_is stamp sizes place made lt large fits =
     let size = get_or sizes place 0 in
     record {
@@ -200,7 +200,7 @@ copy_has_room stamp sizes place whiches.Secondary large =
     has_room (size - 1) (size - 81) (size - 41) (new_geometry size).sections
     (record { own_ends = omega (arith, large); other_ends = omega (arith, large); are_apart = inr (omega (arith, large)) }) (sections_near size)
 
-copy_has_gate : (stamp : Stamp) (sizes : List ℕ) (place : ℕ) (which : Which) → IsCopy (new_copy stamp sizes place) → 33000 ≤ get_or sizes place 0
+copy_has_gate : (stamp : Stamp) (sizes : List ℕ) (place : ℕ) (which : Which) → CanBeCopy (new_copy stamp sizes place) → 33000 ≤ get_or sizes place 0
     → gate_fault (get_or sizes place 0) (anchor_header (new_copy stamp sizes place)) which (closed_header (new_copy stamp sizes place) which) (header_bytes (closed_header (new_copy stamp sizes place) which)) ≡ None
 unfolding gate_fault
 copy_has_gate stamp sizes place which is large =

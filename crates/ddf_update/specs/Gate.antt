@@ -22,7 +22,7 @@ pub record IsGated (may : Outcomes) (slot : ℕ) (gate : Gate) (runs : List Run)
   pub copy : ((l : ℕ) → may slot l (image slot l)) ⊎ (image slot gate.lba ≡ gate.opened) ⊎ HasCopy (image slot) gate.lba gate.closed runs
 
 -- A copy was written behind its gate and made sure.
-pub record IsCopied {D : Type 0} (old new : BayState D) (slot : ℕ) (gate : Gate) (runs : List Run) : Type 0 where
+pub record IsCopyWritten {D : Type 0} (old new : BayState D) (slot : ℕ) (gate : Gate) (runs : List Run) : Type 0 where
   pub written : (s l : ℕ) → new.held s l ≡ put_run (put_runs old.held slot gate.lba runs) slot gate.lba (gate.closed ∷ []) s l
   pub durable : IsSettled new.may_hold new.held slot
   pub left : (s l : ℕ) (bytes : List ℕ) → new.may_hold s l bytes → old.may_hold s l bytes ⊎ ((s ≡ slot) × IsInCopy gate.lba runs l)
@@ -55,7 +55,7 @@ pub record IsLeftUpdating (may : Outcomes) (held : Image) (slot : ℕ) (first se
   pub here : IsUpdating (held slot) first second runs (image slot)
 
 -- Both copies were written and made sure.
-pub record AreCopied {D : Type 0} (old new : BayState D) (slot : ℕ) (first second : Gate) (runs : List Run) : Type 0 where
+pub record AreBothWritten {D : Type 0} (old new : BayState D) (slot : ℕ) (first second : Gate) (runs : List Run) : Type 0 where
   pub other_slots : (s l : ℕ) → s ≢ slot → new.held s l ≡ old.held s l
   pub outside : (l : ℕ) → (new.held slot l ≡ old.held slot l) ⊎ IsInCopy first.lba runs l ⊎ IsInCopy second.lba runs l
   pub first_is : HasCopy (new.held slot) first.lba first.closed runs
@@ -87,7 +87,7 @@ pub record StopsLeaveSince {D : Type 0} (old new : BayState D) (P : Image → Ty
   pub since : (image : Image) → new.left_since synced image → P image
 
 -- The slot got its copies and its anchor, all of it sure.
-pub record IsFounded {D : Type 0} (old new : BayState D) (slot : ℕ) (first second : Gate) (runs : List Run) (last : ℕ) (anchor : List ℕ) : Type 0 where
+pub record IsFoundingWritten {D : Type 0} (old new : BayState D) (slot : ℕ) (first second : Gate) (runs : List Run) (last : ℕ) (anchor : List ℕ) : Type 0 where
   pub since : StopsLeaveSince old new (IsLeftFounding old.may_hold old.held slot first second runs last anchor)
   pub other_slots : (s l : ℕ) → s ≢ slot → new.held s l ≡ old.held s l
   pub outside : (l : ℕ) → (new.held slot l ≡ old.held slot l) ⊎ IsInCopy first.lba runs l ⊎ IsInCopy second.lba runs l ⊎ (l ≡ last)

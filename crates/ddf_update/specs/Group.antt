@@ -53,7 +53,7 @@ pub record IsLeftFoundingAll {D : Type 0} (start : BayState D) (slots : List ℕ
 
 -- The first slots, so many, have their anchors and copies, sure, and the sectors before these stay. All other slots are as
 -- they were.
-pub record AreFounded {D : Type 0} (old new : BayState D) (slots : List ℕ) (copy : ℕ → DiskCopy) (count : ℕ) : Type 0 where
+pub record HaveFirstCopies {D : Type 0} (old new : BayState D) (slots : List ℕ) (copy : ℕ → DiskCopy) (count : ℕ) : Type 0 where
   pub are_both : (place slot : ℕ) → place < count → slice_get slots place ≡ Some slot → AreBoth (size_of old slot) (new.held slot) (anchor_header (copy place)) (copy place)
   pub are_settled : (place slot : ℕ) → place < count → slice_get slots place ≡ Some slot → IsSettled new.may_hold new.held slot
   pub before : (place slot l : ℕ) → place < count → slice_get slots place ≡ Some slot → IsBefore (copy place) l → new.held slot l ≡ old.held slot l

@@ -15,9 +15,9 @@ use Rattle.ddf_update.specs.declared.prepared.Mode.TheVariants.{Change, Found}
 use Rattle.ddf_update.specs.declared.prepared.Prepared.{Prepared}
 
 -- Which copy is written first: the one that isn't last. A founding begins with the primary one.
-abbrev pub first_of : Mode → (last : Which) → Which
-first_of Change last = other_of last
-first_of Found last = Primary
+abbrev pub written_first : Mode → (last : Which) → Which
+written_first Change last = other_of last
+written_first Found last = Primary
 
 -- where a copy is written, and its header while its sections change and behind them
 pub record IsGateOf (copy : DiskCopy) (which : Which) (gate : Gate) : Type 0 where
@@ -28,8 +28,8 @@ pub record IsGateOf (copy : DiskCopy) (which : Which) (gate : Gate) : Type 0 whe
 -- Both copies with the same sections, and the anchor.
 pub record IsPrepared (copy : DiskCopy) (last : Which) (mode : Mode) (prepared : Prepared) : Type 0 where
   pub mode_is : prepared.mode ≡ mode
-  pub first_is : IsGateOf copy (first_of mode last) prepared.first
-  pub second_is : IsGateOf copy (other_of (first_of mode last)) prepared.second
+  pub first_is : IsGateOf copy (written_first mode last) prepared.first
+  pub second_is : IsGateOf copy (other_of (written_first mode last)) prepared.second
   pub runs_are : AreRunsOf copy prepared.runs
   pub anchor_is : IsHeaderOf Anchor (anchor_header copy) prepared.anchor
 

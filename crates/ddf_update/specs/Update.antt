@@ -99,7 +99,7 @@ pub record IsBlankOrNew {D : Type 0} (before : BayState D) (slot : ℕ) (prepare
   pub other_slots : (s l : ℕ) → s ≢ slot → before.may_hold s l (image s l)
 
 -- The slot has its anchor and the new copy in both places, and nothing is pending there.
-pub record IsNowFounded {D : Type 0} (old new : BayState D) (slot : ℕ) (prepared : Prepared) (copy : DiskCopy) : Type 0 where
+pub record HasFirstCopy {D : Type 0} (old new : BayState D) (slot : ℕ) (prepared : Prepared) (copy : DiskCopy) : Type 0 where
   pub are_both : AreBoth (size_of old slot) (new.held slot) (anchor_header copy) copy
   pub is_settled : IsSettled new.may_hold new.held slot
   pub since : StopsLeaveSince old new (IsBlankOrNew old slot prepared copy)

@@ -3,7 +3,7 @@ ghost use Rattle.std.specs.Prelude.{◌≡◌, ◌≢◌, ◌⊎◌, ◌<◌, �
 ghost use Rattle.ddf_bytes.specs.Counts.{Rose};
 ghost use Rattle.ddf_bay.specs.Moments.{StopsLeave, SpendsWrites, IsSettled};
 ghost use Rattle.ddf_copy.specs.Runs.{AreApart, AreOn, IsInCopy, sector_count};
-ghost use Rattle.ddf_update.specs.Gate.{KeepsOutside, StaysOutside, AreBothApart, IsLeftUpdating, AreCopied};
+ghost use Rattle.ddf_update.specs.Gate.{KeepsOutside, StaysOutside, AreBothApart, IsLeftUpdating, AreBothWritten};
 
 use crate::Gate;
 use crate::copy::write_copy;
@@ -25,7 +25,7 @@ pub(crate) fn write_both<B: Bay>(
     requires second_header { second.now.lba < slice_index (B.disks bay.old).sizes slot }
     requires second_room { AreOn (slice_index (B.disks bay.old).sizes slot) second.now.lba runs.now }
     ensures copied { B.tells → AreApart runs.now → AreBothApart first.now second.now runs.now
-        → OnOk result (AreCopied (B.disks bay.old) (B.disks bay.new) slot first.now second.now runs.now) }
+        → OnOk result (AreBothWritten (B.disks bay.old) (B.disks bay.new) slot first.now second.now runs.now) }
     ensures held { B.tells → StaysOutside (B.disks bay.old).held (B.disks bay.new).held slot (λ l. IsInCopy first.now.lba runs.now l ⊎ IsInCopy second.now.lba runs.now l) }
     ensures left { KeepsOutside (B.disks bay.old).may_hold (B.disks bay.new).may_hold slot (λ l. IsInCopy first.now.lba runs.now l ⊎ IsInCopy second.now.lba runs.now l) }
     ensures any_moment { B.tells → IsSettled (B.disks bay.old).may_hold (B.disks bay.old).held slot → AreApart runs.now → AreBothApart first.now second.now runs.now

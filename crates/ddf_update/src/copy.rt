@@ -3,7 +3,7 @@ ghost use Rattle.std.specs.Prelude.{◌≡◌, ◌≢◌, ◌<◌, ◌≤◌, �
 ghost use Rattle.ddf_bytes.specs.Counts.{Rose};
 ghost use Rattle.ddf_bay.specs.Moments.{StopsLeave, SpendsWrites};
 ghost use Rattle.ddf_copy.specs.Runs.{AreApart, AreOn, IsInCopy, sector_count};
-ghost use Rattle.ddf_update.specs.Gate.{KeepsOutside, StaysOutside, IsGated, IsCopied};
+ghost use Rattle.ddf_update.specs.Gate.{KeepsOutside, StaysOutside, IsGated, IsCopyWritten};
 
 use crate::Gate;
 use crate::runs::stage_runs;
@@ -23,7 +23,7 @@ pub(crate) fn write_copy<B: Bay>(
     requires slot { slot < length (B.disks bay.old).sizes }
     requires header { gate.now.lba < slice_index (B.disks bay.old).sizes slot }
     requires room { AreOn (slice_index (B.disks bay.old).sizes slot) gate.now.lba runs.now }
-    ensures copied { B.tells → AreApart runs.now → OnOk result (IsCopied (B.disks bay.old) (B.disks bay.new) slot gate.now runs.now) }
+    ensures copied { B.tells → AreApart runs.now → OnOk result (IsCopyWritten (B.disks bay.old) (B.disks bay.new) slot gate.now runs.now) }
     ensures held { B.tells → StaysOutside (B.disks bay.old).held (B.disks bay.new).held slot (IsInCopy gate.now.lba runs.now) }
     ensures left { KeepsOutside (B.disks bay.old).may_hold (B.disks bay.new).may_hold slot (IsInCopy gate.now.lba runs.now) }
     ensures any_moment { B.tells → AreApart runs.now → StopsLeave (B.disks bay.old) (B.disks bay.new) (IsGated (B.disks bay.old).may_hold slot gate.now runs.now) }

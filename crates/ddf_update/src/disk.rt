@@ -10,7 +10,7 @@ ghost use Rattle.ddf_copy.specs.Runs.{sector_count};
 ghost use Rattle.ddf_update.specs.declared.prepared.Mode.{Mode};
 ghost use Rattle.ddf_update.specs.Gate.{KeepsOutside, StaysOutside, StopsLeaveSince};
 ghost use Rattle.ddf_update.specs.Prepared.{IsPrepared, LiesOn};
-ghost use Rattle.ddf_update.specs.Update.{IsBlankOrNew, IsChanged, IsInEither, IsNowFounded, IsOldOrNew, IsWritten, MayChange, MayFound};
+ghost use Rattle.ddf_update.specs.Update.{IsBlankOrNew, IsChanged, IsInEither, HasFirstCopy, IsOldOrNew, IsWritten, MayChange, MayFound};
 
 use crate::both::write_both;
 use crate::founding::write_founding;
@@ -38,7 +38,7 @@ pub fn write_disk<B: Bay>(bay: &mut B, slot: usize, prepared: &Prepared) -> Resu
         ⊎ StopsLeaveSince (B.disks bay.old) (B.disks bay.new) (IsBlankOrNew (B.disks bay.old) slot prepared.now copy) }
     ensures founded { B.tells → (last : Which) (copy : DiskCopy) → IsPrepared copy last Mode.Found prepared.now
         → MayFound (B.disks bay.old) slot copy
-        → OnOk result (IsNowFounded (B.disks bay.old) (B.disks bay.new) slot prepared.now copy) }
+        → OnOk result (HasFirstCopy (B.disks bay.old) (B.disks bay.new) slot prepared.now copy) }
 
     // All else stays, and a stop leaves of it what it might have left.
     ensures held { B.tells → StaysOutside (B.disks bay.old).held (B.disks bay.new).held slot (IsWritten (slice_index (B.disks bay.old).sizes slot) prepared.now) }
@@ -86,7 +86,7 @@ fn found<B: Bay>(bay: &mut B, slot: usize, prepared: &Prepared) -> Result<(), Di
         ⊎ StopsLeaveSince (B.disks bay.old) (B.disks bay.new) (IsBlankOrNew (B.disks bay.old) slot prepared.now copy) }
     ensures founded { B.tells → (last : Which) (copy : DiskCopy) → IsPrepared copy last Mode.Found prepared.now
         → MayFound (B.disks bay.old) slot copy
-        → OnOk result (IsNowFounded (B.disks bay.old) (B.disks bay.new) slot prepared.now copy) }
+        → OnOk result (HasFirstCopy (B.disks bay.old) (B.disks bay.new) slot prepared.now copy) }
     ensures held { B.tells → StaysOutside (B.disks bay.old).held (B.disks bay.new).held slot (λ l. IsInEither prepared.now l ⊎ (l ≡ slice_index (B.disks bay.old).sizes slot - 1)) }
     ensures left { KeepsOutside (B.disks bay.old).may_hold (B.disks bay.new).may_hold slot (λ l. IsInEither prepared.now l ⊎ (l ≡ slice_index (B.disks bay.old).sizes slot - 1)) }
     ensures spends { SpendsWrites (B.disks bay.old) (B.disks bay.new) slot (2 * (sector_count prepared.now.runs + 2) + 1) (2 * (length prepared.now.runs + 5) + 3) }

@@ -4,7 +4,7 @@ ghost use Rattle.ddf_bytes.specs.Counts.{Rose};
 ghost use Rattle.ddf_bay.specs.Sectors.{IsLeft};
 ghost use Rattle.ddf_bay.specs.Moments.{StopsLeave, SpendsWrites};
 ghost use Rattle.ddf_copy.specs.Runs.{AreApart, AreOn, IsInCopy, sector_count};
-ghost use Rattle.ddf_update.specs.Gate.{KeepsOutside, StaysOutside, AreBothApart, IsLeftFounding, StopsLeaveSince, IsFounded};
+ghost use Rattle.ddf_update.specs.Gate.{KeepsOutside, StaysOutside, AreBothApart, IsLeftFounding, StopsLeaveSince, IsFoundingWritten};
 
 use crate::Gate;
 use crate::both::write_both;
@@ -32,7 +32,7 @@ pub(crate) fn write_founding<B: Bay>(
     ensures founded { let last = slice_index (B.disks bay.old).sizes slot - 1 in
         B.tells → AreApart runs.now → AreBothApart first.now second.now runs.now
         → (IsInCopy first.now.lba runs.now last → ⊥) → (IsInCopy second.now.lba runs.now last → ⊥)
-        → OnOk result (IsFounded (B.disks bay.old) (B.disks bay.new) slot first.now second.now runs.now last anchor.now) }
+        → OnOk result (IsFoundingWritten (B.disks bay.old) (B.disks bay.new) slot first.now second.now runs.now last anchor.now) }
     ensures held { let last = slice_index (B.disks bay.old).sizes slot - 1 in
         B.tells → StaysOutside (B.disks bay.old).held (B.disks bay.new).held slot (λ l. IsInCopy first.now.lba runs.now l ⊎ IsInCopy second.now.lba runs.now l ⊎ (l ≡ last)) }
     ensures left { let last = slice_index (B.disks bay.old).sizes slot - 1 in

@@ -7,7 +7,7 @@ ghost use Rattle.ddf_copy.specs.Headers.{IsUnder, anchor_header};
 ghost use Rattle.ddf_copy.specs.declared.which.Which.TheVariants.{Secondary};
 ghost use Rattle.ddf_update.specs.declared.prepared.Mode.TheVariants.{Found};
 ghost use Rattle.ddf_update.specs.Prepared.{IsPrepared, all_calls, all_sectors};
-ghost use Rattle.ddf_update.specs.Group.{AreFirst, AreFounded, IsLeftFoundingAll, IsOneOf, LieOnSlots, MayFoundAll};
+ghost use Rattle.ddf_update.specs.Group.{AreFirst, HaveFirstCopies, IsLeftFoundingAll, IsOneOf, LieOnSlots, MayFoundAll};
 ghost use Rattle.ddf_update.specs.NewCopies.{new_copy, sizes_of};
 
 use crate::disk::write_disk;
@@ -74,7 +74,7 @@ pub fn found_disks<B: Bay>(
     ensures any_moment { B.tells → (copy : ℕ → DiskCopy) → MayFoundAll (B.disks bay.old) slots.now copy updates.now
         → StopsLeave (B.disks bay.old) (B.disks bay.new) (IsLeftFoundingAll (B.disks bay.old) slots.now copy) }
     ensures founded { B.tells → (copy : ℕ → DiskCopy) → MayFoundAll (B.disks bay.old) slots.now copy updates.now
-        → OnOk result (AreFounded (B.disks bay.old) (B.disks bay.new) slots.now copy (length slots.now)) }
+        → OnOk result (HaveFirstCopies (B.disks bay.old) (B.disks bay.new) slots.now copy (length slots.now)) }
     ensures reads { (B.disks bay.new).failed_reads ≡ (B.disks bay.old).failed_reads }
     ensures spends { SpendsOver (B.disks bay.old) (B.disks bay.new) (all_sectors updates.now) (all_calls updates.now) }
     ensures ok { OnOk result ((B.disks bay.new).failed_writes ≡ (B.disks bay.old).failed_writes) }

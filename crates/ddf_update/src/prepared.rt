@@ -1,6 +1,6 @@
 ghost use Rattle.std.specs.Prelude.{◌≡◌, IfOk};
-ghost use Rattle.ddf_copy.specs.Written.{IsCopy};
-ghost use Rattle.ddf_update.specs.Prepared.{IsGateOf, IsPrepared, first_of};
+ghost use Rattle.ddf_copy.specs.Written.{CanBeCopy};
+ghost use Rattle.ddf_update.specs.Prepared.{IsGateOf, IsPrepared, written_first};
 
 use crate::gate::Gate;
 use ddf_bytes::{NoMemory, Sector, Seq};
@@ -40,10 +40,10 @@ pub fn prepare(
     last: Which,
     mode: Mode,
 ) -> Result<Prepared, NoMemory>
-    requires { IsCopy copy.now }
+    requires { CanBeCopy copy.now }
     ensures { IfOk result (IsPrepared copy.now last mode) }
 {
-    let first = first_of(mode, last);
+    let first = written_first(mode, last);
     let runs = runs_of(alloc, copy)?;
     Ok(Prepared {
         mode,
@@ -54,8 +54,8 @@ pub fn prepare(
     })
 }
 
-fn first_of(mode: Mode, last: Which) -> Which
-    ensures { result ≡ first_of mode last }
+fn written_first(mode: Mode, last: Which) -> Which
+    ensures { result ≡ written_first mode last }
 {
     match mode {
         Mode::Change => last.other(),
@@ -64,7 +64,7 @@ fn first_of(mode: Mode, last: Which) -> Which
 }
 
 fn gate_of(copy: &DiskCopy, which: Which) -> Gate
-    requires { IsCopy copy.now }
+    requires { CanBeCopy copy.now }
     ensures { IsGateOf copy.now which result }
 {
     Gate {

@@ -6,7 +6,7 @@ ghost use Rattle.ddf_update.specs.Group.{AreFirst, IsLeftFoundingAll, slot_sizes
 ghost use Rattle.ddf_update.specs.NewCopies.{new_copy};
 ghost use Rattle.ddf_config.specs.declared.refusal.Refusal.{Refusal};
 ghost use Rattle.ddf_command.specs.Label.{IsLabelled, IsTried, label_copy, label_slots};
-ghost use Rattle.ddf_command.specs.Labels.{IsFit, label_refusal};
+ghost use Rattle.ddf_command.specs.LabelRefusal.{IsFit, label_refusal};
 ghost use Rattle.ddf_bytes.specs.Streams.{SinkRose};
 ghost use Rattle.ddf_command.specs.Call.{answer_of, work_of};
 ghost use Rattle.ddf_command.specs.Status.{code_of};

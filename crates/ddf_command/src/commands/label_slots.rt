@@ -3,7 +3,7 @@ ghost use Rattle.std.specs.Prelude.{◌≡◌, ◌<◌, ◌≤◌, nat_le, Some,
 ghost use Rattle.std.specs.List.{find};
 ghost use Rattle.ddf_bay.specs.ReadsOnly.{ReadsOnly, SlotRose};
 ghost use Rattle.ddf_command.specs.Label.{label_slots};
-ghost use Rattle.ddf_command.specs.Labels.{IsFit, IsFitFailure, chosen, is_anchored, is_chosen, is_named, is_small, label_refusal, misfit, missing, unfit};
+ghost use Rattle.ddf_command.specs.LabelRefusal.{IsFit, IsFitFailure, chosen, is_anchored, is_chosen, is_named, is_small, label_refusal, misfit, missing, unfit};
 ghost use Rattle.ddf_command.specs.Quiet.{IsQuiet};
 
 use crate::failure::Failure;

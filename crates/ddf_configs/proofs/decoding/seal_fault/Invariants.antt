@@ -1,6 +1,6 @@
 use Rattle.std.proofs.Common.{◌≡◌, None, map, ℕ}
 use Rattle.std.specs.List.{range_with_len}
-use Rattle.ddf_header.specs.Geometry.{first_of}
+use Rattle.ddf_bytes.specs.Choices.{first_of}
 use Rattle.ddf_configs.specs.Slots.{slot_fault, slot_bytes}
 use Rattle.ddf_configs.proofs.decoding.seal_fault.Given as goal
 

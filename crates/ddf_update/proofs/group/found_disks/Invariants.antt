@@ -1,7 +1,7 @@
 use Rattle.std.proofs.Common.{◌≡◌, ℕ, take}
 use Rattle.ddf_bay.specs.Moments.{SpendsOver, StopsLeave}
 use Rattle.ddf_copy.specs.declared.copy.DiskCopy.{DiskCopy}
-use Rattle.ddf_update.specs.Group.{AreFounded, IsLeftFoundingAll, MayFoundAll}
+use Rattle.ddf_update.specs.Group.{HaveFirstCopies, IsLeftFoundingAll, MayFoundAll}
 use Rattle.ddf_update.specs.Prepared.{all_calls, all_sectors}
 use Rattle.ddf_update.proofs.group.found_disks.Given as goal
 
@@ -10,7 +10,7 @@ invariant-loop-place g l = record {
   any_moment : g.B.Bay.tells → (copy : ℕ → DiskCopy) → MayFoundAll (g.B.Bay.disks l.initial.bay) l.slots copy l.updates
       → StopsLeave (g.B.Bay.disks l.initial.bay) (g.B.Bay.disks l.bay) (IsLeftFoundingAll (g.B.Bay.disks l.initial.bay) l.slots copy);
   founded : g.B.Bay.tells → (copy : ℕ → DiskCopy) → MayFoundAll (g.B.Bay.disks l.initial.bay) l.slots copy l.updates
-      → AreFounded (g.B.Bay.disks l.initial.bay) (g.B.Bay.disks l.bay) l.slots copy l.place;
+      → HaveFirstCopies (g.B.Bay.disks l.initial.bay) (g.B.Bay.disks l.bay) l.slots copy l.place;
   spends : SpendsOver (g.B.Bay.disks l.initial.bay) (g.B.Bay.disks l.bay) (all_sectors (take l.place l.updates)) (all_calls (take l.place l.updates));
   reads : (g.B.Bay.disks l.bay).failed_reads ≡ (g.B.Bay.disks l.initial.bay).failed_reads;
   writes : (g.B.Bay.disks l.bay).failed_writes ≡ (g.B.Bay.disks l.initial.bay).failed_writes;

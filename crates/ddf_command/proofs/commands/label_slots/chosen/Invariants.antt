@@ -1,5 +1,5 @@
 use Rattle.std.proofs.Common.{◌≡◌}
-use Rattle.ddf_command.specs.Labels.{chosen}
+use Rattle.ddf_command.specs.LabelRefusal.{chosen}
 use Rattle.ddf_command.proofs.commands.label_slots.chosen.Given as goal
 
 abbrev pub invariant-loop-slot : goal.invariant-loop-slot

@@ -1,6 +1,6 @@
 use Rattle.std.proofs.Common.{◌∙◌, ◌<◌, length, arith}
 use Rattle.ddf_bay.proofs.Looks.{reads_then}
-use Rattle.ddf_command.specs.Labels.{is_anchored}
+use Rattle.ddf_command.specs.LabelRefusal.{is_anchored}
 use Rattle.ddf_words.proofs.Finds.{find_more}
 use Rattle.ddf_command.proofs.commands.label_slots.first_anchored.Goals as goal
 

@@ -1,7 +1,7 @@
 use Rattle.std.proofs.Common.{◌≡◌, length, take}
 use Rattle.std.specs.List.{find}
 use Rattle.ddf_bay.specs.ReadsOnly.{ReadsOnly}
-use Rattle.ddf_command.specs.Labels.{is_anchored}
+use Rattle.ddf_command.specs.LabelRefusal.{is_anchored}
 use Rattle.ddf_command.specs.Quiet.{IsQuiet}
 use Rattle.ddf_command.proofs.commands.label_slots.first_anchored.Given as goal
 

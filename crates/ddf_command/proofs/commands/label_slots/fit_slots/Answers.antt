@@ -1,7 +1,7 @@
 use Rattle.std.proofs.Common.{◌∙◌, ◌≡◌, ℕ, length, sym, ap, Some, None}
 use Rattle.ddf_command.proofs.Chosen.{chosen_there}
 use Rattle.ddf_command.proofs.Fits.{refused_missing, refused_unfit}
-use Rattle.ddf_command.specs.Labels.{chosen}
+use Rattle.ddf_command.specs.LabelRefusal.{chosen}
 use Rattle.ddf_command.proofs.commands.label_slots.fit_slots.Goals as goal
 
 pub returns-in-Some-clause-failed : goal.returns-in-Some-clause-failed

@@ -1,7 +1,7 @@
 use Rattle.std.proofs.Common.{◌≡◌, false, arith}
 use Rattle.std.proofs.lemmas.Grind.{common_steps}
 use Rattle.ddf_copy.specs.Faults.{anchor_failed}
-use Rattle.ddf_command.specs.Labels.{is_blank}
+use Rattle.ddf_command.specs.LabelRefusal.{is_blank}
 use Rattle.ddf_command.proofs.Quiet.{not_blank, quiet_look}
 use Rattle.ddf_command.proofs.commands.label_slots.is_anchored.Goals as goal
 

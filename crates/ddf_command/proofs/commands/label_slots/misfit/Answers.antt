@@ -1,6 +1,6 @@
 use Rattle.std.proofs.Common.{◌∙◌, ◌<◌, ℕ, length, sym}
 use Rattle.ddf_words.proofs.Finds.{found_is}
-use Rattle.ddf_command.specs.Labels.{is_small}
+use Rattle.ddf_command.specs.LabelRefusal.{is_small}
 use Rattle.ddf_command.proofs.commands.label_slots.misfit.Goals as goal
 
 pub size-requires : goal.size-requires

@@ -1,24 +1,11 @@
--- What it says that a list of faults has none.
-use Rattle.std.proofs.Common.{◌≡◌, inl, inr, Bool, true, false, not, List, [], ◌∷◌, Option, Some, None, Result, Ok, Err, refl, sym, subst}
-use Rattle.std.specs.Prelude.{option_map, IfOk}
+-- What holds of a call's value, up to want of memory.
+use Rattle.std.proofs.Common.{◌≡◌, inl, inr, Option, Some, None, Result, Ok, Err, refl, sym, subst}
+use Rattle.std.specs.Prelude.{IfOk}
 use Rattle.std.specs.Result.{result_err}
-use Rattle.std.specs.List.{AllByRecursion}
+use Rattle.ddf_bytes.specs.Choices.{ok_unless}
 use Rattle.ddf_seal.specs.declared.sealing.SealFault.{SealFault}
 use Rattle.ddf_tables.specs.declared.fault.TableFault.{TableFault}
-use Rattle.ddf_tables.specs.Faults.{when, first_of, ok_unless, UpToMemory}
-
-pub none_first : {X : Type 0} (os : List (Option X)) → first_of os ≡ None → AllByRecursion (λ o. o ≡ None) os
-none_first [] h = tt
-none_first (None ∷ os) h = (refl, none_first os h)
-none_first (Some x ∷ os) h = absurd cc
-
-pub none_when_not : {X : Type 0} (test : Bool) (x : X) → when (not test) x ≡ None → test ≡ true
-none_when_not true x h = refl
-none_when_not false x h = absurd cc
-
-pub none_map : {X Y : Type 0} (f : X → Y) (o : Option X) → option_map f o ≡ None → o ≡ None
-none_map f None h = refl
-none_map f (Some x) h = absurd cc
+use Rattle.ddf_tables.specs.Faults.{UpToMemory}
 
 pub none_err : (r : Result Unit SealFault) → result_err r ≡ None → r ≡ Ok tt
 none_err (Ok x) h = refl
@@ -33,10 +20,6 @@ pub if_ok : {T : Type 0} (P : T → Type 0) (o : Option TableFault) (x : T) (res
 if_ok P o x (Ok y) (inl e) h = let parts = ok_parts o x y (sym e) in subst P parts.1 (h parts.0)
 if_ok P o x (Ok y) (inr e) h = absurd cc
 if_ok P o x (Err fault) given h = tt
-
-pub none_when : {X : Type 0} (test : Bool) (x : X) → when test x ≡ None → test ≡ false
-none_when true x h = absurd cc
-none_when false x h = refl
 
 -- what follows from what holds of the value that is given
 pub if_ok_then : {T E : Type 0} (P Q : T → Type 0) (result : Result T E) → ((x : T) → P x → Q x) → IfOk result P → IfOk result Q
