@@ -1,14 +1,21 @@
 -- What a bay over files knows of them.
-use Rattle.std.specs.Prelude.{◌≡◌, ℕ, Bool, false, List, Option, Some, None, is_some, slice_get, slice_index}
+use Rattle.std.specs.Prelude.{◌≡◌, ℕ, Bool, false, true, List, Option, Some, None, Result, is_ok, slice_get, slice_index}
+use Rattle.ddf_bay.specs.declared.access.Access.{Access}
+use Rattle.ddf_bay.specs.declared.access.Access.TheVariants.{Read, ReadWrite}
 
-abbrev pub is_there : {F : Type 0} → Option (Option F) → Bool
+abbrev pub is_there : {F E : Type 0} → Option (Result F E) → Bool
 is_there None = false
-is_there (Some file) = is_some file
+is_there (Some outcome) = is_ok outcome
 
 -- the slot's path could be opened
-abbrev pub is_open : {F : Type 0} → List (Option F) → ℕ → Bool
+abbrev pub is_open : {F E : Type 0} → List (Result F E) → ℕ → Bool
 is_open files slot = is_there (slice_get files slot)
 
 -- each slot whose path could not be opened has size 0
-abbrev pub AreEmptyUnlessOpen : {F : Type 0} → List (Option F) → List ℕ → Type 0
+abbrev pub AreEmptyUnlessOpen : {F E : Type 0} → List (Result F E) → List ℕ → Type 0
 AreEmptyUnlessOpen files sizes = (slot : ℕ) → is_open files slot ≡ false → slice_index sizes slot ≡ 0
+
+-- the disks may be written to
+abbrev pub allows_writes : Access → Bool
+allows_writes Read = false
+allows_writes ReadWrite = true

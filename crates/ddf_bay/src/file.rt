@@ -1,25 +1,27 @@
 // A bay over files or block devices, of whose content nothing is told.
-ghost use Rattle.std.specs.Prelude.{◌≡◌, ◌<◌, ◌≤◌, ◌+◌, ◌^◌, [], List, ℕ, false, length, is_some, IfOk, OnOk, OnErr, IsErr, IsTrue, slice_index, nat_le};
+ghost use Rattle.std.specs.Prelude.{◌≡◌, ◌<◌, ◌≤◌, ◌+◌, ◌^◌, ◌↔◌, [], ◌∷◌, List, ℕ, true, false, length, IfOk, IsNone, OnOk, OnErr, IsErr, IsTrue, slice_index, nat_le};
 ghost use Rattle.std.specs.List.{list_all};
 ghost use Rattle.ddf_bytes.specs.Counts.{Rose};
 ghost use Rattle.ddf_bay.specs.Moments.{Remembers, SpendsWrites};
-ghost use Rattle.ddf_bay.specs.Files.{AreEmptyUnlessOpen};
+ghost use Rattle.ddf_bay.specs.Files.{AreEmptyUnlessOpen, allows_writes};
 
+use crate::access::Access;
 use crate::counts::{next, raise};
-use crate::transfer::{read_bytes, sectors_of, sync_file, write_bytes};
+use crate::opening::open_slot;
+use crate::transfer::{read_bytes, sync_file, write_bytes};
 use crate::{Bay, BayFailed};
 use ddf_bytes::{NoMemory, Sector};
 use std::alloc::Global;
-use std::fs::File;
 use std::rt::Files;
-use std::slice;
+use std::{io, slice};
 
 /// A bay over files or block devices, a slot for each path. It tells nothing of what they hold: that they keep the disk
 /// model is trusted. An interrupted call counts as a failure.
 #[derive(Drop)]
 pub struct FileBay<R: Files> {
-    files: Vec<Option<R::File>>,
+    files: Vec<Result<R::File, io::Error>>,
     sizes: Vec<u64>,
+    access: Access,
     read_faults: [u64; 64],
     write_faults: [u64; 64],
     written: u64,
@@ -31,51 +33,53 @@ pub struct FileBay<R: Files> {
     ghost closed: { AreEmptyUnlessOpen files.items sizes.items },
 }
 
-/// Opens a path for reading and writing, and finds its size in sectors.
-fn open_path<R: Files>(rt: &R, path: &str) -> Result<(R::File, u64), BayFailed>
-    ensures { IfOk result (λ disk. disk.1 < 2 ^ 55) }
-{
-    let mut file = File::options()
-        .read(true)
-        .write(true)
-        .open(rt, path)
-        .map_err(|_| BayFailed)?;
-    let size = sectors_of(&mut file)?;
-    Ok((file, size))
-}
-
-/// The opened file and its size, or none and 0.
-fn open_slot<R: Files>(rt: &R, path: &str) -> (Option<R::File>, u64)
-    ensures small { result.1 < 2 ^ 55 }
-    ensures closed { is_some result.0 ≡ false → result.1 ≡ 0 }
-{
-    match open_path(rt, path) {
-        Ok((file, size)) => (Some(file), size),
-        Err(BayFailed) => (None, 0),
-    }
-}
-
 impl<R: Files> FileBay<R> {
-    ghost use Rattle.ddf_bay.specs.FileBays.{disks_of, has_opened};
+    ghost use Rattle.ddf_bay.specs.FileBays.{disks_of, has_opened, is_writable, CountsFromZero, IsClosed};
 
     /// Opens each path for reading and writing. One that can't be opened so, or has no end to seek to, is a slot of
     /// size 0 whose syncs fail. A size is that of the file or block device in whole sectors.
     pub fn open(rt: &R, alloc: Global, paths: &[String]) -> Result<FileBay<R>, NoMemory>
         requires { length paths.now ≤ 64 }
         ensures slots { IfOk result (λ bay. length (disks_of bay).sizes ≡ length paths.now) }
-        ensures counts { IfOk result (λ bay. (s : ℕ) → ((disks_of bay).failed_reads s ≡ 0) × ((disks_of bay).failed_writes s ≡ 0)) }
-        ensures calls { IfOk result (λ bay. (disks_of bay).calls ≡ 0) }
+        ensures counts { IfOk result (λ bay. CountsFromZero (disks_of bay)) }
+        ensures writable { IfOk result (λ bay. is_writable bay ≡ true) }
+    {
+        FileBay::open_as(rt, alloc, paths, Access::ReadWrite)
+    }
+
+    /// Opens each path for reading alone, so that disks that can't be written to are slots too: each write fails, and
+    /// nothing is changed. A path that can't be opened is as for `open`.
+    pub fn open_to_read(rt: &R, alloc: Global, paths: &[String]) -> Result<FileBay<R>, NoMemory>
+        requires { length paths.now ≤ 64 }
+        ensures slots { IfOk result (λ bay. length (disks_of bay).sizes ≡ length paths.now) }
+        ensures counts { IfOk result (λ bay. CountsFromZero (disks_of bay)) }
+        ensures reads { IfOk result (λ bay. is_writable bay ≡ false) }
+    {
+        FileBay::open_as(rt, alloc, paths, Access::Read)
+    }
+
+    fn open_as(
+        rt: &R,
+        alloc: Global,
+        paths: &[String],
+        access: Access,
+    ) -> Result<FileBay<R>, NoMemory>
+        requires { length paths.now ≤ 64 }
+        ensures slots { IfOk result (λ bay. length (disks_of bay).sizes ≡ length paths.now) }
+        ensures counts { IfOk result (λ bay. CountsFromZero (disks_of bay)) }
+        ensures access { IfOk result (λ bay. is_writable bay ≡ allows_writes access) }
     {
         let mut files = Vec::with_capacity(alloc, paths.len())?;
         let mut sizes = Vec::with_capacity(alloc, paths.len())?;
         for path in paths {
-            let (file, size) = open_slot(rt, path.as_str());
+            let (file, size) = open_slot(rt, access, path.as_str());
             files.push(file)?;
             sizes.push(size)?;
         }
         Ok(FileBay {
             files,
             sizes,
+            access,
             read_faults: [0; 64],
             write_faults: [0; 64],
             written: 0,
@@ -84,18 +88,32 @@ impl<R: Files> FileBay<R> {
         })
     }
 
-    /// Whether the slot's path could be opened for reading and writing.
-    pub fn opened(&self, slot: usize) -> bool
+    /// Why the slot's path could not be opened, or what the slot was closed for.
+    pub fn fault(&self, slot: usize) -> Option<io::Error>
         requires { slot < length (disks_of self.now).sizes }
-        ensures opened { result ≡ has_opened self.now slot }
-        ensures closed { result ≡ false → slice_index (disks_of self.now).sizes slot ≡ 0 }
+        ensures opened { IsNone result ↔ (has_opened self.now slot ≡ true) }
+        ensures closed { has_opened self.now slot ≡ false → slice_index (disks_of self.now).sizes slot ≡ 0 }
     {
-        self.files[slot].is_some()
+        match &self.files[slot] {
+            Ok(_) => None,
+            Err(why) => Some(*why),
+        }
+    }
+
+    /// Closes a slot: it is then as one whose path could not be opened, for this reason.
+    pub fn close(&mut self, slot: usize, why: io::Error)
+        requires { slot < length (disks_of self.old).sizes }
+        ensures closed { has_opened self.new slot ≡ false }
+        ensures emptied { IsClosed (disks_of self.old) (disks_of self.new) slot }
+        ensures access { is_writable self.new ≡ is_writable self.old }
+    {
+        self.files[slot] = Err(why);
+        self.sizes[slot] = 0;
     }
 }
 
 impl<R: Files> Bay for FileBay<R> {
-    ghost use Rattle.ddf_bay.specs.FileBays.{disks_of, has_opened};
+    ghost use Rattle.ddf_bay.specs.FileBays.{disks_of, has_opened, is_writable};
     ghost use Rattle.ddf_bay.specs.MemoryLaws.{size_small};
 
     ghost disks = { disks_of };
@@ -139,14 +157,35 @@ impl<R: Files> Bay for FileBay<R> {
         outcome
     }
 
-    fn write(&mut self, slot: usize, lba: u64, from: &Sector) -> Result<(), BayFailed> {
+    fn write(&mut self, slot: usize, lba: u64, from: &Sector) -> Result<(), BayFailed>
+        requires slot { slot < length (disks_of self.old).sizes }
+        requires sector { lba < slice_index (disks_of self.old).sizes slot }
+        ensures ok { OnOk result ((disks_of self.new).failed_writes ≡ (disks_of self.old).failed_writes) }
+        ensures failed { OnErr result (Rose ((disks_of self.old).failed_writes slot) ((disks_of self.new).failed_writes slot)) }
+        ensures remembers { Remembers (disks_of self.old) (disks_of self.new) }
+        ensures spends { SpendsWrites (disks_of self.old) (disks_of self.new) slot 1 1 }
+
+        // Disks that were opened for reading alone aren't written to.
+        ensures reads { is_writable self.old ≡ false → IsErr result }
+    {
         self.write_run(slot, lba, slice::from_ref(from))
     }
 
-    fn write_run(&mut self, slot: usize, lba: u64, from: &[Sector]) -> Result<(), BayFailed> {
+    fn write_run(&mut self, slot: usize, lba: u64, from: &[Sector]) -> Result<(), BayFailed>
+        requires slot { slot < length (disks_of self.old).sizes }
+        requires some { 0 < length from.now }
+        requires sectors { lba + length from.now ≤ slice_index (disks_of self.old).sizes slot }
+        ensures ok { OnOk result ((disks_of self.new).failed_writes ≡ (disks_of self.old).failed_writes) }
+        ensures failed { OnErr result (Rose ((disks_of self.old).failed_writes slot) ((disks_of self.new).failed_writes slot)) }
+        ensures remembers { Remembers (disks_of self.old) (disks_of self.new) }
+        ensures spends { SpendsWrites (disks_of self.old) (disks_of self.new) slot (length from.now) 1 }
+
+        // Disks that were opened for reading alone aren't written to.
+        ensures reads { is_writable self.old ≡ false → IsErr result }
+    {
         self.made = next(self.made);
         self.asked = self.asked.saturating_add(from.len() as u64);
-        let outcome = write_bytes(&mut self.files[slot], lba, from.as_flattened());
+        let outcome = write_bytes(&mut self.files[slot], self.access, lba, from.as_flattened());
         if outcome.is_err() {
             raise(&mut self.write_faults, slot);
         } else {

@@ -1,6 +1,7 @@
 //! Bays of disks: slots of sectors, and what a stop at any moment may leave of them.
 #![tactic(auto)]
 
+mod access;
 mod bay;
 mod counts;
 mod disk_fault;
@@ -9,6 +10,7 @@ mod index;
 mod log;
 mod memory;
 mod memory_calls;
+mod opening;
 mod record;
 mod records;
 mod transfer;

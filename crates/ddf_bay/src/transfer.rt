@@ -1,8 +1,11 @@
 // Whole transfers to and from a file. A call that fails, an interrupted one too, isn't tried again.
-ghost use Rattle.std.specs.Prelude.{◌≡◌, ◌<◌, ◌^◌, IfOk, IsErr, false, is_some};
+ghost use Rattle.std.specs.Prelude.{◌≡◌, ◌<◌, ◌^◌, IfOk, IsErr, false, is_ok};
+ghost use Rattle.ddf_bay.specs.Files.{allows_writes};
 
 use crate::BayFailed;
+use crate::access::Access;
 use std::fs::OpenFile;
+use std::io;
 use std::io::{Read, Seek, SeekFrom, Write};
 
 /// The bytes of a sector.
@@ -43,39 +46,44 @@ fn seek_to<F: Seek>(file: &mut F, lba: u64) -> Result<(), BayFailed>
 }
 
 /// The whole sectors of a file or a block device, by its end.
-pub(crate) fn sectors_of<F: Seek>(file: &mut F) -> Result<u64, BayFailed>
+pub(crate) fn sectors_of<F: Seek>(file: &mut F) -> io::Result<u64>
     ensures { IfOk result (λ size. size < 2 ^ 55) }
 {
-    let bytes = file.seek(SeekFrom::End(0)).map_err(|_| BayFailed)?;
+    let bytes = file.seek(SeekFrom::End(0))?;
     Ok(bytes / SECTOR_BYTES)
 }
 
 /// Reads the bytes of a run, from a file that could be opened.
 pub(crate) fn read_bytes<F: Read + Seek>(
-    file: &mut Option<F>,
+    file: &mut Result<F, io::Error>,
     lba: u64,
     into: &mut [u8],
 ) -> Result<(), BayFailed>
     requires { lba < 2 ^ 55 }
-    ensures { is_some file.new ≡ is_some file.old }
+    ensures { is_ok file.new ≡ is_ok file.old }
 {
-    let Some(file) = file else {
+    let Ok(file) = file else {
         return Err(BayFailed);
     };
     seek_to(file, lba)?;
     fill(file, into)
 }
 
-/// Writes the bytes of a run, to a file that could be opened.
+/// Writes the bytes of a run, to a file that could be opened for it.
 pub(crate) fn write_bytes<F: Write + Seek>(
-    file: &mut Option<F>,
+    file: &mut Result<F, io::Error>,
+    access: Access,
     lba: u64,
     from: &[u8],
 ) -> Result<(), BayFailed>
     requires { lba < 2 ^ 55 }
-    ensures { is_some file.new ≡ is_some file.old }
+    ensures same { is_ok file.new ≡ is_ok file.old }
+    ensures reads { allows_writes access ≡ false → IsErr result }
 {
-    let Some(file) = file else {
+    if access == Access::Read {
+        return Err(BayFailed);
+    }
+    let Ok(file) = file else {
         return Err(BayFailed);
     };
     seek_to(file, lba)?;
@@ -83,11 +91,11 @@ pub(crate) fn write_bytes<F: Write + Seek>(
 }
 
 /// Makes all that was written sure, of a file that could be opened.
-pub(crate) fn sync_file<F: OpenFile>(file: &Option<F>) -> Result<(), BayFailed>
-    ensures { is_some file.now ≡ false → IsErr result }
+pub(crate) fn sync_file<F: OpenFile>(file: &Result<F, io::Error>) -> Result<(), BayFailed>
+    ensures { is_ok file.now ≡ false → IsErr result }
 {
     match file {
-        Some(file) => file.sync_all().map_err(|_| BayFailed),
-        None => Err(BayFailed),
+        Ok(file) => file.sync_all().map_err(|_| BayFailed),
+        Err(_) => Err(BayFailed),
     }
 }

@@ -159,13 +159,13 @@ fn a_file_is_a_disk(rt: HostRuntime) -> Result<(), Fail> {
     fs::write(&rt, path, [9u8; 5 * 512 + 100].as_slice())?;
     let paths = [
         String::from_str(alloc, path)?,
-        String::from_str(alloc, "no/such/file")?,
+        String::from_str(alloc, "ddf_bay_missing.img")?,
     ];
     let mut bay = FileBay::open(&rt, alloc, &paths)?;
     assert!(rt; bay.slots() == 2);
     assert!(rt; bay.size(0) == 5);
-    assert!(rt; bay.opened(0) && !bay.opened(1) && bay.size(1) == 0);
-    assert!(rt; !sync(&mut bay, 1));
+    assert!(rt; bay.fault(0).is_none() && bay.fault(1).is_some() && bay.size(1) == 0);
+    assert!(rt; !sync(&mut bay, 1) && !fs::exists(&rt, "ddf_bay_missing.img")?);
     assert!(rt; tell(&mut bay, 0, &[1; 512], &[2; 512], &[3; 512]).is_ok());
     assert!(rt; put_two(&mut bay, 0, 3, [4, 5]));
     assert!(rt; get_two(&mut bay, 0, 1) == [2, 3] && get_two(&mut bay, 0, 3) == [4, 5]);

@@ -2,7 +2,7 @@ use Rattle.std.proofs.Common.{◌≡◌, ◌^◌, length}
 use Rattle.std.specs.Prelude.{IsTrue, nat_le}
 use Rattle.std.specs.List.{list_all}
 use Rattle.ddf_bay.specs.Files.{AreEmptyUnlessOpen}
-use Rattle.ddf_bay.proofs.file.FileBay.open.Given as goal
+use Rattle.ddf_bay.proofs.file.FileBay.open_as.Given as goal
 
 abbrev pub invariant-loop-path : goal.invariant-loop-path
 invariant-loop-path g l = record {

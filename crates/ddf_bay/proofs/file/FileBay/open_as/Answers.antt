@@ -1,10 +1,10 @@
-use Rattle.std.proofs.Common.{sym, ◌∙◌}
+use Rattle.std.proofs.Common.{refl, sym, ◌∙◌}
 use Rattle.std.proofs.lemmas.Grind.{common_steps}
 use Rattle.std.proofs.Common.{arith}
 use Rattle.std.proofs.lemmas.List.Folds.{list_all-append}
 use Rattle.ddf_bay.proofs.Opened.{closed_pushed}
 use Rattle.ddf_bay.proofs.Zeros.{zeros_at}
-use Rattle.ddf_bay.proofs.file.FileBay.open.Goals as goal
+use Rattle.ddf_bay.proofs.file.FileBay.open_as.Goals as goal
 
 pub loop-path-preserved : goal.loop-path-preserved
 loop-path-preserved g c =
@@ -17,4 +17,9 @@ loop-path-preserved g c =
     }
 
 pub returns-clause-counts : goal.returns-clause-counts
-returns-clause-counts g c s = (zeros_at 64 s, zeros_at 64 s)
+returns-clause-counts g c = record {
+  failed_reads = zeros_at 64;
+  failed_writes = zeros_at 64;
+  sectors_written = refl;
+  calls = refl;
+}
