@@ -1,17 +1,21 @@
 // What the program says of itself.
 
-const HELP: &str = "\
+/// The words, and what becomes of them.
+pub const USAGE: &str = "\
 Usage: ddf IMAGE.. -- COMMAND
 
 Reads and writes RAID metadata in the SNIA Common RAID Disk Data Format (DDF) on disk
-images. Slots are the images in their order, from 0.
+images and block devices. Slots are the images in their order, from 0.
 
 Commands:
   examine          show what each disk holds; nothing is written
   label [SLOT..]   make a new group of these blank disks, or of all
 
+Disks are opened for reading alone by commands that write nothing. Others don't touch a
+disk that is mounted, swapped to, part of another device, or locked by another program.
+
 Exit status: 0 done, 1 refused, 2 words that are no command's, 3 a disk failed,
-5 no memory, 6 the input or the output failed.
+5 no memory, 6 the input or the output failed, or there was no chance for new names.
 ";
 
 const VERSION: &str = "ddf 0.1.0\n";
@@ -22,13 +26,8 @@ pub fn answer(words: &[String]) -> Option<&'static str> {
         return None;
     };
     match word.as_str() {
-        "--help" => Some(HELP),
+        "--help" => Some(USAGE),
         "--version" => Some(VERSION),
         _ => None,
     }
-}
-
-/// Says where to look.
-pub fn hint(rt: &impl Eprint) {
-    let _ = eprintln!(rt; "ddf: no such command; ddf --help shows the words");
 }

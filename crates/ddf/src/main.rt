@@ -1,18 +1,30 @@
 //! The program `ddf`: it opens the images that its words name, and does what they ask for.
 #![tactic(auto)]
 
+mod claims;
+mod device;
+mod disks;
+mod failure;
 mod help;
+mod in_use;
+mod intent;
+mod same_disk;
 mod stamp;
+mod streams;
 #[cfg(test)]
 mod tests;
+mod wrong_words;
 
-ghost use Rattle.std.specs.Prelude.{◌≡◌, length};
-
-use crate::help::{answer, hint};
-use crate::stamp::stamp_now;
-use ddf_bay::{Bay, FileBay};
-use ddf_bytes::{NoMemory, StdSink, StdSource};
-use ddf_command::{run, slot_paths};
+use crate::disks::open_disks;
+use crate::failure::{Failure, NO_MEMORY, STREAM_FAULT};
+use crate::help::{USAGE, answer};
+use crate::same_disk::same_disk;
+use crate::stamp::stamp_for;
+use crate::streams::hold_streams;
+use crate::wrong_words::explain;
+use ddf_bytes::{StdSink, StdSource};
+use ddf_command::{Asked, WordFault, asked, run, slot_paths};
+use std::fs::File;
 use std::process::ExitCode;
 use std::rt::{Clock, Env, Files};
 use std::{env, io};
@@ -20,26 +32,40 @@ use std::{env, io};
 /// The status where the words are no command's.
 const WRONG_WORDS: u8 = 2;
 
-/// The status where memory ran out.
-const NO_MEMORY: u8 = 5;
-
-/// The status where the output failed.
-const STREAM_FAULT: u8 = 6;
-
 fn main(rt: HostRuntime) -> ExitCode {
     ExitCode::from(status(&rt))
 }
 
-/// Reads the words, and does what they ask for.
+/// Does what the words ask for, or says on standard error why not.
 fn status<R>(rt: &R) -> u8
 where
-    R: Files + Env + Clock + Input + Print + Eprint + AllocGlobal,
+    R: Files<File = File> + Env + Clock + Input + Print + Eprint + AllocGlobal + Clone + Drop,
 {
-    match words(rt) {
-        Ok(words) => obey(rt, &words),
-        Err(error) if error.kind() == io::ErrorKind::OutOfMemory => NO_MEMORY,
-        Err(_) => refuse_unreadable(rt),
+    match obey_words(rt) {
+        Ok(status) => status,
+        Err(failure) => {
+            let _ = eprintln!(rt; "ddf: {failure}");
+            failure.status()
+        }
     }
+}
+
+/// Reads the words, and does what they ask for. No disk is opened before the standard streams have their descriptors.
+fn obey_words<R>(rt: &R) -> Result<u8, Failure>
+where
+    R: Files<File = File> + Env + Clock + Input + Print + Eprint + AllocGlobal + Clone + Drop,
+{
+    let held = hold_streams(rt).map_err(Failure::Streams)?;
+    let outcome = match words(rt) {
+        Ok(words) => obey(rt, &words),
+        Err(why) if why.kind() == io::ErrorKind::OutOfMemory => Err(Failure::Memory),
+        Err(why) => {
+            let _ = eprintln!(rt; "ddf: the words can't be read: {why}");
+            refuse(rt, 0)
+        }
+    };
+    drop(held);
+    outcome
 }
 
 /// The words behind the program's name.
@@ -51,62 +77,61 @@ fn words<R: Env + AllocGlobal>(rt: &R) -> io::Result<Vec<String>> {
     Ok(words)
 }
 
-/// Words of which some aren't text are refused at the first place.
-fn refuse_unreadable<R: Print + Eprint>(rt: &R) -> u8 {
-    if println!(rt; "refused 10 word 0").is_err() {
-        return STREAM_FAULT;
-    }
-    hint(rt);
-    WRONG_WORDS
-}
-
 /// Does what the words ask for.
-fn obey<R>(rt: &R, words: &[String]) -> u8
+fn obey<R>(rt: &R, words: &[String]) -> Result<u8, Failure>
 where
-    R: Files + Clock + Input + Print + Eprint + AllocGlobal,
+    R: Files<File = File> + Clock + Input + Print + Eprint + AllocGlobal + Clone + Drop,
 {
     if let Some(text) = answer(words) {
         return match rt.print(text) {
-            Ok(()) => 0,
-            Err(_) => STREAM_FAULT,
+            Ok(()) => Ok(0),
+            Err(_) => Err(Failure::Stream),
         };
     }
-    let status = perform(rt, words).unwrap_or(NO_MEMORY);
-    if status == WRONG_WORDS {
-        hint(rt);
+    match asked(rt.alloc(), words) {
+        Ok(asked) => perform(rt, words, &asked),
+        Err(WordFault::Place(place)) => refuse_words(rt, words, place),
+        Err(WordFault::Memory) => Err(Failure::Memory),
     }
-    status
 }
 
-/// Opens the images, and hands them to the command.
-fn perform<R>(rt: &R, words: &[String]) -> Result<u8, NoMemory>
+/// Refuses words that are no command's, and says what is wrong with them. No disk is opened.
+fn refuse_words<R: Print + Eprint>(rt: &R, words: &[String], place: usize) -> Result<u8, Failure> {
+    let _ = if words.is_empty() {
+        rt.eprint(USAGE)
+    } else {
+        let wrong = explain(words, place);
+        eprintln!(rt; "ddf: {wrong}; ddf --help shows the words")
+    };
+    refuse(rt, place)
+}
+
+/// Prints that the words go wrong at a place.
+fn refuse<R: Print>(rt: &R, place: usize) -> Result<u8, Failure> {
+    match println!(rt; "refused 10 word {place}") {
+        Ok(()) => Ok(WRONG_WORDS),
+        Err(_) => Err(Failure::Stream),
+    }
+}
+
+/// Opens the disks, and hands them to the command.
+fn perform<R>(rt: &R, words: &[String], asked: &Asked) -> Result<u8, Failure>
 where
-    R: Files + Clock + Input + Print + Eprint + AllocGlobal,
+    R: Files<File = File> + Clock + Input + Print + Eprint + AllocGlobal + Clone + Drop,
 {
     let paths = slot_paths(words);
-    let mut bay = FileBay::open(rt, rt.alloc(), paths)?;
-    name_unopened(rt, &bay, paths);
+    if let Some(place) = same_disk(rt, paths)? {
+        return refuse(rt, place);
+    }
+    let stamp = stamp_for(rt, &asked.command).map_err(Failure::Chance)?;
+    let (mut bay, claims) = open_disks(rt, paths, &asked.command)?;
     let mut source = StdSource::new(rt.reader());
     let mut sink = StdSink::new(io::writer(rt));
-    Ok(run(
-        rt.alloc(),
-        words,
-        &mut bay,
-        &mut source,
-        &mut sink,
-        stamp_now(rt),
-    ))
-}
-
-/// Names on standard error each path that could not be opened.
-fn name_unopened<R: Files + Eprint>(rt: &R, bay: &FileBay<R>, paths: &[String])
-    requires { length paths.now ≡ length (⟦<FileBay<R> as Bay>⟧.disks bay.now).sizes }
-{
-    for (slot, path) in paths.iter().enumerate() {
-        if !bay.opened(slot) {
-            let _ = eprintln!(rt;
-                "ddf: slot {slot}: {path} can't be opened for reading and writing"
-            );
-        }
+    let status = run(rt.alloc(), words, &mut bay, &mut source, &mut sink, stamp);
+    drop(claims);
+    match status {
+        NO_MEMORY => Err(Failure::Memory),
+        STREAM_FAULT => Err(Failure::Stream),
+        _ => Ok(status),
     }
 }

@@ -1,17 +1,25 @@
 // The moment and the chance for new names.
+use crate::intent::makes_names;
 use ddf_bytes::Stamp;
+use ddf_command::Command;
 use std::fs::File;
 use std::io;
 use std::io::Read;
 use std::rt::{Clock, Files};
 use std::time::{SystemTime, UNIX_EPOCH};
 
-/// The clock's seconds and 16 random bytes, each 0 where it can't be read.
-pub fn stamp_now<R: Clock + Files>(rt: &R) -> Stamp {
-    Stamp {
+/// The clock's seconds, 0 where it can't be read, and 16 random bytes where the command makes names. It makes none without
+/// chance.
+pub fn stamp_for<R: Clock + Files>(rt: &R, command: &Command) -> io::Result<Stamp> {
+    let salt = if makes_names(command) {
+        u128::from_be_bytes(chance(rt)?)
+    } else {
+        0
+    };
+    Ok(Stamp {
         seconds: seconds(rt),
-        salt: salt(rt).map_or(0, u128::from_be_bytes),
-    }
+        salt,
+    })
 }
 
 fn seconds<R: Clock>(rt: &R) -> u64 {
@@ -24,7 +32,7 @@ fn seconds<R: Clock>(rt: &R) -> u64 {
     }
 }
 
-fn salt<R: Files>(rt: &R) -> io::Result<[u8; 16]> {
+fn chance<R: Files>(rt: &R) -> io::Result<[u8; 16]> {
     let mut bytes = [0; 16];
     File::open(rt, "/dev/urandom")?.read_exact(&mut bytes)?;
     Ok(bytes)

@@ -3,6 +3,7 @@ mod bay;
 mod copies;
 mod crc;
 mod examine;
+mod files;
 mod harness;
 mod headers;
 mod label;

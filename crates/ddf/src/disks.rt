@@ -1,0 +1,47 @@
+// The disks of a command.
+ghost use Rattle.std.specs.Prelude.{◌≡◌, ◌≤◌, length, IfOk};
+
+use crate::claims::claim_all;
+use crate::intent::may_write;
+use ddf_bay::{Bay, FileBay};
+use ddf_bytes::NoMemory;
+use ddf_command::Command;
+use std::fs::File;
+use std::rt::Files;
+
+/// Opens the disks of a command: for reading alone, or for writing too where the command may write, with what keeps them
+/// from other programs until it is dropped. Standard error names each that could not be opened, and why.
+pub fn open_disks<R>(
+    rt: &R,
+    paths: &[String],
+    command: &Command,
+) -> Result<(FileBay<R>, Vec<File>), NoMemory>
+where
+    R: Files<File = File> + Eprint + AllocGlobal + Clone + Drop,
+    requires { length paths.now ≤ 64 }
+    ensures { IfOk result (λ disks. length (⟦<FileBay<R> as Bay>⟧.disks disks.0).sizes ≡ length paths.now) }
+{
+    let (bay, claims) = if may_write(command) {
+        let mut bay = FileBay::open(rt, rt.alloc(), paths)?;
+        let claims = claim_all(rt, &mut bay, paths)?;
+        (bay, claims)
+    } else {
+        (
+            FileBay::open_to_read(rt, rt.alloc(), paths)?,
+            Vec::new(rt.alloc()),
+        )
+    };
+    name_unopened(rt, &bay, paths);
+    Ok((bay, claims))
+}
+
+/// Names on standard error each path that could not be opened, and why.
+fn name_unopened<R: Files + Eprint>(rt: &R, bay: &FileBay<R>, paths: &[String])
+    requires { length paths.now ≡ length (⟦<FileBay<R> as Bay>⟧.disks bay.now).sizes }
+{
+    for (slot, path) in paths.iter().enumerate() {
+        if let Some(why) = bay.fault(slot) {
+            let _ = eprintln!(rt; "ddf: slot {slot}: {path} can't be opened: {why}");
+        }
+    }
+}

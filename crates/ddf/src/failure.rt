@@ -1,0 +1,53 @@
+// Why the program ends before its command is done.
+use ddf_bytes::NoMemory;
+use std::{fmt, io};
+
+/// The status where memory ran out.
+pub const NO_MEMORY: u8 = 5;
+
+/// The status where the input or the output failed, or a file of the system that the program can't do without.
+pub const STREAM_FAULT: u8 = 6;
+
+/// Why the program ends before its command is done.
+#[derive(Clone, Copy, Drop)]
+pub enum Failure {
+    /// Memory ran out.
+    Memory,
+    /// The input or the output failed.
+    Stream,
+    /// The descriptors of the standard streams can't be kept in use.
+    Streams(io::Error),
+    /// There is no chance for new names.
+    Chance(io::Error),
+}
+
+impl Failure {
+    /// The exit status.
+    pub fn status(&self) -> u8 {
+        match self {
+            Failure::Memory => NO_MEMORY,
+            Failure::Stream | Failure::Streams(_) | Failure::Chance(_) => STREAM_FAULT,
+        }
+    }
+}
+
+impl From<NoMemory> for Failure {
+    fn from(_: NoMemory) -> Failure {
+        Failure::Memory
+    }
+}
+
+/// As the line that standard error gets.
+impl fmt::Display for Failure {
+    fn fmt<W: fmt::Write>(&self, f: &mut fmt::Formatter<W>) -> fmt::Result {
+        match self {
+            Failure::Memory => write!(f, "memory ran out"),
+            Failure::Stream => write!(f, "the input or the output failed"),
+            Failure::Streams(why) => write!(f, "the standard streams can't be kept apart: {why}"),
+            Failure::Chance(why) => write!(
+                f,
+                "no names can be made without chance, and /dev/urandom can't be read: {why}"
+            ),
+        }
+    }
+}

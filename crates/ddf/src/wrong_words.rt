@@ -1,0 +1,97 @@
+// What is wrong with words that are no command's.
+use ddf_command::image_paths;
+use std::fmt;
+
+/// The most images that words may name.
+const MOST_IMAGES: usize = 64;
+
+/// Why words are no command's.
+#[derive(Clone, Copy, Drop)]
+pub enum Wrong<'a> {
+    /// They end before the two dashes.
+    NoDashes,
+    /// They end before the command.
+    NoCommand,
+    /// An image has no name.
+    Unnamed,
+    /// There are too many images.
+    Crowd,
+    /// An image is named twice.
+    Twice(&'a str),
+    /// There is no such command.
+    Unknown(&'a str),
+    /// They end before the command has all its words.
+    Short(&'a str),
+    /// A word is none that the command can take there.
+    Misplaced(&'a str, &'a str),
+    /// A slot is named twice.
+    SlotTwice(&'a str),
+    /// A word is no slot's number.
+    NoSlot(&'a str),
+}
+
+/// What is wrong with words that go wrong at a place.
+pub fn explain(words: &[String], place: usize) -> Wrong<'_> {
+    let images = image_paths(words).len();
+    let behind = images.saturating_add(1);
+    match words.get(images) {
+        Some(dashes) if dashes.as_str() == "--" && images < place => {
+            explain_command(words, behind, place)
+        }
+        _ => explain_image(words, place),
+    }
+}
+
+/// What is wrong with an image, or with the lack of dashes.
+fn explain_image(words: &[String], place: usize) -> Wrong<'_> {
+    match words.get(place) {
+        None => Wrong::NoDashes,
+        Some(word) if word.is_empty() => Wrong::Unnamed,
+        Some(_) if place >= MOST_IMAGES => Wrong::Crowd,
+        Some(word) => Wrong::Twice(word),
+    }
+}
+
+/// What is wrong with a command whose name stands at this place.
+fn explain_command(words: &[String], name: usize, place: usize) -> Wrong<'_> {
+    match (words.get(name), words.get(place)) {
+        (None, _) => Wrong::NoCommand,
+        (Some(command), None) => Wrong::Short(command),
+        (Some(command), Some(_)) if place <= name => Wrong::Unknown(command),
+        (Some(command), Some(word)) if command.as_str() == "label" => {
+            explain_slot(words, name, word)
+        }
+        (Some(command), Some(word)) => Wrong::Misplaced(command, word),
+    }
+}
+
+/// What is wrong with a slot behind `label`.
+fn explain_slot<'a>(words: &'a [String], name: usize, word: &'a str) -> Wrong<'a> {
+    let count = words
+        .iter()
+        .skip(name)
+        .filter(|other| other.as_str() == word)
+        .count();
+    if count > 1 {
+        Wrong::SlotTwice(word)
+    } else {
+        Wrong::NoSlot(word)
+    }
+}
+
+impl fmt::Display for Wrong<'_> {
+    fn fmt<W: fmt::Write>(&self, f: &mut fmt::Formatter<W>) -> fmt::Result {
+        match *self {
+            Wrong::NoDashes => write!(f, "there is no -- with a command behind it"),
+            Wrong::NoCommand => write!(f, "there is no command behind --"),
+            Wrong::Unnamed => write!(f, "a word for an image is empty"),
+            Wrong::Crowd => write!(f, "there are more than {MOST_IMAGES} images"),
+            Wrong::Twice(path) => write!(f, "{path} is named twice"),
+            Wrong::Unknown(command) => write!(f, "there is no command {command}"),
+            Wrong::Short(command) => write!(f, "{command} wants more words"),
+            Wrong::Misplaced(command, word) => write!(f, "{command} doesn't take the word {word}"),
+            Wrong::SlotTwice(word) => write!(f, "slot {word} is named twice"),
+            Wrong::NoSlot(word) => write!(f, "{word} is no slot's number from 0 to 63"),
+        }
+    }
+}
