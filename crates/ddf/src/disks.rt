@@ -2,7 +2,6 @@
 ghost use Rattle.std.specs.Prelude.{◌≡◌, ◌≤◌, length, IfOk};
 
 use crate::claims::claim_all;
-use crate::intent::may_write;
 use ddf_bay::{Bay, FileBay};
 use ddf_bytes::NoMemory;
 use ddf_command::Command;
@@ -21,7 +20,7 @@ where
     requires { length paths.now ≤ 64 }
     ensures { IfOk result (λ disks. length (⟦<FileBay<R> as Bay>⟧.disks disks.0).sizes ≡ length paths.now) }
 {
-    let (bay, claims) = if may_write(command) {
+    let (bay, claims) = if command.may_write() {
         let mut bay = FileBay::open(rt, rt.alloc(), paths)?;
         let claims = claim_all(rt, &mut bay, paths)?;
         (bay, claims)

@@ -7,7 +7,6 @@ mod disks;
 mod failure;
 mod help;
 mod in_use;
-mod intent;
 mod same_disk;
 mod stamp;
 mod streams;

@@ -1,5 +1,4 @@
 // The moment and the chance for new names.
-use crate::intent::makes_names;
 use ddf_bytes::Stamp;
 use ddf_command::Command;
 use std::fs::File;
@@ -11,7 +10,7 @@ use std::time::{SystemTime, UNIX_EPOCH};
 /// The clock's seconds, 0 where it can't be read, and 16 random bytes where the command makes names. It makes none without
 /// chance.
 pub fn stamp_for<R: Clock + Files>(rt: &R, command: &Command) -> io::Result<Stamp> {
-    let salt = if makes_names(command) {
+    let salt = if command.makes_names() {
         u128::from_be_bytes(chance(rt)?)
     } else {
         0

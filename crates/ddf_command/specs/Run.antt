@@ -9,18 +9,9 @@ use Rattle.ddf_bay.specs.ReadsOnly.{SlotRose}
 use Rattle.ddf_command.specs.Call.{Answer, Work}
 use Rattle.ddf_command.specs.Examine.{IsExamined}
 use Rattle.ddf_command.specs.Label.{IsLabelled}
+use Rattle.ddf_words.specs.Commands.{may_write}
 use Rattle.ddf_words.specs.Words.{Word, IsAsked}
 use Rattle.ddf_words.specs.declared.command.Asked.{Asked}
-
--- whether a command may write to the disks
-abbrev pub may_write : Command → Bool
-may_write Examine = false
-may_write (Label slots) = true
-
--- whether a command may be refused
-abbrev pub may_refuse : Command → Bool
-may_refuse Examine = false
-may_refuse (Label slots) = true
 
 -- The words ask for no command that may write to the disks.
 abbrev pub AsksForNoWrite : List Word → Type 0

@@ -6,9 +6,10 @@ ghost use Rattle.ddf_words.specs.declared.command.Asked.{Asked};
 ghost use Rattle.ddf_text.specs.Refusal.{refusal_line};
 ghost use Rattle.ddf_bytes.specs.Streams.{SinkRose};
 ghost use Rattle.ddf_command.specs.Call.{answer_of, work_of};
-ghost use Rattle.ddf_command.specs.Run.{IsDone, AsksForNoWrite, SomeSlotRose, is_status, is_unwritten, may_refuse};
+ghost use Rattle.ddf_command.specs.Run.{IsDone, AsksForNoWrite, SomeSlotRose, is_status, is_unwritten};
 ghost use Rattle.ddf_command.specs.Status.{code_of};
 ghost use Rattle.ddf_command.specs.Tells.{EndsWith};
+ghost use Rattle.ddf_words.specs.Commands.{may_refuse};
 ghost use Rattle.ddf_words.specs.Words.{words_of, slot_count, GoWrongAt, IsAccepted, IsAsked};
 
 use crate::commands::examine::examine;

@@ -1,3 +1,5 @@
+ghost use Rattle.std.specs.Prelude.{◌≡◌};
+
 use ddf_bytes::{Guid, Seq};
 
 /// What the words ask for.
@@ -19,4 +21,28 @@ pub enum Command {
         /// The slots, each from 0 to 63, in the order of the words.
         slots: Seq<u8>,
     },
+}
+
+impl Command {
+    ghost use Rattle.ddf_words.specs.Commands.{makes_names, may_write};
+
+    /// Whether it may write to the disks.
+    pub fn may_write(&self) -> bool
+        ensures { result ≡ may_write self.now }
+    {
+        match self {
+            Command::Examine => false,
+            Command::Label { .. } => true,
+        }
+    }
+
+    /// Whether it makes new GUIDs, which takes chance.
+    pub fn makes_names(&self) -> bool
+        ensures { result ≡ makes_names self.now }
+    {
+        match self {
+            Command::Examine => false,
+            Command::Label { .. } => true,
+        }
+    }
 }

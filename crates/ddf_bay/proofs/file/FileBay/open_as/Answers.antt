@@ -21,5 +21,6 @@ returns-clause-counts g c = record {
   failed_reads = zeros_at 64;
   failed_writes = zeros_at 64;
   sectors_written = refl;
+  sectors_asked = refl;
   calls = refl;
 }
