@@ -8,7 +8,7 @@ use Rattle.ddf_bay.specs.Sectors.{Image}
 use Rattle.ddf_bay.specs.Moments.{StopsLeave}
 use Rattle.ddf_bay.proofs.Steps.{stops_then}
 use Rattle.ddf_update.specs.declared.prepared.Prepared.{Prepared}
-use Rattle.ddf_update.specs.Changes.{AreChanged, HasChanged, IsLeftChangingAll, MayChangeAll, Seat}
+use Rattle.ddf_update.specs.Changes.{AreChanged, HasChanged, IsLeftChangingAll, MayChangeAll, SlotChange}
 use Rattle.ddf_update.specs.Group.{AreSlots}
 use Rattle.ddf_update.specs.Update.{IsChanged, IsOldOrNew, MayChange}
 use Rattle.ddf_update.proofs.GroupSteps.{later_differs, some_place}
@@ -16,7 +16,7 @@ use Rattle.ddf_update.proofs.GroupSteps.{later_differs, some_place}
 some_is : (x y : ℕ) → some_place x ≡ some_place y → x ≡ y
 some_is x y e = cc
 
-module _ {D : Type 0} (old : BayState D) (slots : List ℕ) (seat : ℕ → Seat) (updates : List Prepared) (are : AreSlots old.sizes slots) (may : MayChangeAll old slots seat updates)
+module _ {D : Type 0} (old : BayState D) (slots : List ℕ) (seat : ℕ → SlotChange) (updates : List Prepared) (are : AreSlots old.sizes slots) (may : MayChangeAll old slots seat updates)
     (now : BayState D) (same_sizes : now.sizes ≡ old.sizes) (count : ℕ) (so_far : AreChanged old now slots seat updates count) where
   -- the sectors of a slot whose turn has not come
   held_later : (place slot : ℕ) → count ≤ place → slice_get slots place ≡ Some slot → now.held slot ≡ old.held slot

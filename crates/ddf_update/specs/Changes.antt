@@ -12,25 +12,25 @@ use Rattle.ddf_update.specs.Prepared.{IsPrepared}
 use Rattle.ddf_update.specs.Update.{AreBoth, IsChanging, IsInEither, MayChange}
 
 -- What a slot has, and what it gets: its anchor, the copy that is written last, the copy that it shows, and its new one.
-pub record Seat : Type 0 where
+pub record SlotChange : Type 0 where
   pub anchor : Header
   pub last : Which
   pub old : DiskCopy
   pub new : DiskCopy
 
 -- Each slot may get the new copy of the seat at its place, which its update writes.
-pub record MayChangeAll {D : Type 0} (disks : BayState D) (slots : List ℕ) (seat : ℕ → Seat) (updates : List Prepared) : Type 0 where
+pub record MayChangeAll {D : Type 0} (disks : BayState D) (slots : List ℕ) (seat : ℕ → SlotChange) (updates : List Prepared) : Type 0 where
   pub may_change : (place slot : ℕ) → slice_get slots place ≡ Some slot → MayChange disks slot (seat place).anchor (seat place).last (seat place).old (seat place).new
   pub are_prepared : (place : ℕ) (update : Prepared) → slice_get updates place ≡ Some update → IsPrepared (seat place).new (seat place).last Change update
 
 -- A slot of so many sectors has the new copy in both places, and all outside them is as it was.
-pub record HasChanged (size : ℕ) (before now : ℕ → List ℕ) (update : Prepared) (seat : Seat) : Type 0 where
+pub record HasChanged (size : ℕ) (before now : ℕ → List ℕ) (update : Prepared) (seat : SlotChange) : Type 0 where
   pub are_both : AreBoth size now seat.anchor seat.new
   pub outside : (l : ℕ) → (now l ≡ before l) ⊎ IsInEither update l
 
 -- A stop leaves the slots before one of them with their new copies, this one with its old or its new copy, and those behind
 -- it as they were. Other slots are as they might be left.
-pub record IsLeftChangingAll {D : Type 0} (start : BayState D) (slots : List ℕ) (seat : ℕ → Seat) (updates : List Prepared) (image : Image) : Type 0 where
+pub record IsLeftChangingAll {D : Type 0} (start : BayState D) (slots : List ℕ) (seat : ℕ → SlotChange) (updates : List Prepared) (image : Image) : Type 0 where
   pub turn : ℕ
   pub earlier : (place slot : ℕ) (update : Prepared) → place < turn → slice_get slots place ≡ Some slot → slice_get updates place ≡ Some update
       → HasChanged (size_of start slot) (start.held slot) (image slot) update (seat place)
@@ -40,7 +40,7 @@ pub record IsLeftChangingAll {D : Type 0} (start : BayState D) (slots : List ℕ
   pub others : (s l : ℕ) → ((place : ℕ) → slice_get slots place ≢ Some s) → start.may_hold s l (image s l)
 
 -- The first slots, so many, have their new copies, sure. All other slots are as they were.
-pub record AreChanged {D : Type 0} (old new : BayState D) (slots : List ℕ) (seat : ℕ → Seat) (updates : List Prepared) (count : ℕ) : Type 0 where
+pub record AreChanged {D : Type 0} (old new : BayState D) (slots : List ℕ) (seat : ℕ → SlotChange) (updates : List Prepared) (count : ℕ) : Type 0 where
   pub have_changed : (place slot : ℕ) (update : Prepared) → place < count → slice_get slots place ≡ Some slot → slice_get updates place ≡ Some update
       → HasChanged (size_of old slot) (old.held slot) (new.held slot) update (seat place)
   pub are_settled : (place slot : ℕ) → place < count → slice_get slots place ≡ Some slot → IsSettled new.may_hold new.held slot

@@ -2,7 +2,7 @@
 ghost use Rattle.std.specs.Prelude.{◌≡◌, ℕ, length, OnOk, IfErr};
 ghost use Rattle.ddf_bytes.specs.Counts.{Rose};
 ghost use Rattle.ddf_bay.specs.Moments.{SpendsOver, StopsLeave};
-ghost use Rattle.ddf_update.specs.Changes.{AreChanged, IsLeftChangingAll, MayChangeAll, Seat};
+ghost use Rattle.ddf_update.specs.Changes.{AreChanged, IsLeftChangingAll, MayChangeAll, SlotChange};
 ghost use Rattle.ddf_update.specs.Group.{IsOneOf, LieOnSlots};
 ghost use Rattle.ddf_update.specs.Prepared.{all_calls, all_sectors};
 
@@ -19,9 +19,9 @@ pub fn write_disks<B: Bay>(
     requires { LieOnSlots (B.disks bay.old).sizes slots.now updates.now }
 
     // From entry to exit a stop leaves each slot with its old or its new copy, and one of them at most partly written.
-    ensures any_moment { B.tells → (seat : ℕ → Seat) → MayChangeAll (B.disks bay.old) slots.now seat updates.now
+    ensures any_moment { B.tells → (seat : ℕ → SlotChange) → MayChangeAll (B.disks bay.old) slots.now seat updates.now
         → StopsLeave (B.disks bay.old) (B.disks bay.new) (IsLeftChangingAll (B.disks bay.old) slots.now seat updates.now) }
-    ensures changed { B.tells → (seat : ℕ → Seat) → MayChangeAll (B.disks bay.old) slots.now seat updates.now
+    ensures changed { B.tells → (seat : ℕ → SlotChange) → MayChangeAll (B.disks bay.old) slots.now seat updates.now
         → OnOk result (AreChanged (B.disks bay.old) (B.disks bay.new) slots.now seat updates.now (length slots.now)) }
     ensures reads { (B.disks bay.new).failed_reads ≡ (B.disks bay.old).failed_reads }
     ensures spends { SpendsOver (B.disks bay.old) (B.disks bay.new) (all_sectors updates.now) (all_calls updates.now) }
