@@ -7,6 +7,7 @@ mod disks;
 mod failure;
 mod help;
 mod in_use;
+mod memory;
 mod same_disk;
 mod stamp;
 mod streams;
@@ -17,6 +18,7 @@ mod wrong_words;
 use crate::disks::open_disks;
 use crate::failure::{Failure, NO_MEMORY, STREAM_FAULT};
 use crate::help::{USAGE, answer};
+use crate::memory::keep_freed;
 use crate::same_disk::same_disk;
 use crate::stamp::stamp_for;
 use crate::streams::hold_streams;
@@ -118,6 +120,7 @@ fn perform<R>(rt: &R, words: &[String], asked: &Asked) -> Result<u8, Failure>
 where
     R: Files<File = File> + Clock + Input + Print + Eprint + AllocGlobal + Clone + Drop,
 {
+    keep_freed(rt.alloc());
     let paths = slot_paths(words);
     if let Some(place) = same_disk(rt, paths)? {
         return refuse(rt, place);

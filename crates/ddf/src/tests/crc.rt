@@ -20,7 +20,11 @@ fn crc_of_each_length_and_offset(rt: HostRuntime) {
     for length in 0..101usize {
         for offset in 0..18usize {
             let piece = &bytes[offset..offset + length];
-            assert_eq!(rt; crc32(piece), plain_crc32(piece), "{length} bytes from {offset} on");
+            assert_eq!(rt;
+                crc32(piece),
+                plain_crc32(piece),
+                "{length} bytes from {offset} on"
+            );
         }
     }
 }
