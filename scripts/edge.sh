@@ -93,6 +93,15 @@ else
     echo "edge: no flock here, so locked disks were not tried"
 fi
 
+if loop=$(losetup -r -f --show d1.img 2>/dev/null); then
+    trap 'losetup -d "$loop"; rm -rf "$work"' EXIT
+    ends 3 "disk fault slot 0" "it is protected from writes" "./ddf $loop -- label"
+    ends 0 "slot 0 blank" "" "./ddf $loop -- examine"
+    echo "edge: a protected device is examined, and not labelled"
+else
+    echo "edge: no loop devices here, so a protected device was not tried"
+fi
+
 if command -v strace >/dev/null; then
     strace -o calls -e trace=write,fsync ./ddf new.img -- label >/dev/null
     case $(grep -B 1 '"ok sequence 1' calls | head -n 1) in

@@ -23,6 +23,7 @@ where
         }
         match claim(rt, path) {
             Ok(claim) => claims.push(claim)?,
+            Err(why) if why.kind() == ErrorKind::OutOfMemory => return Err(NoMemory),
             Err(why) => bay.close(slot, why),
         }
     }

@@ -1,6 +1,5 @@
-// What the system tells of the use of a block device: whether it is mounted, swapped to, or part of another device.
-use crate::device::{device_of, is_held, overlap};
-use std::alloc::AllocError;
+// What the system tells of the use of a block device: whether it is protected, mounted, swapped to, or part of another device.
+use crate::device::{device_of, if_told, is_held, is_protected, overlap};
 use std::fs::Metadata;
 use std::os::unix::fs::FileTypeExt;
 use std::rt::Files;
@@ -12,7 +11,7 @@ const MOUNTS: &str = "/proc/self/mountinfo";
 /// The files and devices that memory is swapped to: the first word of each line, below a head, is a path.
 const SWAPS: &str = "/proc/swaps";
 
-/// What a block device is in use for. Nothing where the system doesn't tell.
+/// Why a block device isn't written to. Nothing where the system doesn't tell.
 pub fn use_of<R>(rt: &R, metadata: &Metadata) -> io::Result<Option<&'static str>>
 where
     R: Files + AllocGlobal + Clone + Drop,
@@ -21,6 +20,9 @@ where
         return Ok(None);
     }
     let device = device_of(rt.alloc(), metadata)?;
+    if is_protected(rt, &device)? {
+        return Ok(Some("it is protected from writes"));
+    }
     if is_mounted(rt, &device)? {
         return Ok(Some("it is mounted"));
     }
@@ -34,15 +36,15 @@ where
 }
 
 /// The text of a file of the system, empty where it can't be read.
-fn told<R: Files + AllocGlobal>(rt: &R, path: &str) -> Result<String, AllocError> {
-    match fs::read(rt, path) {
-        Ok(bytes) => String::from_utf8_lossy(rt.alloc(), &bytes),
-        Err(_) => Ok(String::new(rt.alloc())),
+fn text_of<R: Files + AllocGlobal>(rt: &R, path: &str) -> io::Result<String> {
+    match if_told(fs::read(rt, path))? {
+        Some(bytes) => Ok(String::from_utf8_lossy(rt.alloc(), &bytes)?),
+        None => Ok(String::new(rt.alloc())),
     }
 }
 
-fn is_mounted<R: Files + AllocGlobal>(rt: &R, device: &str) -> Result<bool, AllocError> {
-    let mounts = told(rt, MOUNTS)?;
+fn is_mounted<R: Files + AllocGlobal>(rt: &R, device: &str) -> io::Result<bool> {
+    let mounts = text_of(rt, MOUNTS)?;
     for line in mounts.as_str().lines() {
         if is_mount_of(rt, device, line)? {
             return Ok(true);
@@ -52,11 +54,7 @@ fn is_mounted<R: Files + AllocGlobal>(rt: &R, device: &str) -> Result<bool, Allo
 }
 
 /// Whether a line tells that the device is mounted: by its number, or by its path where the file system has a number of its own.
-fn is_mount_of<R: Files + AllocGlobal>(
-    rt: &R,
-    device: &str,
-    line: &str,
-) -> Result<bool, AllocError> {
+fn is_mount_of<R: Files + AllocGlobal>(rt: &R, device: &str, line: &str) -> io::Result<bool> {
     let mut words = line.split(' ');
     if let Some(number) = words.nth(2) {
         if overlap(rt, device, number)? {
@@ -69,8 +67,8 @@ fn is_mount_of<R: Files + AllocGlobal>(
     }
 }
 
-fn is_swapped_to<R: Files + AllocGlobal>(rt: &R, device: &str) -> Result<bool, AllocError> {
-    let swaps = told(rt, SWAPS)?;
+fn is_swapped_to<R: Files + AllocGlobal>(rt: &R, device: &str) -> io::Result<bool> {
+    let swaps = text_of(rt, SWAPS)?;
     for line in swaps.as_str().lines().skip(1) {
         if let Some(path) = line.split(' ').next() {
             if is_at(rt, device, path)? {
@@ -82,7 +80,7 @@ fn is_swapped_to<R: Files + AllocGlobal>(rt: &R, device: &str) -> Result<bool, A
 }
 
 /// Whether a path leads to the device, to a part of it or to the whole of it.
-fn is_at<R: Files + AllocGlobal>(rt: &R, device: &str, path: &str) -> Result<bool, AllocError> {
+fn is_at<R: Files + AllocGlobal>(rt: &R, device: &str, path: &str) -> io::Result<bool> {
     let Ok(metadata) = fs::metadata(rt, path) else {
         return Ok(false);
     };
