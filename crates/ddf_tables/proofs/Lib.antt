@@ -6,6 +6,7 @@ pub mod TableValues
 pub mod TableSections
 pub mod DiskRows
 pub mod ArrayRows
+pub mod Building
 pub mod SectorValues
 pub mod LogEntries
 pub mod LogValues

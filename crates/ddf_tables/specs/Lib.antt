@@ -2,7 +2,9 @@ pub mod Faults
 pub mod Places
 pub mod Rows
 pub mod Tables
+pub mod DiskFlags
 pub mod Disks
 pub mod Arrays
+pub mod Building
 pub mod Sectors
 pub mod BadBlocks

@@ -46,7 +46,7 @@ const INIT: usize = 33;
 const NAME: usize = 48;
 
 /// The places of the fields. The other bytes of an entry are unread.
-const FIELDS: [Span; 5] = [
+pub(crate) const FIELDS: [Span; 5] = [
     Span {
         at: GUID,
         length: 24,

@@ -1,4 +1,5 @@
-ghost use Rattle.std.specs.Prelude.{⊤, [], ◌∷◌, codes};
+ghost use Rattle.std.specs.Prelude.{⊤};
+ghost use Rattle.ddf_tables.specs.DiskFlags.{state_flags, type_flags};
 
 use bitflags::{Flag, Flags, bitflag_items};
 
@@ -30,8 +31,7 @@ impl Flags for DiskType {
 
     ghost exact = { ⊤ };
 
-    ghost table = { (codes "FORCED_GUID", 1) ∷ (codes "IN_ARRAY", 2) ∷ (codes "GLOBAL_SPARE", 4)
-        ∷ (codes "SPARE", 8) ∷ (codes "FOREIGN", 16) ∷ (codes "LEGACY", 32) ∷ (codes "INTERFACE", 3840) ∷ [] };
+    ghost table = { type_flags };
 
     ghost set_of = { λ bits. bits.0 };
 
@@ -76,8 +76,7 @@ impl Flags for DiskState {
 
     ghost exact = { ⊤ };
 
-    ghost table = { (codes "ONLINE", 1) ∷ (codes "FAILED", 2) ∷ (codes "REBUILDING", 4) ∷ (codes "TRANSITION", 8)
-        ∷ (codes "PREDICTED_FAILURE", 16) ∷ (codes "UNRECOVERED_READ_ERROR", 32) ∷ (codes "MISSING", 64) ∷ [] };
+    ghost table = { state_flags };
 
     ghost set_of = { λ bits. bits.0 };
 

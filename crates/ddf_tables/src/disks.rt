@@ -47,7 +47,7 @@ const STATE: usize = 30;
 const SIZE: usize = 32;
 
 /// The places of the fields. The other bytes of an entry are unread.
-const FIELDS: [Span; 5] = [
+pub(crate) const FIELDS: [Span; 5] = [
     Span {
         at: GUID,
         length: 24,

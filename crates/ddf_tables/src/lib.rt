@@ -1,12 +1,15 @@
 //! The tables of a disk's copy: disk and array entries, controller and disk data, and the bad block log.
 #![tactic(auto)]
 
+mod array_building;
 mod array_table;
 mod arrays;
 mod bad_blocks;
 mod bits;
 mod controller;
+mod disk_building;
 mod disk_data;
+mod disk_flags;
 mod disk_table;
 mod disks;
 mod fault;
