@@ -3,7 +3,7 @@
 
 mod access;
 mod bay;
-mod counts;
+pub mod counts;
 mod disk_fault;
 mod file;
 mod index;
