@@ -1,6 +1,6 @@
 -- The slots of a bay over files whose paths could not be opened.
 use Rattle.std.proofs.Common.{◌≡◌, ℕ, zero, suc, List, [], ◌∷◌, ◌++◌, length, get_or, set, false, true, refl, sym, ◌∙◌, ap, arith}
-use Rattle.std.specs.Prelude.{Result, Err, is_ok, ◌<◌, nat_le}
+use Rattle.std.specs.Prelude.{Result, Err, is_ok, nat_le}
 use Rattle.std.specs.List.{list_all}
 use Rattle.ddf_bay.specs.Files.{is_open, AreEmptyUnlessOpen}
 
