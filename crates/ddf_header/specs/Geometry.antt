@@ -1,7 +1,6 @@
 -- The part of a header that says how a disk is laid out. The rules of size are profile.
-use Rattle.std.specs.Prelude.{◌≡◌, ℕ, ◌+◌, ◌*◌, ◌/◌, ◌<◌, ◌≤◌, Bool, false, IsTrue, slice_get, not, ◌&&◌, ◌||◌, ◌==◌, nat_lt, List, [], ◌∷◌, take, Option, Some, None, option_map, if◌then◌else◌, position, unwrap_or}
+use Rattle.std.specs.Prelude.{◌≡◌, ℕ, ◌+◌, ◌*◌, ◌/◌, ◌<◌, ◌≤◌, Bool, false, IsTrue, slice_get, not, ◌&&◌, ◌||◌, ◌==◌, nat_lt, List, [], ◌∷◌, take, Option, Some, option_map, if◌then◌else◌, position, unwrap_or}
 use Rattle.std.specs.List.{flat_map, list_any, enumerate_from}
-use Rattle.std.specs.Option.{option_or}
 use Rattle.std.specs.Int.{w16, w32, w64}
 use Rattle.ddf_bytes.specs.Bytes.{number_at}
 use Rattle.ddf_bytes.specs.Choices.{first_of, when}

@@ -1,5 +1,5 @@
 -- A header against the bytes of its sector (SNIA DDF 2.0, the DDF header).
-use Rattle.std.specs.Prelude.{◌≡◌, ℕ, ◌-◌, ◌^◌, Bool, true, not, ◌&&◌, ◌==◌, nat_le, List, [], ◌∷◌, ◌++◌, length, Option, Some, None, Result, Ok, Err, IsTrue, is_none, option_map, unwrap_or, slice_index}
+use Rattle.std.specs.Prelude.{◌≡◌, ℕ, ◌-◌, ◌^◌, Bool, true, not, ◌&&◌, ◌==◌, nat_le, List, [], ◌∷◌, ◌++◌, length, Option, None, Result, IsTrue, is_none, option_map, unwrap_or, slice_index}
 use Rattle.std.specs.Result.{result_err}
 use Rattle.std.specs.Int.{w32, w64}
 use Rattle.ddf_bytes.specs.Bytes.{bytes_at, number_at}
