@@ -14,6 +14,7 @@ fn disks_that_are_read_are_not_written(rt: HostRuntime) -> Result<(), Fail> {
     let alloc = rt.alloc();
     fs::write(&rt, PATH, [9u8; 1100].as_slice())?;
     let paths = words_of(alloc, &[PATH, MISSING])?;
+    assert!(rt; paths.len() == 2);
     let mut bay = FileBay::open_to_read(&rt, alloc, &paths)?;
     assert!(rt; bay.slots() == 2);
     assert!(rt; bay.size(0) == 2 && bay.fault(0).is_none());
