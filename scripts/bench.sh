@@ -1,0 +1,45 @@
+#!/bin/sh
+# Measures `examine` beside mdadm, blkid and zlib, where they are at hand, and prints a table for the README. It is no part of the
+# gate. ROUNDS is the number of rounds (40); in each round every program runs once, one after another.
+#
+# - Linux's disks: mdadm reads them as Linux left them (DDF_LINUX_DISKS, a folder of NAME.tar.xz), `ddf` the same disks with their
+#   checksums as the standard counts them (DDF_DISKS).
+# - CRC: what `examine` takes longer over slots that are sealed than over the same slots where none is sealed, so that it reads and
+#   copies as much, counts no CRC and compares no slots. So a comparison of the two copies is in it. zlib's is that of Python.
+# - Memory: the peak of the process, where the sections that are kept in memory have the most sectors that they may have.
+#
+# Times are the least and the median of all rounds, of processor time and on the clock.
+set -eu
+top=$(cd "$(dirname "$0")/.." && pwd)
+PATH=$PATH:/sbin:/usr/sbin
+if ! command -v python3 >/dev/null; then
+    echo "bench: python3 isn't here, nothing measured"
+    exit 0
+fi
+
+work=$(mktemp -d)
+trap 'rm -rf "$work"' EXIT
+
+# Sixteen disks of the archives in a folder, each a file of its own.
+sixteen() {
+    [ -d "$1" ] || return 0
+    mkdir "$work/sets" "$2"
+    for archive in "$1"/*.tar.xz; do
+        mkdir "$work/sets/$(basename "$archive" .tar.xz)"
+        tar -xJf "$archive" -C "$work/sets/$(basename "$archive" .tar.xz)"
+    done
+    count=0
+    for image in $(find "$work/sets" -name '*.img' | sort) $(find "$work/sets" -name '*.img' | sort); do
+        [ "$count" -lt 16 ] || break
+        cp --sparse=always "$image" "$2/$(printf %02d "$count").img"
+        count=$((count + 1))
+    done
+    rm -rf "$work/sets"
+}
+
+"$top/ddf" --version >/dev/null
+sixteen "${DDF_DISKS:-$top/../shared/disks}" "$work/turned"
+sixteen "${DDF_LINUX_DISKS:-$top/../shared/linux-disks}" "$work/linux"
+truncate -s 32M "$work/labelled.img"
+"$top/ddf" "$work/labelled.img" -- label >/dev/null
+python3 "$top/scripts/bench.py" "$top/crates/ddf/out/ddf" "$work" "${ROUNDS:-40}"
