@@ -11,8 +11,8 @@ from pathlib import Path
 from struct import pack
 
 SECTOR = 512
-# What is longer than 128 KiB in both parts of a comparison is measured as one buffer of this size.
-LARGE = 65_536
+# The bytes of which zlib counts the CRC.
+PIECE = 65_536
 
 
 # ---- images
@@ -49,7 +49,7 @@ def bad_blocks(sectors):
 
 @dataclass
 class Disk:
-    """A disk with two level copies. Its size is that of the copies and of little more."""
+    """A disk with two level copies, which has little more than their sectors."""
 
     disks: int = 15
     arrays: int = 15
@@ -195,7 +195,7 @@ def main():
     images = plain.write(work / "plain.img"), full.write(work / "sealed.img")
     without, counted = measured(rounds, *map(examine, images))
     took = min(counted.processor) - min(without.processor)
-    speed, other = 2 * len(full.sections[3]) / took / 1e6, zlib_speed(LARGE)
+    speed, other = 2 * len(full.sections[3]) / took / 1e6, zlib_speed(PIECE)
     row("CRC of large records, GB/s", f"{speed:.2f}", f"zlib {other:.2f}", speed / other, "0.8")
 
     for what in ("disks", "arrays"):

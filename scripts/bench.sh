@@ -4,7 +4,7 @@
 #
 # - Linux's disks: mdadm reads them as Linux left them (DDF_LINUX_DISKS, a folder of NAME.tar.xz), `ddf` the same disks with their
 #   checksums as the standard counts them (DDF_DISKS).
-# - CRC: what `examine` takes longer over slots that are sealed than over the same slots where none is sealed, so that it reads and
+# - CRC: how much longer `examine` takes over slots that are sealed than over slots of which none is, so that it reads and
 #   copies as much, counts no CRC and compares no slots. So a comparison of the two copies is in it. zlib's is that of Python.
 # - Memory: the peak of the process, where the sections that are kept in memory have the most sectors that they may have.
 #
