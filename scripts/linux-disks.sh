@@ -1,24 +1,33 @@
 #!/bin/sh
-# Runs `examine` over disks that Linux's mdadm wrote, and compares what it prints with what an independent reader found.
-# The disks aren't part of this repository: DDF_DISKS names a folder of NAME.tar.xz with the images and NAME.examine.txt
-# with the wanted text. Where there is none, nothing is compared.
+# Runs `examine` over disks as Linux's mdadm left them, and compares what it prints with what an independent reader found.
+# Nothing may be written to an image. The disks aren't part of this repository: DDF_DISKS names a folder of NAME.tar.xz
+# with the images and NAME.examine.txt with the wanted text. Where there is none, nothing is compared.
 set -eu
 top=$(cd "$(dirname "$0")/.." && pwd)
-disks=${DDF_DISKS:-$top/../shared/disks}
+disks=${DDF_DISKS:-$top/../shared/linux-disks}
 if [ ! -d "$disks" ]; then
     echo "linux-disks: no disks at hand, nothing compared"
     exit 0
 fi
 
+fail() {
+    echo "linux-disks: $1" >&2
+    exit 1
+}
+
 work=$(mktemp -d)
 trap 'rm -rf "$work"' EXIT
 for archive in "$disks"/*.tar.xz; do
     name=$(basename "$archive" .tar.xz)
-    tar -xJf "$archive" -C "$work"
-    "$top/ddf" "$work/$name"/*.img -- examine >"$work/$name.told"
-    if ! diff -u "$disks/$name.examine.txt" "$work/$name.told"; then
-        echo "linux-disks: $name differs" >&2
-        exit 1
-    fi
-    echo "linux-disks: $name is as wanted"
+    mkdir "$work/$name"
+    tar -xJf "$archive" -C "$work/$name"
+    sha256sum "$work/$name"/*.img >"$work/before"
+    "$top/ddf" "$work/$name"/*.img -- examine >"$work/told" 2>"$work/notes" || fail "examine of $name failed"
+    sha256sum "$work/$name"/*.img >"$work/after"
+    diff -u "$disks/$name.examine.txt" "$work/told" || fail "$name differs"
+    cmp -s "$work/before" "$work/after" || fail "an image of $name was written to"
+    slots=$(grep -c "^ddf: slot [0-9]*: checksums as Linux's mdadm counts them$" "$work/notes" || true)
+    [ "$slots" -eq "$(wc -l <"$work/before")" ] || fail "$slots slots of $name are turned"
+    rm -rf "${work:?}/$name"
+    echo "linux-disks: $name is as wanted, and no image was written to"
 done

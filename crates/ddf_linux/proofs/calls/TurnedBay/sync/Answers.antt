@@ -1,0 +1,7 @@
+use Rattle.ddf_linux.proofs.Views.{settled_turned, ok_then}
+use Rattle.ddf_linux.proofs.calls.TurnedBay.sync.Goals as goal
+
+pub returns-clause-durable : goal.returns-clause-durable
+returns-clause-durable g c =
+    let bay = g.B.Bay.disks c.sync.new.self in
+    ok_then c.sync.result (settled_turned c.args.self.now.kinds bay.may_hold bay.held c.args.slot) c.sync.ensures.durable

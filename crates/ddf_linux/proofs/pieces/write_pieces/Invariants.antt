@@ -1,0 +1,25 @@
+use Rattle.std.proofs.Common.{◌<◌, true, length, ◌-◌, ◌≡◌, ◌≤◌, take}
+use Rattle.ddf_bay.specs.Sectors.{put_run}
+use Rattle.ddf_bay.specs.Moments.{StopsLeave, Remembers, SpendsWrites, Adds, IsAmong}
+use Rattle.ddf_linux.specs.Kinds.{kind_at}
+use Rattle.ddf_linux.specs.Pieces.{begins_at, pieces_below}
+use Rattle.ddf_linux.specs.State.{turned_state}
+use Rattle.ddf_linux.proofs.pieces.write_pieces.Given as goal
+
+abbrev pub invariant-loop-done : goal.invariant-loop-done
+invariant-loop-done g l =
+    let old = turned_state l.kinds (g.B.Bay.disks l.initial.bay) in
+    let new = turned_state l.kinds (g.B.Bay.disks l.bay) in
+    record {
+      within : l.done ≤ length l.from;
+      held : g.B.Bay.tells → new.held ≡ put_run old.held l.slot l.lba (take l.done l.from);
+      left : Adds old.may_hold new.may_hold l.slot l.lba l.from;
+      any_moment : StopsLeave old new (IsAmong old.may_hold l.slot l.lba l.from);
+      remembers : Remembers old new;
+      ok : (g.B.Bay.disks l.bay).failed_writes ≡ (g.B.Bay.disks l.initial.bay).failed_writes;
+      spends : SpendsWrites (g.B.Bay.disks l.initial.bay) (g.B.Bay.disks l.bay) l.slot l.done (pieces_below (kind_at l.kinds l.slot) l.lba l.from l.done);
+      begins : l.done < length l.from → begins_at (kind_at l.kinds l.slot) l.lba l.from l.done ≡ true;
+    }
+
+abbrev pub decreases-loop-done : goal.decreases-loop-done
+decreases-loop-done g l = length l.from - l.done

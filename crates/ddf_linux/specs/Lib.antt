@@ -1,0 +1,11 @@
+pub mod Turning
+pub mod Crcs
+pub mod Zeros
+pub mod Layouts
+pub mod Places
+pub mod Kinds
+pub mod Pieces
+pub mod State
+pub mod TurnedBays
+pub mod TurnLaws
+pub mod CrcLaws

@@ -1,0 +1,67 @@
+-- Which sectors of a slot are turned: those that lie where a sealed record of its anchor's copies may begin, and begin with
+-- the signature of such a record.
+use Rattle.std.specs.Prelude.{ℕ, ◌+◌, ◌-◌, ◌/◌, ◌%◌, Bool, true, not, ◌&&◌, ◌||◌, ◌==◌, nat_le, nat_lt, if◌then◌else◌, List, Option, Some, None, Result, Ok, Err}
+use Rattle.ddf_header.specs.declared.kind.HeaderKind.TheVariants.{Anchor}
+use Rattle.ddf_header.specs.declared.reading.Header.{Header}
+use Rattle.ddf_header.specs.declared.fault.HeaderFault.{HeaderFault}
+use Rattle.ddf_header.specs.Header.{decoded, header_signature}
+use Rattle.ddf_linux.specs.declared.places.Copies.{Copies}
+use Rattle.ddf_linux.specs.declared.places.Places.{Places}
+use Rattle.ddf_linux.specs.declared.records.Records.{Records}
+use Rattle.ddf_linux.specs.Crcs.{constant_of}
+use Rattle.ddf_linux.specs.Layouts.{layout_of, records_with}
+
+-- ---- by the anchor
+
+abbrev pub copies_in : Result Header HeaderFault → Option Copies
+copies_in (Err fault) = None
+copies_in (Ok header) = Some (record { primary = header.primary_lba; secondary = header.secondary_lba; layout = layout_of header.geometry })
+
+-- the copies that an anchor places, if it is a sound header
+abbrev pub copies_of : List ℕ → Option Copies
+copies_of anchor = copies_in (decoded Anchor anchor)
+
+-- the places of a slot whose last sector, turned, is this anchor
+abbrev pub places_of : ℕ → List ℕ → Places
+places_of last anchor = record { anchor = last; constant = constant_of 512; copies = copies_of anchor }
+
+abbrev pub copies_lie_from : Option Copies → ℕ → Bool
+copies_lie_from None lba = true
+copies_lie_from (Some copies) lba = nat_le lba copies.primary && nat_le lba copies.secondary
+
+-- the anchor and both headers lie at or behind an LBA, and so does each place: no record lies before its header
+abbrev pub lie_from : Places → ℕ → Bool
+lie_from places lba = nat_le lba places.anchor && copies_lie_from places.copies lba
+
+-- ---- by the sector
+
+-- the first sector of one of these records, behind a header at an LBA: a record without sectors stands nowhere
+unfoldable pub is_first : Records → (header lba : ℕ) → Bool
+is_first records header lba =
+    let first = header + records.offset in
+    nat_le first lba
+    && (not (records.stride == 0)
+    && (((lba - first) % records.stride == 0)
+    && nat_lt ((lba - first) / records.stride) records.count))
+
+-- in either copy
+abbrev pub stands_at : Copies → Records → ℕ → Bool
+stands_at copies records lba = is_first records copies.primary lba || is_first records copies.secondary lba
+
+abbrev pub kind_constant : Copies → Option Records → ℕ → Option ℕ
+kind_constant copies None lba = None
+kind_constant copies (Some records) lba = if stands_at copies records lba then Some records.constant else None
+
+-- what is added to the CRC of a sector of a copy that begins with a signature, if it is one of those that are turned
+abbrev pub copies_constant : Copies → ℕ → ℕ → Option ℕ
+copies_constant copies lba signature = kind_constant copies (records_with copies.layout signature) lba
+
+abbrev pub constant_if : Option Copies → ℕ → ℕ → Option ℕ
+constant_if None lba signature = None
+constant_if (Some copies) lba signature = copies_constant copies lba signature
+
+-- and of any sector of the slot: the anchor is turned too
+unfoldable pub constant_at : Places → ℕ → ℕ → Option ℕ
+constant_at places lba signature =
+    if (signature == header_signature) && (lba == places.anchor) then Some places.constant
+    else constant_if places.copies lba signature

@@ -1,0 +1,75 @@
+-- Turning is its own inverse and keeps the length and the signature.
+use Rattle.std.specs.Prelude.{◌≡◌, ℕ, List, [], ◌∷◌, length, bit_xor, Option, Some, None, is_some, false, take}
+use Rattle.std.specs.Int.Bits.{xor_self, xor_zero_r}
+use lib.Bits.{xor_assoc}
+use Rattle.std.proofs.Common.{refl, ap, sym, ◌∙◌}
+use Rattle.std.specs.Int.{w32, to_be_bytes}
+use Rattle.ddf_linux.specs.Turning.{added}
+use Rattle.ddf_bay.specs.Sectors.{Image, Outcomes, IsLeft}
+use Rattle.ddf_linux.specs.declared.kind.SlotKind.{SlotKind}
+use Rattle.ddf_linux.specs.Kinds.{kind_at, kind_constant, signature_of, turned_by, turn, turns}
+
+pub xor_twice : (a m : ℕ) → bit_xor (bit_xor a m) m ≡ a
+xor_twice a m = xor_assoc a m m ∙ ap (bit_xor a) (xor_self m) ∙ xor_zero_r a
+
+pub added_twice : (bytes mask : List ℕ) → added (added bytes mask) mask ≡ bytes
+unfolding added
+added_twice bytes [] = refl
+added_twice [] (m ∷ mask) = refl
+added_twice (byte ∷ bytes) (m ∷ mask) = rw (xor_twice byte m, added_twice bytes mask) refl
+
+pub added_length : (bytes mask : List ℕ) → length (added bytes mask) ≡ length bytes
+unfolding added
+added_length bytes [] = refl
+added_length [] (m ∷ mask) = refl
+added_length (byte ∷ bytes) (m ∷ mask) = rw (added_length bytes mask) refl
+
+pub front_same : (bytes mask : List ℕ) → take 4 (added bytes (0 ∷ 0 ∷ 0 ∷ 0 ∷ mask)) ≡ take 4 bytes
+unfolding added
+front_same [] mask = refl
+front_same (a ∷ []) mask = rw (xor_zero_r a) refl
+front_same (a ∷ b ∷ []) mask = rw (xor_zero_r a, xor_zero_r b) refl
+front_same (a ∷ b ∷ c ∷ []) mask = rw (xor_zero_r a, xor_zero_r b, xor_zero_r c) refl
+front_same (a ∷ b ∷ c ∷ d ∷ rest) mask = rw (xor_zero_r a, xor_zero_r b, xor_zero_r c, xor_zero_r d) refl
+
+pub by_signature : (constant : Option ℕ) (bytes : List ℕ) → signature_of (turned_by constant bytes) ≡ signature_of bytes
+by_signature None bytes = refl
+by_signature (Some constant) bytes = rw (front_same bytes (to_be_bytes w32 constant)) refl
+
+pub by_twice : (constant : Option ℕ) (bytes : List ℕ) → turned_by constant (turned_by constant bytes) ≡ bytes
+by_twice None bytes = refl
+by_twice (Some constant) bytes = added_twice bytes (0 ∷ 0 ∷ 0 ∷ 0 ∷ to_be_bytes w32 constant)
+
+pub by_length : (constant : Option ℕ) (bytes : List ℕ) → length (turned_by constant bytes) ≡ length bytes
+by_length None bytes = refl
+by_length (Some constant) bytes = added_length bytes (0 ∷ 0 ∷ 0 ∷ 0 ∷ to_be_bytes w32 constant)
+
+module _ (kind : SlotKind) (lba : ℕ) (bytes : List ℕ) where
+  pub turn_signature : signature_of (turn kind lba bytes) ≡ signature_of bytes
+  turn_signature = by_signature (kind_constant kind lba (signature_of bytes)) bytes
+
+  -- turning is its own inverse
+  pub turn_twice : turn kind lba (turn kind lba bytes) ≡ bytes
+  turn_twice =
+      ap (λ (signature : ℕ). turned_by (kind_constant kind lba signature) (turn kind lba bytes)) turn_signature
+      ∙ by_twice (kind_constant kind lba (signature_of bytes)) bytes
+
+  pub turn_length : length (turn kind lba bytes) ≡ length bytes
+  turn_length = by_length (kind_constant kind lba (signature_of bytes)) bytes
+
+  -- a sector that a stop may leave is whole
+  pub turned_whole : length (turn kind lba bytes) ≡ 512 → length bytes ≡ 512
+  turned_whole whole = sym turn_length ∙ whole
+
+-- a sector that isn't one of those that are turned
+by_none : (constant : Option ℕ) (bytes : List ℕ) → is_some constant ≡ false → turned_by constant bytes ≡ bytes
+by_none None bytes none = refl
+by_none (Some constant) bytes none = absurd cc
+
+pub turn_plain : (kind : SlotKind) (lba : ℕ) (bytes : List ℕ) → turns kind lba bytes ≡ false → turn kind lba bytes ≡ bytes
+turn_plain kind lba bytes none = by_none (kind_constant kind lba (signature_of bytes)) bytes none
+
+-- the bay as it reads is one of its images, turned too
+pub turned_left : (kinds : List SlotKind) (may : Outcomes) (held : Image) → IsLeft may held
+    → (s l : ℕ) → may s l (turn (kind_at kinds s) l (turn (kind_at kinds s) l (held s l)))
+turned_left kinds may held left s l = rw (turn_twice (kind_at kinds s) l (held s l)) (left s l)

@@ -1,0 +1,186 @@
+// The calls of a bay of turned records.
+ghost use Rattle.std.specs.Prelude.{◌≡◌, ◌≢◌, ◌<◌, ◌≤◌, ◌+◌, [], ◌∷◌, ℕ, List, length, refl, true, is_err, OnOk, OnErr, slice_index};
+ghost use Rattle.ddf_bytes.specs.Counts.{Rose};
+ghost use Rattle.ddf_bay.specs.Sectors.{IsLeft, IsRead, put_run};
+ghost use Rattle.ddf_bay.specs.Moments.{StopsLeave, Remembers, SpendsReads, SpendsWrites, Keeps, Adds, Mixes, IsSettled, IsAmong};
+ghost use Rattle.ddf_linux.specs.Kinds.{kind_at, turn};
+ghost use Rattle.ddf_linux.specs.State.{turned_image};
+ghost use Rattle.ddf_linux.specs.TurnLaws.{turned_left, turned_whole};
+
+use crate::pieces::write_pieces;
+use crate::turned::Turned;
+use ddf_bay::counts::{next, raise};
+use ddf_bay::{Bay, BayFailed};
+use ddf_bytes::Sector;
+use std::slice;
+
+impl<B: Bay + Drop> Bay for Turned<B> {
+    ghost use Rattle.ddf_linux.specs.Pieces.{pieces_below};
+    ghost use Rattle.ddf_linux.specs.TurnedBays.{disks_of, inner_of, kind_of, IsCall};
+
+    ghost disks = { disks_of B.disks };
+
+    ghost tells = { B.tells };
+
+    ghost few = { λ t. B.few t.inner };
+
+    ghost small = { λ t s. B.small t.inner s };
+
+    ghost only_now = { λ t image left. B.only_now t.inner (turned_image t.kinds image) left };
+
+    ghost counts_now = { λ t u image le left. B.counts_now t.inner u (turned_image t.kinds image) le left };
+
+    ghost told_since = { λ t u image left. B.told_since t.inner u (turned_image t.kinds image) left };
+
+    ghost whole = { λ t s l bytes left. turned_whole (kind_at t.kinds s) l bytes (B.whole t.inner s l (turn (kind_at t.kinds s) l bytes) left) };
+
+    ghost leads = { λ t. (B.leads t.inner, refl) };
+
+    ghost held_is_left = { λ t told. turned_left t.kinds (B.disks t.inner).may_hold (B.disks t.inner).held (B.held_is_left t.inner told) };
+
+    fn slots(&self) -> usize {
+        self.inner.slots()
+    }
+
+    fn size(&self, slot: usize) -> u64 {
+        self.inner.size(slot)
+    }
+
+    fn read(&mut self, slot: usize, lba: u64, into: &mut Sector) -> Result<(), BayFailed>
+        requires slot { slot < length (disks_of B.disks self.old).sizes }
+        requires sector { lba < slice_index (disks_of B.disks self.old).sizes slot }
+        ensures bytes { B.tells → OnOk result (into.new ≡ (disks_of B.disks self.old).held slot lba) }
+        ensures held { (disks_of B.disks self.new).held ≡ (disks_of B.disks self.old).held }
+        ensures left { Keeps (disks_of B.disks self.old).may_hold (disks_of B.disks self.new).may_hold }
+        ensures any_moment { StopsLeave (disks_of B.disks self.old) (disks_of B.disks self.new) (IsLeft (disks_of B.disks self.old).may_hold) }
+        ensures remembers { Remembers (disks_of B.disks self.old) (disks_of B.disks self.new) }
+        ensures ok { OnOk result ((disks_of B.disks self.new).failed_reads ≡ (disks_of B.disks self.old).failed_reads) }
+        ensures failed { OnErr result (Rose ((disks_of B.disks self.old).failed_reads slot) ((disks_of B.disks self.new).failed_reads slot)) }
+        ensures spends { SpendsReads (disks_of B.disks self.old) (disks_of B.disks self.new) slot 1 }
+
+        // It is counted once, and fails on a slot that could not be read, without a call of the inner bay.
+        ensures call { IsCall self.old self.new slot (is_err result) }
+
+        // It is one call of the inner bay.
+        ensures inner { SpendsReads (B.disks (inner_of self.old)) (B.disks (inner_of self.new)) slot 1 }
+    {
+        self.made = next(self.made);
+        if self.kinds[slot].is_unread() {
+            return fail(&mut self.read_faults, slot);
+        }
+        self.inner.read(slot, lba, into)?;
+        self.kinds[slot].turn(lba, into);
+        Ok(())
+    }
+
+    fn read_run(&mut self, slot: usize, lba: u64, into: &mut [Sector]) -> Result<(), BayFailed>
+        requires slot { slot < length (disks_of B.disks self.old).sizes }
+        requires some { 0 < length into.old }
+        requires sectors { lba + length into.old ≤ slice_index (disks_of B.disks self.old).sizes slot }
+        ensures bytes { B.tells → OnOk result (IsRead ((disks_of B.disks self.old).held slot) lba into.new) }
+        ensures held { (disks_of B.disks self.new).held ≡ (disks_of B.disks self.old).held }
+        ensures left { Keeps (disks_of B.disks self.old).may_hold (disks_of B.disks self.new).may_hold }
+        ensures any_moment { StopsLeave (disks_of B.disks self.old) (disks_of B.disks self.new) (IsLeft (disks_of B.disks self.old).may_hold) }
+        ensures remembers { Remembers (disks_of B.disks self.old) (disks_of B.disks self.new) }
+        ensures ok { OnOk result ((disks_of B.disks self.new).failed_reads ≡ (disks_of B.disks self.old).failed_reads) }
+        ensures failed { OnErr result (Rose ((disks_of B.disks self.old).failed_reads slot) ((disks_of B.disks self.new).failed_reads slot)) }
+        ensures spends { SpendsReads (disks_of B.disks self.old) (disks_of B.disks self.new) slot 1 }
+
+        // It is counted once, and fails on a slot that could not be read, without a call of the inner bay.
+        ensures call { IsCall self.old self.new slot (is_err result) }
+
+        // It is one call of the inner bay.
+        ensures inner { SpendsReads (B.disks (inner_of self.old)) (B.disks (inner_of self.new)) slot 1 }
+    {
+        self.made = next(self.made);
+        if self.kinds[slot].is_unread() {
+            return fail(&mut self.read_faults, slot);
+        }
+        self.inner.read_run(slot, lba, into)?;
+        self.kinds[slot].turn_run(lba, into);
+        Ok(())
+    }
+
+    fn write(&mut self, slot: usize, lba: u64, from: &Sector) -> Result<(), BayFailed>
+        requires slot { slot < length (disks_of B.disks self.old).sizes }
+        requires sector { lba < slice_index (disks_of B.disks self.old).sizes slot }
+        ensures held { B.tells → OnOk result ((disks_of B.disks self.new).held ≡ put_run (disks_of B.disks self.old).held slot lba (from.now ∷ [])) }
+        ensures held_failed { B.tells → OnErr result (Mixes (disks_of B.disks self.old).held (disks_of B.disks self.new).held slot lba (from.now ∷ [])) }
+        ensures left { Adds (disks_of B.disks self.old).may_hold (disks_of B.disks self.new).may_hold slot lba (from.now ∷ []) }
+        ensures any_moment { StopsLeave (disks_of B.disks self.old) (disks_of B.disks self.new) (IsAmong (disks_of B.disks self.old).may_hold slot lba (from.now ∷ [])) }
+        ensures remembers { Remembers (disks_of B.disks self.old) (disks_of B.disks self.new) }
+        ensures ok { OnOk result ((disks_of B.disks self.new).failed_writes ≡ (disks_of B.disks self.old).failed_writes) }
+        ensures failed { OnErr result (Rose ((disks_of B.disks self.old).failed_writes slot) ((disks_of B.disks self.new).failed_writes slot)) }
+        ensures spends { SpendsWrites (disks_of B.disks self.old) (disks_of B.disks self.new) slot 1 1 }
+
+        // It is counted once, and fails on a slot that could not be read, without a call of the inner bay.
+        ensures call { IsCall self.old self.new slot (is_err result) }
+
+        // It is one call of the inner bay.
+        ensures inner { SpendsWrites (B.disks (inner_of self.old)) (B.disks (inner_of self.new)) slot 1 1 }
+    {
+        self.write_run(slot, lba, slice::from_ref(from))
+    }
+
+    fn write_run(&mut self, slot: usize, lba: u64, from: &[Sector]) -> Result<(), BayFailed>
+        requires slot { slot < length (disks_of B.disks self.old).sizes }
+        requires some { 0 < length from.now }
+        requires sectors { lba + length from.now ≤ slice_index (disks_of B.disks self.old).sizes slot }
+        ensures held { B.tells → OnOk result ((disks_of B.disks self.new).held ≡ put_run (disks_of B.disks self.old).held slot lba from.now) }
+        ensures held_failed { B.tells → OnErr result (Mixes (disks_of B.disks self.old).held (disks_of B.disks self.new).held slot lba from.now) }
+        ensures left { Adds (disks_of B.disks self.old).may_hold (disks_of B.disks self.new).may_hold slot lba from.now }
+        ensures any_moment { StopsLeave (disks_of B.disks self.old) (disks_of B.disks self.new) (IsAmong (disks_of B.disks self.old).may_hold slot lba from.now) }
+        ensures remembers { Remembers (disks_of B.disks self.old) (disks_of B.disks self.new) }
+        ensures ok { OnOk result ((disks_of B.disks self.new).failed_writes ≡ (disks_of B.disks self.old).failed_writes) }
+        ensures failed { OnErr result (Rose ((disks_of B.disks self.old).failed_writes slot) ((disks_of B.disks self.new).failed_writes slot)) }
+        ensures spends { SpendsWrites (disks_of B.disks self.old) (disks_of B.disks self.new) slot (length from.now) 1 }
+
+        // It is counted once, and fails on a slot that could not be read, without a call of the inner bay.
+        ensures call { IsCall self.old self.new slot (is_err result) }
+
+        // It is cut at sectors that are turned, and nowhere else.
+        ensures inner { SpendsWrites (B.disks (inner_of self.old)) (B.disks (inner_of self.new)) slot (length from.now) (pieces_below (kind_of self.old slot) lba from.now (length from.now)) }
+    {
+        self.made = next(self.made);
+        if self.kinds[slot].is_unread() {
+            return fail(&mut self.write_faults, slot);
+        }
+        write_pieces(&self.kinds, &mut self.inner, slot, lba, from)
+    }
+
+    fn sync(&mut self, slot: usize) -> Result<(), BayFailed>
+        requires { slot < length (disks_of B.disks self.old).sizes }
+        ensures durable { OnOk result (IsSettled (disks_of B.disks self.new).may_hold (disks_of B.disks self.new).held slot) }
+        ensures held { (disks_of B.disks self.new).held ≡ (disks_of B.disks self.old).held }
+        ensures left { Keeps (disks_of B.disks self.old).may_hold (disks_of B.disks self.new).may_hold }
+        ensures any_moment { StopsLeave (disks_of B.disks self.old) (disks_of B.disks self.new) (IsLeft (disks_of B.disks self.old).may_hold) }
+        ensures remembers { Remembers (disks_of B.disks self.old) (disks_of B.disks self.new) }
+        ensures ok { OnOk result ((disks_of B.disks self.new).failed_writes ≡ (disks_of B.disks self.old).failed_writes) }
+        ensures failed { OnErr result (Rose ((disks_of B.disks self.old).failed_writes slot) ((disks_of B.disks self.new).failed_writes slot)) }
+        ensures spends { SpendsWrites (disks_of B.disks self.old) (disks_of B.disks self.new) slot 0 1 }
+
+        // It is counted once, and fails on a slot that could not be read, without a call of the inner bay.
+        ensures call { IsCall self.old self.new slot (is_err result) }
+
+        // It is one call of the inner bay.
+        ensures inner { SpendsWrites (B.disks (inner_of self.old)) (B.disks (inner_of self.new)) slot 0 1 }
+    {
+        self.made = next(self.made);
+        if self.kinds[slot].is_unread() {
+            return fail(&mut self.write_faults, slot);
+        }
+        self.inner.sync(slot)
+    }
+}
+
+/// Counts a failure on a slot, and answers it.
+fn fail(counts: &mut [u64; 64], slot: usize) -> Result<(), BayFailed>
+    requires { slot < 64 }
+    ensures failed { is_err result ≡ true }
+    ensures rose { Rose (slice_index counts.old slot) (slice_index counts.new slot) }
+    ensures kept { (s : ℕ) → slice_index counts.old s ≤ slice_index counts.new s }
+    ensures others { (s : ℕ) → s ≢ slot → slice_index counts.new s ≡ slice_index counts.old s }
+{
+    raise(counts, slot);
+    Err(BayFailed)
+}
