@@ -9,6 +9,7 @@ mod harness;
 mod headers;
 mod health;
 mod label;
+mod linux;
 mod primary;
 mod records;
 mod secondary;

@@ -147,7 +147,7 @@ pub fn named(guid: &[u8; 24], signature: u32) -> Sector {
 }
 
 /// Writes a sector of the only slot.
-pub fn put(rt: &impl Abort, bay: &mut MemoryBay, lba: u64, sector: &Sector) {
+pub fn put(rt: &impl Abort, bay: &mut impl Bay, lba: u64, sector: &Sector) {
     assert_eq!(rt; bay.slots(), 1);
     assert!(rt; lba < bay.size(0));
     assert!(rt; bay.write(0, lba, sector).is_ok());

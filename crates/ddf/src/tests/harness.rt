@@ -1,5 +1,5 @@
-// A call of the program over a bay in memory.
-use ddf_bay::{Bay, MemoryBay};
+// A call of the program over a bay.
+use ddf_bay::Bay;
 use ddf_bytes::{MemorySink, MemorySource, Stamp};
 use ddf_command::{run, slot_paths};
 use std::alloc::{AllocError, Global};
@@ -25,7 +25,7 @@ pub fn called(
     rt: &impl Abort,
     alloc: Global,
     texts: &[&str],
-    bay: &mut MemoryBay,
+    bay: &mut impl Bay,
     room: usize,
     failing: &[u64],
 ) -> Result<(u8, Vec<u8>), Fail> {
@@ -42,7 +42,7 @@ pub fn assert_told(
     rt: &impl Abort,
     alloc: Global,
     texts: &[&str],
-    bay: &mut MemoryBay,
+    bay: &mut impl Bay,
     status: u8,
     text: &str,
 ) -> Result<(), Fail> {
@@ -57,7 +57,7 @@ pub fn assert_told(
 pub fn assert_examined(
     rt: &impl Abort,
     alloc: Global,
-    bay: &mut MemoryBay,
+    bay: &mut impl Bay,
     text: &str,
 ) -> Result<(), Fail> {
     assert_told(rt, alloc, &["d0", "--", "examine"], bay, 0, text)
@@ -67,7 +67,7 @@ pub fn assert_examined(
 pub fn assert_all_told(
     rt: &impl Abort,
     alloc: Global,
-    bay: &mut MemoryBay,
+    bay: &mut impl Bay,
     calls: &[(&[&str], u8, &str)],
 ) -> Result<(), Fail> {
     for (texts, status, text) in calls {

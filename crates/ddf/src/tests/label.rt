@@ -8,7 +8,7 @@ use std::process::Abort;
 use std::test::Fail;
 
 /// What `examine` tells of the slot of a new group of one disk.
-const LABELLED: &str = "\
+pub const LABELLED: &str = "\
 slot 0 sectors 65536 group 524444462d47202052854b00000000000000000000000007 revision 02.00.00
 anchor 65535 primary 65495 secondary 65455 workspace 32687 length 32768
 primary header closed sequence 1
@@ -22,9 +22,9 @@ record 0 notes sequence 1
 bad blocks 0
 ";
 
-const BLANK: &str = "slot 0 blank\n";
+pub const BLANK: &str = "slot 0 blank\n";
 
-const LABEL: &[&str] = &["d0", "--", "label"];
+pub const LABEL: &[&str] = &["d0", "--", "label"];
 
 /// A read and a sync, eleven calls for each copy, the anchor and a sync.
 const CALLS: u64 = 26;
