@@ -5,6 +5,7 @@ use crate::claims::claim_all;
 use ddf_bay::{Bay, FileBay};
 use ddf_bytes::NoMemory;
 use ddf_command::Command;
+use ddf_linux::Turned;
 use std::fs::File;
 use std::rt::Files;
 
@@ -32,6 +33,15 @@ where
     };
     name_unopened(rt, &bay, paths);
     Ok((bay, claims))
+}
+
+/// Names on standard error each slot whose checksums are turned.
+pub fn name_turned<R: Files + Eprint>(rt: &R, bay: &Turned<FileBay<R>>) {
+    for slot in 0..bay.slots() {
+        if bay.turns(slot) {
+            let _ = eprintln!(rt; "ddf: slot {slot}: checksums as Linux's mdadm counts them");
+        }
+    }
 }
 
 /// Names on standard error each path that could not be opened, and why.

@@ -15,7 +15,7 @@ mod streams;
 mod tests;
 mod wrong_words;
 
-use crate::disks::open_disks;
+use crate::disks::{name_turned, open_disks};
 use crate::failure::{Failure, NO_MEMORY, STREAM_FAULT};
 use crate::help::{USAGE, answer};
 use crate::memory::keep_freed;
@@ -24,7 +24,8 @@ use crate::stamp::stamp_for;
 use crate::streams::hold_streams;
 use crate::wrong_words::explain;
 use ddf_bytes::{StdSink, StdSource};
-use ddf_command::{Asked, WordFault, asked, run, slot_paths};
+use ddf_command::{Asked, Command, WordFault, asked, run, slot_paths};
+use ddf_linux::Turned;
 use std::fs::File;
 use std::process::ExitCode;
 use std::rt::{Clock, Env, Files};
@@ -126,11 +127,15 @@ where
         return refuse(rt, place);
     }
     let stamp = stamp_for(rt, &asked.command).map_err(Failure::Chance)?;
-    let (mut bay, claims) = open_disks(rt, paths, &asked.command)?;
+    let (files, claims) = open_disks(rt, paths, &asked.command)?;
+    let mut bay = Turned::new(files);
     let mut source = StdSource::new(rt.reader());
     let mut sink = StdSink::new(io::writer(rt));
     let status = run(rt.alloc(), words, &mut bay, &mut source, &mut sink, stamp);
     drop(claims);
+    if let Command::Examine = asked.command {
+        name_turned(rt, &bay);
+    }
     match status {
         NO_MEMORY => Err(Failure::Memory),
         STREAM_FAULT => Err(Failure::Stream),
