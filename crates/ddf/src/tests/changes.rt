@@ -183,6 +183,9 @@ fn changes_follow_one_another(rt: HostRuntime) -> Result<(), Fail> {
     assert_eq!(rt; start_and_state(&config, guid(3)), Some((12, 4)));
     assert_eq!(rt; start_and_state(&config, guid(5)), Some((0, 4)));
     assert_eq!(rt; first_of_spare(&config, 9), Some(guid(3)));
-    assert_eq!(rt; least_start(&[(0, 9), (u64::MAX, u64::MAX)], 32_687, 4, 8), Some(12));
+    assert_eq!(rt;
+        least_start(&[(0, 9), (u64::MAX, u64::MAX)], 32_687, 4, 8),
+        Some(12)
+    );
     Ok(())
 }
