@@ -31,8 +31,9 @@ impl<B: Bay + Drop> Turned<B> {
         ensures reads { ReadsOnly (B.disks inner) (B.disks (inner_of result)) }
         ensures remembers { Remembers (B.disks inner) (B.disks (inner_of result)) }
 
-        // A slot costs one read at most.
+        // A slot costs one read at most, and nothing else.
         ensures spends { SpendsOver (B.disks inner) (B.disks (inner_of result)) 0 (length (B.disks inner).sizes) }
+        ensures writes { (B.disks (inner_of result)).failed_writes ≡ (B.disks inner).failed_writes }
 
         // A slot that could be read is turned exactly where its anchor is sealed in Linux's kind, at the anchor's places.
         ensures kinds { B.tells → (s : ℕ) → s < length (B.disks inner).sizes → is_unread (kind_of result s) ≡ false → IsKindOf (B.disks inner) s (kind_of result s) }

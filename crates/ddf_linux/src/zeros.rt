@@ -28,6 +28,7 @@ pub(crate) struct SectorZeros {
 }
 
 impl SectorZeros {
+    /// Counts what a sector of zeros makes of each bit.
     pub fn new() -> SectorZeros {
         SectorZeros {
             images: sector_images(),

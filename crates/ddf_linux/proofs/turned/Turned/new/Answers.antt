@@ -15,6 +15,7 @@ loop-slot-init g c = record {
   reads = reads_start (g.B.Bay.disks c.args.inner);
   remembers = λ tells t image le left. left;
   spends = over_start (g.B.Bay.disks c.args.inner);
+  writes = refl;
   later = λ s le. refl;
   kinds = λ tells s lt. absurd (omega (arith, lt));
   unread = λ s is. none_unread 64 s is;
@@ -38,6 +39,7 @@ loop-slot-preserved g c =
       reads = reads_then so_far.reads c.look.ensures.reads;
       remembers = remembers_then old now new so_far.remembers c.look.ensures.remembers c.look.ensures.spends.told so_far.reads.any_moment.later;
       spends = over_then so_far.spends (over_reads c.look.ensures.spends);
+      writes = c.look.ensures.spends.same ∙ so_far.writes;
       later = λ s le. let above : s ≢ slot = λ e. omega (arith, e, le) in let before : slot ≤ s = omega (arith, le) in c.look.ensures.spends.other_slots s above ∙ so_far.later s before;
       kinds = λ tells. kinds_more kinds slot kind few
           (λ (s : ℕ) (k : SlotKind). is_unread k ≡ false → IsKindOf old s k)

@@ -15,6 +15,7 @@ invariant-loop-slot g l =
       reads : ReadsOnly old new;
       remembers : Remembers old new;
       spends : SpendsOver old new 0 l.slot;
+      writes : new.failed_writes ≡ old.failed_writes;
       later : (s : ℕ) → l.slot ≤ s → new.failed_reads s ≡ old.failed_reads s;
       kinds : g.B.Bay.tells → (s : ℕ) → s < l.slot → is_unread (kind_at l.kinds s) ≡ false → IsKindOf old s (kind_at l.kinds s);
       unread : (s : ℕ) → is_unread (kind_at l.kinds s) ≡ true → Rose (old.failed_reads s) (new.failed_reads s);
