@@ -1,5 +1,5 @@
 // Disks that a command may write to are kept from other programs.
-ghost use Rattle.std.specs.Prelude.{◌≡◌, ◌<◌, length};
+ghost use Rattle.std.specs.Prelude.{◌≡◌, length};
 
 use crate::in_use::use_of;
 use ddf_bay::{Bay, FileBay};

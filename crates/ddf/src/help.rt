@@ -12,7 +12,8 @@ Commands:
   label [SLOT..]   make a new group of these blank disks, or of all
 
 Disks are opened for reading alone by commands that write nothing. Others don't touch a
-disk that is mounted, swapped to, part of another device, or locked by another program.
+disk that is mounted, swapped to, part of another device, locked by another program, or
+protected from writes. A program that holds a disk in another way isn't found.
 
 Exit status: 0 done, 1 refused, 2 words that are no command's, 3 a disk failed,
 5 no memory, 6 the input or the output failed, or there was no chance for new names.
