@@ -2,6 +2,7 @@
 # Runs the program in hard surroundings: closed streams, paths that can't be opened, disks that may not be written, one
 # disk under two names, wrong words. Each run ends with the wanted status and output, and no image changes.
 set -eu
+PATH=$PATH:/sbin:/usr/sbin
 top=$(cd "$(dirname "$0")/.." && pwd)
 work=$(mktemp -d)
 trap 'rm -rf "$work"' EXIT
@@ -97,9 +98,23 @@ if loop=$(losetup -r -f --show d1.img 2>/dev/null); then
     trap 'losetup -d "$loop"; rm -rf "$work"' EXIT
     ends 3 "disk fault slot 0" "it is protected from writes" "./ddf $loop -- label"
     ends 0 "slot 0 blank" "" "./ddf $loop -- examine"
+    losetup -d "$loop"
+    trap 'rm -rf "$work"' EXIT
     echo "edge: a protected device is examined, and not labelled"
 else
     echo "edge: no loop devices here, so a protected device was not tried"
+fi
+
+mkdir folder
+if mkfs.ext4 -q new.img 2>/dev/null && mount -o loop new.img folder 2>/dev/null; then
+    trap 'umount folder; rm -rf "$work"' EXIT
+    loop=$(findmnt -n -o SOURCE folder)
+    ends 3 "disk fault slot 0" "it is mounted" "./ddf $loop -- label"
+    umount folder
+    trap 'rm -rf "$work"' EXIT
+    echo "edge: a mounted device isn't labelled"
+else
+    echo "edge: nothing can be mounted here, so a mounted device was not tried"
 fi
 
 if command -v strace >/dev/null; then
