@@ -24,15 +24,12 @@ use crate::stamp::stamp_for;
 use crate::streams::hold_streams;
 use crate::wrong_words::explain;
 use ddf_bytes::{StdSink, StdSource};
-use ddf_command::{Asked, Command, WordFault, asked, run, slot_paths};
+use ddf_command::{Asked, Command, WordFault, asked, refuse_words, run, slot_paths};
 use ddf_linux::Turned;
 use std::fs::File;
 use std::process::ExitCode;
 use std::rt::{Clock, Env, Files};
 use std::{env, io};
-
-/// The status where the words are no command's.
-const WRONG_WORDS: u8 = 2;
 
 fn main(rt: HostRuntime) -> ExitCode {
     ExitCode::from(status(&rt))
@@ -92,13 +89,16 @@ where
     }
     match asked(rt.alloc(), words) {
         Ok(asked) => perform(rt, words, &asked),
-        Err(WordFault::Place(place)) => refuse_words(rt, words, place),
+        Err(WordFault::Place(place)) => explain_refusal(rt, words, place),
         Err(WordFault::Memory) => Err(Failure::Memory),
     }
 }
 
 /// Refuses words that are no command's, and says what is wrong with them. No disk is opened.
-fn refuse_words<R: Print + Eprint>(rt: &R, words: &[String], place: usize) -> Result<u8, Failure> {
+fn explain_refusal<R>(rt: &R, words: &[String], place: usize) -> Result<u8, Failure>
+where
+    R: Print + Eprint + AllocGlobal,
+{
     let _ = if words.is_empty() {
         rt.eprint(USAGE)
     } else {
@@ -109,10 +109,17 @@ fn refuse_words<R: Print + Eprint>(rt: &R, words: &[String], place: usize) -> Re
 }
 
 /// Prints that the words go wrong at a place.
-fn refuse<R: Print>(rt: &R, place: usize) -> Result<u8, Failure> {
-    match println!(rt; "refused 10 word {place}") {
-        Ok(()) => Ok(WRONG_WORDS),
-        Err(_) => Err(Failure::Stream),
+fn refuse<R: Print + AllocGlobal>(rt: &R, place: usize) -> Result<u8, Failure> {
+    let mut sink = StdSink::new(io::writer(rt));
+    answered(refuse_words(rt.alloc(), place, &mut sink))
+}
+
+/// The status of a call, or why it was cut short.
+fn answered(status: u8) -> Result<u8, Failure> {
+    match status {
+        NO_MEMORY => Err(Failure::Memory),
+        STREAM_FAULT => Err(Failure::Stream),
+        _ => Ok(status),
     }
 }
 
@@ -136,9 +143,5 @@ where
     if let Command::Examine = asked.command {
         name_turned(rt, &bay);
     }
-    match status {
-        NO_MEMORY => Err(Failure::Memory),
-        STREAM_FAULT => Err(Failure::Stream),
-        _ => Ok(status),
-    }
+    answered(status)
 }

@@ -1,9 +1,6 @@
 // What is wrong with words that are no command's.
-use ddf_command::image_paths;
+use ddf_command::{MOST_IMAGES, image_paths};
 use std::fmt;
-
-/// The most images that words may name.
-const MOST_IMAGES: usize = 64;
 
 /// Why words are no command's.
 #[derive(Clone, Copy, Drop)]

@@ -62,18 +62,20 @@ pub fn run<B: Bay, S: Source, K: Sink>(
             Command::Examine => examine(alloc, bay, sink).code(),
             Command::Label { slots } => label(alloc, slots.items(), bay, sink, &stamp).code(),
         },
-        Err(WordFault::Place(place)) => refuse_words(alloc, place, sink).code(),
+        Err(WordFault::Place(place)) => refuse_words(alloc, place, sink),
         Err(WordFault::Memory) => Status::Memory.code(),
     }
 }
 
-/// Prints the refusal of words that go wrong at a place.
-fn refuse_words<K: Sink>(alloc: Global, place: usize, sink: &mut K) -> Status
-    ensures ends { EndsWith 2 (refusal_line (Refusal.Words place)) (answer_of K.tells (K.output sink.old) (K.output sink.new) (code_of result)) }
-    ensures stream { result ≡ Status.Stream → SinkRose (K.output sink.old) (K.output sink.new) }
+/// Refuses words that go wrong at a place, as `run` does, and answers the exit status. So the program needn't open disks for them.
+pub fn refuse_words<K: Sink>(alloc: Global, place: usize, sink: &mut K) -> u8
+    ensures ends { EndsWith 2 (refusal_line (Refusal.Words place)) (answer_of K.tells (K.output sink.old) (K.output sink.new) result) }
+    ensures stream { result ≡ 6 → SinkRose (K.output sink.old) (K.output sink.new) }
 {
-    match format!(in alloc; "{}\n", RefusalText(Refusal::Words(place))) {
+    let refusal = RefusalText(Refusal::Words(place));
+    let status = match format!(in alloc; "{refusal}\n") {
         Ok(line) => tell(sink, line.as_bytes(), Status::Words),
         Err(_) => Status::Memory,
-    }
+    };
+    status.code()
 }

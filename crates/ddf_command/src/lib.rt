@@ -9,5 +9,5 @@ mod status;
 mod tell;
 
 pub use ddf_config::{FullTable, Refusal};
-pub use ddf_words::{Asked, Command, WordFault, asked, image_paths, slot_paths};
-pub use dispatch::run;
+pub use ddf_words::{Asked, Command, MOST_IMAGES, WordFault, asked, image_paths, slot_paths};
+pub use dispatch::{refuse_words, run};

@@ -42,8 +42,8 @@ pub returns-in-Err-Place-clause-wrong_words : goal.returns-in-Err-Place-clause-w
 returns-in-Err-Place-clause-wrong_words g c = λ place wrong.
     let here = c.asked.ensures.place c.in-Err-Place.place (c.in-Err-Place.is ∙ ap Err c.in-Err-Place.field-0-is) in
     let same : c.in-Err-Place.place ≡ place = one_place IsAccepted (words_of c.args.words.now) c.in-Err-Place.place place here wrong in
-    let ends : ℕ → Type 0 = λ p. EndsWith 2 (refusal_line (Words p)) (answer_of g.K.Sink.tells (g.K.Sink.output c.args.sink.now) (g.K.Sink.output c.refuse_words.new.sink) c.code-in-Err-Place.result) in
-    subst ends same (rw (c.code-in-Err-Place.ensures, ← c.in-Err-Place.place-is) c.refuse_words.ensures.ends)
+    let ends : ℕ → Type 0 = λ p. EndsWith 2 (refusal_line (Words p)) (answer_of g.K.Sink.tells (g.K.Sink.output c.args.sink.now) (g.K.Sink.output c.refuse_words.new.sink) c.refuse_words.result) in
+    subst ends same (rw (← c.in-Err-Place.place-is) c.refuse_words.ensures.ends)
 
 pub returns-in-Err-Place-clause-wrong_words_only : goal.returns-in-Err-Place-clause-wrong_words_only
 returns-in-Err-Place-clause-wrong_words_only g c = λ e. (c.in-Err-Place.place, c.asked.ensures.place c.in-Err-Place.place (c.in-Err-Place.is ∙ ap Err c.in-Err-Place.field-0-is))
