@@ -17,3 +17,4 @@ pub mod Sections
 pub mod Apart
 pub mod Written
 pub mod Fits
+pub mod Building

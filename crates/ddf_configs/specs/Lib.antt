@@ -5,3 +5,4 @@ pub mod Vendors
 pub mod Bits
 pub mod NoteRecords
 pub mod Slots
+pub mod Building

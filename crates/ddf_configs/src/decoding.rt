@@ -82,8 +82,8 @@ fn read(
     Ok(slots)
 }
 
-/// The bytes of each record.
-pub(crate) fn record_size(geometry: &Geometry) -> usize
+/// The bytes of each record of the configuration records (SNIA DDF 2.0).
+pub fn record_size(geometry: &Geometry) -> usize
     ensures { result ≡ record_size geometry.now }
 {
     512 * usize::from(geometry.record_length)

@@ -106,7 +106,7 @@ fn unread(alloc: Global, bytes: &[u8], most: u16) -> Result<Seq<u8>, NoMemory>
 }
 
 /// The places of the members' references and starting LBAs.
-fn member_spans(most: u16, count: usize) -> [Span; 2]
+pub(crate) fn member_spans(most: u16, count: usize) -> [Span; 2]
     requires { count ≤ 65535 }
     ensures { result ≡ member_places most count }
 {

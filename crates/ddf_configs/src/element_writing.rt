@@ -26,7 +26,7 @@ pub(crate) fn write_element(into: &mut [u8], element: &Element, signature: u32, 
     seal(into, signature);
 }
 
-fn put_names(into: &mut [u8], element: &Element)
+pub(crate) fn put_names(into: &mut [u8], element: &Element)
     requires few { length element.now.members ≤ 65535 }
     requires whole { 512 ≤ length into.old }
     ensures { into.new ≡ written (name_fields element.now) into.old }
@@ -40,7 +40,7 @@ fn put_names(into: &mut [u8], element: &Element)
     place(into, layout::QUALIFIER, &[element.qualifier]);
 }
 
-fn put_shape(into: &mut [u8], element: &Element)
+pub(crate) fn put_shape(into: &mut [u8], element: &Element)
     requires { 512 ≤ length into.old }
     ensures { into.new ≡ written (shape_fields element.now) into.old }
 {
@@ -62,7 +62,7 @@ fn put_spares(into: &mut [u8], spares: &[u32; 8])
     }
 }
 
-fn put_members(into: &mut [u8], element: &Element, most: u16)
+pub(crate) fn put_members(into: &mut [u8], element: &Element, most: u16)
     requires few { length element.now.members ≤ most }
     requires whole { 512 + 12 * most ≤ length into.old }
     ensures { into.new ≡ written (member_fields most element.now) into.old }

@@ -29,6 +29,9 @@ pub(crate) const BLOCK_SIZE: usize = 88;
 
 pub(crate) const SPARES: usize = 96;
 
+/// The cache policies and parameters of the array: eight bytes, which no field names.
+pub(crate) const CACHE: usize = 128;
+
 pub(crate) const REFERENCES: usize = 512;
 
 /// The places of the seal and of the fields of an element record in its first sector.
@@ -113,11 +116,16 @@ pub(crate) const SPARE_KIND: usize = 19;
 
 pub(crate) const POPULATED: usize = 20;
 
+pub(crate) const MAXIMUM: usize = 22;
+
 /// Where the entries of a spare record begin.
 pub(crate) const ENTRIES: usize = 32;
 
 /// The bytes of an entry.
 pub(crate) const ENTRY: usize = 32;
+
+/// Where the secondary element stands in an entry: two bytes behind the GUID.
+pub(crate) const SECONDARY_ELEMENT: usize = 24;
 
 /// The places of the seal and of the fields of a spare record before its entries.
 pub(crate) const SPARE_HEAD: [Span; 3] = [

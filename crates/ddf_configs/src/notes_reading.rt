@@ -79,7 +79,7 @@ pub(crate) fn note_place(slot: usize, most: u16) -> usize
 }
 
 /// The bytes of a note.
-fn note_size(most: u16) -> usize
+pub(crate) fn note_size(most: u16) -> usize
     ensures { result ≡ note_size most }
 {
     16 + usize::from(most) / 8

@@ -22,7 +22,7 @@ pub(crate) fn write_spare(into: &mut [u8], spare: &SpareRecord)
     seal(into, layout::SPARE_SIGNATURE);
 }
 
-fn put_arrays(into: &mut [u8], arrays: &[Guid])
+pub(crate) fn put_arrays(into: &mut [u8], arrays: &[Guid])
     requires { 32 + 32 * length arrays.now ≤ length into.old }
     ensures { into.new ≡ written (entry_fields 32 arrays.now) into.old }
 {
