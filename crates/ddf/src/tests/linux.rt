@@ -97,12 +97,12 @@ fn sectors_at_their_places_are_turned(rt: HostRuntime) -> Result<(), Fail> {
     ];
     for (offset, signature, turned) in cases {
         assert_eq!(rt;
-            is_turned(&rt, alloc, PRIMARY + offset, signature)?,
+            is_turned(&rt, alloc, PRIMARY.saturating_add(offset), signature)?,
             turned,
             "{offset}"
         );
         assert_eq!(rt;
-            is_turned(&rt, alloc, SECONDARY + offset, signature)?,
+            is_turned(&rt, alloc, SECONDARY.saturating_add(offset), signature)?,
             turned,
             "{offset}"
         );
@@ -112,20 +112,41 @@ fn sectors_at_their_places_are_turned(rt: HostRuntime) -> Result<(), Fail> {
     Ok(())
 }
 
-/// The sealed records of a copy, by their distance from its header, and the sectors of each.
-const RECORDS: [(u64, usize); 7] = [(0, 1), (1, 1), (2, 2), (4, 2), (6, 2), (38, 1), (39, 1)];
+/// Turns a record of one sector where it lies.
+fn turn_one(rt: &impl Abort, bay: &mut MemoryBay, lba: u64) {
+    let mut sector = [0; 512];
+    assert_eq!(rt; bay.slots(), 1);
+    assert!(rt; lba < bay.size(0));
+    assert!(rt; bay.read(0, lba, &mut sector).is_ok());
+    turn_record(&mut sector);
+    put(rt, bay, lba, &sector);
+}
 
-/// Turns a record of one or two sectors where it lies.
-fn turn_at(rt: &impl Abort, bay: &mut MemoryBay, lba: u64, length: usize) {
+/// Turns a record of two sectors where it lies.
+fn turn_two(rt: &impl Abort, bay: &mut MemoryBay, lba: u64) {
     let mut sectors = [[0; 512]; 2];
-    assert!(rt; length == 1 || length == 2);
     assert_eq!(rt; bay.slots(), 1);
-    assert!(rt; lba < bay.size(0) && bay.size(0) - lba >= length as u64);
-    assert!(rt; bay.read_run(0, lba, &mut sectors[..length]).is_ok());
-    turn_record(sectors[..length].as_flattened_mut());
+    assert!(rt; lba < bay.size(0) && bay.size(0) - lba >= 2);
+    assert!(rt; bay.read_run(0, lba, &mut sectors).is_ok());
+    turn_record(sectors.as_flattened_mut());
     assert_eq!(rt; bay.slots(), 1);
-    assert!(rt; lba < bay.size(0) && bay.size(0) - lba >= length as u64);
-    assert!(rt; bay.write_run(0, lba, &sectors[..length]).is_ok());
+    assert!(rt; lba < bay.size(0) && bay.size(0) - lba >= 2);
+    assert!(rt; bay.write_run(0, lba, &sectors).is_ok());
+}
+
+/// Turns each sealed record of a labelled disk where it lies.
+fn turn_all(rt: &impl Abort, bay: &mut MemoryBay) {
+    turn_one(rt, bay, ANCHOR);
+    for copy in [PRIMARY, SECONDARY] {
+        // The header, the controller data, the disk data and the bad block log.
+        for offset in [0, 1, 38, 39] {
+            turn_one(rt, bay, copy.saturating_add(offset));
+        }
+        // Both tables, and the notes.
+        for offset in [2, 4, 6] {
+            turn_two(rt, bay, copy.saturating_add(offset));
+        }
+    }
 }
 
 #[test]
@@ -140,12 +161,7 @@ fn what_is_written_to_a_turned_slot_is_sealed_in_linux_kind(rt: HostRuntime) -> 
     assert!(rt; bay.turns(0));
     assert_examined(&rt, alloc, &mut bay, LABELLED)?;
     let mut inner = bay.into_inner();
-    turn_at(&rt, &mut inner, ANCHOR, 1);
-    for copy in [PRIMARY, SECONDARY] {
-        for (offset, length) in RECORDS {
-            turn_at(&rt, &mut inner, copy + offset, length);
-        }
-    }
+    turn_all(&rt, &mut inner);
     assert_examined(&rt, alloc, &mut inner, LABELLED)
 }
 
@@ -158,7 +174,7 @@ fn assert_left(
     keep: &[bool],
     text: &str,
 ) -> Result<(), Fail> {
-    let mut bay = blank(rt, alloc, Some(BEFORE + call))?;
+    let mut bay = blank(rt, alloc, Some(BEFORE.saturating_add(call)))?;
     assert_told(rt, alloc, LABEL, &mut bay, 3, "disk fault slot 0\n")?;
     let inner = bay.into_inner().crash(keep, Vec::new(alloc), None);
     assert_examined(rt, alloc, &mut Turned::new(inner), text)
