@@ -72,10 +72,16 @@ pub fn refuse_words<K: Sink>(alloc: Global, place: usize, sink: &mut K) -> u8
     ensures ends { EndsWith 2 (refusal_line (Refusal.Words place)) (answer_of K.tells (K.output sink.old) (K.output sink.new) result) }
     ensures stream { result ≡ 6 → SinkRose (K.output sink.old) (K.output sink.new) }
 {
-    let refusal = RefusalText(Refusal::Words(place));
-    let status = match format!(in alloc; "{refusal}\n") {
+    tell_wrong_words(alloc, place, sink).code()
+}
+
+/// Prints the refusal of words that go wrong at a place.
+fn tell_wrong_words<K: Sink>(alloc: Global, place: usize, sink: &mut K) -> Status
+    ensures ends { EndsWith 2 (refusal_line (Refusal.Words place)) (answer_of K.tells (K.output sink.old) (K.output sink.new) (code_of result)) }
+    ensures stream { result ≡ Status.Stream → SinkRose (K.output sink.old) (K.output sink.new) }
+{
+    match format!(in alloc; "{}\n", RefusalText(Refusal::Words(place))) {
         Ok(line) => tell(sink, line.as_bytes(), Status::Words),
         Err(_) => Status::Memory,
-    };
-    status.code()
+    }
 }
