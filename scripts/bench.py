@@ -181,10 +181,13 @@ def main():
     print("|---|---|---|---|---|")
 
     turned, linux = sorted(work.glob("turned/*.img")), sorted(work.glob("linux/*.img"))
-    if turned and linux and shutil.which("mdadm"):
+    if linux and shutil.which("mdadm"):
         for count, goals in ((1, ("", "below 1")), (16, ("below 1", "below 1"))):
             theirs = ["mdadm", "-E", *map(str, linux[:count])]
-            beside(rounds, f"`examine` of {count} of Linux's disks", examine(*turned[:count]), theirs, "mdadm", goals)
+            beside(rounds, f"`examine` of {count} of Linux's disks", examine(*linux[:count]), theirs, "mdadm", goals)
+    if turned and linux:
+        what = f"`examine` of {len(linux)} disks as Linux left them"
+        beside(rounds, what, examine(*linux), examine(*turned), "turned", ("1.1", ""))
 
     if shutil.which("blkid"):
         image = work / "labelled.img"

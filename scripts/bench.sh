@@ -2,8 +2,8 @@
 # Measures `examine` beside mdadm, blkid and zlib, where they are at hand, and prints a table for the README. It is no part of the
 # gate. ROUNDS is the number of rounds (40); in each round every program runs once, one after another.
 #
-# - Linux's disks: mdadm reads them as Linux left them (DDF_LINUX_DISKS, a folder of NAME.tar.xz), `ddf` the same disks with their
-#   checksums as the standard counts them (DDF_DISKS).
+# - Linux's disks: both read them as Linux left them (DDF_LINUX_DISKS, a folder of NAME.tar.xz). Then `ddf` reads them beside the same
+#   disks turned, with their checksums as the standard counts them (DDF_DISKS).
 # - CRC: how much longer `examine` takes over slots that are sealed than over slots of which none is, so that it reads and
 #   copies as much, counts no CRC and compares no slots. So a comparison of the two copies is in it. zlib's is that of Python.
 # - Memory: the peak of the process, where the sections that are kept in memory have the most sectors that they may have.
