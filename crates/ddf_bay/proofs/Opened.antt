@@ -4,7 +4,7 @@ use Rattle.std.specs.Prelude.{Result, Err, is_ok, nat_le}
 use Rattle.std.specs.List.{list_all}
 use Rattle.ddf_bay.specs.Files.{is_open, AreEmptyUnlessOpen}
 
-is_open_set : {F E : Type 0} (files : List (Result F E)) (slot : ℕ) (old new : Result F E) → old ≡ get_or files slot old → is_ok new ≡ is_ok old → (s : ℕ) → is_open (set files slot new) s ≡ is_open files s
+pub is_open_set : {F E : Type 0} (files : List (Result F E)) (slot : ℕ) (old new : Result F E) → old ≡ get_or files slot old → is_ok new ≡ is_ok old → (s : ℕ) → is_open (set files slot new) s ≡ is_open files s
 is_open_set [] slot old new here same s = refl
 is_open_set (f ∷ files) zero old new here same zero = same ∙ ap is_ok here
 is_open_set (f ∷ files) zero old new here same (suc s) = refl

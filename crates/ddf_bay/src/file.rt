@@ -1,5 +1,5 @@
 // A bay over files or block devices, of whose content nothing is told.
-ghost use Rattle.std.specs.Prelude.{◌≡◌, ◌<◌, ◌≤◌, ◌+◌, ◌^◌, ◌↔◌, [], List, ℕ, true, false, length, IfOk, IsNone, OnOk, OnErr, IsErr, IsTrue, slice_index, nat_le};
+ghost use Rattle.std.specs.Prelude.{◌≡◌, ◌≢◌, ◌<◌, ◌≤◌, ◌+◌, ◌^◌, ◌↔◌, [], List, ℕ, true, false, length, IfOk, IsNone, Some, OnOk, OnErr, IsErr, IsTrue, slice_index, nat_le};
 ghost use Rattle.std.specs.List.{list_all};
 ghost use Rattle.ddf_bytes.specs.Counts.{Rose};
 ghost use Rattle.ddf_bay.specs.Moments.{Remembers, SpendsWrites};
@@ -34,7 +34,7 @@ pub struct FileBay<R: Files> {
 }
 
 impl<R: Files> FileBay<R> {
-    ghost use Rattle.ddf_bay.specs.FileBays.{disks_of, has_opened, is_writable, CountsFromZero, IsClosed};
+    ghost use Rattle.ddf_bay.specs.FileBays.{disks_of, has_opened, is_writable, why_not_open, CountsFromZero, IsClosed};
 
     /// Opens each path for reading and writing. One that can't be opened so, or has no end to seek to, is a slot of
     /// size 0 whose syncs fail. A size is that of the file or block device in whole sectors.
@@ -93,6 +93,7 @@ impl<R: Files> FileBay<R> {
         requires { slot < length (disks_of self.now).sizes }
         ensures opened { IsNone result ↔ (has_opened self.now slot ≡ true) }
         ensures closed { has_opened self.now slot ≡ false → slice_index (disks_of self.now).sizes slot ≡ 0 }
+        ensures why { result ≡ why_not_open self.now slot }
     {
         match &self.files[slot] {
             Ok(_) => None,
@@ -105,6 +106,8 @@ impl<R: Files> FileBay<R> {
         requires { slot < length (disks_of self.old).sizes }
         ensures closed { has_opened self.new slot ≡ false }
         ensures emptied { IsClosed (disks_of self.old) (disks_of self.new) slot }
+        ensures others { (s : ℕ) → s ≢ slot → has_opened self.new s ≡ has_opened self.old s }
+        ensures why { why_not_open self.new slot ≡ Some why }
         ensures access { is_writable self.new ≡ is_writable self.old }
     {
         self.files[slot] = Err(why);
@@ -113,8 +116,9 @@ impl<R: Files> FileBay<R> {
 }
 
 impl<R: Files> Bay for FileBay<R> {
-    ghost use Rattle.ddf_bay.specs.FileBays.{disks_of, has_opened, is_writable};
+    ghost use Rattle.ddf_bay.specs.FileBays.{disks_of, has_opened, is_writable, IsCounted};
     ghost use Rattle.ddf_bay.specs.MemoryLaws.{size_small};
+    ghost use Rattle.ddf_bay.specs.Counting.{one_more};
 
     ghost disks = { disks_of };
 
@@ -132,7 +136,7 @@ impl<R: Files> Bay for FileBay<R> {
 
     ghost whole = { λ b s l bytes left. absurd left };
 
-    ghost leads = { λ b. tt };
+    ghost leads = { λ b. record { opened = λ s i. has_opened b s; access = λ i. is_writable b } };
 
     ghost held_is_left = { λ b told s l. told };
 
@@ -164,6 +168,7 @@ impl<R: Files> Bay for FileBay<R> {
         ensures failed { OnErr result (Rose ((disks_of self.old).failed_writes slot) ((disks_of self.new).failed_writes slot)) }
         ensures remembers { Remembers (disks_of self.old) (disks_of self.new) }
         ensures spends { SpendsWrites (disks_of self.old) (disks_of self.new) slot 1 1 }
+        ensures counted { IsCounted (disks_of self.old) (disks_of self.new) 1 }
 
         // Disks that were opened for reading alone aren't written to.
         ensures reads { is_writable self.old ≡ false → IsErr result }
@@ -179,6 +184,7 @@ impl<R: Files> Bay for FileBay<R> {
         ensures failed { OnErr result (Rose ((disks_of self.old).failed_writes slot) ((disks_of self.new).failed_writes slot)) }
         ensures remembers { Remembers (disks_of self.old) (disks_of self.new) }
         ensures spends { SpendsWrites (disks_of self.old) (disks_of self.new) slot (length from.now) 1 }
+        ensures counted { IsCounted (disks_of self.old) (disks_of self.new) (length from.now) }
 
         // Disks that were opened for reading alone aren't written to.
         ensures reads { is_writable self.old ≡ false → IsErr result }
@@ -200,6 +206,7 @@ impl<R: Files> Bay for FileBay<R> {
         ensures failed { OnErr result (Rose ((disks_of self.old).failed_writes slot) ((disks_of self.new).failed_writes slot)) }
         ensures remembers { Remembers (disks_of self.old) (disks_of self.new) }
         ensures spends { SpendsWrites (disks_of self.old) (disks_of self.new) slot 0 1 }
+        ensures counted { (disks_of self.new).calls ≡ one_more (disks_of self.old).calls }
 
         // One that could not be opened fails.
         ensures closed { has_opened self.old slot ≡ false → IsErr result }

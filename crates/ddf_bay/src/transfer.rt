@@ -1,5 +1,6 @@
 // Whole transfers to and from a file. A call that fails, an interrupted one too, isn't tried again.
-ghost use Rattle.std.specs.Prelude.{◌≡◌, ◌<◌, ◌^◌, IfOk, IsErr, false, is_ok};
+ghost use Rattle.std.specs.Prelude.{◌≡◌, ◌*◌, ◌/◌, ◌<◌, ◌^◌, length, IsSome, IfSome, IfOk, IsErr, false, is_ok};
+ghost use Rattle.std.specs.Io.Seek.{MovesTo};
 ghost use Rattle.ddf_bay.specs.Files.{allows_writes};
 
 use crate::BayFailed;
@@ -39,6 +40,7 @@ fn put<F: Write>(file: &mut F, from: &[u8]) -> Result<(), BayFailed> {
 
 fn seek_to<F: Seek>(file: &mut F, lba: u64) -> Result<(), BayFailed>
     requires { lba < 2 ^ 55 }
+    ensures { MovesTo (F.stream_position file.old) (F.stream_position file.new) (lba * 512) result }
 {
     file.seek(SeekFrom::Start(lba * SECTOR_BYTES))
         .map_err(|_| BayFailed)?;
@@ -47,7 +49,9 @@ fn seek_to<F: Seek>(file: &mut F, lba: u64) -> Result<(), BayFailed>
 
 /// The whole sectors of a file or a block device, by its end.
 pub(crate) fn sectors_of<F: Seek>(file: &mut F) -> io::Result<u64>
-    ensures { IfOk result (λ size. size < 2 ^ 55) }
+    ensures small { IfOk result (λ size. size < 2 ^ 55) }
+    // It is the size where std knows the bytes and the position.
+    ensures size { IsSome (F.stream_position file.old) → IfSome (F.stream_bytes file.old) (λ bytes. IfOk result (λ size. size ≡ length bytes / 512)) }
 {
     let bytes = file.seek(SeekFrom::End(0))?;
     Ok(bytes / SECTOR_BYTES)
@@ -79,6 +83,7 @@ pub(crate) fn write_bytes<F: Write + Seek>(
     requires { lba < 2 ^ 55 }
     ensures same { is_ok file.new ≡ is_ok file.old }
     ensures reads { allows_writes access ≡ false → IsErr result }
+    ensures untouched { allows_writes access ≡ false → file.new ≡ file.old }
 {
     if access == Access::Read {
         return Err(BayFailed);
