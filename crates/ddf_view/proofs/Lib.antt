@@ -1,0 +1,11 @@
+pub mod Bits
+pub mod Tests
+pub mod Shown
+pub mod Finds
+pub mod Agreement
+pub mod Level
+pub mod Names
+pub mod Search
+pub mod Zips
+pub mod Rebuilt
+pub mod Views

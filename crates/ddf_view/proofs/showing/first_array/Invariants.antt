@@ -1,0 +1,6 @@
+use Rattle.std.proofs.Common.{◌≡◌, drop, filter_map}
+use Rattle.ddf_view.specs.View.{array_of}
+use Rattle.ddf_view.proofs.showing.first_array.Given as goal
+
+abbrev pub invariant-loop-index : goal.invariant-loop-index
+invariant-loop-index l = filter_map array_of (drop l.index l.rows) ≡ filter_map array_of l.rows

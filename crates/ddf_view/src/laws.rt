@@ -1,0 +1,30 @@
+// Laws of what copies say: functions that do nothing, whose contracts are the laws.
+ghost use Rattle.std.specs.Prelude.{◌≡◌, ◌∷◌, true, List};
+ghost use Rattle.std.specs.List.{AllByRecursion};
+ghost use Rattle.ddf_copy.specs.declared.copy.DiskCopy.{DiskCopy};
+ghost use Rattle.ddf_copy.specs.Shows.{IsSame};
+ghost use Rattle.ddf_copy.specs.Written.{CanBeCopy};
+ghost use Rattle.ddf_config.specs.Configuration.{Configuration};
+ghost use Rattle.ddf_view.specs.View.{View, view_of};
+ghost use Rattle.ddf_view.specs.Reading.{read};
+ghost use Rattle.ddf_view.specs.Shows.{shows, shows_fully};
+ghost use Rattle.ddf_view.specs.Readable.{AreReadable, DoNamesDiffer, HasNotes};
+ghost use Rattle.ddf_view.specs.Readings.{IsAsRead};
+
+/// What a disk shows is determined up to level copies: these have one view.
+pub fn level_copies_have_one_view()
+    ensures { (one other : DiskCopy) → IsAsRead one → IsAsRead other
+        → one.header.geometry ≡ other.header.geometry → IsSame one other → view_of one ≡ view_of other }
+{}
+
+/// No two disks that a copy lists have one reference, and no two arrays one GUID, where the copy was read or can be written.
+pub fn names_differ()
+    ensures { (copy : DiskCopy) (views : List View) → CanBeCopy copy → DoNamesDiffer (view_of copy ∷ views) }
+{}
+
+/// Views of which the first shows a configuration fully, and the others show it, give it together.
+pub fn views_give_what_they_show()
+    ensures { (config : Configuration) (view : View) (views : List View) → AreReadable config → HasNotes view
+        → shows_fully config view ≡ true → AllByRecursion (λ one. shows config one ≡ true) views
+        → read config.group config.sequence (view ∷ views) ≡ config }
+{}

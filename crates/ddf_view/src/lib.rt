@@ -1,0 +1,27 @@
+//! What one copy says of its disk and of its group, the configuration that copies give together, and which differences two
+//! copies have.
+#![tactic(auto)]
+
+mod arrays;
+mod difference;
+mod differing;
+mod disks;
+mod element_reading;
+mod flags;
+mod held;
+mod laws;
+mod reading;
+mod same;
+mod showing;
+mod slots;
+mod spare_reading;
+mod together;
+mod view;
+
+pub use difference::Difference;
+pub use differing::first_difference;
+pub use held::Held;
+pub use laws::{level_copies_have_one_view, names_differ, views_give_what_they_show};
+pub use reading::read;
+pub use showing::shows;
+pub use view::View;
