@@ -35,7 +35,7 @@ pub trait Bay {
         ensures size { result ≡ slice_index (disks self.now).sizes slot }
         ensures small { result ≤ 2 ^ 55 };
 
-    /// Reads a sector. A failed read changes nothing but the counts.
+    /// Reads a sector. A failed read changes nothing of the bay but its counts. What `into` holds then isn't told.
     fn read(&mut self, slot: usize, lba: u64, into: &mut Sector) -> Result<(), BayFailed>
         requires slot { slot < length (disks self.old).sizes }
         requires sector { lba < slice_index (disks self.old).sizes slot }

@@ -1,9 +1,10 @@
 // The calls of a bay of turned records.
 ghost use Rattle.std.specs.Prelude.{◌≡◌, ◌≢◌, ◌<◌, ◌≤◌, ◌+◌, [], ◌∷◌, ℕ, List, length, refl, true, is_err, OnOk, OnErr, slice_index};
 ghost use Rattle.ddf_bytes.specs.Counts.{Rose};
+ghost use Rattle.ddf_bay.specs.Counting.{one_more, with_one_more};
 ghost use Rattle.ddf_bay.specs.Sectors.{IsLeft, IsRead, put_run};
 ghost use Rattle.ddf_bay.specs.Moments.{StopsLeave, Remembers, SpendsReads, SpendsWrites, Keeps, Adds, Mixes, IsSettled, IsAmong};
-ghost use Rattle.ddf_linux.specs.Kinds.{kind_at, turn};
+ghost use Rattle.ddf_linux.specs.Kinds.{is_unread, kind_at, turn};
 ghost use Rattle.ddf_linux.specs.State.{turned_image};
 ghost use Rattle.ddf_linux.specs.TurnLaws.{turned_left, turned_whole};
 
@@ -58,8 +59,10 @@ impl<B: Bay + Drop> Bay for Turned<B> {
         ensures failed { OnErr result (Rose ((disks_of B.disks self.old).failed_reads slot) ((disks_of B.disks self.new).failed_reads slot)) }
         ensures spends { SpendsReads (disks_of B.disks self.old) (disks_of B.disks self.new) slot 1 }
 
-        // It is counted once, and fails on a slot that could not be read, without a call of the inner bay.
+        // It is counted once. On a slot that could not be read it fails without a call of the inner bay, and its own count
+        // of such failures is one more, up to the last value.
         ensures call { IsCall self.old self.new slot (is_err result) }
+        ensures own { is_unread (kind_of self.old slot) ≡ true → (disks_of B.disks self.new).failed_reads slot ≡ one_more ((disks_of B.disks self.old).failed_reads slot) }
 
         // It is one call of the inner bay.
         ensures inner { SpendsReads (B.disks (inner_of self.old)) (B.disks (inner_of self.new)) slot 1 }
@@ -86,8 +89,10 @@ impl<B: Bay + Drop> Bay for Turned<B> {
         ensures failed { OnErr result (Rose ((disks_of B.disks self.old).failed_reads slot) ((disks_of B.disks self.new).failed_reads slot)) }
         ensures spends { SpendsReads (disks_of B.disks self.old) (disks_of B.disks self.new) slot 1 }
 
-        // It is counted once, and fails on a slot that could not be read, without a call of the inner bay.
+        // It is counted once. On a slot that could not be read it fails without a call of the inner bay, and its own count
+        // of such failures is one more, up to the last value.
         ensures call { IsCall self.old self.new slot (is_err result) }
+        ensures own { is_unread (kind_of self.old slot) ≡ true → (disks_of B.disks self.new).failed_reads slot ≡ one_more ((disks_of B.disks self.old).failed_reads slot) }
 
         // It is one call of the inner bay.
         ensures inner { SpendsReads (B.disks (inner_of self.old)) (B.disks (inner_of self.new)) slot 1 }
@@ -113,8 +118,10 @@ impl<B: Bay + Drop> Bay for Turned<B> {
         ensures failed { OnErr result (Rose ((disks_of B.disks self.old).failed_writes slot) ((disks_of B.disks self.new).failed_writes slot)) }
         ensures spends { SpendsWrites (disks_of B.disks self.old) (disks_of B.disks self.new) slot 1 1 }
 
-        // It is counted once, and fails on a slot that could not be read, without a call of the inner bay.
+        // It is counted once. On a slot that could not be read it fails without a call of the inner bay, and its own count
+        // of such failures is one more, up to the last value.
         ensures call { IsCall self.old self.new slot (is_err result) }
+        ensures own { is_unread (kind_of self.old slot) ≡ true → (disks_of B.disks self.new).failed_writes slot ≡ one_more ((disks_of B.disks self.old).failed_writes slot) }
 
         // It is one call of the inner bay.
         ensures inner { SpendsWrites (B.disks (inner_of self.old)) (B.disks (inner_of self.new)) slot 1 1 }
@@ -135,8 +142,10 @@ impl<B: Bay + Drop> Bay for Turned<B> {
         ensures failed { OnErr result (Rose ((disks_of B.disks self.old).failed_writes slot) ((disks_of B.disks self.new).failed_writes slot)) }
         ensures spends { SpendsWrites (disks_of B.disks self.old) (disks_of B.disks self.new) slot (length from.now) 1 }
 
-        // It is counted once, and fails on a slot that could not be read, without a call of the inner bay.
+        // It is counted once. On a slot that could not be read it fails without a call of the inner bay, and its own count
+        // of such failures is one more, up to the last value.
         ensures call { IsCall self.old self.new slot (is_err result) }
+        ensures own { is_unread (kind_of self.old slot) ≡ true → (disks_of B.disks self.new).failed_writes slot ≡ one_more ((disks_of B.disks self.old).failed_writes slot) }
 
         // It is cut at sectors that are turned, and nowhere else.
         ensures inner { SpendsWrites (B.disks (inner_of self.old)) (B.disks (inner_of self.new)) slot (length from.now) (pieces_below (kind_of self.old slot) lba from.now (length from.now)) }
@@ -159,8 +168,10 @@ impl<B: Bay + Drop> Bay for Turned<B> {
         ensures failed { OnErr result (Rose ((disks_of B.disks self.old).failed_writes slot) ((disks_of B.disks self.new).failed_writes slot)) }
         ensures spends { SpendsWrites (disks_of B.disks self.old) (disks_of B.disks self.new) slot 0 1 }
 
-        // It is counted once, and fails on a slot that could not be read, without a call of the inner bay.
+        // It is counted once. On a slot that could not be read it fails without a call of the inner bay, and its own count
+        // of such failures is one more, up to the last value.
         ensures call { IsCall self.old self.new slot (is_err result) }
+        ensures own { is_unread (kind_of self.old slot) ≡ true → (disks_of B.disks self.new).failed_writes slot ≡ one_more ((disks_of B.disks self.old).failed_writes slot) }
 
         // It is one call of the inner bay.
         ensures inner { SpendsWrites (B.disks (inner_of self.old)) (B.disks (inner_of self.new)) slot 0 1 }
@@ -177,6 +188,7 @@ impl<B: Bay + Drop> Bay for Turned<B> {
 fn fail(counts: &mut [u64; 64], slot: usize) -> Result<(), BayFailed>
     requires { slot < 64 }
     ensures failed { is_err result ≡ true }
+    ensures value { counts.new ≡ with_one_more counts.old slot }
     ensures rose { Rose (slice_index counts.old slot) (slice_index counts.new slot) }
     ensures kept { (s : ℕ) → slice_index counts.old s ≤ slice_index counts.new s }
     ensures others { (s : ℕ) → s ≢ slot → slice_index counts.new s ≡ slice_index counts.old s }

@@ -31,7 +31,7 @@ impl<B: Bay + Drop> Turned<B> {
         ensures reads { ReadsOnly (B.disks inner) (B.disks (inner_of result)) }
         ensures remembers { Remembers (B.disks inner) (B.disks (inner_of result)) }
 
-        // A slot costs one read at most, and nothing else.
+        // At most as many calls are made as there are slots. None asks for a sector to be written, or counts a failed write.
         ensures spends { SpendsOver (B.disks inner) (B.disks (inner_of result)) 0 (length (B.disks inner).sizes) }
         ensures writes { (B.disks (inner_of result)).failed_writes ≡ (B.disks inner).failed_writes }
 
