@@ -2,7 +2,7 @@
 
 /// The words, and what becomes of them.
 pub const USAGE: &str = "\
-Usage: ddf IMAGE.. -- COMMAND
+Usage: ddf IMAGE.. -- [@GROUP] COMMAND
 
 Reads and writes RAID metadata in the SNIA Common RAID Disk Data Format (DDF) on disk
 images and block devices. Slots are the images in their order, from 0.
@@ -10,13 +10,19 @@ images and block devices. Slots are the images in their order, from 0.
 Commands:
   examine          show what each disk holds; nothing is written
   label [SLOT..]   make a new group of these blank disks, or of all
+  assemble         show which group the disks are, with its members and arrays;
+                   nothing is written
+
+A command over a group, as assemble, takes the only one that the disks show, or the one
+that is named: @ and the 48 hexadecimal digits of its GUID.
 
 Disks are opened for reading alone by commands that write nothing. Others don't touch a
 disk that is mounted, swapped to, part of another device, locked by another program, or
 protected from writes. A program that holds a disk in another way isn't found.
 
 Exit status: 0 done, 1 refused, 2 words that are no command's, 3 a disk failed,
-5 no memory, 6 the input or the output failed, or there was no chance for new names.
+4 records of the group contradict each other, 5 no memory, 6 the input or the output
+failed, or there was no chance for new names.
 ";
 
 const VERSION: &str = "ddf 0.1.0\n";

@@ -140,7 +140,7 @@ where
     let mut sink = StdSink::new(io::writer(rt));
     let status = run(rt.alloc(), words, &mut bay, &mut source, &mut sink, stamp);
     drop(claims);
-    if let Command::Examine = asked.command {
+    if let Command::Examine | Command::Assemble = asked.command {
         name_turned(rt, &bay);
     }
     answered(status)

@@ -1,4 +1,5 @@
 // The program's calls over bays in memory: what is printed, and with which status.
+mod assemble;
 mod bay;
 mod changes;
 mod copies;

@@ -17,6 +17,10 @@ pub enum Wrong<'a> {
     Twice(&'a str),
     /// There is no such command.
     Unknown(&'a str),
+    /// A word is no group's name.
+    NoGroup(&'a str),
+    /// A command takes no group.
+    Groupless(&'a str),
     /// They end before the command has all its words.
     Short(&'a str),
     /// A word is none that the command can take there.
@@ -33,7 +37,7 @@ pub fn explain(words: &[String], place: usize) -> Wrong<'_> {
     let behind = images.saturating_add(1);
     match words.get(images) {
         Some(dashes) if dashes.as_str() == "--" && images < place => {
-            explain_command(words, behind, place)
+            explain_request(words, behind, place)
         }
         _ => explain_image(words, place),
     }
@@ -46,6 +50,26 @@ fn explain_image(words: &[String], place: usize) -> Wrong<'_> {
         Some(word) if word.is_empty() => Wrong::Unnamed,
         Some(_) if place >= MOST_IMAGES => Wrong::Crowd,
         Some(word) => Wrong::Twice(word),
+    }
+}
+
+/// What is wrong behind the dashes, where a group may be named before the command.
+fn explain_request(words: &[String], first: usize, place: usize) -> Wrong<'_> {
+    match words.get(first) {
+        Some(group) if group.starts_with('@') && place <= first => Wrong::NoGroup(group),
+        Some(group) if group.starts_with('@') => explain_over_group(words, first, place),
+        _ => explain_command(words, first, place),
+    }
+}
+
+/// What is wrong with a command behind the name of a group.
+fn explain_over_group(words: &[String], first: usize, place: usize) -> Wrong<'_> {
+    let name = first.saturating_add(1);
+    match words.get(name) {
+        Some(command) if matches!(command.as_str(), "examine" | "label") => {
+            Wrong::Groupless(command)
+        }
+        _ => explain_command(words, name, place),
     }
 }
 
@@ -85,6 +109,8 @@ impl fmt::Display for Wrong<'_> {
             Wrong::Crowd => write!(f, "there are more than {MOST_IMAGES} images"),
             Wrong::Twice(path) => write!(f, "{path} is named twice"),
             Wrong::Unknown(command) => write!(f, "there is no command {command}"),
+            Wrong::NoGroup(word) => write!(f, "{word} isn't @ and the 48 digits of a group"),
+            Wrong::Groupless(command) => write!(f, "{command} takes no group"),
             Wrong::Short(command) => write!(f, "{command} wants more words"),
             Wrong::Misplaced(command, word) => write!(f, "{command} doesn't take the word {word}"),
             Wrong::SlotTwice(word) => write!(f, "slot {word} is named twice"),

@@ -1,5 +1,5 @@
 -- Calls that only read: what they leave of a bay.
-use Rattle.std.specs.Prelude.{◌≡◌, ◌≢◌, ◌⊎◌, ℕ, ◌≤◌, Bool, true, false}
+use Rattle.std.specs.Prelude.{◌≡◌, ◌≢◌, ◌⊎◌, ℕ, ◌≤◌, ◌<◌, Bool, true, false, IsTrue, List, length, slice_index, slice_index_or}
 use Rattle.ddf_bytes.specs.Counts.{Rose}
 use Rattle.ddf_bay.specs.Sectors.{IsLeft}
 use Rattle.ddf_bay.specs.State.{BayState}
@@ -28,9 +28,20 @@ SlotRose old new slot = Rose (old.failed_reads slot) (new.failed_reads slot) ⊎
 abbrev pub SlotSame : {D : Type 0} (old new : BayState D) → (slot : ℕ) → Type 0
 SlotSame old new slot = (new.failed_reads slot ≡ old.failed_reads slot) × (new.failed_writes slot ≡ old.failed_writes slot)
 
+-- a read of a slot failed, or where it has no sector its sync
+abbrev pub LookFailed : {D : Type 0} (old new : BayState D) → (slot : ℕ) → Type 0
+LookFailed old new slot = Rose (old.failed_reads slot) (new.failed_reads slot)
+    ⊎ ((slice_index old.sizes slot ≡ 0) × Rose (old.failed_writes slot) (new.failed_writes slot))
+
 -- The calls of a look at one slot failed, or none of them did.
 pub record LooksAt {D : Type 0} (old new : BayState D) (slot : ℕ) (failed : Bool) : Type 0 where
   pub reads : FaultsOn (λ disks. disks.failed_reads) old new slot
   pub writes : FaultsOn (λ disks. disks.failed_writes) old new slot
-  pub rose : failed ≡ true → SlotRose old new slot
+  pub same_sizes : new.sizes ≡ old.sizes
+  pub rose : failed ≡ true → LookFailed old new slot
   pub same : failed ≡ false → SlotSame old new slot
+
+-- Of the first slots, so many, it is told whether a look at them failed.
+pub record AreFailed {D : Type 0} (old new : BayState D) (failed : List Bool) : Type 0 where
+  pub rose : (s : ℕ) → s < length failed → IsTrue (slice_index_or failed s false) → LookFailed old new s
+  pub same : (s : ℕ) → s < length failed → slice_index_or failed s false ≡ false → SlotSame old new s

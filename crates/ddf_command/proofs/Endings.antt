@@ -1,19 +1,20 @@
 -- How `examine` ends.
-use Rattle.std.proofs.Common.{◌≡◌, ◌⊎◌, inl, inr, ⊎_elim, ℕ, suc, ◌<◌, List, [], ◌∷◌, length, get_or, replicate, Bool, true, false, Result, Ok, Err, refl, sym, arith, if◌then◌else◌}
+use Rattle.std.proofs.Common.{◌≡◌, ◌⊎◌, inl, inr, ⊎_elim, ℕ, suc, ◌<◌, List, [], ◌∷◌, length, get_or, replicate, Bool, true, false, Option, Result, Ok, Err, refl, sym, arith, if◌then◌else◌}
 use Rattle.std.specs.Prelude.{IsTrue}
 use Rattle.std.proofs.lemmas.Bool.{cases_lt}
 use Rattle.std.proofs.lemmas.List.{append-nil, length-replicate}
 use Rattle.ddf_bytes.specs.declared.stamp.Stamp.{Stamp}
 use Rattle.ddf_bay.specs.State.{BayState}
-use Rattle.ddf_bay.proofs.Looks.{reads_start}
+use Rattle.ddf_bay.proofs.Looks.{failed_padded, look_rose, none_failed, reads_start}
 use Rattle.ddf_bay.proofs.Steps.{stops_start}
 use Rattle.ddf_update.specs.Group.{IsLeftFoundingAll}
 use Rattle.ddf_bytes.specs.Streams.{SinkState}
+use Rattle.ddf_assembly.specs.Slots.{IsLooked, newest_from}
 use Rattle.ddf_command.specs.Call.{Answer, Work, answer_of, work_of}
 use Rattle.ddf_command.specs.Examine.{IsExamined, some_failed}
-use Rattle.ddf_command.specs.Run.{IsDone, SomeSlotRose}
+use Rattle.ddf_command.specs.Run.{IsCommandDone, SomeSlotRose}
 use Rattle.ddf_words.specs.declared.command.Command.{Command}
-use Rattle.ddf_words.specs.declared.command.Command.TheVariants.{Examine, Label}
+use Rattle.ddf_words.specs.declared.command.Command.TheVariants.{Assemble, Examine, Label}
 use Rattle.ddf_command.specs.declared.failure.Failure.TheVariants.{Memory}
 use Rattle.ddf_command.specs.Label.{label_copy, label_slots}
 use Rattle.ddf_words.specs.declared.command.Asked.{Asked}
@@ -23,7 +24,6 @@ use Rattle.ddf_words.specs.Words.{Word, GoWrongAt}
 use Rattle.ddf_command.specs.Status.{code_of}
 use Rattle.ddf_command.specs.declared.status.Status.{Status}
 use Rattle.ddf_command.specs.declared.status.Status.TheVariants as status
-use Rattle.ddf_command.proofs.Partway.{failed_padded}
 
 -- a slot that failed, where some did
 first_failed : (failed : List Bool) → some_failed failed ≡ true → (s : ℕ) × ((s < length failed) × IsTrue (get_or failed s false))
@@ -47,7 +47,7 @@ module _ {D : Type 0} (work : Work D) (answer : Answer) where
   slot_rose : (examined : IsExamined work answer) → some_failed examined.failed ≡ true → SomeSlotRose work.old work.new
   slot_rose examined some =
       let first = first_failed examined.failed some in
-      record { slot = first.0; there = omega (arith, first.1.0, examined.every_slot); rose = examined.are_failed.rose first.0 first.1.0 first.1.1 }
+      record { slot = first.0; there = omega (arith, first.1.0, examined.every_slot); rose = look_rose work.old work.new first.0 (examined.are_failed.rose first.0 first.1.0 first.1.1) }
 
   -- status 3 comes from a slot
   pub fault_cause : IsExamined work answer → answer.status ≡ 3 → SomeSlotRose work.old work.new
@@ -63,12 +63,20 @@ module _ {D : Type 0} (work : Work D) (answer : Answer) where
       (λ short. ⊎_elim inr (λ six. absurd (good six)) short)
       examined.ends
 
+-- no slot was looked at
+none_looked : {D : Type 0} (old : BayState D) → IsLooked old old
+none_looked old = record {
+  left = replicate (length old.sizes) false;
+  every_slot = length-replicate (length old.sizes) false;
+  are_failed = failed_padded old old [] (length old.sizes) (none_failed old old) (λ s le. (refl, refl));
+}
+
 -- nothing was done before memory ran out
 nothing_done : {D : Type 0} (old : BayState D) (tells told : Type 0) (before : SinkState) → IsExamined (work_of tells old old) (answer_of told before before 5)
 nothing_done old tells told before = record {
   failed = replicate (length old.sizes) false;
   every_slot = length-replicate (length old.sizes) false;
-  are_failed = failed_padded old old [] (length old.sizes) (record { rose = λ s lt. absurd (omega (arith, lt)); same = λ s lt. absurd (omega (arith, lt)) }) (λ s le. (refl, refl));
+  are_failed = failed_padded old old [] (length old.sizes) (none_failed old old) (λ s le. (refl, refl));
   ends = inr (inl refl);
   tells = λ disks output. record { whole = λ low. absurd (omega (arith, low)); front = record { count = 0; within = omega arith; front = sym (append-nil before.taken) } };
 }
@@ -90,13 +98,19 @@ stream_status status.Ok e = absurd (omega (arith, e))
 stream_status status.Refused e = absurd (omega (arith, e))
 stream_status status.Words e = absurd (omega (arith, e))
 stream_status status.DiskFault e = absurd (omega (arith, e))
+stream_status status.Contradicted e = absurd (omega (arith, e))
 stream_status status.Memory e = absurd (omega (arith, e))
 stream_status status.Stream e = refl
 
-pub done_nothing : {D : Type 0} (old : BayState D) (tells told : Type 0) (before : SinkState) (stamp : Stamp) (command : Command)
-    → IsDone (work_of tells old old) stamp command (answer_of told before before 5)
-done_nothing old tells told before stamp Examine = nothing_done old tells told before
-done_nothing old tells told before stamp (Label slots) = record {
+pub done_nothing : {D : Type 0} (old : BayState D) (tells told : Type 0) (before : SinkState) (stamp : Stamp) (group : Option (List ℕ)) (command : Command)
+    → IsCommandDone (work_of tells old old) stamp group command (answer_of told before before 5)
+done_nothing old tells told before stamp group Examine = nothing_done old tells told before
+done_nothing old tells told before stamp group Assemble = record {
+  outcome = Err Memory;
+  has = record { looked = none_looked old; newest = newest_from old 0 (none_looked old).left; read = λ tells. refl; gives = inr refl };
+  ends = (refl, λ told. refl);
+}
+done_nothing old tells told before stamp group (Label slots) = record {
   outcome = Err Memory;
   tried = reads_start old;
   ends = (refl, λ told. refl);

@@ -6,3 +6,4 @@ mod Fits
 mod LabelEnds
 mod Labelled
 mod Quiet
+pub mod Outcomes

@@ -7,9 +7,10 @@ use Rattle.std.proofs.lemmas.Bool.{cases_lt}
 use Rattle.ddf_bytes.specs.Streams.{SinkState, TakesFront}
 use Rattle.ddf_bay.specs.State.{BayState}
 use Rattle.ddf_bay.specs.Sectors.{Image}
-use Rattle.ddf_bay.specs.ReadsOnly.{LooksAt, SlotRose, SlotSame}
+use Rattle.ddf_bay.specs.ReadsOnly.{AreFailed, LooksAt, SlotSame}
+use Rattle.ddf_bay.proofs.Looks.{failed_more, failed_padded, later_more, none_failed}
 use Rattle.ddf_command.specs.Call.{answer_of, work_of}
-use Rattle.ddf_command.specs.Examine.{one_text, slots_text, AreFailed, some_failed, IsExamined, IsSlotShown}
+use Rattle.ddf_command.specs.Examine.{one_text, slots_text, some_failed, IsExamined, IsSlotShown}
 use Rattle.ddf_command.specs.declared.commands.examine.Stop.{Stop}
 
 slots_text-append : (slot : ℕ) (fs gs : List Bool) (sizes : List ℕ) (held : Image) → slots_text slot (fs ++ gs) sizes held ≡ slots_text slot fs sizes held ++ slots_text (slot + length fs) gs sizes held
@@ -25,80 +26,6 @@ some_failed-append [] true = refl
 some_failed-append [] false = refl
 some_failed-append (true ∷ fs) b = refl
 some_failed-append (false ∷ fs) b = some_failed-append fs b
-
--- ---- the slots that failed
-
-module _ where
-  abbrev Rises : {D : Type 0} → BayState D → BayState D → ℕ → Type 0
-  Rises = SlotRose
-
-  abbrev Rests : {D : Type 0} → BayState D → BayState D → ℕ → Type 0
-  Rests = SlotSame
-
-  module _ {D : Type 0} (old now next : BayState D) (fs : List Bool) (b : Bool) (so_far : AreFailed old now fs)
-      (later : (s : ℕ) → length fs ≤ s → SlotSame old now s) (look : LooksAt now next (length fs) b) where
-    -- other slots stay
-    still : (s : ℕ) → s ≢ length fs → SlotSame now next s
-    still s differs = (look.reads.other_slots s differs, look.writes.other_slots s differs)
-
-    same_on : (s : ℕ) → s ≢ length fs → Rests old now s → Rests old next s
-    same_on s differs same = ((still s differs).0 ∙ same.0, (still s differs).1 ∙ same.1)
-
-    rose_on : (s : ℕ) → s ≢ length fs → Rises old now s → Rises old next s
-    rose_on s differs (inl reads) = inl (rw (still s differs).0 reads)
-    rose_on s differs (inr writes) = inr (rw (still s differs).1 writes)
-
-    here_rose : b ≡ true → Rises old next (length fs)
-    here_rose failed = let same = later (length fs) (omega arith) in ⊎_elim
-        (λ reads. inl (rw (← same.0) reads))
-        (λ writes. inr (rw (← same.1) writes))
-        (look.rose failed)
-
-    here_same : b ≡ false → Rests old next (length fs)
-    here_same good = let same = later (length fs) (omega arith) in ((look.same good).0 ∙ same.0, (look.same good).1 ∙ same.1)
-
-    earlier : (s : ℕ) → s < length fs → get_or (fs ++ b ∷ []) s false ≡ get_or fs s false
-    earlier s lt = get_or_append_left fs (b ∷ []) false s lt
-
-    here : get_or (fs ++ b ∷ []) (length fs) false ≡ b
-    here = ap (λ (n : ℕ). get_or (fs ++ b ∷ []) n false) (sym (add-zero (length fs))) ∙ get_or-append-add fs (b ∷ []) 0 false
-
-    one_longer : length (fs ++ b ∷ []) ≡ length fs + 1
-    one_longer = length-append fs (b ∷ [])
-
-    pub failed_more : AreFailed old next (fs ++ b ∷ [])
-    failed_more = record {
-      rose = λ s lt h. ⊎_elim
-          (λ before. rose_on s (λ e. omega (arith, e, before)) (so_far.rose s before (rw (earlier s before) at h)))
-          (λ from. let e : s ≡ length fs = omega (arith, one_longer) in rw e (here_rose (sym here ∙ (rw e at h))))
-          (cases_lt s (length fs));
-      same = λ s lt h. ⊎_elim
-          (λ before. same_on s (λ e. omega (arith, e, before)) (so_far.same s before (sym (earlier s before) ∙ h)))
-          (λ from. let e : s ≡ length fs = omega (arith, one_longer) in rw e (here_same (sym here ∙ (rw e at h))))
-          (cases_lt s (length fs));
-    }
-
-    pub later_more : (s : ℕ) → length fs + 1 ≤ s → SlotSame old next s
-    later_more s beyond = same_on s (λ e. omega (arith, e, beyond)) (later s (omega arith))
-
-  -- slots that were not looked at did not fail
-  pub failed_padded : {D : Type 0} (old now : BayState D) (fs : List Bool) (count : ℕ) → AreFailed old now fs
-      → ((s : ℕ) → length fs ≤ s → SlotSame old now s) → AreFailed old now (fs ++ replicate count false)
-  failed_padded old now fs count so_far later = record {
-    rose = λ s lt h. ⊎_elim
-        (λ before. so_far.rose s before (rw (get_or_append_left fs (replicate count false) false s before) at h))
-        (λ from. let quiet : get_or (fs ++ replicate count false) s false ≡ false = get_or-append_right fs (replicate count false) (length fs) s false refl from ∙ all_quiet count (s - length fs) in cc)
-        (cases_lt s (length fs));
-    same = λ s lt h. ⊎_elim
-        (λ before. so_far.same s before (sym (get_or_append_left fs (replicate count false) false s before) ∙ h))
-        (λ from. later s from)
-        (cases_lt s (length fs));
-  }
-    where
-      all_quiet : (n k : ℕ) → get_or (replicate n false) k false ≡ false
-      all_quiet zero k = refl
-      all_quiet (suc n) zero = refl
-      all_quiet (suc n) (suc k) = all_quiet n k
 
 -- ---- the whole
 
@@ -155,7 +82,7 @@ module _ (tells told : Type 0) where
   partway_start a before = record {
     failed = [];
     slots = refl;
-    are_failed = record { rose = λ s lt. absurd (omega (arith, lt)); same = λ s lt. absurd (omega (arith, lt)) };
+    are_failed = none_failed a a;
     later = λ s le. (refl, refl);
     fault_is = refl;
     tells = λ told. sym (append-nil before.taken);
@@ -175,10 +102,10 @@ module _ (tells told : Type 0) where
     failed = so_far.failed ++ shown.failed ∷ []
 
     more : AreFailed old next (so_far.failed ++ shown.failed ∷ [])
-    more = failed_more old now next so_far.failed shown.failed so_far.are_failed rest look
+    more = failed_more old now next so_far.failed shown.failed so_far.are_failed rest same_sizes look
 
     beyond : (s : ℕ) → length so_far.failed + 1 ≤ s → SlotSame old next s
-    beyond = later_more old now next so_far.failed shown.failed so_far.are_failed rest look
+    beyond = later_more old now next so_far.failed shown.failed so_far.are_failed rest same_sizes look
 
     next_slot : length (so_far.failed ++ shown.failed ∷ []) ≡ slot + 1
     next_slot = length-append so_far.failed (shown.failed ∷ []) ∙ omega (arith, so_far.slots)

@@ -1,6 +1,6 @@
 -- What is told of a look at a slot.
-use Rattle.std.proofs.Common.{◌≡◌, ⊎_elim, inl, inr, ℕ, List, false, Result, Ok, Err, refl}
-use Rattle.std.specs.Prelude.{IfOk, OnOk, slice_index}
+use Rattle.std.proofs.Common.{◌≡◌, ◌++◌, ⊎_elim, inl, inr, ℕ, List, false, Option, Some, None, Result, Ok, Err, refl, sym, arith, append-nil}
+use Rattle.std.specs.Prelude.{IfOk, IfSome, OnOk, codes, slice_index}
 use Rattle.std.specs.Result.{is_err}
 use Rattle.ddf_bay.specs.Sectors.{Image}
 use Rattle.ddf_text.specs.declared.view.DiskView.{DiskView}
@@ -9,7 +9,8 @@ use Rattle.ddf_copy.specs.declared.fault.ShowFault.TheVariants.{Disk, Memory}
 use Rattle.ddf_copy.specs.Faults.{show_failed}
 use Rattle.ddf_command.specs.Disk.{disk_view}
 use Rattle.ddf_command.specs.Examine.{one_text}
-use Rattle.ddf_command.specs.Call.{Answer}
+use Rattle.ddf_bytes.specs.Streams.{SinkState}
+use Rattle.ddf_command.specs.Call.{Answer, answer_of}
 use Rattle.ddf_command.specs.Tells.{ClosesWith, EndsWith}
 use Rattle.ddf_text.specs.Report.{IsTold, report_text}
 
@@ -27,3 +28,11 @@ on_ok (Err fault) e holds = cc
 -- what a call tells without memory it tells
 pub closes_ends : {expected : ℕ} {text : List ℕ} {answer : Answer} → ClosesWith expected text answer → EndsWith expected text answer
 closes_ends closes = record { ends = ⊎_elim inl (λ six. inr (inr six)) closes.ends; tells = closes.tells }
+
+-- where memory ran out before, nothing is told
+pub untold : (line : Option (List ℕ)) (expected : ℕ) (tells : Type 0) (before : SinkState) → IfSome line (λ text. EndsWith expected (text ++ codes "\n") (answer_of tells before before 5))
+untold None expected tells before = tt
+untold (Some text) expected tells before = record {
+  ends = inr (inl refl);
+  tells = λ told. record { whole = λ low. absurd (omega (arith, low)); front = record { count = 0; within = omega arith; front = sym (append-nil before.taken) } };
+}

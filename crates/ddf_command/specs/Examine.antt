@@ -4,7 +4,7 @@ use Rattle.std.specs.List.{list_any}
 use Rattle.ddf_bytes.specs.Streams.{SinkState, TakesFront}
 use Rattle.ddf_bay.specs.State.{BayState}
 use Rattle.ddf_bay.specs.Sectors.{Image}
-use Rattle.ddf_bay.specs.ReadsOnly.{LooksAt, SlotRose, SlotSame}
+use Rattle.ddf_bay.specs.ReadsOnly.{AreFailed, LooksAt}
 use Rattle.ddf_command.specs.declared.commands.examine.Stop.{Stop}
 use Rattle.ddf_command.specs.Call.{Answer, Work}
 use Rattle.ddf_command.specs.Tells.{IsCutShort, Tells}
@@ -20,11 +20,6 @@ one_text slot failed sizes held =
 abbrev pub slots_text : ℕ → List Bool → List ℕ → Image → List ℕ
 slots_text slot [] sizes held = []
 slots_text slot (failed ∷ others) sizes held = one_text slot failed sizes held ++ slots_text (suc slot) others sizes held
-
--- Of the first slots, so many, it is told whether a call on them failed.
-pub record AreFailed {D : Type 0} (old new : BayState D) (failed : List Bool) : Type 0 where
-  pub rose : (s : ℕ) → s < length failed → IsTrue (slice_index_or failed s false) → SlotRose old new s
-  pub same : (s : ℕ) → s < length failed → slice_index_or failed s false ≡ false → SlotSame old new s
 
 -- some slot failed
 abbrev pub some_failed : List Bool → Bool

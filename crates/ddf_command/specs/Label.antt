@@ -7,7 +7,7 @@ use Rattle.ddf_copy.specs.declared.copy.DiskCopy.{DiskCopy}
 use Rattle.ddf_update.specs.Group.{HaveFirstCopies, IsLeftFoundingAll, slot_sizes}
 use Rattle.ddf_update.specs.NewCopies.{new_copy}
 use Rattle.ddf_command.specs.declared.failure.Failure.{Failure}
-use Rattle.ddf_command.specs.declared.failure.Failure.TheVariants.{Disk, Memory, Refused}
+use Rattle.ddf_command.specs.declared.failure.Failure.TheVariants.{Conflict, Disk, Memory, Refused, Split}
 use Rattle.ddf_config.specs.declared.refusal.Refusal.{Refusal}
 use Rattle.ddf_command.specs.Answers.{IsToldFailure}
 use Rattle.ddf_command.specs.Call.{Answer, Work}
@@ -32,6 +32,8 @@ IsTried work stamp named (Err (Refused refusal)) =
     (work.tells → label_refusal work.old.sizes work.old.held named ≡ Some refusal) × ReadsOnly work.old work.new
 IsTried work stamp named (Err (Disk slot)) =
     (slot < length work.old.sizes) × SlotRose work.old work.new slot
+IsTried work stamp named (Err (Conflict i j sequence differ)) = ⊥
+IsTried work stamp named (Err (Split i j)) = ⊥
 IsTried work stamp named (Err Memory) =
     ReadsOnly work.old work.new
 

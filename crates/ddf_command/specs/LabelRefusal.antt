@@ -10,7 +10,7 @@ use Rattle.ddf_copy.specs.declared.fault.AnchorFault.{AnchorFault}
 use Rattle.ddf_copy.specs.declared.fault.AnchorFault.TheVariants.{Blank}
 use Rattle.ddf_copy.specs.Anchor.{anchor_at}
 use Rattle.ddf_command.specs.declared.failure.Failure.{Failure}
-use Rattle.ddf_command.specs.declared.failure.Failure.TheVariants.{Disk, Memory, Refused}
+use Rattle.ddf_command.specs.declared.failure.Failure.TheVariants.{Conflict, Disk, Memory, Refused, Split}
 use Rattle.ddf_config.specs.declared.refusal.FullTable.TheVariants.{Disks}
 use Rattle.ddf_config.specs.declared.refusal.Refusal.{Refusal}
 use Rattle.ddf_config.specs.declared.refusal.Refusal.TheVariants.{Full, NoSlot, NotBlank, Small}
@@ -83,4 +83,6 @@ pub record IsFit (sizes slots : List ℕ) : Type 0 where
 abbrev pub IsFitFailure : {D : Type 0} (old new : BayState D) → (tells : Type 0) → (named : List ℕ) → Failure → Type 0
 IsFitFailure old new tells named (Refused refusal) = tells → label_refusal old.sizes old.held named ≡ Some refusal
 IsFitFailure old new tells named (Disk slot) = (slot < length old.sizes) × SlotRose old new slot
+IsFitFailure old new tells named (Conflict i j sequence differ) = ⊥
+IsFitFailure old new tells named (Split i j) = ⊥
 IsFitFailure old new tells named Memory = Unit {0}

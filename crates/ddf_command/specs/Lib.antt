@@ -7,4 +7,5 @@ pub mod Quiet
 pub mod Examine
 pub mod LabelRefusal
 pub mod Label
+pub mod Assemble
 pub mod Run

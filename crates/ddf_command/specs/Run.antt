@@ -1,12 +1,13 @@
 -- What a call of the program does, by the command that its words ask for. Each command has its case in each definition.
-use Rattle.std.specs.Prelude.{◌≡◌, ℕ, ◌<◌, List, [], ◌∷◌, length, Bool, true, false, ◌==◌}
+use Rattle.std.specs.Prelude.{◌≡◌, ℕ, ◌<◌, List, [], ◌∷◌, length, Bool, true, false, ◌==◌, Option}
 use Rattle.std.specs.List.{list_any}
 use Rattle.ddf_bytes.specs.declared.stamp.Stamp.{Stamp}
 use Rattle.ddf_bay.specs.State.{BayState}
 use Rattle.ddf_words.specs.declared.command.Command.{Command}
-use Rattle.ddf_words.specs.declared.command.Command.TheVariants.{Examine, Label}
+use Rattle.ddf_words.specs.declared.command.Command.TheVariants.{Assemble, Examine, Label}
 use Rattle.ddf_bay.specs.ReadsOnly.{SlotRose}
 use Rattle.ddf_command.specs.Call.{Answer, Work}
+use Rattle.ddf_command.specs.Assemble.{IsAssembleDone}
 use Rattle.ddf_command.specs.Examine.{IsExamined}
 use Rattle.ddf_command.specs.Label.{IsLabelled}
 use Rattle.ddf_words.specs.Commands.{may_write}
@@ -17,18 +18,22 @@ use Rattle.ddf_words.specs.declared.command.Asked.{Asked}
 abbrev pub AsksForNoWrite : List Word → Type 0
 AsksForNoWrite words = (asked : Asked) → IsAsked words asked → may_write asked.command ≡ false
 
--- the command was done, or it told why not, or was cut short
-abbrev pub IsDone : {D : Type 0} → Work D → Stamp → Command → Answer → Type 0
-IsDone work stamp Examine answer = IsExamined work answer
-IsDone work stamp (Label slots) answer = IsLabelled work stamp slots answer
+-- the command was done, over the named group or the only one, or it told why not, or was cut short
+abbrev pub IsCommandDone : {D : Type 0} → Work D → Stamp → (group : Option (List ℕ)) → Command → Answer → Type 0
+IsCommandDone work stamp group Examine answer = IsExamined work answer
+IsCommandDone work stamp group (Label slots) answer = IsLabelled work stamp slots answer
+IsCommandDone work stamp group Assemble answer = IsAssembleDone work group answer
+
+abbrev pub IsDone : {D : Type 0} → Work D → Stamp → Asked → Answer → Type 0
+IsDone work stamp asked answer = IsCommandDone work stamp asked.group asked.command answer
 
 -- the statuses that a call may end with
 abbrev pub is_status : ℕ → Bool
-is_status number = list_any (λ status. status == number) (0 ∷ 1 ∷ 2 ∷ 3 ∷ 5 ∷ 6 ∷ [])
+is_status number = list_any (λ status. status == number) (0 ∷ 1 ∷ 2 ∷ 3 ∷ 4 ∷ 5 ∷ 6 ∷ [])
 
--- those of calls that wrote nothing: it was refused, the words were no command's, or memory ran out
+-- those of calls that wrote nothing: it was refused, the words were no command's, records contradict each other, or memory ran out
 abbrev pub is_unwritten : ℕ → Bool
-is_unwritten number = list_any (λ status. status == number) (1 ∷ 2 ∷ 5 ∷ [])
+is_unwritten number = list_any (λ status. status == number) (1 ∷ 2 ∷ 4 ∷ 5 ∷ [])
 
 -- A call on some slot failed.
 pub record SomeSlotRose {D : Type 0} (old new : BayState D) : Type 0 where

@@ -1,4 +1,5 @@
 // The commands, a file each.
+pub(crate) mod assemble;
 pub(crate) mod examine;
 pub(crate) mod label;
 mod label_slots;

@@ -9,13 +9,14 @@ ghost use Rattle.ddf_command.specs.Call.{answer_of, work_of};
 ghost use Rattle.ddf_command.specs.Run.{IsDone, AsksForNoWrite, SomeSlotRose, is_status, is_unwritten};
 ghost use Rattle.ddf_command.specs.Status.{code_of};
 ghost use Rattle.ddf_command.specs.Tells.{EndsWith};
-ghost use Rattle.ddf_words.specs.Commands.{may_refuse};
+ghost use Rattle.ddf_words.specs.Commands.{may_refuse, takes_group};
 ghost use Rattle.ddf_words.specs.Words.{words_of, slot_count, GoWrongAt, IsAccepted, IsAsked};
 
+use crate::commands::assemble::assemble_disks;
 use crate::commands::examine::examine;
 use crate::commands::label::label;
 use crate::status::Status;
-use crate::tell::tell;
+use crate::tell::tell_line;
 use ddf_bay::Bay;
 use ddf_bytes::{Sink, Source, Stamp};
 use ddf_config::Refusal;
@@ -24,7 +25,8 @@ use ddf_words::{Command, WordFault, asked};
 use std::alloc::Global;
 
 /// Does what the words ask for, over the bay of the images that they name, and answers the exit status:
-/// 0 done, 1 it is refused, 2 the words are no command's, 3 a call on a disk failed, 5 memory ran out, 6 the input or the output failed.
+/// 0 done, 1 it is refused, 2 the words are no command's, 3 a call on a disk failed, 4 records of the group contradict each other,
+/// 5 memory ran out, 6 the input or the output failed.
 pub fn run<B: Bay, S: Source, K: Sink>(
     alloc: Global,
     words: &[String],
@@ -40,7 +42,7 @@ pub fn run<B: Bay, S: Source, K: Sink>(
     ensures wrong_words_only { result ≡ 2 → (place : ℕ) × GoWrongAt IsAccepted (words_of words.now) place }
 
     // What is told, and with which status.
-    ensures done { (asked : Asked) → IsAsked (words_of words.now) asked → IsDone (work_of B.tells (B.disks bay.old) (B.disks bay.new)) stamp asked.command (answer_of K.tells (K.output sink.old) (K.output sink.new) result) }
+    ensures done { (asked : Asked) → IsAsked (words_of words.now) asked → IsDone (work_of B.tells (B.disks bay.old) (B.disks bay.new)) stamp asked (answer_of K.tells (K.output sink.old) (K.output sink.new) result) }
 
     // It ends with one of these statuses, and at those of these that are unwritten no sector was written.
     ensures status { IsTrue (is_status result) }
@@ -55,10 +57,11 @@ pub fn run<B: Bay, S: Source, K: Sink>(
     ensures disk_fault { result ≡ 3 → SomeSlotRose (B.disks bay.old) (B.disks bay.new) }
     ensures stream_fault { result ≡ 6 → SinkRose (K.output sink.old) (K.output sink.new) }
     ensures complete { (asked : Asked) → IsAsked (words_of words.now) asked → (SomeSlotRose (B.disks bay.old) (B.disks bay.new) → ⊥)
-        → (SinkRose (K.output sink.old) (K.output sink.new) → ⊥) → (result ≡ 0) ⊎ (result ≡ 5) ⊎ ((result ≡ 1) × (may_refuse asked.command ≡ true)) }
+        → (SinkRose (K.output sink.old) (K.output sink.new) → ⊥) → (result ≡ 0) ⊎ (result ≡ 5) ⊎ ((result ≡ 1) × (may_refuse asked.command ≡ true)) ⊎ ((result ≡ 4) × (takes_group asked.command ≡ true)) }
 {
     match asked(alloc, words) {
         Ok(asked) => match asked.command {
+            Command::Assemble => assemble_disks(alloc, asked.group, bay, sink).code(),
             Command::Examine => examine(alloc, bay, sink).code(),
             Command::Label { slots } => label(alloc, slots.items(), bay, sink, &stamp).code(),
         },
@@ -80,8 +83,10 @@ fn tell_wrong_words<K: Sink>(alloc: Global, place: usize, sink: &mut K) -> Statu
     ensures ends { EndsWith 2 (refusal_line (Refusal.Words place)) (answer_of K.tells (K.output sink.old) (K.output sink.new) (code_of result)) }
     ensures stream { result ≡ Status.Stream → SinkRose (K.output sink.old) (K.output sink.new) }
 {
-    match format!(in alloc; "{}\n", RefusalText(Refusal::Words(place))) {
-        Ok(line) => tell(sink, line.as_bytes(), Status::Words),
-        Err(_) => Status::Memory,
-    }
+    tell_line(
+        alloc,
+        &RefusalText(Refusal::Words(place)),
+        Status::Words,
+        sink,
+    )
 }

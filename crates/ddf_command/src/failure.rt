@@ -6,10 +6,11 @@ ghost use Rattle.ddf_command.specs.Call.{answer_of};
 ghost use Rattle.ddf_command.specs.Status.{code_of};
 
 use crate::status::Status;
-use crate::tell::tell;
+use crate::tell::{tell, tell_line};
+use ddf_assembly::{Assembly, Differ};
 use ddf_bytes::Sink;
 use ddf_config::Refusal;
-use ddf_text::{RefusalText, disk_fault_line};
+use ddf_text::{ConflictText, RefusalText, SplitText, disk_fault_line};
 use std::alloc::Global;
 
 /// Why a command isn't done though its words are good.
@@ -19,20 +20,76 @@ pub(crate) enum Failure {
     Refused(Refusal),
     /// A call on a slot failed.
     Disk(usize),
+    /// Two newest records of the group, of the slots i and j, contradict each other.
+    Conflict {
+        i: usize,
+        j: usize,
+        sequence: u32,
+        differ: Differ,
+    },
+    /// The record of the slot j is older, and lists the disk of the slot i as missing.
+    Split {
+        i: usize,
+        j: usize,
+    },
     /// Memory ran out.
     Memory,
 }
 
-/// Prints why a command isn't done, and answers its status. It takes memory for a refusal alone.
+impl From<Assembly> for Failure {
+    ghost use Rattle.ddf_command.specs.Answers.{failure_of};
+
+    ghost from_gives = { λ fault failure. failure ≡ failure_of fault };
+
+    fn from(fault: Assembly) -> Failure {
+        match fault {
+            Assembly::NoGroup => Failure::Refused(Refusal::NoGroup),
+            Assembly::SeveralGroups(first, second) => {
+                Failure::Refused(Refusal::SeveralGroups(first, second))
+            }
+            Assembly::Conflict {
+                i,
+                j,
+                sequence,
+                differ,
+            } => Failure::Conflict {
+                i,
+                j,
+                sequence,
+                differ,
+            },
+            Assembly::Split { i, j } => Failure::Split { i, j },
+            Assembly::Memory => Failure::Memory,
+        }
+    }
+}
+
+/// Prints why a command isn't done, and answers its status. It takes memory for all but a failed call.
 pub(crate) fn tell_failure<K: Sink>(alloc: Global, failure: Failure, sink: &mut K) -> Status
     ensures told { IsToldFailure failure (answer_of K.tells (K.output sink.old) (K.output sink.new) (code_of result)) }
     ensures stream { result ≡ Status.Stream → SinkRose (K.output sink.old) (K.output sink.new) }
 {
     match failure {
-        Failure::Refused(refusal) => match format!(in alloc; "{}\n", RefusalText(refusal)) {
-            Ok(line) => tell(sink, line.as_bytes(), Status::Refused),
-            Err(_) => Status::Memory,
-        },
+        Failure::Refused(refusal) => {
+            tell_line(alloc, &RefusalText(refusal), Status::Refused, sink)
+        }
+        Failure::Conflict {
+            i,
+            j,
+            sequence,
+            differ,
+        } => {
+            let conflict = ConflictText {
+                i,
+                j,
+                sequence,
+                differ,
+            };
+            tell_line(alloc, &conflict, Status::Contradicted, sink)
+        }
+        Failure::Split { i, j } => {
+            tell_line(alloc, &SplitText { i, j }, Status::Contradicted, sink)
+        }
         Failure::Disk(slot) => tell(sink, disk_fault_line(slot).as_bytes(), Status::DiskFault),
         Failure::Memory => Status::Memory,
     }

@@ -12,6 +12,8 @@ pub(crate) enum Status {
     Words = 2,
     /// A call on a disk failed.
     DiskFault = 3,
+    /// Records of the group contradict each other.
+    Contradicted = 4,
     /// Memory ran out.
     Memory = 5,
     /// The input failed, or the output failed or took nothing.

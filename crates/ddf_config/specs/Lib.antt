@@ -10,4 +10,5 @@ pub mod Extents
 pub mod Room
 pub mod Shapes
 pub mod Served
+pub mod Unusable
 pub mod States

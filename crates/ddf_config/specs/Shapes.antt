@@ -7,6 +7,7 @@ use Rattle.ddf_primary.specs.Levels.{shape_of}
 use Rattle.ddf_primary.specs.Cells.{cells, unit_of, rows_of}
 use Rattle.ddf_secondary.specs.declared.element.ElementSize.{ElementSize}
 use Rattle.ddf_secondary.specs.Arrangement.{Arrangement, tiers_of}
+use Rattle.ddf_secondary.specs.Spots.{spots}
 use Rattle.ddf_config.specs.declared.array.Array.{Array}
 use Rattle.ddf_config.specs.ElementValue.{ElementValue}
 use Rattle.ddf_config.specs.Within.{is_complete}
@@ -57,6 +58,10 @@ secondary_level array = if length array.elements == 1 then 0x00 else array.secon
 -- what the elements that have a shape make together
 abbrev pub array_tiers : Array → Option Arrangement
 array_tiers array = result_ok (tiers_of (secondary_level array) (sizes array))
+
+-- how many blocks these hold; none where they make no array
+abbrev pub array_capacity : Array → ℕ
+array_capacity array = elim (array_tiers array) [ None ↦ 0 | Some tiers ↦ length (spots tiers) ]
 
 -- the elements make an array together; where one is unknown that can't be told
 abbrev pub has_tiers : Array → Bool

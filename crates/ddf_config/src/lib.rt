@@ -15,6 +15,7 @@ mod served;
 mod shape;
 mod state;
 mod table;
+mod usable;
 mod within;
 
 pub use array::Array;
@@ -26,9 +27,12 @@ pub use lookup::is_current;
 pub use member::{Member, SpareUse};
 pub use refusal::{FullTable, Refusal, first_refusal, refuse_if};
 pub use room::{least_start, start_on};
-pub use seat::{Seat, slot_of};
+pub use seat::{Seat, floor_of, slot_of};
 pub use served::is_served;
-pub use shape::{array_tiers, element_shape, has_shapes, has_tiers, shape_size, strip_sectors};
+pub use shape::{
+    array_capacity, array_tiers, element_shape, has_shapes, has_tiers, shape_size, strip_sectors,
+};
 pub use state::{low_state, with_low_states};
 pub use table::{put_last, put_some};
+pub use usable::unusable;
 pub use within::{has_part_within, is_part_within, is_within};

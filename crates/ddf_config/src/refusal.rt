@@ -74,11 +74,11 @@ pub enum FullTable {
     Disks,
     /// The virtual disk records.
     Arrays,
-    /// The configuration records.
+    /// The configuration records: their slots, or the places of arrays in a spare assignment record.
     Records,
     /// The record with this engine's notes.
     Notes,
-    /// The places of spares in a configuration record, or of arrays in a spare assignment record.
+    /// The places of spares in a configuration record.
     Spares,
 }
 

@@ -1,5 +1,5 @@
 ghost use Rattle.std.specs.Prelude.{◌≡◌};
-ghost use Rattle.ddf_config.specs.Seats.{slot_of};
+ghost use Rattle.ddf_config.specs.Seats.{slot_of, floor_of};
 
 /// The slot of a current member.
 #[derive(Clone, Copy, Debug, Default, PartialEq, Eq)]
@@ -24,4 +24,14 @@ pub fn slot_of(seats: &[Seat], reference: u32) -> usize
         }
     }
     64
+}
+
+/// The floor of a member's seat. None where it has no seat.
+pub fn floor_of(seats: &[Seat], reference: u32) -> Option<u64>
+    ensures { result ≡ floor_of seats.now reference }
+{
+    seats
+        .iter()
+        .find(|seat| seat.reference == reference)
+        .map(|seat| seat.floor)
 }

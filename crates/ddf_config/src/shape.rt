@@ -1,7 +1,7 @@
 //! What the elements of an array are by their numbers, and what they make together.
 ghost use Rattle.std.specs.Prelude.{◌≡◌, ◌++◌, ◌≤◌, ◌^◌, option_to_list, length, filter_map, IfOk, IfSome, OnOk};
 ghost use Rattle.ddf_secondary.specs.Sizes.{AreSmall};
-ghost use Rattle.ddf_config.specs.Shapes.{has_no_strips, strip_sectors, element_shape, shape_size, has_shape, has_shapes, part_size, sizes, array_tiers, has_tiers, IsSmall};
+ghost use Rattle.ddf_config.specs.Shapes.{has_no_strips, strip_sectors, element_shape, shape_size, has_shape, has_shapes, part_size, sizes, array_tiers, array_capacity, has_tiers, IsSmall};
 
 use crate::{Array, ElementPlan};
 use ddf_bytes::NoMemory;
@@ -130,6 +130,19 @@ pub fn array_tiers(alloc: Global, array: &Array) -> Result<Option<Tiers>, NoMemo
     match Tiers::new(array.secondary_level(), sizes.as_slice()) {
         Ok(tiers) => Ok(Some(tiers)),
         Err(_) => Ok(None),
+    }
+}
+
+/// The blocks of a complete array: those of its tiers, and 0 where it has none.
+///
+/// # Errors
+/// Memory ran out.
+pub fn array_capacity(alloc: Global, array: &Array) -> Result<u64, NoMemory>
+    ensures { IfOk result (λ blocks. blocks ≡ array_capacity array.now) }
+{
+    match array_tiers(alloc, array)? {
+        Some(tiers) => Ok(tiers.capacity()),
+        None => Ok(0),
     }
 }
 

@@ -1,13 +1,15 @@
 -- The copies of a disk, by its size and the bytes of its sectors, under its anchor.
-use Rattle.std.specs.Prelude.{ℕ, List, Bool, false, nat_lt, if◌then◌else◌, Result, Ok, Err}
+use Rattle.std.specs.Prelude.{ℕ, List, Bool, false, nat_lt, if◌then◌else◌, Option, Some, None, Result, Ok, Err}
 use Rattle.ddf_header.specs.declared.reading.Header.{Header}
 use Rattle.ddf_copy.specs.declared.copy.DiskCopy.{DiskCopy}
 use Rattle.ddf_copy.specs.declared.which.Which.{Which}
 use Rattle.ddf_copy.specs.declared.which.Which.TheVariants.{Primary, Secondary}
+use Rattle.ddf_copy.specs.declared.fault.AnchorFault.{AnchorFault}
 use Rattle.ddf_copy.specs.declared.fault.CopyFault.{CopyFault}
 use Rattle.ddf_copy.specs.declared.copies.Copies.{Copies}
 use Rattle.ddf_copy.specs.declared.newest_copy.Newest.{Newest}
 use Rattle.ddf_copy.specs.declared.newest_copy.Newest.TheVariants as newests
+use Rattle.ddf_copy.specs.Anchor.{anchor_at}
 use Rattle.ddf_copy.specs.Which.{place_of}
 use Rattle.ddf_copy.specs.Gate.{header_of}
 use Rattle.ddf_copy.specs.Sections.{and_then, copy_in, raw_at}
@@ -52,3 +54,18 @@ newest_of_copies copies = newest_in copies.level copies.primary copies.secondary
 -- The newest copy of a disk. Of two that are level the primary one stands for both.
 unfoldable pub newest_of : (size : ℕ) → (ℕ → List ℕ) → (anchor : Header) → Newest
 newest_of size sector anchor = newest_of_copies (copies_of size sector anchor)
+
+-- the copy that stands for the disk: of two that differ the primary one
+abbrev pub standing_copy : Newest → Option DiskCopy
+standing_copy (newests.One which copy) = Some copy
+standing_copy (newests.Level copy) = Some copy
+standing_copy (newests.TwoDiffer primary secondary) = Some primary
+standing_copy (newests.Neither first second) = None
+
+-- the newest copy under a disk's anchor, where it has one
+abbrev pub newest_under : (size : ℕ) → (ℕ → List ℕ) → Result Header AnchorFault → Option Newest
+newest_under size sector (Ok anchor) = Some (newest_of size sector anchor)
+newest_under size sector (Err fault) = None
+
+abbrev pub newest_at : (size : ℕ) → (ℕ → List ℕ) → Option Newest
+newest_at size sector = newest_under size sector (anchor_at size sector)

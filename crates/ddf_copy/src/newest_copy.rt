@@ -1,5 +1,5 @@
-ghost use Rattle.std.specs.Prelude.{◌≡◌};
-ghost use Rattle.ddf_copy.specs.Copies.{newest_of_both};
+ghost use Rattle.std.specs.Prelude.{◌≡◌, option_map};
+ghost use Rattle.ddf_copy.specs.Copies.{standing_copy, newest_of_both};
 ghost use Rattle.ddf_copy.specs.Shows.{IsLast, last_of};
 
 use crate::copy::DiskCopy;
@@ -27,6 +27,16 @@ impl Newest {
         ensures shown { IsLast self.now result }
     {
         self.place()
+    }
+
+    /// The copy that stands for the disk: of two that differ the primary one.
+    pub fn copy(&self) -> Option<&DiskCopy>
+        ensures { option_map (λ copy. copy.now) result ≡ standing_copy self.now }
+    {
+        match self {
+            Newest::One(_, copy) | Newest::Level(copy) | Newest::TwoDiffer(copy, _) => Some(copy),
+            Newest::Neither(..) => None,
+        }
     }
 
     fn place(&self) -> Which

@@ -93,6 +93,13 @@ impl BadBlockLog {
         self.entries.as_slice()
     }
 
+    /// How many entries there are.
+    pub fn count(&self) -> u16
+        ensures { result ≡ length self.now.entries }
+    {
+        self.entries.len() as u16
+    }
+
     /// How many spare blocks the disk has.
     pub fn spare_count(&self) -> u32
         ensures { result ≡ self.now.spare_count }

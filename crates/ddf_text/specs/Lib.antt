@@ -1,7 +1,9 @@
 pub mod Hexes
 pub mod Levels
+pub mod Conflicts
 pub mod Refusal
 pub mod Reasons
 pub mod Records
 pub mod CopyText
 pub mod Report
+pub mod GroupText

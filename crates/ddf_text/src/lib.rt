@@ -1,7 +1,9 @@
 //! Every line that `ddf` prints.
 #![tactic(auto)]
 
+mod conflict;
 mod fault;
+mod group;
 mod level;
 mod listing;
 mod name;
@@ -11,7 +13,9 @@ mod refusal;
 mod report;
 mod view;
 
+pub use conflict::{ConflictText, SplitText};
 pub use fault::disk_fault_line;
+pub use group::group_text;
 pub use refusal::RefusalText;
 pub use report::slot_text;
 pub use view::{DiskView, HeaderView, Headers};

@@ -232,7 +232,11 @@ fn push_all<T: Listed>(alloc: Global, text: &mut String, items: &[T]) -> Result<
 }
 
 /// Adds what an item displays.
-fn push<T: fmt::Display>(alloc: Global, text: &mut String, item: &T) -> Result<(), NoMemory>
+pub(crate) fn push<T: fmt::Display>(
+    alloc: Global,
+    text: &mut String,
+    item: &T,
+) -> Result<(), NoMemory>
     ensures { IfOk result (λ done. IfSome (T.output item.now) (λ bytes. string_bytes text.new ≡ string_bytes text.old ++ bytes)) }
 {
     let line = item.to_string(alloc)?;

@@ -56,6 +56,16 @@ impl<'a> View<'a> {
         View { copy, notes }
     }
 
+    /// The same view once more.
+    pub fn again(&self) -> View<'a>
+        ensures { result ≡ self.now }
+    {
+        View {
+            copy: self.copy,
+            notes: self.notes,
+        }
+    }
+
     /// The GUID of the group.
     pub fn group(&self) -> Guid
         ensures { result ≡ self.now.group }

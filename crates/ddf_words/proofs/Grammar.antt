@@ -1,51 +1,17 @@
--- Where words go wrong.
-use Rattle.std.proofs.Common.{◌≡◌, ◌≢◌, ℕ, ◌+◌, ◌-◌, ◌<◌, ◌≤◌, List, [], ◌∷◌, ◌++◌, map, inl, inr, ◌⊎◌, add-one, add_comm, length, get_or, take, drop, suc, refl, sym, ap, ◌∙◌, ⊎_elim, arith, append_assoc, length-append, length-take, length-drop, add-zero}
+-- Where the words of slots, and images and dashes, go wrong.
+use Rattle.std.proofs.Common.{◌≡◌, ◌≢◌, ℕ, ◌+◌, ◌-◌, ◌<◌, ◌≤◌, List, [], ◌∷◌, ◌++◌, map, length, get_or, take, drop, suc, refl, sym, ap, ◌∙◌, ⊎_elim, arith, append_assoc, length-append, length-take, length-drop, add-zero, None}
 use Rattle.std.proofs.lemmas.Grind.{common_steps}
 use Rattle.std.proofs.lemmas.Bool.{cases_lt}
-use Rattle.std.proofs.lemmas.List.{get_or_append_left, get_or-append-add, append-nil, take-append-drop, append_cancel_left, take_all, take_at, drop_more, take_more, map_push, get_or-take, get_or_default}
+use Rattle.std.proofs.lemmas.List.{get_or_append_left, get_or-append-add, append-nil, take-append-drop, append_cancel_left, take_at, drop_more, take_more, map_push, get_or-take, get_or_default}
 use Rattle.std.proofs.Math.Seq.{take-add, get_or-append_seam}
 use Rattle.std.specs.Prelude.{Contains}
 use Rattle.std.specs.Fmt.{decimal}
-use Rattle.ddf_words.proofs.Numbers.{many_slots, word_of_slot, small_slot, same_slot, same_slots}
-use Rattle.ddf_words.specs.Words.{Word, dashes, AreImages, AreSlotWords, NameSlots, IsNextImage, Spells, IsAsked, IsAccepted, IsCommand, Begins, GoWrongAt, LeadsWithImages}
+use Rattle.ddf_words.proofs.Numbers.{many_slots, word_of_slot, small_slot, same_slot}
+use Rattle.ddf_words.proofs.Places.{wrong_word, wanting_words}
+use Rattle.ddf_words.proofs.Requests.{examine, same_request}
+use Rattle.ddf_words.specs.Words.{Word, dashes, AreImages, AreSlotWords, NameSlots, IsNextImage, SpellsAsked, IsAsked, IsAccepted, IsRequest, Begins, GoWrongAt, LeadsWithImages}
 use Rattle.ddf_words.specs.declared.command.Asked.{Asked}
-use Rattle.ddf_words.specs.declared.command.Command.{Command}
-use Rattle.ddf_words.specs.declared.command.Command.TheVariants.{Examine, Label}
-use Rattle.std.proofs.Common.{codes, None}
-
-module _ (accepted : List Word → Type 0) (words : List Word) where
-  -- a list begins with its own first words
-  begins_itself : (n : ℕ) → accepted words → Begins accepted (take n words)
-  begins_itself n is = record { more = drop n words; goes_on = rw (take-append-drop n words) is }
-
-  -- what begins with more words begins with fewer
-  begins_fewer : (m n : ℕ) → m ≤ n → Begins accepted (take n words) → Begins accepted (take m words)
-  begins_fewer m n le longer =
-      let front : take m (take n words) ≡ take m words = grind (arith, common_steps) in
-      let parts : take m words ++ drop m (take n words) ≡ take n words = rw (← front) (take-append-drop m (take n words)) in
-      record {
-        more = drop m (take n words) ++ longer.more;
-        goes_on = rw (← append_assoc, parts) longer.goes_on;
-      }
-
-  -- one word with which no accepted list goes on
-  pub wrong_word : (place : ℕ) → place < length words → Begins accepted (take place words) → (Begins accepted (take (place + 1) words) → ⊥)
-      → GoWrongAt accepted words place
-  wrong_word place lt good bad = record {
-    refused = λ is. bad (begins_itself (place + 1) is);
-    within = omega arith;
-    good = good;
-    no_longer = λ n more le longer. bad (begins_fewer (place + 1) n (omega arith) longer);
-  }
-
-  -- words that end too early
-  pub wanting_words : Begins accepted words → (accepted words → ⊥) → GoWrongAt accepted words (length words)
-  wanting_words good bad = record {
-    refused = bad;
-    within = omega arith;
-    good = rw (take_all (length words) words (omega arith)) good;
-    no_longer = λ n more le longer. absurd (omega arith);
-  }
+use Rattle.ddf_words.specs.declared.command.Command.TheVariants.{Examine}
 
 -- ---- the words of slots
 
@@ -111,79 +77,6 @@ module _ (words : List Word) (slots : List ℕ) (place : ℕ) (lt : place < leng
       (same_slot (get_or slots' k 0) (get_or slots' place 0) (small k (omega arith)) (small place (omega arith))
       (sym (named k (omega arith)) ∙ earlier ∙ sym is ∙ named place (omega arith))))
 
--- ---- the words of a command
-
-abbrev pub examine : Word
-examine = codes "examine"
-
-abbrev pub label : Word
-label = codes "label"
-
--- the words that begin the command
-examine_begins : (place : ℕ) → Begins IsCommand (take place (examine ∷ []))
-examine_begins place = begins_itself IsCommand (examine ∷ []) place (record { command = Examine; spells = refl })
-
--- a command has a name
-name_of : (words : List Word) (command : Command) → Spells command words → (rest : List Word) × ((words ≡ examine ∷ rest) ⊎ (words ≡ label ∷ rest))
-name_of words Examine spells = ([], inl spells)
-name_of words (Label slots) spells = (spells.numbers, inr spells.parts)
-
-examine_alone : (rest : List Word) (command : Command) → Spells command (examine ∷ rest) → rest ≡ []
-examine_alone rest Examine spells = cc
-examine_alone rest (Label slots) spells = absurd (omega (arith, ap (λ (ws : List Word). get_or (get_or ws 0 []) 0 0) spells.parts))
-
-label_names : (rest : List Word) (command : Command) → Spells command (label ∷ rest) → NameSlots rest
-label_names rest Examine spells = absurd (omega (arith, ap (λ (ws : List Word). get_or (get_or ws 0 []) 0 0) spells))
-label_names rest (Label slots) spells =
-    let same : rest ≡ spells.numbers = ap (drop 1) spells.parts in
-    record { slots = slots; are_slots = rw same spells.are_slots }
-
--- words ask for one command
-pub same_command : (words : List Word) (command command' : Command) → Spells command words → Spells command' words → command ≡ command'
-same_command words Examine Examine spells spells' = refl
-same_command words Examine (Label slots) spells spells' = absurd (omega (arith, ap (λ (ws : List Word). get_or (get_or ws 0 []) 0 0) (sym spells ∙ spells'.parts)))
-same_command words (Label slots) Examine spells spells' = absurd (omega (arith, ap (λ (ws : List Word). get_or (get_or ws 0 []) 0 0) (sym spells' ∙ spells.parts)))
-same_command words (Label slots) (Label slots') spells spells' =
-    let same : spells.numbers ≡ spells'.numbers = ap (drop 1) (sym spells.parts ∙ spells'.parts) in
-    ap Label (same_slots slots slots' spells'.numbers (rw same at spells.are_slots) spells'.are_slots)
-
-pub no_command : (words : List Word) → words ≡ [] → GoWrongAt IsCommand words 0
-no_command words e = rw e (wanting_words IsCommand [] (examine_begins 0)
-    (λ is. let name = name_of [] is.command is.spells in ⊎_elim (λ one. cc) (λ other. cc) name.1))
-
-pub other_command : (words rest : List Word) (name : Word) → words ≡ name ∷ rest → name ≢ examine → name ≢ label → GoWrongAt IsCommand words 0
-other_command words rest name e not_examine not_label = rw e (wrong_word IsCommand (name ∷ rest) 0 (omega arith) (examine_begins 0)
-    (λ begun. let is = name_of _ begun.goes_on.command begun.goes_on.spells in
-    ⊎_elim (λ one. not_examine (ap (λ (ws : List Word). get_or ws 0 []) one)) (λ other. not_label (ap (λ (ws : List Word). get_or ws 0 []) other)) is.1))
-
-pub more_words : (words rest : List Word) (next : Word) → words ≡ examine ∷ next ∷ rest → GoWrongAt IsCommand words 1
-more_words words rest next e = rw e (wrong_word IsCommand (examine ∷ next ∷ rest) 1 (omega arith) (examine_begins 1)
-    (λ begun. let e : next ∷ begun.more ≡ [] = examine_alone _ begun.goes_on.command begun.goes_on.spells in cc))
-
-pub label_spelled : (words rest : List Word) (slots : List ℕ) → words ≡ label ∷ rest → AreSlotWords slots rest → Spells (Label slots) words
-label_spelled words rest slots e are = record { numbers = rest; parts = e; are_slots = are }
-
--- behind `label`, the words go wrong where the words of slots do
-pub wrong_numbers : (words rest : List Word) (place : ℕ) → words ≡ label ∷ rest → GoWrongAt NameSlots rest place → GoWrongAt IsCommand words (1 + place)
-wrong_numbers words rest place e wrong =
-    let begun : (more : List Word) → IsCommand (label ∷ more) → NameSlots more = λ more is. label_names more is.command is.spells in
-    rw (e, add_comm 1 place) record {
-      refused = λ is. wrong.refused (begun rest is);
-      within = omega (arith, wrong.within);
-      good = rw add-one (record {
-        more = wrong.good.more;
-        goes_on = record {
-          command = Label wrong.good.goes_on.slots;
-          spells = record { numbers = take place rest ++ wrong.good.more; parts = refl; are_slots = wrong.good.goes_on.are_slots };
-        };
-      });
-      no_longer = λ n more le longer.
-          let m : ℕ = n - 1 in
-          let is : n ≡ suc m = omega arith in
-          let longer : Begins IsCommand (label ∷ take m rest) = rw is at longer in
-          wrong.no_longer m (omega arith) (omega arith) (record { more = longer.more; goes_on = begun (take m rest ++ longer.more) longer.goes_on });
-    }
-
 -- ---- images and dashes
 
 abbrev HasNoDashes : List Word → Type 0
@@ -213,7 +106,7 @@ images_begin images are = record {
   more = dashes ∷ examine ∷ [];
   goes_on = record {
     asked = record { group = None; command = Examine };
-    is_asked = record { images = images; rest = examine ∷ []; are_images = are; parts = refl; no_group = refl; spells = refl };
+    is_asked = record { images = images; rest = examine ∷ []; are_images = are; parts = refl; spells = refl };
   };
 }
 
@@ -327,25 +220,25 @@ module _ (words : List Word) (count : ℕ) (leads : LeadsWithImages words count)
   parts : words ≡ take count words ++ dashes ∷ rest
   parts = sym (take-append-drop count words) ∙ ap (λ (ws : List Word). take count words ++ ws) behind
 
-  pub is_asked : (command : Command) → Spells command (drop (count + 1) words) → IsAsked words (record { group = None; command = command })
+  pub is_asked : (asked : Asked) → SpellsAsked asked.group asked.command (drop (count + 1) words) → IsAsked words asked
   unfolding rest
-  is_asked command spells = record { images = take count words; rest = rest; are_images = leads.are_images; parts = parts; no_group = refl; spells = spells }
+  is_asked asked spells = record { images = take count words; rest = rest; are_images = leads.are_images; parts = parts; spells = spells }
 
   -- words ask for one thing
-  pub same_asked : (command : Command) → Spells command (drop (count + 1) words) → (asked : Asked) → IsAsked words asked → record { group = None; command = command } ≡ asked
+  pub same_asked : (asked : Asked) → SpellsAsked asked.group asked.command (drop (count + 1) words) → (other : Asked) → IsAsked words other → asked ≡ other
   unfolding rest
-  same_asked command spells asked is =
-      let same : rest ≡ is.rest = same_rest (take count words) rest is.images is.rest leads.are_images is.are_images (sym parts ∙ is.parts) in
-      let one : command ≡ asked.command = same_command rest command asked.command spells (rw same is.spells) in
-      λ i. record { group = sym is.no_group i; command = one i }
+  same_asked asked spells other is =
+      let behind : rest ≡ is.rest = same_rest (take count words) rest is.images is.rest leads.are_images is.are_images (sym parts ∙ is.parts) in
+      let same = same_request rest asked.group other.group asked.command other.command spells (rw behind is.spells) in
+      λ i. record { group = same.0 i; command = same.1 i }
 
-  accepted_rest : (more : List Word) → IsAccepted (take count words ++ dashes ∷ more) → IsCommand more
+  accepted_rest : (more : List Word) → IsAccepted (take count words ++ dashes ∷ more) → IsRequest more
   accepted_rest more accepted =
-      let asked = accepted.is_asked in
-      let same : more ≡ asked.rest = same_rest (take count words) more asked.images asked.rest leads.are_images asked.are_images asked.parts in
-      record { command = accepted.asked.command; spells = rw same asked.spells }
+      let is = accepted.is_asked in
+      let same : more ≡ is.rest = same_rest (take count words) more is.images is.rest leads.are_images is.are_images is.parts in
+      record { asked = accepted.asked; spells = rw same is.spells }
 
-  pub goes_wrong : (place : ℕ) → GoWrongAt IsCommand (drop (count + 1) words) place → GoWrongAt IsAccepted words (count + 1 + place)
+  pub goes_wrong : (place : ℕ) → GoWrongAt IsRequest (drop (count + 1) words) place → GoWrongAt IsAccepted words (count + 1 + place)
   unfolding rest
   goes_wrong place wrong =
       let long : length rest ≡ length words - (count + 1) = length-drop (count + 1) words in
@@ -355,13 +248,12 @@ module _ (words : List Word) (count : ℕ) (leads : LeadsWithImages words count)
         good = rw (front_parts place) (record {
           more = wrong.good.more;
           goes_on = record {
-            asked = record { group = None; command = wrong.good.goes_on.command };
+            asked = wrong.good.goes_on.asked;
             is_asked = record {
               images = take count words;
               rest = take place rest ++ wrong.good.more;
               are_images = leads.are_images;
               parts = append_assoc (take count words) (dashes ∷ take place rest) wrong.good.more;
-              no_group = refl;
               spells = wrong.good.goes_on.spells;
             };
           };

@@ -1,4 +1,7 @@
 mod Lists
+mod Guids
+mod Places
+mod Requests
 mod Grammar
 mod Numbers
 pub mod Finds

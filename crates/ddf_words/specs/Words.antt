@@ -1,13 +1,16 @@
 -- The words of `ddf`: which lists of words ask for which command, and where other words go wrong.
-use Rattle.std.specs.Prelude.{◌≡◌, ◌≢◌, ℕ, ◌≤◌, ◌<◌, List, [], ◌∷◌, ◌++◌, length, map, take, slice_index_or, Bool, nat_le, Option, Some, None, codes, string_bytes, if◌then◌else◌}
+use Rattle.std.specs.Prelude.{◌≡◌, ◌≢◌, ℕ, ◌≤◌, ◌<◌, List, [], ◌∷◌, ◌++◌, length, map, take, slice_index_or, Bool, true, nat_le, Option, Some, None, codes, string_bytes, if◌then◌else◌}
 use Rattle.std.specs.List.{find, position, range_with_len}
 use Rattle.std.specs.Str.{bytes_eq}
 use Rattle.std.specs.Fmt.{decimal}
 use Rattle.std.specs.declared.string.String.{String}
 use Rattle.std.specs.declared.alloc.Global.{Global}
+use Rattle.hex.specs.Hex.{encode_lower}
+use Rattle.ddf_bytes.specs.Guids.{IsGuid}
 use Rattle.ddf_words.specs.declared.command.Asked.{Asked}
 use Rattle.ddf_words.specs.declared.command.Command.{Command}
-use Rattle.ddf_words.specs.declared.command.Command.TheVariants.{Examine, Label}
+use Rattle.ddf_words.specs.declared.command.Command.TheVariants.{Examine, Label, Assemble}
+use Rattle.ddf_words.specs.Commands.{takes_group}
 
 -- a word is its bytes
 abbrev pub Word : Type 0
@@ -49,19 +52,38 @@ pub record SpellLabel (slots : List ℕ) (words : List Word) : Type 0 where
   pub parts : words ≡ codes "label" ∷ numbers
   pub are_slots : AreSlotWords slots numbers
 
--- the words of each command, behind the images and the dashes
+-- the words of each command
 abbrev pub Spells : Command → List Word → Type 0
 Spells Examine words = words ≡ codes "examine" ∷ []
 Spells (Label slots) words = SpellLabel slots words
+Spells Assemble words = words ≡ codes "assemble" ∷ []
 
--- The words name images, then a command.
+-- The word is `@` and the 48 lower-case hexadecimal digits of the group's GUID.
+pub record NamesGroup (group : List ℕ) (word : Word) : Type 0 where
+  pub is_guid : IsGuid group
+  pub spelled : word ≡ codes "@" ++ encode_lower group
+
+-- The first word names the group, and the others are those of a command that takes one.
+pub record SpellOverGroup (group : List ℕ) (command : Command) (words : List Word) : Type 0 where
+  pub word : Word
+  pub others : List Word
+  pub parts : words ≡ word ∷ others
+  pub names_group : NamesGroup group word
+  pub takes_one : takes_group command ≡ true
+  pub spells : Spells command others
+
+-- what stands behind the images and the dashes: the words of a command, and before them the group's where one is named
+abbrev pub SpellsAsked : Option (List ℕ) → Command → List Word → Type 0
+SpellsAsked None command words = Spells command words
+SpellsAsked (Some group) command words = SpellOverGroup group command words
+
+-- The words name images, then a command, and a group before it where one is meant.
 pub record IsAsked (words : List Word) (asked : Asked) : Type 0 where
   pub images : List Word
   pub rest : List Word
   pub are_images : AreImages images
   pub parts : words ≡ images ++ dashes ∷ rest
-  pub no_group : asked.group ≡ None
-  pub spells : Spells asked.command rest
+  pub spells : SpellsAsked asked.group asked.command rest
 
 -- some command is asked for
 pub record IsAccepted (words : List Word) : Type 0 where
@@ -72,6 +94,17 @@ pub record IsAccepted (words : List Word) : Type 0 where
 pub record IsCommand (words : List Word) : Type 0 where
   pub command : Command
   pub spells : Spells command words
+
+-- some command that takes a group is spelled so
+pub record IsGroupCommand (words : List Word) : Type 0 where
+  pub command : Command
+  pub takes_one : takes_group command ≡ true
+  pub spells : Spells command words
+
+-- some command is asked for so, behind the images and the dashes
+pub record IsRequest (words : List Word) : Type 0 where
+  pub asked : Asked
+  pub spells : SpellsAsked asked.group asked.command words
 
 -- some slots are named so
 pub record NameSlots (words : List Word) : Type 0 where

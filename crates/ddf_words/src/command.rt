@@ -21,17 +21,29 @@ pub enum Command {
         /// The slots, each from 0 to 63, in the order of the words.
         slots: Seq<u8>,
     },
+    /// Shows the members and the arrays of a group.
+    Assemble,
 }
 
 impl Command {
-    ghost use Rattle.ddf_words.specs.Commands.{makes_names, may_write};
+    ghost use Rattle.ddf_words.specs.Commands.{makes_names, may_write, takes_group};
+
+    /// Whether it is done to one group, which the words may name.
+    pub fn takes_group(&self) -> bool
+        ensures { result ≡ takes_group self.now }
+    {
+        match self {
+            Command::Examine | Command::Label { .. } => false,
+            Command::Assemble => true,
+        }
+    }
 
     /// Whether it may write to the disks.
     pub fn may_write(&self) -> bool
         ensures { result ≡ may_write self.now }
     {
         match self {
-            Command::Examine => false,
+            Command::Examine | Command::Assemble => false,
             Command::Label { .. } => true,
         }
     }
@@ -41,7 +53,7 @@ impl Command {
         ensures { result ≡ makes_names self.now }
     {
         match self {
-            Command::Examine => false,
+            Command::Examine | Command::Assemble => false,
             Command::Label { .. } => true,
         }
     }

@@ -1,7 +1,8 @@
-//! The words of `ddf`: the images, and the command that is asked for.
+//! The words of `ddf`: the images, and the command that is asked for, with the group that it is done to.
 #![tactic(auto)]
 
 mod command;
+mod request;
 mod slot_words;
 mod words;
 

@@ -1,9 +1,9 @@
-// The words that the program is given: the paths of images, two dashes, and a command.
+// The words that the program is given: the paths of images, two dashes, the name of a group where one is meant, and a command.
 ghost use Rattle.std.specs.Prelude.{◌≡◌, ◌≢◌, ◌<◌, ◌≤◌, ◌⊎◌, ◌↔◌, ℕ, All, length, IsTrue, position, string_bytes, IfOk, IfErr};
-ghost use Rattle.ddf_words.specs.Words.{words_of, images_of, is_dashes, slot_count, IsNextImage, Spells, IsCommand, IsAsked, IsAccepted, LeadsWithImages, GoWrongAt};
+ghost use Rattle.ddf_words.specs.Words.{words_of, images_of, is_dashes, slot_count, IsNextImage, IsAsked, IsAccepted, LeadsWithImages, GoWrongAt};
 
-use crate::command::{Asked, Command};
-use crate::slot_words::slots_of;
+use crate::command::Asked;
+use crate::request::request_of;
 use std::alloc::Global;
 
 /// The most images that the words may name.
@@ -94,29 +94,8 @@ fn image_count(words: &[String]) -> Result<usize, usize>
     Err(words.len())
 }
 
-/// The command that the words behind the dashes spell, or where they go wrong.
-fn command_of(alloc: Global, words: &[String]) -> Result<Command, WordFault>
-    ensures found { IfOk result (λ command. Spells command (words_of words.now)) }
-    ensures place { (place : ℕ) → result ≡ Err (WordFault.Place place) → GoWrongAt IsCommand (words_of words.now) place }
-{
-    let Some((name, rest)) = words.split_first() else {
-        return Err(WordFault::Place(0));
-    };
-    match name.as_str() {
-        "examine" => match rest {
-            [] => Ok(Command::Examine),
-            _ => Err(WordFault::Place(1)),
-        },
-        "label" => match slots_of(alloc, rest) {
-            Ok(slots) => Ok(Command::Label { slots }),
-            Err(WordFault::Place(place)) => Err(WordFault::Place(1 + place)),
-            Err(WordFault::Memory) => Err(WordFault::Memory),
-        },
-        _ => Err(WordFault::Place(0)),
-    }
-}
-
-/// Reads the words: `IMAGE.. -- COMMAND`.
+/// Reads the words: `IMAGE.. -- [@GROUP] COMMAND`. `GROUP` is 48 lower-case hexadecimal digits, the GUID of the
+/// group that the command is done to.
 pub fn asked(alloc: Global, words: &[String]) -> Result<Asked, WordFault>
     ensures ok { IfOk result (IsAsked (words_of words.now)) }
     ensures every { (asked : Asked) → IsAsked (words_of words.now) asked → (result ≡ Ok asked) ⊎ (result ≡ Err WordFault.Memory) }
@@ -126,11 +105,8 @@ pub fn asked(alloc: Global, words: &[String]) -> Result<Asked, WordFault>
         Ok(images) => images,
         Err(place) => return Err(WordFault::Place(place)),
     };
-    match command_of(alloc, &words[images + 1..]) {
-        Ok(command) => Ok(Asked {
-            group: None,
-            command,
-        }),
+    match request_of(alloc, &words[images + 1..]) {
+        Ok(asked) => Ok(asked),
         Err(WordFault::Place(place)) => Err(WordFault::Place(images + 1 + place)),
         Err(WordFault::Memory) => Err(WordFault::Memory),
     }

@@ -19,6 +19,8 @@ const PLACE_LINE: &str = "\
 anchor 65535 primary 65495 secondary 65455 workspace 32687 length 32768
 ";
 
+const GROUP: &str = "@524444462d47202052854b00000000000000000000000007";
+
 const EXAMINE_TWO: &[&str] = &["d0", "d1", "--", "examine"];
 
 /// A slot with these three headers, and zeros behind them.
@@ -198,7 +200,7 @@ fn an_output_that_fails_is_told(rt: HostRuntime) -> Result<(), Fail> {
 #[test]
 fn words_go_wrong_at_a_place(rt: HostRuntime) -> Result<(), Fail> {
     let alloc = rt.alloc();
-    let cases: [(&[&str], &str); 9] = [
+    let cases: [(&[&str], &str); 13] = [
         (&[], "refused 10 word 0\n"),
         (&["d0"], "refused 10 word 1\n"),
         (&["d0", "d1", "d0", "--", "examine"], "refused 10 word 2\n"),
@@ -211,6 +213,10 @@ fn words_go_wrong_at_a_place(rt: HostRuntime) -> Result<(), Fail> {
         ),
         (&["d0", "--", "examine", "x"], "refused 10 word 3\n"),
         (&["d0", "--", "--", "examine"], "refused 10 word 2\n"),
+        (&["d0", "--", "assemble", "x"], "refused 10 word 3\n"),
+        (&["d0", "--", GROUP], "refused 10 word 3\n"),
+        (&["d0", "--", GROUP, "examine"], "refused 10 word 3\n"),
+        (&["d0", "--", "@07", "assemble"], "refused 10 word 2\n"),
     ];
     for (texts, text) in cases {
         let words = words_of(alloc, texts)?;

@@ -29,11 +29,24 @@ pub fn called(
     room: usize,
     failing: &[u64],
 ) -> Result<(u8, Vec<u8>), Fail> {
+    called_at(rt, alloc, texts, bay, room, failing, STAMP)
+}
+
+/// The same with another stamp.
+pub fn called_at(
+    rt: &impl Abort,
+    alloc: Global,
+    texts: &[&str],
+    bay: &mut impl Bay,
+    room: usize,
+    failing: &[u64],
+    stamp: Stamp,
+) -> Result<(u8, Vec<u8>), Fail> {
     let words = words_of(alloc, texts)?;
     let mut source = MemorySource::new(Vec::new(alloc), Vec::new(alloc));
     let mut sink = MemorySink::new(alloc, room, Vec::from_slice(alloc, failing)?)?;
     assert_eq!(rt; bay.slots(), slot_paths(&words).len());
-    let status = run(alloc, &words, bay, &mut source, &mut sink, STAMP);
+    let status = run(alloc, &words, bay, &mut source, &mut sink, stamp);
     Ok((status, Vec::from_slice(alloc, sink.bytes())?))
 }
 

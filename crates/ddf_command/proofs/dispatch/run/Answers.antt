@@ -1,6 +1,6 @@
 use Rattle.std.proofs.Common.{◌≡◌, ◌∙◌, ℕ, Err, sym, ap, subst, inl, inr, ⊎_elim, refl}
 use Rattle.ddf_words.specs.declared.command.Asked.{Asked}
-use Rattle.ddf_words.specs.declared.command.Command.TheVariants.{Examine, Label}
+use Rattle.ddf_words.specs.declared.command.Command.TheVariants.{Assemble, Examine, Label}
 use Rattle.ddf_words.specs.Words.{words_of, IsAccepted}
 use Rattle.ddf_config.specs.declared.refusal.Refusal.TheVariants.{Words}
 use Rattle.ddf_text.specs.Refusal.{refusal_line}
@@ -8,21 +8,39 @@ use Rattle.ddf_command.specs.Call.{answer_of}
 use Rattle.ddf_command.specs.Tells.{EndsWith}
 use Rattle.ddf_command.proofs.Endings.{fault_cause, no_fault, done_nothing, one_place, same_asked, stream_status}
 use Rattle.ddf_command.proofs.LabelEnds.{label_no_fault}
+use Rattle.ddf_command.proofs.Outcomes.{assemble_no_disk, assemble_no_fault}
 use Rattle.ddf_command.proofs.dispatch.run.Goals as goal
+
+pub returns-in-Assemble-clause-done : goal.returns-in-Assemble-clause-done
+returns-in-Assemble-clause-done g c = λ asked is.
+    let same : c.in-Ok.asked ≡ asked = same_asked c.asked.result c.in-Ok.asked asked c.in-Ok.is (c.asked.ensures.every asked is) in
+    let one : Assemble ≡ asked.command = sym c.in-Assemble.is ∙ ap (λ (a : Asked). a.command) same in
+    let group : c.in-Ok.asked.group ≡ asked.group = ap (λ (a : Asked). a.group) same in
+    rw (← one, ← group) (rw c.code.ensures c.assemble_disks.ensures.assembled)
+
+pub returns-in-Assemble-clause-disk_fault : goal.returns-in-Assemble-clause-disk_fault
+returns-in-Assemble-clause-disk_fault g c = λ e. absurd (assemble_no_disk _ _ _ c.assemble_disks.ensures.assembled (sym c.code.ensures ∙ e))
+
+pub returns-in-Assemble-clause-complete : goal.returns-in-Assemble-clause-complete
+returns-in-Assemble-clause-complete g c = λ asked is none good.
+    let same : c.in-Ok.asked ≡ asked = same_asked c.asked.result c.in-Ok.asked asked c.in-Ok.is (c.asked.ensures.every asked is) in
+    let one : Assemble ≡ asked.command = sym c.in-Assemble.is ∙ ap (λ (a : Asked). a.command) same in
+    let status = assemble_no_fault _ _ _ c.assemble_disks.ensures.assembled (λ six. good (c.assemble_disks.ensures.stream (stream_status c.assemble_disks.result six))) in
+    rw (c.code.ensures, ← one) (⊎_elim inl (λ other. inr (⊎_elim inl (λ later. inr (⊎_elim (λ refused. inl (refused, refl)) (λ four. inr (four, refl)) later)) other)) status)
 
 pub returns-in-Examine-clause-done : goal.returns-in-Examine-clause-done
 returns-in-Examine-clause-done g c = λ asked is.
     let same : c.in-Ok.asked ≡ asked = same_asked c.asked.result c.in-Ok.asked asked c.in-Ok.is (c.asked.ensures.every asked is) in
     let one : Examine ≡ asked.command = sym c.in-Examine.is ∙ ap (λ (a : Asked). a.command) same in
-    rw (← one) (rw c.code.ensures c.examine.ensures.examined)
+    rw (← one) (rw c.code-in-Examine.ensures c.examine.ensures.examined)
 
 pub returns-in-Examine-clause-disk_fault : goal.returns-in-Examine-clause-disk_fault
-returns-in-Examine-clause-disk_fault g c = λ e. fault_cause _ _ c.examine.ensures.examined (sym c.code.ensures ∙ e)
+returns-in-Examine-clause-disk_fault g c = λ e. fault_cause _ _ c.examine.ensures.examined (sym c.code-in-Examine.ensures ∙ e)
 
 pub returns-in-Examine-clause-complete : goal.returns-in-Examine-clause-complete
 returns-in-Examine-clause-complete g c = λ asked is none good.
     let status = no_fault _ _ c.examine.ensures.examined none (λ six. good (c.examine.ensures.stream (stream_status c.examine.result six))) in
-    rw c.code.ensures (⊎_elim inl (λ five. inr (inl five)) status)
+    rw c.code-in-Examine.ensures (⊎_elim inl (λ five. inr (inl five)) status)
 
 pub returns-in-Label-clause-done : goal.returns-in-Label-clause-done
 returns-in-Label-clause-done g c = λ asked is.
@@ -36,7 +54,7 @@ returns-in-Label-clause-complete g c = λ asked is none good.
     let same : c.in-Ok.asked ≡ asked = same_asked c.asked.result c.in-Ok.asked asked c.in-Ok.is (c.asked.ensures.every asked is) in
     let one : Label c.in-Label.slots ≡ asked.command = sym c.in-Label.is ∙ ap (λ (a : Asked). a.command) same in
     let status = label_no_fault _ _ _ _ c.label.ensures.labelled none (λ six. good (c.label.ensures.stream (stream_status c.label.result six))) in
-    rw (c.code-in-Label.ensures, ← one) (⊎_elim inl (λ other. inr (⊎_elim inl (λ refused. inr (refused, refl)) other)) status)
+    rw (c.code-in-Label.ensures, ← one) (⊎_elim inl (λ other. inr (⊎_elim inl (λ refused. inr (inl (refused, refl))) other)) status)
 
 pub returns-in-Err-Place-clause-wrong_words : goal.returns-in-Err-Place-clause-wrong_words
 returns-in-Err-Place-clause-wrong_words g c = λ place wrong.
@@ -55,4 +73,4 @@ pub returns-in-Err-Place-clause-complete : goal.returns-in-Err-Place-clause-comp
 returns-in-Err-Place-clause-complete g c = λ asked is none good. absurd ((c.asked.ensures.place c.in-Err-Place.place (c.in-Err-Place.is ∙ ap Err c.in-Err-Place.field-0-is)).refused (record { asked = asked; is_asked = is }))
 
 pub returns-in-Err-Memory-clause-done : goal.returns-in-Err-Memory-clause-done
-returns-in-Err-Memory-clause-done g c = λ asked is. rw c.code-in-Err-Memory.ensures (done_nothing _ _ _ _ _ asked.command)
+returns-in-Err-Memory-clause-done g c = λ asked is. rw c.code-in-Err-Memory.ensures (done_nothing _ _ _ _ _ asked.group asked.command)

@@ -1,0 +1,2 @@
+pub mod Partway
+pub mod Named

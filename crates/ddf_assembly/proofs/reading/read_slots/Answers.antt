@@ -1,0 +1,37 @@
+use Rattle.std.proofs.Common.{◌≡◌, ◌<◌, length, arith, Option}
+use Rattle.std.specs.Prelude.{IfSome}
+use Rattle.ddf_copy.specs.declared.newest_copy.Newest.{Newest}
+use Rattle.ddf_copy.specs.Whole.{IsNewestCopy}
+use Rattle.ddf_bay.proofs.Looks.{reads_then}
+use Rattle.ddf_assembly.proofs.Partway.{all_more, partway_cut, partway_more, partway_read}
+use Rattle.ddf_assembly.proofs.reading.read_slots.Goals as goal
+
+pub loop-slot-preserved : goal.loop-slot-preserved
+loop-slot-preserved g c =
+    let so_far = c.loop-slot.invariant in
+    let read = c.in_ok-newest.ensures.read in
+    record {
+      end = so_far.end;
+      partway = rw c.in_ok-push.ensures.items (partway_more g.B.Bay.tells _ _ _ c.loop-slot.slot c.loop-slot.all.items read.out c.in_ok-newest.newest so_far.partway so_far.reads.same_sizes so_far.reads.same_held read.look read.newest);
+      reads = reads_then so_far.reads c.read_or_leave.ensures.reads;
+      writable = rw c.in_ok-push.ensures.items (all_more (λ (one : Option Newest). IfSome one IsNewestCopy) c.loop-slot.all.items c.in_ok-newest.newest so_far.writable c.in_ok-newest.ensures.writable);
+    }
+
+pub returns-in_err-newest-clause-looked : goal.returns-in_err-newest-clause-looked
+returns-in_err-newest-clause-looked g c =
+    let so_far = c.loop-slot.invariant in
+    let read = c.read_or_leave.ensures.read in
+    let below : c.loop-slot.slot < length (g.B.Bay.disks c.args.bay.now).sizes = omega (arith, c.loop-slot-test.true, so_far.end) in
+    partway_cut g.B.Bay.tells _ _ _ c.loop-slot.slot c.loop-slot.all.items read.out so_far.partway so_far.reads.same_sizes so_far.reads.same_held read.look below
+
+pub returns-in_err-push-clause-looked : goal.returns-in_err-push-clause-looked
+returns-in_err-push-clause-looked g c =
+    let so_far = c.loop-slot.invariant in
+    let read = c.read_or_leave.ensures.read in
+    let below : c.loop-slot.slot < length (g.B.Bay.disks c.args.bay.now).sizes = omega (arith, c.loop-slot-test.true, so_far.end) in
+    partway_cut g.B.Bay.tells _ _ _ c.loop-slot.slot c.loop-slot.all.items read.out so_far.partway so_far.reads.same_sizes so_far.reads.same_held read.look below
+
+pub returns-clause-read : goal.returns-clause-read
+returns-clause-read g c =
+    let all : c.loop-slot.slot ≡ length (g.B.Bay.disks c.args.bay.now).sizes = omega (arith, c.loop-slot-test.false, c.loop-slot.auto.slot-end, c.loop-slot.invariant.end) in
+    partway_read g.B.Bay.tells _ _ c.loop-slot.slot c.loop-slot.all.items all c.loop-slot.invariant.partway

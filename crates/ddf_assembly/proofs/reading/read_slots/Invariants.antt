@@ -1,0 +1,13 @@
+use Rattle.std.proofs.Common.{◌≡◌, length}
+use Rattle.ddf_bay.specs.ReadsOnly.{ReadsOnly}
+use Rattle.ddf_assembly.specs.Reading.{AreNewest}
+use Rattle.ddf_assembly.proofs.Partway.{IsPartway}
+use Rattle.ddf_assembly.proofs.reading.read_slots.Given as goal
+
+abbrev pub invariant-loop-slot : goal.invariant-loop-slot
+invariant-loop-slot g l = record {
+  end : l.slot-end ≡ length (g.B.Bay.disks l.initial.bay).sizes;
+  partway : IsPartway g.B.Bay.tells (g.B.Bay.disks l.initial.bay) (g.B.Bay.disks l.bay) l.slot l.all.items;
+  reads : ReadsOnly (g.B.Bay.disks l.initial.bay) (g.B.Bay.disks l.bay);
+  writable : AreNewest l.all.items;
+}

@@ -1,0 +1,42 @@
+-- What assembly takes from the slots of a bay, and what it answers.
+use Rattle.std.specs.Prelude.{◌≡◌, ℕ, suc, Bool, List, [], ◌∷◌, length, Option, None, Result, IfOk, if◌then◌else◌}
+use Rattle.ddf_bytes.specs.declared.no_memory.NoMemory.{NoMemory}
+use Rattle.ddf_bay.specs.State.{BayState, on_slot}
+use Rattle.ddf_bay.specs.ReadsOnly.{AreFailed, LooksAt}
+use Rattle.ddf_copy.specs.declared.newest_copy.Newest.{Newest}
+use Rattle.ddf_copy.specs.Copies.{newest_at}
+use Rattle.ddf_group.specs.declared.answer.Assembly.{Assembly}
+use Rattle.ddf_assembly.specs.Group.{GroupValue, UpToMemory, group_of}
+
+-- the newest copy of a slot, and none where it is left out
+abbrev pub newest_or : {D : Type 0} → BayState D → (slot : ℕ) → (out : Bool) → Option Newest
+newest_or disks slot out = if out then None else on_slot newest_at disks slot
+
+-- those of so many slots, from one on
+abbrev pub newest_from : {D : Type 0} → BayState D → (slot : ℕ) → (left : List Bool) → List (Option Newest)
+newest_from disks slot [] = []
+newest_from disks slot (out ∷ left) = newest_or disks slot out ∷ newest_from disks (suc slot) left
+
+-- A slot was read, or is left out where a call of this look failed on it.
+pub record IsSlotRead {D : Type 0} (tells : Type 0) (old new : BayState D) (slot : ℕ) (result : Result (Option Newest) NoMemory) : Type 0 where
+  pub out : Bool
+  pub look : LooksAt old new slot out
+  pub newest : tells → IfOk result (λ newest. newest ≡ newest_or old slot out)
+
+-- It is told of each slot whether it is left out: where a call of this look failed on it, and nowhere else.
+pub record IsLooked {D : Type 0} (old new : BayState D) : Type 0 where
+  pub left : List Bool
+  pub every_slot : length left ≡ length old.sizes
+  pub are_failed : AreFailed old new left
+
+-- These are the newest copies of the others.
+pub record IsRead {D : Type 0} (tells : Type 0) (old new : BayState D) (newest : List (Option Newest)) : Type 0 where
+  pub looked : IsLooked old new
+  pub answer : tells → newest ≡ newest_from old 0 looked.left
+
+-- What is answered is what these copies give together; want of memory stands beside each answer.
+pub record IsAssembled {D : Type 0} (tells : Type 0) (old new : BayState D) (named : Option (List ℕ)) (result : Result GroupValue Assembly) : Type 0 where
+  pub looked : IsLooked old new
+  pub newest : List (Option Newest)
+  pub read : tells → newest ≡ newest_from old 0 looked.left
+  pub answer : UpToMemory result (group_of newest named)

@@ -1,0 +1,79 @@
+//! Assembly: which group the disks of a bay are.
+ghost use Rattle.std.specs.Prelude.{◌≡◌, map, IfOk};
+ghost use Rattle.ddf_bay.specs.ReadsOnly.{ReadsOnly};
+ghost use Rattle.ddf_group.specs.Assembled.{UpToMemory as FoundUpToMemory, assembled};
+ghost use Rattle.ddf_group.specs.Shown.{shown_of};
+ghost use Rattle.ddf_assembly.specs.Group.{UpToMemory, group_of};
+ghost use Rattle.ddf_assembly.specs.Reading.{AreNewest};
+ghost use Rattle.ddf_assembly.specs.Slots.{IsAssembled};
+
+use crate::Group;
+use crate::reading::read_slots;
+use crate::seats::seats_of;
+use ddf_bay::Bay;
+use ddf_bytes::{Guid, NoMemory, Seq};
+use ddf_copy::Newest;
+use ddf_group::{Assembled, Assembly, Shown, assembled, shown_of};
+use std::alloc::Global;
+
+/// What slots with these newest copies show.
+fn shown(alloc: Global, newest: &[Option<Newest>]) -> Result<Vec<Shown<'_>>, NoMemory>
+    ensures { IfOk result (λ shown. shown.items ≡ map shown_of newest.now) }
+{
+    let mut all = Vec::with_capacity(alloc, newest.len())?;
+    for one in newest {
+        all.push(shown_of(one))?;
+    }
+    Ok(all)
+}
+
+/// The group that newest copies give, where one is named or not.
+fn found(
+    alloc: Global,
+    newest: &[Option<Newest>],
+    named: Option<Guid>,
+) -> Result<Assembled, Assembly>
+    requires { AreNewest newest.now }
+    ensures { FoundUpToMemory result (assembled (map shown_of newest.now) named) }
+{
+    let shown = shown(alloc, newest)?;
+    assembled(alloc, &shown, named)
+}
+
+/// The group that newest copies give, with its seats.
+#[tactic(auto, unfolding(crate::specs::Group::group_of))]
+fn group_of(
+    alloc: Global,
+    newest: Vec<Option<Newest>>,
+    named: Option<Guid>,
+) -> Result<Group, Assembly>
+    requires { AreNewest newest.items }
+    ensures { UpToMemory result (group_of newest.items named) }
+{
+    let found = found(alloc, &newest, named)?;
+    let seats = seats_of(alloc, &newest, found.seats.items())?;
+    Ok(Group {
+        config: found.config,
+        seats: Seq::new(seats),
+        absent: found.absent,
+        lagging: found.lagging,
+        newest: Seq::new(newest),
+    })
+}
+
+/// Reads the newest copy of each slot of a bay and answers the group that they give together (SNIA DDF 2.0, and profile where it is
+/// silent): the named one, or the only one that no other absorbs. Nothing is written. A slot is left out where one of its reads
+/// failed in this call, or where it has no sector and failed its sync.
+///
+/// # Errors
+/// No slot shows the group; no group is named and there are several; two newest records contradict each other; an older record lists
+/// the disk of a newest one as missing; or memory ran out.
+pub fn assemble<B: Bay>(alloc: Global, bay: &mut B, group: Option<Guid>) -> Result<Group, Assembly>
+    ensures assembled { IsAssembled B.tells (B.disks bay.old) (B.disks bay.new) group result }
+    ensures reads { ReadsOnly (B.disks bay.old) (B.disks bay.new) }
+{
+    match read_slots(alloc, bay) {
+        Ok(newest) => group_of(alloc, newest, group),
+        Err(NoMemory) => Err(Assembly::Memory),
+    }
+}

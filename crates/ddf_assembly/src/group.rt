@@ -1,0 +1,60 @@
+use ddf_bytes::Seq;
+use ddf_config::{Config, Seat};
+use ddf_copy::Newest;
+use std::marker::Model;
+
+/// A group of disks, with its configuration, and the newest copy of each slot of the bay that it was assembled from.
+#[derive(Debug, Drop)]
+pub struct Group {
+    pub(crate) config: Config,
+    pub(crate) seats: Seq<Seat>,
+    pub(crate) absent: Seq<u32>,
+    pub(crate) lagging: Seq<usize>,
+    pub(crate) newest: Seq<Option<Newest>>,
+}
+
+impl Model for Group {
+    ghost use Rattle.ddf_assembly.specs.Group.{GroupValue};
+
+    ghost Value = { GroupValue };
+
+    ghost view = { λ group. record {
+      config = group.config;
+      seats = group.seats;
+      absent = group.absent;
+      lagging = group.lagging;
+      newest = group.newest;
+    } };
+}
+
+impl Group {
+    ghost use Rattle.std.specs.Prelude.{◌≡◌};
+
+    /// The configuration, as its newest disks record it.
+    pub fn config(&self) -> &Config
+        ensures { result.now ≡ self.now.config }
+    {
+        &self.config
+    }
+
+    /// The seats of its current members, in the order of their slots.
+    pub fn seats(&self) -> &[Seat]
+        ensures { result.now ≡ self.now.seats }
+    {
+        self.seats.items()
+    }
+
+    /// The references of the current members that no slot is, in table order.
+    pub fn absent(&self) -> &[u32]
+        ensures { result.now ≡ self.now.absent }
+    {
+        self.absent.items()
+    }
+
+    /// The slots of current members that don't hold the configuration in two level copies, in rising order.
+    pub fn lagging(&self) -> &[usize]
+        ensures { result.now ≡ self.now.lagging }
+    {
+        self.lagging.items()
+    }
+}

@@ -1,0 +1,86 @@
+// The words behind the dashes: the name of a group where one is meant, and a command.
+ghost use Rattle.std.specs.Prelude.{◌≡◌, ℕ, List, true, string_bytes, IfOk, IfSome};
+ghost use Rattle.ddf_words.specs.Commands.{takes_group};
+ghost use Rattle.ddf_words.specs.Words.{words_of, NamesGroup, Spells, SpellsAsked, IsCommand, IsGroupCommand, IsRequest, GoWrongAt};
+
+use crate::command::{Asked, Command};
+use crate::slot_words::slots_of;
+use crate::words::WordFault;
+use ddf_bytes::Guid;
+use std::alloc::Global;
+
+/// The group that a word names: `@` and the 48 lower-case hexadecimal digits of its GUID.
+fn group_of(word: &String) -> Option<Guid>
+    ensures found { IfSome result (λ group. NamesGroup group (string_bytes word.now)) }
+    ensures every { (group : List ℕ) → NamesGroup group (string_bytes word.now) → result ≡ Some group }
+{
+    match word.as_bytes() {
+        [b'@', digits @ ..] => Guid::parse(digits),
+        _ => None,
+    }
+}
+
+/// The command over a group that the words spell, or where they go wrong.
+fn group_command_of(words: &[String]) -> Result<Command, WordFault>
+    ensures takes { IfOk result (λ command. takes_group command ≡ true) }
+    ensures found { IfOk result (λ command. Spells command (words_of words.now)) }
+    ensures place { (place : ℕ) → result ≡ Err (WordFault.Place place) → GoWrongAt IsGroupCommand (words_of words.now) place }
+{
+    let Some((name, rest)) = words.split_first() else {
+        return Err(WordFault::Place(0));
+    };
+    match name.as_str() {
+        "assemble" => match rest {
+            [] => Ok(Command::Assemble),
+            _ => Err(WordFault::Place(1)),
+        },
+        _ => Err(WordFault::Place(0)),
+    }
+}
+
+/// The command that the words spell, or where they go wrong.
+fn command_of(alloc: Global, words: &[String]) -> Result<Command, WordFault>
+    ensures found { IfOk result (λ command. Spells command (words_of words.now)) }
+    ensures place { (place : ℕ) → result ≡ Err (WordFault.Place place) → GoWrongAt IsCommand (words_of words.now) place }
+{
+    let Some((name, rest)) = words.split_first() else {
+        return Err(WordFault::Place(0));
+    };
+    match name.as_str() {
+        "examine" => match rest {
+            [] => Ok(Command::Examine),
+            _ => Err(WordFault::Place(1)),
+        },
+        "label" => match slots_of(alloc, rest) {
+            Ok(slots) => Ok(Command::Label { slots }),
+            Err(WordFault::Place(place)) => Err(WordFault::Place(1 + place)),
+            Err(WordFault::Memory) => Err(WordFault::Memory),
+        },
+        _ => group_command_of(words),
+    }
+}
+
+/// What the words behind the dashes ask for, or where they go wrong.
+pub(crate) fn request_of(alloc: Global, words: &[String]) -> Result<Asked, WordFault>
+    ensures found { IfOk result (λ asked. SpellsAsked asked.group asked.command (words_of words.now)) }
+    ensures place { (place : ℕ) → result ≡ Err (WordFault.Place place) → GoWrongAt IsRequest (words_of words.now) place }
+{
+    let Some((first, rest)) = words.split_first() else {
+        return Err(WordFault::Place(0));
+    };
+    let Some(group) = group_of(first) else {
+        let command = command_of(alloc, words)?;
+        return Ok(Asked {
+            group: None,
+            command,
+        });
+    };
+    match group_command_of(rest) {
+        Ok(command) => Ok(Asked {
+            group: Some(group),
+            command,
+        }),
+        Err(WordFault::Place(place)) => Err(WordFault::Place(1 + place)),
+        Err(WordFault::Memory) => Err(WordFault::Memory),
+    }
+}
