@@ -1,0 +1,119 @@
+-- An array that is within its level after a loss was so before.
+use Rattle.std.proofs.Common.{◌≡◌, ◌∙◌, ⊎_elim, ℕ, ◌+◌, ◌≤◌, Bool, true, false, not, List, [], ◌∷◌, Option, Some, None, refl, sym, ap, arith, length, ◌&&◌, ◌||◌}
+use Rattle.std.specs.Prelude.{nat_le, is_some, count_by, ◌==◌, if◌then◌else◌}
+use Rattle.std.specs.List.{list_any, list_all}
+use Rattle.std.proofs.lemmas.Bool.{leb-true, le-leb}
+use Rattle.std.proofs.lemmas.List.Sums.{sum_by-cons}
+use Rattle.ddf_primary.specs.Placement.{Placement}
+use Rattle.ddf_secondary.specs.Arrangement.{Arrangement}
+use Rattle.ddf_config.specs.Within.{has_parity, lacks_one, has_enough}
+use Rattle.ddf_array.specs.declared.place.Place.{Place}
+use Rattle.ddf_array.specs.declared.part.Part.{Part}
+use Rattle.ddf_array.specs.Places.{is_available}
+use Rattle.ddf_array.specs.Levels.{level_of}
+use Rattle.ddf_array.specs.Cells.{is_in_every}
+use Rattle.ddf_array.specs.Volume.{Volume}
+use Rattle.ddf_array.specs.Within.{is_part_within, is_mirrored, is_within}
+use Rattle.ddf_array.specs.Losing.{IsLostPlace, AreLostPlaces, AreLostParts, IsLoss}
+use Rattle.ddf_array.proofs.Bools.{and_first, and_second}
+use Rattle.ddf_array.proofs.Losses.{same_parts}
+
+or_keeps : (a b c d : Bool) → (a ≡ true → b ≡ true) → (c ≡ true → d ≡ true) → (a || c) ≡ true → (b || d) ≡ true
+or_keeps true b c d first rest e = ap (λ x. x || d) (first refl)
+or_keeps false true c d first rest e = refl
+or_keeps false false c d first rest e = rest e
+
+and_keeps : (a b c d : Bool) → (a ≡ true → b ≡ true) → (c ≡ true → d ≡ true) → (a && c) ≡ true → (b && d) ≡ true
+and_keeps true b true d first rest e = ap (λ x. x && d) (first refl) ∙ rest refl
+and_keeps true b false d first rest e = absurd (cc)
+and_keeps false b c d first rest e = absurd (cc)
+
+-- ---- places
+
+none_there : (slot : Option ℕ) → slot ≡ None → is_some slot ≡ true → ⊥
+none_there None is e = cc
+none_there (Some s) is e = cc
+
+available_keeps : (before after : Place) → IsLostPlace before after → is_available after ≡ true → is_available before ≡ true
+available_keeps before after lost e =
+    let synced = sym lost.same_sync ∙ and_first after.synced (is_some after.slot) e in
+    let there = and_second after.synced (is_some after.slot) e in
+    ap (λ b. b && is_some before.slot) synced
+    ∙ ⊎_elim (λ same. ap is_some (sym same) ∙ there) (λ none. absurd (none_there after.slot none there)) lost.slot_is
+
+one_away : (x y : Bool) → (y ≡ true → x ≡ true) → (if not x then 1 else 0) ≤ (if not y then 1 else 0)
+one_away true y keeps = omega arith
+one_away false true keeps = let never : false ≡ true = keeps refl in absurd (cc)
+one_away false false keeps = omega arith
+
+any_keeps : (befores afters : List Place) → AreLostPlaces befores afters → list_any is_available afters ≡ true → list_any is_available befores ≡ true
+any_keeps [] [] lost e = e
+any_keeps [] (after ∷ afters) lost e = absurd lost
+any_keeps (before ∷ befores) [] lost e = absurd lost
+any_keeps (before ∷ befores) (after ∷ afters) lost e =
+    or_keeps (is_available after) (is_available before) (list_any is_available afters) (list_any is_available befores) (available_keeps before after lost.0) (any_keeps befores afters lost.1) e
+
+all_keeps : (befores afters : List Place) → AreLostPlaces befores afters → list_all is_available afters ≡ true → list_all is_available befores ≡ true
+all_keeps [] [] lost e = e
+all_keeps [] (after ∷ afters) lost e = absurd lost
+all_keeps (before ∷ befores) [] lost e = absurd lost
+all_keeps (before ∷ befores) (after ∷ afters) lost e =
+    and_keeps (is_available after) (is_available before) (list_all is_available afters) (list_all is_available befores) (available_keeps before after lost.0) (all_keeps befores afters lost.1) e
+
+abbrev away : List Place → ℕ
+away places = count_by (λ place. not (is_available place)) places
+
+fewer_away : (befores afters : List Place) → AreLostPlaces befores afters → away befores ≤ away afters
+fewer_away [] [] lost = omega arith
+fewer_away [] (after ∷ afters) lost = absurd lost
+fewer_away (before ∷ befores) [] lost = absurd lost
+fewer_away (before ∷ befores) (after ∷ afters) lost =
+    let weight : Place → ℕ = λ place. if not (is_available place) then 1 else 0 in
+    let old : away (before ∷ befores) ≡ weight before + away befores = sum_by-cons weight before befores in
+    let new : away (after ∷ afters) ≡ weight after + away afters = sum_by-cons weight after afters in
+    let one : weight before ≤ weight after = one_away (is_available before) (is_available after) (available_keeps before after lost.0) in
+    omega (arith, old, new, one, fewer_away befores afters lost.1)
+
+enough_by : (x y : Bool) (befores afters : List Place) → AreLostPlaces befores afters
+    → (if x then list_any is_available afters else (if y then lacks_one is_available afters else list_all is_available afters)) ≡ true
+    → (if x then list_any is_available befores else (if y then lacks_one is_available befores else list_all is_available befores)) ≡ true
+enough_by true y befores afters lost e = any_keeps befores afters lost e
+enough_by false true befores afters lost e =
+    let few = leb-true (away afters) 1 e in
+    le-leb (away befores) 1 (omega (arith, few, fewer_away befores afters lost))
+enough_by false false befores afters lost e = all_keeps befores afters lost e
+
+-- ---- elements
+
+part_keeps : (before after : Part) → after.shape ≡ before.shape → AreLostPlaces before.places after.places → is_part_within after ≡ true → is_part_within before ≡ true
+part_keeps before after same lost e =
+    let level = level_of before.shape.layout in
+    enough_by (level == 0x01) (has_parity level) before.places after.places lost
+    (ap (λ (s : Placement). has_enough (level_of s.layout) is_available after.places) (sym same) ∙ e)
+
+any_part : (befores afters : List Part) → AreLostParts befores afters → list_any is_part_within afters ≡ true → list_any is_part_within befores ≡ true
+any_part [] [] lost e = e
+any_part [] (after ∷ afters) lost e = absurd lost
+any_part (before ∷ befores) [] lost e = absurd lost
+any_part (before ∷ befores) (after ∷ afters) lost e =
+    or_keeps (is_part_within after) (is_part_within before) (list_any is_part_within afters) (list_any is_part_within befores) (part_keeps before after lost.0.0 lost.0.1) (any_part befores afters lost.1) e
+
+all_part : (befores afters : List Part) → AreLostParts befores afters → list_all is_part_within afters ≡ true → list_all is_part_within befores ≡ true
+all_part [] [] lost e = e
+all_part [] (after ∷ afters) lost e = absurd lost
+all_part (before ∷ befores) [] lost e = absurd lost
+all_part (before ∷ befores) (after ∷ afters) lost e =
+    and_keeps (is_part_within after) (is_part_within before) (list_all is_part_within afters) (list_all is_part_within befores) (part_keeps before after lost.0.0 lost.0.1) (all_part befores afters lost.1) e
+
+parts_by : (mirrored : Bool) (befores afters : List Part) → AreLostParts befores afters → (if mirrored then list_any is_part_within afters else list_all is_part_within afters) ≡ true
+    → (if mirrored then list_any is_part_within befores else list_all is_part_within befores) ≡ true
+parts_by true befores afters lost e = any_part befores afters lost e
+parts_by false befores afters lost e = all_part befores afters lost e
+
+pub was_within : (before after : Volume) → IsLoss before after → is_within after ≡ true → is_within before ≡ true
+was_within before after loss e =
+    let mirrored : is_mirrored before ≡ is_mirrored after =
+    ap (λ (t : Arrangement). is_in_every t.level && nat_le 2 (length before.parts)) (sym loss.same_tiers)
+    ∙ ap (λ (n : ℕ). is_in_every after.tiers.level && nat_le 2 n) (sym (same_parts before.parts after.parts loss.lost_parts)) in
+    parts_by (is_mirrored before) before.parts after.parts loss.lost_parts
+    (ap (λ b. if b then list_any is_part_within after.parts else list_all is_part_within after.parts) mirrored ∙ e)

@@ -1,0 +1,313 @@
+-- What a view tells of the array that it is of.
+use Rattle.std.proofs.Common.{◌≡◌, ◌∙◌, ℕ, ◌+◌, Bool, true, false, not, List, [], ◌∷◌, Option, Some, None, Result, Ok, Err, refl, sym, ap, subst, arith, map, filter_map, length, suc, ◌&&◌, ◌||◌}
+use Rattle.std.specs.Prelude.{nat_le, nat_lt, is_some, option_map, count_by, ◌==◌, if◌then◌else◌}
+use Rattle.std.specs.Result.{result_ok}
+use Rattle.std.specs.Map.{lookup}
+use Rattle.std.specs.List.{cons_option, list_any, list_all, flat_map}
+use Rattle.std.proofs.lemmas.Bool.{ltb-false, le-leb, eqb-true, leb-true}
+use Rattle.std.proofs.lemmas.List.Folds.{list_any-append}
+use Rattle.std.proofs.lemmas.List.Sums.{sum_by-cons}
+use Rattle.ddf_primary.specs.declared.layout.Layout.{Layout}
+use Rattle.ddf_primary.specs.declared.layout.Layout.TheVariants.{Raid0, Raid1, Parity, Jbod, Concatenation}
+use Rattle.ddf_primary.specs.declared.parity.ParityLayout.TheVariants.{Raid4First, Raid4Last, Raid5ZeroRestart, Raid5LastRestart, Raid5LastContinuation}
+use Rattle.ddf_primary.specs.declared.fault.ShapeFault.{ShapeFault}
+use Rattle.ddf_primary.specs.declared.fault.ShapeFault.TheVariants.{Level, Qualifier}
+use Rattle.ddf_primary.specs.Placement.{Placement}
+use Rattle.ddf_primary.specs.Levels.{served_layout, raid_1, raid_4, raid_5}
+use Rattle.ddf_secondary.specs.declared.element.ElementSize.{ElementSize}
+use Rattle.ddf_secondary.specs.declared.level.SecondaryLevel.{SecondaryLevel}
+use Rattle.ddf_secondary.specs.declared.level.SecondaryLevel.TheVariants.{Striped, Mirrored, Concatenated, Spanned}
+use Rattle.ddf_secondary.specs.declared.fault.TiersFault.TheVariants as fault
+use Rattle.ddf_secondary.specs.Spots.{spots}
+use Rattle.ddf_secondary.specs.Arrangement.{Arrangement, served_level, takes_count, takes_units}
+use Rattle.ddf_config.specs.declared.array.Array.{Array}
+use Rattle.ddf_config.specs.declared.element.Position.{Position}
+use Rattle.ddf_config.specs.declared.seat.Seat.{Seat}
+use Rattle.ddf_config.specs.Configuration.{Configuration}
+use Rattle.ddf_config.specs.ElementValue.{ElementValue}
+use Rattle.ddf_config.specs.Extents.{extent, extents, part_extents}
+use Rattle.ddf_config.specs.Members.{same_guid}
+use Rattle.ddf_config.specs.Seats.{slot_of, floor_of}
+use Rattle.ddf_config.specs.Shapes.{element_shape, has_shape, secondary_level, sizes, array_capacity}
+use Rattle.ddf_config.specs.Unusable.{passes_floor}
+use Rattle.ddf_config.specs.Within as config
+use Rattle.ddf_config.specs.Within.{has_parity, lacks_one, has_enough, has_enough_parts, has_redundancy, is_complete}
+use Rattle.ddf_array.specs.declared.part.Part.{Part}
+use Rattle.ddf_array.specs.Places.{is_available}
+use Rattle.ddf_array.specs.Levels.{level_of, is_on_every}
+use Rattle.ddf_array.specs.Cells.{is_in_every}
+use Rattle.ddf_array.specs.Volume.{Volume, capacity}
+use Rattle.ddf_array.specs.Within.{is_part_within, is_mirrored, is_within, keeps_more, is_redundant}
+use Rattle.ddf_array.specs.Viewing.{place_of, known_part, view_of, is_seated, is_array_within, is_array_redundant}
+use Rattle.ddf_array.proofs.Shapes.{made}
+use Rattle.ddf_array.proofs.Viewed.{Viewed, from_view}
+use Rattle.ddf_array.proofs.Fewer.{same_array}
+use Rattle.ddf_array.proofs.Bools.{and_first, and_second, or_first, or_second}
+use Rattle.ddf_array.proofs.Usable.{complete, below_floors, shapes}
+
+-- ---- lists of answers
+
+any_map : {X : Type 0} (p : X → Bool) (xs : List X) → list_any p xs ≡ list_any (λ b. b) (map p xs)
+any_map p [] = refl
+any_map p (x ∷ xs) = ap (λ b. p x || b) (any_map p xs)
+
+all_map : {X : Type 0} (p : X → Bool) (xs : List X) → list_all p xs ≡ list_all (λ b. b) (map p xs)
+all_map p [] = refl
+all_map p (x ∷ xs) = ap (λ b. p x && b) (all_map p xs)
+
+count_map : {X : Type 0} (p : X → Bool) (xs : List X) → count_by (λ x. not (p x)) xs ≡ count_by (λ b. not b) (map p xs)
+count_map p [] = refl
+count_map p (x ∷ xs) =
+    sum_by-cons (λ y. if not (p y) then 1 else 0) x xs ∙ ap (λ (n : ℕ). (if not (p x) then 1 else 0) + n) (count_map p xs)
+    ∙ sym (sum_by-cons (λ b. if not b then 1 else 0) (p x) (map p xs))
+
+-- a level asks only which positions are available
+enough_map : {X : Type 0} (level : ℕ) (p : X → Bool) (xs : List X) → has_enough level p xs ≡ has_enough level (λ b. b) (map p xs)
+enough_map level p xs =
+    ap (λ b. if level == 0x01 then b else (if has_parity level then lacks_one p xs else list_all p xs)) (any_map p xs)
+    ∙ ap (λ n. if level == 0x01 then list_any (λ b. b) (map p xs) else (if has_parity level then nat_le n 1 else list_all p xs)) (count_map p xs)
+    ∙ ap (λ b. if level == 0x01 then list_any (λ b. b) (map p xs) else (if has_parity level then lacks_one (λ b. b) (map p xs) else b)) (all_map p xs)
+
+-- ---- the level of an element
+
+level_kept : (level qualifier : ℕ) (layout : Layout) → served_layout level qualifier ≡ Ok layout → level_of layout ≡ level
+level_kept level qualifier layout e = by_0 (level == 0x00) refl e
+  where
+    raid_1_is : (a : Bool) → ◌≡◌ {A = Result Layout ShapeFault} (if a then Ok Raid1 else Err (Qualifier qualifier)) (Ok layout) → level_of layout ≡ 0x01
+    raid_1_is true e = let same : Raid1 ≡ layout = cc in ap level_of (sym same)
+    raid_1_is false e = absurd (cc)
+
+    raid_4_is : (a b : Bool) → ◌≡◌ {A = Result Layout ShapeFault} (if a then Ok (Parity Raid4First) else (if b then Ok (Parity Raid4Last) else Err (Qualifier qualifier))) (Ok layout) → level_of layout ≡ 0x04
+    raid_4_is true b e = let same : Parity Raid4First ≡ layout = cc in ap level_of (sym same)
+    raid_4_is false true e = let same : Parity Raid4Last ≡ layout = cc in ap level_of (sym same)
+    raid_4_is false false e = absurd (cc)
+
+    raid_5_is : (a b d : Bool) → ◌≡◌ {A = Result Layout ShapeFault} (if a then Ok (Parity Raid5ZeroRestart) else (if b then Ok (Parity Raid5LastRestart) else (if d then Ok (Parity Raid5LastContinuation) else Err (Qualifier qualifier)))) (Ok layout) → level_of layout ≡ 0x05
+    raid_5_is true b d e = let same : Parity Raid5ZeroRestart ≡ layout = cc in ap level_of (sym same)
+    raid_5_is false true d e = let same : Parity Raid5LastRestart ≡ layout = cc in ap level_of (sym same)
+    raid_5_is false false true e = let same : Parity Raid5LastContinuation ≡ layout = cc in ap level_of (sym same)
+    raid_5_is false false false e = absurd (cc)
+
+    by_1F : (a : Bool) → (level == 0x1F) ≡ a → ◌≡◌ {A = Result Layout ShapeFault} (if a then Ok Concatenation else Err (Level level)) (Ok layout) → level_of layout ≡ level
+    by_1F true is e = let same : Concatenation ≡ layout = cc in ap level_of (sym same) ∙ sym (eqb-true level 0x1F is)
+    by_1F false is e = absurd (cc)
+
+    by_0F : (a : Bool) → (level == 0x0F) ≡ a → ◌≡◌ {A = Result Layout ShapeFault} (if a then Ok Jbod else (if level == 0x1F then Ok Concatenation else Err (Level level))) (Ok layout) → level_of layout ≡ level
+    by_0F true is e = let same : Jbod ≡ layout = cc in ap level_of (sym same) ∙ sym (eqb-true level 0x0F is)
+    by_0F false is e = by_1F (level == 0x1F) refl e
+
+    by_5 : (a : Bool) → (level == 0x05) ≡ a
+        → ◌≡◌ {A = Result Layout ShapeFault} (if a then raid_5 qualifier else (if level == 0x0F then Ok Jbod else (if level == 0x1F then Ok Concatenation else Err (Level level)))) (Ok layout) → level_of layout ≡ level
+    by_5 true is e = raid_5_is (qualifier == 0) (qualifier == 2) (qualifier == 3) e ∙ sym (eqb-true level 0x05 is)
+    by_5 false is e = by_0F (level == 0x0F) refl e
+
+    by_4 : (a : Bool) → (level == 0x04) ≡ a
+        → ◌≡◌ {A = Result Layout ShapeFault} (if a then raid_4 qualifier else (if level == 0x05 then raid_5 qualifier else (if level == 0x0F then Ok Jbod else (if level == 0x1F then Ok Concatenation else Err (Level level))))) (Ok layout)
+        → level_of layout ≡ level
+    by_4 true is e = raid_4_is (qualifier == 0) (qualifier == 1) e ∙ sym (eqb-true level 0x04 is)
+    by_4 false is e = by_5 (level == 0x05) refl e
+
+    by_1 : (a : Bool) → (level == 0x01) ≡ a
+        → ◌≡◌ {A = Result Layout ShapeFault} (if a then raid_1 qualifier else (if level == 0x04 then raid_4 qualifier else (if level == 0x05 then raid_5 qualifier else (if level == 0x0F then Ok Jbod else (if level == 0x1F then Ok Concatenation else Err (Level level)))))) (Ok layout)
+        → level_of layout ≡ level
+    by_1 true is e = raid_1_is (nat_le qualifier 1) e ∙ sym (eqb-true level 0x01 is)
+    by_1 false is e = by_4 (level == 0x04) refl e
+
+    by_0 : (a : Bool) → (level == 0x00) ≡ a
+        → ◌≡◌ {A = Result Layout ShapeFault} (if a then Ok Raid0 else (if level == 0x01 then raid_1 qualifier else (if level == 0x04 then raid_4 qualifier else (if level == 0x05 then raid_5 qualifier else (if level == 0x0F then Ok Jbod else (if level == 0x1F then Ok Concatenation else Err (Level level))))))) (Ok layout)
+        → level_of layout ≡ level
+    by_0 true is e = let same : Raid0 ≡ layout = cc in ap level_of (sym same) ∙ sym (eqb-true level 0x00 is)
+    by_0 false is e = by_1 (level == 0x01) refl e
+
+-- the level of an element's shape
+shape_level : (elements : ℕ) (element : ElementValue) (shape : Placement) → element_shape elements element ≡ Some shape → level_of shape.layout ≡ element.level
+shape_level elements element shape e =
+    let m = made elements element shape e in
+    ap (λ (s : Placement). level_of s.layout) m.shape_is ∙ level_kept element.level element.qualifier m.layout m.layout_is
+
+-- ---- positions
+
+module _ (seats : List Seat) (blocks : ℕ) where
+  slot_by : (end slot : ℕ) (floor : Option ℕ) → elim floor [ None ↦ false | Some floor ↦ nat_lt floor end ] ≡ false
+      → is_some (elim floor [ None ↦ None | Some floor ↦ if nat_le end floor then Some slot else None ]) ≡ is_some floor
+  slot_by end slot None below = refl
+  slot_by end slot (Some floor) below = ap (λ b. is_some (if b then Some slot else None)) (le-leb end floor (ltb-false floor end below))
+
+  available_is : (position : Position) → passes_floor seats (extent blocks position) ≡ false → is_available (place_of seats blocks position) ≡ is_seated seats position
+  available_is position below =
+      ap (λ b. position.synced && b) (slot_by (position.start + blocks) (slot_of seats position.reference) (floor_of seats position.reference) below)
+
+  answers_are : (positions : List Position) → list_any (passes_floor seats) (map (extent blocks) positions) ≡ false
+      → map is_available (map (place_of seats blocks) positions) ≡ map (is_seated seats) positions
+  answers_are [] below = refl
+  answers_are (position ∷ positions) below =
+      let first = passes_floor seats (extent blocks position) in
+      let others = list_any (passes_floor seats) (map (extent blocks) positions) in
+      ap (λ b. b ∷ map is_available (map (place_of seats blocks) positions)) (available_is position (or_first first others below))
+      ∙ ap (λ l. is_seated seats position ∷ l) (answers_are positions (or_second first others below))
+
+-- ---- elements
+
+more_by : (layout : Layout) → (is_on_every layout || has_parity (level_of layout)) ≡ (level_of layout == 0x01 || has_parity (level_of layout) || level_of layout == 0x11)
+more_by Raid0 = refl
+more_by Raid1 = refl
+more_by (Parity Raid4First) = refl
+more_by (Parity Raid4Last) = refl
+more_by (Parity Raid5ZeroRestart) = refl
+more_by (Parity Raid5LastRestart) = refl
+more_by (Parity Raid5LastContinuation) = refl
+more_by Jbod = refl
+more_by Concatenation = refl
+
+module _ (seats : List Seat) (elements : ℕ) where
+  -- an element of an array that can be used, and that of its view
+  pub record Same (element : ElementValue) (part : Part) : Type 0 where
+    pub within : is_part_within part ≡ config.is_part_within (is_seated seats) (Some element)
+    pub more : keeps_more part ≡ has_redundancy (Some element)
+
+  same_part : (element : ElementValue) (shape : Placement) → element_shape elements element ≡ Some shape → list_any (passes_floor seats) (part_extents (Some element)) ≡ false
+      → Same element (record { shape = shape; places = map (place_of seats element.blocks) element.positions })
+  same_part element shape made below =
+      let places = map (place_of seats element.blocks) element.positions in
+      let level = shape_level elements element shape made in
+      record {
+        within =
+            ap (λ (n : ℕ). has_enough n is_available places) level ∙ enough_map element.level is_available places
+            ∙ ap (has_enough element.level (λ b. b)) (answers_are seats element.blocks element.positions below)
+            ∙ sym (enough_map element.level (is_seated seats) element.positions);
+        more = more_by shape.layout ∙ ap (λ (n : ℕ). n == 0x01 || has_parity n || n == 0x11) level;
+      }
+
+  -- and of all of them
+  pub record SameAll (known : List (Option ElementValue)) (parts : List Part) : Type 0 where
+    pub any_within : list_any is_part_within parts ≡ list_any (config.is_part_within (is_seated seats)) known
+    pub all_within : list_all is_part_within parts ≡ list_all (config.is_part_within (is_seated seats)) known
+    pub any_more : list_any keeps_more parts ≡ list_any has_redundancy known
+    pub count : length parts ≡ length known
+
+  one_more : (element : ElementValue) (known : List (Option ElementValue)) (found : Option Placement) → element_shape elements element ≡ found → is_some found ≡ true
+      → list_any (passes_floor seats) (part_extents (Some element)) ≡ false
+      → SameAll known (filter_map (known_part seats elements) known)
+      → SameAll (Some element ∷ known)
+      (cons_option (option_map (λ (shape : Placement). record { shape = shape; places = map (place_of seats element.blocks) element.positions }) found) (filter_map (known_part seats elements) known))
+  one_more element known None made there below rest = absurd (cc)
+  one_more element known (Some shape) made there below rest =
+      let one = same_part element shape made below in
+      let others = filter_map (known_part seats elements) known in
+      record {
+        any_within = ap (λ b. b || list_any is_part_within others) one.within ∙ ap (λ b. config.is_part_within (is_seated seats) (Some element) || b) rest.any_within;
+        all_within = ap (λ b. b && list_all is_part_within others) one.within ∙ ap (λ b. config.is_part_within (is_seated seats) (Some element) && b) rest.all_within;
+        any_more = ap (λ b. b || list_any keeps_more others) one.more ∙ ap (λ b. has_redundancy (Some element) || b) rest.any_more;
+        count = ap suc rest.count;
+      }
+
+  same_all : (known : List (Option ElementValue)) → list_all (λ (part : Option ElementValue). is_some part) known ≡ true → list_all (has_shape elements) known ≡ true
+      → list_any (passes_floor seats) (flat_map part_extents known) ≡ false → SameAll known (filter_map (known_part seats elements) known)
+  same_all [] whole shaped below = record { any_within = refl; all_within = refl; any_more = refl; count = refl }
+  same_all (None ∷ known) whole shaped below = absurd (cc)
+  same_all (Some element ∷ known) whole shaped below =
+      let split = sym (list_any-append (passes_floor seats) (part_extents (Some element)) (flat_map part_extents known)) ∙ below in
+      let first = list_any (passes_floor seats) (part_extents (Some element)) in
+      let others = list_any (passes_floor seats) (flat_map part_extents known) in
+      let shape = is_some (element_shape elements element) in
+      one_more element known (element_shape elements element) refl (and_first shape (list_all (has_shape elements) known) shaped) (or_first first others split)
+      (same_all known whole (and_second shape (list_all (has_shape elements) known) shaped) (or_second first others split))
+
+-- ---- the secondary level
+
+every_by : (code : ℕ) (level : SecondaryLevel) → served_level code ≡ Some level → is_in_every level ≡ (code == 1)
+every_by code level e = by_0 (code == 0) refl e
+  where
+    by_3 : (a : Bool) → (code == 1) ≡ false → ◌≡◌ {A = Option SecondaryLevel} (if a then Some Spanned else None) (Some level) → is_in_every level ≡ (code == 1)
+    by_3 true differs e = let same : Spanned ≡ level = cc in ap is_in_every (sym same) ∙ sym differs
+    by_3 false differs e = absurd (cc)
+
+    by_2 : (a : Bool) → (code == 1) ≡ false → ◌≡◌ {A = Option SecondaryLevel} (if a then Some Concatenated else (if code == 3 then Some Spanned else None)) (Some level) → is_in_every level ≡ (code == 1)
+    by_2 true differs e = let same : Concatenated ≡ level = cc in ap is_in_every (sym same) ∙ sym differs
+    by_2 false differs e = by_3 (code == 3) differs e
+
+    by_1 : (a : Bool) → (code == 1) ≡ a → ◌≡◌ {A = Option SecondaryLevel} (if a then Some Mirrored else (if code == 2 then Some Concatenated else (if code == 3 then Some Spanned else None))) (Some level)
+        → is_in_every level ≡ (code == 1)
+    by_1 true is e = let same : Mirrored ≡ level = cc in ap is_in_every (sym same) ∙ sym is
+    by_1 false is e = by_2 (code == 2) is e
+
+    by_0 : (a : Bool) → (code == 0) ≡ a
+        → ◌≡◌ {A = Option SecondaryLevel} (if a then Some Striped else (if code == 1 then Some Mirrored else (if code == 2 then Some Concatenated else (if code == 3 then Some Spanned else None)))) (Some level)
+        → is_in_every level ≡ (code == 1)
+    by_0 true is e = let same : Striped ≡ level = cc in ap is_in_every (sym same) ∙ ap (λ (n : ℕ). n == 1) (sym (eqb-true code 0 is))
+    by_0 false is e = by_1 (code == 1) refl e
+
+tiers_level : (sizes : List ElementSize) (tiers : Arrangement) (code : ℕ) (level : Option SecondaryLevel) (a : Bool) (b : SecondaryLevel → Bool)
+    → ◌≡◌ {A = Option Arrangement} (result_ok (elim level [
+      | None ↦ Err (fault.Level code)
+      | Some level ↦ if a then (if b level then Ok (record { level = level; sizes = sizes }) else Err fault.Mixed) else Err (fault.Count (length sizes))
+    ])) (Some tiers) → level ≡ Some tiers.level
+tiers_level sizes tiers code None a b e = absurd (cc)
+tiers_level sizes tiers code (Some level) false b e = absurd (cc)
+tiers_level sizes tiers code (Some level) true b e = by_units (b level) e
+  where
+    by_units : (c : Bool) → ◌≡◌ {A = Option Arrangement} (result_ok (if c then Ok (record { level = level; sizes = sizes }) else Err fault.Mixed)) (Some tiers) → ◌≡◌ {A = Option SecondaryLevel} (Some level) (Some tiers.level)
+    by_units true e = let same : ◌≡◌ {A = Arrangement} (record { level = level; sizes = sizes }) tiers = cc in ap (λ (t : Arrangement). Some t.level) same
+    by_units false e = absurd (cc)
+
+several : (n code : ℕ) (two : Bool) → nat_le 2 n ≡ two → ((if n == 1 then 0x00 else code) == 1 && two) ≡ (code == 1 && two)
+several n code false is = none _ ∙ sym (none _)
+  where
+    none : (b : Bool) → (b && false) ≡ false
+    none true = refl
+    none false = refl
+several n code true is = ap (λ b. (if b then 0x00 else code) == 1 && true) (not_one (n == 1) refl)
+  where
+    not_one : (b : Bool) → (n == 1) ≡ b → b ≡ false
+    not_one true one = let same = eqb-true n 1 one in absurd (omega (arith, same, leb-true 2 n is))
+    not_one false one = refl
+
+-- ---- arrays
+
+module _ (conf : Configuration) (guid : List ℕ) (seats : List Seat) (v : Volume) (view : Viewed conf guid seats v) where
+  elements_are : SameAll seats (length view.array.elements) view.array.elements v.parts
+  elements_are =
+      let array = view.array in
+      let all = extents conf.arrays in
+      subst (SameAll seats (length array.elements) array.elements) (sym view.parts_are)
+      (same_all seats (length array.elements) array.elements (complete conf.members seats all array view.usable) (shapes conf.members seats all array view.usable) (below_floors conf.members seats all array view.usable))
+
+  mirrored_is : is_mirrored v ≡ config.is_mirrored view.array
+  mirrored_is =
+      let array = view.array in
+      let n = length array.elements in
+      let code = secondary_level array in
+      let level = tiers_level (sizes array) v.tiers code (served_level code) (takes_count (sizes array)) (λ level. takes_units level (sizes array)) view.tiers_are in
+      ap (λ (m : ℕ). is_in_every v.tiers.level && nat_le 2 m) (elements_are).count
+      ∙ ap (λ b. b && nat_le 2 n) (every_by code v.tiers.level level)
+      ∙ several n array.secondary (nat_le 2 n) refl
+
+  capacity_is : capacity v ≡ array_capacity view.array
+  capacity_is = sym (ap (λ (t : Option Arrangement). elim t [ None ↦ 0 | Some tiers ↦ length (spots tiers) ]) view.tiers_are)
+
+  within_is : is_within v ≡ is_array_within seats view.array
+  within_is =
+      let same = elements_are in
+      ap (λ b. if b then list_any is_part_within v.parts else list_all is_part_within v.parts) mirrored_is
+      ∙ ap (λ b. if config.is_mirrored view.array then b else list_all is_part_within v.parts) same.any_within
+      ∙ ap (λ b. if config.is_mirrored view.array then list_any (config.is_part_within (is_seated seats)) view.array.elements else b) same.all_within
+
+  redundant_is : is_redundant v ≡ is_array_redundant view.array
+  redundant_is =
+      ap (λ b. b || list_any keeps_more v.parts) mirrored_is ∙ ap (λ b. config.is_mirrored view.array || b) (elements_are).any_more
+
+module _ (conf : Configuration) (guid : List ℕ) (seats : List Seat) (v : Volume) (array : Array) (e : view_of conf guid seats ≡ Ok v) (found : lookup (same_guid guid) conf.arrays ≡ Some array) where
+  view : Viewed conf guid seats v
+  view = from_view conf guid seats v e
+
+  array_is : (view).array ≡ array
+  array_is = same_array (lookup (same_guid guid) conf.arrays) (view).array array (view).array_is found
+
+  pub told_capacity : capacity v ≡ array_capacity array
+  told_capacity = capacity_is conf guid seats v view ∙ ap array_capacity array_is
+
+  pub told_within : is_within v ≡ is_array_within seats array
+  told_within = within_is conf guid seats v view ∙ ap (is_array_within seats) array_is
+
+  pub told_redundant : is_redundant v ≡ is_array_redundant array
+  told_redundant = redundant_is conf guid seats v view ∙ ap is_array_redundant array_is

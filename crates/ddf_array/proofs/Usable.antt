@@ -1,0 +1,40 @@
+-- What an array has that can be used.
+use Rattle.std.proofs.Common.{◌≡◌, ℕ, Bool, true, false, List, [], ◌∷◌, None, refl, ◌&&◌, not}
+use Rattle.std.specs.List.{list_all, list_any}
+use Rattle.ddf_config.specs.declared.member.Member.{Member}
+use Rattle.ddf_config.specs.declared.array.Array.{Array}
+use Rattle.ddf_config.specs.declared.extent.Extent.{Extent}
+use Rattle.ddf_config.specs.declared.seat.Seat.{Seat}
+use Rattle.ddf_config.specs.declared.refusal.Refusal.{Refusal}
+use Rattle.ddf_config.specs.declared.refusal.Refusal.TheVariants.{Shape, Lost}
+use Rattle.ddf_config.specs.Extents.{array_extents}
+use Rattle.ddf_config.specs.Levels.{unserved_level}
+use Rattle.ddf_config.specs.Refusals.{refuse_if}
+use Rattle.ddf_config.specs.Served.{is_served, lies_well}
+use Rattle.ddf_config.specs.Shapes.{has_shapes, has_tiers}
+use Rattle.ddf_config.specs.Unusable.{passes_floor, is_served_on, unusable}
+use Rattle.ddf_config.specs.Within.{is_complete}
+use Rattle.ddf_config.proofs.Firsts.{all_pass}
+use Rattle.ddf_array.proofs.Bools.{and_first, and_second, not_true}
+
+holds : (b : Bool) (refusal : Refusal) → refuse_if (not b) refusal ≡ None → b ≡ true
+holds true refusal e = refl
+holds false refusal e = absurd (cc)
+
+module _ (members : List (ℕ × Member)) (seats : List Seat) (all : List Extent) (array : Array) (usable : unusable members seats all array ≡ None) where
+  served_on : is_served_on members seats all array ≡ true
+  served_on = holds (is_served_on members seats all array) Shape
+      (all_pass (unserved_level array ∷ []) (refuse_if (not (is_served_on members seats all array)) Shape) (refuse_if (not (is_complete array)) Lost ∷ []) usable)
+
+  pub complete : is_complete array ≡ true
+  complete = holds (is_complete array) Lost
+      (all_pass (unserved_level array ∷ refuse_if (not (is_served_on members seats all array)) Shape ∷ []) (refuse_if (not (is_complete array)) Lost) [] usable)
+
+  pub below_floors : list_any (passes_floor seats) (array_extents array) ≡ false
+  below_floors = not_true _ (and_second (is_served members all array) (not (list_any (passes_floor seats) (array_extents array))) served_on)
+
+  pub shapes : has_shapes array ≡ true
+  shapes =
+      and_first (has_shapes array) (has_tiers array)
+      (and_first (has_shapes array && has_tiers array) (list_all (lies_well members all) (array_extents array))
+      (and_first (is_served members all array) (not (list_any (passes_floor seats) (array_extents array))) served_on))

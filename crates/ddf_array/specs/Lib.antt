@@ -1,0 +1,13 @@
+pub mod Places
+pub mod Levels
+pub mod Volume
+pub mod Cells
+pub mod Sources
+pub mod Values
+pub mod Rows
+pub mod Within
+pub mod Redundant
+pub mod Sound
+pub mod State
+pub mod Losing
+pub mod Viewing

@@ -1,0 +1,8 @@
+/// A sector of a slot of the bay.
+#[derive(Clone, Copy, Debug, PartialEq, Eq)]
+pub struct Site {
+    /// The number of the slot.
+    pub slot: usize,
+    /// The LBA of the sector on it.
+    pub lba: u64,
+}
