@@ -1,6 +1,7 @@
 #!/bin/sh
 # Runs `examine` and `assemble` over disks as Linux's mdadm left them, and compares what they print with what an independent
-# reader found.
+# reader found; and reads their arrays, whole and without each disk that the level can do without, and compares the checksum of all
+# blocks with the one that Linux found.
 # Nothing may be written to an image, and an image that `label` made has the standard's checksums. The disks aren't part of
 # this repository: DDF_DISKS names a folder of NAME.tar.xz with the images, and NAME.examine.txt and NAME.assemble.txt with the
 # wanted texts. Where there is none, nothing is compared.
@@ -17,6 +18,38 @@ fail() {
     exit 1
 }
 
+# Prints all blocks of the array `data`, so many, of these images.
+blocks_of() {
+    count=$1
+    shift
+    start=0
+    while [ "$start" -lt "$count" ]; do
+        "$top/ddf" "$@" -- read data "$start" 2048 2>/dev/null || return 1
+        start=$((start + 2048))
+    done
+}
+
+# The blocks of each array, and the SHA-256 of its bytes as Linux's kernel read them.
+sum_of() {
+    case $1 in
+    r1-spare) echo 8192 36f12a3e2d182d648599a20824c410ad31a03248266e85d0d335f4a3d9ed11ce ;;
+    r5-ra) echo 16384 873c3d422e22e41454f0116cccbb66724b5ee8dc8df2a5e3f6c03e7c91878ee6 ;;
+    r10) echo 16384 500e083aa73794c37d4056ff9fa1f5bdcc45eb7e5733c54dcc88d3319405f035 ;;
+    *) echo 0 none ;;
+    esac
+}
+
+# Reads the array of a set of images, and compares its checksum.
+compare_blocks() {
+    label=$1
+    blocks=$2
+    wanted=$3
+    shift 3
+    blocks_of "$blocks" "$@" >"$work/blocks" || fail "read of $label failed"
+    found=$(sha256sum <"$work/blocks" | cut -d' ' -f1)
+    [ "$found" = "$wanted" ] || fail "the blocks of $label differ"
+}
+
 work=$(mktemp -d)
 trap 'rm -rf "$work"' EXIT
 for archive in "$disks"/*.tar.xz; do
@@ -28,6 +61,19 @@ for archive in "$disks"/*.tar.xz; do
     diff -u "$disks/$name.examine.txt" "$work/told" || fail "$name differs"
     "$top/ddf" "$work/$name"/*.img -- assemble >"$work/told" 2>/dev/null || fail "assemble of $name failed"
     diff -u "$disks/$name.assemble.txt" "$work/told" || fail "the group of $name differs"
+    sums=$(sum_of "$name")
+    blocks=${sums% *}
+    if [ "$blocks" -gt 0 ]; then
+        compare_blocks "$name" "$blocks" "${sums#* }" "$work/$name"/*.img
+        for left in "$work/$name"/*.img; do
+            others=
+            for image in "$work/$name"/*.img; do
+                [ "$image" = "$left" ] || others="$others $image"
+            done
+            # shellcheck disable=SC2086
+            compare_blocks "$name without $(basename "$left")" "$blocks" "${sums#* }" $others
+        done
+    fi
     sha256sum "$work/$name"/*.img >"$work/after"
     cmp -s "$work/before" "$work/after" || fail "an image of $name was written to"
     slots=$(grep -c "^ddf: slot [0-9]*: checksums as Linux's mdadm counts them$" "$work/notes" || true)

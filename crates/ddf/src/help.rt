@@ -12,8 +12,11 @@ Commands:
   label [SLOT..]   make a new group of these blank disks, or of all
   assemble         show which group the disks are, with its members and arrays;
                    nothing is written
+  read NAME START COUNT
+                   print the bytes of so many blocks of an array, from one on, and
+                   nothing else: at most 2048 of 512 bytes each; nothing is written
 
-A command over a group, as assemble, takes the only one that the disks show, or the one
+A command over a group, as assemble and read, takes the only one that the disks show, or the one
 that is named: @ and the 48 hexadecimal digits of its GUID.
 
 Disks are opened for reading alone by commands that write nothing. Others don't touch a

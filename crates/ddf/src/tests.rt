@@ -12,5 +12,6 @@ mod health;
 mod label;
 mod linux;
 mod primary;
+mod read;
 mod records;
 mod secondary;

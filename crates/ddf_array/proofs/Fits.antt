@@ -15,7 +15,8 @@ use Rattle.ddf_config.specs.Shapes.{element_shape}
 use Rattle.ddf_array.specs.declared.part.Part.{Part}
 use Rattle.ddf_array.specs.declared.place.Place.{Place}
 use Rattle.ddf_array.specs.Volume.{Volume, Fits, PartFits}
-use Rattle.ddf_array.specs.Viewing.{seat_slot, place_of, known_part, view_of, SeatsFit}
+use Rattle.ddf_config.specs.Seats.{SeatsFit}
+use Rattle.ddf_array.specs.Viewing.{seat_slot, place_of, known_part, view_of}
 use Rattle.ddf_array.proofs.Viewed.{from_view}
 use Rattle.ddf_array.proofs.Shapes.{blocks_are}
 

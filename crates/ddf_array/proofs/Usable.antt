@@ -1,5 +1,6 @@
 -- What an array has that can be used.
-use Rattle.std.proofs.Common.{◌≡◌, ℕ, Bool, true, false, List, [], ◌∷◌, None, refl, ◌&&◌, not}
+use Rattle.std.proofs.Common.{◌≡◌, ℕ, Bool, true, false, List, [], ◌∷◌, None, refl, ◌&&◌, ◌||◌, not}
+use Rattle.std.specs.Prelude.{is_some}
 use Rattle.std.specs.List.{list_all, list_any}
 use Rattle.ddf_config.specs.declared.member.Member.{Member}
 use Rattle.ddf_config.specs.declared.array.Array.{Array}
@@ -11,7 +12,7 @@ use Rattle.ddf_config.specs.Extents.{array_extents}
 use Rattle.ddf_config.specs.Levels.{unserved_level}
 use Rattle.ddf_config.specs.Refusals.{refuse_if}
 use Rattle.ddf_config.specs.Served.{is_served, lies_well}
-use Rattle.ddf_config.specs.Shapes.{has_shapes, has_tiers}
+use Rattle.ddf_config.specs.Shapes.{array_tiers, has_shapes, has_tiers}
 use Rattle.ddf_config.specs.Unusable.{passes_floor, is_served_on, unusable}
 use Rattle.ddf_config.specs.Within.{is_complete}
 use Rattle.ddf_config.proofs.Firsts.{all_pass}
@@ -20,6 +21,10 @@ use Rattle.ddf_array.proofs.Bools.{and_first, and_second, not_true}
 holds : (b : Bool) (refusal : Refusal) → refuse_if (not b) refusal ≡ None → b ≡ true
 holds true refusal e = refl
 holds false refusal e = absurd (cc)
+
+there_by : (complete there : Bool) → complete ≡ true → (not complete || there) ≡ true → there ≡ true
+there_by true there is e = e
+there_by false there is e = absurd (cc)
 
 module _ (members : List (ℕ × Member)) (seats : List Seat) (all : List Extent) (array : Array) (usable : unusable members seats all array ≡ None) where
   served_on : is_served_on members seats all array ≡ true
@@ -38,3 +43,12 @@ module _ (members : List (ℕ × Member)) (seats : List Seat) (all : List Extent
       and_first (has_shapes array) (has_tiers array)
       (and_first (has_shapes array && has_tiers array) (list_all (lies_well members all) (array_extents array))
       (and_first (is_served members all array) (not (list_any (passes_floor seats) (array_extents array))) served_on))
+
+  has_its_tiers : has_tiers array ≡ true
+  has_its_tiers =
+      and_second (has_shapes array) (has_tiers array)
+      (and_first (has_shapes array && has_tiers array) (list_all (lies_well members all) (array_extents array))
+      (and_first (is_served members all array) (not (list_any (passes_floor seats) (array_extents array))) served_on))
+
+  pub tiers : is_some (array_tiers array) ≡ true
+  tiers = there_by (is_complete array) (is_some (array_tiers array)) complete has_its_tiers

@@ -1,5 +1,6 @@
 -- The array that a view is of.
-use Rattle.std.proofs.Common.{◌≡◌, ◌∙◌, ℕ, List, Option, Some, None, Result, Ok, Err, refl, sym, ap}
+use Rattle.std.proofs.Common.{◌≡◌, ◌∙◌, ℕ, true, List, Option, Some, None, Result, Ok, Err, refl, sym, ap}
+use Rattle.std.specs.Prelude.{is_some}
 use Rattle.std.specs.Map.{lookup}
 use Rattle.ddf_secondary.specs.Arrangement.{Arrangement}
 use Rattle.ddf_config.specs.declared.array.Array.{Array}
@@ -14,6 +15,7 @@ use Rattle.ddf_config.specs.States.{is_marked}
 use Rattle.ddf_config.specs.Unusable.{unusable}
 use Rattle.ddf_array.specs.Volume.{Volume, volume}
 use Rattle.ddf_array.specs.Viewing.{parts_of, viewed, view_by, view_of}
+use Rattle.ddf_array.proofs.Usable.{tiers}
 
 pub record Viewed (config : Configuration) (guid : List ℕ) (seats : List Seat) (volume : Volume) : Type 0 where
   pub array : Array
@@ -51,3 +53,18 @@ module _ (config : Configuration) (guid : List ℕ) (seats : List Seat) (v : Vol
 
   pub from_view : view_of config guid seats ≡ Ok v → Viewed config guid seats v
   from_view e = by_array (lookup (same_guid guid) config.arrays) refl e
+
+-- An array that can be used has a view.
+module _ (config : Configuration) (guid : List ℕ) (seats : List Seat) (array : Array) (found : lookup (same_guid guid) config.arrays ≡ Some array)
+    (usable : unusable config.members seats (extents config.arrays) array ≡ None) where
+  view_with : (t : Option Arrangement) → array_tiers array ≡ t → is_some t ≡ true → (v : Volume) × (view_of config guid seats ≡ Ok v)
+  view_with None are there = absurd (cc)
+  view_with (Some tiers) are there = (
+    volume (is_marked array) tiers (parts_of seats array.elements),
+    ap (view_by config seats) found
+        ∙ ap (λ (r : Option Refusal). elim r [ None ↦ viewed seats array | Some refusal ↦ Err refusal ]) usable
+        ∙ ap (λ (t : Option Arrangement). elim t [ None ↦ Err Shape | Some one ↦ Ok (volume (is_marked array) one (parts_of seats array.elements)) ]) are,
+  )
+
+  pub has_view : (v : Volume) × (view_of config guid seats ≡ Ok v)
+  has_view = view_with (array_tiers array) refl (tiers config.members seats (extents config.arrays) array usable)

@@ -1,5 +1,5 @@
 -- The view of an array over seats, or why there is none.
-use Rattle.std.specs.Prelude.{◌≡◌, ℕ, ◌+◌, ◌<◌, ◌≤◌, nat_le, Bool, ◌&&◌, is_some, List, Option, Some, None, Result, Ok, Err, map, filter_map, option_map, option_and_then, length, slice_get, slice_index, if◌then◌else◌}
+use Rattle.std.specs.Prelude.{◌≡◌, ℕ, ◌+◌, nat_le, Bool, ◌&&◌, is_some, List, Option, Some, None, Result, Ok, Err, map, filter_map, option_map, option_and_then, length, if◌then◌else◌}
 use Rattle.std.specs.Map.{lookup}
 use Rattle.ddf_config.specs.declared.array.Array.{Array}
 use Rattle.ddf_config.specs.declared.element.Position.{Position}
@@ -78,11 +78,6 @@ abbrev pub IsViewAnswer : Result Volume Refusal → Result Volume ViewFault → 
 IsViewAnswer meaning (Ok view) = meaning ≡ Ok view
 IsViewAnswer meaning (Err (Refused refusal)) = meaning ≡ Err refusal
 IsViewAnswer meaning (Err Memory) = Unit {0}
-
--- each seat is on a slot, of these sizes, and its floor is at most the slot's size
-abbrev pub SeatsFit : List ℕ → List Seat → Type 0
-SeatsFit sizes seats =
-    (k : ℕ) (seat : Seat) → slice_get seats k ≡ Some seat → (seat.slot < length sizes) × (seat.floor ≤ slice_index sizes seat.slot)
 
 -- what an array is by its configuration and seats: a position is available where it is in sync and its member has a
 -- seat (profile)

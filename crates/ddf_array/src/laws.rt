@@ -5,6 +5,7 @@ ghost use Rattle.ddf_config.specs.declared.seat.Seat.{Seat};
 ghost use Rattle.ddf_config.specs.declared.array.Array.{Array};
 ghost use Rattle.ddf_config.specs.Configuration.{Configuration};
 ghost use Rattle.ddf_config.specs.Members.{same_guid};
+ghost use Rattle.ddf_config.specs.Seats.{SeatsFit};
 ghost use Rattle.ddf_config.specs.Shapes.{array_capacity};
 ghost use Rattle.std.specs.Map.{lookup};
 ghost use Rattle.ddf_array.specs.Volume.{Volume, IsVolume, Fits, capacity};
@@ -15,7 +16,7 @@ ghost use Rattle.ddf_array.specs.State.{values};
 ghost use Rattle.ddf_array.specs.Losing.{IsLoss, AreFewer};
 ghost use Rattle.ddf_array.specs.Sources.{Source, sources};
 ghost use Rattle.ddf_array.specs.Values.{value, given};
-ghost use Rattle.ddf_array.specs.Viewing.{view_of, SeatsFit, is_array_within, is_array_redundant};
+ghost use Rattle.ddf_array.specs.Viewing.{view_of, is_array_within, is_array_redundant};
 
 /// Each block of an array within its level has a value: a source is left of it.
 pub fn an_array_within_its_level_has_values()

@@ -21,3 +21,4 @@ pub use place::Place;
 pub use site::Site;
 pub use view::View;
 pub use view_fault::ViewFault;
+pub use viewing::use_refusal;

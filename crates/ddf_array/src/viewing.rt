@@ -126,8 +126,12 @@ fn parts_of(
     Ok(all)
 }
 
-/// Why an array can't be used over these seats.
-fn refusal_of(
+/// Why an array can't be used over these seats: the first of a level that isn't served, numbers that make no array or extents that
+/// don't lie well, and an element that is unknown.
+///
+/// # Errors
+/// Memory ran out.
+pub fn use_refusal(
     alloc: Global,
     config: &Config,
     seats: &[Seat],
@@ -148,7 +152,7 @@ fn view_array(
 ) -> Result<View, ViewFault>
     ensures { IsViewAnswer (view_by config.now seats.now (Some array.now)) result }
 {
-    if let Some(refusal) = refusal_of(alloc, config, seats, array)? {
+    if let Some(refusal) = use_refusal(alloc, config, seats, array)? {
         return Err(ViewFault::Refused(refusal));
     }
     let Some(tiers) = array_tiers(alloc, array)? else {

@@ -1,2 +1,3 @@
 pub mod Partway
 pub mod Named
+pub mod Anchored

@@ -1,10 +1,11 @@
 //! Assembly: which group the disks of a bay are.
-ghost use Rattle.std.specs.Prelude.{◌≡◌, map, IfOk};
+ghost use Rattle.std.specs.Prelude.{◌≡◌, ◌≤◌, ℕ, List, map, IfOk};
 ghost use Rattle.ddf_bay.specs.ReadsOnly.{ReadsOnly};
+ghost use Rattle.ddf_config.specs.Seats.{SeatsFit};
 ghost use Rattle.ddf_group.specs.Assembled.{UpToMemory as FoundUpToMemory, assembled};
 ghost use Rattle.ddf_group.specs.Shown.{shown_of};
 ghost use Rattle.ddf_assembly.specs.Group.{UpToMemory, group_of};
-ghost use Rattle.ddf_assembly.specs.Reading.{AreNewest};
+ghost use Rattle.ddf_assembly.specs.Reading.{AreNewest, HaveAnchors};
 ghost use Rattle.ddf_assembly.specs.Slots.{IsAssembled};
 
 use crate::Group;
@@ -48,7 +49,9 @@ fn group_of(
     named: Option<Guid>,
 ) -> Result<Group, Assembly>
     requires { AreNewest newest.items }
-    ensures { UpToMemory result (group_of newest.items named) }
+    ensures group { UpToMemory result (group_of newest.items named) }
+    ensures under { (sizes : List ℕ) → HaveAnchors sizes newest.items → IfOk result (λ group. HaveAnchors sizes group.newest) }
+    ensures seats { (sizes : List ℕ) → HaveAnchors sizes newest.items → IfOk result (λ group. SeatsFit sizes group.seats) }
 {
     let found = found(alloc, &newest, named)?;
     let seats = seats_of(alloc, &newest, found.seats.items())?;
@@ -70,6 +73,14 @@ fn group_of(
 /// the disk of a newest one as missing; or memory ran out.
 pub fn assemble<B: Bay>(alloc: Global, bay: &mut B, group: Option<Guid>) -> Result<Group, Assembly>
     ensures assembled { IsAssembled B.tells (B.disks bay.old) (B.disks bay.new) group result }
+
+    // Each newest copy can be written again, in both places under the anchor of its slot, and each seat is on a slot that has room
+    // for its extents.
+    ensures under { IfOk result (λ group. HaveAnchors (B.disks bay.old).sizes group.newest) }
+    ensures seats { IfOk result (λ group. SeatsFit (B.disks bay.old).sizes group.seats) }
+
+    // Counts of failed reads never fall, and nothing is written.
+    ensures never_falls { (slot : ℕ) → (B.disks bay.old).failed_reads slot ≤ (B.disks bay.new).failed_reads slot }
     ensures reads { ReadsOnly (B.disks bay.old) (B.disks bay.new) }
 {
     match read_slots(alloc, bay) {

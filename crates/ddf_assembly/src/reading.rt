@@ -1,11 +1,11 @@
 //! The newest copy of each slot of a bay.
-ghost use Rattle.std.specs.Prelude.{◌≡◌, ◌<◌, IfOk, IfSome, length};
+ghost use Rattle.std.specs.Prelude.{◌≡◌, ◌<◌, ◌≤◌, ℕ, IfOk, IfSome, length, slice_index};
 ghost use Rattle.ddf_bay.specs.State.{on_slot};
 ghost use Rattle.ddf_bay.specs.ReadsOnly.{LooksAt, ReadsOnly};
 ghost use Rattle.ddf_copy.specs.Copies.{newest_at};
 ghost use Rattle.ddf_copy.specs.Faults.{show_failed};
 ghost use Rattle.ddf_copy.specs.Whole.{IsNewestCopy};
-ghost use Rattle.ddf_assembly.specs.Reading.{AreNewest};
+ghost use Rattle.ddf_assembly.specs.Reading.{AreNewest, HasAnchor, HaveAnchors};
 ghost use Rattle.ddf_assembly.specs.Slots.{IsLooked, IsRead, IsSlotRead};
 
 use ddf_bay::Bay;
@@ -18,6 +18,7 @@ fn read_slot<B: Bay>(alloc: Global, bay: &mut B, slot: usize) -> Result<Option<N
     requires { slot < length (B.disks bay.old).sizes }
     ensures newest { B.tells → IfOk result (λ newest. newest ≡ on_slot newest_at (B.disks bay.old) slot) }
     ensures writable { IfOk result (λ newest. IfSome newest IsNewestCopy) }
+    ensures under { IfOk result (λ newest. IfSome newest (HasAnchor (slice_index (B.disks bay.old).sizes slot))) }
     ensures reads { ReadsOnly (B.disks bay.old) (B.disks bay.new) }
     ensures look { LooksAt (B.disks bay.old) (B.disks bay.new) slot (show_failed result) }
 {
@@ -40,6 +41,7 @@ fn read_or_leave<B: Bay>(
     requires { slot < length (B.disks bay.old).sizes }
     ensures read { IsSlotRead B.tells (B.disks bay.old) (B.disks bay.new) slot result }
     ensures writable { IfOk result (λ newest. IfSome newest IsNewestCopy) }
+    ensures under { IfOk result (λ newest. IfSome newest (HasAnchor (slice_index (B.disks bay.old).sizes slot))) }
     ensures reads { ReadsOnly (B.disks bay.old) (B.disks bay.new) }
 {
     match read_slot(alloc, bay, slot) {
@@ -57,6 +59,8 @@ pub(crate) fn read_slots<B: Bay>(
     ensures read { IfOk result (λ newest. IsRead B.tells (B.disks bay.old) (B.disks bay.new) newest.items) }
     ensures looked { IsLooked (B.disks bay.old) (B.disks bay.new) }
     ensures writable { IfOk result (λ newest. AreNewest newest.items) }
+    ensures under { IfOk result (λ newest. HaveAnchors (B.disks bay.old).sizes newest.items) }
+    ensures never_falls { (slot : ℕ) → (B.disks bay.old).failed_reads slot ≤ (B.disks bay.new).failed_reads slot }
     ensures reads { ReadsOnly (B.disks bay.old) (B.disks bay.new) }
 {
     let mut all = Vec::new(alloc);

@@ -9,12 +9,14 @@ use Rattle.ddf_bay.proofs.Looks.{failed_padded, look_rose, none_failed, reads_st
 use Rattle.ddf_bay.proofs.Steps.{stops_start}
 use Rattle.ddf_update.specs.Group.{IsLeftFoundingAll}
 use Rattle.ddf_bytes.specs.Streams.{SinkState}
+use Rattle.ddf_assembly.specs.Group.{group_of}
 use Rattle.ddf_assembly.specs.Slots.{IsLooked, newest_from}
+use Rattle.ddf_command.proofs.ReadBlocks.{memory_in}
 use Rattle.ddf_command.specs.Call.{Answer, Work, answer_of, work_of}
 use Rattle.ddf_command.specs.Examine.{IsExamined, some_failed}
 use Rattle.ddf_command.specs.Run.{IsCommandDone, SomeSlotRose}
 use Rattle.ddf_words.specs.declared.command.Command.{Command}
-use Rattle.ddf_words.specs.declared.command.Command.TheVariants.{Assemble, Examine, Label}
+use Rattle.ddf_words.specs.declared.command.Command.TheVariants.{Assemble, Examine, Label, Read}
 use Rattle.ddf_command.specs.declared.failure.Failure.TheVariants.{Memory}
 use Rattle.ddf_command.specs.Label.{label_copy, label_slots}
 use Rattle.ddf_words.specs.declared.command.Asked.{Asked}
@@ -116,4 +118,16 @@ done_nothing old tells told before stamp group (Label slots) = record {
   ends = (refl, λ told. refl);
   any_moment = λ tells. stops_start old (IsLeftFoundingAll old (label_slots old.sizes slots) (label_copy stamp old.sizes slots));
   refused = λ tells refusal is. reads_start old;
+}
+done_nothing old tells told before stamp group (Read name start count) = record {
+  outcome = Err Memory;
+  has = record {
+    left = (none_looked old).left;
+    every_slot = (none_looked old).every_slot;
+    failed = (none_looked old).are_failed.rose;
+    newest = newest_from old 0 (none_looked old).left;
+    read = λ tells. refl;
+    gives = memory_in (work_of tells old old) name start count (group_of (newest_from old 0 (none_looked old).left) group);
+  };
+  ends = (refl, λ told. refl);
 }

@@ -7,3 +7,6 @@ mod LabelEnds
 mod Labelled
 mod Quiet
 pub mod Outcomes
+pub mod Readable
+pub mod ReadBlocks
+pub mod ReadEnds

@@ -31,10 +31,10 @@ IsEnd status = (status ≡ 0) ⊎ (status ≡ 5) ⊎ (status ≡ 1) ⊎ (status 
 done_end : (text : List ℕ) (answer : Answer) → EndsWith 0 text answer → IsEnd answer.status
 done_end text answer ends = ⊎_elim inl (λ short. ⊎_elim (λ five. inr (inl five)) (λ six. inr (inr (inr (inr six)))) short) ends.ends
 
-refused_end : (text : List ℕ) (answer : Answer) → EndsWith 1 text answer → IsEnd answer.status
+pub refused_end : (text : List ℕ) (answer : Answer) → EndsWith 1 text answer → IsEnd answer.status
 refused_end text answer ends = ⊎_elim (λ one. inr (inr (inl one))) (λ short. ⊎_elim (λ five. inr (inl five)) (λ six. inr (inr (inr (inr six)))) short) ends.ends
 
-contradicted_end : (text : List ℕ) (answer : Answer) → EndsWith 4 text answer → IsEnd answer.status
+pub contradicted_end : (text : List ℕ) (answer : Answer) → EndsWith 4 text answer → IsEnd answer.status
 contradicted_end text answer ends = ⊎_elim (λ four. inr (inr (inr (inl four)))) (λ short. ⊎_elim (λ five. inr (inl five)) (λ six. inr (inr (inr (inr six)))) short) ends.ends
 
 group_end : (settled : Bool) (text : List ℕ) (answer : Answer) → IsTold (if settled then Ok text else Err (Refused Unsettled)) answer → IsEnd answer.status

@@ -1,5 +1,5 @@
 -- What `examine` tells, and how it ends.
-use Rattle.std.specs.Prelude.{◌≡◌, ◌⊎◌, ℕ, suc, ◌<◌, List, [], ◌∷◌, ◌++◌, length, Bool, false, Result, IfOk, OnOk, IsTrue, slice_index, slice_index_or, if◌then◌else◌}
+use Rattle.std.specs.Prelude.{◌≡◌, ◌⊎◌, ℕ, suc, List, [], ◌∷◌, ◌++◌, length, Bool, Result, IfOk, OnOk, slice_index, if◌then◌else◌}
 use Rattle.std.specs.List.{list_any}
 use Rattle.ddf_bytes.specs.Streams.{SinkState, TakesFront}
 use Rattle.ddf_bay.specs.State.{BayState}

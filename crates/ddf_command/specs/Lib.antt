@@ -8,4 +8,6 @@ pub mod Examine
 pub mod LabelRefusal
 pub mod Label
 pub mod Assemble
+pub mod Arrays
+pub mod Read
 pub mod Run

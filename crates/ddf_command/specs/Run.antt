@@ -1,15 +1,16 @@
 -- What a call of the program does, by the command that its words ask for. Each command has its case in each definition.
-use Rattle.std.specs.Prelude.{◌≡◌, ℕ, ◌<◌, List, [], ◌∷◌, length, Bool, true, false, ◌==◌, Option}
+use Rattle.std.specs.Prelude.{◌≡◌, ℕ, ◌<◌, List, [], ◌∷◌, length, Bool, false, ◌==◌, Option}
 use Rattle.std.specs.List.{list_any}
 use Rattle.ddf_bytes.specs.declared.stamp.Stamp.{Stamp}
 use Rattle.ddf_bay.specs.State.{BayState}
 use Rattle.ddf_words.specs.declared.command.Command.{Command}
-use Rattle.ddf_words.specs.declared.command.Command.TheVariants.{Assemble, Examine, Label}
+use Rattle.ddf_words.specs.declared.command.Command.TheVariants.{Assemble, Examine, Label, Read}
 use Rattle.ddf_bay.specs.ReadsOnly.{SlotRose}
 use Rattle.ddf_command.specs.Call.{Answer, Work}
 use Rattle.ddf_command.specs.Assemble.{IsAssembleDone}
 use Rattle.ddf_command.specs.Examine.{IsExamined}
 use Rattle.ddf_command.specs.Label.{IsLabelled}
+use Rattle.ddf_command.specs.Read.{IsReadDone}
 use Rattle.ddf_words.specs.Commands.{may_write}
 use Rattle.ddf_words.specs.Words.{Word, IsAsked}
 use Rattle.ddf_words.specs.declared.command.Asked.{Asked}
@@ -23,6 +24,7 @@ abbrev pub IsCommandDone : {D : Type 0} → Work D → Stamp → (group : Option
 IsCommandDone work stamp group Examine answer = IsExamined work answer
 IsCommandDone work stamp group (Label slots) answer = IsLabelled work stamp slots answer
 IsCommandDone work stamp group Assemble answer = IsAssembleDone work group answer
+IsCommandDone work stamp group (Read name start count) answer = IsReadDone work group name start count answer
 
 abbrev pub IsDone : {D : Type 0} → Work D → Stamp → Asked → Answer → Type 0
 IsDone work stamp asked answer = IsCommandDone work stamp asked.group asked.command answer

@@ -3,3 +3,4 @@ pub(crate) mod assemble;
 pub(crate) mod examine;
 pub(crate) mod label;
 mod label_slots;
+pub(crate) mod read;

@@ -15,6 +15,7 @@ ghost use Rattle.ddf_words.specs.Words.{words_of, slot_count, GoWrongAt, IsAccep
 use crate::commands::assemble::assemble_disks;
 use crate::commands::examine::examine;
 use crate::commands::label::label;
+use crate::commands::read::read;
 use crate::status::Status;
 use crate::tell::tell_line;
 use ddf_bay::Bay;
@@ -60,11 +61,17 @@ pub fn run<B: Bay, S: Source, K: Sink>(
         → (SinkRose (K.output sink.old) (K.output sink.new) → ⊥) → (result ≡ 0) ⊎ (result ≡ 5) ⊎ ((result ≡ 1) × (may_refuse asked.command ≡ true)) ⊎ ((result ≡ 4) × (takes_group asked.command ≡ true)) }
 {
     match asked(alloc, words) {
-        Ok(asked) => match asked.command {
-            Command::Assemble => assemble_disks(alloc, asked.group, bay, sink).code(),
-            Command::Examine => examine(alloc, bay, sink).code(),
-            Command::Label { slots } => label(alloc, slots.items(), bay, sink, &stamp).code(),
-        },
+        Ok(asked) => {
+            let group = asked.group;
+            match asked.command {
+                Command::Assemble => assemble_disks(alloc, group, bay, sink).code(),
+                Command::Examine => examine(alloc, bay, sink).code(),
+                Command::Label { slots } => label(alloc, slots.items(), bay, sink, &stamp).code(),
+                Command::Read { name, start, count } => {
+                    read(alloc, group, name.items(), start, count, bay, sink).code()
+                }
+            }
+        }
         Err(WordFault::Place(place)) => refuse_words(alloc, place, sink),
         Err(WordFault::Memory) => Status::Memory.code(),
     }

@@ -5,6 +5,7 @@ mod commands;
 mod disk;
 mod dispatch;
 mod failure;
+mod named;
 mod status;
 mod tell;
 

@@ -16,6 +16,7 @@ mod view;
 pub use conflict::{ConflictText, SplitText};
 pub use fault::disk_fault_line;
 pub use group::group_text;
+pub use name::prints_as;
 pub use refusal::RefusalText;
 pub use report::slot_text;
 pub use view::{DiskView, HeaderView, Headers};

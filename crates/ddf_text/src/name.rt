@@ -1,6 +1,7 @@
-ghost use Rattle.std.specs.Prelude.{◌≡◌, ◌≤◌, length, take};
-ghost use Rattle.std.specs.Str.{IsAscii};
-ghost use Rattle.ddf_text.specs.Records.{are_all, is_plain, is_plain_name, plain_len};
+ghost use Rattle.std.specs.Prelude.{◌≡◌, ◌≤◌, ◌++◌, codes, length, take};
+ghost use Rattle.std.specs.Str.{IsAscii, bytes_eq};
+ghost use Rattle.hex.specs.Hex.{encode_lower};
+ghost use Rattle.ddf_text.specs.Records.{are_all, is_plain, is_plain_name, name_text, plain_len};
 
 use ddf_bytes::{ascii_text, put_digits};
 use std::fmt;
@@ -26,6 +27,25 @@ impl fmt::Display for NameText<'_> {
             write!(f, "hex:{digits}")
         }
     }
+}
+
+/// Whether the name of an array prints as this text.
+pub fn prints_as(name: &[u8; 16], text: &[u8]) -> bool
+    ensures { result ≡ bytes_eq (name_text name.now) text.now }
+{
+    if is_plain_name(name) {
+        return &name[..plain_len(name)] == text;
+    }
+    is_in_digits(name, text)
+}
+
+/// Whether a text is `hex:` and the digits of a name.
+fn is_in_digits(name: &[u8; 16], text: &[u8]) -> bool
+    ensures { result ≡ bytes_eq (codes "hex:" ++ encode_lower name.now) text.now }
+{
+    let mut printed = *b"hex:00000000000000000000000000000000";
+    put_digits(name, &mut printed[4..]);
+    printed.as_slice() == text
 }
 
 /// Whether characters stand in front, and behind them spaces alone or zeros alone.

@@ -10,7 +10,7 @@ use ddf_bytes::Guid;
 use ddf_tables::{ArrayEntry, ArrayRow};
 
 /// The array of a row that is used.
-pub(crate) fn array_of(row: &ArrayRow) -> Option<ArrayEntry>
+pub fn array_of(row: &ArrayRow) -> Option<ArrayEntry>
     ensures { result ≡ array_of row.now }
 {
     match row {

@@ -18,8 +18,8 @@ pub(crate) fn disk_of(row: &DiskRow) -> Option<DiskEntry>
     }
 }
 
-/// The disk with this reference.
-pub(crate) fn find_disk(rows: &[DiskRow], reference: u32) -> Option<DiskEntry>
+/// The disk with this reference among the used rows.
+pub fn find_disk(rows: &[DiskRow], reference: u32) -> Option<DiskEntry>
     ensures { result ≡ find_disk reference (filter_map disk_of rows.now) }
 {
     rows.iter()

@@ -26,7 +26,7 @@ impl<'a> Model for Held<'a> {
 }
 
 /// The element of a slot that holds one.
-fn element_of(slot: &RecordSlot) -> Option<&Element>
+pub fn element_of(slot: &RecordSlot) -> Option<&Element>
     ensures { option_copied result ≡ element_of slot.now }
 {
     match slot {

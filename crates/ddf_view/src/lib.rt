@@ -18,10 +18,15 @@ mod spare_reading;
 mod together;
 mod view;
 
+pub use arrays::array_of;
 pub use difference::Difference;
 pub use differing::first_difference;
-pub use held::Held;
+pub use disks::find_disk;
+pub use held::{Held, element_of};
 pub use laws::{level_copies_have_one_view, names_differ, views_give_what_they_show};
 pub use reading::read;
+pub use same::same_record;
 pub use showing::shows;
+pub use slots::{first_spare, spare_of};
+pub use together::{disk_rows, find_held};
 pub use view::View;

@@ -77,7 +77,7 @@ pub(crate) fn same_plan(note: Option<&SlotNote>, one: &ElementPlan, other: &Elem
 
 /// Whether two records are the same in all named fields but the timestamp and the block size.
 #[tactic(auto, unfolding(crate::specs::Differ::same_record))]
-fn same_record(one: &Element, other: &Element) -> bool
+pub fn same_record(one: &Element, other: &Element) -> bool
     ensures { result ≡ same_record one.now other.now }
 {
     one.array == other.array

@@ -42,7 +42,7 @@ pub(crate) fn valid_notes<'a>(
 }
 
 /// The spare record of a slot that holds one.
-fn spare_of(slot: &RecordSlot) -> Option<&SpareRecord>
+pub fn spare_of(slot: &RecordSlot) -> Option<&SpareRecord>
     ensures { option_copied result ≡ spare_of slot.now }
 {
     match slot {
@@ -57,7 +57,7 @@ fn spare_of(slot: &RecordSlot) -> Option<&SpareRecord>
 }
 
 /// The spare record of the lowest slot that holds one.
-pub(crate) fn first_spare(slots: &[RecordSlot]) -> Option<&SpareRecord>
+pub fn first_spare(slots: &[RecordSlot]) -> Option<&SpareRecord>
     ensures { option_copied result ≡ first_spare slots.now }
 {
     for slot in slots {

@@ -13,7 +13,7 @@ use ddf_tables::{ArrayRow, DiskRow};
 const MOST_ELEMENTS: usize = 16;
 
 /// The rows of the first view's disks.
-pub(crate) fn disk_rows<'a>(views: &[View<'a>]) -> &'a [DiskRow]
+pub fn disk_rows<'a>(views: &[View<'a>]) -> &'a [DiskRow]
     ensures { filter_map disk_of result.now ≡ disks_in views.now }
 {
     match views.first() {
@@ -40,7 +40,7 @@ pub(crate) fn are_noted(views: &[View]) -> bool
 }
 
 /// The record of an element, of the first view that holds it.
-pub(crate) fn find_held<'a>(views: &[View<'a>], array: &Guid, index: usize) -> Option<Held<'a>>
+pub fn find_held<'a>(views: &[View<'a>], array: &Guid, index: usize) -> Option<Held<'a>>
     ensures { result ≡ find_held array.now index (elements_in views.now) }
 {
     for view in views {

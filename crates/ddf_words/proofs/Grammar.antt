@@ -8,7 +8,8 @@ use Rattle.std.specs.Prelude.{Contains}
 use Rattle.std.specs.Fmt.{decimal}
 use Rattle.ddf_words.proofs.Numbers.{many_slots, word_of_slot, small_slot, same_slot}
 use Rattle.ddf_words.proofs.Places.{wrong_word, wanting_words}
-use Rattle.ddf_words.proofs.Requests.{examine, same_request}
+use Rattle.ddf_words.proofs.Commands.{examine}
+use Rattle.ddf_words.proofs.Requests.{same_request}
 use Rattle.ddf_words.specs.Words.{Word, dashes, AreImages, AreSlotWords, NameSlots, IsNextImage, SpellsAsked, IsAsked, IsAccepted, IsRequest, Begins, GoWrongAt, LeadsWithImages}
 use Rattle.ddf_words.specs.declared.command.Asked.{Asked}
 use Rattle.ddf_words.specs.declared.command.Command.TheVariants.{Examine}

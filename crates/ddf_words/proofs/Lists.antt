@@ -2,7 +2,7 @@
 use Rattle.std.proofs.Common.{◌≢◌, ◌≤◌, get_or, String, Global, string_bytes, ◌≡◌, ℕ, List, [], ◌∷◌, Bool, map, take, length, refl, sym, ap, length-take, length-drop, drop, ◌-◌, ◌∙◌, suc, arith, ◌<◌}
 use Rattle.std.specs.Prelude.{not, position, All}
 use Rattle.std.proofs.lemmas.List.{get_or-map, get_or-take, take_all, drop-map}
-use Rattle.ddf_words.specs.Words.{words_of}
+use Rattle.ddf_words.specs.Words.{Word, words_of}
 use Rattle.std.specs.List.{prefix_len}
 
 prefix_len-map : {X Y : Type 0} (p : Y → Bool) (f : X → Y) (xs : List X) → prefix_len p (map f xs) ≡ prefix_len (λ x. p (f x)) xs
@@ -24,6 +24,10 @@ none_left (x ∷ xs) e = absurd (omega (arith, e))
 pub some_left : {X : Type 0} (xs : List X) → 0 < length xs → (first : X) × ((rest : List X) × (xs ≡ first ∷ rest))
 some_left [] some = absurd (omega arith)
 some_left (x ∷ xs) some = (x, (xs, refl))
+
+-- words that begin with a name
+pub named_words : (words rest : List Word) (first name : Word) → words ≡ first ∷ rest → first ≡ name → words ≡ name ∷ drop 1 words
+named_words words rest first name parts is = parts ∙ ap (λ (w : Word). w ∷ rest) is ∙ ap (λ (ws : List Word). name ∷ drop 1 ws) (sym parts)
 
 module _ (words : List (String Global)) where
   pub word_at : (k : ℕ) (d : String Global) → k < length words → get_or (words_of words) k [] ≡ string_bytes (get_or words k d)

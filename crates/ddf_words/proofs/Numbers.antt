@@ -1,5 +1,5 @@
 -- The numbers of slots in decimal.
-use Rattle.std.proofs.Common.{◌≡◌, ℕ, ◌<◌, ◌≤◌, List, [], length, get_or, true, false, Option, Some, None, ap, sym, ◌∙◌, refl, arith}
+use Rattle.std.proofs.Common.{◌≡◌, ℕ, ◌<◌, ◌≤◌, ◌^◌, List, [], length, get_or, true, false, Option, Some, None, ap, sym, ◌∙◌, refl, arith}
 use Rattle.std.specs.Fmt.{decimal}
 use Rattle.std.specs.List.{All, range_with_len}
 use Rattle.std.specs.Str.{bytes_eq}
@@ -10,7 +10,19 @@ use Rattle.std.proofs.lemmas.List.FromFn.{get_or-range_with_len, length-range_wi
 use Rattle.std.proofs.lemmas.Slice.Eq.{bytes_eq-Decides}
 use Rattle.std.proofs.Math.Seq.{ext_get_or}
 use Rattle.ddf_words.proofs.Finds.{found_is, found_passes, none_is}
-use Rattle.ddf_words.specs.Words.{Word, AreSlotWords, slot_of}
+use Rattle.ddf_words.specs.Words.{Word, AreSlotWords, IsNumber, SpellsNumber, StandsAt, slot_of}
+
+-- two numbers of at most so much that are written alike
+pub same_number : (most m n : ℕ) → most < 2 ^ 64 → m ≤ most → n ≤ most → decimal m ≡ decimal n → m ≡ n
+same_number most m n small within within' e = decimal_injective m n (omega arith) (omega arith) e
+
+-- a number
+pub zero_number : (most : ℕ) → IsNumber most (decimal 0)
+zero_number most = record { number = 0; spells = record { spelled = refl; within = omega arith } }
+
+-- where this number stands, a number stands
+pub number_stands : (most number : ℕ) (words : List Word) (place : ℕ) → StandsAt (SpellsNumber most number) words place → StandsAt (IsNumber most) words place
+number_stands most number words place stands = record { within = stands.within; is = record { number = number; spells = stands.is } }
 
 -- two numbers of slots that are written alike
 pub same_slot : (m n : ℕ) → m ≤ 63 → n ≤ 63 → decimal m ≡ decimal n → m ≡ n

@@ -1,75 +1,18 @@
--- The words of a command, and those behind the dashes.
-use Rattle.std.proofs.Common.{◌≡◌, ◌≢◌, ℕ, ◌+◌, List, [], ◌∷◌, get_or, take, drop, refl, sym, ap, ◌∙◌, arith, codes, Option, Some, None, true}
+-- Where the words of a command, and those behind the dashes, go wrong.
+use Rattle.std.proofs.Common.{◌≡◌, ◌≢◌, ℕ, ◌+◌, List, [], ◌∷◌, get_or, take, drop, refl, sym, ap, ◌∙◌, Option, Some, None, true, arith}
 use Rattle.hex.specs.Hex.{decode_of, encode_lower}
 use Rattle.hex.proofs.HexLemmas.{decode_of-encode_lower, decode_of-same}
-use Rattle.ddf_words.proofs.Numbers.{same_slots}
+use Rattle.ddf_words.proofs.Commands.{examine, label, assemble, first_word, name_of, begins_with, not_at, no_words, examine_alone, label_names, assemble_alone, same_command, over_group}
 use Rattle.ddf_words.proofs.Places.{begins_itself, wrong_word, wanting_words, wrong_among, wrong_behind}
 use Rattle.ddf_words.specs.Commands.{takes_group}
-use Rattle.ddf_words.specs.Words.{Word, AreSlotWords, NameSlots, Spells, NamesGroup, SpellOverGroup, SpellsAsked, IsCommand, IsGroupCommand, IsRequest, Begins, GoWrongAt}
+use Rattle.ddf_words.specs.Words.{Word, NameSlots, Spells, NamesGroup, SpellOverGroup, SpellsAsked, IsCommand, IsGroupCommand, IsRequest, Begins, GoWrongAt}
 use Rattle.ddf_words.specs.declared.command.Command.{Command}
 use Rattle.ddf_words.specs.declared.command.Command.TheVariants.{Examine, Label, Assemble}
 
-abbrev pub examine : Word
-examine = codes "examine"
-
-abbrev pub label : Word
-label = codes "label"
-
-abbrev pub assemble : Word
-assemble = codes "assemble"
-
-abbrev first_word : List Word → Word
-first_word words = get_or words 0 []
-
--- the first letter of the words
-abbrev first_letter : List Word → ℕ
-first_letter words = get_or (first_word words) 0 0
-
 -- ---- the words of a command
 
-abbrev letter_of : Command → ℕ
-letter_of Examine = 101
-letter_of (Label slots) = 108
-letter_of Assemble = 97
-
--- a command begins with the letter of its name
-begins_with : (words : List Word) (command : Command) → Spells command words → first_letter words ≡ letter_of command
-begins_with words Examine spells = ap first_letter spells
-begins_with words (Label slots) spells = ap first_letter spells.parts
-begins_with words Assemble spells = ap first_letter spells
-
-not_at : (command : Command) → letter_of command ≢ 64
-not_at Examine e = omega (arith, e)
-not_at (Label slots) e = omega (arith, e)
-not_at Assemble e = omega (arith, e)
-
-no_words : (command : Command) → Spells command [] → ⊥
-no_words Examine spells = cc
-no_words (Label slots) spells = let parts = spells.parts in cc
-no_words Assemble spells = cc
-
--- the words that begin the command
 examine_begins : (place : ℕ) → Begins IsCommand (take place (examine ∷ []))
 examine_begins place = begins_itself IsCommand (examine ∷ []) place (record { command = Examine; spells = refl })
-
-examine_alone : (rest : List Word) (command : Command) → Spells command (examine ∷ rest) → rest ≡ []
-examine_alone rest Examine spells = cc
-examine_alone rest command spells = absurd (omega (arith, begins_with (examine ∷ rest) command spells))
-
-label_names : (rest : List Word) (command : Command) → Spells command (label ∷ rest) → NameSlots rest
-label_names rest (Label slots) spells =
-    let same : rest ≡ spells.numbers = ap (drop 1) spells.parts in
-    record { slots = slots; are_slots = rw same spells.are_slots }
-label_names rest command spells = absurd (omega (arith, begins_with (label ∷ rest) command spells))
-
--- words ask for one command
-same_command : (words : List Word) (command command' : Command) → Spells command words → Spells command' words → command ≡ command'
-same_command words Examine Examine spells spells' = refl
-same_command words Assemble Assemble spells spells' = refl
-same_command words (Label slots) (Label slots') spells spells' =
-    let same : spells.numbers ≡ spells'.numbers = ap (drop 1) (sym spells.parts ∙ spells'.parts) in
-    ap Label (same_slots slots slots' spells'.numbers (rw same at spells.are_slots) spells'.are_slots)
-same_command words command command' spells spells' = absurd (omega (arith, begins_with words command spells, begins_with words command' spells'))
 
 pub no_command : (words : List Word) → words ≡ [] → GoWrongAt IsCommand words 0
 no_command words e = rw e (wanting_words IsCommand [] (examine_begins 0) (λ is. no_words is.command is.spells))
@@ -77,9 +20,6 @@ no_command words e = rw e (wanting_words IsCommand [] (examine_begins 0) (λ is.
 pub more_words : (words rest : List Word) (next : Word) → words ≡ examine ∷ next ∷ rest → GoWrongAt IsCommand words 1
 more_words words rest next e = rw e (wrong_word IsCommand (examine ∷ next ∷ rest) 1 (omega arith) (examine_begins 1)
     (λ begun. let e : next ∷ begun.more ≡ [] = examine_alone _ begun.goes_on.command begun.goes_on.spells in cc))
-
-pub label_spelled : (words rest : List Word) (slots : List ℕ) → words ≡ label ∷ rest → AreSlotWords slots rest → Spells (Label slots) words
-label_spelled words rest slots e are = record { numbers = rest; parts = e; are_slots = are }
 
 -- behind `label`, the words go wrong where the words of slots do
 pub wrong_numbers : (words rest : List Word) (place : ℕ) → words ≡ label ∷ rest → GoWrongAt NameSlots rest place → GoWrongAt IsCommand words (1 + place)
@@ -89,11 +29,6 @@ wrong_numbers words rest place e wrong = rw e (wrong_behind NameSlots IsCommand 
     wrong)
 
 -- a command of another name takes a group
-over_group : (name : Word) (more : List Word) → name ≢ examine → name ≢ label → (command : Command) → Spells command (name ∷ more) → IsGroupCommand (name ∷ more)
-over_group name more not_examine not_label Examine spells = absurd (not_examine (ap first_word spells))
-over_group name more not_examine not_label (Label slots) spells = absurd (not_label (ap first_word spells.parts))
-over_group name more not_examine not_label Assemble spells = record { command = Assemble; takes_one = refl; spells = spells }
-
 pub other_command : (words rest : List Word) (name : Word) (place : ℕ) → words ≡ name ∷ rest → name ≢ examine → name ≢ label → GoWrongAt IsGroupCommand words place → GoWrongAt IsCommand words place
 other_command words rest name place e not_examine not_label wrong = rw e (wrong_among IsGroupCommand IsCommand name rest place
     (λ ws is. record { command = is.command; spells = is.spells })
@@ -105,22 +40,17 @@ other_command words rest name place e not_examine not_label wrong = rw e (wrong_
 assemble_begins : (place : ℕ) → Begins IsGroupCommand (take place (assemble ∷ []))
 assemble_begins place = begins_itself IsGroupCommand (assemble ∷ []) place (record { command = Assemble; takes_one = refl; spells = refl })
 
--- these are its words
-group_name : (words : List Word) (command : Command) → takes_group command ≡ true → Spells command words → words ≡ assemble ∷ []
-group_name words Examine takes spells = absurd (cc)
-group_name words (Label slots) takes spells = absurd (cc)
-group_name words Assemble takes spells = spells
-
 pub no_group_command : (words : List Word) → words ≡ [] → GoWrongAt IsGroupCommand words 0
 no_group_command words e = rw e (wanting_words IsGroupCommand [] (assemble_begins 0) (λ is. no_words is.command is.spells))
 
-pub other_group_command : (words rest : List Word) (name : Word) → words ≡ name ∷ rest → name ≢ assemble → GoWrongAt IsGroupCommand words 0
+pub other_group_command : (words rest : List Word) (name : Word) → words ≡ name ∷ rest → ((command : Command) → takes_group command ≡ true → name ≢ name_of command)
+    → GoWrongAt IsGroupCommand words 0
 other_group_command words rest name e other = rw e (wrong_word IsGroupCommand (name ∷ rest) 0 (omega arith) (assemble_begins 0)
-    (λ begun. other (ap first_word (group_name _ begun.goes_on.command begun.goes_on.takes_one begun.goes_on.spells))))
+    (λ begun. other begun.goes_on.command begun.goes_on.takes_one (begins_with (name ∷ begun.more) begun.goes_on.command begun.goes_on.spells)))
 
 pub more_group_words : (words rest : List Word) (next : Word) → words ≡ assemble ∷ next ∷ rest → GoWrongAt IsGroupCommand words 1
 more_group_words words rest next e = rw e (wrong_word IsGroupCommand (assemble ∷ next ∷ rest) 1 (omega arith) (assemble_begins 1)
-    (λ begun. let e : next ∷ begun.more ≡ [] = ap (drop 1) (group_name _ begun.goes_on.command begun.goes_on.takes_one begun.goes_on.spells) in cc))
+    (λ begun. let e : next ∷ begun.more ≡ [] = assemble_alone _ begun.goes_on.command begun.goes_on.spells in cc))
 
 -- ---- behind the dashes
 
@@ -136,7 +66,7 @@ at_sign group word names = ap (λ (w : Word). get_or w 0 0) names.spelled
 
 -- no command begins with the name of a group
 no_name_of_group : (group : List ℕ) (word : Word) (more : List Word) (command : Command) → NamesGroup group word → Spells command (word ∷ more) → ⊥
-no_name_of_group group word more command names spells = not_at command (sym (begins_with (word ∷ more) command spells) ∙ at_sign group word names)
+no_name_of_group group word more command names spells = not_at command (ap (λ (w : Word). get_or w 0 0) (sym (begins_with (word ∷ more) command spells)) ∙ at_sign group word names)
 
 one_group : (words : List Word) (group : List ℕ) (command command' : Command) → Spells command words → SpellOverGroup group command' words → ⊥
 one_group words group command command' spells over = no_name_of_group group over.word over.others command over.names_group (rw over.parts at spells)

@@ -1,6 +1,6 @@
 -- The words of `ddf`: which lists of words ask for which command, and where other words go wrong.
-use Rattle.std.specs.Prelude.{◌≡◌, ◌≢◌, ℕ, ◌≤◌, ◌<◌, List, [], ◌∷◌, ◌++◌, length, map, take, slice_index_or, Bool, true, nat_le, Option, Some, None, codes, string_bytes, if◌then◌else◌}
-use Rattle.std.specs.List.{find, position, range_with_len}
+use Rattle.std.specs.Prelude.{◌≡◌, ◌≢◌, ◌⊎◌, ℕ, ◌≤◌, ◌<◌, ◌^◌, List, [], ◌∷◌, ◌++◌, length, map, take, slice_index, slice_index_or, Bool, true, ◌&&◌, nat_le, Option, Some, None, codes, string_bytes, if◌then◌else◌}
+use Rattle.std.specs.List.{AllPass, find, position, range_with_len}
 use Rattle.std.specs.Str.{bytes_eq}
 use Rattle.std.specs.Fmt.{decimal}
 use Rattle.std.specs.declared.string.String.{String}
@@ -9,7 +9,7 @@ use Rattle.hex.specs.Hex.{encode_lower}
 use Rattle.ddf_bytes.specs.Guids.{IsGuid}
 use Rattle.ddf_words.specs.declared.command.Asked.{Asked}
 use Rattle.ddf_words.specs.declared.command.Command.{Command}
-use Rattle.ddf_words.specs.declared.command.Command.TheVariants.{Examine, Label, Assemble}
+use Rattle.ddf_words.specs.declared.command.Command.TheVariants.{Examine, Label, Assemble, Read}
 use Rattle.ddf_words.specs.Commands.{takes_group}
 
 -- a word is its bytes
@@ -52,11 +52,45 @@ pub record SpellLabel (slots : List ℕ) (words : List Word) : Type 0 where
   pub parts : words ≡ codes "label" ∷ numbers
   pub are_slots : AreSlotWords slots numbers
 
+-- The word is this number in decimal, without a sign and without a leading zero, and the number is at most so much.
+pub record SpellsNumber (most number : ℕ) (word : Word) : Type 0 where
+  pub spelled : word ≡ decimal number
+  pub within : number ≤ most
+
+-- a byte of 21 to 7E
+abbrev pub is_plain : ℕ → Bool
+is_plain byte = nat_le 0x21 byte && nat_le byte 0x7E
+
+-- The word is a name of 1 to 16 plain bytes.
+pub record IsPlainName (word : Word) : Type 0 where
+  pub some : 1 ≤ length word
+  pub few : length word ≤ 16
+  pub plain : AllPass is_plain word
+
+-- The word is `hex:` and the 32 lower-case hexadecimal digits of a name of 16 bytes.
+pub record IsHexName (word : Word) : Type 0 where
+  pub bytes : List ℕ
+  pub count : length bytes ≡ 16
+  pub each : (i : ℕ) → slice_index bytes i < 256
+  pub spelled : word ≡ codes "hex:" ++ encode_lower bytes
+
+-- the word of an array's name
+abbrev pub IsName : Word → Type 0
+IsName word = IsPlainName word ⊎ IsHexName word
+
+-- The words are `read`, the name of an array, the first block and how many blocks.
+pub record SpellRead (name : Word) (start count : ℕ) (words : List Word) : Type 0 where
+  pub parts : words ≡ codes "read" ∷ name ∷ decimal start ∷ decimal count ∷ []
+  pub is_name : IsName name
+  pub start_within : start ≤ 2 ^ 60
+  pub count_within : count ≤ 2 ^ 60
+
 -- the words of each command
 abbrev pub Spells : Command → List Word → Type 0
 Spells Examine words = words ≡ codes "examine" ∷ []
 Spells (Label slots) words = SpellLabel slots words
 Spells Assemble words = words ≡ codes "assemble" ∷ []
+Spells (Read name start count) words = SpellRead name start count words
 
 -- The word is `@` and the 48 lower-case hexadecimal digits of the group's GUID.
 pub record NamesGroup (group : List ℕ) (word : Word) : Type 0 where
@@ -110,6 +144,20 @@ pub record IsRequest (words : List Word) : Type 0 where
 pub record NameSlots (words : List Word) : Type 0 where
   pub slots : List ℕ
   pub are_slots : AreSlotWords slots words
+
+-- some number of at most so much is spelled so
+pub record IsNumber (most : ℕ) (word : Word) : Type 0 where
+  pub number : ℕ
+  pub spells : SpellsNumber most number word
+
+-- A word of a kind stands at a place.
+pub record StandsAt (kind : Word → Type 0) (words : List Word) (place : ℕ) : Type 0 where
+  pub within : place < length words
+  pub is : kind (slice_index_or words place [])
+
+-- No word of a kind stands at a place.
+pub record LacksAt (kind : Word → Type 0) (words : List Word) (place : ℕ) : Type 0 where
+  pub none : place < length words → kind (slice_index_or words place []) → ⊥
 
 -- The first words, so many, are images, and dashes come next.
 pub record LeadsWithImages (words : List Word) (count : ℕ) : Type 0 where

@@ -23,6 +23,15 @@ pub enum Command {
     },
     /// Shows the members and the arrays of a group.
     Assemble,
+    /// Reads blocks of an array.
+    Read {
+        /// The name of the array, as the words give it: its plain bytes, or `hex:` and the digits of all its bytes.
+        name: Seq<u8>,
+        /// The first block, at most 2^60.
+        start: u64,
+        /// How many blocks, at most 2^60.
+        count: u64,
+    },
 }
 
 impl Command {
@@ -34,7 +43,7 @@ impl Command {
     {
         match self {
             Command::Examine | Command::Label { .. } => false,
-            Command::Assemble => true,
+            Command::Assemble | Command::Read { .. } => true,
         }
     }
 
@@ -43,7 +52,7 @@ impl Command {
         ensures { result ≡ may_write self.now }
     {
         match self {
-            Command::Examine | Command::Assemble => false,
+            Command::Examine | Command::Assemble | Command::Read { .. } => false,
             Command::Label { .. } => true,
         }
     }
@@ -53,7 +62,7 @@ impl Command {
         ensures { result ≡ makes_names self.now }
     {
         match self {
-            Command::Examine | Command::Assemble => false,
+            Command::Examine | Command::Assemble | Command::Read { .. } => false,
             Command::Label { .. } => true,
         }
     }

@@ -1,7 +1,11 @@
 //! The words of `ddf`: the images, and the command that is asked for, with the group that it is done to.
 #![tactic(auto)]
 
+mod block_words;
 mod command;
+mod ends;
+mod name_words;
+mod number_words;
 mod request;
 mod slot_words;
 mod words;

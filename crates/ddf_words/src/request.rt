@@ -3,6 +3,7 @@ ghost use Rattle.std.specs.Prelude.{◌≡◌, ℕ, List, true, string_bytes, If
 ghost use Rattle.ddf_words.specs.Commands.{takes_group};
 ghost use Rattle.ddf_words.specs.Words.{words_of, NamesGroup, Spells, SpellsAsked, IsCommand, IsGroupCommand, IsRequest, GoWrongAt};
 
+use crate::block_words::read_of;
 use crate::command::{Asked, Command};
 use crate::slot_words::slots_of;
 use crate::words::WordFault;
@@ -21,7 +22,7 @@ fn group_of(word: &String) -> Option<Guid>
 }
 
 /// The command over a group that the words spell, or where they go wrong.
-fn group_command_of(words: &[String]) -> Result<Command, WordFault>
+fn group_command_of(alloc: Global, words: &[String]) -> Result<Command, WordFault>
     ensures takes { IfOk result (λ command. takes_group command ≡ true) }
     ensures found { IfOk result (λ command. Spells command (words_of words.now)) }
     ensures place { (place : ℕ) → result ≡ Err (WordFault.Place place) → GoWrongAt IsGroupCommand (words_of words.now) place }
@@ -34,6 +35,7 @@ fn group_command_of(words: &[String]) -> Result<Command, WordFault>
             [] => Ok(Command::Assemble),
             _ => Err(WordFault::Place(1)),
         },
+        "read" => read_of(alloc, words),
         _ => Err(WordFault::Place(0)),
     }
 }
@@ -56,7 +58,7 @@ fn command_of(alloc: Global, words: &[String]) -> Result<Command, WordFault>
             Err(WordFault::Place(place)) => Err(WordFault::Place(1 + place)),
             Err(WordFault::Memory) => Err(WordFault::Memory),
         },
-        _ => group_command_of(words),
+        _ => group_command_of(alloc, words),
     }
 }
 
@@ -75,7 +77,7 @@ pub(crate) fn request_of(alloc: Global, words: &[String]) -> Result<Asked, WordF
             command,
         });
     };
-    match group_command_of(rest) {
+    match group_command_of(alloc, rest) {
         Ok(command) => Ok(Asked {
             group: Some(group),
             command,

@@ -1,12 +1,10 @@
 // The words behind `label`: the numbers of slots.
 ghost use Rattle.std.specs.Prelude.{◌≡◌, ℕ, string_bytes, IfOk};
-ghost use Rattle.std.specs.Fmt.{decimal};
-ghost use Rattle.std.specs.Str.{bytes_eq};
 ghost use Rattle.ddf_words.specs.Words.{words_of, AreSlotWords, NameSlots, GoWrongAt, slot_of};
 
+use crate::number_words::is_decimal;
 use crate::words::WordFault;
 use ddf_bytes::Seq;
-use itoa::Buffer;
 use std::alloc::Global;
 
 /// How many slots there are at the most, numbered from 0.
@@ -16,14 +14,7 @@ const MOST_SLOTS: u8 = 64;
 fn slot_of(word: &String) -> Option<u8>
     ensures { result ≡ slot_of (string_bytes word.now) }
 {
-    (0..MOST_SLOTS).find(|slot| is_number(word, *slot))
-}
-
-/// Whether a word is this number.
-fn is_number(word: &String, slot: u8) -> bool
-    ensures { result ≡ bytes_eq (string_bytes word.now) (decimal slot) }
-{
-    Buffer::new().format(slot) == word.as_str()
+    (0..MOST_SLOTS).find(|slot| is_decimal(word.as_str(), u64::from(*slot)))
 }
 
 /// The slots that the words name, or where they go wrong: a word that names none, or one that an earlier word names.

@@ -200,7 +200,7 @@ fn an_output_that_fails_is_told(rt: HostRuntime) -> Result<(), Fail> {
 #[test]
 fn words_go_wrong_at_a_place(rt: HostRuntime) -> Result<(), Fail> {
     let alloc = rt.alloc();
-    let cases: [(&[&str], &str); 13] = [
+    let cases: [(&[&str], &str); 18] = [
         (&[], "refused 10 word 0\n"),
         (&["d0"], "refused 10 word 1\n"),
         (&["d0", "d1", "d0", "--", "examine"], "refused 10 word 2\n"),
@@ -214,6 +214,23 @@ fn words_go_wrong_at_a_place(rt: HostRuntime) -> Result<(), Fail> {
         (&["d0", "--", "examine", "x"], "refused 10 word 3\n"),
         (&["d0", "--", "--", "examine"], "refused 10 word 2\n"),
         (&["d0", "--", "assemble", "x"], "refused 10 word 3\n"),
+        (&["d0", "--", "read", "vol", "0"], "refused 10 word 5\n"),
+        (
+            &["d0", "--", "read", "v\u{7f}", "0", "1"],
+            "refused 10 word 3\n",
+        ),
+        (
+            &["d0", "--", "read", "vol", "00", "1"],
+            "refused 10 word 4\n",
+        ),
+        (
+            &["d0", "--", "read", "vol", "0", "1152921504606846977"],
+            "refused 10 word 5\n",
+        ),
+        (
+            &["d0", "--", "read", "vol", "0", "1", "x"],
+            "refused 10 word 6\n",
+        ),
         (&["d0", "--", GROUP], "refused 10 word 3\n"),
         (&["d0", "--", GROUP, "examine"], "refused 10 word 3\n"),
         (&["d0", "--", "@07", "assemble"], "refused 10 word 2\n"),

@@ -15,5 +15,5 @@ returns-in-Ok-clause-assembled g c = record {
   looked = c.in-Ok.ensures.read.looked;
   newest = c.in-Ok.newest.items;
   read = c.in-Ok.ensures.read.answer;
-  answer = c.group_of.ensures;
+  answer = c.group_of.ensures.group;
 }

@@ -1,9 +1,10 @@
-use Rattle.std.proofs.Common.{◌≡◌, ◌∙◌, Ok, Some, ap, refl, rules, ⊎_elim}
+use Rattle.std.proofs.Common.{◌≡◌, ◌∙◌, ℕ, List, Ok, Some, ap, refl, rules, subst, ⊎_elim}
 use Rattle.std.specs.Prelude.{slice_index}
 use Rattle.ddf_bay.proofs.Looks.{looks_then, reads_then}
 use Rattle.ddf_copy.specs.declared.newest_copy.Newest.{Newest}
 use Rattle.ddf_copy.specs.Anchor.{anchor_at}
 use Rattle.ddf_copy.specs.Copies.{newest_of, newest_under}
+use Rattle.ddf_copy.specs.Whole.{IsNewestUnder}
 use Rattle.ddf_assembly.proofs.reading.read_slot.Goals as goal
 
 pub returns-in_err-newest-in-Ok-clause-reads : goal.returns-in_err-newest-in-Ok-clause-reads
@@ -27,3 +28,10 @@ returns-in_ok-newest-in-Ok-clause-reads g c = reads_then c.in-Ok.ensures.reads c
 
 pub returns-in_ok-newest-in-Ok-clause-look : goal.returns-in_ok-newest-in-Ok-clause-look
 returns-in_ok-newest-in-Ok-clause-look g c = looks_then c.args.slot _ c.in-Ok.ensures.look c.in_ok-newest-in-Ok.ensures.look
+
+pub returns-in_ok-newest-in-Ok-clause-under : goal.returns-in_ok-newest-in-Ok-clause-under
+returns-in_ok-newest-in-Ok-clause-under g c = record {
+  anchor = c.in-Ok.anchor;
+  is_anchor = c.in-Ok.ensures.spelled;
+  under = subst (λ (sizes : List ℕ). IsNewestUnder (slice_index sizes c.args.slot) c.in-Ok.anchor c.in_ok-newest-in-Ok.newest) c.anchor_of.ensures.reads.same_sizes (c.in_ok-newest-in-Ok.ensures.under c.in-Ok.ensures.spelled);
+}

@@ -1,6 +1,6 @@
-use Rattle.std.proofs.Common.{◌≡◌, length}
+use Rattle.std.proofs.Common.{◌≡◌, ◌≤◌, ℕ, length}
 use Rattle.ddf_bay.specs.ReadsOnly.{ReadsOnly}
-use Rattle.ddf_assembly.specs.Reading.{AreNewest}
+use Rattle.ddf_assembly.specs.Reading.{AreNewest, HaveAnchors}
 use Rattle.ddf_assembly.proofs.Partway.{IsPartway}
 use Rattle.ddf_assembly.proofs.reading.read_slots.Given as goal
 
@@ -10,4 +10,7 @@ invariant-loop-slot g l = record {
   partway : IsPartway g.B.Bay.tells (g.B.Bay.disks l.initial.bay) (g.B.Bay.disks l.bay) l.slot l.all.items;
   reads : ReadsOnly (g.B.Bay.disks l.initial.bay) (g.B.Bay.disks l.bay);
   writable : AreNewest l.all.items;
+  never_falls : (slot : ℕ) → (g.B.Bay.disks l.initial.bay).failed_reads slot ≤ (g.B.Bay.disks l.bay).failed_reads slot;
+  counted : length l.all.items ≡ l.slot;
+  under : HaveAnchors (g.B.Bay.disks l.initial.bay).sizes l.all.items;
 }

@@ -1,6 +1,6 @@
 use Rattle.std.proofs.Common.{◌≡◌, ◌∙◌, ℕ, Err, sym, ap, subst, inl, inr, ⊎_elim, refl}
 use Rattle.ddf_words.specs.declared.command.Asked.{Asked}
-use Rattle.ddf_words.specs.declared.command.Command.TheVariants.{Assemble, Examine, Label}
+use Rattle.ddf_words.specs.declared.command.Command.TheVariants.{Assemble, Examine, Label, Read}
 use Rattle.ddf_words.specs.Words.{words_of, IsAccepted}
 use Rattle.ddf_config.specs.declared.refusal.Refusal.TheVariants.{Words}
 use Rattle.ddf_text.specs.Refusal.{refusal_line}
@@ -9,6 +9,7 @@ use Rattle.ddf_command.specs.Tells.{EndsWith}
 use Rattle.ddf_command.proofs.Endings.{fault_cause, no_fault, done_nothing, one_place, same_asked, stream_status}
 use Rattle.ddf_command.proofs.LabelEnds.{label_no_fault}
 use Rattle.ddf_command.proofs.Outcomes.{assemble_no_disk, assemble_no_fault}
+use Rattle.ddf_command.proofs.ReadEnds.{read_cause, read_no_fault}
 use Rattle.ddf_command.proofs.dispatch.run.Goals as goal
 
 pub returns-in-Assemble-clause-done : goal.returns-in-Assemble-clause-done
@@ -41,6 +42,24 @@ pub returns-in-Examine-clause-complete : goal.returns-in-Examine-clause-complete
 returns-in-Examine-clause-complete g c = λ asked is none good.
     let status = no_fault _ _ c.examine.ensures.examined none (λ six. good (c.examine.ensures.stream (stream_status c.examine.result six))) in
     rw c.code-in-Examine.ensures (⊎_elim inl (λ five. inr (inl five)) status)
+
+pub returns-in-Read-clause-done : goal.returns-in-Read-clause-done
+returns-in-Read-clause-done g c = λ asked is.
+    let same : c.in-Ok.asked ≡ asked = same_asked c.asked.result c.in-Ok.asked asked c.in-Ok.is (c.asked.ensures.every asked is) in
+    let one : Read c.in-Read.name c.in-Read.start c.in-Read.count ≡ asked.command = sym c.in-Read.is ∙ ap (λ (a : Asked). a.command) same in
+    let group : c.in-Ok.asked.group ≡ asked.group = ap (λ (a : Asked). a.group) same in
+    let items : c.items-in-Read.result.now ≡ c.in-Read.name = c.items-in-Read.ensures ∙ c.in-Read.name-is in
+    rw (← one, ← group) (rw c.code-in-Read.ensures (rw (items, c.in-Read.start-is, c.in-Read.count-is) at c.read.ensures.done))
+
+pub returns-in-Read-clause-disk_fault : goal.returns-in-Read-clause-disk_fault
+returns-in-Read-clause-disk_fault g c = λ e. read_cause _ _ _ _ _ _ c.read.ensures.done (sym c.code-in-Read.ensures ∙ e)
+
+pub returns-in-Read-clause-complete : goal.returns-in-Read-clause-complete
+returns-in-Read-clause-complete g c = λ asked is none good.
+    let same : c.in-Ok.asked ≡ asked = same_asked c.asked.result c.in-Ok.asked asked c.in-Ok.is (c.asked.ensures.every asked is) in
+    let one : Read c.in-Read.name c.in-Read.start c.in-Read.count ≡ asked.command = sym c.in-Read.is ∙ ap (λ (a : Asked). a.command) same in
+    let status = read_no_fault _ _ _ _ _ _ c.read.ensures.done none (λ six. good (c.read.ensures.stream (stream_status c.read.result six))) in
+    rw (c.code-in-Read.ensures, ← one) (⊎_elim inl (λ other. inr (⊎_elim inl (λ later. inr (⊎_elim (λ refused. inl (refused, refl)) (λ four. inr (four, refl)) later)) other)) status)
 
 pub returns-in-Label-clause-done : goal.returns-in-Label-clause-done
 returns-in-Label-clause-done g c = λ asked is.

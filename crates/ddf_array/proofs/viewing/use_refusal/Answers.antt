@@ -3,7 +3,7 @@ use Rattle.ddf_config.specs.declared.extent.Extent.{Extent}
 use Rattle.ddf_config.specs.Configuration.{Configuration}
 use Rattle.ddf_config.specs.Extents.{extents}
 use Rattle.ddf_config.specs.Unusable.{unusable}
-use Rattle.ddf_array.proofs.viewing.refusal_of.Goals as goal
+use Rattle.ddf_array.proofs.viewing.use_refusal.Goals as goal
 
 pub returns : goal.returns
 returns c =

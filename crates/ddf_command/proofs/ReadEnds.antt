@@ -1,0 +1,56 @@
+-- How `read` ends.
+use Rattle.std.proofs.Common.{◌≡◌, ◌⊎◌, inl, inr, ⊎_elim, ℕ, List, Option, Result, Ok, Err, arith}
+use Rattle.ddf_group.specs.declared.answer.Assembly.{Assembly}
+use Rattle.ddf_group.specs.declared.answer.Assembly.TheVariants as faults
+use Rattle.ddf_assembly.specs.Group.{GroupValue, group_of}
+use Rattle.ddf_command.specs.declared.failure.Failure.{Failure}
+use Rattle.ddf_command.specs.declared.failure.Failure.TheVariants.{Conflict, Disk, Memory, Refused, Split}
+use Rattle.ddf_command.specs.Answers.{failure_of}
+use Rattle.ddf_command.specs.Call.{Answer, Work}
+use Rattle.ddf_command.specs.Read.{IsReadDone, IsReadIn, IsReadTold}
+use Rattle.ddf_command.specs.Run.{SomeSlotRose}
+use Rattle.ddf_command.proofs.Outcomes.{IsEnd, contradicted_end, refused_end}
+use Rattle.ddf_text.specs.Conflicts.{conflict_line, split_line}
+use Rattle.ddf_text.specs.Refusal.{refusal_line}
+
+-- no group has no failed slot
+no_disk : (fault : Assembly) (slot : ℕ) → failure_of fault ≡ Disk slot → ⊥
+no_disk faults.NoGroup slot e = cc
+no_disk (faults.SeveralGroups first second) slot e = cc
+no_disk (faults.Conflict i j sequence differ) slot e = cc
+no_disk (faults.Split i j) slot e = cc
+no_disk faults.Memory slot e = cc
+
+module _ {D : Type 0} (work : Work D) (named : Option (List ℕ)) (word : List ℕ) (start count : ℕ) (answer : Answer) where
+  -- a block without a source names a slot that failed
+  rose_by : (slot : ℕ) (group : Result GroupValue Assembly) → IsReadIn work word start count group (Err (Disk slot)) → SomeSlotRose work.old work.new
+  rose_by slot (Ok group) is = record { slot = slot; there = is.1.there; rose = inl is.1.none_left.none_left.this_failed }
+  rose_by slot (Err fault) is = absurd (⊎_elim (λ e. no_disk fault slot cc) (λ memory. cc) is)
+
+  -- how it ends where no slot failed
+  end_by : (outcome : Result (List (List ℕ)) Failure) (group : Result GroupValue Assembly) → IsReadIn work word start count group outcome → IsReadTold outcome answer
+      → IsEnd answer.status ⊎ SomeSlotRose work.old work.new
+  end_by (Ok sectors) group is told = inl (⊎_elim inl (λ six. inr (inr (inr (inr six)))) told.ends)
+  end_by (Err (Refused refusal)) group is told = inl (refused_end (refusal_line refusal) answer told)
+  end_by (Err (Disk slot)) group is told = inr (rose_by slot group is)
+  end_by (Err (Conflict i j sequence differ)) group is told = inl (contradicted_end (conflict_line i j sequence differ) answer told)
+  end_by (Err (Split i j)) group is told = inl (contradicted_end (split_line i j) answer told)
+  end_by (Err Memory) group is told = inl (inr (inl told.0))
+
+  ended : IsReadDone work named word start count answer → IsEnd answer.status ⊎ SomeSlotRose work.old work.new
+  ended done = end_by done.outcome (group_of done.has.newest named) done.has.gives done.ends
+
+  not_three : IsEnd answer.status → answer.status ≡ 3 → ⊥
+  not_three end e = ⊎_elim (λ n. omega (arith, e, n)) (⊎_elim (λ n. omega (arith, e, n)) (⊎_elim (λ n. omega (arith, e, n)) (⊎_elim (λ n. omega (arith, e, n)) (λ n. omega (arith, e, n))))) end
+
+  -- status 3 comes from a slot
+  pub read_cause : IsReadDone work named word start count answer → answer.status ≡ 3 → SomeSlotRose work.old work.new
+  read_cause done e = ⊎_elim (λ end. absurd (not_three end e)) (λ rose. rose) (ended done)
+
+  -- where nothing failed it is done, or refused, or records contradict each other, or memory ran out
+  pub read_no_fault : IsReadDone work named word start count answer → (SomeSlotRose work.old work.new → ⊥) → (answer.status ≡ 6 → ⊥)
+      → (answer.status ≡ 0) ⊎ (answer.status ≡ 5) ⊎ (answer.status ≡ 1) ⊎ (answer.status ≡ 4)
+  read_no_fault done none good = ⊎_elim
+      (⊎_elim inl (⊎_elim (λ five. inr (inl five)) (⊎_elim (λ one. inr (inr (inl one))) (⊎_elim (λ four. inr (inr (inr four))) (λ six. absurd (good six))))))
+      (λ rose. absurd (none rose))
+      (ended done)

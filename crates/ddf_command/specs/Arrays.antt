@@ -1,0 +1,45 @@
+-- Which array the words name, and what is told of it by its state.
+use Rattle.std.specs.Prelude.{ℕ, ◌/◌, ◌%◌, Bool, ◌&&◌, ◌||◌, ◌==◌, nat_lt, List, find, Option, option_map}
+use Rattle.std.specs.List.{list_any}
+use Rattle.std.specs.Map.{lookup}
+use Rattle.std.specs.Option.{option_and_then}
+use Rattle.std.specs.Str.{bytes_eq}
+use Rattle.ddf_config.specs.declared.array.Array.{Array}
+use Rattle.ddf_config.specs.declared.extent.Extent.{Extent}
+use Rattle.ddf_config.specs.declared.seat.Seat.{Seat}
+use Rattle.ddf_config.specs.declared.refusal.Refusal.{Refusal}
+use Rattle.ddf_config.specs.declared.refusal.Refusal.TheVariants.{BadBlocks}
+use Rattle.ddf_config.specs.Extents.{array_extents}
+use Rattle.ddf_config.specs.Members.{same_guid}
+use Rattle.ddf_config.specs.States.{is_deleted}
+use Rattle.ddf_text.specs.Records.{name_text}
+
+-- the GUID of the first array of the table whose name prints as this word
+abbrev pub has_printed_name : (word : List ℕ) → (List ℕ × Array) → Bool
+has_printed_name word entry = bytes_eq (name_text entry.1.name) word
+
+abbrev pub named_guid : List (List ℕ × Array) → (word : List ℕ) → Option (List ℕ)
+named_guid arrays word = option_map (λ entry. entry.0) (find (has_printed_name word) arrays)
+
+-- the array with its GUID
+abbrev pub with_array : List (List ℕ × Array) → (guid : List ℕ) → Option (List ℕ × Array)
+with_array arrays guid = option_map (λ array. (guid, array)) (lookup (same_guid guid) arrays)
+
+abbrev pub named_array : List (List ℕ × Array) → (word : List ℕ) → Option (List ℕ × Array)
+named_array arrays word = option_and_then (with_array arrays) (named_guid arrays word)
+
+-- one of these extents lies on a disk
+abbrev pub lies_on : List Extent → (reference : ℕ) → Bool
+lies_on own reference = list_any (λ (one : Extent). one.reference == reference) own
+
+-- a seat lists bad blocks, and one of these extents lies on it
+abbrev pub is_bad : List Extent → Seat → Bool
+is_bad own seat = nat_lt 0 seat.bad && lies_on own seat.reference
+
+-- A disk of the array has bad blocks: the least slot of these. Seats stand in the order of their slots.
+abbrev pub bad_blocks : List Seat → Array → Option Refusal
+bad_blocks seats array = option_map (λ (seat : Seat). BadBlocks seat.slot) (find (is_bad (array_extents array)) seats)
+
+-- The array is being morphed (state bit 3) or is deleted (low state 2), or nobody may access it (init bits 6 and 7).
+abbrev pub is_held : Array → Bool
+is_held array = array.state / 8 % 2 == 1 || is_deleted array || array.init / 64 == 3

@@ -1,0 +1,224 @@
+// `read`: blocks of an array.
+ghost use Rattle.std.specs.Prelude.{◌≡◌, ℕ, List, Some, ◌+◌, ◌≤◌, nat_lt, None, length, IfErr, IfOk, OnOk};
+ghost use Rattle.ddf_array.specs.Viewing.{view_of};
+ghost use Rattle.ddf_bay.specs.ReadsOnly.{ReadsOnly};
+ghost use Rattle.ddf_bytes.specs.Streams.{SinkRose};
+ghost use Rattle.ddf_config.specs.Refusals.{first_refusal};
+ghost use Rattle.ddf_config.specs.Seats.{SeatsFit};
+ghost use Rattle.ddf_config.specs.Shapes.{array_capacity};
+ghost use Rattle.ddf_array.specs.Volume.{Fits};
+ghost use Rattle.ddf_volume.specs.Given.{AreGiven};
+ghost use Rattle.ddf_volume.specs.Reading.{Failed, OnlyReads};
+ghost use Rattle.ddf_volume.specs.Refused as volume;
+ghost use Rattle.ddf_volume.specs.Refused.{IsReadFault};
+ghost use Rattle.ddf_command.specs.Arrays.{named_array};
+ghost use Rattle.ddf_command.specs.Call.{answer_of, work_of};
+ghost use Rattle.ddf_command.specs.Read.{HasRead, IsReadDone, IsReadOf, IsViewed, MayRead, array_refusals, failure_of_read, is_out_of_range, is_useless, sectors_read};
+ghost use Rattle.ddf_command.specs.Status.{code_of};
+
+use crate::failure::{Failure, tell_failure};
+use crate::named::{bad_blocks, is_held, named_array};
+use crate::status::Status;
+use crate::tell::tell;
+use ddf_assembly::{Group, assemble};
+use ddf_bay::Bay;
+use ddf_bytes::{Guid, NoMemory, Sector, Sink};
+use ddf_config::{Array, Refusal, array_capacity, first_refusal, refuse_if};
+use ddf_volume::{View, ViewFault, VolumeFault, read_blocks, use_refusal};
+use std::alloc::Global;
+
+/// The most blocks of one read (profile).
+const MOST_BLOCKS: u64 = 2048;
+
+/// Prints the bytes of blocks of an array, and nothing else.
+pub(crate) fn read<B: Bay, K: Sink>(
+    alloc: Global,
+    named: Option<Guid>,
+    name: &[u8],
+    start: u64,
+    count: u64,
+    bay: &mut B,
+    sink: &mut K,
+) -> Status
+    ensures done { IsReadDone (work_of B.tells (B.disks bay.old) (B.disks bay.new)) named name.now start count (answer_of K.tells (K.output sink.old) (K.output sink.new) (code_of result)) }
+    ensures reads { ReadsOnly (B.disks bay.old) (B.disks bay.new) }
+    ensures stream { result ≡ Status.Stream → SinkRose (K.output sink.old) (K.output sink.new) }
+{
+    match blocks(alloc, named, name, start, count, bay) {
+        Ok(sectors) => tell(sink, sectors.as_flattened(), Status::Ok),
+        Err(failure) => tell_failure(alloc, failure, sink),
+    }
+}
+
+/// The blocks of the group's array, or why they aren't read.
+fn blocks<B: Bay>(
+    alloc: Global,
+    named: Option<Guid>,
+    name: &[u8],
+    start: u64,
+    count: u64,
+    bay: &mut B,
+) -> Result<Vec<Sector>, Failure>
+    ensures read { HasRead (work_of B.tells (B.disks bay.old) (B.disks bay.new)) named name.now start count (sectors_read result) }
+    ensures reads { ReadsOnly (B.disks bay.old) (B.disks bay.new) }
+{
+    match assemble(alloc, bay, named) {
+        Ok(group) => blocks_of(alloc, &group, name, start, count, bay),
+        Err(fault) => Err(Failure::from(fault)),
+    }
+}
+
+/// The blocks of an array of this group, or why they aren't read.
+fn blocks_of<B: Bay>(
+    alloc: Global,
+    group: &Group,
+    name: &[u8],
+    start: u64,
+    count: u64,
+    bay: &mut B,
+) -> Result<Vec<Sector>, Failure>
+    requires { SeatsFit (B.disks bay.old).sizes group.now.seats }
+    ensures read { IsReadOf (work_of B.tells (B.disks bay.old) (B.disks bay.new)) group.now name.now start count (sectors_read result) }
+    ensures reads { OnlyReads (B.disks bay.old) (B.disks bay.new) }
+{
+    let view = readable(alloc, group, name, start, count)?;
+    let Ok(mut sectors) = blank_sectors(alloc, count) else {
+        return Err(Failure::Memory);
+    };
+    match read_into(bay, &view, start, &mut sectors) {
+        Ok(()) => Ok(sectors),
+        Err(fault) => Err(failure_of(fault)),
+    }
+}
+
+/// Reads the blocks of an array, as many as there are sectors, into these.
+fn read_into<B: Bay>(
+    bay: &mut B,
+    view: &View,
+    start: u64,
+    sectors: &mut Vec<Sector>,
+) -> Result<(), VolumeFault>
+    requires { Fits (B.disks bay.old).sizes view.now }
+    ensures counted { length sectors.new.items ≡ length sectors.old.items }
+    ensures given { B.tells → OnOk result (AreGiven (Failed (B.disks bay.old) (B.disks bay.new)) (B.disks bay.old).held view.now start (length sectors.old.items) sectors.new.items) }
+    ensures ok { OnOk result (volume.read_refusal view.now start (length sectors.old.items) ≡ None) }
+    ensures fault { IfErr result (IsReadFault (Failed (B.disks bay.old) (B.disks bay.new)) view.now start (length sectors.old.items)) }
+    ensures reads { OnlyReads (B.disks bay.old) (B.disks bay.new) }
+{
+    read_blocks(bay, view, start, sectors)
+}
+
+/// So many sectors of zeros.
+fn blank_sectors(alloc: Global, count: u64) -> Result<Vec<Sector>, NoMemory>
+    requires { count ≤ 2048 }
+    ensures { IfOk result (λ sectors. length sectors.items ≡ count) }
+{
+    let sectors = vec![in alloc; [0; 512]; count as usize]?;
+    Ok(sectors)
+}
+
+/// Why blocks aren't read, as the program tells it.
+fn failure_of(fault: VolumeFault) -> Failure
+    ensures { result ≡ failure_of_read fault }
+{
+    match fault {
+        VolumeFault::Range(capacity) => Failure::Refused(Refusal::Range(capacity)),
+        VolumeFault::Lost => Failure::Refused(Refusal::Lost),
+        VolumeFault::Unsure => Failure::Refused(Refusal::Unsure),
+        VolumeFault::Disk(slot) => Failure::Disk(slot),
+    }
+}
+
+/// The view of an array that may be read, but for what its blocks tell, or why it may not.
+fn readable(
+    alloc: Global,
+    group: &Group,
+    name: &[u8],
+    start: u64,
+    count: u64,
+) -> Result<View, Failure>
+    ensures may { MayRead group.now name.now start count result }
+    ensures few { OnOk result (count ≤ 2048) }
+{
+    let config = group.config();
+    match named_array(&config.arrays, name) {
+        Some((guid, array)) => readable_array(alloc, group, guid, array, start, count),
+        None => Err(Failure::Refused(Refusal::NoArray)),
+    }
+}
+
+/// The same of an array of the group.
+fn readable_array(
+    alloc: Global,
+    group: &Group,
+    guid: Guid,
+    array: &Array,
+    start: u64,
+    count: u64,
+) -> Result<View, Failure>
+    ensures may { (word : List ℕ) → named_array group.now.config.arrays word ≡ Some (guid, array.now) → MayRead group.now word start count result }
+    ensures few { OnOk result (count ≤ 2048) }
+{
+    match array_refusal(alloc, group, array, start, count) {
+        Ok(None) => view_of(alloc, group, &guid),
+        Ok(Some(refusal)) => Err(Failure::Refused(refusal)),
+        Err(NoMemory) => Err(Failure::Memory),
+    }
+}
+
+/// The view of an array.
+fn view_of(alloc: Global, group: &Group, guid: &Guid) -> Result<View, Failure>
+    ensures { IsViewed (view_of group.now.config guid.now group.now.seats) result }
+{
+    match View::new(alloc, group.config(), guid, group.seats()) {
+        Ok(view) => Ok(view),
+        Err(ViewFault::Refused(refusal)) => Err(Failure::Refused(refusal)),
+        Err(ViewFault::Memory) => Err(Failure::Memory),
+    }
+}
+
+/// Why an array isn't read, but for what its blocks tell.
+fn array_refusal(
+    alloc: Global,
+    group: &Group,
+    array: &Array,
+    start: u64,
+    count: u64,
+) -> Result<Option<Refusal>, NoMemory>
+    ensures { IfOk result (λ refusal. refusal ≡ first_refusal (array_refusals group.now array.now start count)) }
+{
+    let unusable = use_refusal(alloc, group.config(), group.seats(), array)?;
+    if is_useless(&unusable) {
+        return Ok(unusable);
+    }
+    let capacity = array_capacity(alloc, array)?;
+    let bad = bad_blocks(alloc, group.seats(), array)?;
+    let is_out = is_out_of_range(array, capacity, start, count);
+    Ok(first_refusal(&[
+        refuse_if(is_out, Refusal::Range(capacity)),
+        bad,
+        refuse_if(is_held(array), Refusal::Held),
+        refuse_if(!array.is_complete(), Refusal::Lost),
+    ]))
+}
+
+/// Whether a level isn't served, or the numbers make no array.
+fn is_useless(refusal: &Option<Refusal>) -> bool
+    ensures { result ≡ is_useless refusal.now }
+{
+    matches!(refusal, Some(Refusal::Level(_) | Refusal::Shape))
+}
+
+/// Whether blocks pass the capacity of an array, or are too many. Of an array that isn't complete that can't be told.
+fn is_out_of_range(array: &Array, capacity: u64, start: u64, count: u64) -> bool
+    requires { capacity ≡ array_capacity array.now }
+    ensures { result ≡ is_out_of_range array.now start count }
+{
+    array.is_complete() && (passes(capacity, start, count) || count > MOST_BLOCKS)
+}
+
+fn passes(capacity: u64, start: u64, count: u64) -> bool
+    ensures { result ≡ nat_lt capacity (start + count) }
+{
+    start > capacity || count > capacity - start
+}

@@ -1,0 +1,85 @@
+-- What records that a change is written over have.
+use Rattle.std.proofs.Common.{◌≡◌, ◌∙◌, ℕ, ◌+◌, ◌<◌, List, length, get_or, Some, None, ap, sym, refl, subst, inl, inr, arith}
+use Rattle.std.proofs.lemmas.Bool.{cases_order, ltb-false}
+use Rattle.std.proofs.lemmas.Option.{slice_get_read}
+use Rattle.std.specs.Prelude.{slice_get}
+use Rattle.ddf_header.specs.declared.geometry.Geometry.{Geometry}
+use Rattle.ddf_header.specs.Geometry.{IsSound}
+use Rattle.ddf_header.proofs.Sound.{sound}
+use Rattle.ddf_configs.specs.declared.spare.SpareRecord.{SpareRecord}
+use Rattle.ddf_configs.specs.Elements.{CanBeElement, HasRoom}
+use Rattle.ddf_configs.specs.Building.{spare_entries}
+use Rattle.ddf_configs.specs.Spares.{CanBeSpare}
+use Rattle.ddf_configs.proofs.SpareRecords.{count_fits}
+use Rattle.ddf_configs.proofs.Sound.{room_from_sound}
+use Rattle.ddf_config.specs.Configuration.{Configuration}
+use Rattle.ddf_copy.specs.declared.copy.DiskCopy.{DiskCopy}
+use Rattle.ddf_copy.specs.Written.{CanBeCopy}
+use Rattle.ddf_view.specs.View.{Held, find_held, first_spare, is_element, notes_of, view_of}
+use Rattle.ddf_view.proofs.Finds.{find_has}
+use Rattle.ddf_rewrite.specs.Before.{Before}
+use Rattle.ddf_rewrite.specs.Hold.{AreHeld, IsHoldable}
+use Rattle.ddf_rewrite.specs.Wanted.{Wanted, all_wanted}
+use Rattle.ddf_rewrite.proofs.ElementsCan.{IsGiven, given}
+use Rattle.ddf_rewrite.specs.Room.{CanHoldSpare, full_after_change}
+use Rattle.ddf_rewrite.specs.Spares.{arrays_of_spare, spare_use}
+use Rattle.ddf_rewrite.proofs.Lists.{some_same}
+use Rattle.ddf_rewrite.proofs.Roomy.{room_from_none}
+use Rattle.ddf_rewrite.proofs.SlotsCan.{elements_can, first_spare_can}
+use Rattle.ddf_rewrite.proofs.SparesCan.{CanBeOwn}
+
+pub is_sound : (old : DiskCopy) → CanBeCopy old → IsSound old.header.geometry
+is_sound old is = sound old.header.geometry is.header_can.is_header.has_geometry
+
+pub has_room : (old : DiskCopy) → CanBeCopy old → HasRoom old.header.geometry
+has_room old is = room_from_sound old.header.geometry (is_sound old is)
+
+-- a disk's own record
+pub own_can : (old : DiskCopy) (array : List ℕ) (index : ℕ) (held : Held) → CanBeCopy old → find_held array index (view_of old).elements ≡ Some held → CanBeElement old.header.geometry held.element
+unfolding view_of
+own_can old array index held is at =
+    find_has (λ one. CanBeElement old.header.geometry one.element) (is_element array index) (view_of old).elements held
+    (elements_can old.header.geometry old.header.guid old.header.sequence (notes_of old) old.slots is.slots_can) at
+
+-- a leader's record
+pub leader_can : (geometry : Geometry) (leaders : Before) (array : List ℕ) (index : ℕ) (held : Held) → AreHeld geometry leaders → find_held array index leaders.elements ≡ Some held → CanBeElement geometry held.element
+leader_can geometry leaders array index held are at = find_has (λ one. CanBeElement geometry one.element) (is_element array index) leaders.elements held are at
+
+-- an element of a configuration that can be held
+pub wanted_given : (most : ℕ) (config : Configuration) (all : List Wanted) (i : ℕ) (wanted : Wanted) → all ≡ all_wanted config → IsHoldable most config → i < length all → wanted ≡ get_or all i wanted
+    → IsGiven most config wanted
+wanted_given most config all i wanted are can below is =
+    let at : slice_get (all_wanted config) i ≡ Some wanted = sym (ap (λ (l : List Wanted). slice_get l i) are) ∙ slice_get_read all (length all) i wanted refl below is in
+    given most config can.can_hold can.readable i wanted at
+
+-- what holds of each item before a place, and of the one that stands there
+pub each_more : {X : Type 0} (P : X → Type 0) (all : List X) (i : ℕ) (x : X) → i < length all → x ≡ get_or all i x → ((n : ℕ) (one : X) → n < i → slice_get all n ≡ Some one → P one) → P x
+    → (n : ℕ) (one : X) → n < i + 1 → slice_get all n ≡ Some one → P one
+each_more P all i x below is before here n one lt at =
+    elim (cases_order n i) [
+      | inl same ↦
+          let there : slice_get all i ≡ Some x = slice_get_read all (length all) i x refl below is in
+          subst P (some_same there (sym (ap (slice_get all) same) ∙ at)) here
+      | inr other ↦ elim other [
+        | inl less ↦ before n one less at
+        | inr more ↦ absurd (omega (arith, lt, more))
+      ]
+    ]
+
+-- ---- a disk that has room
+
+pub can_hold_spare : (old : DiskCopy) (leaders : Before) (config : Configuration) (timestamp : ℕ) → CanBeCopy old → full_after_change old leaders config timestamp ≡ None → CanHoldSpare old config
+can_hold_spare old leaders config timestamp is none = record {
+  sound = is_sound old is;
+  size = λ spare at. (own spare at).size;
+  before = λ spare at.
+      let whole = (has_room old is).whole in
+      let size = (own spare at).size in
+      let counted = (own spare at).counted in
+      let fits = count_fits spare.rest (omega (arith, whole, size)) in
+      omega (arith, size, counted, fits);
+  entries = ltb-false (spare_entries old.header.geometry) (length (arrays_of_spare (spare_use config old.disk_data.reference))) (room_from_none old leaders config timestamp is none).entries;
+}
+  where
+    own : (spare : SpareRecord) → first_spare old.slots ≡ Some spare → CanBeSpare old.header.geometry spare
+    own spare at = subst (CanBeOwn old.header.geometry) at (first_spare_can old.header.geometry old.header.guid old.header.sequence old.slots is.slots_can)

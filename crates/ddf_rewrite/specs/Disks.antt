@@ -1,0 +1,113 @@
+-- The entries of the disks after a change or a recovery (SNIA DDF 2.0, physical disk records; what is kept is profile).
+use Rattle.std.specs.Prelude.{ℕ, Bool, true, false, not, ◌&&◌, ◌==◌, List, ◌++◌, length, map, take, filter, replicate, if◌then◌else◌}
+use Rattle.std.specs.List.{list_any}
+use Rattle.std.specs.Option.{option_map_or}
+use Rattle.std.specs.Int.{w16}
+use Rattle.std.specs.Int.RustNames.{bit_and, bit_or}
+use Rattle.ddf_bytes.specs.Bytes.{number_at}
+use Rattle.ddf_header.specs.declared.kind.Revision.{Revision}
+use Rattle.ddf_header.specs.declared.kind.Revision.TheVariants.{R100, R120, R200}
+use Rattle.ddf_tables.specs.declared.disks.DiskEntry.{DiskEntry}
+use Rattle.ddf_tables.specs.declared.disks.DiskRow.{DiskRow}
+use Rattle.ddf_tables.specs.declared.disks.DiskRow.TheVariants as disk_rows
+use Rattle.ddf_tables.specs.Disks.{is_used_disk}
+use Rattle.ddf_tables.specs.DiskFlags.{in_array, global_spare, spare, online, rebuilding}
+use Rattle.ddf_tables.specs.Building.{disk_over}
+use Rattle.ddf_config.specs.declared.member.SpareUse.{SpareUse}
+use Rattle.ddf_config.specs.declared.member.SpareUse.TheVariants as uses
+use Rattle.ddf_config.specs.declared.member.Member.{Member}
+use Rattle.ddf_config.specs.declared.element.Position.{Position}
+use Rattle.ddf_config.specs.Configuration.{Configuration}
+use Rattle.ddf_view.specs.View.{find_disk}
+use Rattle.ddf_rewrite.specs.Wanted.{Wanted, all_wanted, refers_to}
+
+-- ---- rows
+
+-- Entries from the first row on, behind them the former unused rows in their order, and then rows of FF, as many as the table has.
+abbrev pub rows_after : {Row : Type 0} → (Row → Bool) → (unused : Row) → List Row → List Row → List Row
+rows_after is_used unused entries rows = take (length rows) (entries ++ filter (λ row. not (is_used row)) rows ++ replicate (length rows) unused)
+
+-- ---- a disk's use
+
+-- the block size that records are written with: 512 from revision 02.00.00 on, not given before
+abbrev pub block_size_of : Revision → ℕ
+block_size_of R200 = 512
+block_size_of R100 = 0xFFFF
+block_size_of R120 = 0xFFFF
+
+abbrev pub is_global : SpareUse → Bool
+is_global uses.No = false
+is_global uses.Global = true
+is_global (uses.Dedicated arrays) = false
+
+abbrev pub is_dedicated : SpareUse → Bool
+is_dedicated uses.No = false
+is_dedicated uses.Global = false
+is_dedicated (uses.Dedicated arrays) = true
+
+-- an element has a position on the disk
+abbrev pub is_referred : List Wanted → (reference : ℕ) → Bool
+is_referred all reference = list_any (λ wanted. refers_to wanted.plan reference) all
+
+-- a position on the disk is out of sync
+abbrev pub is_out_on : (reference : ℕ) → Position → Bool
+is_out_on reference position = position.reference == reference && not position.synced
+
+abbrev pub has_out_on : (reference : ℕ) → Wanted → Bool
+has_out_on reference wanted = list_any (is_out_on reference) wanted.plan.positions
+
+abbrev pub is_behind : List Wanted → (reference : ℕ) → Bool
+is_behind all reference = list_any (has_out_on reference) all
+
+-- bits with a flag, where a test holds
+abbrev pub with_flag : Bool → (flag : ℕ) → (bits : ℕ) → ℕ
+with_flag test flag bits = if test then bit_or bits flag else bits
+
+-- The type tells whether the disk is in an array, a spare for every array, and a spare for some: bits 1, 2 and 3. All others are kept.
+unfoldable pub kind_after : List Wanted → (ℕ × Member) → (kept : ℕ) → ℕ
+kind_after all entry kept =
+    with_flag (is_dedicated entry.1.spare) spare (with_flag (is_global entry.1.spare) global_spare (with_flag (is_referred all entry.0) in_array (bit_and kept 0xFFF1)))
+
+-- A missing disk is failed and missing, and nothing else. Another is online, and is being rebuilt where a position on it is out of
+-- sync; of its other bits 3, 4 and 5 are kept: in transition, a predicted failure, a read error that was not made good.
+unfoldable pub state_after : List Wanted → (ℕ × Member) → (kept : ℕ) → ℕ
+state_after all entry kept =
+    if entry.1.missing then 0x42 else with_flag (is_behind all entry.0) rebuilding (with_flag true online (bit_and kept 0x38))
+
+-- ---- after a change
+
+abbrev pub kind_in : List DiskEntry → (reference : ℕ) → ℕ
+kind_in disks reference = option_map_or (λ disk. disk.kind.0) (find_disk reference disks) 0
+
+abbrev pub state_in : List DiskEntry → (reference : ℕ) → ℕ
+state_in disks reference = option_map_or (λ disk. disk.state.0) (find_disk reference disks) 0
+
+-- the named fields of a member's entry; what is kept of its type and state is what the lowest leader records
+abbrev pub member_entry : List Wanted → (leading : List DiskEntry) → (ℕ × Member) → DiskEntry
+member_entry all leading entry = record {
+  guid = entry.1.guid;
+  reference = entry.0;
+  kind = record { 0 = kind_after all entry (kind_in leading entry.0) };
+  state = record { 0 = state_after all entry (state_in leading entry.0) };
+  size = entry.1.size;
+  rest = replicate 64 0;
+}
+
+-- An entry on a disk that had these: over its own bytes, or over those of a new one.
+abbrev pub disk_on : List DiskEntry → (block_size : ℕ) → DiskEntry → DiskEntry
+disk_on own block_size entry = disk_over (find_disk entry.reference own) block_size entry
+
+-- The entries after a change, in the order of the members, with the block size of the disk's own revision.
+unfoldable pub changed_disks : Configuration → (leading : List DiskEntry) → Revision → (own : List DiskEntry) → List DiskEntry
+changed_disks config leading revision own = map (λ entry. disk_on own (block_size_of revision) (member_entry (all_wanted config) leading entry)) config.members
+
+-- ---- after a recovery
+
+-- Each named field and the block size are those that the lowest leader records.
+unfoldable pub recovered_disks : (leading own : List DiskEntry) → List DiskEntry
+recovered_disks leading own = map (λ disk. disk_on own (number_at w16 disk.rest 58) disk) leading
+
+-- ---- the table
+
+unfoldable pub disk_rows_after : List DiskRow → List DiskEntry → List DiskRow
+disk_rows_after rows entries = rows_after is_used_disk (disk_rows.Unused (replicate 64 255)) (map disk_rows.Entry entries) rows

@@ -1,0 +1,13 @@
+pub mod Before
+pub mod Wanted
+pub mod Disks
+pub mod Arrays
+pub mod Elements
+pub mod Placement
+pub mod Notes
+pub mod Spares
+pub mod Copies
+pub mod Room
+pub mod Readable
+pub mod Hold
+pub mod Changing

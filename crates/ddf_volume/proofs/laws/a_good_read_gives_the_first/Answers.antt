@@ -1,0 +1,9 @@
+use Rattle.ddf_bytes.specs.Counts.{Rose}
+use Rattle.ddf_volume.proofs.GivenLaws.{first_of, value_of}
+use Rattle.ddf_volume.proofs.laws.a_good_read_gives_the_first.Goals as goal
+
+pub returns-clause-first : goal.returns-clause-first
+returns-clause-first c = λ old new. first_of (λ slot. Rose (old slot) (new slot))
+
+pub returns-clause-value : goal.returns-clause-value
+returns-clause-value c = λ old new. value_of (λ slot. Rose (old slot) (new slot))

@@ -1,0 +1,12 @@
+/// Why blocks can't be read.
+#[derive(Clone, Copy, Debug, PartialEq, Eq)]
+pub enum VolumeFault {
+    /// The range passes the capacity, which is this.
+    Range(u64),
+    /// The array isn't within its level.
+    Lost,
+    /// Only parity has a block, and the array is marked as not consistent.
+    Unsure,
+    /// No source of a block is left: at this slot a read failed, and each source has a slot of which one did.
+    Disk(usize),
+}
