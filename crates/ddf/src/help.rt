@@ -15,9 +15,18 @@ Commands:
   read NAME START COUNT
                    print the bytes of so many blocks of an array, from one on, and
                    nothing else: at most 2048 of 512 bytes each; nothing is written
+  create NAME LEVEL CODE SECONDARY SLOT,SLOT..@BLOCKS..
+                   make an array of these disks, with strips of 2^CODE sectors;
+                   LEVEL is raid0, raid1, raid4.first, raid4.last, raid5.r0,
+                   raid5.rn, raid5.rnc, jbod or concat; SECONDARY is single, or
+                   striped, mirrored, concat or spanned over several elements
+  delete NAME      remove an array from the records; its blocks stay as they are
+  spare SLOT global | spare SLOT for NAME.. | spare SLOT off
+                   say what a disk may stand in for
+  fail SLOT        take a disk out of use for good; it isn't written any more
 
-A command over a group, as assemble and read, takes the only one that the disks show, or the one
-that is named: @ and the 48 hexadecimal digits of its GUID.
+Each but examine and label is over a group: the only one that the disks show, or the one that is
+named, by @ and the 48 hexadecimal digits of its GUID.
 
 Disks are opened for reading alone by commands that write nothing. Others don't touch a
 disk that is mounted, swapped to, part of another device, locked by another program, or
@@ -25,7 +34,7 @@ protected from writes. A program that holds a disk in another way isn't found.
 
 Exit status: 0 done, 1 refused, 2 words that are no command's, 3 a disk failed,
 4 records of the group contradict each other, 5 no memory, 6 the input or the output
-failed, or there was no chance for new names.
+failed, or there was no chance for new names. At 1, 2, 4 and 5 nothing was written.
 ";
 
 const VERSION: &str = "ddf 0.1.0\n";

@@ -81,7 +81,7 @@ to_back : {X : Type 0} (xs ys : List X) (k : ℕ) (x : X) → slice_get ys k ≡
 to_back [] ys k x e = (k, e)
 to_back (z ∷ xs) ys k x e = let rest = to_back xs ys k x e in (suc rest.0, rest.1)
 
-to_flat : {X Y : Type 0} (f : X → List Y) (xs : List X) (j i : ℕ) (x : X) (y : Y) → slice_get xs j ≡ Some x → slice_get (f x) i ≡ Some y → (k : ℕ) × (slice_get (flat_map f xs) k ≡ Some y)
+pub to_flat : {X Y : Type 0} (f : X → List Y) (xs : List X) (j i : ℕ) (x : X) (y : Y) → slice_get xs j ≡ Some x → slice_get (f x) i ≡ Some y → (k : ℕ) × (slice_get (flat_map f xs) k ≡ Some y)
 to_flat f [] j i x y at inner = absurd (cc)
 to_flat f (z ∷ xs) zero i x y at inner =
     let same : z ≡ x = cc in (i, at_front (f z) (flat_map f xs) i y (ap (λ w. slice_get (f w) i) same ∙ inner))
@@ -91,7 +91,7 @@ to_filter_by : {Y : Type 0} (o : Option Y) (ys : List Y) (k : ℕ) (y : Y) → s
 to_filter_by None ys k y e = (k, e)
 to_filter_by (Some z) ys k y e = (suc k, e)
 
-to_filter : {X Y : Type 0} (f : X → Option Y) (xs : List X) (j : ℕ) (x : X) (y : Y) → slice_get xs j ≡ Some x → f x ≡ Some y → (k : ℕ) × (slice_get (filter_map f xs) k ≡ Some y)
+pub to_filter : {X Y : Type 0} (f : X → Option Y) (xs : List X) (j : ℕ) (x : X) (y : Y) → slice_get xs j ≡ Some x → f x ≡ Some y → (k : ℕ) × (slice_get (filter_map f xs) k ≡ Some y)
 to_filter f [] j x y at gives = absurd (cc)
 to_filter f (z ∷ xs) zero x y at gives = let same : z ≡ x = cc in (0, ap (λ o. slice_get (cons_option o (filter_map f xs)) 0) (ap f same ∙ gives))
 to_filter f (z ∷ xs) (suc j) x y at gives = let rest = to_filter f xs j x y at gives in to_filter_by (f z) (filter_map f xs) rest.0 y rest.1
@@ -152,14 +152,14 @@ few_spots v block alone = by_spot (slice_get (spots v.tiers) block)
         let same = length-map elements place in
         omega (arith, few, same)
 
-position_within : (places : List Place) (position sector : ℕ) (own : Site) → site_at places position sector ≡ Some own → position < length places
+pub position_within : (places : List Place) (position sector : ℕ) (own : Site) → site_at places position sector ≡ Some own → position < length places
 position_within places position sector own e = by_place (slice_get places position) refl e
   where
     by_place : (found : Option Place) → slice_get places position ≡ found → option_and_then (λ place. site place sector) found ≡ Some own → position < length places
     by_place None is e = absurd (cc)
     by_place (Some place) is e = slice_get_within places position place is
 
-at_part : {X : Type 0} (parts : List Part) (f : Part → ℕ → List X) (spot : Spot) (part : Part) → slice_get parts spot.element ≡ Some part → at_spot parts f spot ≡ f part spot.block
+pub at_part : {X : Type 0} (parts : List Part) (f : Part → ℕ → List X) (spot : Spot) (part : Part) → slice_get parts spot.element ≡ Some part → at_spot parts f spot ≡ f part spot.block
 at_part parts f spot part at = ap (λ (found : Option Part). elim found [ None ↦ [] | Some part ↦ f part spot.block ]) at
 
 -- ---- consistent, so redundant
@@ -250,7 +250,7 @@ same_bytes None one other a b = absurd (cc)
 same_bytes (Some bytes) one other a b = cc
 
 module _ (v : Volume) (image : Image) (is : IsRedundant v image) where
-  copy_gives : (block k : ℕ) (one : Site) → slice_get (copies v block) k ≡ Some one → value v image block ≡ Some (bytes_at image one)
+  pub copy_gives : (block k : ℕ) (one : Site) → slice_get (copies v block) k ≡ Some one → value v image block ≡ Some (bytes_at image one)
   copy_gives block k one at = is.agree block k (copy one) (at_front (map copy (copies v block)) (map row (rows v block)) k (copy one) (mapped_at copy (copies v block) k one at))
 
   row_gives : (block j k : ℕ) (spot : Spot) (part : Part) (cell : ℕ × ℕ) (sites : List Site) → slice_get (block_spots v block) j ≡ Some spot → slice_get v.parts spot.element ≡ Some part

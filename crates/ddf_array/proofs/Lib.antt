@@ -16,4 +16,5 @@ pub mod Usable
 pub mod Told
 pub mod RowSums
 pub mod Consistent
+pub mod RowParity
 pub mod LossLevels

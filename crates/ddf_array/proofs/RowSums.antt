@@ -30,7 +30,7 @@ long_sum image are (site ∷ sites) =
     ap length (xor_all_first (bytes_at image site) (map (bytes_at image) sites))
     ∙ length-zip2 bit_xor (bytes_at image site) (sum_at image sites) (one ∙ sym rest) ∙ one
 
-own_from_others : (image : Image) → AreSectors image → (before : List Site) (own : Site) (after : List Site) → sum_at image (before ++ own ∷ after) ≡ zeros
+pub own_from_others : (image : Image) → AreSectors image → (before : List Site) (own : Site) (after : List Site) → sum_at image (before ++ own ∷ after) ≡ zeros
     → bytes_at image own ≡ sum_at image (before ++ after)
 own_from_others image are before own after sums =
     same_from_zero (bytes_at image own) (sum_at image (before ++ after)) (are own.slot own.lba) (long_sum image are (before ++ after))
@@ -62,7 +62,7 @@ module _ {X : Type 0} where
         all_are = sym same ∙ ap (λ l. x ∷ l) one.all_are;
       }
 
-  split_all : (xs ys : List (Option X)) (all : List X) → all_of (xs ++ ys) ≡ Some all → Split xs ys all
+  pub split_all : (xs ys : List (Option X)) (all : List X) → all_of (xs ++ ys) ≡ Some all → Split xs ys all
   split_all [] ys all e = record { front = []; back = all; front_is = refl; back_is = e; all_are = refl }
   split_all (None ∷ xs) ys all e = absurd (cc)
   split_all (Some x ∷ xs) ys all e = split_more x xs ys (all_of (xs ++ ys)) all refl e (λ rest is. split_all xs ys rest is)

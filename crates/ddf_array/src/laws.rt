@@ -1,5 +1,5 @@
 // Laws of what views say of blocks: functions that do nothing, whose contracts are the laws.
-ghost use Rattle.std.specs.Prelude.{◌≡◌, ◌<◌, is_some, ℕ, List, Bool, Some, Ok, true, false, slice_get};
+ghost use Rattle.std.specs.Prelude.{◌≡◌, ◌<◌, ◌/◌, is_some, ℕ, List, Bool, Some, Ok, true, false, slice_get};
 ghost use Rattle.ddf_bay.specs.Sectors.{Image};
 ghost use Rattle.ddf_config.specs.declared.seat.Seat.{Seat};
 ghost use Rattle.ddf_config.specs.declared.array.Array.{Array};
@@ -8,14 +8,21 @@ ghost use Rattle.ddf_config.specs.Members.{same_guid};
 ghost use Rattle.ddf_config.specs.Seats.{SeatsFit};
 ghost use Rattle.ddf_config.specs.Shapes.{array_capacity};
 ghost use Rattle.std.specs.Map.{lookup};
+ghost use Rattle.ddf_parity.specs.Xor.{zeros};
+ghost use Rattle.ddf_primary.specs.Cells.{depth_of, parity_member};
+ghost use Rattle.ddf_array.specs.declared.part.Part.{Part};
+ghost use Rattle.ddf_array.specs.declared.place.Place.{Place};
+ghost use Rattle.ddf_array.specs.declared.site.Site.{Site};
+ghost use Rattle.ddf_array.specs.Places.{site_at};
 ghost use Rattle.ddf_array.specs.Volume.{Volume, IsVolume, Fits, capacity};
 ghost use Rattle.ddf_array.specs.Within.{is_within, is_redundant};
-ghost use Rattle.ddf_array.specs.Redundant.{IsRedundant, IsConsistent};
+ghost use Rattle.ddf_array.specs.Redundant.{IsRedundant, IsConsistent, whole_row};
+ghost use Rattle.ddf_array.specs.Rows.{row_sum};
 ghost use Rattle.ddf_array.specs.Sound.{IsSound, AreSectors};
 ghost use Rattle.ddf_array.specs.State.{values};
 ghost use Rattle.ddf_array.specs.Losing.{IsLoss, AreFewer};
-ghost use Rattle.ddf_array.specs.Sources.{Source, sources};
-ghost use Rattle.ddf_array.specs.Values.{value, given};
+ghost use Rattle.ddf_array.specs.Sources.{Source, row_without, sources};
+ghost use Rattle.ddf_array.specs.Values.{bytes_at, value, given, sum_at};
 ghost use Rattle.ddf_array.specs.Viewing.{view_of, is_array_within, is_array_redundant};
 
 /// Each block of an array within its level has a value: a source is left of it.
@@ -38,6 +45,23 @@ pub fn consistent_is_redundant()
     ensures consistent { (volume : Volume) (image : Image) → IsRedundant volume image → IsConsistent volume image }
 {}
 
+/// Where a row sums to zero, each cell of it is the sum of the others.
+pub fn a_cell_is_the_sum_of_the_others()
+    ensures { (image : Image) (part : Part) (position sector : ℕ) (own : Site) (others all : List Site) → AreSectors image
+        → whole_row part sector ≡ Some all → sum_at image all ≡ zeros → site_at part.places position sector ≡ Some own
+        → row_without part.places position sector ≡ Some others → bytes_at image own ≡ sum_at image others }
+{}
+
+/// In a redundant array the parity of a row that is all available is the row's sum: the exclusive-or of the values of its
+/// data cells.
+pub fn parity_is_the_sum_of_its_row()
+    ensures { (volume : Volume) (image : Image) (element sector position : ℕ) (part : Part) (all : List Site) (site : Site)
+        → IsVolume volume → AreSectors image → IsRedundant volume image → slice_get volume.parts element ≡ Some part
+        → parity_member part.shape (sector / part.shape.strip) ≡ Some position → sector < depth_of part.shape
+        → whole_row part sector ≡ Some all → site_at part.places position sector ≡ Some site
+        → bytes_at image site ≡ row_sum volume image element part sector }
+{}
+
 /// A loss of disks changes no value of a sound array that isn't marked and is still within its level, as it then was
 /// before.
 pub fn a_loss_changes_no_value()
@@ -54,6 +78,14 @@ pub fn a_loss_changes_no_value()
 pub fn a_view_fits()
     ensures { (config : Configuration) (guid : List ℕ) (seats : List Seat) (volume : Volume) (sizes : List ℕ)
         → view_of config guid seats ≡ Ok volume → SeatsFit sizes seats → Fits sizes volume }
+{}
+
+/// Each place of a view whose disk is there is on the slot of a seat.
+pub fn a_place_is_on_a_seat()
+    ensures { (config : Configuration) (guid : List ℕ) (seats : List Seat) (volume : Volume) (element position slot : ℕ) (part : Part) (place : Place)
+        → view_of config guid seats ≡ Ok volume → slice_get volume.parts element ≡ Some part
+        → slice_get part.places position ≡ Some place → place.slot ≡ Some slot
+        → (k : ℕ) × ((seat : Seat) × (slice_get seats k ≡ Some seat) × (seat.slot ≡ slot)) }
 {}
 
 /// Over fewer seats an array has lost disks.

@@ -1,3 +1,14 @@
 pub mod Group
 pub mod Slots
 pub mod Reading
+pub mod Seated
+pub mod Steps
+pub mod Full
+pub mod Refusing
+pub mod Ready
+pub mod Tried
+pub mod Committed
+pub mod Asked
+pub mod Trying
+pub mod Settled
+pub mod Held

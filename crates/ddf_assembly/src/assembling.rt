@@ -1,12 +1,14 @@
 //! Assembly: which group the disks of a bay are.
-ghost use Rattle.std.specs.Prelude.{◌≡◌, ◌≤◌, ℕ, List, map, IfOk};
+ghost use Rattle.std.specs.Prelude.{◌≡◌, ◌≤◌, ℕ, List, [], map, IfOk};
 ghost use Rattle.ddf_bay.specs.ReadsOnly.{ReadsOnly};
 ghost use Rattle.ddf_config.specs.Seats.{SeatsFit};
 ghost use Rattle.ddf_group.specs.Assembled.{UpToMemory as FoundUpToMemory, assembled};
 ghost use Rattle.ddf_group.specs.Shown.{shown_of};
 ghost use Rattle.ddf_assembly.specs.Group.{UpToMemory, group_of};
 ghost use Rattle.ddf_assembly.specs.Reading.{AreNewest, HaveAnchors};
+ghost use Rattle.ddf_assembly.specs.Settled.{IsSettledGroup};
 ghost use Rattle.ddf_assembly.specs.Slots.{IsAssembled};
+ghost use Rattle.ddf_assembly.specs.Held.{StandUnder};
 
 use crate::Group;
 use crate::reading::read_slots;
@@ -50,8 +52,10 @@ fn group_of(
 ) -> Result<Group, Assembly>
     requires { AreNewest newest.items }
     ensures group { UpToMemory result (group_of newest.items named) }
+    ensures newest { IfOk result (λ group. group.newest ≡ newest.items) }
     ensures under { (sizes : List ℕ) → HaveAnchors sizes newest.items → IfOk result (λ group. HaveAnchors sizes group.newest) }
     ensures seats { (sizes : List ℕ) → HaveAnchors sizes newest.items → IfOk result (λ group. SeatsFit sizes group.seats) }
+    ensures settled { IfOk result (λ group. group.absent ≡ [] → group.lagging ≡ [] → IsSettledGroup group) }
 {
     let found = found(alloc, &newest, named)?;
     let seats = seats_of(alloc, &newest, found.seats.items())?;
@@ -60,7 +64,7 @@ fn group_of(
         seats: Seq::new(seats),
         absent: found.absent,
         lagging: found.lagging,
-        newest: Seq::new(newest),
+        newest,
     })
 }
 
@@ -77,10 +81,15 @@ pub fn assemble<B: Bay>(alloc: Global, bay: &mut B, group: Option<Guid>) -> Resu
     // Each newest copy can be written again, in both places under the anchor of its slot, and each seat is on a slot that has room
     // for its extents.
     ensures under { IfOk result (λ group. HaveAnchors (B.disks bay.old).sizes group.newest) }
+    ensures stand { B.tells → IfOk result (λ group. StandUnder (B.disks bay.old) group.newest) }
     ensures seats { IfOk result (λ group. SeatsFit (B.disks bay.old).sizes group.seats) }
 
-    // Counts of failed reads never fall, and nothing is written.
+    // A group of which nothing is absent and nothing lags can be changed.
+    ensures settled { IfOk result (λ group. group.absent ≡ [] → group.lagging ≡ [] → IsSettledGroup group) }
+
+    // Counts of failures never fall, and nothing is written.
     ensures never_falls { (slot : ℕ) → (B.disks bay.old).failed_reads slot ≤ (B.disks bay.new).failed_reads slot }
+    ensures writes_never_fall { (slot : ℕ) → (B.disks bay.old).failed_writes slot ≤ (B.disks bay.new).failed_writes slot }
     ensures reads { ReadsOnly (B.disks bay.old) (B.disks bay.new) }
 {
     match read_slots(alloc, bay) {

@@ -10,7 +10,7 @@ pub struct Group {
     pub(crate) seats: Seq<Seat>,
     pub(crate) absent: Seq<u32>,
     pub(crate) lagging: Seq<usize>,
-    pub(crate) newest: Seq<Option<Newest>>,
+    pub(crate) newest: Vec<Option<Newest>>,
 }
 
 impl Model for Group {
@@ -23,7 +23,7 @@ impl Model for Group {
       seats = group.seats;
       absent = group.absent;
       lagging = group.lagging;
-      newest = group.newest;
+      newest = group.newest.items;
     } };
 }
 

@@ -2,10 +2,20 @@
 #![tactic(auto)]
 
 mod assembling;
+mod committing;
+mod fault;
+mod full;
 mod group;
 mod reading;
+mod ready;
+mod seated;
 mod seats;
+mod steps;
+mod trying;
 
 pub use assembling::assemble;
 pub use ddf_group::{Assembly, Differ};
+pub use fault::GroupFault;
 pub use group::Group;
+pub use ready::Ready;
+pub use seated::Seated;

@@ -7,6 +7,7 @@ ghost use Rattle.ddf_copy.specs.Faults.{show_failed};
 ghost use Rattle.ddf_copy.specs.Whole.{IsNewestCopy};
 ghost use Rattle.ddf_assembly.specs.Reading.{AreNewest, HasAnchor, HaveAnchors};
 ghost use Rattle.ddf_assembly.specs.Slots.{IsLooked, IsRead, IsSlotRead};
+ghost use Rattle.ddf_assembly.specs.Held.{StandsUnder, StandUnder};
 
 use ddf_bay::Bay;
 use ddf_bytes::NoMemory;
@@ -19,6 +20,7 @@ fn read_slot<B: Bay>(alloc: Global, bay: &mut B, slot: usize) -> Result<Option<N
     ensures newest { B.tells → IfOk result (λ newest. newest ≡ on_slot newest_at (B.disks bay.old) slot) }
     ensures writable { IfOk result (λ newest. IfSome newest IsNewestCopy) }
     ensures under { IfOk result (λ newest. IfSome newest (HasAnchor (slice_index (B.disks bay.old).sizes slot))) }
+    ensures stands { B.tells → IfOk result (λ newest. IfSome newest (StandsUnder (B.disks bay.old) slot)) }
     ensures reads { ReadsOnly (B.disks bay.old) (B.disks bay.new) }
     ensures look { LooksAt (B.disks bay.old) (B.disks bay.new) slot (show_failed result) }
 {
@@ -42,6 +44,7 @@ fn read_or_leave<B: Bay>(
     ensures read { IsSlotRead B.tells (B.disks bay.old) (B.disks bay.new) slot result }
     ensures writable { IfOk result (λ newest. IfSome newest IsNewestCopy) }
     ensures under { IfOk result (λ newest. IfSome newest (HasAnchor (slice_index (B.disks bay.old).sizes slot))) }
+    ensures stands { B.tells → IfOk result (λ newest. IfSome newest (StandsUnder (B.disks bay.old) slot)) }
     ensures reads { ReadsOnly (B.disks bay.old) (B.disks bay.new) }
 {
     match read_slot(alloc, bay, slot) {
@@ -60,7 +63,9 @@ pub(crate) fn read_slots<B: Bay>(
     ensures looked { IsLooked (B.disks bay.old) (B.disks bay.new) }
     ensures writable { IfOk result (λ newest. AreNewest newest.items) }
     ensures under { IfOk result (λ newest. HaveAnchors (B.disks bay.old).sizes newest.items) }
+    ensures stand { B.tells → IfOk result (λ newest. StandUnder (B.disks bay.old) newest.items) }
     ensures never_falls { (slot : ℕ) → (B.disks bay.old).failed_reads slot ≤ (B.disks bay.new).failed_reads slot }
+    ensures writes_never_fall { (slot : ℕ) → (B.disks bay.old).failed_writes slot ≤ (B.disks bay.new).failed_writes slot }
     ensures reads { ReadsOnly (B.disks bay.old) (B.disks bay.new) }
 {
     let mut all = Vec::new(alloc);

@@ -11,12 +11,16 @@ use Rattle.ddf_update.specs.Group.{IsLeftFoundingAll}
 use Rattle.ddf_bytes.specs.Streams.{SinkState}
 use Rattle.ddf_assembly.specs.Group.{group_of}
 use Rattle.ddf_assembly.specs.Slots.{IsLooked, newest_from}
+use Rattle.ddf_command.proofs.LeftOut.{has_no_place}
+use Rattle.ddf_bytes.specs.Stamps.{timestamp_of}
+use Rattle.ddf_command.proofs.ChangeEnds.{changed_nothing}
 use Rattle.ddf_command.proofs.ReadBlocks.{memory_in}
 use Rattle.ddf_command.specs.Call.{Answer, Work, answer_of, work_of}
 use Rattle.ddf_command.specs.Examine.{IsExamined, some_failed}
+use Rattle.ddf_command.specs.Requests.{create_of, creation_of, delete_of, fail_of, spare_of}
 use Rattle.ddf_command.specs.Run.{IsCommandDone, SomeSlotRose}
 use Rattle.ddf_words.specs.declared.command.Command.{Command}
-use Rattle.ddf_words.specs.declared.command.Command.TheVariants.{Assemble, Examine, Label, Read}
+use Rattle.ddf_words.specs.declared.command.Command.TheVariants.{Assemble, Create, Delete, Examine, Fail, Label, Read, Spare}
 use Rattle.ddf_command.specs.declared.failure.Failure.TheVariants.{Memory}
 use Rattle.ddf_command.specs.Label.{label_copy, label_slots}
 use Rattle.ddf_words.specs.declared.command.Asked.{Asked}
@@ -127,7 +131,13 @@ done_nothing old tells told before stamp group (Read name start count) = record 
     failed = (none_looked old).are_failed.rose;
     newest = newest_from old 0 (none_looked old).left;
     read = λ tells. refl;
+    no_place = λ tells slot out. has_no_place old (none_looked old).left (newest_from old 0 (none_looked old).left) group slot refl out;
     gives = memory_in (work_of tells old old) name start count (group_of (newest_from old 0 (none_looked old).left) group);
   };
   ends = (refl, λ told. refl);
 }
+done_nothing old tells told before stamp group (Create name level qualifier code secondary elements) =
+    changed_nothing old tells told before group (timestamp_of stamp) (create_of (length old.sizes) stamp (creation_of name level qualifier code secondary elements)) (none_looked old)
+done_nothing old tells told before stamp group (Delete name) = changed_nothing old tells told before group (timestamp_of stamp) (delete_of name) (none_looked old)
+done_nothing old tells told before stamp group (Spare slot word) = changed_nothing old tells told before group (timestamp_of stamp) (spare_of (length old.sizes) slot word) (none_looked old)
+done_nothing old tells told before stamp group (Fail slot) = changed_nothing old tells told before group (timestamp_of stamp) (fail_of (length old.sizes) slot) (none_looked old)

@@ -1,7 +1,6 @@
 -- What a read of blocks comes to.
-use Rattle.std.proofs.Common.{◌≡◌, ◌∙◌, inl, inr, ⊎_elim, ℕ, ◌+◌, ◌<◌, ◌≤◌, Bool, true, false, not, List, [], ◌∷◌, length, Option, Some, None, Result, Ok, Err, ap, arith, refl, sym, subst}
+use Rattle.std.proofs.Common.{◌≡◌, ◌∙◌, inl, inr, ⊎_elim, ℕ, ◌+◌, ◌<◌, ◌≤◌, Bool, true, false, not, List, [], ◌∷◌, length, Option, Some, None, Result, Ok, Err, ap, refl, sym, subst}
 use Rattle.std.specs.Prelude.{nat_lt, if◌then◌else◌}
-use Rattle.std.proofs.lemmas.Bool.{cases_lt}
 use Rattle.std.specs.Map.{lookup}
 use Rattle.std.specs.Option.{option_or}
 use Rattle.ddf_bytes.specs.Counts.{Rose}
@@ -28,13 +27,17 @@ use Rattle.ddf_volume.specs.Reading.{AllHaveSlot, Failed, HasSite, HasSlot, IsGi
 use Rattle.ddf_volume.specs.Refused as volume
 use Rattle.ddf_volume.specs.Refused.{IsReadFault, is_unsure}
 use Rattle.ddf_group.specs.declared.answer.Assembly.{Assembly}
+use Rattle.ddf_group.specs.declared.answer.Assembly.TheVariants as assembly
 use Rattle.ddf_assembly.specs.Group.{GroupValue, UpToMemory}
+use Rattle.ddf_request.specs.Named.{named_array}
 use Rattle.ddf_command.specs.declared.failure.Failure.{Failure}
 use Rattle.ddf_command.specs.declared.failure.Failure.TheVariants.{Conflict, Disk, Memory, Refused, Split}
-use Rattle.ddf_command.specs.Arrays.{named_array}
+use Rattle.ddf_command.specs.Answers.{failure_of}
 use Rattle.ddf_command.specs.Call.{Work, work_of}
-use Rattle.ddf_command.specs.Read.{IsReadIn, IsReadOf, IsReadable, array_refusals, block_refusals, failure_of_read, needs_parity, read_refusal}
+use Rattle.ddf_command.specs.Read.{AreBlocks, IsReadIn, IsReadOf, IsReadable, array_refusals, block_refusals, failure_of_read, needs_parity, read_refusal}
 use Rattle.ddf_command.proofs.Readable.{named_is, range_of}
+use Rattle.ddf_volume.proofs.GivenLaws.{values_of}
+use Rattle.ddf_command.proofs.Rises.{rose_later, rose_still}
 use Rattle.ddf_volume.proofs.SourceSlots.{slot_there}
 
 -- ---- more failures
@@ -66,15 +69,9 @@ module _ (P Q : ℕ → Type 0) (more : (slot : ℕ) → P slot → Q slot) wher
     none_left = record {
       all_failed = all_have (sources v (start + none.block)) none.none_left.all_failed;
       this_failed = more slot none.none_left.this_failed;
-      is_among = none.none_left.is_among;
+      is_of_first = none.none_left.is_of_first;
     };
   }
-
-rose_later : (a b c : ℕ) → a ≤ b → Rose b c → Rose a c
-rose_later a b c le rose = ⊎_elim (λ lt. inl (omega (arith, le, lt))) (λ last. inr last) rose
-
-rose_still : (a b c : ℕ) → a ≤ b → b ≤ c → Rose a b → Rose a c
-rose_still a b c le less rose = ⊎_elim (λ lt. inl (omega (arith, lt, less))) (λ last. ⊎_elim (λ lt. inl (omega (arith, le, lt))) (λ ge. inr (omega (arith, last, ge, less))) (cases_lt b c)) rose
 
 -- a look failed, also where more reads followed
 pub look_later : {D : Type 0} (old middle new : BayState D) (slot : ℕ) → ((s : ℕ) → old.failed_reads s ≤ middle.failed_reads s) → OnlyReads middle new → LookFailed old middle slot → LookFailed old new slot
@@ -84,6 +81,19 @@ look_later old middle new slot falls only failed = ⊎_elim
     failed
 
 -- ---- what blocks tell
+
+-- blocks as their sources give them, and their values where no read of the array's slots failed
+are_blocks : {D : Type 0} (work : Work D) (group : GroupValue) (word : List ℕ) (start : ℕ) (sectors : List (List ℕ)) (entry : List ℕ × Array) (v : Volume)
+    → named_array group.config.arrays word ≡ Some entry → view_of group.config entry.0 group.seats ≡ Ok v
+    → (work.tells → AreGiven (Failed work.old work.new) work.old.held v start (length sectors) sectors) → AreBlocks work group word start sectors
+are_blocks work group word start sectors entry v is_named is_view given = record {
+  entry = entry;
+  volume = v;
+  is_named = is_named;
+  is_view = is_view;
+  given = given;
+  values = λ tells never. values_of (Failed work.old work.new) v work.old.held start (length sectors) sectors never (given tells);
+}
 
 -- as the program tells it
 abbrev refused : Option VolumeFault → Option Refusal
@@ -137,13 +147,8 @@ module _ (group : GroupValue) (word : List ℕ) (start count : ℕ) (v : Volume)
     read_ok none sectors counted given = (
       counted,
       same_refusal None none,
-      record {
-        entry = ready.entry;
-        volume = v;
-        is_named = ready.is_named;
-        is_view = ready.is_view;
-        given = λ tells. subst (λ (n : ℕ). AreGiven (Failed work.old work.new) work.old.held v start n sectors) (sym counted) (given tells);
-      },
+      are_blocks work group word start sectors ready.entry v ready.is_named ready.is_view
+          (λ tells. subst (λ (n : ℕ). AreGiven (Failed work.old work.new) work.old.held v start n sectors) (sym counted) (given tells)),
     )
 
     pub read_err : Fits work.old.sizes v → (fault : VolumeFault) → IsReadFault (Failed work.old work.new) v start count fault → IsReadOf work group word start count (Err (failure_of_read fault))
@@ -151,7 +156,7 @@ module _ (group : GroupValue) (word : List ℕ) (start count : ℕ) (v : Volume)
     read_err fits faults.Lost is = same_refusal (Some faults.Lost) is
     read_err fits faults.Unsure is = same_refusal (Some faults.Unsure) is
     read_err fits (faults.Disk slot) is =
-        (same_refusal None is.0, record { there = slot_there work.old.sizes v fits (start + is.1.block) slot is.1.none_left.is_among; entry = ready.entry; volume = v; is_named = ready.is_named; is_view = ready.is_view; none_left = is.1 })
+        (same_refusal None is.0, record { there = slot_there work.old.sizes v fits (start + is.1.block) slot is.1.none_left.is_of_first; entry = ready.entry; volume = v; is_named = ready.is_named; is_view = ready.is_view; none_left = is.1 })
 
 -- ---- behind an assembly
 
@@ -164,14 +169,10 @@ module _ {D : Type 0} (tells : Type 0) (old middle new : BayState D) (group : Gr
   read_behind (Ok sectors) is = (
     is.0,
     is.1,
-    record {
-      entry = is.2.entry;
-      volume = is.2.volume;
-      is_named = is.2.is_named;
-      is_view = is.2.is_view;
-      given = λ told. subst (λ (image : Image). AreGiven (Failed old new) image is.2.volume start (length sectors) sectors) same_held
-          (are_given (Failed middle new) (Failed old new) more middle.held is.2.volume start (length sectors) sectors (is.2.given told));
-    },
+    are_blocks (work_of tells old new) group word start sectors is.2.entry is.2.volume is.2.is_named is.2.is_view
+        (λ told.
+        subst (λ (image : Image). AreGiven (Failed old new) image is.2.volume start (length sectors) sectors) same_held
+        (are_given (Failed middle new) (Failed old new) more middle.held is.2.volume start (length sectors) sectors (is.2.given told))),
   )
   read_behind (Err (Refused refusal)) is = is
   read_behind (Err (Disk slot)) is = (
@@ -195,6 +196,16 @@ pub read_in : {D : Type 0} (work : Work D) (word : List ℕ) (start count : ℕ)
 read_in work word start count group (Ok one) outcome (inl is) read = let same : group ≡ one = cc in subst (λ (g : GroupValue). IsReadOf work g word start count outcome) same read
 read_in work word start count group (Err fault) outcome (inl is) read = absurd cc
 read_in work word start count group answer outcome (inr is) read = absurd cc
+
+-- where none was
+pub fault_in : {D : Type 0} (work : Work D) (word : List ℕ) (start count : ℕ) (fault : Assembly) (answer : Result GroupValue Assembly) → UpToMemory (Err fault) answer
+    → IsReadIn work word start count answer (Err (failure_of fault))
+fault_in work word start count fault (Ok one) (inl is) = absurd cc
+fault_in work word start count fault (Ok one) (inr is) =
+    let same : fault ≡ assembly.Memory = cc in
+    subst (λ (f : Assembly). IsReadOf work one word start count (Err (failure_of f))) (sym same) tt
+fault_in work word start count fault (Err other) (inl is) = let same : fault ≡ other = cc in inl (ap (λ (f : Assembly). Err (failure_of f)) same)
+fault_in work word start count fault (Err other) (inr is) = let same : fault ≡ assembly.Memory = cc in inr (ap (λ (f : Assembly). Err (failure_of f)) same)
 
 -- where memory ran out
 pub memory_in : {D : Type 0} (work : Work D) (word : List ℕ) (start count : ℕ) (answer : Result GroupValue Assembly) → IsReadIn work word start count answer (Err Memory)

@@ -14,12 +14,21 @@ use Rattle.ddf_text.specs.Conflicts.{conflict_line, split_line}
 use Rattle.ddf_text.specs.Refusal.{refusal_line}
 
 -- no group has no failed slot
-no_disk : (fault : Assembly) (slot : ℕ) → failure_of fault ≡ Disk slot → ⊥
+pub no_disk : (fault : Assembly) (slot : ℕ) → failure_of fault ≡ Disk slot → ⊥
 no_disk faults.NoGroup slot e = cc
 no_disk (faults.SeveralGroups first second) slot e = cc
 no_disk (faults.Conflict i j sequence differ) slot e = cc
 no_disk (faults.Split i j) slot e = cc
 no_disk faults.Memory slot e = cc
+
+-- none of these is status 3
+pub not_three : (status : ℕ) → IsEnd status → status ≡ 3 → ⊥
+not_three status end e = ⊎_elim (λ n. omega (arith, e, n)) (⊎_elim (λ n. omega (arith, e, n)) (⊎_elim (λ n. omega (arith, e, n)) (⊎_elim (λ n. omega (arith, e, n)) (λ n. omega (arith, e, n))))) end
+
+-- those of a call whose output didn't fail
+pub good_end : (status : ℕ) → (status ≡ 6 → ⊥) → IsEnd status → (status ≡ 0) ⊎ (status ≡ 5) ⊎ (status ≡ 1) ⊎ (status ≡ 4)
+good_end status good end =
+    ⊎_elim inl (⊎_elim (λ five. inr (inl five)) (⊎_elim (λ one. inr (inr (inl one))) (⊎_elim (λ four. inr (inr (inr four))) (λ six. absurd (good six))))) end
 
 module _ {D : Type 0} (work : Work D) (named : Option (List ℕ)) (word : List ℕ) (start count : ℕ) (answer : Answer) where
   -- a block without a source names a slot that failed
@@ -40,17 +49,11 @@ module _ {D : Type 0} (work : Work D) (named : Option (List ℕ)) (word : List �
   ended : IsReadDone work named word start count answer → IsEnd answer.status ⊎ SomeSlotRose work.old work.new
   ended done = end_by done.outcome (group_of done.has.newest named) done.has.gives done.ends
 
-  not_three : IsEnd answer.status → answer.status ≡ 3 → ⊥
-  not_three end e = ⊎_elim (λ n. omega (arith, e, n)) (⊎_elim (λ n. omega (arith, e, n)) (⊎_elim (λ n. omega (arith, e, n)) (⊎_elim (λ n. omega (arith, e, n)) (λ n. omega (arith, e, n))))) end
-
   -- status 3 comes from a slot
   pub read_cause : IsReadDone work named word start count answer → answer.status ≡ 3 → SomeSlotRose work.old work.new
-  read_cause done e = ⊎_elim (λ end. absurd (not_three end e)) (λ rose. rose) (ended done)
+  read_cause done e = ⊎_elim (λ end. absurd (not_three answer.status end e)) (λ rose. rose) (ended done)
 
   -- where nothing failed it is done, or refused, or records contradict each other, or memory ran out
   pub read_no_fault : IsReadDone work named word start count answer → (SomeSlotRose work.old work.new → ⊥) → (answer.status ≡ 6 → ⊥)
       → (answer.status ≡ 0) ⊎ (answer.status ≡ 5) ⊎ (answer.status ≡ 1) ⊎ (answer.status ≡ 4)
-  read_no_fault done none good = ⊎_elim
-      (⊎_elim inl (⊎_elim (λ five. inr (inl five)) (⊎_elim (λ one. inr (inr (inl one))) (⊎_elim (λ four. inr (inr (inr four))) (λ six. absurd (good six))))))
-      (λ rose. absurd (none rose))
-      (ended done)
+  read_no_fault done none good = ⊎_elim (good_end answer.status good) (λ rose. absurd (none rose)) (ended done)

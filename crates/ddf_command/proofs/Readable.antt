@@ -20,9 +20,10 @@ use Rattle.ddf_array.specs.Viewing.{view_of}
 use Rattle.ddf_array.specs.Volume.{Volume}
 use Rattle.ddf_array.proofs.Viewed.{has_view}
 use Rattle.ddf_assembly.specs.Group.{GroupValue}
+use Rattle.ddf_request.specs.Named.{named_array, named_guid, with_array}
 use Rattle.ddf_command.specs.declared.failure.Failure.{Failure}
 use Rattle.ddf_command.specs.declared.failure.Failure.TheVariants.{Conflict, Disk, Memory, Refused, Split}
-use Rattle.ddf_command.specs.Arrays.{bad_blocks, is_held, named_array, named_guid, with_array}
+use Rattle.ddf_command.specs.Arrays.{bad_blocks, is_held}
 use Rattle.ddf_command.specs.Read.{IsViewed, MayRead, array_refusals, block_refusals, is_out_of_range, is_useless, read_refusal}
 
 -- ---- a level that isn't served

@@ -1,6 +1,10 @@
 -- How commands that aren't done answer.
 use Rattle.std.specs.Prelude.{◌≡◌}
-use Rattle.ddf_config.specs.declared.refusal.Refusal.TheVariants.{NoGroup, SeveralGroups}
+use Rattle.ddf_config.specs.declared.refusal.Refusal.TheVariants.{NoGroup, SequenceSpent, SeveralGroups}
+use Rattle.ddf_plan.specs.declared.fault.PlanFault.{PlanFault}
+use Rattle.ddf_plan.specs.declared.fault.PlanFault.TheVariants as plans
+use Rattle.ddf_assembly.specs.declared.fault.GroupFault.{GroupFault}
+use Rattle.ddf_assembly.specs.declared.fault.GroupFault.TheVariants as groups
 use Rattle.ddf_group.specs.declared.answer.Assembly.{Assembly}
 use Rattle.ddf_group.specs.declared.answer.Assembly.TheVariants as faults
 use Rattle.ddf_text.specs.Conflicts.{conflict_line, split_line}
@@ -17,6 +21,17 @@ failure_of (faults.SeveralGroups first second) = Refused (SeveralGroups first se
 failure_of (faults.Conflict i j sequence differ) = Conflict i j sequence differ
 failure_of (faults.Split i j) = Split i j
 failure_of faults.Memory = Memory
+
+-- why a change of the group isn't asked for
+abbrev pub failure_of_plan : PlanFault → Failure
+failure_of_plan (plans.Refused refusal) = Refused refusal
+failure_of_plan plans.Memory = Memory
+
+-- why it isn't made
+abbrev pub failure_of_group : GroupFault → Failure
+failure_of_group (groups.Refused refusal) = Refused refusal
+failure_of_group groups.SequenceSpent = Refused SequenceSpent
+failure_of_group groups.Memory = Memory
 
 -- what is told of a failure, and with which status: once a disk was written no memory is taken
 abbrev pub IsToldFailure : Failure → Answer → Type 0

@@ -10,4 +10,8 @@ pub mod Label
 pub mod Assemble
 pub mod Arrays
 pub mod Read
+pub mod Written
+pub mod Change
+pub mod Settled
+pub mod Requests
 pub mod Run

@@ -15,18 +15,19 @@ use Rattle.ddf_config.specs.Unusable.{is_served_on}
 use Rattle.ddf_config.specs.Within.{is_complete}
 use Rattle.ddf_array.specs.Viewing.{is_array_within, view_of}
 use Rattle.ddf_array.specs.Volume.{Volume}
-use Rattle.ddf_volume.specs.Given.{AreGiven, NoneLeftIn}
-use Rattle.ddf_volume.specs.Reading.{Failed}
+use Rattle.ddf_volume.specs.Given.{AreGiven, AreValues, NoneLeftIn}
+use Rattle.ddf_volume.specs.Reading.{Failed, IsOn, NoneFailed}
 use Rattle.ddf_volume.specs.Refused.{is_unsure}
 use Rattle.ddf_volume.specs.declared.fault.VolumeFault.{VolumeFault}
 use Rattle.ddf_volume.specs.declared.fault.VolumeFault.TheVariants as volumes
 use Rattle.ddf_group.specs.declared.answer.Assembly.{Assembly}
 use Rattle.ddf_assembly.specs.Group.{GroupValue, group_of}
 use Rattle.ddf_assembly.specs.Slots.{newest_from}
+use Rattle.ddf_request.specs.Named.{named_array}
 use Rattle.ddf_command.specs.declared.failure.Failure.{Failure}
 use Rattle.ddf_command.specs.declared.failure.Failure.TheVariants.{Conflict, Disk, Memory, Refused, Split}
 use Rattle.ddf_command.specs.Answers.{IsToldFailure, failure_of}
-use Rattle.ddf_command.specs.Arrays.{bad_blocks, is_held, named_array}
+use Rattle.ddf_command.specs.Arrays.{bad_blocks, is_held}
 use Rattle.ddf_command.specs.Call.{Answer, Work}
 use Rattle.ddf_command.specs.Tells.{ClosesWith}
 
@@ -78,15 +79,18 @@ read_refusal group (Some entry) start count = first_refusal (array_refusals grou
 
 -- ---- what it gives
 
--- The sectors are the blocks of the array from a number on, as their sources give them.
+-- The sectors are the blocks of the array from a number on, as their sources give them, and where no read failed in this
+-- call on a slot of the array's available places exactly their values.
 pub record AreBlocks {D : Type 0} (work : Work D) (group : GroupValue) (word : List ℕ) (start : ℕ) (sectors : List (List ℕ)) : Type 0 where
   pub entry : List ℕ × Array
   pub volume : Volume
   pub is_named : named_array group.config.arrays word ≡ Some entry
   pub is_view : view_of group.config entry.0 group.seats ≡ Ok volume
   pub given : work.tells → AreGiven (Failed work.old work.new) work.old.held volume start (length sectors) sectors
+  pub values : work.tells → NoneFailed volume work.old work.new → AreValues work.old.held volume start (length sectors) sectors
 
--- No source is left at a slot for one of the blocks.
+-- No source is left for one of the blocks: each has a slot of which a read failed in this call, and the named one is such
+-- a slot of the block's first source.
 pub record IsWithoutSource {D : Type 0} (work : Work D) (group : GroupValue) (word : List ℕ) (start count slot : ℕ) : Type 0 where
   pub there : slot < length work.old.sizes
   pub entry : List ℕ × Array
@@ -146,14 +150,20 @@ abbrev pub sectors_read : Result (Vec (List ℕ) Global) Failure → Result (Lis
 sectors_read (Ok sectors) = Ok sectors.items
 sectors_read (Err failure) = Err failure
 
+-- no array of the group, if there is one, has an available place on this slot
+abbrev pub HasNoPlace : Result GroupValue Assembly → ℕ → Type 0
+HasNoPlace (Ok group) slot = (guid : List ℕ) (volume : Volume) → view_of group.config guid group.seats ≡ Ok volume → IsOn volume slot → ⊥
+HasNoPlace (Err fault) slot = Unit {0}
+
 -- A call came to this: what the group gives that the newest copies of the slots are that aren't left out. A slot is left out only
--- where a call of this call failed on it.
+-- where a call of this call failed on it, and then no array has an available place on it.
 pub record HasRead {D : Type 0} (work : Work D) (named : Option (List ℕ)) (word : List ℕ) (start count : ℕ) (outcome : Result (List (List ℕ)) Failure) : Type 0 where
   pub left : List Bool
   pub every_slot : length left ≡ length work.old.sizes
   pub failed : (slot : ℕ) → slot < length left → IsTrue (slice_index_or left slot false) → LookFailed work.old work.new slot
   pub newest : List (Option Newest)
   pub read : work.tells → newest ≡ newest_from work.old 0 left
+  pub no_place : work.tells → (slot : ℕ) → IsTrue (slice_index_or left slot false) → HasNoPlace (group_of newest named) slot
   pub gives : IsReadIn work word start count (group_of newest named) outcome
 
 -- what is told of it: the bytes of the blocks alone, or why there are none

@@ -13,14 +13,19 @@ ghost use Rattle.ddf_words.specs.Commands.{may_refuse, takes_group};
 ghost use Rattle.ddf_words.specs.Words.{words_of, slot_count, GoWrongAt, IsAccepted, IsAsked};
 
 use crate::commands::assemble::assemble_disks;
+use crate::commands::create::create;
+use crate::commands::delete::delete;
 use crate::commands::examine::examine;
+use crate::commands::fail::fail;
 use crate::commands::label::label;
 use crate::commands::read::read;
+use crate::commands::spare::spare;
 use crate::status::Status;
 use crate::tell::tell_line;
 use ddf_bay::Bay;
 use ddf_bytes::{Sink, Source, Stamp};
 use ddf_config::Refusal;
+use ddf_request::Creation;
 use ddf_text::RefusalText;
 use ddf_words::{Command, WordFault, asked};
 use std::alloc::Global;
@@ -70,6 +75,31 @@ pub fn run<B: Bay, S: Source, K: Sink>(
                 Command::Read { name, start, count } => {
                     read(alloc, group, name.items(), start, count, bay, sink).code()
                 }
+                Command::Create {
+                    name,
+                    level,
+                    qualifier,
+                    code,
+                    secondary,
+                    elements,
+                } => {
+                    let creation = Creation {
+                        name: name.items(),
+                        level,
+                        qualifier,
+                        code,
+                        secondary,
+                        elements: elements.items(),
+                    };
+                    create(alloc, group, &creation, bay, sink, &stamp).code()
+                }
+                Command::Delete { name } => {
+                    delete(alloc, group, name.items(), bay, sink, &stamp).code()
+                }
+                Command::Spare { slot, word } => {
+                    spare(alloc, group, slot, &word, bay, sink, &stamp).code()
+                }
+                Command::Fail { slot } => fail(alloc, group, slot, bay, sink, &stamp).code(),
             }
         }
         Err(WordFault::Place(place)) => refuse_words(alloc, place, sink),

@@ -7,9 +7,11 @@ ghost use Rattle.ddf_command.specs.Status.{code_of};
 
 use crate::status::Status;
 use crate::tell::{tell, tell_line};
-use ddf_assembly::{Assembly, Differ};
+use ddf_assembly::{Assembly, Differ, GroupFault};
+use ddf_bay::DiskFault;
 use ddf_bytes::Sink;
 use ddf_config::Refusal;
+use ddf_plan::PlanFault;
 use ddf_text::{ConflictText, RefusalText, SplitText, disk_fault_line};
 use std::alloc::Global;
 
@@ -61,6 +63,53 @@ impl From<Assembly> for Failure {
             Assembly::Split { i, j } => Failure::Split { i, j },
             Assembly::Memory => Failure::Memory,
         }
+    }
+}
+
+impl From<Refusal> for Failure {
+    ghost use Rattle.ddf_command.specs.declared.failure.Failure.TheVariants.{Refused};
+
+    ghost from_gives = { λ refusal failure. failure ≡ Refused refusal };
+
+    fn from(refusal: Refusal) -> Failure {
+        Failure::Refused(refusal)
+    }
+}
+
+impl From<PlanFault> for Failure {
+    ghost use Rattle.ddf_command.specs.Answers.{failure_of_plan};
+
+    ghost from_gives = { λ fault failure. failure ≡ failure_of_plan fault };
+
+    fn from(fault: PlanFault) -> Failure {
+        match fault {
+            PlanFault::Refused(refusal) => Failure::Refused(refusal),
+            PlanFault::Memory => Failure::Memory,
+        }
+    }
+}
+
+impl From<GroupFault> for Failure {
+    ghost use Rattle.ddf_command.specs.Answers.{failure_of_group};
+
+    ghost from_gives = { λ fault failure. failure ≡ failure_of_group fault };
+
+    fn from(fault: GroupFault) -> Failure {
+        match fault {
+            GroupFault::Refused(refusal) => Failure::Refused(refusal),
+            GroupFault::SequenceSpent => Failure::Refused(Refusal::SequenceSpent),
+            GroupFault::Memory => Failure::Memory,
+        }
+    }
+}
+
+impl From<DiskFault> for Failure {
+    ghost use Rattle.ddf_command.specs.declared.failure.Failure.TheVariants.{Disk};
+
+    ghost from_gives = { λ fault failure. failure ≡ Disk fault.0 };
+
+    fn from(fault: DiskFault) -> Failure {
+        Failure::Disk(fault.0)
     }
 }
 

@@ -1,41 +1,11 @@
-// The array that the words name.
-ghost use Rattle.std.specs.Prelude.{◌≡◌, find, option_map, IfOk};
+// What its disks and its state tell of an array that is to be read.
+ghost use Rattle.std.specs.Prelude.{◌≡◌, find, IfOk};
 ghost use Rattle.std.specs.Option.{option_copied};
-ghost use Rattle.ddf_command.specs.Arrays.{bad_blocks, is_bad, is_held, lies_on, named_array, named_guid};
+ghost use Rattle.ddf_command.specs.Arrays.{bad_blocks, is_bad, is_held, lies_on};
 
-use ddf_bytes::{Guid, NoMemory};
+use ddf_bytes::NoMemory;
 use ddf_config::{Array, Extent, Refusal, Seat, array_extents};
-use ddf_text::prints_as;
-use indexmap::IndexMap;
 use std::alloc::Global;
-
-/// The GUID of the first array of the table whose name prints as this word.
-fn named_guid(arrays: &IndexMap<Guid, Array>, word: &[u8]) -> Option<Guid>
-    ensures { result ≡ named_guid arrays.now.entries word.now }
-{
-    for (guid, array) in arrays {
-        if prints_as(&array.name, word) {
-            return Some(*guid);
-        }
-    }
-    None
-}
-
-/// The first array of the table whose name prints as this word, with its GUID.
-pub(crate) fn named_array<'a>(
-    arrays: &'a IndexMap<Guid, Array>,
-    word: &[u8],
-) -> Option<(Guid, &'a Array)>
-    ensures { option_map (λ entry. (entry.0, entry.1.now)) result ≡ named_array arrays.now.entries word.now }
-{
-    match named_guid(arrays, word) {
-        Some(guid) => match arrays.get(&guid) {
-            Some(array) => Some((guid, array)),
-            None => None,
-        },
-        None => None,
-    }
-}
 
 fn lies_on(extents: &[Extent], reference: u32) -> bool
     ensures { result ≡ lies_on extents.now reference }

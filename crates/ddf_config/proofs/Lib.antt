@@ -3,3 +3,4 @@ pub mod Starts
 pub mod Entries
 pub mod Finds
 pub mod Firsts
+pub mod Capacity

@@ -34,5 +34,5 @@ pub use shape::{
 };
 pub use state::{low_state, with_low_states};
 pub use table::{put_last, put_some};
-pub use usable::unusable;
+pub use usable::{passes_floor, unusable};
 pub use within::{has_part_within, is_part_within, is_within};

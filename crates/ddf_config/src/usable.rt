@@ -13,8 +13,9 @@ use ddf_bytes::NoMemory;
 use indexmap::IndexMap;
 use std::alloc::Global;
 
-/// Whether an extent ends past the floor of its member's seat.
-fn passes_floor(seats: &[Seat], one: &Extent) -> bool
+/// Whether an extent ends past the floor of its member's seat, where it meets the disk's headers or its workspace. A member
+/// without a seat has no floor.
+pub fn passes_floor(seats: &[Seat], one: &Extent) -> bool
     ensures { result ≡ passes_floor seats.now one.now }
 {
     match floor_of(seats, one.reference) {

@@ -2,3 +2,5 @@ pub mod Afters
 pub mod Kept
 pub mod Clear
 pub mod Made
+pub mod Zips
+pub mod Lists

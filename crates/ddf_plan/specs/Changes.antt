@@ -93,6 +93,10 @@ abbrev pub changed : Configuration → Change → Configuration
 changed config change =
     with_tables config (steps_of change) (members_after config change) (arrays_after config change)
 
+-- the same at another sequence number
+abbrev pub changed_at : Configuration → Change → ℕ → Configuration
+changed_at config change sequence = record (changed config change) { sequence = sequence }
+
 abbrev pub after_by : Configuration → Change → Option Refusal → Result Configuration Refusal
 after_by config change None = Ok (changed config change)
 after_by config change (Some refusal) = Err refusal

@@ -1,5 +1,5 @@
 -- Why an array can't be created.
-use Rattle.std.specs.Prelude.{ℕ, Bool, false, not, ◌||◌, List, [], ◌∷◌, Option, Some, None, map, find, length, is_some, is_none, nat_eq, option_map}
+use Rattle.std.specs.Prelude.{ℕ, Bool, false, not, ◌||◌, List, [], ◌∷◌, ◌++◌, Option, Some, None, map, find, length, is_some, is_none, nat_eq, nat_lt, option_map}
 use Rattle.std.specs.Map.{lookup}
 use Rattle.std.specs.List.{list_any}
 use Rattle.std.specs.Cmp.Lexicographic.{pointwise}
@@ -41,6 +41,15 @@ names_twice (reference ∷ others) = list_any (nat_eq reference) others || names
 abbrev pub is_no_shape : Array → Bool
 is_no_shape array = not (has_shapes array) || not (has_tiers array) || names_twice (references array)
 
+-- that an element has more members than a bound
+abbrev pub has_more : ℕ → Option ElementValue → Bool
+has_more most part = elim part [ None ↦ false | Some element ↦ nat_lt most (length element.positions) ]
+
+-- that some element has, where there is a bound
+abbrev pub passes_most : Option ℕ → Array → Bool
+passes_most None array = false
+passes_most (Some most) array = list_any (has_more most) array.elements
+
 abbrev pub is_spare_disk : Configuration → ℕ → Bool
 is_spare_disk config reference =
     elim (lookup (nat_eq reference) config.members) [ None ↦ false | Some member ↦ is_spare member.spare ]
@@ -61,17 +70,23 @@ room_refusal config seats elements part =
           no_extent seats (find (lacks_room config (element_strip elements element) element.blocks) element.positions)
     ]
 
--- in order: each disk is a current member, the name is new, each level is served, the numbers make an array,
--- the GUID is new, no disk is a spare, each disk has room, and the sequence number has a step left
-abbrev pub create_refusal : Configuration → List Seat → List ℕ → Array → Option Refusal
-create_refusal config seats guid array =
-    first_refusal
-    (not_current config seats (references array)
+-- that of the array: the first position without room
+abbrev pub create_room : Configuration → List Seat → Array → Option Refusal
+create_room config seats array = part_refusal (room_refusal config seats (length array.elements)) array.elements
+
+-- in order: each disk is a current member, the name is new, each level is served, the numbers make an array whose elements
+-- have no more members than the bound, the GUID is new, and no disk is a spare
+abbrev pub create_causes : Option ℕ → Configuration → List Seat → List ℕ → Array → List (Option Refusal)
+create_causes most config seats guid array =
+    not_current config seats (references array)
     ∷ refuse_if (has_named config array.name) NameTaken
     ∷ unserved_level array
-    ∷ refuse_if (is_no_shape array) Shape
+    ∷ refuse_if (passes_most most array || is_no_shape array) Shape
     ∷ refuse_if (is_some (lookup (same_guid guid) config.arrays)) (Clash guid)
     ∷ refuse_first seats (is_spare_disk config) InUse (references array)
-    ∷ part_refusal (room_refusal config seats (length array.elements)) array.elements
-    ∷ spent config.sequence 1
-    ∷ [])
+    ∷ []
+
+-- behind these: each disk has room, and the sequence number has a step left
+abbrev pub create_refusal : Configuration → List Seat → List ℕ → Array → Option Refusal
+create_refusal config seats guid array =
+    first_refusal (create_causes None config seats guid array ++ create_room config seats array ∷ spent config.sequence 1 ∷ [])

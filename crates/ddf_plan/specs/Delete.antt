@@ -1,5 +1,5 @@
 -- What is left of spares without an array, and why an array can't be deleted.
-use Rattle.std.specs.Prelude.{ℕ, not, List, [], ◌∷◌, Option, filter, is_none}
+use Rattle.std.specs.Prelude.{ℕ, not, List, [], ◌∷◌, ◌++◌, Option, filter, is_none}
 use Rattle.std.specs.Map.{lookup}
 use Rattle.ddf_config.specs.declared.member.SpareUse.{SpareUse}
 use Rattle.ddf_config.specs.declared.member.SpareUse.TheVariants.{No, Global, Dedicated}
@@ -25,6 +25,9 @@ use_without guid (Dedicated guids) = dedicated (filter (λ other. not (same_guid
 abbrev pub no_array : Configuration → List ℕ → Option Refusal
 no_array config guid = refuse_if (is_none (lookup (same_guid guid) config.arrays)) NoArray
 
+abbrev pub delete_causes : Configuration → List ℕ → List (Option Refusal)
+delete_causes config guid = no_array config guid ∷ []
+
 -- in order: the array is there, and the sequence number has a step left
 abbrev pub delete_refusal : Configuration → List ℕ → Option Refusal
-delete_refusal config guid = first_refusal (no_array config guid ∷ spent config.sequence 1 ∷ [])
+delete_refusal config guid = first_refusal (delete_causes config guid ++ spent config.sequence 1 ∷ [])

@@ -1,5 +1,5 @@
 -- Why a disk can't be counted as failed. What the failure makes of the configuration is what a loss makes of it.
-use Rattle.std.specs.Prelude.{ℕ, Bool, not, ◌&&◌, List, [], ◌∷◌, Option, count_by, nat_le}
+use Rattle.std.specs.Prelude.{ℕ, Bool, not, ◌&&◌, List, [], ◌∷◌, ◌++◌, Option, count_by, nat_le}
 use Rattle.std.specs.List.{list_any}
 use Rattle.ddf_config.specs.declared.member.Member.{Member}
 use Rattle.ddf_config.specs.declared.array.Array.{Array}
@@ -25,13 +25,15 @@ abbrev pub any_would_be_lost : Configuration → List (ℕ × Member) → Bool
 any_would_be_lost config members_after =
     list_any (λ entry. would_be_lost config.members members_after entry.1) config.arrays
 
--- in order: it is a current member, not the last, no array would be lost, and the sequence number has two
--- steps left
-abbrev pub fail_refusal : Configuration → List (ℕ × Member) → List Seat → ℕ → Option Refusal
-fail_refusal config members_after seats reference =
-    first_refusal
-    (not_current config seats (reference ∷ [])
+-- in order: it is a current member, not the last, and no array would be lost
+abbrev pub fail_causes : Configuration → List (ℕ × Member) → List Seat → ℕ → List (Option Refusal)
+fail_causes config members_after seats reference =
+    not_current config seats (reference ∷ [])
     ∷ refuse_if (is_last config) (InUse (slot_of seats reference))
     ∷ refuse_if (any_would_be_lost config members_after) Lost
-    ∷ spent config.sequence 2
-    ∷ [])
+    ∷ []
+
+-- behind these: the sequence number has two steps left
+abbrev pub fail_refusal : Configuration → List (ℕ × Member) → List Seat → ℕ → Option Refusal
+fail_refusal config members_after seats reference =
+    first_refusal (fail_causes config members_after seats reference ++ spent config.sequence 2 ∷ [])

@@ -6,3 +6,6 @@ pub mod Delete
 pub mod Spare
 pub mod Fail
 pub mod Changes
+pub mod Causes
+pub mod Floors
+pub mod Same

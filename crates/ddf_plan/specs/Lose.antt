@@ -1,5 +1,5 @@
 -- What the loss of disks makes of members and arrays, and why disks can't be lost.
-use Rattle.std.specs.Prelude.{ℕ, Bool, true, false, ◌&&◌, List, [], ◌∷◌, Option, map, option_map, nat_eq, if◌then◌else◌}
+use Rattle.std.specs.Prelude.{ℕ, Bool, true, false, ◌&&◌, List, [], ◌∷◌, ◌++◌, Option, map, option_map, nat_eq, if◌then◌else◌}
 use Rattle.std.specs.List.{list_any}
 use Rattle.ddf_config.specs.declared.member.Member.{Member}
 use Rattle.ddf_config.specs.declared.element.Position.{Position}
@@ -55,7 +55,10 @@ abbrev pub lost_array : List (ℕ × Member) → List ℕ → Array → Array
 lost_array members references array =
     record array { elements = mirrored_parts members array (lost_parts references array) }
 
+abbrev pub lose_causes : Configuration → List Seat → List ℕ → List (Option Refusal)
+lose_causes config seats references = not_current config seats references ∷ []
+
 -- in order: each is a current member, and the sequence number has two steps left
 abbrev pub lose_refusal : Configuration → List Seat → List ℕ → Option Refusal
 lose_refusal config seats references =
-    first_refusal (not_current config seats references ∷ spent config.sequence 2 ∷ [])
+    first_refusal (lose_causes config seats references ++ spent config.sequence 2 ∷ [])

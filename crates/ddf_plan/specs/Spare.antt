@@ -1,5 +1,5 @@
 -- The use of a disk as a spare, and why it can't have it.
-use Rattle.std.specs.Prelude.{ℕ, Bool, false, not, List, [], ◌∷◌, Option, Some, None, filter, is_some, nat_eq}
+use Rattle.std.specs.Prelude.{ℕ, Bool, false, not, List, [], ◌∷◌, ◌++◌, Option, Some, None, filter, is_some, nat_eq}
 use Rattle.std.specs.Map.{lookup, keys_of}
 use Rattle.std.specs.List.{list_any, list_all}
 use Rattle.ddf_config.specs.declared.member.SpareUse.{SpareUse}
@@ -49,13 +49,15 @@ array_refers reference array = list_any (part_refers reference) array.elements
 abbrev pub holds_extent : Configuration → ℕ → Bool
 holds_extent config reference = list_any (λ entry. array_refers reference entry.1) config.arrays
 
--- in order: the disk is a current member, each array is there, the disk holds no extent, and the sequence
--- number has a step left
-abbrev pub spare_refusal : Configuration → List Seat → ℕ → SpareUse → Option Refusal
-spare_refusal config seats reference use_as =
-    first_refusal
-    (not_current config seats (reference ∷ [])
+-- in order: the disk is a current member, each array is there, and the disk holds no extent
+abbrev pub spare_causes : Configuration → List Seat → ℕ → SpareUse → List (Option Refusal)
+spare_causes config seats reference use_as =
+    not_current config seats (reference ∷ [])
     ∷ refuse_if (lacks_array config use_as) NoArray
     ∷ refuse_if (holds_extent config reference) (InUse (slot_of seats reference))
-    ∷ spent config.sequence 1
-    ∷ [])
+    ∷ []
+
+-- behind these: the sequence number has a step left
+abbrev pub spare_refusal : Configuration → List Seat → ℕ → SpareUse → Option Refusal
+spare_refusal config seats reference use_as =
+    first_refusal (spare_causes config seats reference use_as ++ spent config.sequence 1 ∷ [])

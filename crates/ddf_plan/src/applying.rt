@@ -3,7 +3,7 @@ ghost use Rattle.std.specs.Prelude.{◌≡◌, ◌++◌, ◌+◌, ◌^◌, ◌<�
 ghost use Rattle.ddf_config.specs.Entries.{changed_entries};
 ghost use Rattle.ddf_config.specs.Extents.{extents};
 ghost use Rattle.ddf_plan.specs.Create.{created};
-ghost use Rattle.ddf_plan.specs.Changes.{with_spare, with_tables, member_after, members_after, array_after, arrays_added, kept_and_added, arrays_after, steps_of, refusal_of, after, HasNewGuid, IsAnswer};
+ghost use Rattle.ddf_plan.specs.Changes.{with_spare, with_tables, member_after, members_after, array_after, arrays_added, kept_and_added, arrays_after, steps_of, refusal_of, changed, changed_at, after, HasNewGuid, IsAnswer};
 
 use crate::create::created;
 use crate::create_refusal::create_refusal;
@@ -49,6 +49,43 @@ pub fn apply(
     Ok(with_tables(config, steps_of(change), members, arrays))
 }
 
+/// The configuration that a change makes of this one, whatever refuses the change. Every complete, served array that isn't
+/// deleted has its low state anew. A created array's position for which there is no start keeps the start that it came with.
+///
+/// # Errors
+/// Memory ran out.
+pub fn changed(alloc: Global, config: &Config, change: &Change) -> Result<Config, NoMemory>
+    requires sequence { config.now.sequence + steps_of change.now < 2 ^ 32 }
+    requires fresh { HasNewGuid config.now.arrays change.now }
+    ensures { IfOk result (λ next. next ≡ changed config.now change.now) }
+{
+    let sequence = config.sequence + steps_of(change);
+    changed_at(alloc, config, change, sequence)
+}
+
+/// The same at another sequence number.
+///
+/// # Errors
+/// Memory ran out.
+pub fn changed_at(
+    alloc: Global,
+    config: &Config,
+    change: &Change,
+    sequence: u32,
+) -> Result<Config, NoMemory>
+    requires { HasNewGuid config.now.arrays change.now }
+    ensures { IfOk result (λ next. next ≡ changed_at config.now change.now sequence) }
+{
+    let members = members_after(alloc, config, change)?;
+    let arrays = arrays_after(alloc, config, &members, change)?;
+    Ok(Config {
+        group: config.group,
+        sequence,
+        members,
+        arrays,
+    })
+}
+
 fn with_tables(
     config: &Config,
     steps: u32,
@@ -66,8 +103,8 @@ fn with_tables(
     }
 }
 
-/// By how much a change raises the sequence number.
-fn steps_of(change: &Change) -> u32
+/// By how much a change raises the sequence number: 2 where disks are lost or fail, 1 otherwise.
+pub fn steps_of(change: &Change) -> u32
     ensures { result ≡ steps_of change.now }
 {
     match change {
@@ -97,7 +134,7 @@ fn refusal_of(
 }
 
 /// The members after a change.
-fn members_after(
+pub(crate) fn members_after(
     alloc: Global,
     config: &Config,
     change: &Change,

@@ -1,14 +1,14 @@
 //! Why a new array is refused.
-ghost use Rattle.std.specs.Prelude.{◌≡◌, ◌≤◌, find, map, length, nat_eq, is_some, IfOk};
+ghost use Rattle.std.specs.Prelude.{◌≡◌, ◌≤◌, ◌||◌, find, map, length, nat_eq, is_some, IfOk};
 ghost use Rattle.std.specs.Map.{lookup};
 ghost use Rattle.std.specs.List.{list_any};
 ghost use Rattle.ddf_config.specs.declared.extent.Extent.{Extent};
 ghost use Rattle.ddf_config.specs.declared.refusal.Refusal.TheVariants.{InUse};
 ghost use Rattle.ddf_config.specs.Members.{same_guid};
 ghost use Rattle.ddf_config.specs.Extents.{extents};
-ghost use Rattle.ddf_config.specs.Refusals.{part_refusal};
+ghost use Rattle.ddf_config.specs.Refusals.{first_refusal, part_refusal};
 ghost use Rattle.ddf_plan.specs.Refusals.{refuse_first, spent};
-ghost use Rattle.ddf_plan.specs.CreateRefusal.{references, has_named, names_twice, is_no_shape, is_spare_disk, lacks_room, no_extent, room_refusal, create_refusal};
+ghost use Rattle.ddf_plan.specs.CreateRefusal.{references, has_named, names_twice, is_no_shape, is_spare_disk, lacks_room, no_extent, room_refusal, has_more, passes_most, create_causes, create_refusal};
 
 use crate::create::element_strip;
 use crate::refuse::{not_current, spent};
@@ -37,7 +37,8 @@ fn extent_references(alloc: Global, own: &[Extent]) -> Result<Vec<u32>, NoMemory
     Ok(all)
 }
 
-fn has_named(config: &Config, name: &[u8; 16]) -> bool
+/// Whether an array of the configuration has these 16 bytes as its name.
+pub fn has_named(config: &Config, name: &[u8; 16]) -> bool
     ensures { result ≡ has_named config.now name.now }
 {
     config.arrays.iter().any(|(_, array)| array.name == *name)
@@ -155,7 +156,8 @@ fn room_refusal(
     }
 }
 
-fn no_extent(seats: &[Seat], first: Option<Position>) -> Option<Refusal>
+/// The refusal of the first position without room.
+pub(crate) fn no_extent(seats: &[Seat], first: Option<Position>) -> Option<Refusal>
     ensures { result ≡ no_extent seats.now first }
 {
     match first {
@@ -191,24 +193,6 @@ fn spare_in_use(config: &Config, seats: &[Seat], references: &[u32]) -> Option<R
     }
 }
 
-/// Why an array can't be created.
-pub(crate) fn create_refusal(
-    alloc: Global,
-    config: &Config,
-    seats: &[Seat],
-    guid: Guid,
-    array: &Array,
-) -> Result<Option<Refusal>, NoMemory>
-    ensures { IfOk result (λ refusal. refusal ≡ create_refusal config.now seats.now guid array.now) }
-{
-    let named = references(alloc, array)?;
-    let no_shape = is_no_shape(alloc, array, named.as_slice())?;
-    let all = extents(alloc, &config.arrays)?;
-    let parts = array.elements.items();
-    let room = rooms_refusal(alloc, config, all.as_slice(), seats, parts)?;
-    Ok(first_of_create(config, seats, guid, array, named.as_slice(), no_shape, room))
-}
-
 fn has_array(config: &Config, guid: Guid) -> bool
     ensures { result ≡ is_some (lookup (same_guid guid) config.now.arrays) }
 {
@@ -221,7 +205,33 @@ fn spent_by_one(config: &Config) -> Option<Refusal>
     spent(config.sequence, 1)
 }
 
-/// The first refusal, where the shape and the room are known.
+/// Whether an element has more members than a bound.
+fn has_more(most: u16, part: &Option<ElementPlan>) -> bool
+    ensures { result ≡ has_more most part.now }
+{
+    match part {
+        Some(element) => usize::from(most) < element.positions.len(),
+        None => false,
+    }
+}
+
+fn some_has_more(most: u16, parts: &[Option<ElementPlan>]) -> bool
+    ensures { result ≡ list_any (has_more most) parts.now }
+{
+    parts.iter().any(|part| has_more(most, part))
+}
+
+/// Whether an element has more members than the bound, where there is one.
+fn passes_most(most: Option<u16>, array: &Array) -> bool
+    ensures { result ≡ passes_most most array.now }
+{
+    match most {
+        Some(most) => some_has_more(most, array.elements.items()),
+        None => false,
+    }
+}
+
+/// The first cause, where it is known whether the shape refuses.
 fn first_of_create(
     config: &Config,
     seats: &[Seat],
@@ -229,12 +239,11 @@ fn first_of_create(
     array: &Array,
     named: &[u32],
     no_shape: bool,
-    room: Option<Refusal>,
+    most: Option<u16>,
 ) -> Option<Refusal>
     requires named { named.now ≡ references array.now }
-    requires shape { no_shape ≡ is_no_shape array.now }
-    requires room { room ≡ part_refusal (room_refusal config.now seats.now (length array.now.elements)) array.now.elements }
-    ensures { result ≡ create_refusal config.now seats.now guid array.now }
+    requires shape { no_shape ≡ (passes_most most array.now || is_no_shape array.now) }
+    ensures { result ≡ first_refusal (create_causes most config.now seats.now guid array.now) }
 {
     first_refusal(&[
         not_current(config, seats, named),
@@ -243,7 +252,40 @@ fn first_of_create(
         refuse_if(no_shape, Refusal::Shape),
         refuse_if(has_array(config, guid), Refusal::Clash(guid)),
         spare_in_use(config, seats, named),
-        room,
-        spent_by_one(config),
     ])
+}
+
+/// Why an array can't be created, the room for its extents and the sequence number aside. `most` bounds the members of an
+/// element, where a bound is known.
+pub(crate) fn create_cause(
+    alloc: Global,
+    config: &Config,
+    seats: &[Seat],
+    guid: Guid,
+    array: &Array,
+    most: Option<u16>,
+) -> Result<Option<Refusal>, NoMemory>
+    ensures { IfOk result (λ refusal. refusal ≡ first_refusal (create_causes most config.now seats.now guid array.now)) }
+{
+    let named = references(alloc, array)?;
+    let no_shape = is_no_shape(alloc, array, named.as_slice())?;
+    let no_shape = passes_most(most, array) || no_shape;
+    Ok(first_of_create(config, seats, guid, array, named.as_slice(), no_shape, most))
+}
+
+/// Why an array can't be created.
+pub(crate) fn create_refusal(
+    alloc: Global,
+    config: &Config,
+    seats: &[Seat],
+    guid: Guid,
+    array: &Array,
+) -> Result<Option<Refusal>, NoMemory>
+    ensures { IfOk result (λ refusal. refusal ≡ create_refusal config.now seats.now guid array.now) }
+{
+    let cause = create_cause(alloc, config, seats, guid, array, None)?;
+    let all = extents(alloc, &config.arrays)?;
+    let parts = array.elements.items();
+    let room = rooms_refusal(alloc, config, all.as_slice(), seats, parts)?;
+    Ok(first_refusal(&[cause, room, spent_by_one(config)]))
 }

@@ -8,7 +8,8 @@ use ddf_bytes::{Guid, NoMemory, Seq};
 use ddf_config::{Config, Refusal, SpareUse};
 use std::alloc::Global;
 
-fn no_array(config: &Config, guid: Guid) -> Option<Refusal>
+/// An array that isn't there.
+pub(crate) fn no_array(config: &Config, guid: Guid) -> Option<Refusal>
     ensures { result ≡ no_array config.now guid }
 {
     if config.arrays.contains_key(&guid) {

@@ -1,9 +1,10 @@
 //! A disk that counts as failed. What it makes of the configuration is what a loss makes of it.
 ghost use Rattle.std.specs.Prelude.{◌≡◌};
-ghost use Rattle.ddf_plan.specs.Fail.{is_last, would_be_lost, any_would_be_lost, fail_refusal};
+ghost use Rattle.ddf_plan.specs.Fail.{is_last, would_be_lost, any_would_be_lost, fail_causes, fail_refusal};
+ghost use Rattle.ddf_config.specs.Refusals.{first_refusal};
 
 use crate::refuse::{not_current, spent};
-use ddf_config::{Array, Config, Member, Refusal, Seat, is_within, slot_of};
+use ddf_config::{Array, Config, Member, Refusal, Seat, first_refusal, is_within, slot_of};
 use indexmap::IndexMap;
 
 /// Whether no more than one member is current.
@@ -35,14 +36,14 @@ fn any_would_be_lost(config: &Config, members_after: &IndexMap<u32, Member>) -> 
     config.arrays.iter().any(|(_, array)| would_be_lost(&config.members, members_after, array))
 }
 
-/// Why a disk can't count as failed. The members are those after the failure.
-pub(crate) fn fail_refusal(
+/// Why a disk can't count as failed, the sequence number aside. The members are those after the failure.
+pub(crate) fn fail_cause(
     config: &Config,
     members_after: &IndexMap<u32, Member>,
     seats: &[Seat],
     reference: u32,
 ) -> Option<Refusal>
-    ensures { result ≡ fail_refusal config.now members_after.now.entries seats.now reference }
+    ensures { result ≡ first_refusal (fail_causes config.now members_after.now.entries seats.now reference) }
 {
     if let Some(refusal) = not_current(config, seats, &[reference]) {
         return Some(refusal);
@@ -53,5 +54,20 @@ pub(crate) fn fail_refusal(
     if any_would_be_lost(config, members_after) {
         return Some(Refusal::Lost);
     }
-    spent(config.sequence, 2)
+    None
+}
+
+/// Why a disk can't count as failed. The members are those after the failure.
+pub(crate) fn fail_refusal(
+    config: &Config,
+    members_after: &IndexMap<u32, Member>,
+    seats: &[Seat],
+    reference: u32,
+) -> Option<Refusal>
+    ensures { result ≡ fail_refusal config.now members_after.now.entries seats.now reference }
+{
+    first_refusal(&[
+        fail_cause(config, members_after, seats, reference),
+        spent(config.sequence, 2),
+    ])
 }

@@ -6,8 +6,8 @@ ghost use Rattle.ddf_plan.specs.Refusals.{spent, not_current};
 use ddf_config::{Config, Member, Refusal, Seat, is_current, slot_of};
 use indexmap::IndexMap;
 
-/// The greatest sequence number that a change may give.
-const GREATEST_SEQUENCE: u32 = 0xFFFF_FFF0;
+/// The greatest sequence number of a header that a change may give (profile).
+pub const GREATEST_SEQUENCE: u32 = 0xFFFF_FFF0;
 
 /// A sequence number that so many steps on would pass the greatest.
 pub(crate) fn spent(sequence: u32, steps: u32) -> Option<Refusal>

@@ -3,11 +3,14 @@ ghost use Rattle.std.specs.Prelude.{◌≡◌, IfOk, filter, is_some};
 ghost use Rattle.std.specs.List.{list_any, list_all};
 ghost use Rattle.std.specs.Map.{keys_of};
 ghost use Rattle.ddf_config.specs.Members.{same_guid};
-ghost use Rattle.ddf_plan.specs.Spare.{use_in_order, can_have_spare, lacks_array, position_refers, part_refers, array_refers, holds_extent, spare_refusal};
+ghost use Rattle.ddf_plan.specs.Spare.{use_in_order, can_have_spare, lacks_array, position_refers, part_refers, array_refers, holds_extent, spare_causes, spare_refusal};
+ghost use Rattle.ddf_config.specs.Refusals.{first_refusal};
 
 use crate::refuse::{not_current, spent};
 use ddf_bytes::{Guid, NoMemory, Seq};
-use ddf_config::{Array, Config, ElementPlan, Position, Refusal, Seat, SpareUse, slot_of};
+use ddf_config::{
+    Array, Config, ElementPlan, Position, Refusal, Seat, SpareUse, first_refusal, slot_of,
+};
 use indexmap::IndexMap;
 use std::alloc::Global;
 
@@ -119,14 +122,14 @@ fn holds_extent(config: &Config, reference: u32) -> bool
         .any(|(_, array)| array_refers(array, reference))
 }
 
-/// Why a disk can't get this use as a spare.
-pub(crate) fn spare_refusal(
+/// Why a disk can't get this use as a spare, the sequence number aside.
+pub(crate) fn spare_cause(
     config: &Config,
     seats: &[Seat],
     reference: u32,
     use_as: &SpareUse,
 ) -> Option<Refusal>
-    ensures { result ≡ spare_refusal config.now seats.now reference use_as.now }
+    ensures { result ≡ first_refusal (spare_causes config.now seats.now reference use_as.now) }
 {
     if let Some(refusal) = not_current(config, seats, &[reference]) {
         return Some(refusal);
@@ -137,5 +140,20 @@ pub(crate) fn spare_refusal(
     if holds_extent(config, reference) {
         return Some(Refusal::InUse(slot_of(seats, reference)));
     }
-    spent(config.sequence, 1)
+    None
+}
+
+/// Why a disk can't get this use as a spare.
+pub(crate) fn spare_refusal(
+    config: &Config,
+    seats: &[Seat],
+    reference: u32,
+    use_as: &SpareUse,
+) -> Option<Refusal>
+    ensures { result ≡ spare_refusal config.now seats.now reference use_as.now }
+{
+    first_refusal(&[
+        spare_cause(config, seats, reference, use_as),
+        spent(config.sequence, 1),
+    ])
 }

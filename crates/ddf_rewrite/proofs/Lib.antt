@@ -30,3 +30,4 @@ pub mod FreePlaces
 pub mod Stays
 pub mod Altered
 pub mod Premises
+pub mod Taking

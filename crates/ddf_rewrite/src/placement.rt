@@ -1,12 +1,13 @@
 //! Which record stands in which slot.
-ghost use Rattle.std.specs.Prelude.{◌≡◌, ◌==◌, ◌<◌, List, ℕ, Option, false, Some, filter_map, map, position, find, is_some, length, IfOk};
+ghost use Rattle.std.specs.Prelude.{◌≡◌, ◌==◌, ◌<◌, ◌++◌, List, ℕ, Option, false, Some, filter_map, map, option_map, option_to_list, position, find, is_some, length, IfOk};
 ghost use Rattle.std.specs.List.{enumerate_from, list_any};
 ghost use Rattle.std.specs.Option.{option_map_or};
 ghost use Rattle.ddf_configs.specs.declared.slot.RecordSlot.{RecordSlot};
 ghost use Rattle.ddf_rewrite.specs.declared.item.Item.{Item};
+ghost use Rattle.ddf_rewrite.specs.declared.item.Placed.{Placed};
 ghost use Rattle.ddf_rewrite.specs.declared.item.Item.TheVariants as items;
 ghost use Rattle.ddf_view.specs.View.{spare_of};
-ghost use Rattle.ddf_rewrite.specs.Placement.{free_slot, free_slots, is_notes_slot, is_others, is_slot_of, item_at, placed_items, slot_of, stays_in, take_slots};
+ghost use Rattle.ddf_rewrite.specs.Placement.{free_slot, free_slots, is_notes_slot, is_others, is_slot_of, item_at, placed_items, slot_of, stays_in, take_one, take_slots};
 
 use crate::item::{Item, Placed};
 use ddf_bytes::{Guid, NoMemory};
@@ -70,12 +71,7 @@ fn slot_of_element(slots: &[RecordSlot], array: &Guid, index: usize) -> Option<u
 }
 
 /// The lowest slot in which an item stands.
-pub(crate) fn slot_of(
-    slots: &[RecordSlot],
-    group: &Guid,
-    sequence: u32,
-    item: &Item,
-) -> Option<usize>
+fn slot_of(slots: &[RecordSlot], group: &Guid, sequence: u32, item: &Item) -> Option<usize>
     ensures { result ≡ slot_of group.now sequence slots.now item.now }
 {
     match item {
@@ -142,7 +138,31 @@ fn free_slots(
     Ok(free)
 }
 
+/// Gives an item the slot where it stands, or else the first free one, if there is one. Answers the free ones that are left.
+fn take_slot<'a>(
+    placed: &mut Vec<Placed>,
+    item: Item,
+    place: Option<usize>,
+    free: &'a [usize],
+) -> Result<&'a [usize], NoMemory>
+    ensures { IfOk result (λ left. (others : List ℕ → List Placed)
+        → placed.new.items ++ others left.now ≡ placed.old.items ++ take_one item place others free.now) }
+{
+    match (place, free) {
+        (Some(slot), _) => {
+            placed.push(Placed { item, slot })?;
+            Ok(free)
+        }
+        (None, [slot, left @ ..]) => {
+            placed.push(Placed { item, slot: *slot })?;
+            Ok(left)
+        }
+        (None, []) => Ok(free),
+    }
+}
+
 /// Gives each item the slot where it stands, or else the next free one, if there is one.
+#[tactic(auto, using(crate::proofs::Taking::next_taken))]
 fn take_slots(
     alloc: Global,
     items: &[Item],
@@ -153,23 +173,9 @@ fn take_slots(
         → IfOk result (λ placed. placed.items ≡ take_slots stands items.now free.now) }
 {
     let mut placed = Vec::new(alloc);
-    let mut taken = 0;
+    let mut left = free;
     for (item, place) in items.iter().zip(standing) {
-        match place {
-            Some(slot) => placed.push(Placed {
-                item: *item,
-                slot: *slot,
-            })?,
-            None => {
-                if let Some(slot) = free.get(taken) {
-                    taken += 1;
-                    placed.push(Placed {
-                        item: *item,
-                        slot: *slot,
-                    })?;
-                }
-            }
-        }
+        left = take_slot(&mut placed, *item, *place, left)?;
     }
     Ok(placed)
 }

@@ -2,6 +2,7 @@ pub mod Hexes
 pub mod Levels
 pub mod Conflicts
 pub mod Refusal
+pub mod Done
 pub mod Reasons
 pub mod Records
 pub mod CopyText

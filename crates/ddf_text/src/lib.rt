@@ -2,6 +2,7 @@
 #![tactic(auto)]
 
 mod conflict;
+mod done;
 mod fault;
 mod group;
 mod level;
@@ -14,6 +15,7 @@ mod report;
 mod view;
 
 pub use conflict::{ConflictText, SplitText};
+pub use done::sequence_line;
 pub use fault::disk_fault_line;
 pub use group::group_text;
 pub use name::prints_as;

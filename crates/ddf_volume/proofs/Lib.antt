@@ -7,6 +7,7 @@ pub mod BlockSources
 pub mod Counted
 pub mod FirstCopies
 pub mod Pieces
+pub mod SourceSlots
 pub mod GivenLaws
 pub mod Lacking
 pub mod Sourced
@@ -18,4 +19,3 @@ pub mod StripsAlong
 pub mod Followers
 pub mod MissingCells
 pub mod WithoutCopies
-pub mod SourceSlots

@@ -114,7 +114,7 @@ module _ (places : List Place) (position sector : ℕ) (F : ℕ → Type 0) wher
       record {
         all_failed = (HasSite-wider (λ other same. subst F (sym same) failed) sites among, tt);
         this_failed = failed;
-        is_among = inl among;
+        is_of_first = among;
       }
 
   pub row_failed : (slot : ℕ) → is_some (row_without places position sector) ≡ true

@@ -1,6 +1,6 @@
--- The sources of an array's blocks lie on slots of the bay.
-use Rattle.std.proofs.Common.{◌≡◌, ◌⊎◌, inl, inr, ⊎_elim, ℕ, ◌<◌, ◌+◌, Bool, true, false, not, List, [], ◌∷◌, ◌++◌, length, map, Option, Some, None, refl, subst}
-use Rattle.std.specs.Prelude.{filter_map, option_map, slice_get, ◌==◌, if◌then◌else◌}
+-- The sources of an array's blocks lie on slots of its available places.
+use Rattle.std.proofs.Common.{◌≡◌, ⊎_elim, ℕ, ◌<◌, ◌+◌, Bool, true, false, List, [], ◌∷◌, ◌++◌, length, map, Option, Some, None, refl, subst}
+use Rattle.std.specs.Prelude.{filter_map, option_map, slice_get, if◌then◌else◌}
 use Rattle.std.specs.List.{cons_option, flat_map}
 use Rattle.std.specs.Option.{option_and_then}
 use Rattle.ddf_secondary.specs.declared.spot.Spot.{Spot}
@@ -9,10 +9,10 @@ use Rattle.ddf_array.specs.declared.place.Place.{Place}
 use Rattle.ddf_array.specs.declared.site.Site.{Site}
 use Rattle.ddf_array.specs.Cells.{block_spots, element_cells}
 use Rattle.ddf_array.specs.Levels.{keeps_parity}
-use Rattle.ddf_array.specs.Places.{LiesOn, site, site_at, site_on}
-use Rattle.ddf_array.specs.Sources.{Source, all_of, at_spot, copies, copy, element_copies, element_rows, every_source, other_positions, row, row_without, rows, sources, trusts_parity}
-use Rattle.ddf_array.specs.Volume.{Fits, PartFits, Volume}
-use Rattle.ddf_volume.specs.Reading.{HasSite, HasSlot, HaveSlot}
+use Rattle.ddf_array.specs.Places.{site, site_at, site_on}
+use Rattle.ddf_array.specs.Sources.{all_of, at_spot, copies, copy, element_copies, element_rows, every_source, first_copy, other_positions, row, row_without, rows, sources, trusts_parity}
+use Rattle.ddf_array.specs.Volume.{Fits, Volume}
+use Rattle.ddf_volume.specs.Reading.{FirstHasSlot, HasSite, IsOn}
 
 -- ---- all sectors of some sources are on such slots
 
@@ -29,19 +29,23 @@ module _ (P Q : ℕ → Type 0) where
   in_sites [] all has = absurd has
   in_sites (one ∷ sites) all has = ⊎_elim (λ here. (one.slot, (all.0, here))) (λ later. in_sites sites all.1 later) has
 
-  in_copies : (sites : List Site) → AllSites P sites → HaveSlot Q (map copy sites) → (s : ℕ) × (P s × Q s)
-  in_copies [] all has = absurd has
-  in_copies (one ∷ sites) all has = ⊎_elim (λ here. (one.slot, (all.0, here))) (λ later. in_copies sites all.1 later) has
-
-  in_rows : (others : List (List Site)) → AllRows P others → HaveSlot Q (map row others) → (s : ℕ) × (P s × Q s)
+  in_rows : (others : List (List Site)) → AllRows P others → FirstHasSlot Q (map row others) → (s : ℕ) × (P s × Q s)
   in_rows [] all has = absurd has
-  in_rows (sites ∷ others) all has = ⊎_elim (λ here. in_sites sites all.0 here) (λ later. in_rows others all.1 later) has
+  in_rows (sites ∷ others) all has = in_sites sites all.0 has
 
-  in_either : (sites : List Site) (others : List (List Site)) → AllSites P sites → AllRows P others → HaveSlot Q (map copy sites ++ map row others) → (s : ℕ) × (P s × Q s)
+  in_copies : (sites : List Site) → AllSites P sites → FirstHasSlot Q (map copy sites) → (s : ℕ) × (P s × Q s)
+  in_copies [] all has = absurd has
+  in_copies (one ∷ sites) all has = (one.slot, (all.0, has))
+
+  in_either : (sites : List Site) (others : List (List Site)) → AllSites P sites → AllRows P others → FirstHasSlot Q (map copy sites ++ map row others) → (s : ℕ) × (P s × Q s)
   in_either [] others all each has = in_rows others each has
-  in_either (one ∷ sites) others all each has = ⊎_elim (λ here. (one.slot, (all.0, here))) (λ later. in_either sites others all.1 each later) has
+  in_either (one ∷ sites) others all each has = (one.slot, (all.0, has))
 
 module _ (P : ℕ → Type 0) where
+  first_site : (sites : List Site) (one : Site) → AllSites P sites → slice_get sites 0 ≡ Some one → P one.slot
+  first_site [] one all e = absurd cc
+  first_site (x ∷ sites) one all e = let same : x ≡ one = cc in subst (λ (o : Site). P o.slot) same all.0
+
   sites_more : (xs ys : List Site) → AllSites P xs → AllSites P ys → AllSites P (xs ++ ys)
   sites_more [] ys all each = each
   sites_more (x ∷ xs) ys all each = (all.0, sites_more xs ys all.1 each)
@@ -83,57 +87,72 @@ module _ (P : ℕ → Type 0) where
 
 -- ---- those of an array
 
-module _ (sizes : List ℕ) where
-  abbrev There : ℕ → Type 0
-  There slot = slot < length sizes
+module _ (v : Volume) where
+  module _ (element : ℕ) (part : Part) (is_part : slice_get v.parts element ≡ Some part) where
+    -- a sector of an available place is on its slot
+    place_on : (position sector : ℕ) (place : Place) (one : Site) → slice_get part.places position ≡ Some place → site place sector ≡ Some one → IsOn v one.slot
+    place_on position sector place one is_place e = by place.synced place.slot refl refl e
+      where
+        by : (synced : Bool) (slot : Option ℕ) → place.synced ≡ synced → place.slot ≡ slot
+            → (if synced then option_map (λ s. site_on s (place.start + sector)) slot else None) ≡ Some one → IsOn v one.slot
+        by false slot is_synced is_there e = absurd cc
+        by true None is_synced is_there e = absurd cc
+        by true (Some s) is_synced is_there e =
+            let same : site_on s (place.start + sector) ≡ one = cc in
+            subst (λ (o : Site). IsOn v o.slot) same
+            (record { element = element; position = position; part = part; place = place; is_part = is_part; is_place = is_place; is_synced = is_synced; is_there = is_there })
 
-  site_there : (blocks sector : ℕ) (place : Place) (one : Site) → LiesOn sizes blocks place → site place sector ≡ Some one → There one.slot
-  site_there blocks sector place one lies e = by place.synced place.slot (λ slot is. (lies slot is).0) e
-    where
-      by : (synced : Bool) (slot : Option ℕ) → ((s : ℕ) → slot ≡ Some s → There s) → (if synced then option_map (λ s. site_on s (place.start + sector)) slot else None) ≡ Some one → There one.slot
-      by false slot there e = absurd cc
-      by true None there e = absurd cc
-      by true (Some s) there e = let same : site_on s (place.start + sector) ≡ one = cc in subst (λ (o : Site). There o.slot) same (there s refl)
+    at_on : (position sector : ℕ) (one : Site) → site_at part.places position sector ≡ Some one → IsOn v one.slot
+    at_on position sector one e = by (slice_get part.places position) refl e
+      where
+        by : (found : Option Place) → slice_get part.places position ≡ found → option_and_then (λ place. site place sector) found ≡ Some one → IsOn v one.slot
+        by None is e = absurd cc
+        by (Some place) is e = place_on position sector place one is e
 
-  at_there : (part : Part) → PartFits sizes part → (position sector : ℕ) (one : Site) → site_at part.places position sector ≡ Some one → There one.slot
-  at_there part fits position sector one e = by (slice_get part.places position) (λ place found. fits position place found) e
-    where
-      by : (found : Option Place) → ((place : Place) → found ≡ Some place → LiesOn sizes part.shape.blocks place) → option_and_then (λ place. site place sector) found ≡ Some one → There one.slot
-      by None lies e = absurd cc
-      by (Some place) lies e = site_there part.shape.blocks sector place one (lies place refl) e
+    copies_on : (block : ℕ) → AllSites (IsOn v) (element_copies part block)
+    copies_on block = sites_of (IsOn v) (λ cell. site_at part.places cell.0 cell.1) (element_cells part.shape block) (λ cell one e. at_on cell.0 cell.1 one e)
 
-  copies_there : (part : Part) → PartFits sizes part → (block : ℕ) → AllSites There (element_copies part block)
-  copies_there part fits block = sites_of There (λ cell. site_at part.places cell.0 cell.1) (element_cells part.shape block) (λ cell one e. at_there part fits cell.0 cell.1 one e)
+    rows_on : (block : ℕ) → AllRows (IsOn v) (element_rows part block)
+    rows_on block = by (keeps_parity part.shape.layout)
+      where
+        by : (parity : Bool) → AllRows (IsOn v) (if parity then filter_map (λ cell. row_without part.places cell.0 cell.1) (element_cells part.shape block) else [])
+        by false = tt
+        by true = rows_of (IsOn v) (λ cell. row_without part.places cell.0 cell.1) (element_cells part.shape block)
+            (λ cell one e. all_of_sites (IsOn v) (λ other. site_at part.places other cell.1) (other_positions (length part.places) cell.0) one (λ other x is. at_on other cell.1 x is) e)
 
-  rows_there : (part : Part) → PartFits sizes part → (block : ℕ) → AllRows There (element_rows part block)
-  rows_there part fits block = by (keeps_parity part.shape.layout)
-    where
-      by : (parity : Bool) → AllRows There (if parity then filter_map (λ cell. row_without part.places cell.0 cell.1) (element_cells part.shape block) else [])
-      by false = tt
-      by true = rows_of There (λ cell. row_without part.places cell.0 cell.1) (element_cells part.shape block)
-          (λ cell one e. all_of_sites There (λ other. site_at part.places other cell.1) (other_positions (length part.places) cell.0) one (λ other x is. at_there part fits other cell.1 x is) e)
+  sites_at : (spot : Spot) (found : Option Part) → slice_get v.parts spot.element ≡ found → AllSites (IsOn v) (elim found [ None ↦ [] | Some part ↦ element_copies part spot.block ])
+  sites_at spot None is = tt
+  sites_at spot (Some part) is = copies_on spot.element part is spot.block
 
-  module _ (v : Volume) (fits : Fits sizes v) where
-    sites_at : (spot : Spot) (found : Option Part) → slice_get v.parts spot.element ≡ found → AllSites There (elim found [ None ↦ [] | Some part ↦ element_copies part spot.block ])
-    sites_at spot None is = tt
-    sites_at spot (Some part) is = copies_there part (fits spot.element part is) spot.block
+  rows_at : (spot : Spot) (found : Option Part) → slice_get v.parts spot.element ≡ found → AllRows (IsOn v) (elim found [ None ↦ [] | Some part ↦ element_rows part spot.block ])
+  rows_at spot None is = tt
+  rows_at spot (Some part) is = rows_on spot.element part is spot.block
 
-    rows_at : (spot : Spot) (found : Option Part) → slice_get v.parts spot.element ≡ found → AllRows There (elim found [ None ↦ [] | Some part ↦ element_rows part spot.block ])
-    rows_at spot None is = tt
-    rows_at spot (Some part) is = rows_there part (fits spot.element part is) spot.block
+  sites_in : (spots : List Spot) → AllSites (IsOn v) (flat_map (at_spot v.parts element_copies) spots)
+  sites_in [] = tt
+  sites_in (spot ∷ spots) = sites_more (IsOn v) (at_spot v.parts element_copies spot) (flat_map (at_spot v.parts element_copies) spots) (sites_at spot (slice_get v.parts spot.element) refl) (sites_in spots)
 
-    sites_in : (spots : List Spot) → AllSites There (flat_map (at_spot v.parts element_copies) spots)
-    sites_in [] = tt
-    sites_in (spot ∷ spots) = sites_more There (at_spot v.parts element_copies spot) (flat_map (at_spot v.parts element_copies) spots) (sites_at spot (slice_get v.parts spot.element) refl) (sites_in spots)
+  rows_in : (spots : List Spot) → AllRows (IsOn v) (flat_map (at_spot v.parts element_rows) spots)
+  rows_in [] = tt
+  rows_in (spot ∷ spots) = rows_more (IsOn v) (at_spot v.parts element_rows spot) (flat_map (at_spot v.parts element_rows) spots) (rows_at spot (slice_get v.parts spot.element) refl) (rows_in spots)
 
-    rows_in : (spots : List Spot) → AllRows There (flat_map (at_spot v.parts element_rows) spots)
-    rows_in [] = tt
-    rows_in (spot ∷ spots) = rows_more There (at_spot v.parts element_rows spot) (flat_map (at_spot v.parts element_rows) spots) (rows_at spot (slice_get v.parts spot.element) refl) (rows_in spots)
+  -- the first copy of a block is on a slot of the array
+  pub copy_on : (block : ℕ) (one : Site) → first_copy v block ≡ Some one → IsOn v one.slot
+  copy_on block one e = first_site (IsOn v) (copies v block) one (sites_in (block_spots v block)) e
 
-    among : (block slot : ℕ) (trusted : Bool) → HaveSlot (λ other. other ≡ slot) (if trusted then every_source v block else map copy (copies v block)) → (s : ℕ) × (There s × (s ≡ slot))
-    among block slot true has = in_either There (λ other. other ≡ slot) (copies v block) (rows v block) (sites_in (block_spots v block)) (rows_in (block_spots v block)) has
-    among block slot false has = in_copies There (λ other. other ≡ slot) (copies v block) (sites_in (block_spots v block)) has
+  first_by : (P : ℕ → Type 0) (block : ℕ) (trusted : Bool) → FirstHasSlot P (if trusted then every_source v block else map copy (copies v block)) → (s : ℕ) × (IsOn v s × P s)
+  first_by P block true has = in_either (IsOn v) P (copies v block) (rows v block) (sites_in (block_spots v block)) (rows_in (block_spots v block)) has
+  first_by P block false has = in_copies (IsOn v) P (copies v block) (sites_in (block_spots v block)) has
 
-    -- a slot of a source of a block is one of the bay
-    pub slot_there : (block slot : ℕ) → HaveSlot (λ other. other ≡ slot) (sources v block) → There slot
-    slot_there block slot has = let found = among block slot (trusts_parity v) has in subst There found.1.1 found.1.0
+  -- the slots of the first source of a block are slots of the array
+  pub first_on : (P : ℕ → Type 0) (block : ℕ) → FirstHasSlot P (sources v block) → (s : ℕ) × (IsOn v s × P s)
+  first_on P block has = first_by P block (trusts_parity v) has
+
+  pub slot_on : (block slot : ℕ) → FirstHasSlot (λ other. other ≡ slot) (sources v block) → IsOn v slot
+  slot_on block slot has = let found = first_on (λ other. other ≡ slot) block has in subst (IsOn v) found.1.1 found.1.0
+
+-- they are slots of the bay
+pub slot_there : (sizes : List ℕ) (v : Volume) → Fits sizes v → (block slot : ℕ) → FirstHasSlot (λ other. other ≡ slot) (sources v block) → slot < length sizes
+slot_there sizes v fits block slot has =
+    let on = slot_on v block slot has in
+    (fits on.element on.part on.is_part on.position on.place on.is_place slot on.is_there).0

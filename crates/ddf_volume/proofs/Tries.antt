@@ -4,7 +4,7 @@ use Rattle.std.specs.Option.{option_or}
 use Rattle.ddf_bay.specs.Sectors.{Image}
 use Rattle.ddf_array.specs.declared.site.Site.{Site}
 use Rattle.ddf_array.specs.Sources.{Source, copy, row}
-use Rattle.ddf_volume.specs.Reading.{HasSite, HasSlot, HaveSlot, AllHaveSlot, IsGivenBy, NoneLeft, NotRead}
+use Rattle.ddf_volume.specs.Reading.{HasSite, HasSlot, FirstHasSlot, AllHaveSlot, IsGivenBy, NoneLeft, NotRead}
 
 -- a kind of slots within another
 abbrev pub Within : (ℕ → Type 0) → (ℕ → Type 0) → Type 0
@@ -23,10 +23,6 @@ module _ {P Q : ℕ → Type 0} (within : Within P Q) where
   AllHaveSlot-wider [] have = have
   AllHaveSlot-wider (source ∷ sources) have = (HasSlot-wider source have.0, AllHaveSlot-wider sources have.1)
 
-  pub HaveSlot-wider : (sources : List Source) → HaveSlot P sources → HaveSlot Q sources
-  HaveSlot-wider [] have = have
-  HaveSlot-wider (source ∷ sources) have = ⊎_elim (λ here. inl (HasSlot-wider source here)) (λ there. inr (HaveSlot-wider sources there)) have
-
   pub IsGivenBy-wider : (image : Image) (sources : List Source) (bytes : List ℕ) → IsGivenBy P image sources bytes → IsGivenBy Q image sources bytes
   IsGivenBy-wider image [] bytes is = is
   IsGivenBy-wider image (source ∷ sources) bytes is =
@@ -37,7 +33,7 @@ module _ {P Q : ℕ → Type 0} (within : Within P Q) where
   NotRead-wider sources (Some slot) is = record {
     all_failed = AllHaveSlot-wider sources is.all_failed;
     this_failed = within slot is.this_failed;
-    is_among = is.is_among;
+    is_of_first = is.is_of_first;
   }
 
 module _ (P : ℕ → Type 0) where
@@ -45,13 +41,10 @@ module _ (P : ℕ → Type 0) where
   AllHaveSlot-append [] after a b = b
   AllHaveSlot-append (source ∷ before) after a b = (a.0, AllHaveSlot-append before after a.1 b)
 
-  pub HaveSlot-left : (before after : List Source) → HaveSlot P before → HaveSlot P (before ++ after)
-  HaveSlot-left [] after has = absurd has
-  HaveSlot-left (source ∷ before) after has = ⊎_elim inl (λ there. inr (HaveSlot-left before after there)) has
-
-  pub HaveSlot-right : (before after : List Source) → HaveSlot P after → HaveSlot P (before ++ after)
-  HaveSlot-right [] after has = has
-  HaveSlot-right (source ∷ before) after has = inr (HaveSlot-right before after has)
+  -- the first source stays the first before others
+  pub FirstHasSlot-append : (before after : List Source) → FirstHasSlot P before → FirstHasSlot P (before ++ after)
+  FirstHasSlot-append [] after has = absurd has
+  FirstHasSlot-append (source ∷ before) after has = has
 
   -- behind sources that failed
   pub given_behind : (image : Image) (before after : List Source) (bytes : List ℕ) → AllHaveSlot P before → IsGivenBy P image after bytes → IsGivenBy P image (before ++ after) bytes
@@ -75,5 +68,5 @@ not_read_then P before after None (Some slot) a b = subst (λ (l : List Source).
 not_read_then P before after (Some slot) next a b = record {
   all_failed = AllHaveSlot-append P before after a.all_failed (all_failed_of P after next b);
   this_failed = a.this_failed;
-  is_among = HaveSlot-left (λ other. other ≡ slot) before after a.is_among;
+  is_of_first = FirstHasSlot-append (λ other. other ≡ slot) before after a.is_of_first;
 }

@@ -1,12 +1,15 @@
 -- What a read gives that goes from source to source, where reads may fail (profile).
-use Rattle.std.specs.Prelude.{◌≡◌, ◌⊎◌, ℕ, ◌≤◌, List, [], ◌∷◌, Option, Some, None, Result, Ok, Err}
+use Rattle.std.specs.Prelude.{◌≡◌, ◌⊎◌, ℕ, ◌≤◌, true, List, [], ◌∷◌, Option, Some, None, Result, Ok, Err, slice_get}
 use Rattle.ddf_bytes.specs.Counts.{Rose}
 use Rattle.ddf_bay.specs.Sectors.{Image}
 use Rattle.ddf_bay.specs.State.{BayState}
 use Rattle.ddf_bay.specs.ReadsOnly.{ReadsOnly}
+use Rattle.ddf_array.specs.declared.part.Part.{Part}
+use Rattle.ddf_array.specs.declared.place.Place.{Place}
 use Rattle.ddf_array.specs.declared.site.Site.{Site}
 use Rattle.ddf_array.specs.Sources.{Source, copy, row}
 use Rattle.ddf_array.specs.Values.{given}
+use Rattle.ddf_array.specs.Volume.{Volume}
 
 -- one of these sectors is on a slot of this kind
 abbrev pub HasSite : (ℕ → Type 0) → List Site → Type 0
@@ -18,10 +21,10 @@ abbrev pub HasSlot : (ℕ → Type 0) → Source → Type 0
 HasSlot P (copy site) = P site.slot
 HasSlot P (row sites) = HasSite P sites
 
--- some source has
-abbrev pub HaveSlot : (ℕ → Type 0) → List Source → Type 0
-HaveSlot P [] = ⊥
-HaveSlot P (source ∷ sources) = HasSlot P source ⊎ HaveSlot P sources
+-- the first source has
+abbrev pub FirstHasSlot : (ℕ → Type 0) → List Source → Type 0
+FirstHasSlot P [] = ⊥
+FirstHasSlot P (source ∷ sources) = HasSlot P source
 
 -- every source has
 abbrev pub AllHaveSlot : (ℕ → Type 0) → List Source → Type 0
@@ -34,13 +37,13 @@ IsGivenBy failed image [] bytes = ⊥
 IsGivenBy failed image (source ∷ sources) bytes =
     (bytes ≡ given image source) ⊎ (HasSlot failed source × IsGivenBy failed image sources bytes)
 
--- no source is left at a slot: every source has a slot of which a read failed, and this one is among these slots
+-- no source is left at a slot: every source has a slot of which a read failed, and this is such a slot of the first
 pub record NoneLeft (failed : ℕ → Type 0) (sources : List Source) (slot : ℕ) : Type 0 where
   pub all_failed : AllHaveSlot failed sources
   pub this_failed : failed slot
-  pub is_among : HaveSlot (λ other. other ≡ slot) sources
+  pub is_of_first : FirstHasSlot (λ other. other ≡ slot) sources
 
--- none of these sources was read: there is none, or none is left at the slot of the first that failed
+-- none of these sources was read: there is none, or none is left at a slot of the first
 abbrev pub NotRead : (failed : ℕ → Type 0) → List Source → Option ℕ → Type 0
 NotRead failed sources None = sources ≡ []
 NotRead failed sources (Some slot) = NoneLeft failed sources slot
@@ -54,9 +57,20 @@ Tried tells failed image sources (Err first) bytes = NotRead failed sources firs
 abbrev pub Failed : {D : Type 0} (old new : BayState D) → (slot : ℕ) → Type 0
 Failed old new slot = Rose (old.failed_reads slot) (new.failed_reads slot)
 
--- no read failed
-abbrev pub NoneFailed : {D : Type 0} (old new : BayState D) → Type 0
-NoneFailed old new = (slot : ℕ) → Failed old new slot → ⊥
+-- an available place of the array is on this slot
+pub record IsOn (volume : Volume) (slot : ℕ) : Type 0 where
+  pub element : ℕ
+  pub position : ℕ
+  pub part : Part
+  pub place : Place
+  pub is_part : slice_get volume.parts element ≡ Some part
+  pub is_place : slice_get part.places position ≡ Some place
+  pub is_synced : place.synced ≡ true
+  pub is_there : place.slot ≡ Some slot
+
+-- no read failed on a slot of the array's available places
+abbrev pub NoneFailed : {D : Type 0} → Volume → (old new : BayState D) → Type 0
+NoneFailed volume old new = (slot : ℕ) → IsOn volume slot → Failed old new slot → ⊥
 
 -- only reads were made
 pub record OnlyReads {D : Type 0} (old new : BayState D) : Type 0 where

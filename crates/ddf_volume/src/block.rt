@@ -78,7 +78,7 @@ fn read_by<B: Bay>(
 }
 
 /// Reads a block from its sources, in order: its copies, and then its rows where parity may be trusted. After a failure,
-/// the slot of the first source that failed, if there are any.
+/// a slot of the first source of which a read failed, if there are sources.
 fn try_block<B: Bay>(
     bay: &mut B,
     view: &View,

@@ -82,8 +82,8 @@ fn read_rows<B: Bay>(
     read_row(bay, part, usize::from(cell.member), cell.sector, into)
 }
 
-/// Reads a block from its sources of a kind, in order. After a failure, the slot of the first that failed, if there
-/// are any.
+/// Reads a block from its sources of a kind, in order. After a failure, a slot of the first of them of which a read
+/// failed, if there are any.
 pub(crate) fn read_in<B: Bay>(
     bay: &mut B,
     part: &Part,

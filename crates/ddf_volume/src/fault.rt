@@ -7,6 +7,6 @@ pub enum VolumeFault {
     Lost,
     /// Only parity has a block, and the array is marked as not consistent.
     Unsure,
-    /// No source of a block is left: at this slot a read failed, and each source has a slot of which one did.
+    /// No source of a block is left: each has a slot of which a read failed, and this is such a slot of the first.
     Disk(usize),
 }

@@ -79,7 +79,7 @@ fn read_first<B: Bay>(
     ensures given { B.tells → IfOk result (λ count. AreGiven (Failed (B.disks bay.old) (B.disks bay.new)) (B.disks bay.old).held view.now start count out.new) }
     ensures left { IfErr result (NoneLeftIn (Failed (B.disks bay.old) (B.disks bay.new)) view.now start (length out.old)) }
     ensures reads { OnlyReads (B.disks bay.old) (B.disks bay.new) }
-    ensures calls { HaveCopies view.now start (length out.old) → NoneFailed (B.disks bay.old) (B.disks bay.new)
+    ensures calls { HaveCopies view.now start (length out.old) → NoneFailed view.now (B.disks bay.old) (B.disks bay.new)
         → IfOk result (λ count. (B.disks bay.new).calls + copy_stretches view.now (start + count) (length out.old - count) ≤ (B.disks bay.old).calls + copy_stretches view.now start (length out.old)) }
 {
     let Some(first) = view.first_copy(start) else {
@@ -100,7 +100,7 @@ fn read_all<B: Bay>(bay: &mut B, view: &View, start: u64, out: &mut [Sector]) ->
     ensures given { B.tells → OnOk result (AreGiven (Failed (B.disks bay.old) (B.disks bay.new)) (B.disks bay.old).held view.now start (length out.old) out.new) }
     ensures left { IfErr result (NoneLeftIn (Failed (B.disks bay.old) (B.disks bay.new)) view.now start (length out.old)) }
     ensures reads { OnlyReads (B.disks bay.old) (B.disks bay.new) }
-    ensures calls { HaveCopies view.now start (length out.old) → NoneFailed (B.disks bay.old) (B.disks bay.new)
+    ensures calls { HaveCopies view.now start (length out.old) → NoneFailed view.now (B.disks bay.old) (B.disks bay.new)
         → (B.disks bay.new).calls ≤ (B.disks bay.old).calls + copy_stretches view.now start (length out.old) }
 {
     let mut at = 0;
@@ -110,14 +110,17 @@ fn read_all<B: Bay>(bay: &mut B, view: &View, start: u64, out: &mut [Sector]) ->
     Ok(())
 }
 
-/// Reads the blocks of a range, as many as there are sectors to read into. Each block comes from the first of its
-/// sources that can be read: its available cells by element and position, and, unless the array is marked, the
-/// exclusive-or of the row's other cells in each parity element where all of these are available (profile). Neighbouring
-/// blocks are read in one call where their first available cells follow one another on one slot.
+/// Reads the blocks of a range, as many as there are sectors to read into. The sources of a block are, in order, its
+/// available cells by element and position, and, unless the array is marked, the exclusive-or of the row's other cells in
+/// each parity element where all of these are available (profile). Each block has the bytes of one of its sources, and
+/// each source before that one has a slot of which a read failed in this call. So where none failed on a slot of the
+/// array's available places, each has its value. Neighbouring blocks are read in one call where their first available
+/// cells follow one another on one slot.
 ///
 /// # Errors
 /// `Range` where the range passes the capacity, `Lost` where the array isn't within its level, `Unsure` where it is
-/// marked and a block has no available cell, `Disk` where a block has no source left at a slot.
+/// marked and a block has no available cell, `Disk` where each source of a block has a slot of which a read failed in this
+/// call: it names such a slot of the block's first source.
 pub fn read_blocks<B: Bay>(
     bay: &mut B,
     view: &View,
@@ -129,7 +132,7 @@ pub fn read_blocks<B: Bay>(
     ensures ok { OnOk result (read_refusal view.now start (length out.old) ≡ None) }
     ensures fault { IfErr result (IsReadFault (Failed (B.disks bay.old) (B.disks bay.new)) view.now start (length out.old)) }
     ensures reads { OnlyReads (B.disks bay.old) (B.disks bay.new) }
-    ensures calls { HaveCopies view.now start (length out.old) → NoneFailed (B.disks bay.old) (B.disks bay.new)
+    ensures calls { HaveCopies view.now start (length out.old) → NoneFailed view.now (B.disks bay.old) (B.disks bay.new)
         → (B.disks bay.new).calls ≤ (B.disks bay.old).calls + copy_stretches view.now start (length out.old) }
 {
     if let Some(fault) = read_refusal(view, start, out.len()) {

@@ -49,7 +49,7 @@ pub(crate) fn read_stretch<B: Bay>(
     ensures given { B.tells → OnOk result (AreGiven (Failed (B.disks bay.old) (B.disks bay.new)) (B.disks bay.old).held view.now start (length out.old) out.new) }
     ensures left { IfErr result (NoneLeftIn (Failed (B.disks bay.old) (B.disks bay.new)) view.now start (length out.old)) }
     ensures reads { OnlyReads (B.disks bay.old) (B.disks bay.new) }
-    ensures calls { NoneFailed (B.disks bay.old) (B.disks bay.new) → (B.disks bay.new).calls ≤ (B.disks bay.old).calls + 1 }
+    ensures calls { NoneFailed view.now (B.disks bay.old) (B.disks bay.new) → (B.disks bay.new).calls ≤ (B.disks bay.old).calls + 1 }
 {
     match read_from(bay, first, out) {
         Ok(()) => Ok(()),

@@ -1,7 +1,12 @@
+mod Arrays
 mod Blocks
 mod Commands
+mod Disks
+mod Elements
 mod Faults
 mod Fields
+mod Fitting
+mod Levels
 mod Lists
 mod Guids
 mod Places

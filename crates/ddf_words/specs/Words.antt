@@ -1,6 +1,6 @@
 -- The words of `ddf`: which lists of words ask for which command, and where other words go wrong.
 use Rattle.std.specs.Prelude.{◌≡◌, ◌≢◌, ◌⊎◌, ℕ, ◌≤◌, ◌<◌, ◌^◌, List, [], ◌∷◌, ◌++◌, length, map, take, slice_index, slice_index_or, Bool, true, ◌&&◌, nat_le, Option, Some, None, codes, string_bytes, if◌then◌else◌}
-use Rattle.std.specs.List.{AllPass, find, position, range_with_len}
+use Rattle.std.specs.List.{All, AllPass, join_with_byte, position}
 use Rattle.std.specs.Str.{bytes_eq}
 use Rattle.std.specs.Fmt.{decimal}
 use Rattle.std.specs.declared.string.String.{String}
@@ -9,7 +9,10 @@ use Rattle.hex.specs.Hex.{encode_lower}
 use Rattle.ddf_bytes.specs.Guids.{IsGuid}
 use Rattle.ddf_words.specs.declared.command.Asked.{Asked}
 use Rattle.ddf_words.specs.declared.command.Command.{Command}
-use Rattle.ddf_words.specs.declared.command.Command.TheVariants.{Examine, Label, Assemble, Read}
+use Rattle.ddf_words.specs.declared.command.Command.TheVariants.{Examine, Label, Assemble, Read, Create, Delete, Spare, Fail}
+use Rattle.ddf_words.specs.declared.command.CreateElement.{CreateElement}
+use Rattle.ddf_words.specs.declared.command.SpareWord.{SpareWord}
+use Rattle.ddf_words.specs.declared.command.SpareWord.TheVariants as spares
 use Rattle.ddf_words.specs.Commands.{takes_group}
 
 -- a word is its bytes
@@ -41,10 +44,6 @@ pub record AreSlotWords (slots : List ℕ) (words : List Word) : Type 0 where
   pub spelled : words ≡ map decimal slots
   pub within : (i : ℕ) → i < length slots → slice_index_or slots i 0 ≤ 63
   pub different : (i j : ℕ) → i < j → j < length slots → slice_index_or slots i 0 ≢ slice_index_or slots j 0
-
--- the slot whose number in decimal a word is
-abbrev pub slot_of : Word → Option ℕ
-slot_of word = find (λ slot. bytes_eq word (decimal slot)) (range_with_len 0 64)
 
 -- The words are `label` and then the numbers of these slots.
 pub record SpellLabel (slots : List ℕ) (words : List Word) : Type 0 where
@@ -85,12 +84,138 @@ pub record SpellRead (name : Word) (start count : ℕ) (words : List Word) : Typ
   pub start_within : start ≤ 2 ^ 60
   pub count_within : count ≤ 2 ^ 60
 
+-- a word, and what it says
+pub record Row (X : Type 0) : Type 0 where
+  pub word : Word
+  pub says : X
+
+-- what a word says by a table
+abbrev pub said_by : {X : Type 0} → List (Row X) → Word → Option X
+said_by [] word = None
+said_by (row ∷ rows) word = if bytes_eq word row.word then Some row.says else said_by rows word
+
+abbrev pub level_row : Word → ℕ → ℕ → Row (ℕ × ℕ)
+level_row word level qualifier = record { word = word; says = (level, qualifier) }
+
+-- The words of the primary levels, by their codes in the standard and their qualifiers. Some of them aren't served.
+abbrev pub level_rows : List (Row (ℕ × ℕ))
+level_rows =
+    level_row (codes "raid0") 0x00 0x00
+    ∷ level_row (codes "raid1") 0x01 0x00
+    ∷ level_row (codes "raid3") 0x03 0x00
+    ∷ level_row (codes "raid4.first") 0x04 0x00
+    ∷ level_row (codes "raid4.last") 0x04 0x01
+    ∷ level_row (codes "raid5.r0") 0x05 0x00
+    ∷ level_row (codes "raid5.rn") 0x05 0x02
+    ∷ level_row (codes "raid5.rnc") 0x05 0x03
+    ∷ level_row (codes "raid6") 0x06 0x00
+    ∷ level_row (codes "mdf") 0x07 0x00
+    ∷ level_row (codes "jbod") 0x0F 0x00
+    ∷ level_row (codes "raid1e.adjacent") 0x11 0x00
+    ∷ level_row (codes "raid1e.offset") 0x11 0x01
+    ∷ level_row (codes "raid5e") 0x15 0x00
+    ∷ level_row (codes "concat") 0x1F 0x00
+    ∷ level_row (codes "raid5ee") 0x25 0x00
+    ∷ level_row (codes "raid5r") 0x35 0x00
+    ∷ []
+
+abbrev pub secondary_row : Word → Option ℕ → Row (Option ℕ)
+secondary_row word secondary = record { word = word; says = secondary }
+
+-- the words of the secondary levels, by their codes in the standard, and of none
+abbrev pub secondary_rows : List (Row (Option ℕ))
+secondary_rows =
+    secondary_row (codes "single") None
+    ∷ secondary_row (codes "striped") (Some 0x00)
+    ∷ secondary_row (codes "mirrored") (Some 0x01)
+    ∷ secondary_row (codes "concat") (Some 0x02)
+    ∷ secondary_row (codes "spanned") (Some 0x03)
+    ∷ []
+
+-- The word is the numbers of 1 to 64 slots, each at most 63, joined by commas. A slot may stand there twice.
+pub record SpellsSlots (slots : List ℕ) (word : Word) : Type 0 where
+  pub spelled : word ≡ join_with_byte 0x2C (map decimal slots)
+  pub some : 1 ≤ length slots
+  pub few : length slots ≤ 64
+  pub within : All (λ slot. slot ≤ 63) slots
+
+-- The word is the slots of an element, `@`, and the blocks of each member, 1 to 2^48.
+pub record SpellsElement (element : CreateElement) (word : Word) : Type 0 where
+  pub slots : Word
+  pub spelled : word ≡ slots ++ codes "@" ++ decimal element.blocks
+  pub are_slots : SpellsSlots element.slots slots
+  pub some : 1 ≤ element.blocks
+  pub within : element.blocks ≤ 2 ^ 48
+
+-- each of the words is that of an element, in their order
+abbrev pub SpellElements : List CreateElement → List Word → Type 0
+SpellElements [] [] = Unit {0}
+SpellElements [] (word ∷ words) = ⊥
+SpellElements (element ∷ elements) [] = ⊥
+SpellElements (element ∷ elements) (word ∷ words) = SpellsElement element word × SpellElements elements words
+
+-- The words are those of 1 to 16 elements.
+pub record AreElementWords (elements : List CreateElement) (words : List Word) : Type 0 where
+  pub some : 1 ≤ length words
+  pub few : length words ≤ 16
+  pub spell : SpellElements elements words
+
+-- The words are `create`, a plain name, the words of the levels with the stripe size code between them, and elements.
+pub record SpellCreate (name : Word) (level qualifier code : ℕ) (secondary : Option ℕ) (elements : List CreateElement) (words : List Word) : Type 0 where
+  pub level_word : Word
+  pub secondary_word : Word
+  pub rest : List Word
+  pub parts : words ≡ codes "create" ∷ name ∷ level_word ∷ decimal code ∷ secondary_word ∷ rest
+  pub is_name : IsPlainName name
+  pub is_level : said_by level_rows level_word ≡ Some (level, qualifier)
+  pub code_within : code ≤ 15
+  pub is_secondary : said_by secondary_rows secondary_word ≡ Some secondary
+  pub are_elements : AreElementWords elements rest
+
+-- The words are `delete` and the name of an array.
+pub record SpellDelete (name : Word) (words : List Word) : Type 0 where
+  pub parts : words ≡ codes "delete" ∷ name ∷ []
+  pub is_name : IsName name
+
+-- One name of an array or more, no two equal.
+pub record AreNames (names : List Word) : Type 0 where
+  pub some : 1 ≤ length names
+  pub named : (i : ℕ) → i < length names → IsName (slice_index_or names i [])
+  pub different : (i j : ℕ) → i < j → j < length names → slice_index_or names i [] ≢ slice_index_or names j []
+
+-- The words are `for` and the names of arrays.
+pub record SpellFor (names words : List Word) : Type 0 where
+  pub parts : words ≡ codes "for" ∷ names
+  pub are_names : AreNames names
+
+-- the words that say what a disk is to be a spare for
+abbrev pub SpellsSpare : SpareWord → List Word → Type 0
+SpellsSpare spares.Global words = words ≡ codes "global" ∷ []
+SpellsSpare spares.Off words = words ≡ codes "off" ∷ []
+SpellsSpare (spares.For names) words = SpellFor names words
+
+-- The words are `spare`, the number of a slot, and what its disk is to be a spare for.
+pub record SpellSpare (slot : ℕ) (word : SpareWord) (words : List Word) : Type 0 where
+  pub rest : List Word
+  pub parts : words ≡ codes "spare" ∷ decimal slot ∷ rest
+  pub slot_within : slot ≤ 63
+  pub spells : SpellsSpare word rest
+
+-- The words are `fail` and the number of a slot.
+pub record SpellFail (slot : ℕ) (words : List Word) : Type 0 where
+  pub parts : words ≡ codes "fail" ∷ decimal slot ∷ []
+  pub slot_within : slot ≤ 63
+
 -- the words of each command
 abbrev pub Spells : Command → List Word → Type 0
 Spells Examine words = words ≡ codes "examine" ∷ []
 Spells (Label slots) words = SpellLabel slots words
 Spells Assemble words = words ≡ codes "assemble" ∷ []
 Spells (Read name start count) words = SpellRead name start count words
+Spells (Create name level qualifier code secondary elements) words = SpellCreate name level qualifier code secondary elements words
+Spells (Delete name) words = SpellDelete name words
+Spells (Spare slot word) words = SpellSpare slot word words
+Spells (Fail slot) words = SpellFail slot words
 
 -- The word is `@` and the 48 lower-case hexadecimal digits of the group's GUID.
 pub record NamesGroup (group : List ℕ) (word : Word) : Type 0 where
@@ -149,6 +274,26 @@ pub record NameSlots (words : List Word) : Type 0 where
 pub record IsNumber (most : ℕ) (word : Word) : Type 0 where
   pub number : ℕ
   pub spells : SpellsNumber most number word
+
+-- some level is spelled so
+pub record IsLevel (word : Word) : Type 0 where
+  pub level : ℕ × ℕ
+  pub says : said_by level_rows word ≡ Some level
+
+-- some secondary level or none is spelled so
+pub record IsSecondary (word : Word) : Type 0 where
+  pub secondary : Option ℕ
+  pub says : said_by secondary_rows word ≡ Some secondary
+
+-- some elements are spelled so
+pub record AreElements (words : List Word) : Type 0 where
+  pub elements : List CreateElement
+  pub spell : AreElementWords elements words
+
+-- some use of a spare is spelled so
+pub record AreSpareWords (words : List Word) : Type 0 where
+  pub word : SpareWord
+  pub spells : SpellsSpare word words
 
 -- A word of a kind stands at a place.
 pub record StandsAt (kind : Word → Type 0) (words : List Word) (place : ℕ) : Type 0 where

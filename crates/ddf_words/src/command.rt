@@ -32,6 +32,58 @@ pub enum Command {
         /// How many blocks, at most 2^60.
         count: u64,
     },
+    /// Creates an array.
+    Create {
+        /// The name of the array: 1 to 16 bytes of 21 to 7E.
+        name: Seq<u8>,
+        /// The code of its primary level.
+        level: u8,
+        /// The qualifier of the level, 00 where the word of the level tells none.
+        qualifier: u8,
+        /// The stripe size code n, at most 15: strips of 2^n sectors.
+        code: u8,
+        /// The code of its secondary level, none where the words say `single`.
+        secondary: Option<u8>,
+        /// Its elements in their order, 1 to 16.
+        elements: Seq<CreateElement>,
+    },
+    /// Deletes an array.
+    Delete {
+        /// The name of the array, as the words give it.
+        name: Seq<u8>,
+    },
+    /// Makes the disk of a slot a spare, or no spare.
+    Spare {
+        /// The slot, from 0 to 63.
+        slot: u8,
+        /// What the disk is to be a spare for.
+        word: SpareWord,
+    },
+    /// Takes the disk of a slot for failed.
+    Fail {
+        /// The slot, from 0 to 63.
+        slot: u8,
+    },
+}
+
+/// What a disk is to be a spare for.
+#[derive(Debug, Drop)]
+pub enum SpareWord {
+    /// All arrays of the group.
+    Global,
+    /// No array.
+    Off,
+    /// These arrays, 1 or more, by their names as the words give them. No two names are equal.
+    For(Seq<Seq<u8>>),
+}
+
+/// An element of an array that is to be created.
+#[derive(Debug, Drop)]
+pub struct CreateElement {
+    /// The slots of its members in their order, 1 to 64 of them, each from 0 to 63. A slot may stand there twice.
+    pub slots: Seq<u8>,
+    /// How many blocks each member gives, 1 to 2^48.
+    pub blocks: u64,
 }
 
 impl Command {
@@ -43,7 +95,12 @@ impl Command {
     {
         match self {
             Command::Examine | Command::Label { .. } => false,
-            Command::Assemble | Command::Read { .. } => true,
+            Command::Assemble
+            | Command::Read { .. }
+            | Command::Create { .. }
+            | Command::Delete { .. }
+            | Command::Spare { .. }
+            | Command::Fail { .. } => true,
         }
     }
 
@@ -53,7 +110,11 @@ impl Command {
     {
         match self {
             Command::Examine | Command::Assemble | Command::Read { .. } => false,
-            Command::Label { .. } => true,
+            Command::Label { .. }
+            | Command::Create { .. }
+            | Command::Delete { .. }
+            | Command::Spare { .. }
+            | Command::Fail { .. } => true,
         }
     }
 
@@ -62,8 +123,13 @@ impl Command {
         ensures { result ≡ makes_names self.now }
     {
         match self {
-            Command::Examine | Command::Assemble | Command::Read { .. } => false,
-            Command::Label { .. } => true,
+            Command::Examine
+            | Command::Assemble
+            | Command::Read { .. }
+            | Command::Delete { .. }
+            | Command::Spare { .. }
+            | Command::Fail { .. } => false,
+            Command::Label { .. } | Command::Create { .. } => true,
         }
     }
 }

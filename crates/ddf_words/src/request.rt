@@ -3,8 +3,10 @@ ghost use Rattle.std.specs.Prelude.{◌≡◌, ℕ, List, true, string_bytes, If
 ghost use Rattle.ddf_words.specs.Commands.{takes_group};
 ghost use Rattle.ddf_words.specs.Words.{words_of, NamesGroup, Spells, SpellsAsked, IsCommand, IsGroupCommand, IsRequest, GoWrongAt};
 
+use crate::array_words::{create_of, delete_of};
 use crate::block_words::read_of;
 use crate::command::{Asked, Command};
+use crate::disk_words::{fail_of, spare_of};
 use crate::slot_words::slots_of;
 use crate::words::WordFault;
 use ddf_bytes::Guid;
@@ -36,6 +38,10 @@ fn group_command_of(alloc: Global, words: &[String]) -> Result<Command, WordFaul
             _ => Err(WordFault::Place(1)),
         },
         "read" => read_of(alloc, words),
+        "create" => create_of(alloc, words),
+        "delete" => delete_of(alloc, words),
+        "spare" => spare_of(alloc, words),
+        "fail" => fail_of(words),
         _ => Err(WordFault::Place(0)),
     }
 }

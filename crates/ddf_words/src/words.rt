@@ -1,5 +1,6 @@
 // The words that the program is given: the paths of images, two dashes, the name of a group where one is meant, and a command.
 ghost use Rattle.std.specs.Prelude.{◌≡◌, ◌≢◌, ◌<◌, ◌≤◌, ◌⊎◌, ◌↔◌, ℕ, All, length, IsTrue, position, string_bytes, IfOk, IfErr};
+ghost use Rattle.ddf_words.specs.Commands.{FitsCommand};
 ghost use Rattle.ddf_words.specs.Words.{words_of, images_of, is_dashes, slot_count, IsNextImage, IsAsked, IsAccepted, LeadsWithImages, GoWrongAt};
 
 use crate::command::Asked;
@@ -57,7 +58,7 @@ pub fn slot_paths(words: &[String]) -> &[String]
 }
 
 /// Whether a word is another path than those before it.
-fn is_fresh(before: &[String], word: &String) -> bool
+pub(crate) fn is_fresh(before: &[String], word: &String) -> bool
     ensures { IsTrue result ↔ All (λ other. string_bytes other ≢ string_bytes word.now) before.now }
 {
     before.iter().all(|other| other.as_str() != word.as_str())
@@ -98,6 +99,7 @@ fn image_count(words: &[String]) -> Result<usize, usize>
 /// group that the command is done to.
 pub fn asked(alloc: Global, words: &[String]) -> Result<Asked, WordFault>
     ensures ok { IfOk result (IsAsked (words_of words.now)) }
+    ensures fits { IfOk result (λ asked. FitsCommand asked.command) }
     ensures every { (asked : Asked) → IsAsked (words_of words.now) asked → (result ≡ Ok asked) ⊎ (result ≡ Err WordFault.Memory) }
     ensures place { (place : ℕ) → result ≡ Err (WordFault.Place place) → GoWrongAt IsAccepted (words_of words.now) place }
 {

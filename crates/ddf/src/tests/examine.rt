@@ -209,7 +209,7 @@ fn words_go_wrong_at_a_place(rt: HostRuntime) -> Result<(), Fail> {
         (&["d0", "--"], "refused 10 word 2\n"),
         (
             &["d0", "--", "create", "x", "raid1", "0"],
-            "refused 10 word 2\n",
+            "refused 10 word 6\n",
         ),
         (&["d0", "--", "examine", "x"], "refused 10 word 3\n"),
         (&["d0", "--", "--", "examine"], "refused 10 word 2\n"),

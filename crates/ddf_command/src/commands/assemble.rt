@@ -2,10 +2,11 @@
 ghost use Rattle.std.specs.Prelude.{◌≡◌};
 ghost use Rattle.ddf_bay.specs.ReadsOnly.{ReadsOnly};
 ghost use Rattle.ddf_bytes.specs.Streams.{SinkRose};
-ghost use Rattle.ddf_command.specs.Assemble.{HasOutcome, IsAssembleDone, UpToMemory, is_settled, told_bytes, told_group};
+ghost use Rattle.ddf_command.specs.Assemble.{HasOutcome, IsAssembleDone, UpToMemory, told_bytes, told_group};
 ghost use Rattle.ddf_command.specs.Call.{answer_of, work_of};
 ghost use Rattle.ddf_command.specs.Status.{code_of};
 
+use crate::commands::change::is_settled;
 use crate::failure::{Failure, tell_failure};
 use crate::status::Status;
 use crate::tell::tell;
@@ -55,11 +56,4 @@ fn told_group(alloc: Global, group: &Group) -> Result<String, Failure>
         Ok(text) => Ok(text),
         Err(NoMemory) => Err(Failure::Memory),
     }
-}
-
-/// Whether each current member has a seat, and each seat the configuration in two level copies.
-fn is_settled(group: &Group) -> bool
-    ensures { result ≡ is_settled group.now }
-{
-    group.absent().is_empty() && group.lagging().is_empty()
 }

@@ -11,19 +11,20 @@ ghost use Rattle.ddf_volume.specs.Given.{AreGiven};
 ghost use Rattle.ddf_volume.specs.Reading.{Failed, OnlyReads};
 ghost use Rattle.ddf_volume.specs.Refused as volume;
 ghost use Rattle.ddf_volume.specs.Refused.{IsReadFault};
-ghost use Rattle.ddf_command.specs.Arrays.{named_array};
+ghost use Rattle.ddf_request.specs.Named.{named_array};
 ghost use Rattle.ddf_command.specs.Call.{answer_of, work_of};
 ghost use Rattle.ddf_command.specs.Read.{HasRead, IsReadDone, IsReadOf, IsViewed, MayRead, array_refusals, failure_of_read, is_out_of_range, is_useless, sectors_read};
 ghost use Rattle.ddf_command.specs.Status.{code_of};
 
 use crate::failure::{Failure, tell_failure};
-use crate::named::{bad_blocks, is_held, named_array};
+use crate::named::{bad_blocks, is_held};
 use crate::status::Status;
 use crate::tell::tell;
 use ddf_assembly::{Group, assemble};
 use ddf_bay::Bay;
 use ddf_bytes::{Guid, NoMemory, Sector, Sink};
 use ddf_config::{Array, Refusal, array_capacity, first_refusal, refuse_if};
+use ddf_request::named_array;
 use ddf_volume::{View, ViewFault, VolumeFault, read_blocks, use_refusal};
 use std::alloc::Global;
 

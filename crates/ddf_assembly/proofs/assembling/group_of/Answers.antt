@@ -1,16 +1,21 @@
-use Rattle.std.proofs.Common.{◌≡◌, List, Option, subst, sym}
+use Rattle.std.proofs.Common.{◌≡◌, refl, subst, sym}
 use Rattle.ddf_assembly.specs.Group.{seats_of}
 use Rattle.ddf_config.specs.Seats.{SeatsFit}
-use Rattle.ddf_copy.specs.declared.newest_copy.Newest.{Newest}
-use Rattle.ddf_assembly.specs.Reading.{HaveAnchors}
 use Rattle.ddf_assembly.proofs.Anchored.{seats_fit}
+use Rattle.ddf_assembly.proofs.Settled.{answer_settled}
 use Rattle.ddf_assembly.proofs.assembling.group_of.Goals as goal
 
 pub returns-clause-under : goal.returns-clause-under
-returns-clause-under c = λ sizes have. subst (λ (newest : List (Option Newest)). HaveAnchors sizes newest) (sym c.new-2.ensures) have
+returns-clause-under c = λ sizes have. have
 
 pub returns-clause-seats : goal.returns-clause-seats
 returns-clause-seats c = λ sizes have.
     let read : c.deref-2.result.now ≡ c.args.newest.items = c.deref-2.ensures.value in
     let are : c.new.result ≡ seats_of c.args.newest.items c.items.result.now = rw c.new.ensures (rw read at c.in_ok-seats.ensures) in
     subst (SeatsFit sizes) (sym are) (seats_fit sizes c.args.newest.items have c.items.result.now)
+
+pub returns-clause-settled : goal.returns-clause-settled
+returns-clause-settled c =
+    let read : c.deref-2.result.now ≡ c.args.newest.items = c.deref-2.ensures.value in
+    let are : c.new.result ≡ seats_of c.args.newest.items c.in_ok-found.found.seats = rw c.new.ensures (rw (read, c.items.ensures) at c.in_ok-seats.ensures) in
+    answer_settled c.args.newest.items c.requires c.args.named c.in_ok-found.found (rw c.deref.ensures.value at c.in_ok-found.ensures) c.new.result c.args.newest.items are refl

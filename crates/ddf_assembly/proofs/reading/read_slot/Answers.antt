@@ -1,6 +1,7 @@
 use Rattle.std.proofs.Common.{◌≡◌, ◌∙◌, ℕ, List, Ok, Some, ap, refl, rules, subst, ⊎_elim}
 use Rattle.std.specs.Prelude.{slice_index}
 use Rattle.ddf_bay.proofs.Looks.{looks_then, reads_then}
+use Rattle.ddf_header.specs.declared.reading.Header.{Header}
 use Rattle.ddf_copy.specs.declared.newest_copy.Newest.{Newest}
 use Rattle.ddf_copy.specs.Anchor.{anchor_at}
 use Rattle.ddf_copy.specs.Copies.{newest_of, newest_under}
@@ -35,3 +36,12 @@ returns-in_ok-newest-in-Ok-clause-under g c = record {
   is_anchor = c.in-Ok.ensures.spelled;
   under = subst (λ (sizes : List ℕ). IsNewestUnder (slice_index sizes c.args.slot) c.in-Ok.anchor c.in_ok-newest-in-Ok.newest) c.anchor_of.ensures.reads.same_sizes (c.in_ok-newest-in-Ok.ensures.under c.in-Ok.ensures.spelled);
 }
+
+pub returns-in_ok-newest-in-Ok-clause-stands : goal.returns-in_ok-newest-in-Ok-clause-stands
+returns-in_ok-newest-in-Ok-clause-stands g c = λ tells anchor anchored.
+    let size = slice_index (g.B.Bay.disks c.args.bay.now).sizes c.args.slot in
+    let sector = (g.B.Bay.disks c.args.bay.now).held c.args.slot in
+    let read : Ok c.in-Ok.anchor ≡ anchor_at size sector = ⊎_elim (λ is. is) (λ fault. absurd cc) (c.in-Ok.ensures.anchor tells) in
+    let same : c.in-Ok.anchor ≡ anchor = let both = read ∙ anchored in cc in
+    subst (λ (header : Header). IsNewestUnder size header c.in_ok-newest-in-Ok.newest) same
+    (subst (λ (sizes : List ℕ). IsNewestUnder (slice_index sizes c.args.slot) c.in-Ok.anchor c.in_ok-newest-in-Ok.newest) c.anchor_of.ensures.reads.same_sizes (c.in_ok-newest-in-Ok.ensures.under c.in-Ok.ensures.spelled))

@@ -5,6 +5,7 @@ use Rattle.ddf_copy.specs.Whole.{IsNewestCopy}
 use Rattle.ddf_bay.proofs.Looks.{reads_then}
 use Rattle.ddf_assembly.specs.Reading.{HasAnchor}
 use Rattle.ddf_assembly.proofs.Anchored.{anchors_more}
+use Rattle.ddf_assembly.proofs.Standing.{stand_more, stands_on}
 use Rattle.ddf_assembly.proofs.Partway.{all_more, partway_cut, partway_more, partway_read}
 use Rattle.ddf_assembly.proofs.reading.read_slots.Goals as goal
 
@@ -17,9 +18,12 @@ loop-slot-preserved g c =
       partway = rw c.in_ok-push.ensures.items (partway_more g.B.Bay.tells _ _ _ c.loop-slot.slot c.loop-slot.all.items read.out c.in_ok-newest.newest so_far.partway so_far.reads.same_sizes so_far.reads.same_held read.look read.newest);
       reads = reads_then so_far.reads c.read_or_leave.ensures.reads;
       never_falls = λ slot. omega (arith, so_far.never_falls slot, read.look.reads.never_falls slot);
+      writes_never_fall = λ slot. omega (arith, so_far.writes_never_fall slot, read.look.writes.never_falls slot);
       counted = rw c.in_ok-push.ensures.items (length-append c.loop-slot.all.items (c.in_ok-newest.newest ∷ []) ∙ ap (λ (n : ℕ). n + 1) so_far.counted);
       under = rw c.in_ok-push.ensures.items (anchors_more (g.B.Bay.disks c.args.bay.now).sizes c.loop-slot.all.items c.loop-slot.slot c.in_ok-newest.newest so_far.counted
           (omega (arith, c.loop-slot-test.true, so_far.end)) so_far.under (subst (λ (sizes : List ℕ). IfSome c.in_ok-newest.newest (HasAnchor (slice_index sizes c.loop-slot.slot))) so_far.reads.same_sizes c.in_ok-newest.ensures.under));
+      stand = λ tells. rw c.in_ok-push.ensures.items (stand_more (g.B.Bay.disks c.args.bay.now) c.loop-slot.all.items c.loop-slot.slot c.in_ok-newest.newest so_far.counted (so_far.stand tells)
+          (stands_on (g.B.Bay.disks c.args.bay.now) (g.B.Bay.disks c.loop-slot.bay) c.loop-slot.slot c.in_ok-newest.newest so_far.reads.same_sizes so_far.reads.same_held (c.in_ok-newest.ensures.stands tells)));
       writable = rw c.in_ok-push.ensures.items (all_more (λ (one : Option Newest). IfSome one IsNewestCopy) c.loop-slot.all.items c.in_ok-newest.newest so_far.writable c.in_ok-newest.ensures.writable);
     }
 
@@ -47,3 +51,9 @@ returns-in_err-newest-clause-never_falls g c = λ slot. omega (arith, c.loop-slo
 
 pub returns-in_err-push-clause-never_falls : goal.returns-in_err-push-clause-never_falls
 returns-in_err-push-clause-never_falls g c = λ slot. omega (arith, c.loop-slot.invariant.never_falls slot, c.read_or_leave.ensures.read.look.reads.never_falls slot)
+
+pub returns-in_err-newest-clause-writes_never_fall : goal.returns-in_err-newest-clause-writes_never_fall
+returns-in_err-newest-clause-writes_never_fall g c = λ slot. omega (arith, c.loop-slot.invariant.writes_never_fall slot, c.read_or_leave.ensures.read.look.writes.never_falls slot)
+
+pub returns-in_err-push-clause-writes_never_fall : goal.returns-in_err-push-clause-writes_never_fall
+returns-in_err-push-clause-writes_never_fall g c = λ slot. omega (arith, c.loop-slot.invariant.writes_never_fall slot, c.read_or_leave.ensures.read.look.writes.never_falls slot)

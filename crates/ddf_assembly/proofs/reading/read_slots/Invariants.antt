@@ -1,6 +1,7 @@
 use Rattle.std.proofs.Common.{◌≡◌, ◌≤◌, ℕ, length}
 use Rattle.ddf_bay.specs.ReadsOnly.{ReadsOnly}
 use Rattle.ddf_assembly.specs.Reading.{AreNewest, HaveAnchors}
+use Rattle.ddf_assembly.specs.Held.{StandUnder}
 use Rattle.ddf_assembly.proofs.Partway.{IsPartway}
 use Rattle.ddf_assembly.proofs.reading.read_slots.Given as goal
 
@@ -11,6 +12,8 @@ invariant-loop-slot g l = record {
   reads : ReadsOnly (g.B.Bay.disks l.initial.bay) (g.B.Bay.disks l.bay);
   writable : AreNewest l.all.items;
   never_falls : (slot : ℕ) → (g.B.Bay.disks l.initial.bay).failed_reads slot ≤ (g.B.Bay.disks l.bay).failed_reads slot;
+  writes_never_fall : (slot : ℕ) → (g.B.Bay.disks l.initial.bay).failed_writes slot ≤ (g.B.Bay.disks l.bay).failed_writes slot;
   counted : length l.all.items ≡ l.slot;
   under : HaveAnchors (g.B.Bay.disks l.initial.bay).sizes l.all.items;
+  stand : g.B.Bay.tells → StandUnder (g.B.Bay.disks l.initial.bay) l.all.items;
 }

@@ -1,11 +1,14 @@
 use Rattle.std.proofs.Common.{◌≡◌, ◌∙◌, ℕ, Err, sym, ap, subst, inl, inr, ⊎_elim, refl}
 use Rattle.ddf_words.specs.declared.command.Asked.{Asked}
-use Rattle.ddf_words.specs.declared.command.Command.TheVariants.{Assemble, Examine, Label, Read}
+use Rattle.ddf_words.specs.declared.command.Command.TheVariants.{Assemble, Create, Delete, Examine, Fail, Label, Read, Spare}
 use Rattle.ddf_words.specs.Words.{words_of, IsAccepted}
 use Rattle.ddf_config.specs.declared.refusal.Refusal.TheVariants.{Words}
 use Rattle.ddf_text.specs.Refusal.{refusal_line}
+use Rattle.std.specs.Prelude.{IsTrue}
 use Rattle.ddf_command.specs.Call.{answer_of}
+use Rattle.ddf_command.specs.Run.{is_unwritten}
 use Rattle.ddf_command.specs.Tells.{EndsWith}
+use Rattle.ddf_command.proofs.ChangeEnds.{change_cause, change_no_fault, change_unwritten}
 use Rattle.ddf_command.proofs.Endings.{fault_cause, no_fault, done_nothing, one_place, same_asked, stream_status}
 use Rattle.ddf_command.proofs.LabelEnds.{label_no_fault}
 use Rattle.ddf_command.proofs.Outcomes.{assemble_no_disk, assemble_no_fault}
@@ -60,6 +63,102 @@ returns-in-Read-clause-complete g c = λ asked is none good.
     let one : Read c.in-Read.name c.in-Read.start c.in-Read.count ≡ asked.command = sym c.in-Read.is ∙ ap (λ (a : Asked). a.command) same in
     let status = read_no_fault _ _ _ _ _ _ c.read.ensures.done none (λ six. good (c.read.ensures.stream (stream_status c.read.result six))) in
     rw (c.code-in-Read.ensures, ← one) (⊎_elim inl (λ other. inr (⊎_elim inl (λ later. inr (⊎_elim (λ refused. inl (refused, refl)) (λ four. inr (four, refl)) later)) other)) status)
+
+pub returns-in-Delete-clause-done : goal.returns-in-Delete-clause-done
+returns-in-Delete-clause-done g c = λ asked is.
+    let same : c.in-Ok.asked ≡ asked = same_asked c.asked.result c.in-Ok.asked asked c.in-Ok.is (c.asked.ensures.every asked is) in
+    let one : Delete c.in-Delete.name ≡ asked.command = sym c.in-Delete.is ∙ ap (λ (a : Asked). a.command) same in
+    let group : c.in-Ok.asked.group ≡ asked.group = ap (λ (a : Asked). a.group) same in
+    let items : c.items-in-Delete.result.now ≡ c.in-Delete.name = c.items-in-Delete.ensures ∙ c.in-Delete.name-is in
+    rw (← one, ← group) (rw c.code-in-Delete.ensures (rw (items) at c.delete.ensures.done))
+
+pub returns-in-Delete-clause-unwritten : goal.returns-in-Delete-clause-unwritten
+returns-in-Delete-clause-unwritten g c = λ unwritten.
+    change_unwritten _ _ _ _ _ c.delete.ensures.done (subst (λ (status : ℕ). IsTrue (is_unwritten status)) c.code-in-Delete.ensures unwritten)
+
+pub returns-in-Delete-clause-disk_fault : goal.returns-in-Delete-clause-disk_fault
+returns-in-Delete-clause-disk_fault g c = λ e. change_cause _ _ _ _ _ c.delete.ensures.done (sym c.code-in-Delete.ensures ∙ e)
+
+pub returns-in-Delete-clause-complete : goal.returns-in-Delete-clause-complete
+returns-in-Delete-clause-complete g c = λ asked is none good.
+    let same : c.in-Ok.asked ≡ asked = same_asked c.asked.result c.in-Ok.asked asked c.in-Ok.is (c.asked.ensures.every asked is) in
+    let one : Delete c.in-Delete.name ≡ asked.command = sym c.in-Delete.is ∙ ap (λ (a : Asked). a.command) same in
+    let status = change_no_fault _ _ _ _ _ c.delete.ensures.done none (λ six. good (c.delete.ensures.stream (stream_status c.delete.result six))) in
+    rw (c.code-in-Delete.ensures, ← one) (⊎_elim inl (λ other. inr (⊎_elim inl (λ later. inr (⊎_elim (λ refused. inl (refused, refl)) (λ four. inr (four, refl)) later)) other)) status)
+
+pub returns-in-Spare-clause-done : goal.returns-in-Spare-clause-done
+returns-in-Spare-clause-done g c = λ asked is.
+    let same : c.in-Ok.asked ≡ asked = same_asked c.asked.result c.in-Ok.asked asked c.in-Ok.is (c.asked.ensures.every asked is) in
+    let one : Spare c.in-Spare.slot c.in-Spare.word ≡ asked.command = sym c.in-Spare.is ∙ ap (λ (a : Asked). a.command) same in
+    let group : c.in-Ok.asked.group ≡ asked.group = ap (λ (a : Asked). a.group) same in
+    rw (← one, ← group) (rw c.code-in-Spare.ensures (rw c.in-Spare.is at c.spare.ensures.done))
+
+pub returns-in-Spare-clause-unwritten : goal.returns-in-Spare-clause-unwritten
+returns-in-Spare-clause-unwritten g c = λ unwritten.
+    change_unwritten _ _ _ _ _ c.spare.ensures.done (subst (λ (status : ℕ). IsTrue (is_unwritten status)) c.code-in-Spare.ensures unwritten)
+
+pub returns-in-Spare-clause-disk_fault : goal.returns-in-Spare-clause-disk_fault
+returns-in-Spare-clause-disk_fault g c = λ e. change_cause _ _ _ _ _ c.spare.ensures.done (sym c.code-in-Spare.ensures ∙ e)
+
+pub returns-in-Spare-clause-complete : goal.returns-in-Spare-clause-complete
+returns-in-Spare-clause-complete g c = λ asked is none good.
+    let same : c.in-Ok.asked ≡ asked = same_asked c.asked.result c.in-Ok.asked asked c.in-Ok.is (c.asked.ensures.every asked is) in
+    let one : Spare c.in-Spare.slot c.in-Spare.word ≡ asked.command = sym c.in-Spare.is ∙ ap (λ (a : Asked). a.command) same in
+    let status = change_no_fault _ _ _ _ _ c.spare.ensures.done none (λ six. good (c.spare.ensures.stream (stream_status c.spare.result six))) in
+    rw (c.code-in-Spare.ensures, ← one) (⊎_elim inl (λ other. inr (⊎_elim inl (λ later. inr (⊎_elim (λ refused. inl (refused, refl)) (λ four. inr (four, refl)) later)) other)) status)
+
+pub returns-in-Fail-clause-done : goal.returns-in-Fail-clause-done
+returns-in-Fail-clause-done g c = λ asked is.
+    let same : c.in-Ok.asked ≡ asked = same_asked c.asked.result c.in-Ok.asked asked c.in-Ok.is (c.asked.ensures.every asked is) in
+    let one : Fail c.in-Fail.slot ≡ asked.command = sym c.in-Fail.is ∙ ap (λ (a : Asked). a.command) same in
+    let group : c.in-Ok.asked.group ≡ asked.group = ap (λ (a : Asked). a.group) same in
+    rw (← one, ← group) (rw c.code-in-Fail.ensures (rw (c.in-Fail.slot-is) at c.fail.ensures.done))
+
+pub returns-in-Fail-clause-unwritten : goal.returns-in-Fail-clause-unwritten
+returns-in-Fail-clause-unwritten g c = λ unwritten.
+    change_unwritten _ _ _ _ _ c.fail.ensures.done (subst (λ (status : ℕ). IsTrue (is_unwritten status)) c.code-in-Fail.ensures unwritten)
+
+pub returns-in-Fail-clause-disk_fault : goal.returns-in-Fail-clause-disk_fault
+returns-in-Fail-clause-disk_fault g c = λ e. change_cause _ _ _ _ _ c.fail.ensures.done (sym c.code-in-Fail.ensures ∙ e)
+
+pub returns-in-Fail-clause-complete : goal.returns-in-Fail-clause-complete
+returns-in-Fail-clause-complete g c = λ asked is none good.
+    let same : c.in-Ok.asked ≡ asked = same_asked c.asked.result c.in-Ok.asked asked c.in-Ok.is (c.asked.ensures.every asked is) in
+    let one : Fail c.in-Fail.slot ≡ asked.command = sym c.in-Fail.is ∙ ap (λ (a : Asked). a.command) same in
+    let status = change_no_fault _ _ _ _ _ c.fail.ensures.done none (λ six. good (c.fail.ensures.stream (stream_status c.fail.result six))) in
+    rw (c.code-in-Fail.ensures, ← one) (⊎_elim inl (λ other. inr (⊎_elim inl (λ later. inr (⊎_elim (λ refused. inl (refused, refl)) (λ four. inr (four, refl)) later)) other)) status)
+
+pub returns-in-Create-clause-done : goal.returns-in-Create-clause-done
+returns-in-Create-clause-done g c = λ asked is.
+    let same : c.in-Ok.asked ≡ asked = same_asked c.asked.result c.in-Ok.asked asked c.in-Ok.is (c.asked.ensures.every asked is) in
+    let one : Create c.in-Create.name c.in-Create.level c.in-Create.qualifier c.in-Create.code c.in-Create.secondary c.in-Create.elements ≡ asked.command = sym c.in-Create.is ∙ ap (λ (a : Asked). a.command) same in
+    let group : c.in-Ok.asked.group ≡ asked.group = ap (λ (a : Asked). a.group) same in
+    let name : c.items-in-Create.result.now ≡ c.in-Create.name = c.items-in-Create.ensures ∙ c.in-Create.name-is in
+    let elements : c.items-in-Create-2.result.now ≡ c.in-Create.elements = c.items-in-Create-2.ensures ∙ c.in-Create.elements-is in
+    rw (← one, ← group) (rw c.code-in-Create.ensures (rw (name, elements, c.in-Create.is) at c.create.ensures.done))
+
+pub returns-in-Create-clause-unwritten : goal.returns-in-Create-clause-unwritten
+returns-in-Create-clause-unwritten g c = λ unwritten.
+    change_unwritten _ _ _ _ _ c.create.ensures.done (subst (λ (status : ℕ). IsTrue (is_unwritten status)) c.code-in-Create.ensures unwritten)
+
+pub returns-in-Create-clause-disk_fault : goal.returns-in-Create-clause-disk_fault
+returns-in-Create-clause-disk_fault g c = λ e. change_cause _ _ _ _ _ c.create.ensures.done (sym c.code-in-Create.ensures ∙ e)
+
+pub returns-in-Create-clause-complete : goal.returns-in-Create-clause-complete
+returns-in-Create-clause-complete g c = λ asked is none good.
+    let same : c.in-Ok.asked ≡ asked = same_asked c.asked.result c.in-Ok.asked asked c.in-Ok.is (c.asked.ensures.every asked is) in
+    let one : Create c.in-Create.name c.in-Create.level c.in-Create.qualifier c.in-Create.code c.in-Create.secondary c.in-Create.elements ≡ asked.command = sym c.in-Create.is ∙ ap (λ (a : Asked). a.command) same in
+    let status = change_no_fault _ _ _ _ _ c.create.ensures.done none (λ six. good (c.create.ensures.stream (stream_status c.create.result six))) in
+    rw (c.code-in-Create.ensures, ← one) (⊎_elim inl (λ other. inr (⊎_elim inl (λ later. inr (⊎_elim (λ refused. inl (refused, refl)) (λ four. inr (four, refl)) later)) other)) status)
+
+pub create-requires : goal.create-requires
+create-requires g c =
+    let name : c.items-in-Create.result.now ≡ c.in-Create.name = c.items-in-Create.ensures ∙ c.in-Create.name-is in
+    let elements : c.items-in-Create-2.result.now ≡ c.in-Create.elements = c.items-in-Create-2.ensures ∙ c.in-Create.elements-is in
+    rw (name, elements, c.in-Create.is) (rw c.in-Create.is at c.in-Ok.ensures.fits)
+
+pub spare-requires : goal.spare-requires
+spare-requires g c = rw c.in-Spare.is (rw c.in-Spare.is at c.in-Ok.ensures.fits)
 
 pub returns-in-Label-clause-done : goal.returns-in-Label-clause-done
 returns-in-Label-clause-done g c = λ asked is.

@@ -15,4 +15,4 @@ returns c =
     let clash = c.refuse_if-3.ensures ∙ ap (λ h. refuse_if h (Clash c.args.guid)) c.has_array.ensures in
     let used = c.spare_in_use.ensures ∙ ap (refuse_first seats (is_spare_disk config) InUse) c.requires.named in
     c.first_refusal.ensures
-    ∙ ap first_refusal (λ j. member j ∷ name j ∷ c.unserved_level.ensures j ∷ shape j ∷ clash j ∷ used j ∷ c.requires.room j ∷ c.spent_by_one.ensures j ∷ [])
+    ∙ ap first_refusal (λ j. member j ∷ name j ∷ c.unserved_level.ensures j ∷ shape j ∷ clash j ∷ used j ∷ [])

@@ -1,11 +1,8 @@
-use Rattle.std.proofs.Common.{◌≡◌, ◌++◌, ◌≤◌, ℕ, Option, drop, length, map}
+use Rattle.std.proofs.Common.{◌≡◌, ◌++◌, ℕ, Option, drop, length, map}
 use Rattle.ddf_rewrite.specs.declared.item.Item.{Item}
 use Rattle.ddf_rewrite.specs.Placement.{take_slots}
 use Rattle.ddf_rewrite.proofs.placement.take_slots.Given as goal
 
 abbrev pub invariant-loop-item : goal.invariant-loop-item
-invariant-loop-item l = record {
-  placed : (stands : Item → Option ℕ) → l.standing ≡ map stands l.items
-      → l.placed.items ++ take_slots stands (drop (length l.yielded) l.items) (drop l.taken l.free) ≡ take_slots stands l.items l.free;
-  within : l.taken ≤ length l.free;
-}
+invariant-loop-item l = (stands : Item → Option ℕ) → l.standing ≡ map stands l.items
+    → l.placed.items ++ take_slots stands (drop (length l.yielded) l.items) l.left ≡ take_slots stands l.items l.free

@@ -1,5 +1,5 @@
 use Rattle.ddf_bytes.specs.Counts.{Rose}
-use Rattle.ddf_volume.proofs.GivenLaws.{first_of, value_of}
+use Rattle.ddf_volume.proofs.GivenLaws.{first_of, value_of, values_of}
 use Rattle.ddf_volume.proofs.laws.a_good_read_gives_the_first.Goals as goal
 
 pub returns-clause-first : goal.returns-clause-first
@@ -7,3 +7,6 @@ returns-clause-first c = λ old new. first_of (λ slot. Rose (old slot) (new slo
 
 pub returns-clause-value : goal.returns-clause-value
 returns-clause-value c = λ old new. value_of (λ slot. Rose (old slot) (new slot))
+
+pub returns-clause-values : goal.returns-clause-values
+returns-clause-values c = λ old new. values_of (λ slot. Rose (old slot) (new slot))

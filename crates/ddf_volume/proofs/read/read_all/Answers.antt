@@ -3,6 +3,7 @@ use Rattle.std.proofs.lemmas.Result.{err_from_is_err_and}
 use Rattle.ddf_volume.proofs.Counted.{calls_more}
 use Rattle.ddf_volume.proofs.OnlyReading.{only_reads_then, failed_before, failed_behind}
 use Rattle.ddf_volume.proofs.Pieces.{given_more, left_more, rest_long}
+use Rattle.ddf_volume.proofs.SourceSlots.{slot_on}
 use Rattle.ddf_volume.proofs.read.read_all.Goals as goal
 
 pub read_first-requires-clause-fits : goal.read_first-requires-clause-fits
@@ -19,6 +20,12 @@ returns-in_err-at-clause-left g c =
     rw (p.1, p.2)
     (left_more c.loop-at.invariant.reads c.in_err-at.ensures.reads c.args.view.now c.args.start c.loop-at.at _ (length c.args.out.now) _
     (omega (arith, rest_long c.loop-at.out c.loop-at.at, c.loop-at.auto.out, c.loop-at-test.true)) c.in_err-at.ensures.left)
+
+pub returns-in_err-at-clause-calls : goal.returns-in_err-at-clause-calls
+returns-in_err-at-clause-calls g c = λ copied none_failed.
+    let left = c.in_err-at.ensures.left in
+    let on = slot_on c.args.view.now (c.args.start + c.loop-at.at + left.block) _ left.none_left.is_of_first in
+    absurd (none_failed _ on (failed_before c.loop-at.invariant.reads c.in_err-at.ensures.reads _ left.none_left.this_failed))
 
 pub loop-at-preserved : goal.loop-at-preserved
 loop-at-preserved g c =
@@ -38,7 +45,7 @@ loop-at-preserved g c =
           (λ k below.
           let same : c.args.start + (c.loop-at.at + k) ≡ c.args.start + c.loop-at.at + k = omega arith in
           rw (← same) (copied (c.loop-at.at + k) (omega (arith, below, long))))
-          (λ slot rose. none_failed slot (failed_before so_far next slot rose))) in
+          (λ slot on rose. none_failed slot on (failed_before so_far next slot rose))) in
           calls_more c.args.view.now c.args.start c.loop-at.at c.in_ok-at.field-0 (length c.args.out.now) _ _ _
-          (c.loop-at.invariant.calls copied (λ slot rose. none_failed slot (failed_behind so_far next slot rose))) here;
+          (c.loop-at.invariant.calls copied (λ slot on rose. none_failed slot on (failed_behind so_far next slot rose))) here;
     }

@@ -13,7 +13,7 @@ invariant-loop-at g l =
       inside : l.at ≤ length l.fn.out;
       reads : OnlyReads old now;
       given : B.tells → AreGiven (Failed old now) old.held l.view l.start l.at l.out;
-      calls : HaveCopies l.view l.start (length l.fn.out) → NoneFailed old now
+      calls : HaveCopies l.view l.start (length l.fn.out) → NoneFailed l.view old now
           → now.calls + copy_stretches l.view (l.start + l.at) (length l.fn.out - l.at) ≤ old.calls + copy_stretches l.view l.start (length l.fn.out);
     }
 

@@ -3,7 +3,9 @@ use Rattle.std.proofs.lemmas.Result.{MatchResult-weaker, on_ok_weaker}
 use Rattle.ddf_array.specs.Places.{site_on}
 use Rattle.ddf_volume.proofs.BlockSources.{given_by_first, has_first}
 use Rattle.ddf_volume.proofs.FirstCopies.{first_there}
+use Rattle.ddf_volume.proofs.OnlyReading.{failed_behind}
 use Rattle.ddf_volume.proofs.Pieces.{given_after, left_after}
+use Rattle.ddf_volume.proofs.SourceSlots.{copy_on}
 use Rattle.ddf_volume.proofs.run.read_stretch.Goals as goal
 
 pub read_from-requires-clause-slot : goal.read_from-requires-clause-slot
@@ -38,3 +40,9 @@ pub returns-in-Err-clause-left : goal.returns-in-Err-clause-left
 returns-in-Err-clause-left g c =
     MatchResult-weaker c.read_each.result c.read_each.ensures.left (λ done none. none)
     (λ slot left. left_after c.in-Err.ensures.reads c.read_each.ensures.reads c.args.view.now c.args.start _ slot (rw c.read_from.auto.into at left))
+
+pub returns-in-Err-clause-calls : goal.returns-in-Err-clause-calls
+returns-in-Err-clause-calls g c = λ none_failed.
+    let on = copy_on c.args.view.now (c.args.start + 0) (site_on c.args.first.slot (c.args.first.lba + 0)) (c.requires.follow 0 c.requires.some) in
+    let failed = failed_behind c.in-Err.ensures.reads c.read_each.ensures.reads c.in-Err.field-0 c.in-Err.ensures.failed in
+    absurd (none_failed c.args.first.slot on (rw c.in-Err.ensures.named at failed))

@@ -2,12 +2,18 @@ use Rattle.std.proofs.Common.{◌≡◌, ◌+◌, ◌∙◌, Ok, Err, inl, ap, d
 use Rattle.std.proofs.lemmas.List.{length-map}
 use Rattle.ddf_words.specs.Words.{words_of, IsRequest, GoWrongAt}
 use Rattle.ddf_words.proofs.Lists.{words_behind}
+use Rattle.ddf_words.proofs.Fitting.{fits_command}
 use Rattle.ddf_words.proofs.Grammar.{is_asked, same_asked, goes_wrong}
 use Rattle.ddf_words.proofs.words.asked.Goals as goal
 
 pub returns-in-Ok-request_of-clause-ok : goal.returns-in-Ok-request_of-clause-ok
 returns-in-Ok-request_of-clause-ok c =
     is_asked (words_of c.args.words.now) c.in-Ok.images c.in-Ok.ensures.found c.in-Ok-request_of.asked (rw (words_behind c.args.words.now (c.in-Ok.images + 1)) at c.in-Ok-request_of.ensures.found)
+
+pub returns-in-Ok-request_of-clause-fits : goal.returns-in-Ok-request_of-clause-fits
+returns-in-Ok-request_of-clause-fits c =
+    let asked = c.in-Ok-request_of.asked in
+    fits_command asked.group asked.command _ c.in-Ok-request_of.ensures.found
 
 pub returns-in-Ok-request_of-clause-every : goal.returns-in-Ok-request_of-clause-every
 returns-in-Ok-request_of-clause-every c = λ asked is. inl (ap Ok

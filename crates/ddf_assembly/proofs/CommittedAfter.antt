@@ -1,0 +1,276 @@
+-- A group to which the next step was written: the disks hold it, and the steps that are left were readied for it.
+use Rattle.std.proofs.Common.{◌≡◌, ◌≢◌, ℕ, ◌<◌, List, [], ◌∷◌, length, map, fold, Some, Ok, refl, sym, ap, subst, ◌∙◌, inl, inr, arith}
+use Rattle.std.proofs.Math.Path.{fun_ext}
+use Rattle.std.specs.Prelude.{slice_get, slice_index}
+use Rattle.std.specs.List.{AllByRecursion}
+use Rattle.ddf_bay.specs.State.{BayState, size_of}
+use Rattle.ddf_bay.specs.Sectors.{Image}
+use Rattle.ddf_bay.specs.Moments.{IsSettled}
+use Rattle.ddf_bay.proofs.Steps.{settled_keeps}
+use Rattle.ddf_header.specs.declared.reading.Header.{Header}
+use Rattle.ddf_copy.specs.declared.copy.DiskCopy.{DiskCopy}
+use Rattle.ddf_copy.specs.declared.newest_copy.Newest.{Newest}
+use Rattle.ddf_copy.specs.declared.newest_copy.Newest.TheVariants.{Level}
+use Rattle.ddf_copy.specs.Anchor.{anchor_at}
+use Rattle.ddf_copy.specs.Headers.{IsUnder}
+use Rattle.ddf_copy.specs.Whole.{IsNewestUnder}
+use Rattle.ddf_config.specs.declared.seat.Seat.{Seat}
+use Rattle.ddf_rewrite.proofs.Lists.{all_at, all_by_get, all_mapped, get_map, map_get, some_same}
+use Rattle.ddf_update.specs.Changes.{AreChanged, MayChangeAll, SlotChange}
+use Rattle.ddf_update.specs.Update.{AreBoth}
+use Rattle.ddf_assembly.specs.declared.seated.Seated.{Seated}
+use Rattle.ddf_assembly.specs.Group.{GroupValue}
+use Rattle.ddf_assembly.specs.Reading.{HasAnchor, HaveAnchors}
+use Rattle.ddf_assembly.specs.Ready.{ReadyStep, ReadyValue, group_after, with_level}
+use Rattle.ddf_assembly.specs.Seated.{seated, seats_in, slots_in}
+use Rattle.ddf_assembly.specs.Settled.{IsLevelIn, IsSettledGroup}
+use Rattle.ddf_assembly.specs.Steps.{levelled}
+use Rattle.ddf_assembly.specs.Trying.{AreFollowing, CanBeChanged, Follows, SlotsRise, StandOn}
+use Rattle.ddf_assembly.specs.Committed.{AreRewriting, AreSettled, HaveSequence, HoldsGroup, IsReadyFor, IsRewritten, MayWriteNext, group_next, left_behind, next_slots, next_updates}
+use Rattle.ddf_assembly.specs.Held.{AreHeldOn, IsHeldOn, StandUnder}
+use Rattle.ddf_assembly.proofs.CommittedCopies.{standing_under}
+use Rattle.ddf_assembly.proofs.CommittedLevels.{changed_levelled, level_else, level_here, seated_after, seats_levelled, slot_or_none}
+use Rattle.ddf_assembly.proofs.CommittedSeats.{get_there, seated_is}
+use Rattle.ddf_assembly.proofs.Lists.{get_within}
+
+-- ---- a slot that isn't written
+
+module _ {D : Type 0} (old new : BayState D) (same_sizes : new.sizes ≡ old.sizes) (slot : ℕ) (newest : Newest) (same : new.held slot ≡ old.held slot) where
+  -- it holds what it held
+  held_still : IsHeldOn old slot newest → IsHeldOn new slot newest
+  held_still held = record { anchor = held.anchor; is_anchored = rw (same_sizes, same) held.is_anchored; is_newest = rw (same_sizes, same) held.is_newest }
+
+  -- which can be written again there
+  under_still : (anchor : Header) → (anchor_at (size_of old slot) (old.held slot) ≡ Ok anchor → IsNewestUnder (size_of old slot) anchor newest)
+      → anchor_at (size_of new slot) (new.held slot) ≡ Ok anchor → IsNewestUnder (size_of new slot) anchor newest
+  under_still anchor under anchored = rw same_sizes (under (rw (same_sizes, same) at anchored))
+
+-- Disks of which nothing but syncs was asked since a group was assembled from them hold it, once its seats' slots are synced.
+pub recovered_holds : {D : Type 0} (old new : BayState D) → new.sizes ≡ old.sizes → new.held ≡ old.held → (group : GroupValue) → AreHeldOn old group.newest → StandUnder old group.newest
+    → AreSettled new group.seats (length group.seats) → HoldsGroup new group
+recovered_holds old new same_sizes same_held group held under settled =
+    let same = λ (slot : ℕ). ap (λ (image : Image). image slot) same_held in
+    record {
+      are_held = λ slot newest at. held_still old new same_sizes slot newest (same slot) (held slot newest at);
+      are_under = λ slot newest at anchor. under_still old new same_sizes slot newest (same slot) anchor (under slot newest at anchor);
+      are_settled = settled;
+    }
+
+-- ---- a step's disks
+
+module _ (group : GroupValue) (one : ReadyStep) (settled : IsSettledGroup group) (follows : Follows (seated group) one)
+    (rewrites : AllByRecursion (IsRewritten (seated group) one.step.config) one.step.disks) where
+  disk_is : (k : ℕ) (disk : Seated) → slice_get one.step.disks k ≡ Some disk → IsRewritten (seated group) one.step.config disk
+  disk_is k disk at = all_at (IsRewritten (seated group) one.step.config) one.step.disks k disk rewrites at
+
+  -- their slots rise
+  disks_rise : SlotsRise (seats_in one.step.disks)
+  disks_rise = follows.slots_rise (subst SlotsRise (sym settled.are_seated) settled.slots_rise)
+
+  -- each is on a slot that was read
+  disks_within : (k : ℕ) (disk : Seated) → slice_get one.step.disks k ≡ Some disk → disk.seat.slot < length group.newest
+  disks_within k disk at =
+      let is = disk_is k disk at in
+      let own = seated_is group is.place is.before is.is_there in
+      subst (λ (seat : Seat). seat.slot < length group.newest) (sym is.same_seat) (get_within group.newest (Some own.found) is.before.seat.slot own.is_found)
+
+  pub after_is : seated (group_after group one.step) ≡ map levelled one.step.disks
+  after_is = seated_after group one.step disks_rise disks_within
+
+  -- the newest copy of its slot then
+  level_is : (k : ℕ) (disk : Seated) → slice_get one.step.disks k ≡ Some disk → (newest : Newest)
+      → slice_get (fold with_level group.newest one.step.disks) disk.seat.slot ≡ Some (Some newest) → Level disk.copy ≡ newest
+  level_is k disk at newest there =
+      let here = level_here group.newest one.step.disks disks_rise k disk at (disks_within k disk at) in
+      let same : Some (Level disk.copy) ≡ Some newest = some_same here there in
+      cc
+
+  -- the group is settled then
+  after_settled : IsSettledGroup (group_after group one.step)
+  after_settled = record {
+    none_absent = settled.none_absent;
+    none_lags = settled.none_lags;
+    slots_rise = disks_rise;
+    are_seated = ap seats_in after_is ∙ seats_levelled one.step.disks;
+    can_be_changed = subst (λ (disks : List Seated). CanBeChanged one.step.config disks) (sym after_is) (changed_levelled one.step.config one.step.disks follows.can_be_changed);
+    are_level = subst (λ (disks : List Seated). AllByRecursion (IsLevelIn (group_after group one.step)) disks) (sym after_is)
+        (all_mapped (IsLevelIn (group_after group one.step)) levelled one.step.disks
+        (all_by_get (λ (disk : Seated). IsLevelIn (group_after group one.step) (levelled disk)) one.step.disks
+        (λ k disk at. record { is_newest = level_here group.newest one.step.disks disks_rise k disk at (disks_within k disk at); same_sequence = (disk_is k disk at).has_sequence })));
+  }
+
+  after_sequence : HaveSequence one.step.config.sequence (seated (group_after group one.step))
+  after_sequence =
+      subst (λ (disks : List Seated). HaveSequence one.step.config.sequence disks) (sym after_is)
+      (all_mapped (λ (disk : Seated). disk.copy.header.sequence ≡ one.step.config.sequence) levelled one.step.disks
+      (all_by_get (λ (disk : Seated). disk.copy.header.sequence ≡ one.step.config.sequence) one.step.disks (λ k disk at. (disk_is k disk at).has_sequence)))
+
+  module _ (sizes : List ℕ) (have : HaveAnchors sizes group.newest) where
+    -- the copies of the group's disks in a slot can stand there under the anchor of its newest copy
+    stand_on : (slot : ℕ) (found : Newest) → slice_get group.newest slot ≡ Some (Some found) → (size : ℕ) (anchor : Header) → IsNewestUnder size anchor found → StandOn slot size anchor (seated group)
+    stand_on slot found is_found size anchor under =
+        all_by_get (λ (disk : Seated). disk.seat.slot ≡ slot → IsUnder size anchor disk.copy) (seated group)
+        (λ k disk at here.
+        let own = seated_is group k disk at in
+        let also = subst (λ (n : ℕ). slice_get group.newest n ≡ Some (Some own.found)) here own.is_found in
+        let same : Some found ≡ Some own.found = some_same is_found also in
+        let is : found ≡ own.found = cc in
+        standing_under size anchor own.found disk.copy own.stands (subst (IsNewestUnder size anchor) is under))
+
+    anchored_here : (k : ℕ) (disk : Seated) → slice_get one.step.disks k ≡ Some disk → (newest : Newest) → slice_get (fold with_level group.newest one.step.disks) disk.seat.slot ≡ Some (Some newest)
+        → (disk.seat.slot < length sizes) × HasAnchor (slice_index sizes disk.seat.slot) newest
+    anchored_here k disk at newest there =
+        let is = disk_is k disk at in
+        let own = seated_is group is.place is.before is.is_there in
+        let slot_is : is.before.seat.slot ≡ disk.seat.slot = ap (λ (seat : Seat). seat.slot) (sym is.same_seat) in
+        let found : slice_get group.newest disk.seat.slot ≡ Some (Some own.found) = subst (λ (n : ℕ). slice_get group.newest n ≡ Some (Some own.found)) slot_is own.is_found in
+        let prior = have disk.seat.slot own.found found in
+        let size = slice_index sizes disk.seat.slot in
+        let under = all_at (λ (other : Seated). other.seat.slot ≡ disk.seat.slot → IsUnder size prior.1.anchor other.copy) one.step.disks k disk
+        (follows.stand_on disk.seat.slot size prior.1.anchor (stand_on disk.seat.slot own.found found size prior.1.anchor prior.1.under)) at refl in (
+          prior.0,
+          record {
+            anchor = prior.1.anchor;
+            is_anchor = prior.1.is_anchor;
+            under = subst (IsNewestUnder size prior.1.anchor) (level_is k disk at newest there) under;
+          },
+        )
+
+    -- Each newest copy can be written again then, under an anchor of its slot.
+    after_anchored : HaveAnchors sizes (group_after group one.step).newest
+    after_anchored slot newest at = elim (slot_or_none one.step.disks slot) [
+      | inl found ↦
+          let there = subst (λ (n : ℕ). slice_get (fold with_level group.newest one.step.disks) n ≡ Some (Some newest)) found.3 at in
+          subst (λ (n : ℕ). (n < length sizes) × HasAnchor (slice_index sizes n) newest) (sym found.3) (anchored_here found.0 found.1 found.2 newest there)
+      | inr none ↦ have slot newest (sym (level_else group.newest one.step.disks slot none) ∙ at)
+    ]
+
+  -- ---- what the disks hold then
+
+  module _ {D : Type 0} (old new : BayState D) (same_sizes : new.sizes ≡ old.sizes) (holds : HoldsGroup old group) (seat : ℕ → SlotChange)
+      (may : MayChangeAll old (slots_in one.step.disks) seat one.updates)
+      (news : (place : ℕ) (disk : Seated) → slice_get one.step.disks place ≡ Some disk → (seat place).new ≡ disk.copy)
+      (changed : AreChanged old new (slots_in one.step.disks) seat one.updates (length (slots_in one.step.disks))) where
+    slot_at : (k : ℕ) (disk : Seated) → slice_get one.step.disks k ≡ Some disk → slice_get (slots_in one.step.disks) k ≡ Some disk.seat.slot
+    slot_at k disk at = get_map (λ (one : Seated). one.seat.slot) one.step.disks k disk at
+
+    both_of : (k : ℕ) (disk : Seated) → slice_get one.step.disks k ≡ Some disk → AreBoth (size_of new disk.seat.slot) (new.held disk.seat.slot) (seat k).anchor disk.copy
+    both_of k disk at =
+        let slot = disk.seat.slot in
+        let here = slot_at k disk at in
+        let below = get_within one.step.disks disk k at in
+        let counted = follows.are_prepared.counted in
+        let update = get_there one.updates k (omega (arith, below, counted)) in
+        let is = changed.have_changed k slot update.0 (get_within (slots_in one.step.disks) slot k here) here update.1 in
+        subst (λ (sizes : List ℕ). AreBoth (slice_index sizes slot) (new.held slot) (seat k).anchor disk.copy) (sym same_sizes)
+        (subst (λ (copy : DiskCopy). AreBoth (size_of old slot) (new.held slot) (seat k).anchor copy) (news k disk at) is.are_both)
+
+    held_here : (k : ℕ) (disk : Seated) → slice_get one.step.disks k ≡ Some disk → IsHeldOn new disk.seat.slot (Level disk.copy)
+    held_here k disk at =
+        let both = both_of k disk at in
+        record {
+          anchor = (seat k).anchor;
+          is_anchored = both.is_anchored;
+          is_newest = both.are_level ∙ ap (λ (copy : DiskCopy). Level copy) (disk_is k disk at).as_primary;
+        }
+
+    under_here : (k : ℕ) (disk : Seated) → slice_get one.step.disks k ≡ Some disk → (anchor : Header) → anchor_at (size_of new disk.seat.slot) (new.held disk.seat.slot) ≡ Ok anchor
+        → IsUnder (size_of new disk.seat.slot) anchor disk.copy
+    under_here k disk at anchor anchored =
+        let slot = disk.seat.slot in
+        let both = both_of k disk at in
+        let same : (seat k).anchor ≡ anchor = let two = sym both.is_anchored ∙ anchored in cc in
+        subst (λ (sizes : List ℕ). IsUnder (slice_index sizes slot) anchor disk.copy) (sym same_sizes)
+        (subst (λ (header : Header). IsUnder (size_of old slot) header disk.copy) same
+        (subst (IsUnder (size_of old slot) (seat k).anchor) (news k disk at) (may.may_change k slot (slot_at k disk at)).is_under))
+
+    -- a slot that isn't written
+    held_else : (slot : ℕ) → ((k : ℕ) (disk : Seated) → slice_get one.step.disks k ≡ Some disk → slot ≢ disk.seat.slot) → new.held slot ≡ old.held slot
+    held_else slot none = fun_ext (λ l. changed.others slot l (λ place below at.
+        let found = map_get (λ (one : Seated). one.seat.slot) one.step.disks place slot at in
+        none place found.0 found.1 (sym found.2)))
+
+    newest_else : (slot : ℕ) (newest : Newest) → ((k : ℕ) (disk : Seated) → slice_get one.step.disks k ≡ Some disk → slot ≢ disk.seat.slot)
+        → slice_get (fold with_level group.newest one.step.disks) slot ≡ Some (Some newest) → slice_get group.newest slot ≡ Some (Some newest)
+    newest_else slot newest none at = sym (level_else group.newest one.step.disks slot none) ∙ at
+
+    after_held : (slot : ℕ) (newest : Newest) → slice_get (fold with_level group.newest one.step.disks) slot ≡ Some (Some newest) → IsHeldOn new slot newest
+    after_held slot newest at = elim (slot_or_none one.step.disks slot) [
+      | inl found ↦
+          let there = subst (λ (n : ℕ). slice_get (fold with_level group.newest one.step.disks) n ≡ Some (Some newest)) found.3 at in
+          subst (λ (n : ℕ). IsHeldOn new n newest) (sym found.3)
+          (subst (IsHeldOn new found.1.seat.slot) (level_is found.0 found.1 found.2 newest there) (held_here found.0 found.1 found.2))
+      | inr none ↦ held_still old new same_sizes slot newest (held_else slot none) (holds.are_held slot newest (newest_else slot newest none at))
+    ]
+
+    after_under : (slot : ℕ) (newest : Newest) → slice_get (fold with_level group.newest one.step.disks) slot ≡ Some (Some newest)
+        → (anchor : Header) → anchor_at (size_of new slot) (new.held slot) ≡ Ok anchor → IsNewestUnder (size_of new slot) anchor newest
+    after_under slot newest at anchor anchored = elim (slot_or_none one.step.disks slot) [
+      | inl found ↦
+          let there = subst (λ (n : ℕ). slice_get (fold with_level group.newest one.step.disks) n ≡ Some (Some newest)) found.3 at in
+          let here = subst (λ (n : ℕ). anchor_at (size_of new n) (new.held n) ≡ Ok anchor) found.3 anchored in
+          subst (λ (n : ℕ). IsNewestUnder (size_of new n) anchor newest) (sym found.3)
+          (subst (IsNewestUnder (size_of new found.1.seat.slot) anchor) (level_is found.0 found.1 found.2 newest there) (under_here found.0 found.1 found.2 anchor here))
+      | inr none ↦
+          under_still old new same_sizes slot newest (held_else slot none) anchor (holds.are_under slot newest (newest_else slot newest none at) anchor) anchored
+    ]
+
+    after_holds : HoldsGroup new (group_after group one.step)
+    after_holds = record {
+      are_held = after_held;
+      are_under = after_under;
+      are_settled = λ place one_seat below at.
+          let found = map_get (λ (one : Seated). one.seat) one.step.disks place one_seat at in
+          let here = slot_at place found.0 found.1 in
+          subst (λ (s : Seat). IsSettled new.may_hold new.held s.slot) found.2
+          (changed.are_settled place found.0.seat.slot (get_within (slots_in one.step.disks) found.0.seat.slot place here) here);
+    }
+
+-- ---- the next step
+
+steps_hold : {D : Type 0} (old new : BayState D) → new.sizes ≡ old.sizes → (group : GroupValue) (steps : List ReadyStep) → HoldsGroup old group → IsReadyFor group (record { steps = steps })
+    → (may : MayWriteNext old (record { steps = steps }))
+    → AreChanged old new (next_slots (record { steps = steps })) may.seat (next_updates (record { steps = steps })) (length (next_slots (record { steps = steps })))
+    → HoldsGroup new (group_next group (record { steps = steps }))
+steps_hold old new same_sizes group [] holds is may changed =
+    let same = λ (slot l : ℕ). changed.others slot l (λ place below at. absurd (omega (arith, below))) in
+    let all = λ (slot : ℕ). fun_ext (same slot) in
+    record {
+      are_held = λ slot newest at. held_still old new same_sizes slot newest (all slot) (holds.are_held slot newest at);
+      are_under = λ slot newest at anchor. under_still old new same_sizes slot newest (all slot) anchor (holds.are_under slot newest at anchor);
+      are_settled = λ place seat below at.
+          settled_keeps old.may_hold new.may_hold old.held new.held seat.slot (holds.are_settled place seat below at)
+          (λ s l bytes left. changed.others_left s l bytes (λ place below at. absurd (omega (arith, below))) left) (same seat.slot);
+    }
+steps_hold old new same_sizes group (one ∷ others) holds is may changed =
+    after_holds group one is.is_settled is.follows.0 is.rewrites.0 old new same_sizes holds may.seat may.may_change may.news changed
+
+-- The disks hold the group then.
+pub committed_holds : {D : Type 0} (old new : BayState D) → new.sizes ≡ old.sizes → (group : GroupValue) (ready : ReadyValue) → HoldsGroup old group → IsReadyFor group ready
+    → (may : MayWriteNext old ready) → AreChanged old new (next_slots ready) may.seat (next_updates ready) (length (next_slots ready)) → HoldsGroup new (group_next group ready)
+committed_holds old new same_sizes group ready holds is may changed = steps_hold old new same_sizes group ready.steps holds is may changed
+
+steps_ready : (group : GroupValue) (steps : List ReadyStep) → IsReadyFor group (record { steps = steps }) → IsReadyFor (group_next group (record { steps = steps })) (left_behind (record { steps = steps }))
+steps_ready group [] is = is
+steps_ready group (one ∷ others) is =
+    let after = after_is group one is.is_settled is.follows.0 is.rewrites.0 in
+    record {
+      is_settled = after_settled group one is.is_settled is.follows.0 is.rewrites.0;
+      have_sequence = after_sequence group one is.is_settled is.follows.0 is.rewrites.0;
+      follows = subst (λ (disks : List Seated). AreFollowing disks others) (sym after) is.follows.1;
+      rewrites = subst (λ (disks : List Seated). AreRewriting disks others) (sym after) is.rewrites.1;
+      rises = is.rises.1;
+    }
+
+-- The steps that are left were readied for the group that it is then.
+pub left_ready : (group : GroupValue) (ready : ReadyValue) → IsReadyFor group ready → IsReadyFor (group_next group ready) (left_behind ready)
+left_ready group ready is = steps_ready group ready.steps is
+
+steps_anchored : (sizes : List ℕ) (group : GroupValue) (steps : List ReadyStep) → IsReadyFor group (record { steps = steps }) → HaveAnchors sizes group.newest
+    → HaveAnchors sizes (group_next group (record { steps = steps })).newest
+steps_anchored sizes group [] is have = have
+steps_anchored sizes group (one ∷ others) is have = after_anchored group one is.is_settled is.follows.0 is.rewrites.0 sizes have
+
+-- Each of its newest copies can be written again then.
+pub committed_anchored : (sizes : List ℕ) (group : GroupValue) (ready : ReadyValue) → IsReadyFor group ready → HaveAnchors sizes group.newest → HaveAnchors sizes (group_next group ready).newest
+committed_anchored sizes group ready is have = steps_anchored sizes group ready.steps is have

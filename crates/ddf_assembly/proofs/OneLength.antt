@@ -1,0 +1,117 @@
+-- Disks whose records have one length: a change may be tried on their copies.
+use Rattle.std.proofs.Common.{◌≡◌, ℕ, Bool, true, false, not, eqb, nat_le, List, [], ◌∷◌, map, fold, Option, Some, None, refl, sym, ap, subst, if◌then◌else◌}
+use Rattle.std.proofs.lemmas.Bool.{and_parts, eqb-true}
+use Rattle.std.specs.List.{AllByRecursion, list_all}
+use Rattle.ddf_header.specs.declared.geometry.Geometry.{Geometry}
+use Rattle.ddf_header.specs.Geometry.{IsSound}
+use Rattle.ddf_header.proofs.Sound.{sound}
+use Rattle.ddf_config.specs.declared.refusal.FullTable.{FullTable}
+use Rattle.ddf_config.specs.declared.refusal.FullTable.TheVariants.{Records}
+use Rattle.ddf_config.specs.Configuration.{Configuration}
+use Rattle.ddf_copy.specs.declared.copy.DiskCopy.{DiskCopy}
+use Rattle.ddf_copy.specs.Written.{CanBeCopy}
+use Rattle.ddf_view.specs.View.{View, view_of}
+use Rattle.ddf_rewrite.specs.Before.{Before, before}
+use Rattle.ddf_rewrite.specs.Hold.{AreHeld, IsHoldable, IsLeader}
+use Rattle.ddf_rewrite.proofs.Leaders.{leaders_held}
+use Rattle.ddf_assembly.specs.declared.seated.Seated.{Seated}
+use Rattle.ddf_assembly.specs.Seated.{views_in}
+use Rattle.ddf_assembly.specs.Full.{full_of, full_on, least_full, lengths_differ, lesser, rank, record_length}
+use Rattle.ddf_assembly.specs.Trying.{AreCopies, CanBeHeldOn, CanTry, HaveLength}
+
+-- ---- one length
+
+lengths_same : (sectors : ℕ) (disks : List Seated) → list_all (λ other. eqb (record_length other) sectors) disks ≡ true → HaveLength sectors disks
+lengths_same sectors [] h = tt
+lengths_same sectors (disk ∷ disks) h =
+    let parts = and_parts (eqb (record_length disk) sectors) (list_all (λ other. eqb (record_length other) sectors) disks) h in
+    (eqb-true (record_length disk) sectors parts.0, lengths_same sectors disks parts.1)
+
+not_false : (b : Bool) → not b ≡ false → b ≡ true
+not_false true h = refl
+not_false false h = absurd (cc)
+
+pub one_length : (disk : Seated) (disks : List Seated) → lengths_differ (disk ∷ disks) ≡ false → HaveLength (record_length disk) (disk ∷ disks)
+one_length disk disks h = (refl, lengths_same (record_length disk) disks (not_false _ h))
+
+pub sound_of : (copy : DiskCopy) → CanBeCopy copy → IsSound copy.header.geometry
+sound_of copy is = sound copy.header.geometry is.header_can.is_header.has_geometry
+
+leaders_all : (geometry : Geometry) (disks : List Seated) → AreCopies disks → HaveLength geometry.record_length disks → AllByRecursion (IsLeader geometry) (map (λ (disk : Seated). disk.copy) disks)
+leaders_all geometry [] are same = tt
+leaders_all geometry (disk ∷ disks) are same = (record { is_copy = are.0; same_records = same.0 }, leaders_all geometry disks are.1 same.1)
+
+views_are : (disks : List Seated) → map view_of (map (λ (disk : Seated). disk.copy) disks) ≡ views_in disks
+views_are [] = refl
+views_are (disk ∷ disks) = ap (λ l. view_of disk.copy ∷ l) (views_are disks)
+
+-- Records of copies with one length can stand under a geometry with that length.
+pub held_under : (geometry : Geometry) (disks : List Seated) → IsSound geometry → AreCopies disks → HaveLength geometry.record_length disks → AreHeld geometry (before (views_in disks))
+held_under geometry disks is are same =
+    subst (λ (views : List View). AreHeld geometry (before views)) (views_are disks)
+    (leaders_held geometry (map (λ (disk : Seated). disk.copy) disks) is (leaders_all geometry disks are same))
+
+-- what one disk has, where all have one length
+pub own_length : (sectors : ℕ) (disks : List Seated) (disk : Seated) → HaveLength sectors disks → record_length disk ≡ sectors → HaveLength (record_length disk) disks
+own_length sectors disks disk same own = subst (λ (n : ℕ). HaveLength n disks) (sym own) same
+
+-- A change may be tried on each of them.
+pub can_try_all : (config : Configuration) (disks : List Seated) → AreCopies disks → lengths_differ disks ≡ false → CanBeHeldOn config disks
+    → AllByRecursion (CanTry (before (views_in disks)) config) disks
+can_try_all config [] are same held = tt
+can_try_all config (disk ∷ disks) are same held = each (disk ∷ disks) are one held
+  where
+    one : HaveLength (record_length disk) (disk ∷ disks)
+    one = one_length disk disks same
+
+    each : (some : List Seated) → AreCopies some → HaveLength (record_length disk) some
+        → AllByRecursion (λ (other : Seated). HaveLength (record_length other) (disk ∷ disks) → IsHoldable other.copy.header.geometry.max_members config) some
+        → AllByRecursion (CanTry (before (views_in (disk ∷ disks))) config) some
+    each [] are_copies lengths holds = tt
+    each (other ∷ others) are_copies lengths holds =
+        let here = own_length (record_length disk) (disk ∷ disks) other one lengths.0 in (
+          record {
+            is_copy = are_copies.0;
+            leaders_held = held_under other.copy.header.geometry (disk ∷ disks) (sound_of other.copy are_copies.0) are here;
+            holdable = holds.0 here;
+          },
+          each others are_copies.1 lengths.1 holds.1,
+        )
+
+-- ---- a full table
+
+lesser_none : (one other : Option FullTable) → lesser one other ≡ None → (one ≡ None) × (other ≡ None)
+lesser_none None other h = (refl, h)
+lesser_none (Some one) None h = absurd cc
+lesser_none (Some one) (Some other) h = by (nat_le (rank one) (rank other)) h
+  where
+    by : (b : Bool) → (if b then Some one else Some other) ≡ None → (Some one ≡ None) × (Some other ≡ None)
+    by true h = absurd cc
+    by false h = absurd cc
+
+-- no disk has a full table
+pub none_full : (leaders : Before) (config : Configuration) (timestamp : ℕ) (disks : List Seated) → least_full leaders config timestamp disks ≡ None
+    → AllByRecursion (λ disk. full_on leaders config timestamp disk ≡ None) disks
+unfolding least_full
+none_full leaders config timestamp disks h = (from None disks h).1
+  where
+    from : (least : Option FullTable) (some : List Seated) → fold (λ one disk. lesser one (full_on leaders config timestamp disk)) least some ≡ None
+        → (least ≡ None) × AllByRecursion (λ disk. full_on leaders config timestamp disk ≡ None) some
+    from least [] h = (h, tt)
+    from least (disk ∷ some) h =
+        let rest = from (lesser least (full_on leaders config timestamp disk)) some h in
+        let both = lesser_none least (full_on leaders config timestamp disk) rest.0 in
+        (both.0, (both.1, rest.1))
+
+-- Nothing is full: the records have one length, and no disk has a full table.
+pub record HasRoom (timestamp : ℕ) (config : Configuration) (disks : List Seated) : Type 0 where
+  pub same : lengths_differ disks ≡ false
+  pub none : AllByRecursion (λ disk. full_on (before (views_in disks)) config timestamp disk ≡ None) disks
+
+pub has_room : (timestamp : ℕ) (config : Configuration) (disks : List Seated) → full_of timestamp config disks ≡ None → HasRoom timestamp config disks
+unfolding full_of
+has_room timestamp config disks h = by (lengths_differ disks) refl h
+  where
+    by : (b : Bool) → lengths_differ disks ≡ b → (if b then Some Records else least_full (before (views_in disks)) config timestamp disks) ≡ None → HasRoom timestamp config disks
+    by true e h = absurd cc
+    by false e h = record { same = e; none = none_full (before (views_in disks)) config timestamp disks h }

@@ -1,0 +1,31 @@
+use Rattle.std.proofs.Common.{◌≡◌, List, None, sym, ap, subst, ◌∙◌}
+use Rattle.std.specs.List.{AllByRecursion}
+use Rattle.ddf_config.specs.Configuration.{Configuration}
+use Rattle.ddf_view.specs.View.{View}
+use Rattle.ddf_rewrite.specs.Before.{before}
+use Rattle.ddf_assembly.specs.declared.seated.Seated.{Seated}
+use Rattle.ddf_assembly.specs.Full.{full_on}
+use Rattle.ddf_assembly.specs.Trying.{CanTry}
+use Rattle.ddf_assembly.proofs.OneLength.{can_try_all}
+use Rattle.ddf_assembly.proofs.Following.{copies_are, room_for, step_follows}
+use Rattle.ddf_assembly.proofs.trying.step_with_room.Goals as goal
+
+pub room_refusal-requires-clause-copies : goal.room_refusal-requires-clause-copies
+room_refusal-requires-clause-copies c = copies_are c.args.config.now c.args.disks.now c.requires.changed.of_group
+
+pub make_step-requires-clause-can : goal.make_step-requires-clause-can
+make_step-requires-clause-can c =
+    let room = room_for c.args.timestamp c.args.config.now c.args.next c.args.disks.now c.args.change.now c.requires.next (sym c.in_ok-refusal.ensures ∙ c.in_default.is) in
+    subst (λ (views : List View). AllByRecursion (CanTry (before views) c.args.next) c.args.disks.now) (sym (c.deref-2.ensures.value ∙ c.in_ok-leaders.ensures))
+    (can_try_all c.args.next c.args.disks.now (copies_are c.args.config.now c.args.disks.now c.requires.changed.of_group) room.same c.requires.held)
+
+pub make_step-requires-clause-room : goal.make_step-requires-clause-room
+make_step-requires-clause-room c =
+    let room = room_for c.args.timestamp c.args.config.now c.args.next c.args.disks.now c.args.change.now c.requires.next (sym c.in_ok-refusal.ensures ∙ c.in_default.is) in
+    subst (λ (views : List View). AllByRecursion (λ (disk : Seated). full_on (before views) c.args.next c.args.timestamp disk ≡ None) c.args.disks.now) (sym (c.deref-2.ensures.value ∙ c.in_ok-leaders.ensures)) room.none
+
+pub returns-clause-follows : goal.returns-clause-follows
+returns-clause-follows c =
+    let room = room_for c.args.timestamp c.args.config.now c.args.next c.args.disks.now c.args.change.now c.requires.next (sym c.in_ok-refusal.ensures ∙ c.in_default.is) in
+    step_follows c.args.timestamp c.ranges.timestamp.fits c.args.config.now c.args.next c.args.disks.now (ap (λ (config : Configuration). config.group) c.requires.next) c.requires.changed c.requires.held room
+    c.in_ok-step.step c.in_ok-step.ensures.step c.in_ok-step.ensures.prepared

@@ -1,0 +1,45 @@
+-- What one change of a group makes of its configuration and of the copies of its disks (profile).
+use Rattle.std.specs.Prelude.{ℕ, ◌+◌, Bool, List, map, filter, min}
+use Rattle.ddf_copy.specs.declared.which.Which.TheVariants.{Primary, Secondary}
+use Rattle.ddf_copy.specs.Headers.{written_as}
+use Rattle.ddf_config.specs.Configuration.{Configuration}
+use Rattle.ddf_config.specs.Members.{is_current}
+use Rattle.ddf_plan.specs.declared.change.Change.{Change}
+use Rattle.ddf_plan.specs.Refusals.{greatest_sequence}
+use Rattle.ddf_plan.specs.Changes.{changed_at, steps_of}
+use Rattle.ddf_rewrite.specs.Before.{Before, before}
+use Rattle.ddf_rewrite.specs.Copies.{changed_copy}
+use Rattle.ddf_assembly.specs.declared.seated.Seated.{Seated}
+use Rattle.ddf_assembly.specs.Seated.{views_in}
+
+-- The configuration after a change, and each disk that it writes, with the copy that the disk gets.
+pub record Step : Type 0 where
+  pub config : Configuration
+  pub disks : List Seated
+
+-- The sequence number after so many steps. One past the greatest counts as the number behind the greatest: no copy gets it.
+abbrev pub raised : (sequence steps : ℕ) → ℕ
+raised sequence steps = min (sequence + steps) (greatest_sequence + 1)
+
+abbrev pub config_after : Configuration → Change → Configuration
+config_after config change = changed_at config change (raised config.sequence (steps_of change))
+
+-- A disk with the copy that a change gives it, as its primary place has it. The leaders are those before the change.
+abbrev pub rewritten : Before → Configuration → (timestamp : ℕ) → Seated → Seated
+rewritten leaders config timestamp disk = record disk { copy = written_as (changed_copy disk.copy leaders config timestamp) Primary }
+
+-- its disk is a current member
+abbrev pub stays_in : Configuration → Seated → Bool
+stays_in config disk = is_current config.members disk.seat.reference
+
+-- the disks of current members, with the copies that a change to this configuration gives them
+unfoldable pub disks_after : (timestamp : ℕ) → Configuration → List Seated → List Seated
+disks_after timestamp config disks = map (rewritten (before (views_in disks)) config timestamp) (filter (stays_in config) disks)
+
+abbrev pub step_of : (timestamp : ℕ) → Configuration → List Seated → Change → Step
+step_of timestamp config disks change =
+    record { config = config_after config change; disks = disks_after timestamp (config_after config change) disks }
+
+-- a disk that was written has its copy in both places
+abbrev pub levelled : Seated → Seated
+levelled disk = record disk { last = Secondary }

@@ -1,0 +1,84 @@
+-- What holds of disks whose copies a change may be tried on, and of those that it gives.
+use Rattle.std.specs.Prelude.{◌≡◌, ℕ, ◌<◌, List, [], ◌∷◌, length, map, slice_get, slice_index, Some}
+use Rattle.std.specs.List.{AllByRecursion}
+use Rattle.ddf_header.specs.declared.reading.Header.{Header}
+use Rattle.ddf_copy.specs.Headers.{IsUnder}
+use Rattle.ddf_copy.specs.Written.{CanBeCopy}
+use Rattle.ddf_config.specs.declared.seat.Seat.{Seat}
+use Rattle.ddf_config.specs.Configuration.{Configuration}
+use Rattle.ddf_rewrite.specs.Before.{Before}
+use Rattle.ddf_rewrite.specs.Hold.{AreHeld, IsHoldable}
+use Rattle.ddf_update.specs.declared.prepared.Mode.TheVariants.{Change}
+use Rattle.ddf_update.specs.declared.prepared.Prepared.{Prepared}
+use Rattle.ddf_update.specs.Prepared.{IsPrepared}
+use Rattle.ddf_assembly.specs.declared.seated.Seated.{Seated}
+use Rattle.ddf_assembly.specs.Full.{record_length}
+use Rattle.ddf_assembly.specs.Seated.{seats_in}
+use Rattle.ddf_assembly.specs.Steps.{levelled}
+use Rattle.ddf_assembly.specs.Ready.{ReadyStep}
+
+-- The copy of each disk can be written.
+abbrev pub AreCopies : List Seated → Type 0
+AreCopies disks = AllByRecursion (λ disk. CanBeCopy disk.copy) disks
+
+-- A copy, the leaders' records and a configuration fit the records of a disk.
+pub record CanTry (leaders : Before) (config : Configuration) (disk : Seated) : Type 0 where
+  pub is_copy : CanBeCopy disk.copy
+  pub leaders_held : AreHeld disk.copy.header.geometry leaders
+  pub holdable : IsHoldable disk.copy.header.geometry.max_members config
+
+-- A disk's copy can be written, and it is of this group.
+pub record IsOfGroup (config : Configuration) (disk : Seated) : Type 0 where
+  pub is_copy : CanBeCopy disk.copy
+  pub same_group : disk.copy.header.guid ≡ config.group
+
+-- The records of all disks have this length.
+abbrev pub HaveLength : (sectors : ℕ) → List Seated → Type 0
+HaveLength sectors disks = AllByRecursion (λ disk. record_length disk ≡ sectors) disks
+
+-- Where the records of these disks have one length, a copy of each can hold the configuration.
+abbrev pub CanBeHeldOn : Configuration → List Seated → Type 0
+CanBeHeldOn config disks = AllByRecursion (λ disk. HaveLength (record_length disk) disks → IsHoldable disk.copy.header.geometry.max_members config) disks
+
+-- Changes of this configuration may be tried on these disks.
+pub record CanBeChanged (config : Configuration) (disks : List Seated) : Type 0 where
+  pub of_group : AllByRecursion (IsOfGroup config) disks
+  pub can_hold : CanBeHeldOn config disks
+
+-- The copies of the disks in a slot can stand on it, under an anchor.
+abbrev pub StandOn : (slot size : ℕ) → Header → List Seated → Type 0
+StandOn slot size anchor disks = AllByRecursion (λ disk. disk.seat.slot ≡ slot → IsUnder size anchor disk.copy) disks
+
+-- An update for each disk, which writes its copy.
+pub record ArePrepared (disks : List Seated) (updates : List Prepared) : Type 0 where
+  pub counted : length updates ≡ length disks
+  pub each : (place : ℕ) (disk : Seated) (update : Prepared) → slice_get disks place ≡ Some disk → slice_get updates place ≡ Some update → IsPrepared disk.copy disk.last Change update
+
+-- ---- slots
+
+-- the slots of seats rise
+abbrev pub SlotsRise : List Seat → Type 0
+SlotsRise [] = Unit {0}
+SlotsRise (seat ∷ seats) = AllByRecursion (λ other. seat.slot < other.slot) seats × SlotsRise seats
+
+-- A disk's slot is one of these sizes, and its copy can stand there.
+pub record HasPlace (sizes : List ℕ) (disk : Seated) : Type 0 where
+  pub there : disk.seat.slot < length sizes
+  pub anchor : Header
+  pub under : IsUnder (slice_index sizes disk.seat.slot) anchor disk.copy
+
+-- ---- a step
+
+-- What holds of the disks of a step, by what holds of those before it: further changes may be tried on them, each has its update, they are
+-- in the same order, and each copy can stand where the one before it can.
+pub record Follows (disks : List Seated) (one : ReadyStep) : Type 0 where
+  pub can_be_changed : CanBeChanged one.step.config one.step.disks
+  pub are_prepared : ArePrepared one.step.disks one.updates
+  pub slots_rise : SlotsRise (seats_in disks) → SlotsRise (seats_in one.step.disks)
+  pub have_places : (sizes : List ℕ) → AllByRecursion (HasPlace sizes) disks → AllByRecursion (HasPlace sizes) one.step.disks
+  pub stand_on : (slot size : ℕ) (anchor : Header) → StandOn slot size anchor disks → StandOn slot size anchor one.step.disks
+
+-- each step follows on the one before it
+abbrev pub AreFollowing : List Seated → List ReadyStep → Type 0
+AreFollowing disks [] = Unit {0}
+AreFollowing disks (one ∷ others) = Follows disks one × AreFollowing (map levelled one.step.disks) others

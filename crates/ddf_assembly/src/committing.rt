@@ -1,0 +1,158 @@
+//! The steps of a group, written to its disks one after another.
+ghost use Rattle.std.specs.Prelude.{◌≡◌, ◌<◌, ℕ, [], ◌∷◌, fold, length, MatchOption, OnErr, OnOk, IfErr};
+ghost use Rattle.ddf_bytes.specs.Counts.{Rose};
+ghost use Rattle.ddf_bay.specs.Sectors.{IsLeft};
+ghost use Rattle.ddf_bay.specs.Moments.{IsSettled, Keeps, SpendsOver, SpendsWrites, StopsLeave};
+ghost use Rattle.ddf_update.specs.Changes.{AreChanged, IsLeftChangingAll, MayChangeAll, SlotChange};
+ghost use Rattle.ddf_update.specs.Group.{IsOneOf, LieOnSlots};
+ghost use Rattle.ddf_update.specs.Prepared.{all_calls, all_sectors};
+ghost use Rattle.ddf_assembly.specs.Ready.{group_after, with_level};
+ghost use Rattle.ddf_assembly.specs.Seated.{slots_in};
+ghost use Rattle.ddf_assembly.specs.Committed.{AreSettled, HaveSlots, group_next, left_behind, next_slots, next_updates, slots_of};
+
+use crate::Group;
+use crate::ready::Ready;
+use crate::seated::Seated;
+use crate::steps::Step;
+use ddf_bay::{Bay, DiskFault};
+use ddf_config::Seat;
+use ddf_copy::Newest;
+use ddf_update::write_disks;
+
+impl Group {
+    /// Syncs the disk of each seat, so that nothing that an earlier call wrote is pending there. It takes no memory.
+    ///
+    /// # Errors
+    /// A sync of the disk of a seat failed: those of the seats behind it aren't synced.
+    pub fn recover<B: Bay>(&self, bay: &mut B) -> Result<(), DiskFault>
+        requires slots { HaveSlots (B.disks bay.old).sizes self.now.seats }
+
+        // A stop then leaves of the seats' slots what they hold.
+        ensures settled { B.tells → OnOk result (AreSettled (B.disks bay.new) self.now.seats (length self.now.seats)) }
+
+        // Nothing is written, and a stop leaves at any moment what it might have left before.
+        ensures held { (B.disks bay.new).held ≡ (B.disks bay.old).held }
+        ensures left { Keeps (B.disks bay.old).may_hold (B.disks bay.new).may_hold }
+        ensures any_moment { StopsLeave (B.disks bay.old) (B.disks bay.new) (IsLeft (B.disks bay.old).may_hold) }
+        ensures reads { (B.disks bay.new).failed_reads ≡ (B.disks bay.old).failed_reads }
+        ensures spends { SpendsOver (B.disks bay.old) (B.disks bay.new) 0 (length self.now.seats) }
+        ensures ok { OnOk result ((B.disks bay.new).failed_writes ≡ (B.disks bay.old).failed_writes) }
+        ensures failed { IfErr result (λ e. IsOneOf (slots_of self.now.seats) e.0 × Rose ((B.disks bay.old).failed_writes e.0) ((B.disks bay.new).failed_writes e.0)) }
+    {
+        sync_seats(bay, self.seats.items())
+    }
+
+    /// Writes the next step, disk by disk in the order of their slots, and makes the group what it is then. The step is then no
+    /// longer ready, also after an error. Where no step is left nothing is written. It takes no memory.
+    ///
+    /// # Errors
+    /// A write or a sync of a disk of the step failed: the group stays as it was.
+    pub fn commit<B: Bay>(&mut self, bay: &mut B, ready: &mut Ready) -> Result<(), DiskFault>
+        requires { LieOnSlots (B.disks bay.old).sizes (next_slots ready.old) (next_updates ready.old) }
+        ensures group { OnOk result (self.new ≡ group_next self.old ready.old) }
+        ensures kept { OnErr result (self.new ≡ self.old) }
+        ensures left { ready.new ≡ left_behind ready.old }
+
+        // From entry to exit a stop leaves each slot with its old or its new copy, and one of them at most partly written.
+        ensures any_moment { B.tells → (seat : ℕ → SlotChange) → MayChangeAll (B.disks bay.old) (next_slots ready.old) seat (next_updates ready.old)
+            → StopsLeave (B.disks bay.old) (B.disks bay.new) (IsLeftChangingAll (B.disks bay.old) (next_slots ready.old) seat (next_updates ready.old)) }
+        ensures changed { B.tells → (seat : ℕ → SlotChange) → MayChangeAll (B.disks bay.old) (next_slots ready.old) seat (next_updates ready.old)
+            → OnOk result (AreChanged (B.disks bay.old) (B.disks bay.new) (next_slots ready.old) seat (next_updates ready.old) (length (next_slots ready.old))) }
+        ensures reads { (B.disks bay.new).failed_reads ≡ (B.disks bay.old).failed_reads }
+        ensures spends { SpendsOver (B.disks bay.old) (B.disks bay.new) (all_sectors (next_updates ready.old)) (all_calls (next_updates ready.old)) }
+        ensures ok { OnOk result ((B.disks bay.new).failed_writes ≡ (B.disks bay.old).failed_writes) }
+        ensures failed { IfErr result (λ e. IsOneOf (next_slots ready.old) e.0 × Rose ((B.disks bay.old).failed_writes e.0) ((B.disks bay.new).failed_writes e.0)) }
+    {
+        match ready.take_next() {
+            Some(step) => {
+                write_step(bay, &step)?;
+                self.advance(step);
+                Ok(())
+            }
+            None => Ok(()),
+        }
+    }
+
+    /// Makes the group what it is once a step was written.
+    fn advance(&mut self, step: Step)
+        ensures { self.new ≡ group_after self.old step.step }
+    {
+        self.config = step.config;
+        self.seats = step.seats;
+        level_all(&mut self.newest, step.disks);
+    }
+}
+
+impl Ready {
+    /// Takes the next step.
+    fn take_next(&mut self) -> Option<Step>
+        ensures left { self.new ≡ left_behind self.old }
+        ensures next { MatchOption result (self.old.steps ≡ []) (λ step. self.old.steps ≡ step ∷ self.new.steps) }
+    {
+        self.steps.pop()
+    }
+}
+
+/// Writes the disks of a step.
+fn write_step<B: Bay>(bay: &mut B, step: &Step) -> Result<(), DiskFault>
+    requires { LieOnSlots (B.disks bay.old).sizes (slots_in step.now.step.disks) step.now.updates }
+    ensures any_moment { B.tells → (seat : ℕ → SlotChange) → MayChangeAll (B.disks bay.old) (slots_in step.now.step.disks) seat step.now.updates
+        → StopsLeave (B.disks bay.old) (B.disks bay.new) (IsLeftChangingAll (B.disks bay.old) (slots_in step.now.step.disks) seat step.now.updates) }
+    ensures changed { B.tells → (seat : ℕ → SlotChange) → MayChangeAll (B.disks bay.old) (slots_in step.now.step.disks) seat step.now.updates
+        → OnOk result (AreChanged (B.disks bay.old) (B.disks bay.new) (slots_in step.now.step.disks) seat step.now.updates (length (slots_in step.now.step.disks))) }
+    ensures reads { (B.disks bay.new).failed_reads ≡ (B.disks bay.old).failed_reads }
+    ensures spends { SpendsOver (B.disks bay.old) (B.disks bay.new) (all_sectors step.now.updates) (all_calls step.now.updates) }
+    ensures ok { OnOk result ((B.disks bay.new).failed_writes ≡ (B.disks bay.old).failed_writes) }
+    ensures failed { IfErr result (λ e. IsOneOf (slots_in step.now.step.disks) e.0 × Rose ((B.disks bay.old).failed_writes e.0) ((B.disks bay.new).failed_writes e.0)) }
+{
+    write_disks(bay, &step.slots, &step.updates)
+}
+
+/// Syncs a slot.
+fn sync_slot<B: Bay>(bay: &mut B, slot: usize) -> Result<(), DiskFault>
+    requires { slot < length (B.disks bay.old).sizes }
+    ensures durable { OnOk result (IsSettled (B.disks bay.new).may_hold (B.disks bay.new).held slot) }
+    ensures held { (B.disks bay.new).held ≡ (B.disks bay.old).held }
+    ensures left { Keeps (B.disks bay.old).may_hold (B.disks bay.new).may_hold }
+    ensures any_moment { StopsLeave (B.disks bay.old) (B.disks bay.new) (IsLeft (B.disks bay.old).may_hold) }
+    ensures spends { SpendsWrites (B.disks bay.old) (B.disks bay.new) slot 0 1 }
+    ensures ok { OnOk result ((B.disks bay.new).failed_writes ≡ (B.disks bay.old).failed_writes) }
+    ensures failed { IfErr result (λ e. (e.0 ≡ slot) × Rose ((B.disks bay.old).failed_writes slot) ((B.disks bay.new).failed_writes slot)) }
+{
+    bay.sync(slot).map_err(|_| DiskFault(slot))
+}
+
+/// Syncs the slots of these seats, one after another.
+fn sync_seats<B: Bay>(bay: &mut B, seats: &[Seat]) -> Result<(), DiskFault>
+    requires { HaveSlots (B.disks bay.old).sizes seats.now }
+    ensures settled { OnOk result (AreSettled (B.disks bay.new) seats.now (length seats.now)) }
+    ensures held { (B.disks bay.new).held ≡ (B.disks bay.old).held }
+    ensures left { Keeps (B.disks bay.old).may_hold (B.disks bay.new).may_hold }
+    ensures any_moment { StopsLeave (B.disks bay.old) (B.disks bay.new) (IsLeft (B.disks bay.old).may_hold) }
+    ensures reads { (B.disks bay.new).failed_reads ≡ (B.disks bay.old).failed_reads }
+    ensures spends { SpendsOver (B.disks bay.old) (B.disks bay.new) 0 (length seats.now) }
+    ensures ok { OnOk result ((B.disks bay.new).failed_writes ≡ (B.disks bay.old).failed_writes) }
+    ensures failed { IfErr result (λ e. IsOneOf (slots_of seats.now) e.0 × Rose ((B.disks bay.old).failed_writes e.0) ((B.disks bay.new).failed_writes e.0)) }
+{
+    for seat in seats {
+        sync_slot(bay, seat.slot)?;
+    }
+    Ok(())
+}
+
+/// The newest copies of the slots once these disks have their copies in both places.
+fn level_all(newest: &mut Vec<Option<Newest>>, disks: Vec<Seated>)
+    ensures { newest.new.items ≡ fold with_level newest.old.items disks.items }
+{
+    for disk in disks {
+        level_one(newest, disk);
+    }
+}
+
+fn level_one(newest: &mut Vec<Option<Newest>>, disk: Seated)
+    ensures { newest.new.items ≡ with_level newest.old.items disk }
+{
+    if let Some(one) = newest.get_mut(disk.seat.slot) {
+        *one = Some(Newest::Level(disk.copy));
+    }
+}

@@ -1,0 +1,120 @@
+//! Which table of a group's disks has no room for what a change gives them.
+ghost use Rattle.std.specs.Prelude.{◌≡◌, ◌==◌, IfOk};
+ghost use Rattle.std.specs.List.{AllByRecursion, list_all};
+ghost use Rattle.ddf_rewrite.specs.Before.{before};
+ghost use Rattle.ddf_assembly.specs.Seated.{views_in};
+ghost use Rattle.ddf_assembly.specs.Full.{full_of, full_on, least_full, lengths_differ, lesser, rank, record_length};
+ghost use Rattle.ddf_assembly.specs.Trying.{AreCopies, CanBeHeldOn, CanTry};
+
+use crate::seated::Disk;
+use ddf_bytes::NoMemory;
+use ddf_config::{Config, FullTable};
+use ddf_rewrite::full_after_change;
+use ddf_view::View;
+use std::alloc::Global;
+
+/// The place of a table in the order in which they are told.
+fn rank(table: FullTable) -> u8
+    ensures { result ≡ rank table }
+{
+    match table {
+        FullTable::Disks => 0,
+        FullTable::Arrays => 1,
+        FullTable::Records => 2,
+        FullTable::Notes => 3,
+        FullTable::Spares => 4,
+    }
+}
+
+fn lesser(one: Option<FullTable>, other: Option<FullTable>) -> Option<FullTable>
+    ensures { result ≡ lesser one other }
+{
+    match (one, other) {
+        (Some(first), Some(second)) => {
+            if rank(first) <= rank(second) {
+                Some(first)
+            } else {
+                Some(second)
+            }
+        }
+        (Some(first), None) => Some(first),
+        (None, other) => other,
+    }
+}
+
+fn record_length(disk: &Disk) -> u16
+    ensures { result ≡ record_length disk.now }
+{
+    disk.copy.header.geometry.record_length
+}
+
+fn all_have_length(disks: &[Disk], length: u16) -> bool
+    ensures { result ≡ list_all (λ other. record_length other == length) disks.now }
+{
+    disks.iter().all(|other| record_length(other) == length)
+}
+
+/// Whether the records of two disks have different lengths.
+fn lengths_differ(disks: &[Disk]) -> bool
+    ensures { result ≡ lengths_differ disks.now }
+{
+    match disks.split_first() {
+        Some((first, others)) => !all_have_length(others, record_length(first)),
+        None => false,
+    }
+}
+
+fn full_on(
+    alloc: Global,
+    disk: &Disk,
+    leaders: &[View],
+    config: &Config,
+    timestamp: u32,
+) -> Result<Option<FullTable>, NoMemory>
+    requires { CanTry (before leaders.now) config.now disk.now }
+    ensures { IfOk result (λ full. full ≡ full_on (before leaders.now) config.now timestamp disk.now) }
+{
+    full_after_change(alloc, disk.copy, leaders, config, timestamp)
+}
+
+/// The least table that is full on some disk.
+fn least_full(
+    alloc: Global,
+    disks: &[Disk],
+    leaders: &[View],
+    config: &Config,
+    timestamp: u32,
+) -> Result<Option<FullTable>, NoMemory>
+    requires { AllByRecursion (CanTry (before leaders.now) config.now) disks.now }
+    ensures { IfOk result (λ least. least ≡ least_full (before leaders.now) config.now timestamp disks.now) }
+{
+    let mut least = None;
+    for disk in disks {
+        least = lesser(least, full_on(alloc, disk, leaders, config, timestamp)?);
+    }
+    Ok(least)
+}
+
+/// The first table that has no room for what a change to this configuration gives the disks: the records, where those of two disks
+/// have different lengths, and else the least one that is full on some disk. The leaders are what the copies of the disks say.
+///
+/// # Errors
+/// Memory ran out.
+#[tactic(auto, unfolding(crate::specs::Full::full_of))]
+pub(crate) fn full_of(
+    alloc: Global,
+    disks: &[Disk],
+    leaders: &[View],
+    config: &Config,
+    timestamp: u32,
+) -> Result<Option<FullTable>, NoMemory>
+    requires leaders { leaders.now ≡ views_in disks.now }
+    requires copies { AreCopies disks.now }
+    requires held { CanBeHeldOn config.now disks.now }
+    ensures { IfOk result (λ full. full ≡ full_of timestamp config.now disks.now) }
+{
+    if lengths_differ(disks) {
+        return Ok(Some(FullTable::Records));
+    }
+    least_full(alloc, disks, leaders, config, timestamp)
+}

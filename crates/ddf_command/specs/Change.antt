@@ -1,0 +1,104 @@
+-- What a command that changes a group does, and how it ends.
+use Rattle.std.specs.Prelude.{◌≡◌, ◌⊎◌, ℕ, ◌<◌, Bool, false, List, [], ◌∷◌, length, Option, Result, Ok, Err, IsTrue, slice_index_or, if◌then◌else◌}
+use Rattle.ddf_bytes.specs.Counts.{Rose}
+use Rattle.ddf_bay.specs.ReadsOnly.{LookFailed, ReadsOnly}
+use Rattle.ddf_copy.specs.declared.newest_copy.Newest.{Newest}
+use Rattle.ddf_config.specs.declared.refusal.Refusal.{Refusal}
+use Rattle.ddf_config.specs.declared.refusal.Refusal.TheVariants.{Unsettled}
+use Rattle.ddf_plan.specs.declared.change.Change.{Change}
+use Rattle.ddf_group.specs.declared.answer.Assembly.{Assembly}
+use Rattle.ddf_assembly.specs.declared.fault.GroupFault.{GroupFault}
+use Rattle.ddf_update.specs.Group.{IsOneOf}
+use Rattle.ddf_assembly.specs.Committed.{AreSettled, slots_of}
+use Rattle.ddf_assembly.specs.Group.{GroupValue, group_of}
+use Rattle.ddf_assembly.specs.Ready.{readied}
+use Rattle.ddf_assembly.specs.Slots.{newest_from}
+use Rattle.ddf_assembly.specs.Steps.{Step}
+use Rattle.ddf_text.specs.Done.{sequence_line}
+use Rattle.ddf_command.specs.declared.failure.Failure.{Failure}
+use Rattle.ddf_command.specs.declared.failure.Failure.TheVariants.{Conflict, Disk, Memory, Refused, Split}
+use Rattle.ddf_command.specs.Answers.{IsToldFailure, failure_of, failure_of_group}
+use Rattle.ddf_command.specs.Assemble.{is_settled}
+use Rattle.ddf_command.specs.Call.{Answer, Work}
+use Rattle.ddf_command.specs.Tells.{ClosesWith}
+use Rattle.ddf_command.specs.Written.{AreWritten}
+
+-- ---- what is asked of a group
+
+-- the change that a command asks of a group, or why there is none
+abbrev pub Request : Type 0
+Request = GroupValue → Result Change Refusal
+
+abbrev pub steps_or : Result (List Step) GroupFault → Result (List Step) Failure
+steps_or (Ok steps) = Ok steps
+steps_or (Err fault) = Err (failure_of_group fault)
+
+abbrev pub steps_asked : GroupValue → (timestamp : ℕ) → Result Change Refusal → Result (List Step) Failure
+steps_asked group timestamp (Ok change) = steps_or (readied group (change ∷ []) timestamp)
+steps_asked group timestamp (Err refusal) = Err (Refused refusal)
+
+-- In order: the group is settled; there is what the words ask for; the change isn't refused.
+abbrev pub steps_of : GroupValue → (timestamp : ℕ) → Request → Result (List Step) Failure
+steps_of group timestamp request = if is_settled group then steps_asked group timestamp (request group) else Err (Refused Unsettled)
+
+-- the sequence number behind these steps
+abbrev pub last_sequence : (sequence : ℕ) → List Step → ℕ
+last_sequence sequence [] = sequence
+last_sequence sequence (step ∷ steps) = last_sequence step.config.sequence steps
+
+-- ---- what came of it
+
+-- The steps that were asked for were written, and this is the group's sequence number behind them.
+pub record IsDoneTo {D : Type 0} (work : Work D) (group : GroupValue) (asked : Result (List Step) Failure) (sequence : ℕ) : Type 0 where
+  pub steps : List Step
+  pub are_asked : asked ≡ Ok steps
+  pub is_last : sequence ≡ last_sequence group.config.sequence steps
+  pub are_written : work.tells → AreWritten work.old work.new steps
+  -- without a step no sector was asked to be written
+  pub none_asked : steps ≡ [] → work.new.sectors_asked ≡ work.old.sectors_asked
+  -- a stop leaves of the seats' slots what they hold
+  pub are_settled : work.tells → AreSettled work.new group.seats (length group.seats)
+
+-- A write or a sync of the slot of a seat failed.
+pub record IsFaultOn {D : Type 0} (work : Work D) (group : GroupValue) (asked : Result (List Step) Failure) (slot : ℕ) : Type 0 where
+  pub steps : List Step
+  pub are_asked : asked ≡ Ok steps
+  pub is_seat : IsOneOf (slots_of group.seats) slot
+  pub there : slot < length work.old.sizes
+  pub rose : Rose (work.old.failed_writes slot) (work.new.failed_writes slot)
+
+-- What came of a group, by the steps that are asked of it: they were written; it was refused, or memory ran out, and nothing was
+-- written; or a write or a sync failed.
+abbrev pub IsChanged : {D : Type 0} → Work D → GroupValue → Result (List Step) Failure → Result ℕ Failure → Type 0
+IsChanged work group asked (Ok sequence) = IsDoneTo work group asked sequence
+IsChanged work group asked (Err (Refused refusal)) = (asked ≡ Err (Refused refusal)) × ReadsOnly work.old work.new
+IsChanged work group asked (Err (Disk slot)) = IsFaultOn work group asked slot
+IsChanged work group asked (Err Memory) = ReadsOnly work.old work.new
+IsChanged work group asked (Err (Conflict i j sequence differ)) = ⊥
+IsChanged work group asked (Err (Split i j)) = ⊥
+
+abbrev pub IsChangedIn : {D : Type 0} → Work D → (timestamp : ℕ) → Request → Result GroupValue Assembly → Result ℕ Failure → Type 0
+IsChangedIn work timestamp request (Ok group) outcome = IsChanged work group (steps_of group timestamp request) outcome
+IsChangedIn work timestamp request (Err fault) outcome =
+    ((outcome ≡ Err (failure_of fault)) ⊎ (outcome ≡ Err Memory)) × ReadsOnly work.old work.new
+
+-- A call came to this: what it made of the group that the newest copies of the slots give that aren't left out. A slot is left out
+-- only where a call of this call failed on it.
+pub record HasChanged {D : Type 0} (work : Work D) (named : Option (List ℕ)) (timestamp : ℕ) (request : Request) (outcome : Result ℕ Failure) : Type 0 where
+  pub left : List Bool
+  pub every_slot : length left ≡ length work.old.sizes
+  pub failed : (slot : ℕ) → slot < length left → IsTrue (slice_index_or left slot false) → LookFailed work.old work.new slot
+  pub newest : List (Option Newest)
+  pub read : work.tells → newest ≡ newest_from work.old 0 left
+  pub gives : IsChangedIn work timestamp request (group_of newest named) outcome
+
+-- what is told of it, and with which status: once a disk was written no memory is taken
+abbrev pub IsToldChange : Result ℕ Failure → Answer → Type 0
+IsToldChange (Ok sequence) answer = ClosesWith 0 (sequence_line sequence) answer
+IsToldChange (Err failure) answer = IsToldFailure failure answer
+
+-- It came to this, and said so.
+pub record IsChangeDone {D : Type 0} (work : Work D) (named : Option (List ℕ)) (timestamp : ℕ) (request : Request) (answer : Answer) : Type 0 where
+  pub outcome : Result ℕ Failure
+  pub has : HasChanged work named timestamp request outcome
+  pub ends : IsToldChange outcome answer

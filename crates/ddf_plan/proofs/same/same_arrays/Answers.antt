@@ -1,0 +1,9 @@
+use Rattle.std.proofs.Common.{◌≡◌, ◌∙◌, length}
+use Rattle.ddf_plan.specs.Same.{same_array}
+use Rattle.ddf_plan.proofs.Zips.{zip_matches}
+use Rattle.ddf_plan.proofs.same.same_arrays.Goals as goal
+
+pub returns-then-len : goal.returns-then-len
+returns-then-len c =
+    let lengths : length c.args.one.now.entries ≡ length c.args.other.now.entries = cc in
+    c.each_same_array.ensures ∙ zip_matches same_array c.args.one.now.entries c.args.other.now.entries lengths

@@ -1,0 +1,4 @@
+pub mod Named
+pub mod Slots
+pub mod NewArray
+pub mod Request

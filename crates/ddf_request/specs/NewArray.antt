@@ -1,0 +1,101 @@
+-- The array that `create` asks for.
+use Rattle.std.specs.Prelude.{ℕ, ◌+◌, ◌≤◌, Bool, true, not, ◌==◌, nat_lt, List, [], ◌∷◌, ◌++◌, find, length, map, min, replicate, take, Option, Some, None, unwrap_or, if◌then◌else◌}
+use Rattle.std.specs.List.{AllByRecursion, list_any, flat_map, range_with_len}
+use Rattle.ddf_bytes.specs.declared.stamp.Stamp.{Stamp}
+use Rattle.ddf_bytes.specs.declared.guid.GuidKind.TheVariants as kinds
+use Rattle.ddf_bytes.specs.Guids.{new_guid_bytes}
+use Rattle.ddf_config.specs.declared.element.Position.{Position}
+use Rattle.ddf_config.specs.declared.array.Array.{Array}
+use Rattle.ddf_config.specs.declared.seat.Seat.{Seat}
+use Rattle.ddf_config.specs.declared.refusal.Refusal.{Refusal}
+use Rattle.ddf_config.specs.declared.refusal.Refusal.TheVariants.{NameTaken, Shape}
+use Rattle.ddf_config.specs.Configuration.{Configuration}
+use Rattle.ddf_config.specs.ElementValue.{ElementValue}
+use Rattle.ddf_config.specs.Levels.{unserved_level}
+use Rattle.ddf_config.specs.Refusals.{first_refusal, refuse_if}
+use Rattle.ddf_plan.specs.CreateRefusal.{has_named}
+use Rattle.ddf_plan.specs.Refusals.{greatest_sequence}
+use Rattle.ddf_words.specs.declared.command.CreateElement.{CreateElement}
+use Rattle.ddf_request.specs.Slots.{reference_on}
+
+-- The words for it.
+pub record Creation : Type 0 where
+  pub name : List ℕ
+  pub level : ℕ
+  pub qualifier : ℕ
+  pub code : ℕ
+  pub secondary : Option ℕ
+  pub elements : List CreateElement
+
+-- A name has at most 16 bytes, and an element at most 64 members.
+pub record IsCreation (creation : Creation) : Type 0 where
+  pub short : length creation.name ≤ 16
+  pub few : AllByRecursion (λ (element : CreateElement). length element.slots ≤ 64) creation.elements
+
+-- ---- its GUID and its name
+
+-- the sequence number of the change that creates it; past the greatest, where it is refused, the number behind the greatest
+abbrev pub next_sequence : (sequence : ℕ) → ℕ
+next_sequence sequence = min (sequence + 1) (greatest_sequence + 1)
+
+abbrev pub new_array_guid : Configuration → Stamp → List ℕ
+new_array_guid config stamp = new_guid_bytes kinds.Array stamp (next_sequence config.sequence)
+
+-- a name of 16 bytes, padded with spaces
+abbrev pub padded : List ℕ → List ℕ
+padded name = take 16 (name ++ replicate 16 0x20)
+
+-- ---- its number
+
+abbrev pub has_number : (number : ℕ) → (List ℕ × Array) → Bool
+has_number number entry = entry.1.number == number
+
+abbrev pub is_free_number : List (List ℕ × Array) → (number : ℕ) → Bool
+is_free_number arrays number = not (list_any (has_number number) arrays)
+
+-- The least that no array has. A group has fewer than 65,536 arrays, so that there is one.
+unfoldable pub least_number : List (List ℕ × Array) → ℕ
+least_number arrays = unwrap_or (find (is_free_number arrays) (range_with_len 0 65536)) 0
+
+-- ---- its elements
+
+-- RAID 1 is simple mirroring (00) over two members and multi mirroring (01) over more; other levels have the qualifier of the words
+abbrev pub qualifier_of : (level qualifier members : ℕ) → ℕ
+qualifier_of level qualifier members = if level == 1 then (if members == 2 then 0 else 1) else qualifier
+
+-- a position on the disk of a slot, in sync; where it starts is told when it is created
+abbrev pub new_position : List Seat → (slot : ℕ) → Position
+new_position seats slot = record { reference = reference_on seats slot; start = 0; synced = true; row = 0 }
+
+abbrev pub new_element : List Seat → Creation → CreateElement → ElementValue
+new_element seats creation element = record {
+  level = creation.level;
+  qualifier = qualifier_of creation.level creation.qualifier (length element.slots);
+  strip = creation.code;
+  blocks = element.blocks;
+  positions = map (new_position seats) element.slots;
+}
+
+abbrev pub new_array : Configuration → List Seat → Creation → Array
+new_array config seats creation = record {
+  name = padded creation.name;
+  number = least_number config.arrays;
+  secondary = unwrap_or creation.secondary 0;
+  elements = map (λ element. Some (new_element seats creation element)) creation.elements;
+  state = 0;
+  init = 0;
+}
+
+-- the slots of all elements, in the order of the words
+abbrev pub slots_of : List CreateElement → List ℕ
+slots_of elements = flat_map (λ (element : CreateElement). element.slots) elements
+
+-- ---- the word for its secondary level
+
+-- `single` is for one element, and every other word for several
+abbrev pub is_misfit : Creation → Bool
+is_misfit creation = elim creation.secondary [ None ↦ not (length creation.elements == 1) | Some code ↦ not (nat_lt 1 (length creation.elements)) ]
+
+-- Where the word doesn't fit, in order: the name is new; each level is served; the word doesn't fit.
+abbrev pub misfit_refusal : Configuration → Array → Option Refusal
+misfit_refusal config array = first_refusal (refuse_if (has_named config array.name) NameTaken ∷ unserved_level array ∷ Some Shape ∷ [])

@@ -1,0 +1,151 @@
+-- Where the words of commands over a whole array go wrong.
+use Rattle.std.proofs.Common.{◌≡◌, ◌+◌, ◌<◌, ℕ, List, [], ◌∷◌, None, codes, length, drop, refl, ap, arith}
+use Rattle.std.specs.Fmt.{decimal}
+use Rattle.ddf_words.proofs.Commands.{create, create_names, delete, delete_names}
+use Rattle.ddf_words.proofs.Elements.{elements_met}
+use Rattle.ddf_words.proofs.Fields.{Fields, Ends, IsMet, ends_met, field_met, lacks_field, behind_field, more_words}
+use Rattle.ddf_words.proofs.Names.{a_name, a_plain_name}
+use Rattle.ddf_words.proofs.Numbers.{zero_number}
+use Rattle.ddf_words.proofs.Places.{wrong_behind}
+use Rattle.ddf_words.specs.Words.{Word, AreElements, GoWrongAt, IsGroupCommand, IsLevel, IsName, IsNumber, IsPlainName, IsSecondary, LacksAt, StandsAt}
+use Rattle.ddf_words.specs.declared.command.Command.TheVariants.{Create, Delete}
+
+-- ---- `delete`
+
+-- the words behind it
+abbrev AreName : List Word → Type 0
+AreName words = Fields (IsName ∷ []) Ends words
+
+are_delete : (words : List Word) → AreName words → IsGroupCommand (delete ∷ words)
+are_delete [] are = absurd are
+are_delete (name ∷ others) are =
+    let ends : others ≡ [] = are.1 in
+    record { command = Delete name; takes_one = refl; spells = record { parts = rw ends refl; is_name = are.0 } }
+
+delete_are : (words : List Word) → IsGroupCommand (delete ∷ words) → AreName words
+delete_are words is =
+    let named = delete_names words is.command is.spells in
+    let parts : words ≡ named.0 ∷ [] = ap (drop 1) named.1.parts in
+    rw parts (named.1.is_name, refl)
+
+wrong_delete : (words : List Word) (place : ℕ) → GoWrongAt AreName words place → GoWrongAt IsGroupCommand (delete ∷ words) (1 + place)
+wrong_delete words place wrong = wrong_behind AreName IsGroupCommand delete words place delete_are are_delete wrong
+
+module _ (words : List Word) where
+  pub wrong_delete_name : LacksAt IsName words 1 → GoWrongAt IsGroupCommand (delete ∷ drop 1 words) 1
+  wrong_delete_name lacks = wrong_delete (drop 1 words) 0 (lacks_field IsName [] Ends words 1 (field_met IsName [] Ends (codes "a") a_name ends_met) lacks)
+
+  pub wrong_delete_end : StandsAt IsName words 1 → 2 < length words → GoWrongAt IsGroupCommand (delete ∷ drop 1 words) 2
+  wrong_delete_end name more = wrong_delete (drop 1 words) 1 (behind_field IsName [] Ends words 1 0 name (more_words words 2 more))
+
+-- ---- `create`
+
+abbrev IsCode : Word → Type 0
+IsCode word = IsNumber 15 word
+
+abbrev AreLast : List Word → Type 0
+AreLast words = Fields (IsSecondary ∷ []) AreElements words
+
+abbrev AreCodeAndLast : List Word → Type 0
+AreCodeAndLast words = Fields (IsCode ∷ IsSecondary ∷ []) AreElements words
+
+abbrev AreLevels : List Word → Type 0
+AreLevels words = Fields (IsLevel ∷ IsCode ∷ IsSecondary ∷ []) AreElements words
+
+-- the words behind `create`
+abbrev AreArray : List Word → Type 0
+AreArray words = Fields (IsPlainName ∷ IsLevel ∷ IsCode ∷ IsSecondary ∷ []) AreElements words
+
+are_create : (words : List Word) → AreArray words → IsGroupCommand (create ∷ words)
+are_create [] are = absurd are
+are_create (name ∷ []) are = absurd are.1
+are_create (name ∷ level ∷ []) are = absurd are.1.1
+are_create (name ∷ level ∷ code ∷ []) are = absurd are.1.1.1
+are_create (name ∷ level ∷ code ∷ secondary ∷ others) are =
+    let is_level = are.1.0 in
+    let is_code = are.1.1.0 in
+    let is_secondary = are.1.1.1.0 in
+    let are_elements = are.1.1.1.1 in
+    record {
+      command = Create name is_level.level.0 is_level.level.1 is_code.number is_secondary.secondary are_elements.elements;
+      takes_one = refl;
+      spells = record {
+        level_word = level;
+        secondary_word = secondary;
+        rest = others;
+        parts = rw is_code.spells.spelled refl;
+        is_name = are.0;
+        is_level = is_level.says;
+        code_within = is_code.spells.within;
+        is_secondary = is_secondary.says;
+        are_elements = are_elements.spell;
+      };
+    }
+
+create_are : (words : List Word) → IsGroupCommand (create ∷ words) → AreArray words
+create_are words is =
+    let named = create_names words is.command is.spells in
+    let spells = named.spells in
+    let parts : words ≡ named.name ∷ spells.level_word ∷ decimal named.code ∷ spells.secondary_word ∷ spells.rest = ap (drop 1) spells.parts in
+    rw parts (
+      spells.is_name,
+      (
+        record { level = (named.level, named.qualifier); says = spells.is_level },
+        (
+          record { number = named.code; spells = record { spelled = refl; within = spells.code_within } },
+          (record { secondary = named.secondary; says = spells.is_secondary }, record { elements = named.elements; spell = spells.are_elements }),
+        ),
+      ),
+    )
+
+wrong_create : (words : List Word) (place : ℕ) → GoWrongAt AreArray words place → GoWrongAt IsGroupCommand (create ∷ words) (1 + place)
+wrong_create words place wrong = wrong_behind AreArray IsGroupCommand create words place create_are are_create wrong
+
+raid0 : IsLevel (codes "raid0")
+raid0 = record { level = (0, 0); says = refl }
+
+single : IsSecondary (codes "single")
+single = record { secondary = None; says = refl }
+
+last_met : IsMet AreLast
+last_met = field_met IsSecondary [] AreElements (codes "single") single elements_met
+
+code_met : IsMet AreCodeAndLast
+code_met = field_met IsCode (IsSecondary ∷ []) AreElements (decimal 0) (zero_number 15) last_met
+
+levels_met : IsMet AreLevels
+levels_met = field_met IsLevel (IsCode ∷ IsSecondary ∷ []) AreElements (codes "raid0") raid0 code_met
+
+array_met : IsMet AreArray
+array_met = field_met IsPlainName (IsLevel ∷ IsCode ∷ IsSecondary ∷ []) AreElements (codes "a") a_plain_name levels_met
+
+module _ (words : List Word) where
+  pub wrong_create_name : LacksAt IsPlainName words 1 → GoWrongAt IsGroupCommand (create ∷ drop 1 words) 1
+  wrong_create_name lacks = wrong_create (drop 1 words) 0 (lacks_field IsPlainName (IsLevel ∷ IsCode ∷ IsSecondary ∷ []) AreElements words 1 array_met lacks)
+
+  behind_name : (place : ℕ) → StandsAt IsPlainName words 1 → GoWrongAt AreLevels (drop 2 words) place → GoWrongAt AreArray (drop 1 words) (1 + place)
+  behind_name place name wrong = behind_field IsPlainName (IsLevel ∷ IsCode ∷ IsSecondary ∷ []) AreElements words 1 place name wrong
+
+  pub wrong_level : StandsAt IsPlainName words 1 → LacksAt IsLevel words 2 → GoWrongAt IsGroupCommand (create ∷ drop 1 words) 2
+  wrong_level name lacks = wrong_create (drop 1 words) 1 (behind_name 0 name (lacks_field IsLevel (IsCode ∷ IsSecondary ∷ []) AreElements words 2 levels_met lacks))
+
+  behind_level : (place : ℕ) → StandsAt IsLevel words 2 → GoWrongAt AreCodeAndLast (drop 3 words) place → GoWrongAt AreLevels (drop 2 words) (1 + place)
+  behind_level place level wrong = behind_field IsLevel (IsCode ∷ IsSecondary ∷ []) AreElements words 2 place level wrong
+
+  pub wrong_code : StandsAt IsPlainName words 1 → StandsAt IsLevel words 2 → LacksAt IsCode words 3 → GoWrongAt IsGroupCommand (create ∷ drop 1 words) 3
+  wrong_code name level lacks = wrong_create (drop 1 words) 2 (behind_name 1 name (behind_level 0 level (lacks_field IsCode (IsSecondary ∷ []) AreElements words 3 code_met lacks)))
+
+  behind_code : (place : ℕ) → StandsAt IsCode words 3 → GoWrongAt AreLast (drop 4 words) place → GoWrongAt AreCodeAndLast (drop 3 words) (1 + place)
+  behind_code place code wrong = behind_field IsCode (IsSecondary ∷ []) AreElements words 3 place code wrong
+
+  pub wrong_secondary : StandsAt IsPlainName words 1 → StandsAt IsLevel words 2 → StandsAt IsCode words 3 → LacksAt IsSecondary words 4 → GoWrongAt IsGroupCommand (create ∷ drop 1 words) 4
+  wrong_secondary name level code lacks = wrong_create (drop 1 words) 3
+      (behind_name 2 name (behind_level 1 level (behind_code 0 code (lacks_field IsSecondary [] AreElements words 4 last_met lacks))))
+
+  pub wrong_elements : (place : ℕ) → StandsAt IsPlainName words 1 → StandsAt IsLevel words 2 → StandsAt IsCode words 3 → StandsAt IsSecondary words 4 → GoWrongAt AreElements (drop 5 words) place
+      → GoWrongAt IsGroupCommand (create ∷ drop 1 words) (5 + place)
+  wrong_elements place name level code secondary wrong =
+      let behind = wrong_create (drop 1 words) (1 + (1 + (1 + (1 + place))))
+      (behind_name (1 + (1 + (1 + place))) name (behind_level (1 + (1 + place)) level (behind_code (1 + place) code (behind_field IsSecondary [] AreElements words 4 place secondary wrong)))) in
+      let same : 1 + (1 + (1 + (1 + (1 + place)))) ≡ 5 + place = omega arith in
+      rw same at behind

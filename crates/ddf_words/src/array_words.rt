@@ -1,0 +1,51 @@
+// The commands over a whole array.
+ghost use Rattle.std.specs.Prelude.{◌≡◌, ◌∷◌, ℕ, true, codes, drop, IfOk};
+ghost use Rattle.ddf_words.specs.Commands.{takes_group};
+ghost use Rattle.ddf_words.specs.Words.{words_of, Spells, IsGroupCommand, GoWrongAt};
+
+use crate::command::Command;
+use crate::element_words::elements_of;
+use crate::ends::ends_at;
+use crate::level_words::{level_at, secondary_at};
+use crate::name_words::{name_at, plain_name_at};
+use crate::number_words::byte_at;
+use crate::words::WordFault;
+use std::alloc::Global;
+
+/// The greatest stripe size code that words give.
+const MOST_CODE: u8 = 15;
+
+/// The command of words of which the first is `create`, or where they go wrong.
+pub(crate) fn create_of(alloc: Global, words: &[String]) -> Result<Command, WordFault>
+    ensures takes { IfOk result (λ command. takes_group command ≡ true) }
+    ensures found { IfOk result (λ command. Spells command (codes "create" ∷ drop 1 (words_of words.now))) }
+    ensures place { (place : ℕ) → result ≡ Err (WordFault.Place place) → GoWrongAt IsGroupCommand (codes "create" ∷ drop 1 (words_of words.now)) place }
+{
+    let name = plain_name_at(alloc, words, 1)?;
+    let (level, qualifier) = level_at(words, 2)?;
+    let code = byte_at(words, 3, MOST_CODE)?;
+    let secondary = secondary_at(words, 4)?;
+    match elements_of(alloc, &words[5..]) {
+        Ok(elements) => Ok(Command::Create {
+            name,
+            level,
+            qualifier,
+            code,
+            secondary,
+            elements,
+        }),
+        Err(WordFault::Place(place)) => Err(WordFault::Place(5 + place)),
+        Err(WordFault::Memory) => Err(WordFault::Memory),
+    }
+}
+
+/// The command of words of which the first is `delete`, or where they go wrong.
+pub(crate) fn delete_of(alloc: Global, words: &[String]) -> Result<Command, WordFault>
+    ensures takes { IfOk result (λ command. takes_group command ≡ true) }
+    ensures found { IfOk result (λ command. Spells command (codes "delete" ∷ drop 1 (words_of words.now))) }
+    ensures place { (place : ℕ) → result ≡ Err (WordFault.Place place) → GoWrongAt IsGroupCommand (codes "delete" ∷ drop 1 (words_of words.now)) place }
+{
+    let name = name_at(alloc, words, 1)?;
+    ends_at(words, 2)?;
+    Ok(Command::Delete { name })
+}
