@@ -1,0 +1,99 @@
+-- A change may follow the configuration that it changes.
+use Rattle.std.proofs.Common.{◌≡◌, ℕ, ◌<◌, Bool, true, false, not, ◌&&◌, eqb, List, [], ◌∷◌, Option, Some, nat_eq, refl, ap, sym, ◌∙◌, if◌then◌else◌}
+use Rattle.std.proofs.lemmas.Bool.{and_from, and_parts}
+use Rattle.std.specs.Map.{lookup}
+use Rattle.std.specs.Option.{option_map_or}
+use Rattle.std.specs.Str.{bytes_eq}
+use Rattle.ddf_config.specs.declared.member.Member.{Member}
+use Rattle.ddf_config.specs.Configuration.{Configuration}
+use Rattle.ddf_config.specs.Entries.{changed_entries}
+use Rattle.ddf_plan.specs.declared.change.Change.{Change}
+use Rattle.ddf_plan.specs.declared.change.Change.TheVariants.{Lose, Create, Delete, Spare, Fail}
+use Rattle.ddf_plan.specs.Changes.{changed_at, member_after, with_spare}
+use Rattle.ddf_plan.specs.Delete.{use_without}
+use Rattle.ddf_plan.specs.Lose.{is_among, lost_member}
+use Rattle.ddf_plan.specs.Spare.{use_in_order}
+use Rattle.ddf_history.specs.Groups.{groups}
+use Rattle.ddf_history.specs.Steps.{MayFollow}
+
+-- ---- one member
+
+-- A member keeps its GUID, and stays missing where it was.
+record IsSameMember (before after : Member) : Type 0 where
+  guid : after.guid ≡ before.guid
+  missing : before.missing ≡ true → after.missing ≡ true
+
+-- Of two members that are the same as one whichever is chosen is.
+chosen_member : (test : Bool) (one other member : Member) → IsSameMember member one → IsSameMember member other → IsSameMember member (if test then one else other)
+chosen_member true one other member first second = first
+chosen_member false one other member first second = second
+
+-- A member is the same as itself.
+unchanged : (member : Member) → IsSameMember member member
+unchanged member = record { guid = refl; missing = λ is. is }
+
+-- A member that may be lost is the same.
+lost_is_same : (references : List ℕ) (reference : ℕ) (member : Member) → IsSameMember member (lost_member references reference member)
+lost_is_same references reference member = chosen_member (is_among references reference) (record member { missing = true }) member member (record { guid = refl; missing = λ is. refl }) (unchanged member)
+
+-- Each change keeps each member.
+member_kept : (config : Configuration) (change : Change) (reference : ℕ) (member : Member) → (after : Member) × (member_after config change reference member ≡ Some after) × IsSameMember member after
+member_kept config (Lose references) reference member = (lost_member references reference member, refl, lost_is_same references reference member)
+member_kept config (Create guid array) reference member = (member, refl, unchanged member)
+member_kept config (Delete guid) reference member = (with_spare member (use_without guid member.spare), refl, record { guid = refl; missing = λ is. is })
+member_kept config (Spare spare use_as) reference member = (
+  if nat_eq spare reference then with_spare member (use_in_order config.arrays use_as) else member,
+  refl,
+  chosen_member (nat_eq spare reference) (with_spare member (use_in_order config.arrays use_as)) member member (record { guid = refl; missing = λ is. is }) (unchanged member),
+)
+member_kept config (Fail failed) reference member = (lost_member (failed ∷ []) reference member, refl, lost_is_same (failed ∷ []) reference member)
+
+-- ---- all members
+
+module _ (change : ℕ → Member → Option Member) (kept : (reference : ℕ) (member : Member) → (after : Member) × (change reference member ≡ Some after) × IsSameMember member after) (guid : List ℕ) (asked : ℕ → Bool) where
+  -- The first member that is asked for has the GUID and is current.
+  abbrev is_current_by : List (ℕ × Member) → Bool
+  is_current_by members = option_map_or (λ (member : Member). bytes_eq member.guid guid && not member.missing) (lookup asked members) false
+
+  -- The first member that is asked for has the GUID and is missing.
+  abbrev is_missing_by : List (ℕ × Member) → Bool
+  is_missing_by members = option_map_or (λ (member : Member). bytes_eq member.guid guid && member.missing) (lookup asked members) false
+
+  -- a member that is current was so before
+  was_current : (members : List (ℕ × Member)) → is_current_by (changed_entries change members) ≡ true → is_current_by members ≡ true
+  was_current [] is = is
+  was_current (entry ∷ members) is = go (kept entry.0 entry.1) (was_current members) (asked entry.0) refl
+    where
+      stays : (before after : Bool) → (before ≡ true → after ≡ true) → not after ≡ true → not before ≡ true
+      stays false after same was = refl
+      stays true after same was = sym (ap not (same refl)) ∙ was
+
+      go : (after : Member) × (change entry.0 entry.1 ≡ Some after) × IsSameMember entry.1 after → (is_current_by (changed_entries change members) ≡ true → is_current_by members ≡ true)
+          → (here : Bool) → asked entry.0 ≡ here → is_current_by (entry ∷ members) ≡ true
+      go after later true here =
+          let changed : (bytes_eq after.0.guid guid && not after.0.missing) ≡ true = rw (after.1, here) at is in
+          let parts = and_parts (bytes_eq after.0.guid guid) (not after.0.missing) changed in
+          let named : bytes_eq entry.1.guid guid ≡ true = ap (λ (name : List ℕ). bytes_eq name guid) (sym after.2.guid) ∙ parts.0 in
+          rw here (and_from _ _ named (stays entry.1.missing after.0.missing after.2.missing parts.1))
+      go after later false here = rw here (later (rw (after.1, here) at is))
+
+  -- a member that was missing is so
+  still_missing : (members : List (ℕ × Member)) → is_missing_by members ≡ true → is_missing_by (changed_entries change members) ≡ true
+  still_missing [] is = is
+  still_missing (entry ∷ members) is = go (kept entry.0 entry.1) (still_missing members) (asked entry.0) refl
+    where
+      go : (after : Member) × (change entry.0 entry.1 ≡ Some after) × IsSameMember entry.1 after → (is_missing_by members ≡ true → is_missing_by (changed_entries change members) ≡ true)
+          → (here : Bool) → asked entry.0 ≡ here → is_missing_by (changed_entries change (entry ∷ members)) ≡ true
+      go after later true here =
+          let parts = and_parts (bytes_eq entry.1.guid guid) entry.1.missing (rw here at is) in
+          let named : bytes_eq after.0.guid guid ≡ true = ap (λ (name : List ℕ). bytes_eq name guid) after.2.guid ∙ parts.0 in
+          rw (after.1, here) (and_from _ _ named (after.2.missing parts.1))
+      go after later false here = rw (after.1, here) (later (rw here at is))
+
+-- A change may follow the configuration that it changes, at a greater sequence.
+pub changes_follow : (group : List ℕ) (config : Configuration) (change : Change) (sequence : ℕ) → config.sequence < sequence → MayFollow (groups group) config (changed_at config change sequence)
+changes_follow group config change sequence less = record {
+  rises = less;
+  no_more = λ disk is. was_current (member_after config change) (member_kept config change) disk.guid (λ reference. eqb reference disk.reference) config.members is;
+  stays_missing = λ disk is. still_missing (member_after config change) (member_kept config change) disk.guid (λ reference. eqb reference disk.reference) config.members is;
+}

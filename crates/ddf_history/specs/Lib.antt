@@ -1,0 +1,11 @@
+pub mod Reading
+pub mod Issued
+pub mod Leaders
+pub mod Promise
+pub mod Answer
+pub mod Steps
+pub mod Calls
+pub mod History
+pub mod Groups
+pub mod Scenes
+pub mod Answered

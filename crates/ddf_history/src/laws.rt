@@ -1,0 +1,99 @@
+// Laws of histories: functions that do nothing, whose contracts are the laws.
+ghost use Rattle.std.specs.Prelude.{◌≡◌, ◌<◌, ◌≤◌, ℕ, Bool, true, List, None};
+ghost use Rattle.std.specs.Str.{bytes_eq};
+ghost use Rattle.ddf_copy.specs.declared.copy.DiskCopy.{DiskCopy};
+ghost use Rattle.ddf_copy.specs.Written.{CanBeCopy};
+ghost use Rattle.ddf_config.specs.Configuration.{Configuration};
+ghost use Rattle.ddf_plan.specs.Changes.{changed_at};
+ghost use Rattle.ddf_plan.specs.declared.change.Change.{Change};
+ghost use Rattle.ddf_view.specs.View.{View, view_of};
+ghost use Rattle.ddf_view.specs.Differ.{difference};
+ghost use Rattle.ddf_rewrite.specs.Before.{Before};
+ghost use Rattle.ddf_rewrite.specs.Changing.{CanChange, HasRoomFor};
+ghost use Rattle.ddf_rewrite.specs.Copies.{changed_copy};
+ghost use Rattle.ddf_rewrite.specs.Readable.{AreRebuilt, HasOwnNames};
+ghost use Rattle.ddf_history.specs.Reading.{Scene};
+ghost use Rattle.ddf_history.specs.Groups.{Shows, ShowsFully, disk_of, groups};
+ghost use Rattle.ddf_history.specs.Issued.{Past, IsSince, acknowledge, issue, leave_out, take_off};
+ghost use Rattle.ddf_history.specs.Leaders.{seen};
+ghost use Rattle.ddf_history.specs.Promise.{IsKept};
+ghost use Rattle.ddf_history.specs.Answer.{Answer, IsAnswer, IsReadable, HasMember, IsPromised};
+ghost use Rattle.ddf_history.specs.Steps.{AllShow, AreWritten, GivesAfter, IsLast, JoinLast, MayFollow, MayJoin, MayWrite};
+ghost use Rattle.ddf_history.specs.Calls.{AreAside, AreSure, IsAssembled, IsFound, IsFounded, IsStart, NoneAbsent};
+
+/// With a current member read, assembly gives the last acknowledged configuration or a later
+/// one. It may refuse only where a slot that has returned from a loss is read.
+pub fn assembly_answers_a_configuration_since_the_last_acknowledged()
+    ensures { (group : List ℕ) (past : Past (groups group)) (scene : Scene View) (readable : ℕ → Bool) (answer : Answer Configuration)
+        → IsKept past scene → IsReadable past scene readable → HasMember past scene readable
+        → IsAnswer (groups group) past.slots (seen readable scene) answer → IsPromised past readable answer }
+{}
+
+/// New copies of the last change, written to whichever of its seats, leave each slot showing what it should.
+pub fn a_disk_write_keeps_what_each_slot_shows()
+    ensures { (group : List ℕ) (past : Past (groups group)) (before after : Scene View) (number : ℕ) (config : Configuration) (seats : ℕ → Bool) (new : ℕ → View)
+        → IsKept past before → MayWrite past before number config seats new → AreWritten seats new before after
+        → JoinLast past seats new after → GivesAfter past number config after → IsKept past after }
+{}
+
+/// The copies that a change gives its seats are what is asked of copies that are written: each names its disk and the
+/// group, and shows the configuration, fully; and any two agree.
+pub fn changed_copies_may_be_written()
+    ensures names { (old : DiskCopy) (leaders : Before) (config : Configuration) (timestamp : ℕ)
+        → disk_of (view_of (changed_copy old leaders config timestamp)) ≡ disk_of (view_of old) }
+    ensures are_ours { (old : DiskCopy) (leaders : Before) (config : Configuration) (timestamp : ℕ)
+        → bytes_eq config.group (view_of (changed_copy old leaders config timestamp)).group ≡ true }
+    ensures show { (old : DiskCopy) (leaders : Before) (config : Configuration) (timestamp : ℕ) → CanChange old leaders config timestamp
+        → CanBeCopy (changed_copy old leaders config timestamp) → Shows (view_of (changed_copy old leaders config timestamp)) config }
+    ensures are_full { (old : DiskCopy) (leaders : Before) (config : Configuration) (timestamp : ℕ) → CanChange old leaders config timestamp
+        → CanBeCopy (changed_copy old leaders config timestamp) → ShowsFully (view_of (changed_copy old leaders config timestamp)) config }
+    ensures agree { (old other : DiskCopy) (leaders : Before) (config : Configuration) (timestamp : ℕ) → HasOwnNames config → AreRebuilt config
+        → HasRoomFor old leaders config timestamp → HasRoomFor other leaders config timestamp
+        → difference (view_of (changed_copy old leaders config timestamp)) (view_of (changed_copy other leaders config timestamp)) ≡ None }
+{}
+
+/// With its seats sure, a call drops the changes behind what it assembled, and issues the loss of absent members.
+pub fn a_call_goes_on_from_what_it_assembled()
+    ensures none_absent { (group : List ℕ) (past : Past (groups group)) (held scene : Scene View) (readable : ℕ → Bool) (number : ℕ) (config : Configuration)
+        → IsAssembled past held readable config → IsSince past.changes number config → IsKept past scene
+        → AreSure (groups group) readable held scene → NoneAbsent (groups group) readable held config → IsKept (take_off past number) scene }
+    ensures absent { (group : List ℕ) (past : Past (groups group)) (held scene : Scene View) (readable : ℕ → Bool) (number : ℕ) (config loss : Configuration)
+        → IsAssembled past held readable config → IsSince past.changes number config → IsKept past scene
+        → AreSure (groups group) readable held scene → past.changes.own_from ≤ past.changes.acked → MayFollow (groups group) config loss
+        → IsKept (issue (take_off (leave_out past readable config) number) loss) scene }
+{}
+
+/// A change may follow the last one; it may take in other disks once all before it is acknowledged.
+pub fn a_change_is_issued_behind_the_last()
+    ensures follows { (group : List ℕ) (past : Past (groups group)) (scene : Scene View) (number : ℕ) (last next : Configuration)
+        → IsKept past scene → IsLast past.changes number last → MayFollow (groups group) last next → IsKept (issue past next) scene }
+    ensures joins { (group : List ℕ) (past : Past (groups group)) (scene : Scene View) (last next : Configuration)
+        → IsKept past scene → IsLast past.changes past.changes.acked last → MayJoin past scene last next → IsKept (issue past next) scene }
+{}
+
+/// The configuration after a change, whichever it is, may follow the one before it: no member becomes current, and one that
+/// is missing stays so.
+pub fn a_change_may_follow()
+    ensures { (group : List ℕ) (config : Configuration) (change : Change) (sequence : ℕ)
+        → config.sequence < sequence → MayFollow (groups group) config (changed_at config change sequence) }
+{}
+
+/// The last change may be acknowledged where each of its members that is here shows it.
+pub fn a_change_that_all_show_is_acknowledged()
+    ensures { (group : List ℕ) (past : Past (groups group)) (scene : Scene View) (number : ℕ) (config : Configuration)
+        → IsKept past scene → IsLast past.changes number config → AllShow past scene number config → IsKept (acknowledge past number) scene }
+{}
+
+/// A call on disks that are no members of the group keeps what each slot shows.
+pub fn a_call_on_other_disks_keeps_what_each_slot_shows()
+    ensures { (group : List ℕ) (past : Past (groups group)) (before after : Scene View)
+        → IsKept past before → AreAside past before after → IsKept past after }
+{}
+
+/// A history starts with a new group, or with one found on disks from elsewhere.
+pub fn a_history_starts_with_a_group()
+    ensures founded { (group : List ℕ) (past : Past (groups group)) (scene : Scene View) (config : Configuration)
+        → IsStart past config → IsFounded past scene config → IsKept past scene }
+    ensures found { (group : List ℕ) (past : Past (groups group)) (scene : Scene View) (config : Configuration)
+        → IsStart past config → IsFound past scene config → IsKept past scene }
+{}
