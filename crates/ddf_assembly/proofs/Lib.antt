@@ -28,3 +28,11 @@ pub mod CommittedLevels
 pub mod CommittedAfter
 pub mod CommittedReadied
 pub mod Standing
+pub mod StepConfig
+pub mod LeftLists
+pub mod LeftSlots
+pub mod LeftMembers
+pub mod LeftBefore
+pub mod LeftStep
+pub mod LeftGroup
+pub mod LeftChoice
