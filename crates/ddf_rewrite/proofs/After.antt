@@ -9,6 +9,7 @@ use Rattle.ddf_bytes.specs.Choices.{first_of}
 use Rattle.ddf_header.specs.declared.geometry.Geometry.{Geometry}
 use Rattle.ddf_configs.specs.ElementValue.{ElementValue}
 use Rattle.ddf_configs.specs.declared.notes.Notes.{Notes}
+use Rattle.ddf_configs.specs.declared.notes.SlotNote.{SlotNote}
 use Rattle.ddf_configs.specs.declared.spare.SpareRecord.{SpareRecord}
 use Rattle.ddf_configs.specs.declared.slot.RecordSlot.{RecordSlot}
 use Rattle.ddf_configs.specs.declared.slot.RecordSlot.TheVariants as slots
@@ -19,7 +20,7 @@ use Rattle.ddf_config.specs.declared.member.SpareUse.{SpareUse}
 use Rattle.ddf_view.specs.View.{element_of, find_held, held_from, note_at}
 use Rattle.ddf_view.proofs.Finds.{place_there}
 use Rattle.ddf_view.proofs.Tests.{same_bytes, bytes_same}
-use Rattle.ddf_rewrite.specs.Copies.{element_slot, items_of, left_slot, one_if, record_of, slot_after, unused_slot}
+use Rattle.ddf_rewrite.specs.Copies.{element_item, element_slot, items_of, left_slot, one_if, record_of, slot_after, unused_slot}
 use Rattle.ddf_rewrite.specs.Notes.{Holding, find_holding, no_note, note_for, note_of, notes_after}
 use Rattle.ddf_rewrite.specs.Placement.{is_slot_of, item_at}
 use Rattle.ddf_rewrite.specs.declared.item.Item.TheVariants as kinds
@@ -69,6 +70,10 @@ first_there f [] k x y at is before = absurd cc
 first_there f (z ∷ xs) zero x y at is before = let same : z ≡ x = cc in ap (λ o. option_or o (first_of (map f xs))) (ap f same ∙ is)
 first_there f (z ∷ xs) (suc k) x y at is before =
     ap (λ o. option_or o (first_of (map f xs))) (before 0 z (omega arith) refl) ∙ first_there f xs k x y at is (λ j w lt there. before (suc j) w (omega (arith, lt)) there)
+
+none_first_of : {X Y : Type 0} (f : X → Option Y) (xs : List X) → ((i : ℕ) (x : X) → slice_get xs i ≡ Some x → f x ≡ None) → first_of (map f xs) ≡ None
+none_first_of f [] h = refl
+none_first_of f (x ∷ xs) h = ap (λ o. option_or o (first_of (map f xs))) (h 0 x refl) ∙ none_first_of f xs (λ i y at. h (suc i) y at)
 
 -- ---- what stands in the slots
 
@@ -203,11 +208,27 @@ holding_item noted use_as holdings n holding h =
 
 -- ---- what the copy says
 
--- each holding is found with its note
+-- the notes that count, and what is noted of a holding, where there are notes
+abbrev pub notes_if : (noted : Bool) → Notes → Option Notes
+notes_if true notes = Some notes
+notes_if false notes = None
+
+abbrev pub note_if : (noted : Bool) → Holding → Option SlotNote
+note_if true holding = Some (note_of holding.copied holding.wanted.plan)
+note_if false holding = None
+
+holding_note : (noted : Bool) (config : Configuration) (holdings : List Holding) (placed : List Placed) (count k : ℕ) (holding : Holding) → k < count → item_at placed k ≡ Some (item_for holding)
+    → find_holding holding.wanted.guid holding.wanted.index holdings ≡ Some holding → note_at (notes_if noted (notes_after config holdings placed count)) k ≡ note_if noted holding
+holding_note false config holdings placed count k holding lt at found = refl
+holding_note true config holdings placed count k holding lt at found =
+    note_is config holdings placed count k lt ∙ ap (λ o. Some (note_for holdings o)) at ∙ ap (λ o. Some (option_map_or (λ (one : Holding). note_of one.copied one.wanted.plan) o no_note)) found
+
+-- each holding is found, with its note where there are notes
 pub held_after : (geometry : Geometry) (config : Configuration) (holdings : List Holding) (spare : SpareRecord) (use_as : SpareUse) (noted : Bool) (all : List RecordSlot) (placed : List Placed)
     → AreInPlace all (items_of noted use_as holdings) placed → AreOwn holdings → (n : ℕ) (holding : Holding) → slice_get holdings n ≡ Some holding
-    → find_held holding.wanted.guid holding.wanted.index (held_from (Some (notes_after config holdings placed (length all))) 0 (made_slots geometry holdings (notes_after config holdings placed (length all)) spare placed all))
-    ≡ Some (record { element = holding.element; note = Some (note_of holding.copied holding.wanted.plan) })
+    → find_held holding.wanted.guid holding.wanted.index
+    (held_from (notes_if noted (notes_after config holdings placed (length all))) 0 (made_slots geometry holdings (notes_after config holdings placed (length all)) spare placed all))
+    ≡ Some (record { element = holding.element; note = note_if noted holding })
 held_after geometry config holdings spare use_as noted all placed in_place own n holding at =
     let notes = notes_after config holdings placed (length all) in
     let array = holding.wanted.guid in
@@ -229,10 +250,9 @@ held_after geometry config holdings spare use_as noted all placed in_place own n
     let same : j ≡ k = in_place.one j k (item_for holding) item there.2 in
     omega (arith, lt, same)) in
     let zero_k : 0 + k ≡ k = omega arith in
-    let note : slice_get notes.slots (0 + k) ≡ Some (note_of holding.copied holding.wanted.plan) =
-    ap (λ (m : ℕ). slice_get notes.slots m) zero_k ∙ note_is config holdings placed (length all) k there.1
-    ∙ ap (λ o. Some (note_for holdings o)) there.2 ∙ ap (λ o. Some (option_map_or (λ (one : Holding). note_of one.copied one.wanted.plan) o no_note)) (own.first_is n holding at) in
-    held_found array index (Some notes) 0 (made_slots geometry holdings notes spare placed all) k (element_slot holding) holding.element stands (element_in_slot holding) key before
+    let note : note_at (notes_if noted notes) (0 + k) ≡ note_if noted holding =
+    ap (λ (m : ℕ). note_at (notes_if noted notes) m) zero_k ∙ holding_note noted config holdings placed (length all) k holding there.1 there.2 (own.first_is n holding at) in
+    held_found array index (notes_if noted notes) 0 (made_slots geometry holdings notes spare placed all) k (element_slot holding) holding.element stands (element_in_slot holding) key before
     ∙ ap (λ o. Some (record { element = holding.element; note = o })) note
 
 -- of another element no record is found
@@ -270,3 +290,37 @@ notes_valid geometry config holdings spare use_as all placed in_place =
         let one : bytes_eq config.group config.group ≡ true = bytes_same config.group in
         let two : eqb config.sequence config.sequence ≡ true = eq-eqb config.sequence config.sequence refl in
         rw (one, two) refl
+
+-- ---- without notes
+
+-- no item is notes
+no_notes : (use_as : SpareUse) (holdings : List Holding) (i : ℕ) → slice_get (items_of false use_as holdings) i ≡ Some kinds.Notes → ⊥
+no_notes use_as holdings i h = go (is_spare use_as) i h
+  where
+    elements : (all : List Holding) (i : ℕ) → slice_get (map element_item all) i ≡ Some kinds.Notes → ⊥
+    elements [] i h = absurd cc
+    elements (x ∷ all) zero h = absurd cc
+    elements (x ∷ all) (suc i) h = elements all i h
+
+    go : (b : Bool) (i : ℕ) → slice_get (one_if b kinds.Spare ++ map element_item holdings) i ≡ Some kinds.Notes → ⊥
+    go true zero h = absurd cc
+    go true (suc i) h = elements holdings i h
+    go false i h = elements holdings i h
+
+pub never_notes : (use_as : SpareUse) (holdings : List Holding) (placed : List Placed) (all : List RecordSlot) → AreInPlace all (items_of false use_as holdings) placed → (k : ℕ) → item_at placed k ≡ Some kinds.Notes → ⊥
+never_notes use_as holdings placed all in_place k h = let there = in_place.among k kinds.Notes h in no_notes use_as holdings there.0 there.1
+
+-- no notes are valid
+pub notes_none : (geometry : Geometry) (config : Configuration) (holdings : List Holding) (notes : Notes) (spare : SpareRecord) (use_as : SpareUse) (all : List RecordSlot) (placed : List Placed)
+    → AreInPlace all (items_of false use_as holdings) placed → valid_notes config.group config.sequence (made_slots geometry holdings notes spare placed all) ≡ None
+notes_none geometry config holdings notes spare use_as all placed in_place =
+    none_first_of (valid_of config.group config.sequence) (made_slots geometry holdings notes spare placed all) (λ j slot h.
+    let from = slot_placed geometry holdings notes spare placed all j slot h in
+    ap (valid_of config.group config.sequence) from.1 ∙ placed_notes geometry holdings notes spare from.0 config.group config.sequence (item_at placed j) (never_notes use_as holdings placed all in_place j))
+
+-- the notes that count
+pub notes_given : (noted : Bool) (geometry : Geometry) (config : Configuration) (holdings : List Holding) (spare : SpareRecord) (use_as : SpareUse) (all : List RecordSlot) (placed : List Placed)
+    → AreInPlace all (items_of noted use_as holdings) placed
+    → valid_notes config.group config.sequence (made_slots geometry holdings (notes_after config holdings placed (length all)) spare placed all) ≡ notes_if noted (notes_after config holdings placed (length all))
+notes_given true geometry config holdings spare use_as all placed in_place = notes_valid geometry config holdings spare use_as all placed in_place
+notes_given false geometry config holdings spare use_as all placed in_place = notes_none geometry config holdings (notes_after config holdings placed (length all)) spare use_as all placed in_place

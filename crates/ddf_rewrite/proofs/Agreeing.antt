@@ -1,7 +1,7 @@
 -- The copies that a change gives two disks agree.
-use Rattle.std.proofs.Common.{◌≡◌, ℕ, zero, suc, ◌+◌, Bool, true, false, not, ◌&&◌, eqb, List, [], ◌∷◌, ◌++◌, map, Some, None, refl, ap, sym, ◌∙◌, ◌⊎◌, ⊎_elim, inl, inr}
-use Rattle.std.proofs.lemmas.Bool.{and_parts, eqb-true, eq-eqb, false≢true}
-use Rattle.std.specs.Prelude.{slice_get, filter, find}
+use Rattle.std.proofs.Common.{◌≡◌, ℕ, ◌+◌, Bool, true, false, not, eqb, List, [], ◌∷◌, map, Some, None, refl, ap, sym, ◌∙◌}
+use Rattle.std.proofs.lemmas.Bool.{eq-eqb}
+use Rattle.std.specs.Prelude.{slice_get, find}
 use Rattle.std.specs.List.{enumerate_from}
 use Rattle.std.specs.Str.{bytes_eq}
 use Rattle.ddf_header.specs.declared.kind.Revision.{Revision}
@@ -14,12 +14,11 @@ use Rattle.ddf_config.specs.Configuration.{Configuration}
 use Rattle.ddf_config.specs.ElementValue.{ElementValue as ElementPlan}
 use Rattle.ddf_config.specs.declared.array.Array.{Array}
 use Rattle.ddf_config.specs.declared.member.Member.{Member}
-use Rattle.ddf_view.specs.Differ.{array_differs, difference, disk_differs, element_differs, key_of, placed_array, placed_disk, same_array, same_disk, same_held, same_record}
+use Rattle.ddf_view.specs.Differ.{difference, element_differs, placed_array, placed_disk, same_array, same_disk, same_held, same_record}
 use Rattle.ddf_view.specs.Reading.{plan_of}
 use Rattle.ddf_view.specs.Shows.{same_plan, same_position}
-use Rattle.ddf_view.specs.View.{Held, View, view_of}
-use Rattle.ddf_view.proofs.Finds.{when_false}
-use Rattle.ddf_view.proofs.Tests.{bytes_same, same_bytes}
+use Rattle.ddf_view.specs.View.{view_of}
+use Rattle.ddf_view.proofs.Tests.{bytes_same}
 use Rattle.ddf_rewrite.specs.Arrays.{array_on, arrays_after}
 use Rattle.ddf_rewrite.specs.Before.{Before, leading_record}
 use Rattle.ddf_rewrite.specs.Changing.{HasRoomFor}
@@ -29,6 +28,7 @@ use Rattle.ddf_rewrite.specs.Elements.{changed_record}
 use Rattle.ddf_rewrite.specs.Notes.{note_of}
 use Rattle.ddf_rewrite.specs.Readable.{AreRebuilt, HasOwnNames}
 use Rattle.ddf_rewrite.specs.Wanted.{Wanted, all_wanted}
+use Rattle.ddf_rewrite.proofs.Differences.{elements_alike, no_difference}
 use Rattle.ddf_rewrite.proofs.Given.{plan_again}
 use Rattle.ddf_rewrite.proofs.Changed.{record_found, none_found, disks_are, arrays_are}
 use Rattle.ddf_rewrite.proofs.Holdings.{has_plan, record_planned, records_agree}
@@ -36,11 +36,7 @@ use Rattle.ddf_rewrite.proofs.Plans.{plan_noted}
 
 -- ---- tables made alike
 
-filter_none : {X : Type 0} (p : X → Bool) (xs : List X) → ((x : X) → p x ≡ false) → filter p xs ≡ []
-filter_none p [] h = refl
-filter_none p (x ∷ xs) h = when_false (p x) (x ∷ filter p xs) (filter p xs) (h x) ∙ filter_none p xs h
-
-find_alike : {X Y : Type 0} (p : ℕ × Y → Bool) (same : ℕ × Y → ℕ × Y → Bool) (f g : X → Y) → ((n : ℕ) (x : X) → p (n, f x) ≡ p (n, g x)) → ((n : ℕ) (x : X) → same (n, f x) (n, g x) ≡ true)
+pub find_alike : {X Y : Type 0} (p : ℕ × Y → Bool) (same : ℕ × Y → ℕ × Y → Bool) (f g : X → Y) → ((n : ℕ) (x : X) → p (n, f x) ≡ p (n, g x)) → ((n : ℕ) (x : X) → same (n, f x) (n, g x) ≡ true)
     → (n : ℕ) (xs : List X) → option_eq same (find p (enumerate_from n (map f xs))) (find p (enumerate_from n (map g xs))) ≡ true
 find_alike p same f g alike is n [] = refl
 find_alike p same f g alike is n (x ∷ xs) = go (find_alike p same f g alike is (n + 1) xs) (p (n, f x)) refl
@@ -78,7 +74,7 @@ one_array own other n entry =
     let init : eqb entry.1.init entry.1.init ≡ true = eq-eqb entry.1.init entry.1.init refl in
     rw (place, number, state, init, name) refl
 
-arrays_alike : (config : Configuration) (own other : List ArrayEntry) (guid : List ℕ)
+pub arrays_alike : (config : Configuration) (own other : List ArrayEntry) (guid : List ℕ)
     → option_eq same_array (find (λ pair. bytes_eq pair.1.guid guid) (enumerate_from 0 (arrays_after config own))) (find (λ pair. bytes_eq pair.1.guid guid) (enumerate_from 0 (arrays_after config other))) ≡ true
 unfolding arrays_after
 arrays_alike config own other guid =
@@ -87,72 +83,30 @@ arrays_alike config own other guid =
 
 -- ---- elements
 
-some_or_none : (t : Wanted → Bool) (all : List Wanted) → ((n : ℕ) × (wanted : Wanted) × (slice_get all n ≡ Some wanted) × (t wanted ≡ true)) ⊎ ((n : ℕ) (wanted : Wanted) → slice_get all n ≡ Some wanted → t wanted ≡ false)
-some_or_none t [] = inr (λ n wanted h. absurd cc)
-some_or_none t (x ∷ all) = go (some_or_none t all) (t x) refl
-  where
-    after : ((n : ℕ) (wanted : Wanted) → slice_get all n ≡ Some wanted → t wanted ≡ false) → t x ≡ false → (n : ℕ) (wanted : Wanted) → slice_get (x ∷ all) n ≡ Some wanted → t wanted ≡ false
-    after rest e zero wanted h = let same : x ≡ wanted = cc in sym (ap t same) ∙ e
-    after rest e (suc n) wanted h = rest n wanted h
-
-    go : ((n : ℕ) × (wanted : Wanted) × (slice_get all n ≡ Some wanted) × (t wanted ≡ true)) ⊎ ((n : ℕ) (wanted : Wanted) → slice_get all n ≡ Some wanted → t wanted ≡ false) → (b : Bool) → t x ≡ b
-        → ((n : ℕ) × (wanted : Wanted) × (slice_get (x ∷ all) n ≡ Some wanted) × (t wanted ≡ true)) ⊎ ((n : ℕ) (wanted : Wanted) → slice_get (x ∷ all) n ≡ Some wanted → t wanted ≡ false)
-    go rest true e = inl (0, x, refl, e)
-    go (inl found) false e = inl (suc found.0, found.1, found.2, found.3)
-    go (inr none) false e = inr (after none e)
-
 -- two records of one element with one plan
-held_alike : (plan : ElementPlan) (copied other_copied : Bool) (one other : ElementValue) → same_record one other ≡ true → plan_of [] (Some (note_of copied plan)) one ≡ plan → plan_of [] (Some (note_of other_copied plan)) other ≡ plan
+pub held_alike : (plan : ElementPlan) (copied other_copied : Bool) (one other : ElementValue) → same_record one other ≡ true → plan_of [] (Some (note_of copied plan)) one ≡ plan → plan_of [] (Some (note_of other_copied plan)) other ≡ plan
     → same_held (record { element = one; note = Some (note_of copied plan) }) (record { element = other; note = Some (note_of other_copied plan) }) ≡ true
 held_alike plan copied other_copied one other same first second =
     let plans : same_plan same_position (plan_of [] (Some (note_of copied plan)) one) (plan_of [] (Some (note_of other_copied plan)) other) ≡ true =
     ap (λ (p : ElementPlan). same_plan same_position p (plan_of [] (Some (note_of other_copied plan)) other)) first ∙ ap (λ (p : ElementPlan). same_plan same_position plan p) second ∙ plan_again plan in
     rw (same, plans) refl
 
-abbrev differ_in : List Held → List Held → List ℕ → ℕ → Bool
-differ_in one other guid index = element_differs one other (guid, index)
-
-elements_alike : (old other : DiskCopy) (leaders : Before) (config : Configuration) (timestamp : ℕ) → HasOwnNames config → AreRebuilt config
-    → HasRoomFor old leaders config timestamp → HasRoomFor other leaders config timestamp → (key : List ℕ × ℕ)
-    → element_differs (view_of (changed_copy old leaders config timestamp)).elements (view_of (changed_copy other leaders config timestamp)).elements key ≡ false
-elements_alike old other leaders config timestamp names rebuilt room other_room key =
-    ⊎_elim
-    (λ (found : (n : ℕ) × (wanted : Wanted) × (slice_get (all_wanted config) n ≡ Some wanted) × ((bytes_eq wanted.guid key.0 && eqb wanted.index key.1) ≡ true)).
-    let wanted = found.1 in
-    let parts = and_parts (bytes_eq wanted.guid key.0) (eqb wanted.index key.1) found.3 in
-    let guid = same_bytes wanted.guid key.0 parts.0 in
-    let index = eqb-true wanted.index key.1 parts.1 in
-    let one = (view_of (changed_copy old leaders config timestamp)).elements in
-    let two = (view_of (changed_copy other leaders config timestamp)).elements in
-    let first = record_found old leaders config timestamp names room found.0 wanted found.2 in
-    let second = record_found other leaders config timestamp names other_room found.0 wanted found.2 in
-    let element = changed_record config timestamp old.header.geometry old.header.revision (own_record old wanted) (leading_record leaders wanted.guid wanted.index) wanted in
-    let other_element = changed_record config timestamp other.header.geometry other.header.revision (own_record other wanted) (leading_record leaders wanted.guid wanted.index) wanted in
-    let plan = plan_noted (is_copied_on old.disk_data.reference wanted) wanted.plan element (rebuilt found.0 wanted found.2)
-    (has_plan wanted element (record_planned config timestamp old.header.geometry old.header.revision (own_record old wanted) (leading_record leaders wanted.guid wanted.index) wanted)) in
-    let other_plan = plan_noted (is_copied_on other.disk_data.reference wanted) wanted.plan other_element (rebuilt found.0 wanted found.2)
-    (has_plan wanted other_element (record_planned config timestamp other.header.geometry other.header.revision (own_record other wanted) (leading_record leaders wanted.guid wanted.index) wanted)) in
-    let same = records_agree config timestamp old.header.geometry other.header.geometry old.header.revision other.header.revision (own_record old wanted) (own_record other wanted) (leading_record leaders wanted.guid wanted.index) wanted in
+changed_alike : (old other : DiskCopy) (leaders : Before) (config : Configuration) (timestamp : ℕ) → HasOwnNames config → AreRebuilt config
+    → HasRoomFor old leaders config timestamp → HasRoomFor other leaders config timestamp → (n : ℕ) (wanted : Wanted) → slice_get (all_wanted config) n ≡ Some wanted
+    → element_differs (view_of (changed_copy old leaders config timestamp)).elements (view_of (changed_copy other leaders config timestamp)).elements (wanted.guid, wanted.index) ≡ false
+changed_alike old other leaders config timestamp names rebuilt room other_room n wanted at =
+    let first = record_found old leaders config timestamp names room n wanted at in
+    let second = record_found other leaders config timestamp names other_room n wanted at in
+    let leader = leading_record leaders wanted.guid wanted.index in
+    let element = changed_record config timestamp old.header.geometry old.header.revision (own_record old wanted) leader wanted in
+    let other_element = changed_record config timestamp other.header.geometry other.header.revision (own_record other wanted) leader wanted in
+    let plan = plan_noted (is_copied_on old.disk_data.reference wanted) wanted.plan element (rebuilt n wanted at)
+    (has_plan wanted element (record_planned config timestamp old.header.geometry old.header.revision (own_record old wanted) leader wanted)) in
+    let other_plan = plan_noted (is_copied_on other.disk_data.reference wanted) wanted.plan other_element (rebuilt n wanted at)
+    (has_plan wanted other_element (record_planned config timestamp other.header.geometry other.header.revision (own_record other wanted) leader wanted)) in
+    let same = records_agree config timestamp old.header.geometry other.header.geometry old.header.revision other.header.revision (own_record old wanted) (own_record other wanted) leader wanted in
     let held = held_alike wanted.plan (is_copied_on old.disk_data.reference wanted) (is_copied_on other.disk_data.reference wanted) element other_element same plan other_plan in
-    let here : element_differs one two (wanted.guid, wanted.index) ≡ false = rw (first, second, held) refl in
-    ap (λ (g : List ℕ). differ_in one two g key.1) (sym guid) ∙ ap (λ (i : ℕ). differ_in one two wanted.guid i) (sym index) ∙ here)
-    (λ (none : (n : ℕ) (wanted : Wanted) → slice_get (all_wanted config) n ≡ Some wanted → (bytes_eq wanted.guid key.0 && eqb wanted.index key.1) ≡ false).
-    let gone = none_found old leaders config timestamp names room key.0 key.1 (λ n wanted at guid index.
-    let yes : bytes_eq wanted.guid key.0 ≡ true = ap (λ (g : List ℕ). bytes_eq g key.0) guid ∙ bytes_same key.0 in
-    let also : eqb wanted.index key.1 ≡ true = eq-eqb wanted.index key.1 index in
-    let both : (bytes_eq wanted.guid key.0 && eqb wanted.index key.1) ≡ true = rw (yes, also) refl in
-    false≢true (sym (none n wanted at) ∙ both)) in
-    rw gone refl)
-    (some_or_none (λ wanted. bytes_eq wanted.guid key.0 && eqb wanted.index key.1) (all_wanted config))
-
-no_difference : (one other : View) → ((reference : ℕ) → disk_differs one.disks other.disks reference ≡ false) → ((guid : List ℕ) → array_differs one.arrays other.arrays guid ≡ false) → ((key : List ℕ × ℕ) → element_differs one.elements other.elements key ≡ false)
-    → difference one other ≡ None
-unfolding difference
-no_difference one other disks arrays elements =
-    let no_disk = filter_none (disk_differs one.disks other.disks) (map (λ entry. entry.reference) (one.disks ++ other.disks)) disks in
-    let no_array = filter_none (array_differs one.arrays other.arrays) (map (λ entry. entry.guid) (one.arrays ++ other.arrays)) arrays in
-    let no_element = filter_none (element_differs one.elements other.elements) (map key_of one.elements) elements in
-    rw (no_disk, no_array, no_element) refl
+    rw (first, second, held) refl
 
 -- What a change gives two disks agrees.
 pub copies_agree : (old other : DiskCopy) (leaders : Before) (config : Configuration) (timestamp : ℕ) → HasOwnNames config → AreRebuilt config
@@ -165,13 +119,14 @@ copies_agree old other leaders config timestamp names rebuilt room other_room =
     let other_disks = disks_are other leaders config timestamp other_room in
     let arrays = arrays_are old leaders config timestamp room in
     let other_arrays = arrays_are other leaders config timestamp other_room in
-    no_difference one two
-    (λ reference.
-    ap (λ (list : List DiskEntry). not (option_eq same_disk (find (λ pair. eqb pair.1.reference reference) (enumerate_from 0 list)) (placed_disk reference two.disks))) disks
-    ∙ ap (λ (list : List DiskEntry). not (option_eq same_disk (find (λ pair. eqb pair.1.reference reference) (enumerate_from 0 (changed_disks config leaders.disks old.header.revision (view_of old).disks))) (find (λ pair. eqb pair.1.reference reference) (enumerate_from 0 list)))) other_disks
-    ∙ ap not (disks_alike config leaders.disks (view_of old).disks (view_of other).disks old.header.revision other.header.revision reference))
-    (λ guid.
-    ap (λ (list : List ArrayEntry). not (option_eq same_array (find (λ pair. bytes_eq pair.1.guid guid) (enumerate_from 0 list)) (placed_array guid two.arrays))) arrays
-    ∙ ap (λ (list : List ArrayEntry). not (option_eq same_array (find (λ pair. bytes_eq pair.1.guid guid) (enumerate_from 0 (arrays_after config (view_of old).arrays))) (find (λ pair. bytes_eq pair.1.guid guid) (enumerate_from 0 list)))) other_arrays
-    ∙ ap not (arrays_alike config (view_of old).arrays (view_of other).arrays guid))
-    (λ key. elements_alike old other leaders config timestamp names rebuilt room other_room key)
+    no_difference one two (record {
+      disks = λ reference.
+          ap (λ (list : List DiskEntry). not (option_eq same_disk (find (λ pair. eqb pair.1.reference reference) (enumerate_from 0 list)) (placed_disk reference two.disks))) disks
+          ∙ ap (λ (list : List DiskEntry). not (option_eq same_disk (find (λ pair. eqb pair.1.reference reference) (enumerate_from 0 (changed_disks config leaders.disks old.header.revision (view_of old).disks))) (find (λ pair. eqb pair.1.reference reference) (enumerate_from 0 list)))) other_disks
+          ∙ ap not (disks_alike config leaders.disks (view_of old).disks (view_of other).disks old.header.revision other.header.revision reference);
+      arrays = λ guid.
+          ap (λ (list : List ArrayEntry). not (option_eq same_array (find (λ pair. bytes_eq pair.1.guid guid) (enumerate_from 0 list)) (placed_array guid two.arrays))) arrays
+          ∙ ap (λ (list : List ArrayEntry). not (option_eq same_array (find (λ pair. bytes_eq pair.1.guid guid) (enumerate_from 0 (arrays_after config (view_of old).arrays))) (find (λ pair. bytes_eq pair.1.guid guid) (enumerate_from 0 list)))) other_arrays
+          ∙ ap not (arrays_alike config (view_of old).arrays (view_of other).arrays guid);
+      elements = elements_alike config one.elements two.elements (changed_alike old other leaders config timestamp names rebuilt room other_room) (none_found old leaders config timestamp names room);
+    })

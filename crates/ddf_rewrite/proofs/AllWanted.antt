@@ -12,12 +12,12 @@ use Rattle.ddf_rewrite.specs.Wanted.{Wanted, all_wanted, wanted_at, wanted_of}
 use Rattle.ddf_rewrite.specs.declared.item.Item.TheVariants as kinds
 use Rattle.ddf_rewrite.specs.declared.item.Item.{Item}
 use Rattle.ddf_rewrite.proofs.Placing.{same_item}
-use Rattle.ddf_rewrite.proofs.Lists.{get_enumerated, enumerated_get}
+use Rattle.ddf_rewrite.proofs.Lists.{get_enumerated, enumerated_get, get_map, one_place, some_same}
 use Rattle.ddf_rewrite.specs.Copies.{element_item}
 
 -- ---- lists
 
-get_filter_map : {X Y : Type 0} (f : X → Option Y) (xs : List X) (k : ℕ) (x : X) (y : Y) → slice_get xs k ≡ Some x → f x ≡ Some y → (n : ℕ) × (slice_get (filter_map f xs) n ≡ Some y)
+pub get_filter_map : {X Y : Type 0} (f : X → Option Y) (xs : List X) (k : ℕ) (x : X) (y : Y) → slice_get xs k ≡ Some x → f x ≡ Some y → (n : ℕ) × (slice_get (filter_map f xs) n ≡ Some y)
 get_filter_map f [] k x y h is = absurd cc
 get_filter_map {Y = Y} f (z ∷ xs) zero x y h is =
     let same : z ≡ x = cc in
@@ -29,7 +29,7 @@ get_filter_map {Y = Y} f (z ∷ xs) (suc k) x y h is = go (get_filter_map f xs k
     go rest None = rest
     go rest (Some w) = (suc rest.0, rest.1)
 
-filter_map_get : {X Y : Type 0} (f : X → Option Y) (xs : List X) (n : ℕ) (y : Y) → slice_get (filter_map f xs) n ≡ Some y → (k : ℕ) × (x : X) × (slice_get xs k ≡ Some x) × (f x ≡ Some y)
+pub filter_map_get : {X Y : Type 0} (f : X → Option Y) (xs : List X) (n : ℕ) (y : Y) → slice_get (filter_map f xs) n ≡ Some y → (k : ℕ) × (x : X) × (slice_get xs k ≡ Some x) × (f x ≡ Some y)
 filter_map_get f [] n y h = absurd cc
 filter_map_get {X = X} {Y = Y} f (z ∷ xs) n y h = go (λ m at. filter_map_get f xs m y at) (f z) refl n h
   where
@@ -39,12 +39,12 @@ filter_map_get {X = X} {Y = Y} f (z ∷ xs) n y h = go (λ m at. filter_map_get 
     go later (Some w) e zero h = (0, z, refl, e ∙ h)
     go later (Some w) e (suc m) h = let rest = later m h in (suc rest.0, rest.1, rest.2, rest.3)
 
-get_left : {X : Type 0} (xs ys : List X) (i : ℕ) (x : X) → slice_get xs i ≡ Some x → slice_get (xs ++ ys) i ≡ Some x
+pub get_left : {X : Type 0} (xs ys : List X) (i : ℕ) (x : X) → slice_get xs i ≡ Some x → slice_get (xs ++ ys) i ≡ Some x
 get_left [] ys i x h = absurd cc
 get_left (z ∷ xs) ys zero x h = h
 get_left (z ∷ xs) ys (suc i) x h = get_left xs ys i x h
 
-get_right : {X : Type 0} (xs ys : List X) (i : ℕ) (x : X) → slice_get ys i ≡ Some x → (j : ℕ) × (slice_get (xs ++ ys) j ≡ Some x)
+pub get_right : {X : Type 0} (xs ys : List X) (i : ℕ) (x : X) → slice_get ys i ≡ Some x → (j : ℕ) × (slice_get (xs ++ ys) j ≡ Some x)
 get_right [] ys i x h = (i, h)
 get_right (z ∷ xs) ys i x h = let rest = get_right xs ys i x h in (suc rest.0, rest.1)
 
@@ -86,6 +86,15 @@ is_wanted config a i entry plan at there =
     let wanted : wanted_at entry (numbered.0, Some plan) ≡ Some (make_wanted entry.0 entry.1 i plan) = ap (λ (n : ℕ). Some (make_wanted entry.0 entry.1 n plan)) index in
     let inner = get_filter_map (wanted_at entry) (enumerate_from 0 entry.1.elements) i (numbered.0, Some plan) (make_wanted entry.0 entry.1 i plan) numbered.2 wanted in
     get_flat_map wanted_of config.arrays a entry inner.0 (make_wanted entry.0 entry.1 i plan) at inner.1
+
+-- Where no element stands twice, those of one array and place are one.
+pub wanted_one : (config : Configuration) → IsDistinct is_item (map wanted_item (all_wanted config)) → (n k : ℕ) (one other : Wanted) → slice_get (all_wanted config) n ≡ Some one → slice_get (all_wanted config) k ≡ Some other
+    → one.guid ≡ other.guid → one.index ≡ other.index → one ≡ other
+wanted_one config apart n k one other at there guid index =
+    let same : wanted_item one ≡ wanted_item other = rw (guid, index) refl in
+    let first : slice_get (map wanted_item (all_wanted config)) n ≡ Some (wanted_item other) = get_map wanted_item (all_wanted config) n one at ∙ ap (λ (x : Item). Some x) same in
+    let place = one_place is_item same_item (map wanted_item (all_wanted config)) apart n k (wanted_item other) first (get_map wanted_item (all_wanted config) k other there) in
+    some_same at (ap (slice_get (all_wanted config)) place ∙ there)
 
 -- what a wanted element is of
 pub record IsOf (config : Configuration) (wanted : Wanted) : Type 0 where

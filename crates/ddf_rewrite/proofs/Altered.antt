@@ -45,6 +45,9 @@ altered_few most config timestamp wanted leader before few = go (same_record lea
     go false = rw (length-map wanted.plan.positions place_in) few
 
 -- What no field names is not read.
+pub element_named : (geometry : Geometry) (bytes element : ElementValue) → element_over geometry bytes (named element) ≡ element_over geometry bytes element
+element_named geometry bytes element = refl
+
 pub over_named : (geometry : Geometry) (own : Option Held) (leader element : ElementValue) → changed_over geometry own leader (named element) ≡ changed_over geometry own leader element
 unfolding same_record
 over_named geometry None leader element = refl

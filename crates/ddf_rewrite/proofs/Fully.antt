@@ -1,15 +1,11 @@
 -- The copy that a change gives a disk shows the configuration fully.
-use Rattle.std.proofs.Common.{◌≡◌, ℕ, zero, suc, ◌+◌, ◌<◌, ◌≤◌, Bool, true, false, not, ◌&&◌, ◌||◌, cond, List, [], ◌∷◌, length, map, Option, Some, None, refl, ap, sym, ◌∙◌, subst, arith, inl}
-use Rattle.std.proofs.lemmas.Bool.{and_from, or_from, false≢true}
-use Rattle.std.specs.Prelude.{slice_get, filter, filter_map, is_some, option_map}
-use Rattle.std.specs.List.{AllByRecursion, enumerate_from, list_any, list_all, cons_option, range_with_len}
+use Rattle.std.proofs.Common.{◌≡◌, ℕ, zero, suc, ◌+◌, ◌<◌, Bool, true, false, ◌&&◌, ◌||◌, cond, List, [], ◌∷◌, length, map, Option, Some, None, refl, ap, sym, ◌∙◌, arith, inl}
+use Rattle.std.proofs.lemmas.Bool.{and_from, or_from}
+use Rattle.std.specs.Prelude.{slice_get, filter, filter_map}
+use Rattle.std.specs.List.{AllByRecursion, list_any, list_all, cons_option, range_with_len}
 use Rattle.std.specs.Str.{bytes_eq}
 use Rattle.ddf_tables.specs.declared.disks.DiskEntry.{DiskEntry}
 use Rattle.ddf_tables.specs.declared.arrays.ArrayEntry.{ArrayEntry}
-use Rattle.std.proofs.lemmas.List.{length-map}
-use Rattle.ddf_configs.specs.ElementValue.{ElementValue}
-use Rattle.ddf_configs.specs.declared.notes.Notes.{Notes}
-use Rattle.ddf_configs.specs.declared.slot.RecordSlot.{RecordSlot}
 use Rattle.ddf_copy.specs.declared.copy.DiskCopy.{DiskCopy}
 use Rattle.std.specs.Cmp.Lexicographic.{pointwise}
 use Rattle.ddf_config.specs.Configuration.{Configuration}
@@ -21,28 +17,26 @@ use Rattle.ddf_config.specs.declared.member.SpareUse.{SpareUse}
 use Rattle.ddf_view.specs.Readable.{HasNotes, IsReadable}
 use Rattle.ddf_view.specs.Reading.{dedicated_or_not, elements_in, is_associated, is_dedicated, read, spare_in}
 use Rattle.ddf_view.specs.Shows.{gives_elements, gives_spare, holds_all, same_spare, shows, shows_fully}
-use Rattle.ddf_view.specs.View.{Held, View, element_of, find_held, has_bit, held_from, view_of}
+use Rattle.ddf_view.specs.View.{Held, View, find_held, has_bit, view_of}
 use Rattle.ddf_view.proofs.Agreement.{Gives, Holds, records_read, dedicated_noted, shown_from, read_together}
 use Rattle.ddf_view.proofs.Finds.{place_there, place_within}
 use Rattle.ddf_view.proofs.Tests.{bytes_same}
 use Rattle.ddf_rewrite.specs.Arrays.{array_on, arrays_after}
 use Rattle.ddf_rewrite.specs.Before.{Before, leading_record}
 use Rattle.ddf_rewrite.specs.Changing.{CanChange, HasRoomFor}
-use Rattle.ddf_rewrite.specs.Copies.{changed_copy, changed_holdings, own_record, placed_on, slots_after}
+use Rattle.ddf_rewrite.specs.Copies.{changed_copy, changed_holdings, own_record}
 use Rattle.ddf_rewrite.specs.Disks.{block_size_of, changed_disks, disk_on, is_global, kind_after, kind_in, member_entry}
 use Rattle.ddf_rewrite.specs.Elements.{contains, has_places, is_spare_for, spares_after}
-use Rattle.ddf_rewrite.specs.Notes.{Holding, notes_after, note_for}
 use Rattle.ddf_rewrite.specs.Readable.{HasOwnNames, HasSpares}
 use Rattle.ddf_rewrite.specs.Wanted.{Wanted, all_wanted}
-use Rattle.ddf_rewrite.specs.declared.item.Placed.{Placed}
+use Rattle.ddf_rewrite.proofs.Differences.{not_false}
 use Rattle.ddf_rewrite.proofs.Given.{not_wanted}
-use Rattle.ddf_rewrite.proofs.Changed.{elements_are, record_found, none_found, disks_are, arrays_are, changed_shows, changed_noted, changed_holds}
+use Rattle.ddf_rewrite.proofs.Changed.{changed_apart, record_found, none_found, disks_are, arrays_are, changed_shows, changed_noted, changed_holds}
+use Rattle.ddf_rewrite.proofs.Made.{made_has_notes}
 use Rattle.ddf_rewrite.proofs.Flags.{kind_global}
 use Rattle.ddf_rewrite.proofs.SpareLists.{spares_tell, base_spares, record_spares}
 use Rattle.ddf_rewrite.proofs.AllWanted.{is_wanted}
 use Rattle.ddf_rewrite.proofs.Lists.{some_same, or_true, all_at, list_all_get, match_made}
-use Rattle.std.proofs.lemmas.List.FromFn.{length-enumerate_from, length-map-range_with_len}
-use Rattle.ddf_rewrite.specs.Placement.{item_at}
 
 -- ---- tests over what is found
 
@@ -67,10 +61,6 @@ any_some {X = X} test f n (suc count) (suc i) x lt is passes =
     go : list_any test (filter_map f (range_with_len (n + 1) count)) ≡ true → (o : Option X) → list_any test (cons_option o (filter_map f (range_with_len (n + 1) count))) ≡ true
     go rest None = rest
     go rest (Some y) = or_true (test y) (list_any test (filter_map f (range_with_len (n + 1) count))) rest
-
-not_back : (b : Bool) → not b ≡ false → b ≡ true
-not_back true h = refl
-not_back false h = absurd (false≢true (sym h))
 
 -- ---- what the view tells of a spare
 
@@ -103,7 +93,7 @@ associated old leaders config timestamp can a k entry member at there =
             let spares : held.element.spares ≡ spares_after config entry.0 (base_spares (leading_record leaders wanted.guid wanted.index)) =
             ap (λ (h : Held). h.element.spares) same ∙ record_spares config timestamp old.header.geometry old.header.revision (own_record old wanted) (leading_record leaders wanted.guid wanted.index) wanted in
             let places : has_places config entry.0 (base_spares (leading_record leaders wanted.guid wanted.index)) ≡ true =
-            list_all_get (λ one. has_places config one.guid (base_spares (leading_record leaders one.guid one.index))) (all_wanted config) place.0 wanted (not_back (list_all (λ one. has_places config one.guid (base_spares (leading_record leaders one.guid one.index))) (all_wanted config)) can.places) place.1 in
+            list_all_get (λ one. has_places config one.guid (base_spares (leading_record leaders one.guid one.index))) (all_wanted config) place.0 wanted (not_false (list_all (λ one. has_places config one.guid (base_spares (leading_record leaders one.guid one.index))) (all_wanted config)) can.places) place.1 in
             ap (λ (list : List ℕ). contains list member.0) spares ∙ spares_tell config entry.0 (base_spares (leading_record leaders wanted.guid wanted.index)) k member can.spares there places
 
     go : (b : Bool) → is_spare_for entry.0 member.1.spare ≡ b → list_any (λ held. contains held.element.spares member.0) (filter_map (λ i. find_held entry.0 i V.elements) (range_with_len 0 (length entry.1.elements))) ≡ b
@@ -138,7 +128,7 @@ make_dedicated : (arrays : List (List ℕ)) → (arrays ≡ [] → ⊥) → dedi
 make_dedicated [] h = absurd (h refl)
 make_dedicated (x ∷ arrays) h = refl
 
-spare_again : (spare : SpareUse) → same_spare spare spare ≡ true
+pub spare_again : (spare : SpareUse) → same_spare spare spare ≡ true
 spare_again uses.No = refl
 spare_again uses.Global = refl
 spare_again (uses.Dedicated arrays) = go arrays
@@ -208,36 +198,10 @@ changed_fully old leaders config timestamp can =
 
 -- ---- each record has a note
 
-some_at : {X : Type 0} (xs : List X) (n : ℕ) → n < length xs → is_some (slice_get xs n) ≡ true
-some_at xs n lt = let there = place_there xs n lt in ap (λ o. is_some o) there.1
-
-notes_each : (notes : Notes) (n : ℕ) (all : List RecordSlot) → n + length all ≤ length notes.slots → AllByRecursion (λ held. is_some held.note ≡ true) (held_from (Some notes) n all)
-notes_each notes n [] few = tt
-notes_each notes n (slot ∷ all) few =
-    go (notes_each notes (n + 1) all (omega (arith, few))) (some_at notes.slots n (omega (arith, few))) (element_of slot)
-  where
-    go : AllByRecursion (λ held. is_some held.note ≡ true) (held_from (Some notes) (n + 1) all) → is_some (slice_get notes.slots n) ≡ true → (o : Option ElementValue)
-        → AllByRecursion (λ held. is_some held.note ≡ true) (cons_option (option_map (λ (element : ElementValue). record { element = element; note = slice_get notes.slots n }) o) (held_from (Some notes) (n + 1) all))
-    go rest noted None = rest
-    go rest noted (Some element) = (noted, rest)
-
-slots_count : (old : DiskCopy) (leaders : Before) (config : Configuration) (timestamp : ℕ) → length (changed_copy old leaders config timestamp).slots ≡ length old.slots
-unfolding changed_copy slots_after
-slots_count old leaders config timestamp = length-map (enumerate_from 0 old.slots) _ ∙ length-enumerate_from 0 old.slots
-
-notes_long : (config : Configuration) (holdings : List Holding) (placed : List Placed) (count : ℕ) → length (notes_after config holdings placed count).slots ≡ count
-unfolding notes_after
-notes_long config holdings placed count = length-map-range_with_len (λ slot. note_for holdings (item_at placed slot)) 0 count
-
 pub changed_has_notes : (old : DiskCopy) (leaders : Before) (config : Configuration) (timestamp : ℕ) → HasOwnNames config → HasRoomFor old leaders config timestamp → HasNotes (view_of (changed_copy old leaders config timestamp))
+unfolding changed_copy
 changed_has_notes old leaders config timestamp names room =
-    let holdings = changed_holdings old leaders config timestamp in
-    let placed = placed_on old true config holdings in
-    let notes = notes_after config holdings placed (length old.slots) in
-    let new = changed_copy old leaders config timestamp in
-    let count = slots_count old leaders config timestamp in
-    let long = notes_long config holdings placed (length old.slots) in
-    subst (λ (elements : List Held). AllByRecursion (λ held. is_some held.note ≡ true) elements) (sym (elements_are old leaders config timestamp names room)) (notes_each notes 0 new.slots (omega (arith, count, long)))
+    made_has_notes old true config timestamp (changed_disks config leaders.disks old.header.revision (view_of old).disks) (changed_holdings old leaders config timestamp) (changed_apart old leaders config timestamp names) room.records refl
 
 -- Where each seat has the copy that a change gives it, they give the configuration together.
 pub changed_together : (old : DiskCopy) (leaders : Before) (config : Configuration) (timestamp : ℕ) → CanChange old leaders config timestamp

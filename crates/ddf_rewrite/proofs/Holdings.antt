@@ -61,6 +61,42 @@ pub record AreSame (one other : ElementValue) : Type 0 where
   pub spares : one.spares ≡ other.spares
   pub members : one.members ≡ other.members
 
+pub same_self : (one : ElementValue) → AreSame one one
+same_self one =
+    record { array = refl; sequence = refl; strip = refl; level = refl; qualifier = refl; count = refl; index = refl; secondary = refl; blocks = refl; size = refl; spares = refl; members = refl }
+
+pub same_back : {one other : ElementValue} → AreSame one other → AreSame other one
+same_back is = record {
+  array = sym is.array;
+  sequence = sym is.sequence;
+  strip = sym is.strip;
+  level = sym is.level;
+  qualifier = sym is.qualifier;
+  count = sym is.count;
+  index = sym is.index;
+  secondary = sym is.secondary;
+  blocks = sym is.blocks;
+  size = sym is.size;
+  spares = sym is.spares;
+  members = sym is.members;
+}
+
+pub same_on : {one other third : ElementValue} → AreSame one other → AreSame other third → AreSame one third
+same_on p q = record {
+  array = p.array ∙ q.array;
+  sequence = p.sequence ∙ q.sequence;
+  strip = p.strip ∙ q.strip;
+  level = p.level ∙ q.level;
+  qualifier = p.qualifier ∙ q.qualifier;
+  count = p.count ∙ q.count;
+  index = p.index ∙ q.index;
+  secondary = p.secondary ∙ q.secondary;
+  blocks = p.blocks ∙ q.blocks;
+  size = p.size ∙ q.size;
+  spares = p.spares ∙ q.spares;
+  members = p.members ∙ q.members;
+}
+
 pub are_same : (one other : ElementValue) → same_record one other ≡ true → AreSame one other
 unfolding same_record
 are_same one other h =
@@ -195,28 +231,10 @@ plain_same config timestamp one other None wanted =
 plain_same config timestamp one other (Some leader) wanted =
     record { array = refl; sequence = refl; strip = refl; level = refl; qualifier = refl; count = refl; index = refl; secondary = refl; blocks = refl; size = refl; spares = refl; members = refl }
 
-same_then : (a b c d : ElementValue) → AreSame a b → AreSame a c → AreSame c d → AreSame b d
-same_then a b c d p q r = record {
-  array = sym p.array ∙ q.array ∙ r.array;
-  sequence = sym p.sequence ∙ q.sequence ∙ r.sequence;
-  strip = sym p.strip ∙ q.strip ∙ r.strip;
-  level = sym p.level ∙ q.level ∙ r.level;
-  qualifier = sym p.qualifier ∙ q.qualifier ∙ r.qualifier;
-  count = sym p.count ∙ q.count ∙ r.count;
-  index = sym p.index ∙ q.index ∙ r.index;
-  secondary = sym p.secondary ∙ q.secondary ∙ r.secondary;
-  blocks = sym p.blocks ∙ q.blocks ∙ r.blocks;
-  size = sym p.size ∙ q.size ∙ r.size;
-  spares = sym p.spares ∙ q.spares ∙ r.spares;
-  members = sym p.members ∙ q.members ∙ r.members;
-}
-
 -- The records of one element that a change gives two disks are the same in all named fields but timestamp and block size.
 pub records_agree : (config : Configuration) (timestamp : ℕ) (geometry other_geometry : Geometry) (revision other_revision : Revision) (own other_own leader : Option Held) (wanted : Wanted)
     → same_record (changed_record config timestamp geometry revision own leader wanted) (changed_record config timestamp other_geometry other_revision other_own leader wanted) ≡ true
 records_agree config timestamp geometry other_geometry revision other_revision own other_own leader wanted =
     same_again (changed_record config timestamp geometry revision own leader wanted) (changed_record config timestamp other_geometry other_revision other_own leader wanted)
-    (same_then (plain config timestamp revision leader wanted) (changed_record config timestamp geometry revision own leader wanted)
-    (plain config timestamp other_revision leader wanted) (changed_record config timestamp other_geometry other_revision other_own leader wanted)
-    (record_plain config timestamp geometry revision own leader wanted) (plain_same config timestamp revision other_revision leader wanted)
-    (record_plain config timestamp other_geometry other_revision other_own leader wanted))
+    (same_on (same_back (record_plain config timestamp geometry revision own leader wanted))
+    (same_on (plain_same config timestamp revision other_revision leader wanted) (record_plain config timestamp other_geometry other_revision other_own leader wanted)))

@@ -9,7 +9,9 @@ pub mod Holdings
 pub mod AllWanted
 pub mod Given
 pub mod Made
+pub mod Showing
 pub mod Changed
+pub mod Differences
 pub mod Agreeing
 pub mod SpareLists
 pub mod Fully
@@ -18,6 +20,7 @@ pub mod ElementsCan
 pub mod NotesCan
 pub mod SparesCan
 pub mod SlotsCan
+pub mod Led
 pub mod Writable
 pub mod Roomy
 pub mod Under
@@ -26,6 +29,10 @@ pub mod NamesCan
 pub mod ReadCan
 pub mod ReadHas
 pub mod Whole
+pub mod Recovered
+pub mod Noted
+pub mod Agreed
+pub mod AgreedLeaders
 pub mod FreePlaces
 pub mod Stays
 pub mod Altered

@@ -1,5 +1,5 @@
--- What records that a change is written over have.
-use Rattle.std.proofs.Common.{◌≡◌, ◌∙◌, ℕ, ◌+◌, ◌<◌, List, length, get_or, Some, None, ap, sym, refl, subst, inl, inr, arith}
+-- What records that a change or a recovery is written over have.
+use Rattle.std.proofs.Common.{◌≡◌, ◌∙◌, ℕ, ◌+◌, ◌<◌, false, List, length, get_or, Some, ap, sym, refl, subst, inl, inr, arith}
 use Rattle.std.proofs.lemmas.Bool.{cases_order, ltb-false}
 use Rattle.std.proofs.lemmas.Option.{slice_get_read}
 use Rattle.std.specs.Prelude.{slice_get}
@@ -21,10 +21,9 @@ use Rattle.ddf_rewrite.specs.Before.{Before}
 use Rattle.ddf_rewrite.specs.Hold.{AreHeld, IsHoldable}
 use Rattle.ddf_rewrite.specs.Wanted.{Wanted, all_wanted}
 use Rattle.ddf_rewrite.proofs.ElementsCan.{IsGiven, given}
-use Rattle.ddf_rewrite.specs.Room.{CanHoldSpare, full_after_change}
+use Rattle.ddf_rewrite.specs.Room.{CanHoldSpare, lacks_entries}
 use Rattle.ddf_rewrite.specs.Spares.{arrays_of_spare, spare_use}
 use Rattle.ddf_rewrite.proofs.Lists.{some_same}
-use Rattle.ddf_rewrite.proofs.Roomy.{room_from_none}
 use Rattle.ddf_rewrite.proofs.SlotsCan.{elements_can, first_spare_can}
 use Rattle.ddf_rewrite.proofs.SparesCan.{CanBeOwn}
 
@@ -66,10 +65,10 @@ each_more P all i x below is before here n one lt at =
       ]
     ]
 
--- ---- a disk that has room
+-- ---- a disk whose spare record has room
 
-pub can_hold_spare : (old : DiskCopy) (leaders : Before) (config : Configuration) (timestamp : ℕ) → CanBeCopy old → full_after_change old leaders config timestamp ≡ None → CanHoldSpare old config
-can_hold_spare old leaders config timestamp is none = record {
+pub can_hold_spare : (old : DiskCopy) (config : Configuration) → CanBeCopy old → lacks_entries old config ≡ false → CanHoldSpare old config
+can_hold_spare old config is fit = record {
   sound = is_sound old is;
   size = λ spare at. (own spare at).size;
   before = λ spare at.
@@ -78,7 +77,7 @@ can_hold_spare old leaders config timestamp is none = record {
       let counted = (own spare at).counted in
       let fits = count_fits spare.rest (omega (arith, whole, size)) in
       omega (arith, size, counted, fits);
-  entries = ltb-false (spare_entries old.header.geometry) (length (arrays_of_spare (spare_use config old.disk_data.reference))) (room_from_none old leaders config timestamp is none).entries;
+  entries = ltb-false (spare_entries old.header.geometry) (length (arrays_of_spare (spare_use config old.disk_data.reference))) fit;
 }
   where
     own : (spare : SpareRecord) → first_spare old.slots ≡ Some spare → CanBeSpare old.header.geometry spare

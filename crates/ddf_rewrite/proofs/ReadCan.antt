@@ -67,15 +67,23 @@ when_is : (b : Bool) (notes n : Notes) → when b notes ≡ Some n → notes ≡
 when_is true notes n h = cc
 when_is false notes n h = absurd cc
 
-slot_notes : (geometry : Geometry) (count : ℕ) (listed : Bool) (group : List ℕ) (sequence : ℕ) (slot : RecordSlot) (n : Notes) → CanBeSlot geometry count listed slot → valid_of group sequence slot ≡ Some n → AllByRecursion (λ note. note.row < 2 ^ 64) n.slots
+-- what holds of notes that can be written holds of those of a slot that can be
+pub slot_notes : (P : Notes → Type 0) (geometry : Geometry) (count : ℕ) (listed : Bool) (group : List ℕ) (sequence : ℕ) (slot : RecordSlot) (n : Notes) → ((notes : Notes) → CanBeNotes geometry count notes → P notes)
+    → CanBeSlot geometry count listed slot → valid_of group sequence slot ≡ Some n → P n
 unfolding CanBeSlot
-slot_notes geometry count listed group sequence (slots.Notes notes) n can h = subst (λ (m : Notes). AllByRecursion (λ note. note.row < 2 ^ 64) m.slots) (when_is (are_valid group sequence notes) notes n h) (rows_small geometry count notes can)
-slot_notes geometry count listed group sequence (slots.Element element) n can h = absurd cc
-slot_notes geometry count listed group sequence (slots.Copied element) n can h = absurd cc
-slot_notes geometry count listed group sequence (slots.Spare spare) n can h = absurd cc
-slot_notes geometry count listed group sequence (slots.Vendor guid rest) n can h = absurd cc
-slot_notes geometry count listed group sequence (slots.Unread fault kept) n can h = absurd cc
-slot_notes geometry count listed group sequence (slots.Unused kept) n can h = absurd cc
+slot_notes P geometry count listed group sequence (slots.Notes notes) n has can h = subst P (when_is (are_valid group sequence notes) notes n h) (has notes can)
+slot_notes P geometry count listed group sequence (slots.Element element) n has can h = absurd cc
+slot_notes P geometry count listed group sequence (slots.Copied element) n has can h = absurd cc
+slot_notes P geometry count listed group sequence (slots.Spare spare) n has can h = absurd cc
+slot_notes P geometry count listed group sequence (slots.Vendor guid rest) n has can h = absurd cc
+slot_notes P geometry count listed group sequence (slots.Unread fault kept) n has can h = absurd cc
+slot_notes P geometry count listed group sequence (slots.Unused kept) n has can h = absurd cc
+
+-- and of the notes of a copy that can be
+pub copy_notes : (P : Notes → Type 0) (copy : DiskCopy) (n : Notes) → CanBeCopy copy → ((notes : Notes) → CanBeNotes copy.header.geometry (length copy.slots) notes → P notes) → notes_of copy ≡ Some n → P n
+copy_notes P copy n is has e =
+    first_has P (valid_of copy.header.guid copy.header.sequence) copy.slots n
+    (λ i slot m at is_valid. slot_notes P copy.header.geometry (length copy.slots) (lists (valid_notes copy.header.guid copy.header.sequence copy.slots) i) copy.header.guid copy.header.sequence slot m has (is.slots_can.each i slot at) is_valid) e
 
 abbrev RowsFit : Option Notes → Type 0
 RowsFit None = Unit {0}
@@ -86,8 +94,7 @@ notes_rows copy is = go (notes_of copy) refl
   where
     go : (o : Option Notes) → notes_of copy ≡ o → RowsFit o
     go None e = tt
-    go (Some n) e = first_has (λ (m : Notes). AllByRecursion (λ note. note.row < 2 ^ 64) m.slots) (valid_of copy.header.guid copy.header.sequence) copy.slots n
-        (λ i slot m at is_valid. slot_notes copy.header.geometry (length copy.slots) (lists (valid_notes copy.header.guid copy.header.sequence copy.slots) i) copy.header.guid copy.header.sequence slot m (is.slots_can.each i slot at) is_valid) e
+    go (Some n) e = copy_notes (λ (m : Notes). AllByRecursion (λ note. note.row < 2 ^ 64) m.slots) copy n is (λ notes can. rows_small copy.header.geometry (length copy.slots) notes can) e
 
 note_fits : (notes : Option Notes) (at : ℕ) → RowsFit notes → NoteFits (note_at notes at)
 note_fits None at fit = tt
@@ -277,6 +284,7 @@ view_arrays copy is = own_arrays_good copy.arrays.rows is.arrays_can.rows_good
 -- a wanted element of a configuration that is read: its record, in its array
 pub record IsRead (disks : List DiskEntry) (elements : List Held) (wanted : Wanted) : Type 0 where
   pub entry : ArrayEntry
+  pub guid : wanted.guid ≡ entry.guid
   pub held : Held
   pub found : find_held entry.guid wanted.index elements ≡ Some held
   pub plan : wanted.plan ≡ plan_of disks (find_note entry.guid wanted.index elements) held.element
@@ -300,6 +308,7 @@ is_read group sequence views n wanted at =
     let found = plan_found disks (find_note entry.guid wanted.index elements) (find_held entry.guid wanted.index elements) wanted.plan given in
     record {
       entry = entry;
+      guid = of.guid_is ∙ ap (λ (pair : List ℕ × Array). pair.0) (sym from.2);
       held = found.0;
       found = found.1;
       plan = found.2;

@@ -65,7 +65,7 @@ read_rebuilt group sequence views i wanted at =
 
 -- ---- an array that is read
 
-abbrev AllFit : ℕ → List Held → Type 0
+abbrev pub AllFit : ℕ → List Held → Type 0
 AllFit most elements = AllByRecursion (λ held. IsFit most held.element) elements
 
 or_middle : (a b c : Bool) → (a || b || c) ≡ false → b ≡ false
@@ -109,7 +109,7 @@ naming_there most disks elements array held all h =
     let there = element_there disks elements array at.0 held at.1 (omega (arith, own, below, count)) in
     (at.0, there.0, there.1)
 
-count_few : (most : ℕ) (elements : List Held) (array : List ℕ) → AllFit most elements → count_in elements array ≤ 16
+pub count_few : (most : ℕ) (elements : List Held) (array : List ℕ) → AllFit most elements → count_in elements array ≤ 16
 count_few most elements array all = go (naming_record elements array) refl
   where
     go : (o : Option Held) → naming_record elements array ≡ o → option_map_or (λ (held : Held). held.element.elements) o 1 ≤ 16

@@ -1,15 +1,14 @@
 -- The slots that a change gives can be written.
-use Rattle.std.proofs.Common.{◌≡◌, ℕ, zero, suc, ◌+◌, ◌<◌, ◌≤◌, Bool, true, false, ◌&&◌, cond, eqb, List, [], ◌∷◌, ◌++◌, length, map, replicate, Option, Some, None, refl, ap, sym, ◌∙◌, subst, arith}
+use Rattle.std.proofs.Common.{◌≡◌, ℕ, zero, suc, ◌+◌, ◌<◌, ◌≤◌, Bool, true, false, ◌&&◌, cond, eqb, List, [], ◌∷◌, length, replicate, Option, Some, None, refl, ap, sym, ◌∙◌, subst, arith}
 use Rattle.std.proofs.lemmas.List.{length-map, length-replicate}
 use Rattle.std.proofs.lemmas.List.FromFn.{length-enumerate_from}
 use Rattle.std.specs.Prelude.{slice_get}
-use Rattle.std.specs.Option.{option_map_or, option_or}
+use Rattle.std.specs.Option.{option_map_or}
 use Rattle.std.specs.List.{AllByRecursion, enumerate_from, cons_option}
 use Rattle.std.specs.Int.{w32}
 use Rattle.std.specs.Str.{bytes_eq}
 use Rattle.ddf_bytes.specs.Bytes.{number_at}
 use Rattle.ddf_seal.specs.Unread.{AreBytes}
-use Rattle.ddf_bytes.specs.Choices.{first_of}
 use Rattle.ddf_header.specs.declared.geometry.Geometry.{Geometry}
 use Rattle.ddf_configs.specs.declared.notes.Notes.{Notes}
 use Rattle.ddf_configs.specs.declared.spare.SpareRecord.{SpareRecord}
@@ -18,19 +17,18 @@ use Rattle.ddf_configs.specs.declared.slot.RecordSlot.TheVariants as slots
 use Rattle.ddf_configs.specs.Elements.{record_size, HasRoom, CanBeElement}
 use Rattle.ddf_configs.specs.Spares.{CanBeSpare}
 use Rattle.ddf_configs.specs.NoteRecords.{CanBeNotes}
-use Rattle.ddf_configs.specs.Slots.{is_known, is_copied, lists, valid_of, valid_notes, IsUnused, CanBeSlot, CanBeSlots}
+use Rattle.ddf_configs.specs.Slots.{is_known, is_copied, lists, valid_notes, IsUnused, CanBeSlot, CanBeSlots}
 use Rattle.ddf_config.specs.Configuration.{Configuration}
-use Rattle.ddf_config.specs.Members.{is_spare}
 use Rattle.ddf_config.specs.declared.member.SpareUse.{SpareUse}
 use Rattle.ddf_view.specs.View.{Held, first_spare, held_from, held_of}
 use Rattle.ddf_view.proofs.Finds.{find_has, place_within}
-use Rattle.ddf_rewrite.specs.Copies.{element_slot, items_of, left_slot, one_if, record_of, slot_after, unused_slot, element_item}
+use Rattle.ddf_rewrite.specs.Copies.{element_slot, items_of, left_slot, record_of, slot_after, unused_slot}
 use Rattle.ddf_rewrite.specs.Notes.{Holding, find_holding, no_note, note_for, note_of, notes_after}
 use Rattle.ddf_rewrite.specs.Placement.{item_at}
 use Rattle.ddf_rewrite.specs.declared.item.Item.TheVariants as kinds
 use Rattle.ddf_rewrite.specs.declared.item.Item.{Item}
 use Rattle.ddf_rewrite.specs.declared.item.Placed.{Placed}
-use Rattle.ddf_rewrite.proofs.After.{made_slots, note_is, notes_valid, placed_notes, slot_placed}
+use Rattle.ddf_rewrite.proofs.After.{made_slots, note_is, notes_none, notes_valid}
 use Rattle.ddf_rewrite.proofs.InPlace.{AreInPlace}
 use Rattle.ddf_rewrite.proofs.SparesCan.{CanBeOwn}
 use Rattle.ddf_rewrite.proofs.Lists.{map_get, enumerated_get}
@@ -135,27 +133,6 @@ pub listed_noted : (geometry : Geometry) (config : Configuration) (holdings : Li
 listed_noted geometry config holdings spare use_as placed all in_place k lt =
     ap (λ (o : Option Notes). lists o k) (notes_valid geometry config holdings spare use_as all placed in_place) ∙ ap is_copied (note_is config holdings placed (length all) k lt)
 
-none_first_of : {X Y : Type 0} (f : X → Option Y) (xs : List X) → ((i : ℕ) (x : X) → slice_get xs i ≡ Some x → f x ≡ None) → first_of (map f xs) ≡ None
-none_first_of f [] h = refl
-none_first_of f (x ∷ xs) h = ap (λ o. option_or o (first_of (map f xs))) (h 0 x refl) ∙ none_first_of f xs (λ i y at. h (suc i) y at)
-
--- no item is notes
-no_notes : (use_as : SpareUse) (holdings : List Holding) (i : ℕ) → slice_get (items_of false use_as holdings) i ≡ Some kinds.Notes → ⊥
-no_notes use_as holdings i h = go (is_spare use_as) i h
-  where
-    elements : (all : List Holding) (i : ℕ) → slice_get (map element_item all) i ≡ Some kinds.Notes → ⊥
-    elements [] i h = absurd cc
-    elements (x ∷ all) zero h = absurd cc
-    elements (x ∷ all) (suc i) h = elements all i h
-
-    go : (b : Bool) (i : ℕ) → slice_get (one_if b kinds.Spare ++ map element_item holdings) i ≡ Some kinds.Notes → ⊥
-    go true zero h = absurd cc
-    go true (suc i) h = elements holdings i h
-    go false i h = elements holdings i h
-
-pub never_notes : (use_as : SpareUse) (holdings : List Holding) (placed : List Placed) (all : List RecordSlot) → AreInPlace all (items_of false use_as holdings) placed → (k : ℕ) → item_at placed k ≡ Some kinds.Notes → ⊥
-never_notes use_as holdings placed all in_place k h = let there = in_place.among k kinds.Notes h in no_notes use_as holdings there.0 there.1
-
 -- a note for a list of holdings of which none is a copy
 none_copied : (holdings : List Holding) → AllByRecursion (λ holding. holding.copied ≡ false) holdings → (o : Option Item) → (note_for holdings o).copied ≡ false
 none_copied holdings all None = refl
@@ -172,11 +149,7 @@ pub listed_none : (geometry : Geometry) (config : Configuration) (holdings : Lis
     → AllByRecursion (λ holding. holding.copied ≡ false) holdings → (k : ℕ) → k < length all
     → lists (valid_notes config.group config.sequence (made_slots geometry holdings notes spare placed all)) k ≡ (note_for holdings (item_at placed k)).copied
 listed_none geometry config holdings notes spare use_as placed all in_place none k lt =
-    let given : valid_notes config.group config.sequence (made_slots geometry holdings notes spare placed all) ≡ None =
-    none_first_of (valid_of config.group config.sequence) (made_slots geometry holdings notes spare placed all) (λ j slot h.
-    let from = slot_placed geometry holdings notes spare placed all j slot h in
-    ap (valid_of config.group config.sequence) from.1 ∙ placed_notes geometry holdings notes spare from.0 config.group config.sequence (item_at placed j) (never_notes use_as holdings placed all in_place j)) in
-    ap (λ (o : Option Notes). lists o k) given ∙ sym (none_copied holdings none (item_at placed k))
+    ap (λ (o : Option Notes). lists o k) (notes_none geometry config holdings notes spare use_as all placed in_place) ∙ sym (none_copied holdings none (item_at placed k))
 
 -- ---- what an old copy holds
 

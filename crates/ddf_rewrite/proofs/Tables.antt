@@ -67,7 +67,7 @@ arrays_read rows entries few =
 
 -- ---- a member
 
-same_flags : (b : Bool) → same_flag b b ≡ true
+pub same_flags : (b : Bool) → same_flag b b ≡ true
 same_flags true = refl
 same_flags false = refl
 

@@ -1,8 +1,8 @@
 -- The copy that a change or a recovery gives a disk can be written.
-use Rattle.std.proofs.Common.{◌≡◌, ℕ, suc, ◌<◌, ◌≤◌, ◌^◌, Bool, true, false, List, [], ◌∷◌, length, map, Option, Some, None, refl, ap, sym, ◌∙◌, subst}
+use Rattle.std.proofs.Common.{◌≡◌, ℕ, suc, ◌<◌, ◌≤◌, ◌^◌, Bool, true, false, List, [], ◌∷◌, length, map, Option, Some, None, refl, sym, ◌∙◌, subst}
 use Rattle.std.proofs.lemmas.Bool.{ltb-false, false≢true}
 use Rattle.std.specs.Prelude.{slice_get, filter_map}
-use Rattle.std.specs.List.{AllByRecursion, IsDistinct, cons_option}
+use Rattle.std.specs.List.{AllByRecursion, cons_option}
 use Rattle.ddf_header.specs.declared.geometry.Geometry.{Geometry}
 use Rattle.ddf_header.specs.Geometry.{IsSound}
 use Rattle.ddf_header.proofs.Sound.{sound}
@@ -21,33 +21,30 @@ use Rattle.ddf_copy.specs.Written.{CanBeCopy}
 use Rattle.ddf_configs.specs.Building.{spare_entries}
 use Rattle.ddf_config.specs.Configuration.{Configuration}
 use Rattle.ddf_config.specs.declared.member.Member.{Member}
-use Rattle.ddf_config.specs.declared.member.SpareUse.{SpareUse}
 use Rattle.ddf_view.specs.View.{Held, find_held, first_spare, is_element, notes_of, view_of}
 use Rattle.ddf_view.proofs.Finds.{find_has}
 use Rattle.ddf_rewrite.specs.Arrays.{array_rows_after, arrays_after}
 use Rattle.ddf_rewrite.specs.Before.{Before, leading_record}
 use Rattle.ddf_rewrite.specs.Changing.{CanChange}
-use Rattle.ddf_rewrite.specs.Copies.{changed_copy, changed_holding, changed_holdings, copy_after, is_copied_on, items_of, own_record, placed_on, recovered_copy, recovered_holding, recovered_holdings, slots_after, element_item}
+use Rattle.ddf_rewrite.specs.Copies.{changed_copy, changed_holding, changed_holdings, copy_after, items_of, own_record, placed_on, recovered_copy, recovered_holding, recovered_holdings, slots_after}
 use Rattle.ddf_rewrite.specs.Disks.{changed_disks, disk_rows_after, recovered_disks}
-use Rattle.ddf_rewrite.specs.Elements.{recovered_record}
 use Rattle.ddf_rewrite.specs.Hold.{CanBeRecovered, CanHold, CanWrite, FitsPlan}
 use Rattle.ddf_rewrite.specs.Notes.{Holding, notes_after}
-use Rattle.ddf_rewrite.specs.Placement.{is_item}
 use Rattle.ddf_rewrite.specs.Readable.{HasSpares}
 use Rattle.ddf_rewrite.specs.Room.{lacks_entries, lacks_notes}
 use Rattle.ddf_rewrite.specs.Spares.{arrays_of_spare, spare_after, spare_use}
 use Rattle.ddf_rewrite.specs.Wanted.{Wanted, all_wanted}
-use Rattle.ddf_rewrite.specs.declared.item.Item.TheVariants as kinds
-use Rattle.ddf_rewrite.specs.declared.item.Item.{Item}
-use Rattle.ddf_rewrite.proofs.Made.{items_differ, same_items}
+use Rattle.ddf_rewrite.proofs.After.{never_notes}
+use Rattle.ddf_rewrite.proofs.Changed.{changed_makes}
+use Rattle.ddf_rewrite.proofs.Led.{is_led, led_apart}
+use Rattle.ddf_rewrite.proofs.Made.{items_differ, made_apart}
 use Rattle.ddf_rewrite.proofs.ElementsCan.{given, CanBeHeld, changed_can, recovered_can}
 use Rattle.ddf_rewrite.proofs.NotesCan.{HasPlan, notes_can}
 use Rattle.ddf_rewrite.proofs.InPlace.{AreInPlace, in_place}
 use Rattle.ddf_rewrite.proofs.RowsCan.{changed_disks_can, recovered_disks_can, arrays_can}
-use Rattle.ddf_rewrite.proofs.SlotsCan.{HasElement, slots_can, slots_count_after, listed_noted, listed_none, never_notes, elements_can, first_spare_can}
+use Rattle.ddf_rewrite.proofs.SlotsCan.{HasElement, slots_can, slots_count_after, listed_noted, listed_none, elements_can, first_spare_can}
 use Rattle.ddf_rewrite.proofs.SparesCan.{spare_can, spare_arrays_fit}
 use Rattle.ddf_rewrite.proofs.Lists.{all_by_get, all_mapped}
-use Rattle.ddf_rewrite.proofs.AllWanted.{wanted_item}
 
 -- ---- any copy after another
 
@@ -158,7 +155,7 @@ changed_slots old leaders config timestamp is change can =
     changed_can config timestamp geometry old.header.revision (own_record old wanted) (leading_record leaders wanted.guid wanted.index) wanted (room_of old is)
     (given geometry.max_members config can.config_can change.readable n wanted at) can.timestamp_fits (can.capacities_fit n wanted at) (own_can old wanted is) (held_can geometry wanted leaders.elements can.leaders_can))) in
     let plans = all_mapped (HasPlan geometry.max_members) make (all_wanted config) (all_by_get (λ wanted. FitsPlan geometry.max_members wanted) (all_wanted config) can.config_can.plans) in
-    let differ = items_differ use_as holdings (subst (λ (items : List Item). IsDistinct is_item items) (sym (same_items make (λ wanted. refl) (all_wanted config))) change.names.elements) in
+    let differ = items_differ true use_as holdings (made_apart config make change.names (changed_makes old leaders config timestamp)).differ in
     let placing = in_place old.header.guid old.header.sequence old.slots (items_of true use_as holdings) differ change.room.records in
     after_slots old true config timestamp holdings is change.spares can.config_can can.timestamp_fits can.entries_fit can.notes_fit elements plans (λ no. absurd (false≢true (sym no))) placing
 
@@ -184,63 +181,6 @@ all_made {Y = Y} P f (x ∷ xs) h = go (all_made P f xs (λ i z y at is. h (suc 
     go rest None e = rest
     go rest (Some y) e = (h 0 x y refl e, rest)
 
--- a holding is of its element
-made_of : (old : DiskCopy) (leaders : Before) (wanted : Wanted) (holding : Holding) → recovered_holding old leaders wanted ≡ Some holding
-    → (leader : Held) × (leading_record leaders wanted.guid wanted.index ≡ Some leader) × (holding.wanted ≡ wanted) × (holding.element ≡ recovered_record old.header.geometry (own_record old wanted) leader.element)
-    × (leaders.noted ≡ false → holding.copied ≡ false)
-made_of old leaders wanted holding h = go (leading_record leaders wanted.guid wanted.index) refl leaders.noted refl (is_copied_on old.disk_data.reference wanted) refl h
-  where
-    make : Held → Bool → Holding
-    make leader copied = record { wanted = wanted; copied = copied; element = recovered_record old.header.geometry (own_record old wanted) leader.element }
-
-    some : (leader : Held) (copied : Bool) → Some (make leader copied) ≡ Some holding → make leader copied ≡ holding
-    some leader copied h = cc
-
-    parts : (leader : Held) (noted copied : Bool) → leaders.noted ≡ noted → (noted ≡ false → copied ≡ false) → leading_record leaders wanted.guid wanted.index ≡ Some leader → make leader copied ≡ holding
-        → (leader : Held) × (leading_record leaders wanted.guid wanted.index ≡ Some leader) × (holding.wanted ≡ wanted) × (holding.element ≡ recovered_record old.header.geometry (own_record old wanted) leader.element)
-        × (leaders.noted ≡ false → holding.copied ≡ false)
-    parts leader noted copied n c at same =
-        (leader, at, sym (ap (λ (x : Holding). x.wanted) same), sym (ap (λ (x : Holding). x.element) same), λ no. sym (ap (λ (x : Holding). x.copied) same) ∙ c (sym n ∙ no))
-
-    go : (o : Option Held) → leading_record leaders wanted.guid wanted.index ≡ o → (noted : Bool) → leaders.noted ≡ noted → (copied : Bool) → is_copied_on old.disk_data.reference wanted ≡ copied → recovered_holding old leaders wanted ≡ Some holding
-        → (leader : Held) × (leading_record leaders wanted.guid wanted.index ≡ Some leader) × (holding.wanted ≡ wanted) × (holding.element ≡ recovered_record old.header.geometry (own_record old wanted) leader.element)
-        × (leaders.noted ≡ false → holding.copied ≡ false)
-    go None e true n copied c h = absurd (let none : None ≡ Some holding = rw (e, n) at h in cc)
-    go None e false n true c h = absurd (let none : None ≡ Some holding = rw (e, n, c) at h in cc)
-    go None e false n false c h = absurd (let none : None ≡ Some holding = rw (e, n, c) at h in cc)
-    go (Some leader) e true n copied c h = parts leader true copied n (λ no. absurd (false≢true (sym no))) e (some leader copied (rw (e, n, c) at h))
-    go (Some leader) e false n true c h = absurd (let none : None ≡ Some holding = rw (e, n, c) at h in cc)
-    go (Some leader) e false n false c h = parts leader false false n (λ no. refl) e (some leader false (rw (e, n, c) at h))
-
--- items that are left of some that differ do so
-left_apart : (f : Wanted → Option Holding) → ((wanted : Wanted) (holding : Holding) → f wanted ≡ Some holding → holding.wanted ≡ wanted) → (x : Item) (all : List Wanted)
-    → AllByRecursion (λ y. is_item x y ≡ false) (map wanted_item all) → AllByRecursion (λ y. is_item x y ≡ false) (map element_item (filter_map f all))
-left_apart f is x [] all = tt
-left_apart f is x (wanted ∷ rest) all = go (left_apart f is x rest all.1) (f wanted) refl
-  where
-    go : AllByRecursion (λ y. is_item x y ≡ false) (map element_item (filter_map f rest)) → (o : Option Holding) → f wanted ≡ o
-        → AllByRecursion (λ y. is_item x y ≡ false) (map element_item (cons_option o (filter_map f rest)))
-    go later None e = later
-    go later (Some holding) e = (subst (λ (w : Wanted). is_item x (kinds.Element w.guid w.index) ≡ false) (sym (is wanted holding e)) all.0, later)
-
-left_differ : (f : Wanted → Option Holding) → ((wanted : Wanted) (holding : Holding) → f wanted ≡ Some holding → holding.wanted ≡ wanted) → (all : List Wanted)
-    → IsDistinct is_item (map wanted_item all) → IsDistinct is_item (map element_item (filter_map f all))
-unfolding IsDistinct
-left_differ f is [] differ = tt
-left_differ f is (wanted ∷ rest) differ = go (left_differ f is rest differ.1) (f wanted) refl
-  where
-    go : IsDistinct is_item (map element_item (filter_map f rest)) → (o : Option Holding) → f wanted ≡ o
-        → IsDistinct is_item (map element_item (cons_option o (filter_map f rest)))
-    go later None e = later
-    go later (Some holding) e =
-        let first = left_apart f is (kinds.Element wanted.guid wanted.index) rest differ.0 in
-        (subst (λ (w : Wanted). AllByRecursion (λ y. is_item (kinds.Element w.guid w.index) y ≡ false) (map element_item (filter_map f rest))) (sym (is wanted holding e)) first, later)
-
-all_items_differ : (noted : Bool) (use_as : SpareUse) (holdings : List Holding) → IsDistinct is_item (map element_item holdings) → IsDistinct is_item (items_of noted use_as holdings)
-unfolding IsDistinct
-all_items_differ true use_as holdings differ = items_differ use_as holdings differ
-all_items_differ false use_as holdings differ = (items_differ use_as holdings differ).1
-
 recovered_slots : (old : DiskCopy) (leaders : Before) (config : Configuration) (timestamp : ℕ) → CanBeCopy old → CanBeRecovered old leaders config timestamp
     → CanBeSlots old.header.geometry config.group config.sequence (slots_after old leaders.noted config timestamp (recovered_holdings old leaders config))
 unfolding recovered_holdings
@@ -250,14 +190,14 @@ recovered_slots old leaders config timestamp is can =
     let use_as = spare_use config old.disk_data.reference in
     let geometry = old.header.geometry in
     let elements = all_made (HasElement geometry) make (all_wanted config) (λ n wanted holding at made.
-    let from = made_of old leaders wanted holding made in
-    let theirs = subst (CanBeHeld geometry) from.1 (held_can geometry wanted leaders.elements can.leaders_can) in
-    subst (CanBeElement geometry) (sym from.3) (recovered_can geometry (own_record old wanted) from.0.element (room_of old is) (own_can old wanted is) theirs)) in
+    let led = is_led old leaders wanted holding made in
+    let theirs = subst (CanBeHeld geometry) led.leads (held_can geometry wanted leaders.elements can.leaders_can) in
+    subst (CanBeElement geometry) (sym led.element_is) (recovered_can geometry (own_record old wanted) led.leader.element (room_of old is) (own_can old wanted is) theirs)) in
     let plans = all_made (HasPlan geometry.max_members) make (all_wanted config) (λ n wanted holding at made.
-    let from = made_of old leaders wanted holding made in
-    subst (FitsPlan geometry.max_members) (sym from.2) (can.config_can.plans n wanted at)) in
-    let copies = λ (no : leaders.noted ≡ false). all_made (λ (holding : Holding). holding.copied ≡ false) make (all_wanted config) (λ n wanted holding at made. (made_of old leaders wanted holding made).4 no) in
-    let differ = all_items_differ leaders.noted use_as holdings (left_differ make (λ wanted holding made. (made_of old leaders wanted holding made).2) (all_wanted config) can.names.elements) in
+    let led = is_led old leaders wanted holding made in
+    subst (FitsPlan geometry.max_members) (sym led.wanted_is) (can.config_can.plans n wanted at)) in
+    let copies = λ (no : leaders.noted ≡ false). all_made (λ (holding : Holding). holding.copied ≡ false) make (all_wanted config) (λ n wanted holding at made. (is_led old leaders wanted holding made).own_only no) in
+    let differ = items_differ leaders.noted use_as holdings (led_apart old leaders config can.names).differ in
     let placing = in_place old.header.guid old.header.sequence old.slots (items_of leaders.noted use_as holdings) differ can.records_fit in
     after_slots old leaders.noted config timestamp holdings is can.spares can.config_can can.timestamp_fits can.entries_fit can.notes_fit elements plans copies placing
 

@@ -16,7 +16,9 @@ use Rattle.ddf_config.specs.Configuration.{Configuration}
 use Rattle.ddf_config.specs.Shapes.{array_capacity}
 use Rattle.ddf_copy.specs.declared.copy.DiskCopy.{DiskCopy}
 use Rattle.ddf_copy.specs.Written.{CanBeCopy}
+use Rattle.ddf_view.specs.Differ.{difference}
 use Rattle.ddf_view.specs.Readable.{AreReadable}
+use Rattle.ddf_view.specs.View.{View}
 use Rattle.ddf_rewrite.specs.Before.{Before, leading_record}
 use Rattle.ddf_rewrite.specs.Wanted.{Wanted, all_wanted}
 use Rattle.ddf_rewrite.specs.Spares.{spare_use}
@@ -120,3 +122,7 @@ pub record CanBeRecovered (old : DiskCopy) (leaders : Before) (config : Configur
 pub record IsLeader (geometry : Geometry) (copy : DiskCopy) : Type 0 where
   pub is_copy : CanBeCopy copy
   pub same_records : copy.header.geometry.record_length ≡ geometry.record_length
+
+-- no two of these views differ
+abbrev pub DoAgree : List View → Type 0
+DoAgree views = (i j : ℕ) (one other : View) → i < j → slice_get views i ≡ Some one → slice_get views j ≡ Some other → difference one other ≡ None

@@ -1,6 +1,6 @@
 use ddf_config::Config;
 
-/// A change of a group.
+/// A change of a group, or a recovery.
 #[derive(Drop)]
 pub(crate) struct Change<'a> {
     /// The configuration that it gives.

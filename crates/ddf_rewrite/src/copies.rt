@@ -1,25 +1,26 @@
-//! The copy of a disk after a change.
+//! The copy of a disk after a change or a recovery.
 ghost use Rattle.std.specs.Prelude.{◌≡◌, ◌≤◌, ◌<◌, ◌^◌, ℕ, Some, None, filter_map, length, slice_get, IfOk};
 ghost use Rattle.ddf_tables.specs.Disks.{is_used_disk};
 ghost use Rattle.ddf_tables.specs.Arrays.{is_used_array};
 ghost use Rattle.ddf_tables.specs.Tables.{replaced_table};
 ghost use Rattle.ddf_copy.specs.Written.{CanBeCopy};
 ghost use Rattle.ddf_config.specs.Shapes.{array_capacity};
-ghost use Rattle.ddf_view.specs.View.{arrays_of, disk_of, disks_of};
+ghost use Rattle.ddf_view.specs.View.{array_of};
 ghost use Rattle.ddf_rewrite.specs.Before.{before, leading_record};
 ghost use Rattle.ddf_rewrite.specs.Wanted.{Wanted, all_wanted};
-ghost use Rattle.ddf_rewrite.specs.Disks.{changed_disks, disk_rows_after};
+ghost use Rattle.ddf_rewrite.specs.Disks.{disk_rows_after};
 ghost use Rattle.ddf_rewrite.specs.Arrays.{array_rows_after, arrays_after};
-ghost use Rattle.ddf_rewrite.specs.Copies.{changed_copy, changed_holding, changed_holdings};
-ghost use Rattle.ddf_rewrite.specs.Hold.{AreHeld, CanWrite, FitsPlan, IsHoldable};
+ghost use Rattle.ddf_rewrite.specs.Copies.{changed_copy, changed_holding, changed_holdings, copy_after, recovered_copy};
+ghost use Rattle.ddf_rewrite.specs.Hold.{AreDisks, AreHeld, CanBeRecovered, CanWrite, FitsPlan, IsHoldable};
 ghost use Rattle.ddf_rewrite.specs.Changing.{CanChange};
-ghost use Rattle.ddf_rewrite.specs.Room.{full_after_change};
+ghost use Rattle.ddf_rewrite.specs.Room.{CanHoldSpare, full_after_change, full_after_recovery};
 
 use crate::arrays::arrays_after;
 use crate::change::Change;
-use crate::disks::{Sources, changed_disks};
+use crate::disks::{Sources, changed_disks, recovered_disks};
 use crate::elements::changed_record;
-use crate::holding::Holding;
+use crate::holding::{Holding, holding_on};
+use crate::recovery::{are_noted, recovered_holdings};
 use crate::rows::{array_rows_after, disk_rows_after};
 use crate::slots::slots_after;
 use crate::wanted::{Wanted, all_wanted};
@@ -27,7 +28,7 @@ use ddf_bytes::{NoMemory, Seq};
 use ddf_config::Config;
 use ddf_copy::DiskCopy;
 use ddf_header::Header;
-use ddf_tables::{ArrayTable, BadBlockLog, DiskRow, DiskTable};
+use ddf_tables::{ArrayTable, BadBlockLog, DiskEntry, DiskTable};
 use ddf_view::{View, disk_rows, find_held};
 use std::alloc::Global;
 
@@ -57,11 +58,7 @@ fn changed_holding<'a>(
         own.as_ref(),
         leader.as_ref(),
     )?;
-    Ok(Holding {
-        wanted: wanted.again(),
-        copied: !wanted.refers_to(old.disk_data.reference),
-        element,
-    })
+    Ok(holding_on(old, wanted, element))
 }
 
 /// What a disk is to hold of all elements after a change.
@@ -88,49 +85,36 @@ pub(crate) fn changed_holdings<'a>(
     Ok(holdings)
 }
 
-/// The disk table after a change, where the lowest leader has these rows.
-fn changed_disk_table(
+/// The disk table with these entries.
+fn disk_table_after(
     alloc: Global,
-    old: &DiskCopy,
-    leading: &[DiskRow],
-    config: &Config,
-    all: &[Wanted],
+    old: &DiskTable,
+    entries: Vec<DiskEntry>,
 ) -> Result<DiskTable, NoMemory>
-    requires { all.now ≡ all_wanted config.now }
-    ensures { IfOk result (λ table. table ≡ replaced_table is_used_disk old.now.disks (disk_rows_after old.now.disks.rows
-        (changed_disks config.now (filter_map disk_of leading.now) old.now.header.revision (disks_of old.now)))) }
+    ensures { IfOk result (λ table. table ≡ replaced_table is_used_disk old.now (disk_rows_after old.now.rows entries.items)) }
 {
-    let own = old.disks.rows();
-    let sources = Sources {
-        all,
-        leading,
-        own,
-        revision: old.header.revision,
-    };
-    let entries = changed_disks(alloc, config, &sources)?;
-    let rows = disk_rows_after(alloc, own, entries)?;
-    let table = old.disks.duplicate(alloc)?;
+    let rows = disk_rows_after(alloc, old.rows(), entries)?;
+    let table = old.duplicate(alloc)?;
     Ok(table.replaced(rows))
 }
 
-/// The array table after a change.
-fn changed_array_table(
+/// The array table with the entries of the configuration's arrays.
+fn array_table_after(
     alloc: Global,
-    old: &DiskCopy,
+    old: &ArrayTable,
     config: &Config,
 ) -> Result<ArrayTable, NoMemory>
-    ensures { IfOk result (λ table. table ≡ replaced_table is_used_array old.now.arrays (array_rows_after old.now.arrays.rows
-        (arrays_after config.now (arrays_of old.now)))) }
+    ensures { IfOk result (λ table. table ≡ replaced_table is_used_array old.now (array_rows_after old.now.rows
+        (arrays_after config.now (filter_map array_of old.now.rows)))) }
 {
-    let own = old.arrays.rows();
-    let entries = arrays_after(alloc, config, own)?;
-    let rows = array_rows_after(alloc, own, entries)?;
-    let table = old.arrays.duplicate(alloc)?;
+    let entries = arrays_after(alloc, config, old.rows())?;
+    let rows = array_rows_after(alloc, old.rows(), entries)?;
+    let table = old.duplicate(alloc)?;
     Ok(table.replaced(rows))
 }
 
-/// The header of a copy after a change.
-fn changed_header(old: &Header, config: &Config) -> Header
+/// The header of a copy of this configuration.
+fn header_after(old: &Header, config: &Config) -> Header
     ensures { result ≡ record old.now { guid = config.now.group; sequence = config.now.sequence } }
 {
     Header {
@@ -150,8 +134,36 @@ fn second_log(alloc: Global, bad: &Option<BadBlockLog>) -> Result<Option<BadBloc
     }
 }
 
+/// The copy with these entries of disks and these elements, over the bytes of the one that the disk has.
+fn copy_after(
+    alloc: Global,
+    old: &DiskCopy,
+    noted: bool,
+    change: &Change,
+    entries: Vec<DiskEntry>,
+    holdings: &[Holding],
+) -> Result<DiskCopy, NoMemory>
+    requires { CanHoldSpare old.now change.now.config.now }
+    ensures { IfOk result (λ copy. copy ≡ copy_after old.now noted change.now.config.now change.now.timestamp entries.items holdings.now) }
+{
+    let config = change.config;
+    let disks = disk_table_after(alloc, &old.disks, entries)?;
+    let arrays = array_table_after(alloc, &old.arrays, config)?;
+    let slots = slots_after(alloc, old, noted, change, holdings)?;
+    let bad = second_log(alloc, &old.bad)?;
+    Ok(DiskCopy {
+        header: header_after(&old.header, config),
+        controller: old.controller,
+        disks,
+        arrays,
+        slots: Seq::new(slots),
+        disk_data: old.disk_data,
+        bad,
+    })
+}
+
 /// The changed copy, over the bytes of the one that the disk has.
-fn copy_over(
+fn changed_copy_over(
     alloc: Global,
     old: &DiskCopy,
     leaders: &[View],
@@ -169,19 +181,14 @@ fn copy_over(
     let change = Change { config, timestamp };
     let all = all_wanted(alloc, config)?;
     let holdings = changed_holdings(alloc, old, leaders, &change, &all)?;
-    let disks = changed_disk_table(alloc, old, disk_rows(leaders), config, &all)?;
-    let arrays = changed_array_table(alloc, old, config)?;
-    let slots = slots_after(alloc, old, true, &change, &holdings)?;
-    let bad = second_log(alloc, &old.bad)?;
-    Ok(DiskCopy {
-        header: changed_header(&old.header, config),
-        controller: old.controller,
-        disks,
-        arrays,
-        slots: Seq::new(slots),
-        disk_data: old.disk_data,
-        bad,
-    })
+    let sources = Sources {
+        all: &all,
+        leading: disk_rows(leaders),
+        own: old.disks.rows(),
+        revision: old.header.revision,
+    };
+    let entries = changed_disks(alloc, config, &sources)?;
+    copy_after(alloc, old, true, &change, entries, &holdings)
 }
 
 /// The copy of a disk after a change of its group (SNIA DDF 2.0; what is kept is profile), by the copy that it has and those of the
@@ -208,5 +215,54 @@ pub fn changed_copy(
     ensures numbers { IfOk result (λ copy. CanWrite old.now (before leaders.now) config.now timestamp) }
     ensures writable { IfOk result CanBeCopy }
 {
-    copy_over(alloc, old, leaders, config, timestamp)
+    changed_copy_over(alloc, old, leaders, config, timestamp)
+}
+
+/// The recovered copy, over the bytes of the one that the disk has.
+fn recovered_copy_over(
+    alloc: Global,
+    old: &DiskCopy,
+    leaders: &[View],
+    config: &Config,
+    timestamp: u32,
+) -> Result<DiskCopy, NoMemory>
+    requires old { CanBeCopy old.now }
+    requires fits { CanBeRecovered old.now (before leaders.now) config.now timestamp }
+    ensures { IfOk result (λ copy. copy ≡ recovered_copy old.now (before leaders.now) config.now timestamp) }
+{
+    let change = Change { config, timestamp };
+    let all = all_wanted(alloc, config)?;
+    let holdings = recovered_holdings(alloc, old, leaders, &all)?;
+    let entries = recovered_disks(alloc, disk_rows(leaders), old.disks.rows())?;
+    copy_after(alloc, old, are_noted(leaders), &change, entries, &holdings)
+}
+
+/// The copy of a disk that was behind, after a recovery of its group in which nothing is lost (SNIA DDF 2.0; what is kept is profile),
+/// by the copy that it has, those of the group's leaders, the lowest first, and the configuration that the leaders give. Each named
+/// field is the lowest leader's that holds it, every byte that no field names stays as it is on this disk, and new records take the
+/// lowest unused slots. Where no leader has valid notes the disk gets no copies of records and no notes. A spare record that is
+/// altered has the given time.
+///
+/// # Errors
+/// Memory ran out.
+pub fn recovered_copy(
+    alloc: Global,
+    old: &DiskCopy,
+    leaders: &[View],
+    config: &Config,
+    timestamp: u32,
+) -> Result<DiskCopy, NoMemory>
+    requires old { CanBeCopy old.now }
+    requires leaders { AreHeld old.now.header.geometry (before leaders.now) }
+    requires disks { AreDisks (before leaders.now).disks }
+    requires members { length (before leaders.now).disks ≤ length config.now.members }
+    requires holdable { IsHoldable old.now.header.geometry.max_members config.now }
+    requires room { full_after_recovery old.now (before leaders.now) config.now ≡ None }
+    ensures exact { IfOk result (λ copy. copy ≡ recovered_copy old.now (before leaders.now) config.now timestamp) }
+
+    // What the laws of recovered copies ask.
+    ensures fits { CanBeRecovered old.now (before leaders.now) config.now timestamp }
+    ensures writable { IfOk result CanBeCopy }
+{
+    recovered_copy_over(alloc, old, leaders, config, timestamp)
 }

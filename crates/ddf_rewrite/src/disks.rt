@@ -1,6 +1,8 @@
-//! The entries of the disks after a change.
+//! The entries of the disks after a change or a recovery.
 ghost use Rattle.std.specs.Prelude.{◌≡◌, ◌==◌, ◌&&◌, not, map, filter_map, IfOk};
+ghost use Rattle.std.specs.Int.{w16};
 ghost use Rattle.std.specs.List.{list_any};
+ghost use Rattle.ddf_bytes.specs.Bytes.{number_at};
 ghost use Rattle.ddf_view.specs.View.{disk_of};
 ghost use Rattle.ddf_rewrite.specs.Wanted.{all_wanted};
 ghost use Rattle.ddf_rewrite.specs.Disks.{
@@ -16,13 +18,14 @@ ghost use Rattle.ddf_rewrite.specs.Disks.{
   kind_after,
   kind_in,
   member_entry,
+  recovered_disks,
   state_after,
   state_in,
 };
 
 use crate::wanted::Wanted;
 use bitflags::Flags;
-use ddf_bytes::NoMemory;
+use ddf_bytes::{NoMemory, be16};
 use ddf_config::{Config, Member, Position, SpareUse};
 use ddf_header::Revision;
 use ddf_tables::{DiskEntry, DiskRow, DiskState, DiskType};
@@ -35,6 +38,9 @@ const OTHER_TYPE: u16 = 0xFFF1;
 
 /// The bits of a current disk's state that a change keeps: in transition, a predicted failure, a read error that was not made good.
 const OTHER_STATE: u16 = 0x0038;
+
+/// Where the size of a block stands among the bytes of an entry that no field names.
+const BLOCK_SIZE: usize = 58;
 
 /// The block size that records are written with, in bytes: 512 from revision 02.00.00 on, and not given before.
 pub(crate) fn block_size_of(revision: Revision) -> u16
@@ -179,17 +185,23 @@ pub(crate) struct Sources<'a, 'b> {
     pub revision: Revision,
 }
 
+/// An entry on a disk that has these rows: over its own bytes, or over those of a new one.
+fn disk_on(own: &[DiskRow], block_size: u16, entry: DiskEntry) -> DiskEntry
+    ensures { result ≡ disk_on (filter_map disk_of own.now) block_size entry }
+{
+    match find_disk(own, entry.reference) {
+        Some(old) => entry.over(Some(&old), block_size),
+        None => entry.over(None, block_size),
+    }
+}
+
 /// The entry of a member.
 fn changed_disk(sources: &Sources, reference: u32, member: &Member) -> DiskEntry
     ensures { result ≡ disk_on (filter_map disk_of sources.now.own.now) (block_size_of sources.now.revision)
         (member_entry sources.now.all.now (filter_map disk_of sources.now.leading.now) (reference, member.now)) }
 {
     let entry = member_entry(sources.all, sources.leading, reference, member);
-    let block_size = block_size_of(sources.revision);
-    match find_disk(sources.own, reference) {
-        Some(old) => entry.over(Some(&old), block_size),
-        None => entry.over(None, block_size),
-    }
+    disk_on(sources.own, block_size_of(sources.revision), entry)
 }
 
 /// The entries of members, in table order.
@@ -220,4 +232,29 @@ pub(crate) fn changed_disks(
         ≡ changed_disks config.now (filter_map disk_of sources.now.leading.now) sources.now.revision (filter_map disk_of sources.now.own.now)) }
 {
     entries_of(alloc, sources, &config.members)
+}
+
+/// The entry of a disk that the lowest leader records.
+fn recovered_disk(own: &[DiskRow], disk: DiskEntry) -> DiskEntry
+    ensures { result ≡ disk_on (filter_map disk_of own.now) (number_at w16 disk.rest 58) disk }
+{
+    disk_on(own, be16(&disk.rest, BLOCK_SIZE), disk)
+}
+
+/// The entries of the disks after a recovery, in table order, where the lowest leader has these rows.
+#[tactic(auto, unfolding(crate::specs::Disks::recovered_disks))]
+pub(crate) fn recovered_disks(
+    alloc: Global,
+    leading: &[DiskRow],
+    own: &[DiskRow],
+) -> Result<Vec<DiskEntry>, NoMemory>
+    ensures { IfOk result (λ entries. entries.items ≡ recovered_disks (filter_map disk_of leading.now) (filter_map disk_of own.now)) }
+{
+    let mut entries = Vec::new(alloc);
+    for row in leading {
+        if let DiskRow::Entry(disk) = row {
+            entries.push(recovered_disk(own, *disk))?;
+        }
+    }
+    Ok(entries)
 }

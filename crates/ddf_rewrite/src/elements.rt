@@ -1,10 +1,10 @@
-//! The records of elements after a change.
+//! The records of elements after a change or a recovery.
 ghost use Rattle.std.specs.Prelude.{◌≡◌, ◌≤◌, ◌<◌, ◌^◌, [], length, map, None, IfOk};
 ghost use Rattle.std.specs.Option.{ForSome, option_copied};
 ghost use Rattle.ddf_configs.specs.Elements.{CanBeElement, HasRoom};
 ghost use Rattle.ddf_configs.specs.Building.{element_over};
 ghost use Rattle.ddf_config.specs.Shapes.{array_capacity};
-ghost use Rattle.ddf_rewrite.specs.Elements.{altered, changed_over, changed_record, created, keeping, place_in, planned, spares_of};
+ghost use Rattle.ddf_rewrite.specs.Elements.{altered, changed_over, changed_record, created, keeping, place_in, planned, recovered_record, spares_of};
 
 use crate::associated::{NO_REFERENCE, spares_after, spares_of};
 use crate::change::Change;
@@ -259,5 +259,25 @@ pub(crate) fn changed_record(
             let element = created(alloc, change, wanted, &dedicated, header.revision)?;
             element.fresh(alloc, geometry)
         }
+    }
+}
+
+/// The record of an element on a disk after a recovery: what the leader's record says, over the disk's own record, where it has one.
+#[tactic(auto, unfolding(crate::specs::Elements::recovered_record))]
+pub(crate) fn recovered_record(
+    alloc: Global,
+    geometry: &Geometry,
+    own: Option<&Held>,
+    leader: &Element,
+) -> Result<Element, NoMemory>
+    requires room { HasRoom geometry.now }
+    requires own { ForSome (option_copied own) (λ held. CanBeElement geometry.now held.element) }
+    requires leader { CanBeElement geometry.now leader.now }
+    ensures { IfOk result (λ element. element ≡ recovered_record geometry.now (option_copied own.entry) leader.now) }
+{
+    let element = fields_of(alloc, leader);
+    match own {
+        Some(held) => element.over(alloc, geometry, held.element),
+        None => element.over(alloc, geometry, leader),
     }
 }

@@ -2,12 +2,13 @@
 ghost use Rattle.std.specs.Prelude.{◌≡◌, ◌==◌, ◌&&◌, find, map, IfOk};
 ghost use Rattle.std.specs.Option.{option_copied};
 ghost use Rattle.ddf_rewrite.specs.Notes.{find_holding};
-ghost use Rattle.ddf_rewrite.specs.Copies.{element_slot};
+ghost use Rattle.ddf_rewrite.specs.Copies.{element_slot, is_copied_on};
 
 use crate::elements::duplicate;
 use crate::wanted::Wanted;
 use ddf_bytes::{Guid, NoMemory};
 use ddf_configs::{Element, RecordSlot};
+use ddf_copy::DiskCopy;
 use std::alloc::Global;
 use std::marker::Model;
 
@@ -28,6 +29,17 @@ impl<'a> Model for Holding<'a> {
     ghost Value = { notes.Holding };
 
     ghost view = { λ one. record { wanted = one.wanted; copied = one.copied; element = one.element } };
+}
+
+/// An element with its record on a disk, which is a copy where the disk is no member of it.
+pub(crate) fn holding_on<'a>(old: &DiskCopy, wanted: &Wanted<'a>, element: Element) -> Holding<'a>
+    ensures { result ≡ record { wanted = wanted.now; copied = is_copied_on old.now.disk_data.reference wanted.now; element = element } }
+{
+    Holding {
+        wanted: wanted.again(),
+        copied: !wanted.refers_to(old.disk_data.reference),
+        element,
+    }
 }
 
 /// The holding of an element of an array.

@@ -9,16 +9,17 @@ ghost use Rattle.ddf_config.specs.Shapes.{array_capacity};
 ghost use Rattle.ddf_copy.specs.declared.copy.DiskCopy.{DiskCopy};
 ghost use Rattle.ddf_copy.specs.Written.{CanBeCopy};
 ghost use Rattle.ddf_copy.specs.Headers.{IsUnder};
-ghost use Rattle.ddf_view.specs.View.{view_of};
-ghost use Rattle.ddf_view.specs.Reading.{read};
-ghost use Rattle.ddf_view.specs.Shows.{shows_fully};
+ghost use Rattle.ddf_view.specs.View.{View, view_of};
+ghost use Rattle.ddf_view.specs.Readable.{HasNotes};
+ghost use Rattle.ddf_view.specs.Reading.{are_noted, read};
+ghost use Rattle.ddf_view.specs.Shows.{shows, shows_fully};
 ghost use Rattle.ddf_view.specs.Differ.{difference};
 ghost use Rattle.ddf_rewrite.specs.Before.{Before, before, leading_record};
 ghost use Rattle.ddf_rewrite.specs.Wanted.{Wanted, all_wanted};
 ghost use Rattle.ddf_rewrite.specs.Copies.{changed_copy, recovered_copy};
 ghost use Rattle.ddf_rewrite.specs.Readable.{HasOwnNames, AreRebuilt};
 ghost use Rattle.ddf_rewrite.specs.Room.{full_after_change, full_after_recovery};
-ghost use Rattle.ddf_rewrite.specs.Hold.{AreHeld, CanBeRecovered, CanWrite, IsHoldable, IsLeader};
+ghost use Rattle.ddf_rewrite.specs.Hold.{AreHeld, CanBeRecovered, CanWrite, DoAgree, IsHoldable, IsLeader};
 ghost use Rattle.ddf_rewrite.specs.Changing.{HasRoomFor, CanChange};
 
 /// The copy that a change gives a disk shows the configuration fully.
@@ -106,4 +107,39 @@ pub fn a_recovery_that_has_room_can_be_written()
         (read copy.header.guid copy.header.sequence (map view_of (copy ∷ copies))) ≡ None
         → CanBeRecovered old (before (map view_of (copy ∷ copies)))
         (read copy.header.guid copy.header.sequence (map view_of (copy ∷ copies))) timestamp }
+{}
+
+/// The copy that a recovery gives a disk shows the configuration that the leaders give. Where a leader has valid notes it shows it
+/// fully, and each of its records has a note.
+pub fn a_recovered_copy_shows_the_configuration()
+    ensures shown { (old : DiskCopy) (group : List ℕ) (sequence : ℕ) (views : List View) (timestamp : ℕ)
+        → CanBeRecovered old (before views) (read group sequence views) timestamp
+        → shows (read group sequence views) (view_of (recovered_copy old (before views) (read group sequence views) timestamp)) ≡ true }
+    ensures fully { (old : DiskCopy) (group : List ℕ) (sequence : ℕ) (views : List View) (timestamp : ℕ)
+        → CanBeRecovered old (before views) (read group sequence views) timestamp → are_noted views ≡ true
+        → shows_fully (read group sequence views) (view_of (recovered_copy old (before views) (read group sequence views) timestamp)) ≡ true }
+    ensures noted { (old : DiskCopy) (group : List ℕ) (sequence : ℕ) (views : List View) (timestamp : ℕ)
+        → CanBeRecovered old (before views) (read group sequence views) timestamp → are_noted views ≡ true
+        → HasNotes (view_of (recovered_copy old (before views) (read group sequence views) timestamp)) }
+{}
+
+/// The copies that a recovery gives two disks agree.
+pub fn recovered_copies_agree()
+    ensures { (old other : DiskCopy) (group : List ℕ) (sequence : ℕ) (views : List View) (timestamp : ℕ)
+        → CanBeRecovered old (before views) (read group sequence views) timestamp
+        → CanBeRecovered other (before views) (read group sequence views) timestamp
+        → difference (view_of (recovered_copy old (before views) (read group sequence views) timestamp))
+        (view_of (recovered_copy other (before views) (read group sequence views) timestamp)) ≡ None }
+{}
+
+/// The copy that a recovery gives a disk agrees with that of each leader, where these agree with one another.
+pub fn a_recovered_copy_agrees_with_the_leaders()
+    ensures there { (old : DiskCopy) (group : List ℕ) (sequence : ℕ) (leaders : List DiskCopy) (timestamp : ℕ)
+        → CanBeRecovered old (before (map view_of leaders)) (read group sequence (map view_of leaders)) timestamp
+        → AllByRecursion CanBeCopy leaders → DoAgree (map view_of leaders) → (k : ℕ) (leader : DiskCopy) → slice_get leaders k ≡ Some leader
+        → difference (view_of (recovered_copy old (before (map view_of leaders)) (read group sequence (map view_of leaders)) timestamp)) (view_of leader) ≡ None }
+    ensures back { (old : DiskCopy) (group : List ℕ) (sequence : ℕ) (leaders : List DiskCopy) (timestamp : ℕ)
+        → CanBeRecovered old (before (map view_of leaders)) (read group sequence (map view_of leaders)) timestamp
+        → AllByRecursion CanBeCopy leaders → DoAgree (map view_of leaders) → (k : ℕ) (leader : DiskCopy) → slice_get leaders k ≡ Some leader
+        → difference (view_of leader) (view_of (recovered_copy old (before (map view_of leaders)) (read group sequence (map view_of leaders)) timestamp)) ≡ None }
 {}

@@ -1,4 +1,4 @@
-//! Whether a disk has room for what a change gives it.
+//! Whether a disk has room for what a change or a recovery gives it.
 ghost use Rattle.std.specs.Prelude.{◌≡◌, ◌||◌, Bool, List, length, IfOk};
 ghost use Rattle.ddf_copy.specs.Written.{CanBeCopy};
 ghost use Rattle.ddf_rewrite.specs.Before.{before};
@@ -8,12 +8,13 @@ ghost use Rattle.ddf_rewrite.specs.Hold.{AreHeld, IsHoldable};
 ghost use Rattle.ddf_rewrite.specs.Notes.{Holding};
 ghost use Rattle.ddf_rewrite.specs.Spares.{arrays_of_spare};
 ghost use Rattle.ddf_rewrite.specs.Room as room;
-ghost use Rattle.ddf_rewrite.specs.Room.{full_after_change, full_with, lacks_entries, lacks_notes, lacks_places, lacks_slots, spares_before};
+ghost use Rattle.ddf_rewrite.specs.Room.{full_after_change, full_after_recovery, full_with, lacks_entries, lacks_notes, lacks_places, lacks_slots, spares_before};
 
 use crate::associated::{NO_REFERENCE, has_places, spares_of};
 use crate::change::Change;
 use crate::copies::changed_holdings;
 use crate::holding::Holding;
+use crate::recovery::{are_noted, recovered_holdings};
 use crate::slots::{items_of, placed_on};
 use crate::spares::spare_use;
 use crate::wanted::{Wanted, all_wanted};
@@ -156,4 +157,27 @@ pub fn full_after_change(
     let records = lacks_records(alloc, old, true, config, &holdings)?;
     let places = lacks_places(alloc, leaders, config, &all)?;
     Ok(full_with(old, config, records, lacks_notes(old, true), places))
+}
+
+/// The first table of a disk that was behind that has no room for what a recovery in which nothing is lost gives it, by the copy that
+/// it has, those of the group's leaders, and the configuration that they give; None where all have (profile).
+///
+/// # Errors
+/// Memory ran out.
+#[tactic(auto, unfolding(crate::specs::Room::full_after_recovery))]
+pub fn full_after_recovery(
+    alloc: Global,
+    old: &DiskCopy,
+    leaders: &[View],
+    config: &Config,
+) -> Result<Option<FullTable>, NoMemory>
+    requires old { CanBeCopy old.now }
+    requires leaders { AreHeld old.now.header.geometry (before leaders.now) }
+    ensures { IfOk result (λ full. full ≡ full_after_recovery old.now (before leaders.now) config.now) }
+{
+    let noted = are_noted(leaders);
+    let all = all_wanted(alloc, config)?;
+    let holdings = recovered_holdings(alloc, old, leaders, &all)?;
+    let records = lacks_records(alloc, old, noted, config, &holdings)?;
+    Ok(full_with(old, config, records, lacks_notes(old, noted), false))
 }
