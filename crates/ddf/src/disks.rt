@@ -35,6 +35,11 @@ where
     Ok((bay, claims))
 }
 
+/// Whether a disk could not be opened.
+pub fn any_unopened<R: Files>(bay: &FileBay<R>) -> bool {
+    (0..bay.slots()).any(|slot| bay.fault(slot).is_some())
+}
+
 /// Names on standard error each slot whose checksums are turned.
 pub fn name_turned<R: Files + Eprint>(rt: &R, bay: &Turned<FileBay<R>>) {
     for slot in 0..bay.slots() {

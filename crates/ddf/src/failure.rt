@@ -5,6 +5,9 @@ use std::{fmt, io};
 /// The status where memory ran out.
 pub const NO_MEMORY: u8 = 5;
 
+/// The status where a disk failed.
+pub const DISK_FAULT: u8 = 3;
+
 /// The status where the input or the output failed, or a file of the system that the program can't do without.
 pub const STREAM_FAULT: u8 = 6;
 
@@ -19,6 +22,8 @@ pub enum Failure {
     Streams(io::Error),
     /// There is no chance for new names.
     Chance(io::Error),
+    /// A disk that is named can't be opened, and its group would be changed without it.
+    Unopened,
 }
 
 impl Failure {
@@ -26,6 +31,7 @@ impl Failure {
     pub fn status(&self) -> u8 {
         match self {
             Failure::Memory => NO_MEMORY,
+            Failure::Unopened => DISK_FAULT,
             Failure::Stream | Failure::Streams(_) | Failure::Chance(_) => STREAM_FAULT,
         }
     }
@@ -43,6 +49,10 @@ impl fmt::Display for Failure {
         match self {
             Failure::Memory => write!(f, "memory ran out"),
             Failure::Stream => write!(f, "the input or the output failed"),
+            Failure::Unopened => write!(
+                f,
+                "nothing was done: a group counts a disk that can't be opened as lost for good; leave it out of the words if it is"
+            ),
             Failure::Streams(why) => write!(f, "the standard streams can't be kept apart: {why}"),
             Failure::Chance(why) => write!(
                 f,

@@ -15,7 +15,7 @@ mod streams;
 mod tests;
 mod wrong_words;
 
-use crate::disks::{name_turned, open_disks};
+use crate::disks::{any_unopened, name_turned, open_disks};
 use crate::failure::{Failure, NO_MEMORY, STREAM_FAULT};
 use crate::help::{USAGE, answer};
 use crate::memory::keep_freed;
@@ -123,7 +123,12 @@ fn answered(status: u8) -> Result<u8, Failure> {
     }
 }
 
-/// Opens the disks, and hands them to the command.
+/// Whether a command may write to the disks of a group, and to go on without those that are away.
+fn changes_group(command: &Command) -> bool {
+    command.takes_group() && command.may_write()
+}
+
+/// Opens the disks, and hands them to the command. A group isn't changed where a disk that is named can't be opened.
 fn perform<R>(rt: &R, words: &[String], asked: &Asked) -> Result<u8, Failure>
 where
     R: Files<File = File> + Clock + Input + Print + Eprint + AllocGlobal + Clone + Drop,
@@ -135,6 +140,9 @@ where
     }
     let stamp = stamp_for(rt, &asked.command).map_err(Failure::Chance)?;
     let (files, claims) = open_disks(rt, paths, &asked.command)?;
+    if changes_group(&asked.command) && any_unopened(&files) {
+        return Err(Failure::Unopened);
+    }
     let mut bay = Turned::new(files);
     let mut source = StdSource::new(rt.reader());
     let mut sink = StdSink::new(io::writer(rt));

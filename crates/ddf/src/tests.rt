@@ -15,5 +15,6 @@ mod linux;
 mod primary;
 mod read;
 mod records;
+mod recovery;
 mod secondary;
 mod sectors;

@@ -1,5 +1,5 @@
 -- The next step of those that were readied for a group may be written to disks that hold the group.
-use Rattle.std.proofs.Common.{◌≡◌, ℕ, zero, suc, ◌<◌, true, List, [], ◌∷◌, length, Some, Ok, refl, sym, ap, subst, ◌∙◌, arith}
+use Rattle.std.proofs.Common.{◌≡◌, ℕ, zero, suc, ◌<◌, true, List, [], ◌∷◌, length, Option, Some, Ok, refl, sym, ap, subst, ◌∙◌, arith}
 use Rattle.std.proofs.lemmas.List.{length-map}
 use Rattle.std.specs.Prelude.{slice_get, slice_index}
 use Rattle.std.specs.List.{AllByRecursion}
@@ -10,13 +10,16 @@ use Rattle.ddf_copy.specs.declared.copy.DiskCopy.{DiskCopy}
 use Rattle.ddf_copy.specs.declared.which.Which.{Which}
 use Rattle.ddf_copy.specs.declared.which.Which.TheVariants.{Secondary}
 use Rattle.ddf_copy.specs.Anchor.{anchor_at}
-use Rattle.ddf_copy.specs.Copies.{copy_of}
+use Rattle.ddf_copy.specs.declared.newest_copy.Newest.{Newest}
+use Rattle.ddf_copy.specs.Copies.{copy_of, standing_copy}
 use Rattle.ddf_copy.specs.Headers.{IsUnder, anchor_header}
 use Rattle.ddf_copy.specs.Shows.{IsNewest, last_of}
 use Rattle.ddf_copy.specs.Written.{is_level}
 use Rattle.ddf_copy.proofs.LastCopies.{last_is}
 use Rattle.ddf_config.specs.declared.seat.Seat.{Seat}
 use Rattle.ddf_config.specs.Seats.{SeatsFit}
+use Rattle.ddf_config.specs.Configuration.{Configuration}
+use Rattle.ddf_view.proofs.Tests.{all_map}
 use Rattle.ddf_rewrite.proofs.Lists.{all_at, all_by_get, map_get}
 use Rattle.ddf_update.specs.declared.prepared.Mode.TheVariants.{Change}
 use Rattle.ddf_update.specs.Changes.{MayChangeAll, SlotChange}
@@ -43,16 +46,16 @@ seats_on_slots sizes seats fit place seat at = (fit place seat at).0
 -- ---- what the slot of a disk gets
 
 -- A disk's slot may get the disk's copy in this change.
-record IsChange {D : Type 0} (disks : BayState D) (disk : Seated) (change : SlotChange) : Type 0 where
-  may_change : MayChange disks disk.seat.slot change.anchor change.last change.old change.new
-  has_last : change.last ≡ disk.last
-  has_new : change.new ≡ disk.copy
+pub record IsChange {D : Type 0} (disks : BayState D) (disk : Seated) (change : SlotChange) : Type 0 where
+  pub may_change : MayChange disks disk.seat.slot change.anchor change.last change.old change.new
+  pub has_last : change.last ≡ disk.last
+  pub has_new : change.new ≡ disk.copy
 
 -- a change for places where there is no disk
 no_copy : DiskCopy
 no_copy = new_copy (record { seconds = 0; salt = 0 }) [] 0
 
-no_change : SlotChange
+pub no_change : SlotChange
 no_change = record { anchor = anchor_header no_copy; last = Secondary; old = no_copy; new = no_copy }
 
 -- A change for each place, where there is one for each disk.
@@ -76,6 +79,18 @@ never_same : (new old standing : DiskCopy) (low high : ℕ) → old.header.seque
     → new.header.sequence ≡ old.header.sequence → is_level new old ≡ true
 never_same new old standing low high is_standing is_low is_high less same = absurd (omega (arith, is_standing, is_low, is_high, less, same))
 
+-- A disk's new copy is level with the newest copy of its slot, as an update takes it, where they are of one sequence number.
+abbrev pub IsNewerOver : GroupValue → (before disk : Seated) → Type 0
+IsNewerOver group before disk =
+    (found : Newest) → slice_get group.newest before.seat.slot ≡ Some (Some found) → standing_copy found ≡ Some before.copy
+    → (old : DiskCopy) → old.header.sequence ≡ before.copy.header.sequence → IsNewest found old
+    → disk.copy.header.sequence ≡ old.header.sequence → is_level disk.copy old ≡ true
+
+-- A disk of a step rewrites one of the group, and may be written over it.
+pub record MayReplace (group : GroupValue) (config : Configuration) (disk : Seated) : Type 0 where
+  pub rewrites : IsRewritten (seated group) config disk
+  pub newer : IsNewerOver group rewrites.before disk
+
 -- ---- the disks of a step
 
 module _ {D : Type 0} (state : BayState D) (group : GroupValue) (holds : HoldsGroup state group) where
@@ -88,11 +103,11 @@ module _ {D : Type 0} (state : BayState D) (group : GroupValue) (holds : HoldsGr
       let found = subst (λ (n : ℕ). slice_get group.newest n ≡ Some (Some own.found)) here own.is_found in
       standing_under (size_of state slot) anchor own.found disk.copy own.stands (holds.are_under slot own.found found anchor anchored))
 
-  module _ (one : ReadyStep) (have_sequence : HaveSequence group.config.sequence (seated group)) (follows : Follows (seated group) one)
-      (rewrites : AllByRecursion (IsRewritten (seated group) one.step.config) one.step.disks) (rises : group.config.sequence < one.step.config.sequence) where
+  module _ (one : ReadyStep) (follows : Follows (seated group) one) (replace : AllByRecursion (MayReplace group one.step.config) one.step.disks) where
     change_of : (place : ℕ) (disk : Seated) → slice_get one.step.disks place ≡ Some disk → (change : SlotChange) × IsChange state disk change
     change_of place disk at =
-        let is = all_at (IsRewritten (seated group) one.step.config) one.step.disks place disk rewrites at in
+        let may = all_at (MayReplace group one.step.config) one.step.disks place disk replace at in
+        let is = may.rewrites in
         let own = seated_is group is.place is.before is.is_there in
         let slot = disk.seat.slot in
         let size = size_of state slot in
@@ -103,7 +118,6 @@ module _ {D : Type 0} (state : BayState D) (group : GroupValue) (holds : HoldsGr
         let last : last_of own.found ≡ disk.last = sym (is.same_last ∙ own.has_last) in
         let newest = subst (λ (newest : _). IsNewest newest there.copy) held.is_newest there.is_newest in
         let alike = standing_sequence size (state.held slot) held.anchor own.found held.is_newest is.before.copy there.copy own.stands newest in
-        let before = all_at (λ (one : Seated). one.copy.header.sequence ≡ group.config.sequence) (seated group) is.place is.before have_sequence is.is_there in
         let settled = holds.are_settled own.place is.before.seat (get_within group.seats is.before.seat own.place own.is_seat) own.is_seat in (
           record { anchor = held.anchor; last = disk.last; old = there.copy; new = disk.copy },
           record {
@@ -114,21 +128,21 @@ module _ {D : Type 0} (state : BayState D) (group : GroupValue) (holds : HoldsGr
               is_newest = there.is_newest;
               is_under = all_at (λ (one : Seated). one.seat.slot ≡ slot → IsUnder size held.anchor one.copy) one.step.disks place disk
                   (follows.stand_on slot size held.anchor (seated_under slot held.anchor held.is_anchored)) at refl;
-              is_newer = never_same disk.copy there.copy is.before.copy group.config.sequence one.step.config.sequence alike before is.has_sequence rises;
+              is_newer = λ same. may.newer own.found own.is_found own.stands there.copy alike newest same;
             };
             has_last = refl;
             has_new = refl;
           },
         )
 
-    seat_of : ℕ → SlotChange
+    pub seat_of : ℕ → SlotChange
     seat_of = chosen state one.step.disks change_of
 
-    seat_is : (place : ℕ) (disk : Seated) → slice_get one.step.disks place ≡ Some disk → IsChange state disk (seat_of place)
+    pub seat_is : (place : ℕ) (disk : Seated) → slice_get one.step.disks place ≡ Some disk → IsChange state disk (seat_of place)
     unfolding seat_of
     seat_is place disk at = chosen_is state one.step.disks change_of place disk at
 
-    may_change_all : MayChangeAll state (slots_in one.step.disks) seat_of one.updates
+    pub may_change_all : MayChangeAll state (slots_in one.step.disks) seat_of one.updates
     may_change_all = record {
       may_change = λ place slot at.
           let there = map_get (λ (disk : Seated). disk.seat.slot) one.step.disks place slot at in
@@ -145,22 +159,35 @@ module _ {D : Type 0} (state : BayState D) (group : GroupValue) (holds : HoldsGr
 
 -- ---- the next step
 
-steps_may : {D : Type 0} (state : BayState D) (group : GroupValue) (steps : List ReadyStep) → HoldsGroup state group → IsReadyFor group (record { steps = steps })
-    → MayWriteNext state (record { steps = steps })
-steps_may state group [] holds is = record {
+-- A later step may be written over disks of the sequence number that the group is at.
+later_replace : (group : GroupValue) (one : ReadyStep) → HaveSequence group.config.sequence (seated group) → AllByRecursion (IsRewritten (seated group) one.step.config) one.step.disks
+    → group.config.sequence < one.step.config.sequence → AllByRecursion (MayReplace group one.step.config) one.step.disks
+later_replace group one have_sequence rewrites rises =
+    all_map (IsRewritten (seated group) one.step.config) (MayReplace group one.step.config)
+    (λ disk is. record {
+      rewrites = is;
+      newer = λ found is_found stands old alike newest.
+          let before = all_at (λ (other : Seated). other.copy.header.sequence ≡ group.config.sequence) (seated group) is.place is.before have_sequence is.is_there in
+          never_same disk.copy old is.before.copy group.config.sequence one.step.config.sequence alike before is.has_sequence rises;
+    })
+    one.step.disks rewrites
+
+steps_may : {D : Type 0} (state : BayState D) (group : GroupValue) (recovery : Option ReadyStep) (steps : List ReadyStep) → HoldsGroup state group → IsReadyFor group (record { recovery = recovery; steps = steps })
+    → MayWriteNext state (record { recovery = recovery; steps = steps })
+steps_may state group recovery [] holds is = record {
   seat = λ place. no_change;
   may_change = record { may_change = λ place slot at. absurd cc; are_prepared = λ place update at. absurd cc };
   news = λ place disk at. absurd cc;
 }
-steps_may state group (one ∷ others) holds is = record {
-  seat = seat_of state group holds one is.have_sequence is.follows.0 is.rewrites.0 is.rises.0;
-  may_change = may_change_all state group holds one is.have_sequence is.follows.0 is.rewrites.0 is.rises.0;
-  news = λ place disk at. (seat_is state group holds one is.have_sequence is.follows.0 is.rewrites.0 is.rises.0 place disk at).has_new;
+steps_may state group recovery (one ∷ others) holds is = record {
+  seat = seat_of state group holds one is.follows.0 (later_replace group one is.have_sequence is.rewrites.0 is.rises.0);
+  may_change = may_change_all state group holds one is.follows.0 (later_replace group one is.have_sequence is.rewrites.0 is.rises.0);
+  news = λ place disk at. (seat_is state group holds one is.follows.0 (later_replace group one is.have_sequence is.rewrites.0 is.rises.0) place disk at).has_new;
 }
 
 -- It may be written to disks that hold the group.
 pub may_write_next : {D : Type 0} (state : BayState D) (group : GroupValue) (ready : ReadyValue) → HoldsGroup state group → IsReadyFor group ready → MayWriteNext state ready
-may_write_next state group ready holds is = steps_may state group ready.steps holds is
+may_write_next state group ready holds is = steps_may state group ready.recovery ready.steps holds is
 
 -- ---- where it is written
 
@@ -172,7 +199,7 @@ module _ (sizes : List ℕ) (group : GroupValue) (have : HaveAnchors sizes group
       let here = have disk.seat.slot own.found own.is_found in
       record { there = here.0; anchor = here.1.anchor; under = standing_under (slice_index sizes disk.seat.slot) here.1.anchor own.found disk.copy own.stands here.1.under })
 
-  step_lies : (one : ReadyStep) → Follows (seated group) one → SlotsRise (seats_in (seated group)) → LieOnSlots sizes (slots_in one.step.disks) one.updates
+  pub step_lies : (one : ReadyStep) → Follows (seated group) one → SlotsRise (seats_in (seated group)) → LieOnSlots sizes (slots_in one.step.disks) one.updates
   step_lies one follows rise =
       let placed = follows.have_places sizes seated_placed in
       let place_of = λ (place : ℕ) (disk : Seated) (at : slice_get one.step.disks place ≡ Some disk). all_at (HasPlace sizes) one.step.disks place disk placed at in
@@ -191,14 +218,14 @@ module _ (sizes : List ℕ) (group : GroupValue) (have : HaveAnchors sizes group
             (lies_on (slice_index sizes found.0.seat.slot) here.anchor found.0.copy found.0.last Change update here.under (follows.are_prepared.each place found.0 update found.1 also));
       }
 
-  steps_lie : (steps : List ReadyStep) → IsReadyFor group (record { steps = steps }) → LieOnSlots sizes (next_slots (record { steps = steps })) (next_updates (record { steps = steps }))
-  steps_lie [] is = record {
+  steps_lie : (recovery : Option ReadyStep) (steps : List ReadyStep) → IsReadyFor group (record { recovery = recovery; steps = steps }) → LieOnSlots sizes (next_slots (record { recovery = recovery; steps = steps })) (next_updates (record { recovery = recovery; steps = steps }))
+  steps_lie recovery [] is = record {
     are_slots = record { there = λ place slot at. absurd cc; differ = λ first second slot at also. absurd cc };
     counted = refl;
     lie_on = λ place slot update at also. absurd cc;
   }
-  steps_lie (one ∷ others) is = step_lies one is.follows.0 (subst SlotsRise (sym is.is_settled.are_seated) is.is_settled.slots_rise)
+  steps_lie recovery (one ∷ others) is = step_lies one is.follows.0 (subst SlotsRise (sym is.is_settled.are_seated) is.is_settled.slots_rise)
 
   -- Its updates lie on their slots.
   pub next_lies : (ready : ReadyValue) → IsReadyFor group ready → LieOnSlots sizes (next_slots ready) (next_updates ready)
-  next_lies ready is = steps_lie ready.steps is
+  next_lies ready is = steps_lie ready.recovery ready.steps is

@@ -1,5 +1,5 @@
 -- A group to which the next step was written: the disks hold it, and the steps that are left were readied for it.
-use Rattle.std.proofs.Common.{◌≡◌, ◌≢◌, ℕ, ◌<◌, List, [], ◌∷◌, length, map, fold, Some, Ok, refl, sym, ap, subst, ◌∙◌, inl, inr, arith}
+use Rattle.std.proofs.Common.{◌≡◌, ◌≢◌, ℕ, ◌<◌, true, List, [], ◌∷◌, length, map, fold, Option, Some, Ok, refl, sym, ap, subst, ◌∙◌, inl, inr, arith}
 use Rattle.std.proofs.Math.Path.{fun_ext}
 use Rattle.std.specs.Prelude.{slice_get, slice_index}
 use Rattle.std.specs.List.{AllByRecursion}
@@ -15,6 +15,8 @@ use Rattle.ddf_copy.specs.Anchor.{anchor_at}
 use Rattle.ddf_copy.specs.Headers.{IsUnder}
 use Rattle.ddf_copy.specs.Whole.{IsNewestUnder}
 use Rattle.ddf_config.specs.declared.seat.Seat.{Seat}
+use Rattle.ddf_view.specs.Shows.{shows}
+use Rattle.ddf_view.specs.View.{view_of}
 use Rattle.ddf_rewrite.proofs.Lists.{all_at, all_by_get, all_mapped, get_map, map_get, some_same}
 use Rattle.ddf_update.specs.Changes.{AreChanged, MayChangeAll, SlotChange}
 use Rattle.ddf_update.specs.Update.{AreBoth}
@@ -37,11 +39,11 @@ use Rattle.ddf_assembly.proofs.Lists.{get_within}
 
 module _ {D : Type 0} (old new : BayState D) (same_sizes : new.sizes ≡ old.sizes) (slot : ℕ) (newest : Newest) (same : new.held slot ≡ old.held slot) where
   -- it holds what it held
-  held_still : IsHeldOn old slot newest → IsHeldOn new slot newest
+  pub held_still : IsHeldOn old slot newest → IsHeldOn new slot newest
   held_still held = record { anchor = held.anchor; is_anchored = rw (same_sizes, same) held.is_anchored; is_newest = rw (same_sizes, same) held.is_newest }
 
   -- which can be written again there
-  under_still : (anchor : Header) → (anchor_at (size_of old slot) (old.held slot) ≡ Ok anchor → IsNewestUnder (size_of old slot) anchor newest)
+  pub under_still : (anchor : Header) → (anchor_at (size_of old slot) (old.held slot) ≡ Ok anchor → IsNewestUnder (size_of old slot) anchor newest)
       → anchor_at (size_of new slot) (new.held slot) ≡ Ok anchor → IsNewestUnder (size_of new slot) anchor newest
   under_still anchor under anchored = rw same_sizes (under (rw (same_sizes, same) at anchored))
 
@@ -58,17 +60,21 @@ recovered_holds old new same_sizes same_held group held under settled =
 
 -- ---- a step's disks
 
-module _ (group : GroupValue) (one : ReadyStep) (settled : IsSettledGroup group) (follows : Follows (seated group) one)
+-- The slots of a settled group's disks rise.
+settled_rise : (group : GroupValue) → IsSettledGroup group → SlotsRise (seats_in (seated group))
+settled_rise group settled = subst SlotsRise (sym settled.are_seated) settled.slots_rise
+
+module _ (group : GroupValue) (one : ReadyStep) (rise : SlotsRise (seats_in (seated group))) (follows : Follows (seated group) one)
     (rewrites : AllByRecursion (IsRewritten (seated group) one.step.config) one.step.disks) where
   disk_is : (k : ℕ) (disk : Seated) → slice_get one.step.disks k ≡ Some disk → IsRewritten (seated group) one.step.config disk
   disk_is k disk at = all_at (IsRewritten (seated group) one.step.config) one.step.disks k disk rewrites at
 
   -- their slots rise
-  disks_rise : SlotsRise (seats_in one.step.disks)
-  disks_rise = follows.slots_rise (subst SlotsRise (sym settled.are_seated) settled.slots_rise)
+  pub disks_rise : SlotsRise (seats_in one.step.disks)
+  disks_rise = follows.slots_rise rise
 
   -- each is on a slot that was read
-  disks_within : (k : ℕ) (disk : Seated) → slice_get one.step.disks k ≡ Some disk → disk.seat.slot < length group.newest
+  pub disks_within : (k : ℕ) (disk : Seated) → slice_get one.step.disks k ≡ Some disk → disk.seat.slot < length group.newest
   disks_within k disk at =
       let is = disk_is k disk at in
       let own = seated_is group is.place is.before is.is_there in
@@ -86,8 +92,8 @@ module _ (group : GroupValue) (one : ReadyStep) (settled : IsSettledGroup group)
       cc
 
   -- the group is settled then
-  after_settled : IsSettledGroup (group_after group one.step)
-  after_settled = record {
+  after_settled : IsSettledGroup group → IsSettledGroup (group_after group one.step)
+  after_settled settled = record {
     none_absent = settled.none_absent;
     none_lags = settled.none_lags;
     slots_rise = disks_rise;
@@ -96,7 +102,11 @@ module _ (group : GroupValue) (one : ReadyStep) (settled : IsSettledGroup group)
     are_level = subst (λ (disks : List Seated). AllByRecursion (IsLevelIn (group_after group one.step)) disks) (sym after_is)
         (all_mapped (IsLevelIn (group_after group one.step)) levelled one.step.disks
         (all_by_get (λ (disk : Seated). IsLevelIn (group_after group one.step) (levelled disk)) one.step.disks
-        (λ k disk at. record { is_newest = level_here group.newest one.step.disks disks_rise k disk at (disks_within k disk at); same_sequence = (disk_is k disk at).has_sequence })));
+        (λ k disk at. record {
+          is_newest = level_here group.newest one.step.disks disks_rise k disk at (disks_within k disk at);
+          is_shown = all_at (λ (other : Seated). shows one.step.config (view_of other.copy) ≡ true) one.step.disks k disk follows.show at;
+          same_sequence = (disk_is k disk at).has_sequence;
+        })));
   }
 
   after_sequence : HaveSequence one.step.config.sequence (seated (group_after group one.step))
@@ -137,7 +147,7 @@ module _ (group : GroupValue) (one : ReadyStep) (settled : IsSettledGroup group)
         )
 
     -- Each newest copy can be written again then, under an anchor of its slot.
-    after_anchored : HaveAnchors sizes (group_after group one.step).newest
+    pub after_anchored : HaveAnchors sizes (group_after group one.step).newest
     after_anchored slot newest at = elim (slot_or_none one.step.disks slot) [
       | inl found ↦
           let there = subst (λ (n : ℕ). slice_get (fold with_level group.newest one.step.disks) n ≡ Some (Some newest)) found.3 at in
@@ -194,7 +204,7 @@ module _ (group : GroupValue) (one : ReadyStep) (settled : IsSettledGroup group)
         → slice_get (fold with_level group.newest one.step.disks) slot ≡ Some (Some newest) → slice_get group.newest slot ≡ Some (Some newest)
     newest_else slot newest none at = sym (level_else group.newest one.step.disks slot none) ∙ at
 
-    after_held : (slot : ℕ) (newest : Newest) → slice_get (fold with_level group.newest one.step.disks) slot ≡ Some (Some newest) → IsHeldOn new slot newest
+    pub after_held : (slot : ℕ) (newest : Newest) → slice_get (fold with_level group.newest one.step.disks) slot ≡ Some (Some newest) → IsHeldOn new slot newest
     after_held slot newest at = elim (slot_or_none one.step.disks slot) [
       | inl found ↦
           let there = subst (λ (n : ℕ). slice_get (fold with_level group.newest one.step.disks) n ≡ Some (Some newest)) found.3 at in
@@ -203,7 +213,7 @@ module _ (group : GroupValue) (one : ReadyStep) (settled : IsSettledGroup group)
       | inr none ↦ held_still old new same_sizes slot newest (held_else slot none) (holds.are_held slot newest (newest_else slot newest none at))
     ]
 
-    after_under : (slot : ℕ) (newest : Newest) → slice_get (fold with_level group.newest one.step.disks) slot ≡ Some (Some newest)
+    pub after_under : (slot : ℕ) (newest : Newest) → slice_get (fold with_level group.newest one.step.disks) slot ≡ Some (Some newest)
         → (anchor : Header) → anchor_at (size_of new slot) (new.held slot) ≡ Ok anchor → IsNewestUnder (size_of new slot) anchor newest
     after_under slot newest at anchor anchored = elim (slot_or_none one.step.disks slot) [
       | inl found ↦
@@ -228,11 +238,11 @@ module _ (group : GroupValue) (one : ReadyStep) (settled : IsSettledGroup group)
 
 -- ---- the next step
 
-steps_hold : {D : Type 0} (old new : BayState D) → new.sizes ≡ old.sizes → (group : GroupValue) (steps : List ReadyStep) → HoldsGroup old group → IsReadyFor group (record { steps = steps })
-    → (may : MayWriteNext old (record { steps = steps }))
-    → AreChanged old new (next_slots (record { steps = steps })) may.seat (next_updates (record { steps = steps })) (length (next_slots (record { steps = steps })))
-    → HoldsGroup new (group_next group (record { steps = steps }))
-steps_hold old new same_sizes group [] holds is may changed =
+steps_hold : {D : Type 0} (old new : BayState D) → new.sizes ≡ old.sizes → (group : GroupValue) (recovery : Option ReadyStep) (steps : List ReadyStep) → HoldsGroup old group → IsReadyFor group (record { recovery = recovery; steps = steps })
+    → (may : MayWriteNext old (record { recovery = recovery; steps = steps }))
+    → AreChanged old new (next_slots (record { recovery = recovery; steps = steps })) may.seat (next_updates (record { recovery = recovery; steps = steps })) (length (next_slots (record { recovery = recovery; steps = steps })))
+    → HoldsGroup new (group_next group (record { recovery = recovery; steps = steps }))
+steps_hold old new same_sizes group recovery [] holds is may changed =
     let same = λ (slot l : ℕ). changed.others slot l (λ place below at. absurd (omega (arith, below))) in
     let all = λ (slot : ℕ). fun_ext (same slot) in
     record {
@@ -242,21 +252,22 @@ steps_hold old new same_sizes group [] holds is may changed =
           settled_keeps old.may_hold new.may_hold old.held new.held seat.slot (holds.are_settled place seat below at)
           (λ s l bytes left. changed.others_left s l bytes (λ place below at. absurd (omega (arith, below))) left) (same seat.slot);
     }
-steps_hold old new same_sizes group (one ∷ others) holds is may changed =
-    after_holds group one is.is_settled is.follows.0 is.rewrites.0 old new same_sizes holds may.seat may.may_change may.news changed
+steps_hold old new same_sizes group recovery (one ∷ others) holds is may changed =
+    after_holds group one (settled_rise group is.is_settled) is.follows.0 is.rewrites.0 old new same_sizes holds may.seat may.may_change may.news changed
 
 -- The disks hold the group then.
 pub committed_holds : {D : Type 0} (old new : BayState D) → new.sizes ≡ old.sizes → (group : GroupValue) (ready : ReadyValue) → HoldsGroup old group → IsReadyFor group ready
     → (may : MayWriteNext old ready) → AreChanged old new (next_slots ready) may.seat (next_updates ready) (length (next_slots ready)) → HoldsGroup new (group_next group ready)
-committed_holds old new same_sizes group ready holds is may changed = steps_hold old new same_sizes group ready.steps holds is may changed
+committed_holds old new same_sizes group ready holds is may changed = steps_hold old new same_sizes group ready.recovery ready.steps holds is may changed
 
-steps_ready : (group : GroupValue) (steps : List ReadyStep) → IsReadyFor group (record { steps = steps }) → IsReadyFor (group_next group (record { steps = steps })) (left_behind (record { steps = steps }))
-steps_ready group [] is = is
-steps_ready group (one ∷ others) is =
-    let after = after_is group one is.is_settled is.follows.0 is.rewrites.0 in
+steps_ready : (group : GroupValue) (recovery : Option ReadyStep) (steps : List ReadyStep) → IsReadyFor group (record { recovery = recovery; steps = steps }) → IsReadyFor (group_next group (record { recovery = recovery; steps = steps })) (left_behind (record { recovery = recovery; steps = steps }))
+steps_ready group recovery [] is = is
+steps_ready group recovery (one ∷ others) is =
+    let rise = settled_rise group is.is_settled in
+    let after = after_is group one rise is.follows.0 is.rewrites.0 in
     record {
-      is_settled = after_settled group one is.is_settled is.follows.0 is.rewrites.0;
-      have_sequence = after_sequence group one is.is_settled is.follows.0 is.rewrites.0;
+      is_settled = after_settled group one rise is.follows.0 is.rewrites.0 is.is_settled;
+      have_sequence = after_sequence group one rise is.follows.0 is.rewrites.0;
       follows = subst (λ (disks : List Seated). AreFollowing disks others) (sym after) is.follows.1;
       rewrites = subst (λ (disks : List Seated). AreRewriting disks others) (sym after) is.rewrites.1;
       rises = is.rises.1;
@@ -264,13 +275,13 @@ steps_ready group (one ∷ others) is =
 
 -- The steps that are left were readied for the group that it is then.
 pub left_ready : (group : GroupValue) (ready : ReadyValue) → IsReadyFor group ready → IsReadyFor (group_next group ready) (left_behind ready)
-left_ready group ready is = steps_ready group ready.steps is
+left_ready group ready is = steps_ready group ready.recovery ready.steps is
 
-steps_anchored : (sizes : List ℕ) (group : GroupValue) (steps : List ReadyStep) → IsReadyFor group (record { steps = steps }) → HaveAnchors sizes group.newest
-    → HaveAnchors sizes (group_next group (record { steps = steps })).newest
-steps_anchored sizes group [] is have = have
-steps_anchored sizes group (one ∷ others) is have = after_anchored group one is.is_settled is.follows.0 is.rewrites.0 sizes have
+steps_anchored : (sizes : List ℕ) (group : GroupValue) (recovery : Option ReadyStep) (steps : List ReadyStep) → IsReadyFor group (record { recovery = recovery; steps = steps }) → HaveAnchors sizes group.newest
+    → HaveAnchors sizes (group_next group (record { recovery = recovery; steps = steps })).newest
+steps_anchored sizes group recovery [] is have = have
+steps_anchored sizes group recovery (one ∷ others) is have = after_anchored group one (settled_rise group is.is_settled) is.follows.0 is.rewrites.0 sizes have
 
 -- Each of its newest copies can be written again then.
 pub committed_anchored : (sizes : List ℕ) (group : GroupValue) (ready : ReadyValue) → IsReadyFor group ready → HaveAnchors sizes group.newest → HaveAnchors sizes (group_next group ready).newest
-committed_anchored sizes group ready is have = steps_anchored sizes group ready.steps is have
+committed_anchored sizes group ready is have = steps_anchored sizes group ready.recovery ready.steps is have

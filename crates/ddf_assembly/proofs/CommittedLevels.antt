@@ -74,7 +74,7 @@ slot_or_none (first ∷ disks) slot = elim (cases_eq slot first.seat.slot) [
 
 -- ---- the group's disks
 
-filter_all : {X Y Z : Type 0} (f : X → Option Y) (g : Z → X) (h : Z → Y) (zs : List Z) → ((k : ℕ) (z : Z) → slice_get zs k ≡ Some z → f (g z) ≡ Some (h z))
+pub filter_all : {X Y Z : Type 0} (f : X → Option Y) (g : Z → X) (h : Z → Y) (zs : List Z) → ((k : ℕ) (z : Z) → slice_get zs k ≡ Some z → f (g z) ≡ Some (h z))
     → filter_map f (map g zs) ≡ map h zs
 filter_all f g h [] each = refl
 filter_all {Y = Y} f g h (z ∷ zs) each =

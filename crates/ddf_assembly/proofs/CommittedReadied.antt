@@ -1,5 +1,5 @@
 -- The steps that changes are: each rewrites disks of the one before it, and their sequence numbers rise.
-use Rattle.std.proofs.Common.{◌≡◌, ℕ, zero, suc, ◌<◌, ◌≤◌, Bool, true, false, ◌||◌, cond, List, [], ◌∷◌, map, filter, Option, Some, None, Result, Ok, Err, refl, sym, ap, subst, arith, if◌then◌else◌}
+use Rattle.std.proofs.Common.{◌≡◌, ℕ, zero, suc, ◌<◌, ◌≤◌, Bool, true, false, ◌||◌, cond, List, [], ◌∷◌, map, filter, Option, Some, None, Result, Ok, Err, refl, sym, ap, subst, ◌∙◌, arith, if◌then◌else◌}
 use Rattle.std.proofs.lemmas.Bool.{ltb-false}
 use Rattle.std.specs.Prelude.{slice_get}
 use Rattle.std.specs.List.{AllByRecursion, list_any}
@@ -25,6 +25,7 @@ use Rattle.ddf_assembly.specs.Settled.{IsSettledGroup}
 use Rattle.ddf_assembly.specs.Trying.{AreFollowing}
 use Rattle.ddf_assembly.specs.Ready.{ReadyStep, ReadyValue, is_spent, readied, steps_from, unless_spent, with_step}
 use Rattle.ddf_assembly.specs.Committed.{AreRewriting, DoRise, HaveSequence, IsReadyFor, IsRewritten}
+use Rattle.ddf_assembly.proofs.Recovered.{settled_readied}
 
 -- ---- the disks of a step
 
@@ -34,7 +35,7 @@ filter_by y rest ys x later true zero at = (0, at)
 filter_by y rest ys x later true (suc k) at = let found = later k at in (suc found.0, found.1)
 filter_by y rest ys x later false k at = let found = later k at in (suc found.0, found.1)
 
-filter_get : {X : Type 0} (p : X → Bool) (xs : List X) (k : ℕ) (x : X) → slice_get (filter p xs) k ≡ Some x → (j : ℕ) × (slice_get xs j ≡ Some x)
+pub filter_get : {X : Type 0} (p : X → Bool) (xs : List X) (k : ℕ) (x : X) → slice_get (filter p xs) k ≡ Some x → (j : ℕ) × (slice_get xs j ≡ Some x)
 filter_get p [] k x at = absurd cc
 filter_get p (y ∷ ys) k x at = filter_by y (filter p ys) ys x (λ i there. filter_get p ys i x there) (p y) k at
 
@@ -43,10 +44,9 @@ unfolding changed_copy
 changed_sequence old leaders config timestamp = refl
 
 -- Each is one of the disks before the change, with its new copy.
-pub disks_rewritten : (timestamp : ℕ) (config : Configuration) (disks : List Seated) → AllByRecursion (IsRewritten disks config) (disks_after timestamp config disks)
+pub disks_rewritten : (timestamp : ℕ) (leaders : Before) (config : Configuration) (disks : List Seated) → AllByRecursion (IsRewritten disks config) (disks_after timestamp leaders config disks)
 unfolding disks_after
-disks_rewritten timestamp config disks =
-    let leaders = before (views_in disks) in
+disks_rewritten timestamp leaders config disks =
     all_by_get (IsRewritten disks config) (map (rewritten leaders config timestamp) (filter (stays_in config) disks))
     (λ k disk at.
     let found = map_get (rewritten leaders config timestamp) (filter (stays_in config) disks) k disk at in
@@ -100,17 +100,17 @@ rewrite_by disks step next same steps here behind other true found =
 rewrite_by disks step next same steps here behind other false found = other steps found
 
 pub steps_rewrite : (timestamp : ℕ) (changes : List Change) (config : Configuration) (disks : List Seated) (steps : List ReadyStep)
-    → steps_from timestamp changes config disks ≡ Ok (map (λ (one : ReadyStep). one.step) steps) → AreRewriting disks steps
+    → steps_from timestamp None changes config disks ≡ Ok (map (λ (one : ReadyStep). one.step) steps) → AreRewriting disks steps
 steps_rewrite timestamp [] config disks [] h = tt
 steps_rewrite timestamp [] config disks (one ∷ others) h = absurd cc
 steps_rewrite timestamp (change ∷ changes) config disks steps h =
     let step = step_of timestamp config disks change in
-    rewrite_by disks step (steps_from timestamp changes step.config (map levelled step.disks)) (steps_from timestamp changes config disks) steps
-    (disks_rewritten timestamp step.config disks)
+    rewrite_by disks step (steps_from timestamp None changes step.config (map levelled step.disks)) (steps_from timestamp None changes config disks) steps
+    (disks_rewritten timestamp (before (views_in disks)) step.config disks)
     (λ others is. steps_rewrite timestamp changes step.config (map levelled step.disks) others is)
     (λ others is. steps_rewrite timestamp changes config disks others is)
     (is_step config change)
-    (unless_refused (step_refusal timestamp config disks change) _ (map (λ (one : ReadyStep). one.step) steps) h)
+    (unless_refused (step_refusal timestamp None config disks change) _ (map (λ (one : ReadyStep). one.step) steps) h)
 
 -- ---- sequence numbers
 
@@ -121,7 +121,7 @@ more_steps (Delete guid) = omega arith
 more_steps (Spare reference use_as) = omega arith
 more_steps (Fail reference) = omega arith
 
-raised_more : (sequence steps : ℕ) → 0 < steps → raised sequence steps ≤ greatest_sequence → sequence < raised sequence steps
+pub raised_more : (sequence steps : ℕ) → 0 < steps → raised sequence steps ≤ greatest_sequence → sequence < raised sequence steps
 raised_more sequence steps more within = omega (arith, more, within)
 
 none_of : (a b : Bool) → (a || b) ≡ false → (a ≡ false) × (b ≡ false)
@@ -147,17 +147,17 @@ rise_by sequence step next same steps here behind other true found none =
 rise_by sequence step next same steps here behind other false found none = other steps found none
 
 pub steps_rise : (timestamp : ℕ) (changes : List Change) (config : Configuration) (disks : List Seated) (steps : List ReadyStep)
-    → steps_from timestamp changes config disks ≡ Ok (map (λ (one : ReadyStep). one.step) steps) → NoneSpent steps → DoRise config.sequence steps
+    → steps_from timestamp None changes config disks ≡ Ok (map (λ (one : ReadyStep). one.step) steps) → NoneSpent steps → DoRise config.sequence steps
 steps_rise timestamp [] config disks [] h none = tt
 steps_rise timestamp [] config disks (one ∷ others) h none = absurd cc
 steps_rise timestamp (change ∷ changes) config disks steps h none =
     let step = step_of timestamp config disks change in
-    rise_by config.sequence step (steps_from timestamp changes step.config (map levelled step.disks)) (steps_from timestamp changes config disks) steps
+    rise_by config.sequence step (steps_from timestamp None changes step.config (map levelled step.disks)) (steps_from timestamp None changes config disks) steps
     (λ within. raised_more config.sequence (steps_of change) (more_steps change) within)
     (λ others is. steps_rise timestamp changes step.config (map levelled step.disks) others is)
     (λ others is. steps_rise timestamp changes config disks others is)
     (is_step config change)
-    (unless_refused (step_refusal timestamp config disks change) _ (map (λ (one : ReadyStep). one.step) steps) h)
+    (unless_refused (step_refusal timestamp None config disks change) _ (map (λ (one : ReadyStep). one.step) steps) h)
     none
 
 -- ---- what was readied
@@ -169,16 +169,17 @@ spent_by found steps false is h =
     let same : found ≡ steps = cc in
     (ap (λ (l : List Step). Ok l) same, subst (λ (l : List Step). list_any is_spent l ≡ false) same is)
 
-steps_or_spent : (found : Result (List Step) Refusal) (steps : List Step) → unless_spent found ≡ Ok steps → (found ≡ Ok steps) × (list_any is_spent steps ≡ false)
+pub steps_or_spent : (found : Result (List Step) Refusal) (steps : List Step) → unless_spent found ≡ Ok steps → (found ≡ Ok steps) × (list_any is_spent steps ≡ false)
 steps_or_spent (Err refusal) steps h = absurd cc
 steps_or_spent (Ok found) steps h = spent_by found steps (list_any is_spent found) refl h
 
 -- Steps that were readied for a settled group are ready for it, where each follows on the one before it.
 pub readied_ready : (timestamp : ℕ) (changes : List Change) (group : GroupValue) (ready : ReadyValue) → IsSettledGroup group → HaveSequence group.config.sequence (seated group)
     → AreFollowing (seated group) ready.steps → readied group changes timestamp ≡ Ok (map (λ (one : ReadyStep). one.step) ready.steps) → IsReadyFor group ready
-unfolding readied
 readied_ready timestamp changes group ready settled sequence follows is =
-    let found = steps_or_spent (steps_from timestamp changes group.config (seated group)) (map (λ (one : ReadyStep). one.step) ready.steps) is in
+    let found =
+    steps_or_spent (steps_from timestamp None changes group.config (seated group)) (map (λ (one : ReadyStep). one.step) ready.steps)
+    (sym (settled_readied group settled changes timestamp) ∙ is) in
     record {
       is_settled = settled;
       have_sequence = sequence;

@@ -14,7 +14,8 @@ use Rattle.ddf_plan.specs.Floors.{extents_refusal}
 use Rattle.ddf_plan.specs.Refusals.{greatest_sequence}
 use Rattle.ddf_copy.specs.Headers.{IsUnder}
 use Rattle.ddf_copy.specs.Written.{CanBeCopy}
-use Rattle.ddf_view.specs.View.{View}
+use Rattle.ddf_view.specs.Shows.{shows}
+use Rattle.ddf_view.specs.View.{view_of}
 use Rattle.ddf_rewrite.specs.Before.{Before, before}
 use Rattle.ddf_rewrite.specs.Hold.{IsHoldable}
 use Rattle.ddf_rewrite.proofs.Leaders.{same_members}
@@ -26,11 +27,11 @@ use Rattle.ddf_assembly.specs.Full.{full_of, full_on, record_length}
 use Rattle.ddf_assembly.specs.Refusing.{most_members, room_refusal}
 use Rattle.ddf_assembly.specs.Asked.{CanBeAsked}
 use Rattle.ddf_assembly.specs.Ready.{ReadyStep}
-use Rattle.ddf_assembly.specs.Trying.{AreCopies, ArePrepared, CanBeChanged, CanBeHeldOn, CanTry, Follows, HasPlace, HaveLength, IsOfGroup, SlotsRise, StandOn}
+use Rattle.ddf_assembly.specs.Trying.{AreCopies, ArePrepared, CanBeChanged, CanBeHeldOn, CanBeLed, CanTry, DoShow, Follows, HasPlace, HaveLength, IsOfGroup, SlotsRise, StandOn}
 use Rattle.ddf_assembly.proofs.Holdable.{change_holdable}
 use Rattle.ddf_assembly.proofs.OneLength.{HasRoom, can_try_all, has_room, sound_of}
 use Rattle.ddf_assembly.proofs.Refused.{none_full_of}
-use Rattle.ddf_assembly.proofs.Rewritten.{rewritten_can, rewritten_group, rewritten_most, rewritten_under, staying_have}
+use Rattle.ddf_assembly.proofs.Rewritten.{rewritten_can, rewritten_group, rewritten_most, rewritten_shows, rewritten_under, staying_have}
 
 -- ---- before the change
 
@@ -54,9 +55,9 @@ raised_fits sequence steps =
     omega (arith, below)
 
 -- Copies can hold what a change gives that nothing refuses.
-pub next_held : (config : Configuration) (disks : List Seated) (change : Change) → CanBeChanged config disks → CanBeAsked change → causes (Some (most_members disks)) config change (seats_in disks) ≡ None
+pub next_held : (config : Configuration) (disks : List Seated) (change : Change) → AreCopies disks → CanBeHeldOn config disks → CanBeAsked change → causes (Some (most_members disks)) config change (seats_in disks) ≡ None
     → CanBeHeldOn (config_after config change) disks
-next_held config disks change can asked free = each disks (copies_are config disks can.of_group) can.can_hold
+next_held config disks change copies can_hold asked free = each disks copies can_hold
   where
     each : (some : List Seated) → AreCopies some
         → AllByRecursion (λ (disk : Seated). HaveLength (record_length disk) disks → IsHoldable disk.copy.header.geometry.max_members config) some
@@ -65,7 +66,7 @@ next_held config disks change can asked free = each disks (copies_are config dis
     each (disk ∷ some) are holds = (
       λ same.
           let geometry = disk.copy.header.geometry in
-          let within = most_within geometry disks 0 (sound_of disk.copy are.0) (copies_are config disks can.of_group) same (omega arith) in
+          let within = most_within geometry disks 0 (sound_of disk.copy are.0) copies same (omega arith) in
           change_holdable geometry.max_members (most_members disks) within config (holds.0 same) change (seats_in disks) (raised config.sequence (steps_of change)) asked free (raised_fits config.sequence (steps_of change)),
       each some are.1 holds.1,
     )
@@ -84,7 +85,7 @@ all_roomy leaders config next timestamp [] of_group can_try room = tt
 all_roomy leaders config next timestamp (disk ∷ disks) of_group can_try room =
     (record { of_group = of_group.0; can_try = can_try.0; room = room.0 }, all_roomy leaders config next timestamp disks of_group.1 can_try.1 room.1)
 
-both_all : (P Q : Seated → Type 0) (disks : List Seated) → AllByRecursion P disks → AllByRecursion Q disks → AllByRecursion (λ disk. P disk × Q disk) disks
+pub both_all : (P Q : Seated → Type 0) (disks : List Seated) → AllByRecursion P disks → AllByRecursion Q disks → AllByRecursion (λ disk. P disk × Q disk) disks
 both_all P Q [] first second = tt
 both_all P Q (disk ∷ disks) first second = ((first.0, second.0), both_all P Q disks first.1 second.1)
 
@@ -111,32 +112,30 @@ module _ (leaders : Before) (config : Configuration) (timestamp : ℕ) where
       by false below rest = rest
 
 -- The copies that a change gives can be written, where there is room for it.
-pub made_copies : (timestamp : ℕ) → timestamp < 2 ^ 32 → (leaders : List View) (config : Configuration) (disks : List Seated) → leaders ≡ views_in disks
-    → AllByRecursion (CanTry (before leaders) config) disks → AllByRecursion (λ disk. full_on (before leaders) config timestamp disk ≡ None) disks
-    → AreCopies (disks_after timestamp config disks)
+pub made_copies : (timestamp : ℕ) → timestamp < 2 ^ 32 → (leaders : Before) (config : Configuration) (disks : List Seated)
+    → AllByRecursion (CanTry leaders config) disks → AllByRecursion (λ disk. full_on leaders config timestamp disk ≡ None) disks
+    → AreCopies (disks_after timestamp leaders config disks)
 unfolding disks_after
-made_copies timestamp time leaders config disks is can room =
-    subst (λ (views : List View). AreCopies (after (before views) config timestamp disks)) is
-    (staying_have (before leaders) config timestamp time (λ (disk : Seated). CanTry (before leaders) config disk × (full_on (before leaders) config timestamp disk ≡ None)) (λ (disk : Seated). CanBeCopy disk.copy)
-    (λ disk both. rewritten_can (before leaders) config timestamp time disk both.0 both.1)
-    disks (both_all (CanTry (before leaders) config) (λ (disk : Seated). full_on (before leaders) config timestamp disk ≡ None) disks can room))
+made_copies timestamp time leaders config disks can room =
+    staying_have leaders config timestamp time (λ (disk : Seated). CanTry leaders config disk × (full_on leaders config timestamp disk ≡ None)) (λ (disk : Seated). CanBeCopy disk.copy)
+    (λ disk both. rewritten_can leaders config timestamp time disk both.0 both.1)
+    disks (both_all (CanTry leaders config) (λ (disk : Seated). full_on leaders config timestamp disk ≡ None) disks can room)
 
 -- Where nothing is refused for want of room, there is room.
 pub room_for : (timestamp : ℕ) (config next : Configuration) (disks : List Seated) (change : Change) → next ≡ config_after config change → room_refusal timestamp config disks change ≡ None
-    → HasRoom timestamp next disks
+    → HasRoom timestamp (before (views_in disks)) next disks
 room_for timestamp config next disks change is free =
-    subst (λ (c : Configuration). HasRoom timestamp c disks) (sym is)
-    (has_room timestamp (config_after config change) disks
-    (none_full_of (full_of timestamp (config_after config change) disks) (extents_refusal config change (seats_in disks)) free))
+    let leaders = before (views_in disks) in
+    subst (λ (c : Configuration). HasRoom timestamp leaders c disks) (sym is)
+    (has_room timestamp leaders (config_after config change) disks
+    (none_full_of (full_of timestamp leaders (config_after config change) disks) (extents_refusal config change (seats_in disks)) free))
 
 -- The step to a configuration of the group that copies can hold follows, where there is room for it.
-module _ (timestamp : ℕ) (time : timestamp < 2 ^ 32) (config next : Configuration) (disks : List Seated)
-    (same_group : next.group ≡ config.group) (can : CanBeChanged config disks) (held : CanBeHeldOn next disks) (room : HasRoom timestamp next disks) where
-  abbrev leaders : Before
-  leaders = before (views_in disks)
-
+module _ (timestamp : ℕ) (time : timestamp < 2 ^ 32) (leaders : Before) (config next : Configuration) (disks : List Seated)
+    (same_group : next.group ≡ config.group) (of_group : AllByRecursion (IsOfGroup config) disks) (led : CanBeLed leaders disks) (held : CanBeHeldOn next disks)
+    (room : HasRoom timestamp leaders next disks) where
   roomy : AllByRecursion (IsRoomy leaders config next timestamp) disks
-  roomy = all_roomy leaders config next timestamp disks can.of_group (can_try_all next disks (copies_are config disks can.of_group) room.same held) room.none
+  roomy = all_roomy leaders config next timestamp disks of_group (can_try_all leaders next disks (copies_are config disks of_group) room.same led held) room.none
 
   after_of_group : AllByRecursion (IsOfGroup next) (after leaders next timestamp disks)
   after_of_group =
@@ -152,6 +151,12 @@ module _ (timestamp : ℕ) (time : timestamp < 2 ^ 32) (config next : Configurat
       staying_have leaders next timestamp time (IsRoomy leaders config next timestamp)
       (λ (disk : Seated). HaveLength (record_length disk) (after leaders next timestamp disks) → IsHoldable disk.copy.header.geometry.max_members next)
       (λ disk is same. subst (λ (most : ℕ). IsHoldable most next) (sym (rewritten_most leaders next timestamp time disk)) is.can_try.holdable)
+      disks roomy
+
+  after_shows : DoShow next (after leaders next timestamp disks)
+  after_shows =
+      staying_have leaders next timestamp time (IsRoomy leaders config next timestamp) (λ (disk : Seated). shows next (view_of disk.copy) ≡ true)
+      (λ disk is. rewritten_shows leaders next timestamp time disk is.can_try is.room)
       disks roomy
 
   -- A copy stands where the one before it does.
@@ -171,11 +176,12 @@ module _ (timestamp : ℕ) (time : timestamp < 2 ^ 32) (config next : Configurat
       (λ disk is at. still_under disk is.0 size anchor (is.1 at))
       disks (both_all (IsRoomy leaders config next timestamp) (λ (disk : Seated). disk.seat.slot ≡ slot → IsUnder size anchor disk.copy) disks roomy stand)
 
-  made_follows : (updates : List Prepared) → ArePrepared (disks_after timestamp next disks) updates
-      → Follows disks (record { step = record { config = next; disks = disks_after timestamp next disks }; updates = updates })
+  made_follows : (updates : List Prepared) → ArePrepared (disks_after timestamp leaders next disks) updates
+      → Follows disks (record { step = record { config = next; disks = disks_after timestamp leaders next disks }; updates = updates })
   unfolding disks_after
   made_follows updates prepared = record {
     can_be_changed = record { of_group = after_of_group; can_hold = after_held };
+    show = after_shows;
     are_prepared = prepared;
     slots_rise = λ rise. staying_rise leaders next timestamp disks rise;
     have_places = after_places;
@@ -183,7 +189,7 @@ module _ (timestamp : ℕ) (time : timestamp < 2 ^ 32) (config next : Configurat
   }
 
   -- The step that was made of it follows.
-  pub step_follows : (one : ReadyStep) → one.step ≡ record { config = next; disks = disks_after timestamp next disks } → ArePrepared one.step.disks one.updates → Follows disks one
+  pub step_follows : (one : ReadyStep) → one.step ≡ record { config = next; disks = disks_after timestamp leaders next disks } → ArePrepared one.step.disks one.updates → Follows disks one
   step_follows one is prepared =
       subst (λ (step : Step). ArePrepared step.disks one.updates → Follows disks (record { step = step; updates = one.updates })) (sym is) (made_follows one.updates) prepared
 

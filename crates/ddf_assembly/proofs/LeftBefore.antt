@@ -34,7 +34,8 @@ use Rattle.ddf_assembly.proofs.LeftMembers.{AreApart, IsCurrentIn, current_from,
 use Rattle.ddf_assembly.proofs.Named.{shown_named}
 use Rattle.ddf_assembly.proofs.SettledLeaders.{leaders_claimed, none_claimed}
 use Rattle.ddf_assembly.proofs.SettledLists.{all_among, all_fail, find_kept, find_none}
-use Rattle.ddf_assembly.proofs.SettledSeats.{AreLevelOn, IsLevelOn, disks_are, level_disks, level_on, seats_are}
+use Rattle.ddf_assembly.proofs.LevelDisks.{AreLevelOn, disks_are, level_disks, seats_are}
+use Rattle.ddf_assembly.proofs.SettledSeats.{IsLevelOn, level_on}
 
 -- ---- lists
 

@@ -51,6 +51,7 @@ use Rattle.std.specs.Str.{bytes_eq}
 use Rattle.ddf_assembly.proofs.LeftMembers.{IsCurrentIn, table_current, was_current}
 use Rattle.ddf_assembly.proofs.LeftSlots.{IsLeft, IsWritten, claimed_are, leaders_are, not_contradicted, claims_other, claims_written}
 use Rattle.ddf_assembly.proofs.LeftStep.{IsOf, shown_of_slot, slot_of, IsMade, apart_next, can_change, claimed_is, from_kept, left, level_now, made_is, made_shows, own_reference, same_seat, same_view, stays_made, apart_before, made_current, made_guid, made_reference, shown_before, was_claimed}
+use Rattle.ddf_assembly.proofs.Recovered.{settled_readied}
 use Rattle.ddf_assembly.proofs.SettledHeld.{newest_kept}
 use Rattle.ddf_assembly.proofs.SettledLists.{all_fail, find_kept}
 
@@ -122,9 +123,9 @@ module _ (leaders_before : Before) (config : Configuration) (timestamp : ℕ) wh
 -- ---- the group again
 
 module _ (group : GroupValue) (are : AreNewest group.newest) (settled : IsSettledGroup group) (guid : List ℕ) (found : IsFoundAs guid group)
-    (timestamp : ℕ) (change : Change) (asked : CanBeAsked change) (free : step_refusal timestamp group.config (seated group) change ≡ None) (is : is_step group.config change ≡ true)
+    (timestamp : ℕ) (change : Change) (asked : CanBeAsked change) (free : step_refusal timestamp None group.config (seated group) change ≡ None) (is : is_step group.config change ≡ true)
     (kept : is_spent (step_of timestamp group.config (seated group) change) ≡ false)
-    (some : Seated) (first : slice_get (disks_after timestamp (config_after group.config change) (seated group)) 0 ≡ Some some) where
+    (some : Seated) (first : slice_get (disks_after timestamp (before (views_in (seated group))) (config_after group.config change) (seated group)) 0 ≡ Some some) where
   abbrev disks : List Seated
   disks = seated group
 
@@ -135,7 +136,7 @@ module _ (group : GroupValue) (are : AreNewest group.newest) (settled : IsSettle
   led = before (views_in disks)
 
   abbrev new : List Seated
-  new = disks_after timestamp next disks
+  new = disks_after timestamp led next disks
 
   abbrev slots : List Shown
   slots = map shown_of group.newest
@@ -399,19 +400,20 @@ spent_fault = Err SequenceSpent
 
 -- A change that was readied as one step is that step: nothing refuses it, and it isn't spent.
 pub record IsOneStep (timestamp : ℕ) (group : GroupValue) (change : Change) (step : Step) : Type 0 where
-  pub free : step_refusal timestamp group.config (seated group) change ≡ None
+  pub free : step_refusal timestamp None group.config (seated group) change ≡ None
   pub is : is_step group.config change ≡ true
   pub step_is : step_of timestamp group.config (seated group) change ≡ step
   pub kept : is_spent (step_of timestamp group.config (seated group) change) ≡ false
 
-pub one_step : (timestamp : ℕ) (group : GroupValue) (change : Change) (step : Step) → readied group (change ∷ []) timestamp ≡ Ok (step ∷ []) → IsOneStep timestamp group change step
-unfolding readied
-one_step timestamp group change step h = by (step_refusal timestamp group.config (seated group) change) refl (is_step group.config change) refl h
+pub one_step : (timestamp : ℕ) (group : GroupValue) (change : Change) (step : Step) → IsSettledGroup group → readied group (change ∷ []) timestamp ≡ Ok (step ∷ [])
+    → IsOneStep timestamp group change step
+one_step timestamp group change step settled h =
+    by (step_refusal timestamp None group.config (seated group) change) refl (is_step group.config change) refl (sym (settled_readied group settled (change ∷ []) timestamp) ∙ h)
   where
     its : Step
     its = step_of timestamp group.config (seated group) change
 
-    spent : (b : Bool) → is_spent its ≡ b → step_refusal timestamp group.config (seated group) change ≡ None → is_step group.config change ≡ true
+    spent : (b : Bool) → is_spent its ≡ b → step_refusal timestamp None group.config (seated group) change ≡ None → is_step group.config change ≡ true
         → ◌≡◌ {A = Result (List Step) GroupFault} (unless_spent (Ok (its ∷ []))) (Ok (step ∷ [])) → IsOneStep timestamp group change step
     spent true e free is at =
         let no : spent_fault ≡ Ok (step ∷ []) = sym (ap (λ (b : Bool). if b || false then spent_fault else Ok (its ∷ [])) e) ∙ at in
@@ -421,7 +423,7 @@ one_step timestamp group change step h = by (step_refusal timestamp group.config
         let own : its ≡ step = cc in
         record { free = free; is = is; step_is = own; kept = e }
 
-    by : (refusal : Option Refusal) → step_refusal timestamp group.config (seated group) change ≡ refusal → (b : Bool) → is_step group.config change ≡ b
+    by : (refusal : Option Refusal) → step_refusal timestamp None group.config (seated group) change ≡ refusal → (b : Bool) → is_step group.config change ≡ b
         → ◌≡◌ {A = Result (List Step) GroupFault} (unless_spent (elim refusal [ Some one ↦ Err one | None ↦ if b then with_step its (Ok []) else Ok [] ])) (Ok (step ∷ [])) → IsOneStep timestamp group change step
     by (Some one) free b is at = absurd cc
     by None free false is at = absurd cc
@@ -468,8 +470,8 @@ module _ (newest : List (Option Newest)) (named : Option (List ℕ)) (group : Gr
 
   -- By the group's GUID it is.
   pub assembled_by_guid : group_of (group_after group step).newest (Some group.config.group) ≡ Ok (group_after group step)
-  assembled_by_guid = by_guid group (subst AreNewest (sym same_newest) are) settled change timestamp asked chosen_before.0 chosen_before.2 step (one_step timestamp group change step ready) there
+  assembled_by_guid = by_guid group (subst AreNewest (sym same_newest) are) settled change timestamp asked chosen_before.0 chosen_before.2 step (one_step timestamp group change step settled ready) there
 
   -- By what it was assembled by before it is.
   pub assembled_again : group_of (group_after group step).newest named ≡ Ok (group_after group step)
-  assembled_again = by_choice group (subst AreNewest (sym same_newest) are) settled change timestamp asked chosen_before.0 chosen_before.2 step (one_step timestamp group change step ready) there named chosen_before.1
+  assembled_again = by_choice group (subst AreNewest (sym same_newest) are) settled change timestamp asked chosen_before.0 chosen_before.2 step (one_step timestamp group change step settled ready) there named chosen_before.1

@@ -18,7 +18,8 @@ use Rattle.ddf_plan.specs.Changes.{members_after, with_spare}
 use Rattle.ddf_plan.specs.Delete.{use_without}
 use Rattle.ddf_plan.specs.Lose.{is_among, lost_member}
 use Rattle.ddf_plan.specs.Spare.{use_in_order}
-use Rattle.ddf_rewrite.proofs.Lists.{found_place}
+use Rattle.ddf_rewrite.proofs.Lists.{found_place, get_map}
+use Rattle.ddf_view.specs.Reading.{member_entry_in, member_in, read}
 use Rattle.ddf_view.specs.Shows.{gives_member, same_flag, shows}
 use Rattle.ddf_view.specs.View.{View, entry_in, is_missing, lists_current, lists_missing}
 use Rattle.ddf_view.proofs.Agreement.{shown_from}
@@ -106,6 +107,27 @@ current_from config view guid reference shown listed =
       at = pair.1 ∙ ap (λ (n : ℕ). Some (n, pair.0.1)) references;
       same_guid = sym alike.same_guid ∙ same_bytes there.0.guid guid own.1;
       is_here = sym alike.same_missing ∙ not_true (is_missing there.0) there.2;
+    }
+  where
+    not_true : (b : Bool) → not b ≡ true → b ≡ false
+    not_true true h = absurd cc
+    not_true false h = refl
+
+-- What the first view lists as current is a current member of the configuration that views give.
+pub read_current : (group : List ℕ) (sequence : ℕ) (first : View) (rest : List View) (guid : List ℕ) (reference : ℕ) → lists_current first guid reference ≡ true
+    → IsCurrentIn (read group sequence (first ∷ rest)).members guid reference
+unfolding lists_current read
+read_current group sequence first rest guid reference listed =
+    let there = value_there (λ disk. not (is_missing disk)) (entry_in first guid reference) listed in
+    let place = found_place (is_entry guid reference) first.disks there.0 there.1 in
+    let own = and_parts (eqb there.0.reference reference) (bytes_eq there.0.guid guid) place.2 in
+    let member = member_in (first ∷ rest) there.0 in
+    record {
+      place = place.0;
+      member = member;
+      at = get_map (member_entry_in (first ∷ rest)) first.disks place.0 there.0 place.1 ∙ ap (λ (n : ℕ). Some (n, member)) (eqb-true there.0.reference reference own.0);
+      same_guid = same_bytes there.0.guid guid own.1;
+      is_here = not_true (is_missing there.0) there.2;
     }
   where
     not_true : (b : Bool) → not b ≡ true → b ≡ false

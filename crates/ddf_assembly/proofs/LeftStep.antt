@@ -47,7 +47,7 @@ use Rattle.ddf_assembly.specs.Refusing.{step_refusal}
 use Rattle.ddf_assembly.specs.Seated.{seated, seats_in, slots_in, views_in}
 use Rattle.ddf_assembly.specs.Settled.{IsSettledGroup}
 use Rattle.ddf_assembly.specs.Steps.{config_after, disks_after, rewritten, stays_in, step_of}
-use Rattle.ddf_assembly.specs.Trying.{CanBeHeldOn, CanTry, SlotsRise}
+use Rattle.ddf_assembly.specs.Trying.{AreCopies, CanBeHeldOn, CanTry, SlotsRise}
 use Rattle.ddf_assembly.proofs.CommittedLevels.{level_else, level_here}
 use Rattle.ddf_assembly.proofs.Following.{copies_are, next_held, room_for}
 use Rattle.ddf_assembly.proofs.LeftBefore.{HasLeader, IsClaimedDisk, IsFoundAs, all_pass, claimed_current, claimed_disk, current_claimed, disks_claimed, group_is, has_leader, kept_at, leader_claimed, level_at, none_ahead, not_ahead, shows_own, shows_within, view_within}
@@ -55,7 +55,7 @@ use Rattle.ddf_assembly.proofs.LeftLists.{IsNoneOf}
 use Rattle.ddf_assembly.proofs.LeftMembers.{AreApart, IsCurrentIn, current_from, lists_from, none_missing_from, stays_current, table_current, was_current}
 use Rattle.ddf_assembly.proofs.LeftSlots.{IsLeft, IsWritten}
 use Rattle.ddf_assembly.proofs.Lists.{get_within}
-use Rattle.ddf_assembly.proofs.OneLength.{HasRoom, can_try_all, one_length}
+use Rattle.ddf_assembly.proofs.OneLength.{HasRoom, can_try_all, led_by_all, one_length}
 use Rattle.ddf_assembly.proofs.SettledSeats.{Rise}
 use Rattle.ddf_assembly.proofs.StepConfig.{has_room, no_cause, still_left, as_raised}
 
@@ -148,7 +148,7 @@ holdable config (first ∷ rest) k disk at same can = (first.copy.header.geometr
 -- ---- a step
 
 module _ (group : GroupValue) (are : AreNewest group.newest) (settled : IsSettledGroup group) (guid : List ℕ) (found : IsFoundAs guid group)
-    (timestamp : ℕ) (change : Change) (asked : CanBeAsked change) (free : step_refusal timestamp group.config (seated group) change ≡ None) (is : is_step group.config change ≡ true)
+    (timestamp : ℕ) (change : Change) (asked : CanBeAsked change) (free : step_refusal timestamp None group.config (seated group) change ≡ None) (is : is_step group.config change ≡ true)
     (kept : is_spent (step_of timestamp group.config (seated group) change) ≡ false) where
   abbrev disks : List Seated
   disks = seated group
@@ -160,7 +160,7 @@ module _ (group : GroupValue) (are : AreNewest group.newest) (settled : IsSettle
   led = before (views_in disks)
 
   abbrev new : List Seated
-  new = disks_after timestamp next disks
+  new = disks_after timestamp led next disks
 
   abbrev slots : List Shown
   slots = map shown_of group.newest
@@ -168,14 +168,17 @@ module _ (group : GroupValue) (are : AreNewest group.newest) (settled : IsSettle
   abbrev after : List Shown
   after = map shown_of (fold with_level group.newest new)
 
-  pub room : HasRoom timestamp next disks
+  pub room : HasRoom timestamp led next disks
   room = room_for timestamp group.config next disks change refl (has_room timestamp group.config disks change free is)
 
+  copies : AreCopies disks
+  copies = copies_are group.config disks settled.can_be_changed.of_group
+
   held : CanBeHeldOn next disks
-  held = next_held group.config disks change settled.can_be_changed asked (no_cause timestamp group.config disks change free)
+  held = next_held group.config disks change copies settled.can_be_changed.can_hold asked (no_cause timestamp group.config disks change free)
 
   tries : AllByRecursion (CanTry led next) disks
-  tries = can_try_all next disks (copies_are group.config disks settled.can_be_changed.of_group) room.same held
+  tries = can_try_all led next disks copies room.same (led_by_all disks copies) held
 
   -- Each disk can have its new copy.
   pub can_change : (k : ℕ) (disk : Seated) → slice_get disks k ≡ Some disk → CanChange disk.copy led next timestamp

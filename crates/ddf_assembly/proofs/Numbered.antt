@@ -16,7 +16,9 @@ use Rattle.ddf_assembly.specs.Group.{GroupValue}
 use Rattle.ddf_assembly.specs.Seated.{seated}
 use Rattle.ddf_assembly.specs.Steps.{Step, levelled, raised, step_of}
 use Rattle.ddf_assembly.specs.Refusing.{step_refusal}
+use Rattle.ddf_assembly.specs.Settled.{IsSettledGroup}
 use Rattle.ddf_assembly.specs.Ready.{AreNumbered, is_spent, readied, steps_from, unless_spent, with_step}
+use Rattle.ddf_assembly.proofs.Recovered.{settled_readied}
 
 some_steps : (change : Change) → 0 < steps_of change
 some_steps (Lose references) = omega arith
@@ -48,10 +50,10 @@ module _ (timestamp : ℕ) (config : Configuration) (disks : List Seated) (chang
   first = step_of timestamp config disks change
 
   abbrev same_on : Result (List Step) Refusal
-  same_on = steps_from timestamp changes config disks
+  same_on = steps_from timestamp None changes config disks
 
   abbrev behind : Result (List Step) Refusal
-  behind = steps_from timestamp changes first.config (map levelled first.disks)
+  behind = steps_from timestamp None changes first.config (map levelled first.disks)
 
   first_above : is_spent first ≡ false → config.sequence < first.config.sequence
   first_above free = raised_above config.sequence (steps_of change) (some_steps change) (ltb-false greatest_sequence first.config.sequence free)
@@ -65,27 +67,27 @@ module _ (timestamp : ℕ) (config : Configuration) (disks : List Seated) (chang
   from_first None false steps free same later gives = same gives
   from_first None true steps free same later gives = with_numbered config.sequence first behind steps first_above later gives free
 
-steps_numbered : (timestamp : ℕ) (changes : List Change) (config : Configuration) (disks : List Seated) (steps : List Step) → steps_from timestamp changes config disks ≡ Ok steps
+steps_numbered : (timestamp : ℕ) (changes : List Change) (config : Configuration) (disks : List Seated) (steps : List Step) → steps_from timestamp None changes config disks ≡ Ok steps
     → list_any is_spent steps ≡ false → AreNumbered config.sequence steps
 steps_numbered timestamp [] config disks steps gives free =
     let same : [] ≡ steps = cc in
     subst (AreNumbered config.sequence) same tt
 steps_numbered timestamp (change ∷ changes) config disks steps gives free =
-    from_first timestamp config disks change changes (step_refusal timestamp config disks change) (is_step config change) steps free
+    from_first timestamp config disks change changes (step_refusal timestamp None config disks change) (is_step config change) steps free
     (λ same. steps_numbered timestamp changes config disks steps same free)
     (λ others later none. steps_numbered timestamp changes (step_of timestamp config disks change).config (map levelled (step_of timestamp config disks change).disks) others later none)
     gives
 
 -- The sequence number of each step that changes of a group are is above the one before it, and none passes the greatest.
-pub readied_numbered : (group : GroupValue) (changes : List Change) (timestamp : ℕ) (steps : List Step) → readied group changes timestamp ≡ Ok steps → AreNumbered group.config.sequence steps
-unfolding readied
-readied_numbered group changes timestamp steps is = by (steps_from timestamp changes group.config (seated group)) refl is
+pub readied_numbered : (group : GroupValue) → IsSettledGroup group → (changes : List Change) (timestamp : ℕ) (steps : List Step) → readied group changes timestamp ≡ Ok steps
+    → AreNumbered group.config.sequence steps
+readied_numbered group settled changes timestamp steps is = by (steps_from timestamp None changes group.config (seated group)) refl (sym (settled_readied group settled changes timestamp) ∙ is)
   where
     passing : (all : List Step) (b : Bool) → list_any is_spent all ≡ b → ◌≡◌ {A = Result (List Step) GroupFault} (if b then Err SequenceSpent else Ok all) (Ok steps) → (all ≡ steps) × (list_any is_spent all ≡ false)
     passing all true spent h = absurd cc
     passing all false spent h = (cc, spent)
 
-    by : (r : Result (List Step) Refusal) → steps_from timestamp changes group.config (seated group) ≡ r → unless_spent r ≡ Ok steps → AreNumbered group.config.sequence steps
+    by : (r : Result (List Step) Refusal) → steps_from timestamp None changes group.config (seated group) ≡ r → unless_spent r ≡ Ok steps → AreNumbered group.config.sequence steps
     by (Err refusal) from h = absurd cc
     by (Ok all) from h =
         let both = passing all (list_any is_spent all) refl h in

@@ -17,7 +17,7 @@ use Rattle.ddf_rewrite.proofs.Leaders.{leaders_held}
 use Rattle.ddf_assembly.specs.declared.seated.Seated.{Seated}
 use Rattle.ddf_assembly.specs.Seated.{views_in}
 use Rattle.ddf_assembly.specs.Full.{full_of, full_on, least_full, lengths_differ, lesser, rank, record_length}
-use Rattle.ddf_assembly.specs.Trying.{AreCopies, CanBeHeldOn, CanTry, HaveLength}
+use Rattle.ddf_assembly.specs.Trying.{AreCopies, CanBeHeldOn, CanBeLed, CanTry, HaveLength}
 
 -- ---- one length
 
@@ -37,11 +37,11 @@ one_length disk disks h = (refl, lengths_same (record_length disk) disks (not_fa
 pub sound_of : (copy : DiskCopy) → CanBeCopy copy → IsSound copy.header.geometry
 sound_of copy is = sound copy.header.geometry is.header_can.is_header.has_geometry
 
-leaders_all : (geometry : Geometry) (disks : List Seated) → AreCopies disks → HaveLength geometry.record_length disks → AllByRecursion (IsLeader geometry) (map (λ (disk : Seated). disk.copy) disks)
+pub leaders_all : (geometry : Geometry) (disks : List Seated) → AreCopies disks → HaveLength geometry.record_length disks → AllByRecursion (IsLeader geometry) (map (λ (disk : Seated). disk.copy) disks)
 leaders_all geometry [] are same = tt
 leaders_all geometry (disk ∷ disks) are same = (record { is_copy = are.0; same_records = same.0 }, leaders_all geometry disks are.1 same.1)
 
-views_are : (disks : List Seated) → map view_of (map (λ (disk : Seated). disk.copy) disks) ≡ views_in disks
+pub views_are : (disks : List Seated) → map view_of (map (λ (disk : Seated). disk.copy) disks) ≡ views_in disks
 views_are [] = refl
 views_are (disk ∷ disks) = ap (λ l. view_of disk.copy ∷ l) (views_are disks)
 
@@ -55,32 +55,38 @@ held_under geometry disks is are same =
 pub own_length : (sectors : ℕ) (disks : List Seated) (disk : Seated) → HaveLength sectors disks → record_length disk ≡ sectors → HaveLength (record_length disk) disks
 own_length sectors disks disk same own = subst (λ (n : ℕ). HaveLength n disks) (sym own) same
 
+-- What the disks themselves record can stand in the records of each.
+pub led_by_all : (disks : List Seated) → AreCopies disks → CanBeLed (before (views_in disks)) disks
+led_by_all disks are = each disks are
+  where
+    each : (some : List Seated) → AreCopies some
+        → AllByRecursion (λ (disk : Seated). HaveLength (record_length disk) disks → AreHeld disk.copy.header.geometry (before (views_in disks))) some
+    each [] are_copies = tt
+    each (disk ∷ some) are_copies = (λ same. held_under disk.copy.header.geometry disks (sound_of disk.copy are_copies.0) are same, each some are_copies.1)
+
 -- A change may be tried on each of them.
-pub can_try_all : (config : Configuration) (disks : List Seated) → AreCopies disks → lengths_differ disks ≡ false → CanBeHeldOn config disks
-    → AllByRecursion (CanTry (before (views_in disks)) config) disks
-can_try_all config [] are same held = tt
-can_try_all config (disk ∷ disks) are same held = each (disk ∷ disks) are one held
+pub can_try_all : (leaders : Before) (config : Configuration) (disks : List Seated) → AreCopies disks → lengths_differ disks ≡ false → CanBeLed leaders disks → CanBeHeldOn config disks
+    → AllByRecursion (CanTry leaders config) disks
+can_try_all leaders config [] are same led held = tt
+can_try_all leaders config (disk ∷ disks) are same led held = each (disk ∷ disks) are one led held
   where
     one : HaveLength (record_length disk) (disk ∷ disks)
     one = one_length disk disks same
 
     each : (some : List Seated) → AreCopies some → HaveLength (record_length disk) some
+        → AllByRecursion (λ (other : Seated). HaveLength (record_length other) (disk ∷ disks) → AreHeld other.copy.header.geometry leaders) some
         → AllByRecursion (λ (other : Seated). HaveLength (record_length other) (disk ∷ disks) → IsHoldable other.copy.header.geometry.max_members config) some
-        → AllByRecursion (CanTry (before (views_in (disk ∷ disks))) config) some
-    each [] are_copies lengths holds = tt
-    each (other ∷ others) are_copies lengths holds =
+        → AllByRecursion (CanTry leaders config) some
+    each [] are_copies lengths leads holds = tt
+    each (other ∷ others) are_copies lengths leads holds =
         let here = own_length (record_length disk) (disk ∷ disks) other one lengths.0 in (
-          record {
-            is_copy = are_copies.0;
-            leaders_held = held_under other.copy.header.geometry (disk ∷ disks) (sound_of other.copy are_copies.0) are here;
-            holdable = holds.0 here;
-          },
-          each others are_copies.1 lengths.1 holds.1,
+          record { is_copy = are_copies.0; leaders_held = leads.0 here; holdable = holds.0 here },
+          each others are_copies.1 lengths.1 leads.1 holds.1,
         )
 
 -- ---- a full table
 
-lesser_none : (one other : Option FullTable) → lesser one other ≡ None → (one ≡ None) × (other ≡ None)
+pub lesser_none : (one other : Option FullTable) → lesser one other ≡ None → (one ≡ None) × (other ≡ None)
 lesser_none None other h = (refl, h)
 lesser_none (Some one) None h = absurd cc
 lesser_none (Some one) (Some other) h = by (nat_le (rank one) (rank other)) h
@@ -104,14 +110,14 @@ none_full leaders config timestamp disks h = (from None disks h).1
         (both.0, (both.1, rest.1))
 
 -- Nothing is full: the records have one length, and no disk has a full table.
-pub record HasRoom (timestamp : ℕ) (config : Configuration) (disks : List Seated) : Type 0 where
+pub record HasRoom (timestamp : ℕ) (leaders : Before) (config : Configuration) (disks : List Seated) : Type 0 where
   pub same : lengths_differ disks ≡ false
-  pub none : AllByRecursion (λ disk. full_on (before (views_in disks)) config timestamp disk ≡ None) disks
+  pub none : AllByRecursion (λ disk. full_on leaders config timestamp disk ≡ None) disks
 
-pub has_room : (timestamp : ℕ) (config : Configuration) (disks : List Seated) → full_of timestamp config disks ≡ None → HasRoom timestamp config disks
+pub has_room : (timestamp : ℕ) (leaders : Before) (config : Configuration) (disks : List Seated) → full_of timestamp leaders config disks ≡ None → HasRoom timestamp leaders config disks
 unfolding full_of
-has_room timestamp config disks h = by (lengths_differ disks) refl h
+has_room timestamp leaders config disks h = by (lengths_differ disks) refl h
   where
-    by : (b : Bool) → lengths_differ disks ≡ b → (if b then Some Records else least_full (before (views_in disks)) config timestamp disks) ≡ None → HasRoom timestamp config disks
+    by : (b : Bool) → lengths_differ disks ≡ b → (if b then Some Records else least_full leaders config timestamp disks) ≡ None → HasRoom timestamp leaders config disks
     by true e h = absurd cc
-    by false e h = record { same = e; none = none_full (before (views_in disks)) config timestamp disks h }
+    by false e h = record { same = e; none = none_full leaders config timestamp disks h }

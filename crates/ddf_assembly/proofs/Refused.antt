@@ -48,22 +48,22 @@ step_by_tables config next change same after is = step_is config change ∙ ap n
 
 module _ (timestamp : ℕ) (config : Configuration) (disks : List Seated) (change : Change) where
   -- The causes of a change come first.
-  pub refused_first : (refusal : Refusal) → causes (Some (most_members disks)) config change (seats_in disks) ≡ Some refusal → step_refusal timestamp config disks change ≡ Some refusal
+  pub refused_first : (refusal : Refusal) → causes (Some (most_members disks)) config change (seats_in disks) ≡ Some refusal → step_refusal timestamp None config disks change ≡ Some refusal
   unfolding step_refusal
-  refused_first refusal h = ap (λ first. first_refusal (first ∷ room_if_step timestamp config disks change ∷ [])) h
+  refused_first refusal h = ap (λ first. first_refusal (first ∷ None ∷ room_if_step timestamp config disks change ∷ [])) h
 
   module _ (free : causes (Some (most_members disks)) config change (seats_in disks) ≡ None) where
-    refused_later : step_refusal timestamp config disks change ≡ room_if_step timestamp config disks change
+    refused_later : step_refusal timestamp None config disks change ≡ room_if_step timestamp config disks change
     unfolding step_refusal
     refused_later =
-        ap (λ first. first_refusal (first ∷ room_if_step timestamp config disks change ∷ [])) free
+        ap (λ first. first_refusal (first ∷ None ∷ room_if_step timestamp config disks change ∷ [])) free
         ∙ first_of_one (room_if_step timestamp config disks change)
 
     -- A change that is no step needs no room.
-    pub no_step_free : is_step config change ≡ false → step_refusal timestamp config disks change ≡ None
+    pub no_step_free : is_step config change ≡ false → step_refusal timestamp None config disks change ≡ None
     no_step_free h = refused_later ∙ ap (λ b. if b then room_refusal timestamp config disks change else None) h
 
-    pub step_needs_room : is_step config change ≡ true → step_refusal timestamp config disks change ≡ room_refusal timestamp config disks change
+    pub step_needs_room : is_step config change ≡ true → step_refusal timestamp None config disks change ≡ room_refusal timestamp config disks change
     step_needs_room h = refused_later ∙ ap (λ b. if b then room_refusal timestamp config disks change else None) h
 
     -- What answers whether there is room answers whether a change that is a step is refused.

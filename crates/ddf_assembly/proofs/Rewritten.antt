@@ -14,11 +14,14 @@ use Rattle.ddf_copy.specs.Headers.{IsUnder, written_as}
 use Rattle.ddf_copy.specs.Written.{CanBeCopy}
 use Rattle.ddf_copy.proofs.Again.{under_changed}
 use Rattle.ddf_copy.proofs.HeadersWritten.{gate_can}
+use Rattle.ddf_view.specs.Shows.{shows}
+use Rattle.ddf_view.specs.View.{view_of}
 use Rattle.ddf_rewrite.specs.Before.{Before}
 use Rattle.ddf_rewrite.specs.Copies.{changed_copy}
 use Rattle.ddf_rewrite.specs.Hold.{IsHoldable}
 use Rattle.ddf_rewrite.specs.Wanted.{Wanted, all_wanted}
 use Rattle.ddf_rewrite.proofs.AllWanted.{is_wanted, wanted_place}
+use Rattle.ddf_rewrite.proofs.Changed.{changed_shows}
 use Rattle.ddf_rewrite.proofs.Lists.{all_by_get}
 use Rattle.ddf_rewrite.proofs.Roomy.{change_can, write_can, roomy_change_can}
 use Rattle.ddf_rewrite.proofs.Under.{changed_under}
@@ -43,7 +46,7 @@ capacities most config can n wanted at =
 
 -- ---- a copy in its primary place
 
-closed_can : (copy : DiskCopy) → CanBeCopy copy → CanBeCopy (written_as copy Primary)
+pub closed_can : (copy : DiskCopy) → CanBeCopy copy → CanBeCopy (written_as copy Primary)
 closed_can copy is = record {
   header_can = gate_can copy.header Primary 0 (omega arith) is.header_can;
   is_closed = refl;
@@ -59,13 +62,18 @@ closed_can copy is = record {
   has_log = is.has_log;
 }
 
-closed_under : (size : ℕ) (anchor : Header) (copy : DiskCopy) → IsUnder size anchor copy → IsUnder size anchor (written_as copy Primary)
+pub closed_under : (size : ℕ) (anchor : Header) (copy : DiskCopy) → IsUnder size anchor copy → IsUnder size anchor (written_as copy Primary)
 closed_under size anchor copy under = under_changed size anchor copy (written_as copy Primary) under (closed_can copy under.is_copy) refl
 
-changed_header : (old : DiskCopy) (leaders : Before) (config : Configuration) (timestamp : ℕ)
+pub changed_header : (old : DiskCopy) (leaders : Before) (config : Configuration) (timestamp : ℕ)
     → (changed_copy old leaders config timestamp).header ≡ record old.header { guid = config.group; sequence = config.sequence }
 unfolding changed_copy
 changed_header old leaders config timestamp = refl
+
+-- A copy as its primary place has it says what it says.
+pub closed_view : (copy : DiskCopy) → view_of (written_as copy Primary) ≡ view_of copy
+unfolding view_of
+closed_view copy = refl
 
 -- ---- disks
 
@@ -75,6 +83,12 @@ module _ (leaders : Before) (config : Configuration) (timestamp : ℕ) (time : t
       closed_can (changed_copy disk.copy leaders config timestamp)
       (roomy_change_can disk.copy leaders config timestamp try.is_copy try.holdable try.leaders_held time
       (λ n wanted at none. capacities disk.copy.header.geometry.max_members config try.holdable n wanted at) room)
+
+  -- Its copy shows the configuration.
+  pub rewritten_shows : (disk : Seated) → CanTry leaders config disk → full_on leaders config timestamp disk ≡ None → shows config (view_of (rewritten leaders config timestamp disk).copy) ≡ true
+  rewritten_shows disk try room =
+      let can = change_can disk.copy leaders config timestamp try.is_copy try.holdable room in
+      ap (shows config) (closed_view (changed_copy disk.copy leaders config timestamp)) ∙ changed_shows disk.copy leaders config timestamp can.names can.rebuilt can.room
 
   pub rewritten_group : (disk : Seated) → (rewritten leaders config timestamp disk).copy.header.guid ≡ config.group
   rewritten_group disk = ap (λ (header : Header). header.guid) (changed_header disk.copy leaders config timestamp)

@@ -9,7 +9,7 @@ use Rattle.ddf_bytes.proofs.Nones.{none_first, none_map}
 use Rattle.ddf_view.specs.Differ.{difference}
 use Rattle.ddf_view.specs.Readable.{DoNamesDiffer}
 use Rattle.ddf_view.specs.View.{View, lists_current, lists_itself}
-use Rattle.ddf_view.proofs.Finds.{when_false}
+use Rattle.ddf_view.proofs.Finds.{when_false, when_true}
 use Rattle.ddf_group.specs.declared.shown.Shown.{Shown}
 use Rattle.ddf_group.specs.declared.shown.Shown.TheVariants.{Nothing, One, Level, TwoDiffer}
 use Rattle.ddf_group.specs.declared.answer.Assembly.{Assembly}
@@ -24,31 +24,35 @@ use Rattle.ddf_assembly.proofs.SettledLists.{all_kept, find_kept, find_none, non
 -- ---- a leader
 
 -- A slot shows a group by one view, which lists its own disk.
-record HasView (group : List ℕ) (shown : Shown) : Type 0 where
-  view : View
-  is_shown : view_in shown ≡ Some view
-  is_listed : lists_itself view ≡ true
+pub record HasView (group : List ℕ) (shown : Shown) : Type 0 where
+  pub view : View
+  pub is_shown : view_in shown ≡ Some view
+  pub is_listed : lists_itself view ≡ true
+  pub in_group : bytes_eq group view.group ≡ true
 
--- The one view of a slot that shows a group lists its own disk.
-one_view : (group : List ℕ) (view : View) → option_map_or (bytes_eq group) (option_map (λ (one : View). one.group) (find lists_itself (view ∷ []))) false ≡ true → lists_itself view ≡ true
+-- The one view of a slot that shows a group lists its own disk, and is of the group.
+one_view : (group : List ℕ) (view : View) → option_map_or (bytes_eq group) (option_map (λ (one : View). one.group) (find lists_itself (view ∷ []))) false ≡ true
+    → (lists_itself view ≡ true) × (bytes_eq group view.group ≡ true)
 one_view group view h = by (lists_itself view) refl
   where
-    by : (b : Bool) → lists_itself view ≡ b → lists_itself view ≡ true
-    by true e = e
+    by : (b : Bool) → lists_itself view ≡ b → (lists_itself view ≡ true) × (bytes_eq group view.group ≡ true)
+    by true e =
+        let found : find lists_itself (view ∷ []) ≡ Some view = when_true (lists_itself view) (Some view) None e in
+        (e, rw found at h)
     by false e =
         let none : find lists_itself (view ∷ []) ≡ None = when_false (lists_itself view) (Some view) None e in
         let not_shown : option_map_or (bytes_eq group) (option_map (λ (one : View). one.group) (find lists_itself (view ∷ []))) false ≡ false = rw none refl in
         absurd (false≢true (sym not_shown ∙ h))
 
 -- A slot that shows a group, and no two views that differ, has one view.
-has_view : (group : List ℕ) (shown : Shown) → shows_group group shown ≡ true → has_two shown ≡ false → HasView group shown
+pub has_view : (group : List ℕ) (shown : Shown) → shows_group group shown ≡ true → has_two shown ≡ false → HasView group shown
 has_view group Nothing h alone = absurd cc
-has_view group (One view) h alone = record { view = view; is_shown = refl; is_listed = one_view group view h }
-has_view group (Level view) h alone = record { view = view; is_shown = refl; is_listed = one_view group view h }
+has_view group (One view) h alone = record { view = view; is_shown = refl; is_listed = (one_view group view h).0; in_group = (one_view group view h).1 }
+has_view group (Level view) h alone = record { view = view; is_shown = refl; is_listed = (one_view group view h).0; in_group = (one_view group view h).1 }
 has_view group (TwoDiffer primary secondary) h alone = absurd cc
 
 -- The names of each slot's view differ.
-named_at : (all : List Shown) → AreNamed all → (slot : ℕ) → IsNamed (slot_at all slot)
+pub named_at : (all : List Shown) → AreNamed all → (slot : ℕ) → IsNamed (slot_at all slot)
 named_at [] are slot = tt
 named_at (shown ∷ all) are zero = are.0
 named_at (shown ∷ all) are (suc slot) = named_at all are.1 slot
@@ -63,12 +67,12 @@ module _ (slots : List Shown) (named : AreNamed slots) (group : List ℕ) (none 
   AreClaimed leading = AllByRecursion (λ slot. claims slots group slot ≡ true) leading
 
   -- None of the four contradicts the group.
-  parts : AllByRecursion (λ (found : Option Assembly). found ≡ None) (two_copies slots group ∷ twins slots group ∷ differing slots group ∷ split_in slots group ∷ [])
+  pub parts : AllByRecursion (λ (found : Option Assembly). found ≡ None) (two_copies slots group ∷ twins slots group ∷ differing slots group ∷ split_in slots group ∷ [])
   unfolding contradiction
   parts = none_first (two_copies slots group ∷ twins slots group ∷ differing slots group ∷ split_in slots group ∷ []) none
 
   -- Each leader has one view.
-  have_views : AreLeading (leaders slots group)
+  pub have_views : AreLeading (leaders slots group)
   unfolding leaders
   have_views =
       all_kept (λ slot. HasView group (slot_at slots slot)) (leads slots group) (λ slot. has_two (slot_at slots slot)) (numbers slots)
@@ -76,7 +80,7 @@ module _ (slots : List Shown) (named : AreNamed slots) (group : List ℕ) (none 
       (none_map (λ slot. in_conflict slots group slot slot differs.Copies) (find (leads_with_two slots group) (numbers slots)) parts.0)
 
   -- The lowest leader gives the leading view.
-  lowest_leads : (first : ℕ) (rest : List ℕ) → leaders slots group ≡ first ∷ rest → leading_view slots group ≡ view_in (slot_at slots first)
+  pub lowest_leads : (first : ℕ) (rest : List ℕ) → leaders slots group ≡ first ∷ rest → leading_view slots group ≡ view_in (slot_at slots first)
   unfolding leaders leading_view
   lowest_leads first rest e = ap (λ (found : Option ℕ). option_and_then (λ slot. view_in (slot_at slots slot)) found) (find_kept (leads slots group) (numbers slots) first rest e)
 

@@ -28,11 +28,12 @@ use Rattle.ddf_plan.specs.Causes.{causes}
 use Rattle.ddf_plan.specs.Changes.{after, after_by, changed_at, members_after, refusal_of, steps_of}
 use Rattle.ddf_plan.specs.Floors.{extent_refusal, extents_refusal, lacks_extent}
 use Rattle.ddf_plan.specs.Same.{is_step}
+use Rattle.ddf_rewrite.specs.Before.{before}
 use Rattle.ddf_assembly.specs.declared.seated.Seated.{Seated}
 use Rattle.ddf_assembly.specs.Full.{full_of}
 use Rattle.ddf_assembly.specs.Ready.{is_spent}
 use Rattle.ddf_assembly.specs.Refusing.{most_members, room_if_step, room_refusal, step_refusal}
-use Rattle.ddf_assembly.specs.Seated.{seats_in}
+use Rattle.ddf_assembly.specs.Seated.{seats_in, views_in}
 use Rattle.ddf_assembly.specs.Steps.{config_after, raised, step_of}
 
 -- ---- lists of causes
@@ -142,11 +143,11 @@ still_left sequence steps h = grind arith
 pub as_raised : (sequence steps : ℕ) → sequence + steps ≤ greatest_sequence → raised sequence steps ≡ sequence + steps
 as_raised sequence steps h = grind arith
 
-module _ (timestamp : ℕ) (config : Configuration) (disks : List Seated) (change : Change) (free : step_refusal timestamp config disks change ≡ None) where
+module _ (timestamp : ℕ) (config : Configuration) (disks : List Seated) (change : Change) (free : step_refusal timestamp None config disks change ≡ None) where
   -- What is not refused has no cause against it.
   pub no_cause : causes (Some (most_members disks)) config change (seats_in disks) ≡ None
   unfolding step_refusal
-  no_cause = all_pass [] (causes (Some (most_members disks)) config change (seats_in disks)) (room_if_step timestamp config disks change ∷ []) free
+  no_cause = all_pass [] (causes (Some (most_members disks)) config change (seats_in disks)) (None ∷ room_if_step timestamp config disks change ∷ []) free
 
   module _ (is : is_step config change ≡ true) where
     -- A step that is not refused has room.
@@ -154,11 +155,11 @@ module _ (timestamp : ℕ) (config : Configuration) (disks : List Seated) (chang
     unfolding step_refusal
     has_room =
         sym (ap (λ b. if b then room_refusal timestamp config disks change else None) is)
-        ∙ all_pass (causes (Some (most_members disks)) config change (seats_in disks) ∷ []) (room_if_step timestamp config disks change) [] free
+        ∙ all_pass (causes (Some (most_members disks)) config change (seats_in disks) ∷ None ∷ []) (room_if_step timestamp config disks change) [] free
 
     -- Its extents have.
     has_extents : extents_refusal config change (seats_in disks) ≡ None
-    has_extents = all_pass (option_map Full (full_of timestamp (config_after config change) disks) ∷ []) (extents_refusal config change (seats_in disks)) [] has_room
+    has_extents = all_pass (option_map Full (full_of timestamp (before (views_in disks)) (config_after config change) disks) ∷ []) (extents_refusal config change (seats_in disks)) [] has_room
 
     -- Its configuration is that after the change.
     pub is_after : is_spent (step_of timestamp config disks change) ≡ false → after config change (seats_in disks) ≡ Ok (step_of timestamp config disks change).config

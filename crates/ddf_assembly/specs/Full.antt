@@ -4,10 +4,9 @@ use Rattle.std.specs.List.{list_all}
 use Rattle.ddf_config.specs.declared.refusal.FullTable.{FullTable}
 use Rattle.ddf_config.specs.declared.refusal.FullTable.TheVariants.{Disks, Arrays, Records, Notes, Spares}
 use Rattle.ddf_config.specs.Configuration.{Configuration}
-use Rattle.ddf_rewrite.specs.Before.{Before, before}
+use Rattle.ddf_rewrite.specs.Before.{Before}
 use Rattle.ddf_rewrite.specs.Room.{full_after_change}
 use Rattle.ddf_assembly.specs.declared.seated.Seated.{Seated}
-use Rattle.ddf_assembly.specs.Seated.{views_in}
 
 -- in this order the tables are told
 abbrev pub rank : FullTable → ℕ
@@ -40,6 +39,5 @@ unfoldable pub least_full : Before → Configuration → (timestamp : ℕ) → L
 least_full leaders config timestamp disks = fold (λ least disk. lesser least (full_on leaders config timestamp disk)) None disks
 
 -- Records of different lengths come first, then the least table that is full on some disk.
-unfoldable pub full_of : (timestamp : ℕ) → Configuration → List Seated → Option FullTable
-full_of timestamp config disks =
-    if lengths_differ disks then Some Records else least_full (before (views_in disks)) config timestamp disks
+unfoldable pub full_of : (timestamp : ℕ) → Before → Configuration → List Seated → Option FullTable
+full_of timestamp leaders config disks = if lengths_differ disks then Some Records else least_full leaders config timestamp disks

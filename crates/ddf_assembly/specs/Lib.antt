@@ -5,10 +5,13 @@ pub mod Seated
 pub mod Steps
 pub mod Full
 pub mod Refusing
+pub mod Recovery
 pub mod Ready
 pub mod Tried
 pub mod Committed
 pub mod Asked
 pub mod Trying
 pub mod Settled
+pub mod Assembled
+pub mod Mending
 pub mod Held

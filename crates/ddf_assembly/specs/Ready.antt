@@ -1,9 +1,12 @@
 -- The steps that changes of a group are, or why they are refused (profile).
-use Rattle.std.specs.Prelude.{◌≡◌, ℕ, ◌<◌, ◌≤◌, Bool, List, [], ◌∷◌, map, fold, nat_lt, slice_set, Option, Some, None, Result, Ok, Err, if◌then◌else◌}
+use Rattle.std.specs.Prelude.{◌≡◌, ℕ, ◌<◌, ◌≤◌, Bool, List, [], ◌∷◌, ◌++◌, map, fold, nat_lt, slice_set, Option, Some, None, Result, Ok, Err, if◌then◌else◌}
 use Rattle.std.specs.List.{list_any}
+use Rattle.std.specs.Option.{option_to_list}
 use Rattle.ddf_copy.specs.declared.newest_copy.Newest.{Newest}
 use Rattle.ddf_copy.specs.declared.newest_copy.Newest.TheVariants.{Level}
+use Rattle.ddf_config.specs.declared.refusal.FullTable.{FullTable}
 use Rattle.ddf_config.specs.declared.refusal.Refusal.{Refusal}
+use Rattle.ddf_config.specs.declared.refusal.Refusal.TheVariants.{Full, Unsettled}
 use Rattle.ddf_config.specs.Configuration.{Configuration}
 use Rattle.ddf_plan.specs.declared.change.Change.{Change}
 use Rattle.ddf_plan.specs.Refusals.{greatest_sequence}
@@ -14,8 +17,9 @@ use Rattle.ddf_assembly.specs.declared.fault.GroupFault.{GroupFault}
 use Rattle.ddf_assembly.specs.declared.fault.GroupFault.TheVariants.{Refused, SequenceSpent, Memory}
 use Rattle.ddf_assembly.specs.declared.seated.Seated.{Seated}
 use Rattle.ddf_assembly.specs.Group.{GroupValue}
-use Rattle.ddf_assembly.specs.Seated.{seated, seats_in, slots_in}
+use Rattle.ddf_assembly.specs.Seated.{seats_in, slots_in}
 use Rattle.ddf_assembly.specs.Steps.{Step, levelled, step_of}
+use Rattle.ddf_assembly.specs.Recovery.{config_recovered, disks_recovered, full_of_recovery, has_stray, loss_spent, recovery_of}
 use Rattle.ddf_assembly.specs.Refusing.{step_refusal}
 
 -- ---- the steps
@@ -25,18 +29,23 @@ abbrev pub with_step : Step → Result (List Step) Refusal → Result (List Step
 with_step step (Ok steps) = Ok (step ∷ steps)
 with_step step (Err refusal) = Err refusal
 
--- One change after another, from a configuration and disks on. Each begins with what the step before it gives; one that leaves the
--- configuration as it is, the sequence number aside, is no step.
-abbrev pub steps_from : (timestamp : ℕ) → List Change → Configuration → List Seated → Result (List Step) Refusal
-steps_from timestamp [] config disks = Ok []
-steps_from timestamp (change ∷ changes) config disks =
-    elim (step_refusal timestamp config disks change) [
+abbrev pub full_or_none : Option FullTable → Result (List Step) Refusal
+full_or_none None = Ok []
+full_or_none (Some table) = Err (Full table)
+
+-- One change after another, from a configuration and disks on, where a table may be full before them: that is told behind the causes of
+-- the first change. Each begins with what the step before it gives; one that leaves the configuration as it is, the sequence number
+-- aside, is no step.
+abbrev pub steps_from : (timestamp : ℕ) → Option FullTable → List Change → Configuration → List Seated → Result (List Step) Refusal
+steps_from timestamp full [] config disks = full_or_none full
+steps_from timestamp full (change ∷ changes) config disks =
+    elim (step_refusal timestamp full config disks change) [
       | Some refusal ↦ Err refusal
       | None ↦
           if is_step config change
           then with_step (step_of timestamp config disks change)
-          (steps_from timestamp changes (step_of timestamp config disks change).config (map levelled (step_of timestamp config disks change).disks))
-          else steps_from timestamp changes config disks
+          (steps_from timestamp None changes (step_of timestamp config disks change).config (map levelled (step_of timestamp config disks change).disks))
+          else steps_from timestamp None changes config disks
     ]
 
 -- a step to a sequence number past the greatest
@@ -48,9 +57,18 @@ abbrev pub unless_spent : Result (List Step) Refusal → Result (List Step) Grou
 unless_spent (Ok steps) = if list_any is_spent steps then Err SequenceSpent else Ok steps
 unless_spent (Err refusal) = Err (Refused refusal)
 
--- The steps of a group's changes, at a time, or the first refusal.
+-- a recovery, where there is one, and the steps behind it; a fault of these comes before its sequence number
+abbrev pub with_recovery : (spent : Bool) → Option Step → Result (List Step) GroupFault → Result (List Step) GroupFault
+with_recovery spent None steps = steps
+with_recovery spent (Some step) (Ok steps) = if spent then Err SequenceSpent else Ok (step ∷ steps)
+with_recovery spent (Some step) (Err fault) = Err fault
+
+-- The steps of a group's recovery and its changes, at a time, or the first refusal. A group with a disk that recovery can't write isn't changed.
 unfoldable pub readied : GroupValue → List Change → (timestamp : ℕ) → Result (List Step) GroupFault
-readied group changes timestamp = unless_spent (steps_from timestamp changes group.config (seated group))
+readied group changes timestamp =
+    if has_stray group then Err (Refused Unsettled)
+    else with_recovery (loss_spent group) (recovery_of timestamp group)
+    (unless_spent (steps_from timestamp (full_of_recovery timestamp group) changes (config_recovered group) (disks_recovered timestamp group)))
 
 -- The sequence numbers of steps rise from this one on, and none passes the greatest.
 abbrev pub AreNumbered : (sequence : ℕ) → List Step → Type 0
@@ -65,9 +83,14 @@ pub record ReadyStep : Type 0 where
   pub step : Step
   pub updates : List Prepared
 
--- the steps that are left
+-- the recovery, where one is left, and the steps that are left behind it
 pub record ReadyValue : Type 0 where
+  pub recovery : Option ReadyStep
   pub steps : List ReadyStep
+
+-- all that is left, in order
+abbrev pub all_ready : ReadyValue → List ReadyStep
+all_ready ready = option_to_list ready.recovery ++ ready.steps
 
 -- each disk's update lies on its slot, of these sizes
 abbrev pub LiesOnSlots : (sizes : List ℕ) → ReadyStep → Type 0
@@ -75,7 +98,7 @@ LiesOnSlots sizes one = LieOnSlots sizes (slots_in one.step.disks) one.updates
 
 -- The result is this answer, or memory ran out.
 abbrev pub IsReadied : Result ReadyValue GroupFault → Result (List Step) GroupFault → Type 0
-IsReadied (Ok ready) answer = answer ≡ Ok (map (λ one. one.step) ready.steps)
+IsReadied (Ok ready) answer = answer ≡ Ok (map (λ one. one.step) (all_ready ready))
 IsReadied (Err Memory) answer = Unit {0}
 IsReadied (Err (Refused refusal)) answer = answer ≡ Err (Refused refusal)
 IsReadied (Err SequenceSpent) answer = answer ≡ Err SequenceSpent

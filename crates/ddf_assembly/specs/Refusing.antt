@@ -1,5 +1,6 @@
 -- Why a change of a group is refused, in its order; the sequence number aside (profile).
 use Rattle.std.specs.Prelude.{ℕ, max, List, [], ◌∷◌, fold, Option, Some, None, option_map, if◌then◌else◌}
+use Rattle.ddf_config.specs.declared.refusal.FullTable.{FullTable}
 use Rattle.ddf_config.specs.declared.refusal.Refusal.{Refusal}
 use Rattle.ddf_config.specs.declared.refusal.Refusal.TheVariants.{Full}
 use Rattle.ddf_config.specs.Configuration.{Configuration}
@@ -9,7 +10,8 @@ use Rattle.ddf_plan.specs.Causes.{causes}
 use Rattle.ddf_plan.specs.Floors.{extents_refusal}
 use Rattle.ddf_plan.specs.Same.{is_step}
 use Rattle.ddf_assembly.specs.declared.seated.Seated.{Seated}
-use Rattle.ddf_assembly.specs.Seated.{seats_in}
+use Rattle.ddf_rewrite.specs.Before.{before}
+use Rattle.ddf_assembly.specs.Seated.{seats_in, views_in}
 use Rattle.ddf_assembly.specs.Steps.{config_after}
 use Rattle.ddf_assembly.specs.Full.{full_of}
 
@@ -21,18 +23,19 @@ most_members disks = fold (λ most disk. max most disk.copy.header.geometry.max_
 abbrev pub room_refusal : (timestamp : ℕ) → Configuration → List Seated → Change → Option Refusal
 room_refusal timestamp config disks change =
     first_refusal
-    (option_map Full (full_of timestamp (config_after config change) disks)
+    (option_map Full (full_of timestamp (before (views_in disks)) (config_after config change) disks)
     ∷ extents_refusal config change (seats_in disks)
     ∷ [])
 
 abbrev pub room_if_step : (timestamp : ℕ) → Configuration → List Seated → Change → Option Refusal
 room_if_step timestamp config disks change = if is_step config change then room_refusal timestamp config disks change else None
 
--- In order: the causes of the change, where an element has no more members than a record of some disk has room for; then, where it
--- alters more than the sequence number, a full table, and an extent without room.
-unfoldable pub step_refusal : (timestamp : ℕ) → Configuration → List Seated → Change → Option Refusal
-step_refusal timestamp config disks change =
+-- In order: the causes of the change, where an element has no more members than a record of some disk has room for; a table that is full
+-- before the change, where there is one; then, where it alters more than the sequence number, a full table, and an extent without room.
+unfoldable pub step_refusal : (timestamp : ℕ) → Option FullTable → Configuration → List Seated → Change → Option Refusal
+step_refusal timestamp full config disks change =
     first_refusal
     (causes (Some (most_members disks)) config change (seats_in disks)
+    ∷ option_map Full full
     ∷ room_if_step timestamp config disks change
     ∷ [])

@@ -33,12 +33,13 @@ abbrev pub stays_in : Configuration → Seated → Bool
 stays_in config disk = is_current config.members disk.seat.reference
 
 -- the disks of current members, with the copies that a change to this configuration gives them
-unfoldable pub disks_after : (timestamp : ℕ) → Configuration → List Seated → List Seated
-disks_after timestamp config disks = map (rewritten (before (views_in disks)) config timestamp) (filter (stays_in config) disks)
+unfoldable pub disks_after : (timestamp : ℕ) → Before → Configuration → List Seated → List Seated
+disks_after timestamp leaders config disks = map (rewritten leaders config timestamp) (filter (stays_in config) disks)
 
+-- Behind another step every disk leads.
 abbrev pub step_of : (timestamp : ℕ) → Configuration → List Seated → Change → Step
 step_of timestamp config disks change =
-    record { config = config_after config change; disks = disks_after timestamp (config_after config change) disks }
+    record { config = config_after config change; disks = disks_after timestamp (before (views_in disks)) (config_after config change) disks }
 
 -- a disk that was written has its copy in both places
 abbrev pub levelled : Seated → Seated

@@ -1,11 +1,13 @@
 -- What holds of disks whose copies a change may be tried on, and of those that it gives.
-use Rattle.std.specs.Prelude.{◌≡◌, ℕ, ◌<◌, List, [], ◌∷◌, length, map, slice_get, slice_index, Some}
+use Rattle.std.specs.Prelude.{◌≡◌, ℕ, ◌<◌, true, List, [], ◌∷◌, length, map, slice_get, slice_index, Some}
 use Rattle.std.specs.List.{AllByRecursion}
 use Rattle.ddf_header.specs.declared.reading.Header.{Header}
 use Rattle.ddf_copy.specs.Headers.{IsUnder}
 use Rattle.ddf_copy.specs.Written.{CanBeCopy}
 use Rattle.ddf_config.specs.declared.seat.Seat.{Seat}
 use Rattle.ddf_config.specs.Configuration.{Configuration}
+use Rattle.ddf_view.specs.Shows.{shows}
+use Rattle.ddf_view.specs.View.{view_of}
 use Rattle.ddf_rewrite.specs.Before.{Before}
 use Rattle.ddf_rewrite.specs.Hold.{AreHeld, IsHoldable}
 use Rattle.ddf_update.specs.declared.prepared.Mode.TheVariants.{Change}
@@ -20,6 +22,10 @@ use Rattle.ddf_assembly.specs.Ready.{ReadyStep}
 -- The copy of each disk can be written.
 abbrev pub AreCopies : List Seated → Type 0
 AreCopies disks = AllByRecursion (λ disk. CanBeCopy disk.copy) disks
+
+-- The copy of each disk shows the configuration.
+abbrev pub DoShow : Configuration → List Seated → Type 0
+DoShow config disks = AllByRecursion (λ disk. shows config (view_of disk.copy) ≡ true) disks
 
 -- A copy, the leaders' records and a configuration fit the records of a disk.
 pub record CanTry (leaders : Before) (config : Configuration) (disk : Seated) : Type 0 where
@@ -39,6 +45,10 @@ HaveLength sectors disks = AllByRecursion (λ disk. record_length disk ≡ secto
 -- Where the records of these disks have one length, a copy of each can hold the configuration.
 abbrev pub CanBeHeldOn : Configuration → List Seated → Type 0
 CanBeHeldOn config disks = AllByRecursion (λ disk. HaveLength (record_length disk) disks → IsHoldable disk.copy.header.geometry.max_members config) disks
+
+-- Where the records of these disks have one length, what leaders record can stand in those of each.
+abbrev pub CanBeLed : Before → List Seated → Type 0
+CanBeLed leaders disks = AllByRecursion (λ disk. HaveLength (record_length disk) disks → AreHeld disk.copy.header.geometry leaders) disks
 
 -- Changes of this configuration may be tried on these disks.
 pub record CanBeChanged (config : Configuration) (disks : List Seated) : Type 0 where
@@ -69,10 +79,11 @@ pub record HasPlace (sizes : List ℕ) (disk : Seated) : Type 0 where
 
 -- ---- a step
 
--- What holds of the disks of a step, by what holds of those before it: further changes may be tried on them, each has its update, they are
--- in the same order, and each copy can stand where the one before it can.
+-- What holds of the disks of a step, by what holds of those before it: further changes may be tried on them, their copies show the step's
+-- configuration, each has its update, they are in the same order, and each copy can stand where the one before it can.
 pub record Follows (disks : List Seated) (one : ReadyStep) : Type 0 where
   pub can_be_changed : CanBeChanged one.step.config one.step.disks
+  pub show : DoShow one.step.config one.step.disks
   pub are_prepared : ArePrepared one.step.disks one.updates
   pub slots_rise : SlotsRise (seats_in disks) → SlotsRise (seats_in one.step.disks)
   pub have_places : (sizes : List ℕ) → AllByRecursion (HasPlace sizes) disks → AllByRecursion (HasPlace sizes) one.step.disks

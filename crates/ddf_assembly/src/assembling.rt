@@ -4,6 +4,7 @@ ghost use Rattle.ddf_bay.specs.ReadsOnly.{ReadsOnly};
 ghost use Rattle.ddf_config.specs.Seats.{SeatsFit};
 ghost use Rattle.ddf_group.specs.Assembled.{UpToMemory as FoundUpToMemory, assembled};
 ghost use Rattle.ddf_group.specs.Shown.{shown_of};
+ghost use Rattle.ddf_assembly.specs.Assembled.{IsAssembledGroup};
 ghost use Rattle.ddf_assembly.specs.Group.{UpToMemory, group_of};
 ghost use Rattle.ddf_assembly.specs.Reading.{AreNewest, HaveAnchors};
 ghost use Rattle.ddf_assembly.specs.Settled.{IsSettledGroup};
@@ -43,6 +44,22 @@ fn found(
     assembled(alloc, &shown, named)
 }
 
+/// Equal references.
+fn second_references(alloc: Global, references: &[u32]) -> Result<Vec<u32>, NoMemory>
+    ensures { IfOk result (λ second. second.items ≡ references.now) }
+{
+    let second = Vec::from_slice(alloc, references)?;
+    Ok(second)
+}
+
+/// Equal slots.
+fn second_slots(alloc: Global, slots: &[usize]) -> Result<Vec<usize>, NoMemory>
+    ensures { IfOk result (λ second. second.items ≡ slots.now) }
+{
+    let second = Vec::from_slice(alloc, slots)?;
+    Ok(second)
+}
+
 /// The group that newest copies give, with its seats.
 #[tactic(auto, unfolding(crate::specs::Group::group_of))]
 fn group_of(
@@ -55,15 +72,18 @@ fn group_of(
     ensures newest { IfOk result (λ group. group.newest ≡ newest.items) }
     ensures under { (sizes : List ℕ) → HaveAnchors sizes newest.items → IfOk result (λ group. HaveAnchors sizes group.newest) }
     ensures seats { (sizes : List ℕ) → HaveAnchors sizes newest.items → IfOk result (λ group. SeatsFit sizes group.seats) }
+    ensures assembled { IfOk result IsAssembledGroup }
     ensures settled { IfOk result (λ group. group.absent ≡ [] → group.lagging ≡ [] → IsSettledGroup group) }
 {
     let found = found(alloc, &newest, named)?;
     let seats = seats_of(alloc, &newest, found.seats.items())?;
+    let absent = second_references(alloc, found.absent.items())?;
+    let lagging = second_slots(alloc, found.lagging.items())?;
     Ok(Group {
         config: found.config,
         seats: Seq::new(seats),
-        absent: found.absent,
-        lagging: found.lagging,
+        absent,
+        lagging,
         newest,
     })
 }
@@ -84,7 +104,8 @@ pub fn assemble<B: Bay>(alloc: Global, bay: &mut B, group: Option<Guid>) -> Resu
     ensures stand { B.tells → IfOk result (λ group. StandUnder (B.disks bay.old) group.newest) }
     ensures seats { IfOk result (λ group. SeatsFit (B.disks bay.old).sizes group.seats) }
 
-    // A group of which nothing is absent and nothing lags can be changed.
+    // The group can be recovered. One of which nothing is absent and nothing lags can be changed.
+    ensures recovers { IfOk result IsAssembledGroup }
     ensures settled { IfOk result (λ group. group.absent ≡ [] → group.lagging ≡ [] → IsSettledGroup group) }
 
     // Counts of failures never fall, and nothing is written.

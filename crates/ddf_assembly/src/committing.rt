@@ -1,5 +1,5 @@
 //! The steps of a group, written to its disks one after another.
-ghost use Rattle.std.specs.Prelude.{◌≡◌, ◌<◌, ℕ, [], ◌∷◌, fold, length, MatchOption, OnErr, OnOk, IfErr};
+ghost use Rattle.std.specs.Prelude.{◌≡◌, ◌⊎◌, ◌+◌, ◌<◌, ℕ, [], ◌∷◌, fold, length, Some, None, MatchOption, OnErr, OnOk, IfErr, if◌then◌else◌};
 ghost use Rattle.ddf_bytes.specs.Counts.{Rose};
 ghost use Rattle.ddf_bay.specs.Sectors.{IsLeft};
 ghost use Rattle.ddf_bay.specs.Moments.{IsSettled, Keeps, SpendsOver, SpendsWrites, StopsLeave};
@@ -7,39 +7,61 @@ ghost use Rattle.ddf_update.specs.Changes.{AreChanged, IsLeftChangingAll, MayCha
 ghost use Rattle.ddf_update.specs.Group.{IsOneOf, LieOnSlots};
 ghost use Rattle.ddf_update.specs.Prepared.{all_calls, all_sectors};
 ghost use Rattle.ddf_assembly.specs.Ready.{group_after, with_level};
+ghost use Rattle.ddf_assembly.specs.Recovery.{some};
 ghost use Rattle.ddf_assembly.specs.Seated.{slots_in};
-ghost use Rattle.ddf_assembly.specs.Committed.{AreSettled, HaveSlots, group_next, left_behind, next_slots, next_updates, slots_of};
+ghost use Rattle.ddf_assembly.specs.Committed.{AreSettled, HaveSlots, IsNotWritten, LeavesSynced, group_next, group_recovered, left_behind, next_slots, next_updates, recovery_slots, recovery_updates, slots_of, slots_written, synced, updates_written};
 
 use crate::Group;
 use crate::ready::Ready;
 use crate::seated::Seated;
 use crate::steps::Step;
 use ddf_bay::{Bay, DiskFault};
+use ddf_bytes::Seq;
 use ddf_config::Seat;
 use ddf_copy::Newest;
 use ddf_update::write_disks;
 
 impl Group {
-    /// Syncs the disk of each seat, so that nothing that an earlier call wrote is pending there. It takes no memory.
+    /// Syncs the disk of each seat, so that nothing that an earlier call wrote is pending there, and then writes the recovery, where there
+    /// is one, disk by disk in the order of their slots. It makes the group what it is then. The recovery is then no longer ready, also
+    /// after an error. It takes no memory.
     ///
     /// # Errors
-    /// A sync of the disk of a seat failed: those of the seats behind it aren't synced.
-    pub fn recover<B: Bay>(&self, bay: &mut B) -> Result<(), DiskFault>
-        requires slots { HaveSlots (B.disks bay.old).sizes self.now.seats }
+    /// A write or a sync of the disk of a seat failed: the group stays as it was.
+    pub fn recover<B: Bay>(&mut self, bay: &mut B, ready: &mut Ready) -> Result<(), DiskFault>
+        requires slots { HaveSlots (B.disks bay.old).sizes self.old.seats }
+        requires lies { LieOnSlots (B.disks bay.old).sizes (recovery_slots ready.old) (recovery_updates ready.old) }
+        ensures group { OnOk result (self.new ≡ group_recovered self.old ready.old.recovery) }
+        ensures kept { OnErr result (self.new ≡ self.old) }
+        ensures left { ready.new ≡ record ready.old { recovery = None } }
 
-        // A stop then leaves of the seats' slots what they hold.
-        ensures settled { B.tells → OnOk result (AreSettled (B.disks bay.new) self.now.seats (length self.now.seats)) }
+        // From entry to exit a stop leaves what it might have left before, or, once the seats' slots were synced, each slot with its old
+        // or its new copy, and one of them at most partly written. At Ok no other slot was written, and a stop leaves of the seats'
+        // slots what they hold.
+        ensures any_moment { B.tells → (seat : ℕ → SlotChange) → MayChangeAll (synced (B.disks bay.old) (slots_of self.old.seats)) (recovery_slots ready.old) seat (recovery_updates ready.old)
+            → StopsLeave (B.disks bay.old) (B.disks bay.new) (λ image. IsLeft (B.disks bay.old).may_hold image
+            ⊎ IsLeftChangingAll (synced (B.disks bay.old) (slots_of self.old.seats)) (recovery_slots ready.old) seat (recovery_updates ready.old) image) }
+        ensures changed { B.tells → (seat : ℕ → SlotChange) → MayChangeAll (synced (B.disks bay.old) (slots_of self.old.seats)) (recovery_slots ready.old) seat (recovery_updates ready.old)
+            → OnOk result (AreChanged (synced (B.disks bay.old) (slots_of self.old.seats)) (B.disks bay.new) (recovery_slots ready.old) seat (recovery_updates ready.old) (length (recovery_slots ready.old))) }
+        ensures settled { B.tells → (seat : ℕ → SlotChange) → MayChangeAll (synced (B.disks bay.old) (slots_of self.old.seats)) (recovery_slots ready.old) seat (recovery_updates ready.old)
+            → OnOk result (AreSettled (B.disks bay.new) self.old.seats (length self.old.seats)) }
 
-        // Nothing is written, and a stop leaves at any moment what it might have left before.
-        ensures held { (B.disks bay.new).held ≡ (B.disks bay.old).held }
-        ensures left { Keeps (B.disks bay.old).may_hold (B.disks bay.new).may_hold }
-        ensures any_moment { StopsLeave (B.disks bay.old) (B.disks bay.new) (IsLeft (B.disks bay.old).may_hold) }
+        // After an error all that a stop may leave is as before, or all is as behind the syncs.
+        ensures ends { B.tells → (seat : ℕ → SlotChange) → MayChangeAll (synced (B.disks bay.old) (slots_of self.old.seats)) (recovery_slots ready.old) seat (recovery_updates ready.old)
+            → OnErr result (LeavesSynced (B.disks bay.old) (B.disks bay.new) (slots_of self.old.seats) (recovery_slots ready.old) seat (recovery_updates ready.old)) }
+
+        // Without a recovery nothing is written.
+        ensures unwritten { ready.old.recovery ≡ None → IsNotWritten (B.disks bay.old) (B.disks bay.new) }
         ensures reads { (B.disks bay.new).failed_reads ≡ (B.disks bay.old).failed_reads }
-        ensures spends { SpendsOver (B.disks bay.old) (B.disks bay.new) 0 (length self.now.seats) }
+        ensures spends { SpendsOver (B.disks bay.old) (B.disks bay.new) (all_sectors (recovery_updates ready.old)) (length self.old.seats + all_calls (recovery_updates ready.old)) }
         ensures ok { OnOk result ((B.disks bay.new).failed_writes ≡ (B.disks bay.old).failed_writes) }
-        ensures failed { IfErr result (λ e. IsOneOf (slots_of self.now.seats) e.0 × Rose ((B.disks bay.old).failed_writes e.0) ((B.disks bay.new).failed_writes e.0)) }
+        ensures failed { IfErr result (λ e. (IsOneOf (slots_of self.old.seats) e.0 ⊎ IsOneOf (recovery_slots ready.old) e.0) × Rose ((B.disks bay.old).failed_writes e.0) ((B.disks bay.new).failed_writes e.0)) }
     {
-        sync_seats(bay, self.seats.items())
+        let next = ready.take_recovery();
+        sync_seats(bay, self.seats.items())?;
+        write_recovery(bay, &next)?;
+        self.settle(next);
+        Ok(())
     }
 
     /// Writes the next step, disk by disk in the order of their slots, and makes the group what it is then. The step is then no
@@ -73,6 +95,34 @@ impl Group {
         }
     }
 
+    /// Makes the group what it is once it was recovered.
+    fn settle(&mut self, next: Option<Step>)
+        ensures { self.new ≡ group_recovered self.old next }
+    {
+        if let Some(step) = next {
+            self.settle_by(step);
+        }
+    }
+
+    /// Behind a loss the seats are those that are left.
+    fn settle_seats(&mut self, seats: Seq<Seat>)
+        ensures { self.new ≡ record self.old { seats = if some self.old.absent then seats else self.old.seats } }
+    {
+        if !self.absent.is_empty() {
+            self.seats = seats;
+        }
+    }
+
+    fn settle_by(&mut self, step: Step)
+        ensures { self.new ≡ group_recovered self.old (Some step) }
+    {
+        self.settle_seats(step.seats);
+        self.config = step.config;
+        level_all(&mut self.newest, step.disks);
+        self.absent.clear();
+        self.lagging.clear();
+    }
+
     /// Makes the group what it is once a step was written.
     fn advance(&mut self, step: Step)
         ensures { self.new ≡ group_after self.old step.step }
@@ -84,12 +134,39 @@ impl Group {
 }
 
 impl Ready {
+    /// Takes the recovery.
+    fn take_recovery(&mut self) -> Option<Step>
+        ensures left { self.new ≡ record self.old { recovery = None } }
+        ensures next { result ≡ self.old.recovery }
+    {
+        self.recovery.take()
+    }
+
     /// Takes the next step.
     fn take_next(&mut self) -> Option<Step>
         ensures left { self.new ≡ left_behind self.old }
         ensures next { MatchOption result (self.old.steps ≡ []) (λ step. self.old.steps ≡ step ∷ self.new.steps) }
     {
         self.steps.pop()
+    }
+}
+
+/// Writes the disks of a recovery, where there is one.
+fn write_recovery<B: Bay>(bay: &mut B, next: &Option<Step>) -> Result<(), DiskFault>
+    requires { LieOnSlots (B.disks bay.old).sizes (slots_written next.now) (updates_written next.now) }
+    ensures unwritten { next.now ≡ None → IsNotWritten (B.disks bay.old) (B.disks bay.new) }
+    ensures any_moment { B.tells → (seat : ℕ → SlotChange) → MayChangeAll (B.disks bay.old) (slots_written next.now) seat (updates_written next.now)
+        → StopsLeave (B.disks bay.old) (B.disks bay.new) (IsLeftChangingAll (B.disks bay.old) (slots_written next.now) seat (updates_written next.now)) }
+    ensures changed { B.tells → (seat : ℕ → SlotChange) → MayChangeAll (B.disks bay.old) (slots_written next.now) seat (updates_written next.now)
+        → OnOk result (AreChanged (B.disks bay.old) (B.disks bay.new) (slots_written next.now) seat (updates_written next.now) (length (slots_written next.now))) }
+    ensures reads { (B.disks bay.new).failed_reads ≡ (B.disks bay.old).failed_reads }
+    ensures spends { SpendsOver (B.disks bay.old) (B.disks bay.new) (all_sectors (updates_written next.now)) (all_calls (updates_written next.now)) }
+    ensures ok { OnOk result ((B.disks bay.new).failed_writes ≡ (B.disks bay.old).failed_writes) }
+    ensures failed { IfErr result (λ e. IsOneOf (slots_written next.now) e.0 × Rose ((B.disks bay.old).failed_writes e.0) ((B.disks bay.new).failed_writes e.0)) }
+{
+    match next {
+        Some(step) => write_step(bay, step),
+        None => Ok(()),
     }
 }
 

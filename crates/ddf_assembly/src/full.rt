@@ -2,9 +2,8 @@
 ghost use Rattle.std.specs.Prelude.{◌≡◌, ◌==◌, IfOk};
 ghost use Rattle.std.specs.List.{AllByRecursion, list_all};
 ghost use Rattle.ddf_rewrite.specs.Before.{before};
-ghost use Rattle.ddf_assembly.specs.Seated.{views_in};
 ghost use Rattle.ddf_assembly.specs.Full.{full_of, full_on, least_full, lengths_differ, lesser, rank, record_length};
-ghost use Rattle.ddf_assembly.specs.Trying.{AreCopies, CanBeHeldOn, CanTry};
+ghost use Rattle.ddf_assembly.specs.Trying.{AreCopies, CanBeHeldOn, CanBeLed, CanTry};
 
 use crate::seated::Disk;
 use ddf_bytes::NoMemory;
@@ -26,7 +25,7 @@ fn rank(table: FullTable) -> u8
     }
 }
 
-fn lesser(one: Option<FullTable>, other: Option<FullTable>) -> Option<FullTable>
+pub(crate) fn lesser(one: Option<FullTable>, other: Option<FullTable>) -> Option<FullTable>
     ensures { result ≡ lesser one other }
 {
     match (one, other) {
@@ -55,7 +54,7 @@ fn all_have_length(disks: &[Disk], length: u16) -> bool
 }
 
 /// Whether the records of two disks have different lengths.
-fn lengths_differ(disks: &[Disk]) -> bool
+pub(crate) fn lengths_differ(disks: &[Disk]) -> bool
     ensures { result ≡ lengths_differ disks.now }
 {
     match disks.split_first() {
@@ -96,7 +95,7 @@ fn least_full(
 }
 
 /// The first table that has no room for what a change to this configuration gives the disks: the records, where those of two disks
-/// have different lengths, and else the least one that is full on some disk. The leaders are what the copies of the disks say.
+/// have different lengths, and else the least one that is full on some disk.
 ///
 /// # Errors
 /// Memory ran out.
@@ -108,10 +107,10 @@ pub(crate) fn full_of(
     config: &Config,
     timestamp: u32,
 ) -> Result<Option<FullTable>, NoMemory>
-    requires leaders { leaders.now ≡ views_in disks.now }
+    requires leaders { CanBeLed (before leaders.now) disks.now }
     requires copies { AreCopies disks.now }
     requires held { CanBeHeldOn config.now disks.now }
-    ensures { IfOk result (λ full. full ≡ full_of timestamp config.now disks.now) }
+    ensures { IfOk result (λ full. full ≡ full_of timestamp (before leaders.now) config.now disks.now) }
 {
     if lengths_differ(disks) {
         return Ok(Some(FullTable::Records));

@@ -8,8 +8,8 @@ use std::marker::Model;
 pub struct Group {
     pub(crate) config: Config,
     pub(crate) seats: Seq<Seat>,
-    pub(crate) absent: Seq<u32>,
-    pub(crate) lagging: Seq<usize>,
+    pub(crate) absent: Vec<u32>,
+    pub(crate) lagging: Vec<usize>,
     pub(crate) newest: Vec<Option<Newest>>,
 }
 
@@ -21,8 +21,8 @@ impl Model for Group {
     ghost view = { λ group. record {
       config = group.config;
       seats = group.seats;
-      absent = group.absent;
-      lagging = group.lagging;
+      absent = group.absent.items;
+      lagging = group.lagging.items;
       newest = group.newest.items;
     } };
 }
@@ -48,13 +48,13 @@ impl Group {
     pub fn absent(&self) -> &[u32]
         ensures { result.now ≡ self.now.absent }
     {
-        self.absent.items()
+        self.absent.as_slice()
     }
 
     /// The slots of current members that don't hold the configuration in two level copies, in rising order.
     pub fn lagging(&self) -> &[usize]
         ensures { result.now ≡ self.now.lagging }
     {
-        self.lagging.items()
+        self.lagging.as_slice()
     }
 }

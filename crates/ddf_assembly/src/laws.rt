@@ -18,7 +18,7 @@ ghost use Rattle.ddf_assembly.specs.declared.seated.Seated.{Seated};
 /// The configuration of a step that is neither refused nor spent is that after its change.
 pub fn a_step_gives_the_configuration_after_the_change()
     ensures { (timestamp : ℕ) (config : Configuration) (disks : List Seated) (change : Change)
-        → step_refusal timestamp config disks change ≡ None → is_step config change ≡ true
+        → step_refusal timestamp None config disks change ≡ None → is_step config change ≡ true
         → is_spent (step_of timestamp config disks change) ≡ false
         → after config change (seats_in disks) ≡ Ok (step_of timestamp config disks change).config }
 {}

@@ -1,26 +1,33 @@
 //! The steps that changes of a group are, ready to be written.
-ghost use Rattle.std.specs.Prelude.{◌≡◌, ◌++◌, option_to_list, IfOk, IfSome, OnOk};
+ghost use Rattle.std.specs.Prelude.{◌≡◌, ◌&&◌, ◌||◌, ◌++◌, false, option_to_list, IfOk, IfSome, OnOk};
+ghost use Rattle.std.specs.Option.{option_map_or};
 ghost use Rattle.std.specs.List.{AllByRecursion, list_any};
 ghost use Rattle.std.specs.Result.{result_map_both};
 ghost use Rattle.ddf_assembly.specs.Seated.{seated};
 ghost use Rattle.ddf_assembly.specs.Ready.{is_spent};
-ghost use Rattle.ddf_assembly.specs.Tried.{AreTried, IsTried, config_reached, disks_reached};
+ghost use Rattle.ddf_assembly.specs.Recovery.{some};
+ghost use Rattle.ddf_assembly.specs.Tried.{AreTried, IsTried, config_behind, config_reached, disks_behind, disks_reached};
 ghost use Rattle.ddf_assembly.specs.Trying.{AreFollowing, CanBeChanged, Follows};
 ghost use Rattle.ddf_assembly.specs.Asked.{CanBeAsked};
 
 use crate::fault::GroupFault;
 use crate::group::Group;
+use crate::leading::any_stray;
+use crate::recovering::{any_absent, config_behind, disks_behind, first_step};
 use crate::seated::{Disk, all_levelled, seated_disks};
 use crate::steps::Step;
 use crate::trying::next_step;
 use ddf_bytes::NoMemory;
+use ddf_config::{Config, Refusal};
 use ddf_plan::{Change, GREATEST_SEQUENCE};
 use std::alloc::Global;
 use std::marker::Model;
 
-/// The steps that are left of changes of a group, one after another, each with all sectors that it writes.
+/// The recovery of a group, where it needs one, and the steps that are left of its changes, one after another, each with all sectors
+/// that it writes.
 #[derive(Debug, Drop)]
 pub struct Ready {
+    pub(crate) recovery: Option<Step>,
     // The next step is the last item.
     pub(crate) steps: Vec<Step>,
 }
@@ -31,7 +38,7 @@ impl Model for Ready {
 
     ghost Value = { ReadyValue };
 
-    ghost view = { λ ready. record { steps = reverse ready.steps.items } };
+    ghost view = { λ ready. record { recovery = ready.recovery; steps = reverse ready.steps.items } };
 }
 
 /// The disks of a group.
@@ -42,29 +49,27 @@ fn disks_of(alloc: Global, group: &Group) -> Result<Vec<Disk<'_>>, NoMemory>
     seated_disks(alloc, group.newest.as_slice(), group.seats.items())
 }
 
-/// The step that a change is behind these steps of a group. None where it alters no more than the sequence number.
+/// The step that a change is behind these steps of a configuration on disks. None where it alters no more than the sequence number.
 fn step_behind(
     alloc: Global,
-    group: &Group,
+    config: &Config,
+    disks: &[Disk],
     steps: &[Step],
     change: &Change,
     timestamp: u32,
 ) -> Result<Option<Step>, GroupFault>
-    requires changed { CanBeChanged group.now.config (seated group.now) }
-    requires following { AreFollowing (seated group.now) steps.now }
+    requires changed { CanBeChanged config.now disks.now }
+    requires following { AreFollowing disks.now steps.now }
     requires asked { CanBeAsked change.now }
-    ensures tried { IsTried timestamp (config_reached group.now.config steps.now) (disks_reached (seated group.now) steps.now) change.now result }
-    ensures follows { IfOk result (λ next. IfSome next (Follows (disks_reached (seated group.now) steps.now))) }
+    ensures tried { IsTried timestamp (config_reached config.now steps.now) (disks_reached disks.now steps.now) change.now result }
+    ensures follows { IfOk result (λ next. IfSome next (Follows (disks_reached disks.now steps.now))) }
 {
     match steps.split_last() {
         Some((step, _)) => {
             let disks = all_levelled(alloc, &step.disks)?;
             next_step(alloc, &step.config, &disks, change, timestamp)
         }
-        None => {
-            let disks = disks_of(alloc, group)?;
-            next_step(alloc, &group.config, &disks, change, timestamp)
-        }
+        None => next_step(alloc, config, disks, change, timestamp),
     }
 }
 
@@ -78,24 +83,50 @@ fn push_next(steps: &mut Vec<Step>, next: Option<Step>) -> Result<(), NoMemory>
     Ok(())
 }
 
-/// The steps that changes of a group are, their sequence numbers aside.
+/// The steps that changes of a configuration on disks are, their sequence numbers aside.
 fn steps_of(
     alloc: Global,
-    group: &Group,
+    config: &Config,
+    disks: &[Disk],
     changes: &[Change],
     timestamp: u32,
 ) -> Result<Vec<Step>, GroupFault>
-    requires changed { CanBeChanged group.now.config (seated group.now) }
+    requires changed { CanBeChanged config.now disks.now }
     requires asked { AllByRecursion CanBeAsked changes.now }
-    ensures tried { AreTried timestamp group.now.config (seated group.now) changes.now (result_map_both (λ steps. steps.items) (λ fault. fault) result) }
-    ensures follows { IfOk result (λ steps. AreFollowing (seated group.now) steps.items) }
+    ensures tried { AreTried timestamp config.now disks.now changes.now (result_map_both (λ steps. steps.items) (λ fault. fault) result) }
+    ensures follows { IfOk result (λ steps. AreFollowing disks.now steps.items) }
 {
     let mut steps = Vec::new(alloc);
     for change in changes {
-        let next = step_behind(alloc, group, &steps, change, timestamp)?;
+        let next = step_behind(alloc, config, disks, &steps, change, timestamp)?;
         push_next(&mut steps, next)?;
     }
     Ok(steps)
+}
+
+/// The steps that changes of a group are behind its recovery, their sequence numbers aside.
+fn steps_behind(
+    alloc: Global,
+    group: &Group,
+    disks: &[Disk],
+    recovery: &Option<Step>,
+    changes: &[Change],
+    timestamp: u32,
+) -> Result<Vec<Step>, GroupFault>
+    requires changed { CanBeChanged (config_behind group.now recovery.now) (disks_behind group.now recovery.now disks.now) }
+    requires asked { AllByRecursion CanBeAsked changes.now }
+    ensures tried { AreTried timestamp (config_behind group.now recovery.now) (disks_behind group.now recovery.now disks.now) changes.now
+        (result_map_both (λ steps. steps.items) (λ fault. fault) result) }
+    ensures follows { IfOk result (λ steps. AreFollowing (disks_behind group.now recovery.now disks.now) steps.items) }
+{
+    let behind = disks_behind(alloc, group, disks, recovery)?;
+    steps_of(
+        alloc,
+        config_behind(group, recovery),
+        &behind,
+        changes,
+        timestamp,
+    )
 }
 
 fn is_spent(step: &Step) -> bool
@@ -111,39 +142,68 @@ fn any_spent(steps: &[Step]) -> bool
     steps.iter().any(|step| is_spent(step))
 }
 
+/// Whether that of a recovery does, where it is a loss: to give the configuration to the seats that lag raises none.
+fn recovery_spent(group: &Group, recovery: &Option<Step>) -> bool
+    ensures { result ≡ option_map_or (λ one. some group.now.absent && is_spent one.step) recovery.now false }
+{
+    match recovery {
+        Some(step) => any_absent(group) && is_spent(step),
+        None => false,
+    }
+}
+
+/// Whether that of a loss or of a step behind it does.
+fn is_over(group: &Group, recovery: &Option<Step>, steps: &[Step]) -> bool
+    ensures { result ≡ (option_map_or (λ one. some group.now.absent && is_spent one.step) recovery.now false || list_any (λ one. is_spent one.step) steps.now) }
+{
+    recovery_spent(group, recovery) || any_spent(steps)
+}
+
 impl Group {
-    ghost use Rattle.std.specs.Prelude.{IfOk};
+    ghost use Rattle.std.specs.Prelude.{◌≡◌, IfOk, IfSome, option_map};
     ghost use Rattle.std.specs.List.{AllByRecursion};
     ghost use Rattle.ddf_assembly.specs.Seated.{seated};
     ghost use Rattle.ddf_assembly.specs.Ready.{IsReadied, readied};
-    ghost use Rattle.ddf_assembly.specs.Trying.{AreFollowing};
+    ghost use Rattle.ddf_assembly.specs.Recovery.{disks_recovered, recovery_of};
+    ghost use Rattle.ddf_assembly.specs.Trying.{AreFollowing, Follows};
     ghost use Rattle.ddf_assembly.specs.Asked.{CanBeAsked};
-    ghost use Rattle.ddf_assembly.specs.Settled.{IsSettledGroup};
+    ghost use Rattle.ddf_assembly.specs.Assembled.{IsAssembledGroup};
 
-    /// The steps that changes of this group are, one after another, each with all sectors that it writes. Nothing is written. Each
+    /// The recovery of this group and the steps that changes of it are, one after another, each with all sectors that it writes. Nothing
+    /// is written. Where members are absent the recovery is their loss, and else it gives the configuration to the seats that lag. Each
     /// change begins with what the one before it gives, and one that alters no more than the sequence number is no step.
     ///
     /// # Errors
-    /// The first change that is refused: for its own causes first, then for a table that has no room on some disk, then for an extent
-    /// that has none. Where none is refused: a sequence number would pass the greatest. Or memory ran out.
+    /// A seat's disk has the copies of another group, or of the configuration's sequence number or a later one that don't show the
+    /// configuration. The first change that is refused: for its own causes first, then for a table that has no room on some disk, of the
+    /// first one also for the recovery, then for an extent that has none. Without a change: the recovery has no room. Where none is
+    /// refused: a sequence number would pass the greatest. Or memory ran out.
     pub fn ready(
         &self,
         alloc: Global,
         changes: &[Change],
         timestamp: u32,
     ) -> Result<Ready, GroupFault>
-        requires settled { IsSettledGroup self.now }
+        requires assembled { IsAssembledGroup self.now }
         requires asked { AllByRecursion CanBeAsked changes.now }
         ensures readied { IsReadied result (readied self.now changes.now timestamp) }
 
-        // Changes may be tried on the disks of each step, and each copy can stand where the one before it can.
-        ensures follows { IfOk result (λ ready. AreFollowing (seated self.now) ready.steps) }
+        // What recovers the group comes first. It rewrites the group's disks as a change does: each copy can stand where the one before
+        // it can. Changes may be tried on the disks of each step behind it.
+        ensures recovery { IfOk result (λ ready. option_map (λ one. one.step) ready.recovery ≡ recovery_of timestamp self.now) }
+        ensures recovers { IfOk result (λ ready. IfSome ready.recovery (Follows (seated self.now))) }
+        ensures follows { IfOk result (λ ready. AreFollowing (disks_recovered timestamp self.now) ready.steps) }
     {
-        let mut steps = steps_of(alloc, self, changes, timestamp)?;
-        if any_spent(&steps) {
+        let disks = disks_of(alloc, self)?;
+        if any_stray(self.config(), &disks) {
+            return Err(GroupFault::Refused(Refusal::Unsettled));
+        }
+        let recovery = first_step(alloc, self, &disks, changes, timestamp)?;
+        let mut steps = steps_behind(alloc, self, &disks, &recovery, changes, timestamp)?;
+        if is_over(self, &recovery, &steps) {
             return Err(GroupFault::SequenceSpent);
         }
         steps.reverse();
-        Ok(Ready { steps })
+        Ok(Ready { recovery, steps })
     }
 }

@@ -41,6 +41,32 @@ impl<'a> Model for Disk<'a> {
     } };
 }
 
+impl<'a> Disk<'a> {
+    ghost use Rattle.std.specs.Prelude.{◌≡◌};
+
+    /// An equal disk.
+    pub(crate) fn again(&self) -> Disk<'a>
+        ensures { result ≡ self.now }
+    {
+        Disk {
+            seat: self.seat,
+            copy: self.copy,
+            last: self.last,
+        }
+    }
+}
+
+/// Equal disks.
+pub(crate) fn all_again<'a>(alloc: Global, disks: &[Disk<'a>]) -> Result<Vec<Disk<'a>>, NoMemory>
+    ensures { IfOk result (λ all. all.items ≡ disks.now) }
+{
+    let mut all = Vec::with_capacity(alloc, disks.len())?;
+    for disk in disks {
+        all.push(disk.again())?;
+    }
+    Ok(all)
+}
+
 fn seated_by<'a>(seat: Seat, newest: &'a Newest) -> Option<Disk<'a>>
     ensures { result ≡ seated_by seat newest.now }
 {
@@ -78,7 +104,7 @@ pub(crate) fn seated_disks<'a>(
     Ok(disks)
 }
 
-fn levelled(disk: &Seated) -> Disk<'_>
+pub(crate) fn levelled(disk: &Seated) -> Disk<'_>
     ensures { result ≡ levelled disk.now }
 {
     Disk {

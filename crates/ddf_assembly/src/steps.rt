@@ -4,7 +4,7 @@ ghost use Rattle.std.specs.List.{AllByRecursion};
 ghost use Rattle.ddf_header.specs.declared.reading.Header.{Header};
 ghost use Rattle.ddf_plan.specs.Changes.{HasNewGuid};
 ghost use Rattle.ddf_rewrite.specs.Before.{before};
-ghost use Rattle.ddf_assembly.specs.Seated.{seats_in, slots_in, views_in};
+ghost use Rattle.ddf_assembly.specs.Seated.{seats_in, slots_in};
 ghost use Rattle.ddf_assembly.specs.Steps.{config_after, disks_after, raised, rewritten};
 ghost use Rattle.ddf_assembly.specs.Full.{full_of, full_on};
 ghost use Rattle.ddf_assembly.specs.Trying.{AreCopies, ArePrepared, CanBeHeldOn, CanTry, StandOn};
@@ -96,10 +96,9 @@ fn disks_after(
     config: &Config,
     timestamp: u32,
 ) -> Result<Vec<Seated>, NoMemory>
-    requires leaders { leaders.now ≡ views_in disks.now }
     requires can { AllByRecursion (CanTry (before leaders.now) config.now) disks.now }
     requires room { AllByRecursion (λ disk. full_on (before leaders.now) config.now timestamp disk ≡ None) disks.now }
-    ensures { IfOk result (λ after. after.items ≡ disks_after timestamp config.now disks.now) }
+    ensures { IfOk result (λ after. after.items ≡ disks_after timestamp (before leaders.now) config.now disks.now) }
 {
     let mut after = Vec::new(alloc);
     for disk in disks {
@@ -142,21 +141,12 @@ fn slots_of(alloc: Global, disks: &[Seated]) -> Result<Vec<usize>, NoMemory>
     Ok(slots)
 }
 
-/// The step to this configuration. The leaders are what the copies of the disks say.
-pub(crate) fn make_step(
-    alloc: Global,
-    config: Config,
-    disks: &[Disk],
-    leaders: &[View],
-    timestamp: u32,
-) -> Result<Step, NoMemory>
-    requires leaders { leaders.now ≡ views_in disks.now }
-    requires can { AllByRecursion (CanTry (before leaders.now) config) disks.now }
-    requires room { AllByRecursion (λ disk. full_on (before leaders.now) config timestamp disk ≡ None) disks.now }
-    ensures step { IfOk result (λ made. made.step ≡ record { config = config; disks = disks_after timestamp config disks.now }) }
+/// The step to this configuration that writes these disks.
+pub(crate) fn step_with(alloc: Global, config: Config, disks: Vec<Seated>) -> Result<Step, NoMemory>
+    requires { AreCopies disks.items }
+    ensures step { IfOk result (λ made. made.step ≡ record { config = config; disks = disks.items }) }
     ensures prepared { IfOk result (λ made. ArePrepared made.step.disks made.updates) }
 {
-    let disks = disks_after(alloc, disks, leaders, &config, timestamp)?;
     let updates = updates_of(alloc, &disks)?;
     let seats = seats_of(alloc, &disks)?;
     let slots = slots_of(alloc, &disks)?;
@@ -167,4 +157,21 @@ pub(crate) fn make_step(
         slots,
         updates,
     })
+}
+
+/// The step to this configuration, as leaders have it.
+pub(crate) fn make_step(
+    alloc: Global,
+    config: Config,
+    disks: &[Disk],
+    leaders: &[View],
+    timestamp: u32,
+) -> Result<Step, NoMemory>
+    requires can { AllByRecursion (CanTry (before leaders.now) config) disks.now }
+    requires room { AllByRecursion (λ disk. full_on (before leaders.now) config timestamp disk ≡ None) disks.now }
+    ensures step { IfOk result (λ made. made.step ≡ record { config = config; disks = disks_after timestamp (before leaders.now) config disks.now }) }
+    ensures prepared { IfOk result (λ made. ArePrepared made.step.disks made.updates) }
+{
+    let disks = disks_after(alloc, disks, leaders, &config, timestamp)?;
+    step_with(alloc, config, disks)
 }

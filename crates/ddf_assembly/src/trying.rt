@@ -18,7 +18,7 @@ use ddf_view::View;
 use std::alloc::Global;
 
 /// The greatest number of members that a record of some disk has room for.
-fn most_members(disks: &[Disk]) -> u16
+pub(crate) fn most_members(disks: &[Disk]) -> u16
     ensures { result ≡ most_members disks.now }
 {
     let mut most = 0;

@@ -1,4 +1,4 @@
--- How a command that changes a group ends.
+-- How a command that changes or recovers a group ends.
 use Rattle.std.proofs.Common.{◌≡◌, ◌⊎◌, inl, inr, ⊎_elim, ℕ, Option, Result, Ok, Err, refl, subst, List}
 use Rattle.std.specs.Prelude.{IsTrue}
 use Rattle.ddf_bay.specs.State.{BayState}
@@ -10,9 +10,12 @@ use Rattle.ddf_assembly.specs.Group.{GroupValue, group_of}
 use Rattle.ddf_assembly.specs.Slots.{IsLooked, newest_from}
 use Rattle.ddf_command.specs.declared.failure.Failure.{Failure}
 use Rattle.ddf_command.specs.declared.failure.Failure.TheVariants.{Conflict, Disk, Memory, Refused, Split}
+use Rattle.ddf_command.specs.Answers.{IsToldFailure}
+use Rattle.ddf_command.specs.Assemble.{IsAssembleDone, IsTold, no_change}
 use Rattle.ddf_command.specs.Call.{Answer, Work, answer_of, work_of}
-use Rattle.ddf_command.specs.Change.{IsChangeDone, IsChangedIn, IsToldChange, Request}
+use Rattle.ddf_command.specs.Change.{HasChanged, IsChangeDone, IsChangedIn, IsToldChange, Request}
 use Rattle.ddf_command.specs.Run.{SomeSlotRose, is_unwritten}
+use Rattle.ddf_command.proofs.Keeping.{reads_keep}
 use Rattle.ddf_command.proofs.Outcomes.{IsEnd, contradicted_end, refused_end}
 use Rattle.ddf_command.proofs.ReadEnds.{good_end, no_disk, not_three}
 use Rattle.ddf_text.specs.Conflicts.{conflict_line, split_line}
@@ -32,23 +35,43 @@ stream_wrote status six is = let at : IsTrue (is_unwritten 6) = subst (λ (n : �
 -- ---- how it ends
 
 -- Status 3 comes from a slot. At a status of calls that write nothing nothing was written.
-record IsEnding {D : Type 0} (work : Work D) (status : ℕ) : Type 0 where
-  end : IsEnd status ⊎ SomeSlotRose work.old work.new
-  unwritten : IsTrue (is_unwritten status) → ReadsOnly work.old work.new
+pub record IsEnding {D : Type 0} (work : Work D) (status : ℕ) : Type 0 where
+  pub end : IsEnd status ⊎ SomeSlotRose work.old work.new
+  pub unwritten : IsTrue (is_unwritten status) → ReadsOnly work.old work.new
+
+-- What a command tells that is done, or why it isn't.
+abbrev IsClosing : Result ℕ Failure → Answer → Type 0
+IsClosing (Ok sequence) answer = (answer.status ≡ 0) ⊎ (answer.status ≡ 6)
+IsClosing (Err failure) answer = IsToldFailure failure answer
+
+change_closes : (outcome : Result ℕ Failure) (answer : Answer) → IsToldChange outcome answer → IsClosing outcome answer
+change_closes (Ok sequence) answer told = told.ends
+change_closes (Err failure) answer told = told
+
+-- A failure is told as one whatever was found.
+pub told_failure : (found : Result GroupValue Assembly) (failure : Failure) (answer : Answer) → IsToldFailure failure answer → IsTold found (Err failure) answer
+told_failure (Ok group) failure answer told = told
+told_failure (Err fault) failure answer told = told
+
+assemble_closes : (found : Result GroupValue Assembly) (outcome : Result ℕ Failure) (answer : Answer) → IsTold found outcome answer → IsClosing outcome answer
+assemble_closes (Ok group) (Ok sequence) answer told = told.ends
+assemble_closes (Err fault) (Ok sequence) answer told = absurd told
+assemble_closes (Ok group) (Err failure) answer told = told
+assemble_closes (Err fault) (Err failure) answer told = told
 
 module _ {D : Type 0} (work : Work D) (named : Option (List ℕ)) (timestamp : ℕ) (request : Request) (answer : Answer) where
   -- a write or a sync failed
-  fault_ends : (slot : ℕ) (found : Result GroupValue Assembly) → IsChangedIn work timestamp request found (Err (Disk slot)) → IsToldChange (Err (Disk slot)) answer → IsEnding work answer.status
+  fault_ends : (slot : ℕ) (found : Result GroupValue Assembly) → IsChangedIn work timestamp request found (Err (Disk slot)) → IsClosing (Err (Disk slot)) answer → IsEnding work answer.status
   fault_ends slot (Ok group) is told = record {
     end = inr (record { slot = slot; there = is.there; rose = inr is.rose });
     unwritten = λ un. absurd (⊎_elim (λ three. fault_wrote answer.status three un) (λ six. stream_wrote answer.status six un) told.ends);
   }
   fault_ends slot (Err fault) is told = absurd (⊎_elim (λ e. no_disk fault slot cc) (λ memory. cc) is.0)
 
-  ends_by : (outcome : Result ℕ Failure) (found : Result GroupValue Assembly) → IsChangedIn work timestamp request found outcome → IsToldChange outcome answer → IsEnding work answer.status
+  ends_by : (outcome : Result ℕ Failure) (found : Result GroupValue Assembly) → IsChangedIn work timestamp request found outcome → IsClosing outcome answer → IsEnding work answer.status
   ends_by (Ok sequence) found is told = record {
-    end = inl (⊎_elim inl (λ six. inr (inr (inr (inr six)))) told.ends);
-    unwritten = λ un. absurd (⊎_elim (λ zero. done_wrote answer.status zero un) (λ six. stream_wrote answer.status six un) told.ends);
+    end = inl (⊎_elim inl (λ six. inr (inr (inr (inr six)))) told);
+    unwritten = λ un. absurd (⊎_elim (λ zero. done_wrote answer.status zero un) (λ six. stream_wrote answer.status six un) told);
   }
   ends_by (Err (Disk slot)) found is told = fault_ends slot found is told
   ends_by (Err (Refused refusal)) (Ok group) is told = record { end = inl (refused_end (refusal_line refusal) answer told); unwritten = λ un. is.1 }
@@ -60,21 +83,25 @@ module _ {D : Type 0} (work : Work D) (named : Option (List ℕ)) (timestamp : �
   ends_by (Err (Split i j)) (Ok group) is told = absurd is
   ends_by (Err (Split i j)) (Err fault) is told = record { end = inl (contradicted_end (split_line i j) answer told); unwritten = λ un. is.1 }
 
-  ending : IsChangeDone work named timestamp request answer → IsEnding work answer.status
-  ending done = ends_by done.outcome (group_of done.has.newest named) done.has.gives done.ends
+  -- A change ends so,
+  pub change_ending : IsChangeDone work named timestamp request answer → IsEnding work answer.status
+  change_ending done = ends_by done.outcome (group_of done.has.newest named) done.has.gives (change_closes done.outcome answer done.ends)
 
-  -- nothing was written at such a status
-  pub change_unwritten : IsChangeDone work named timestamp request answer → IsTrue (is_unwritten answer.status) → ReadsOnly work.old work.new
-  change_unwritten done = (ending done).unwritten
+-- and so does `assemble`.
+pub assemble_ending : {D : Type 0} (work : Work D) (named : Option (List ℕ)) (timestamp : ℕ) (answer : Answer) → IsAssembleDone work named timestamp answer → IsEnding work answer.status
+assemble_ending work named timestamp answer done =
+    ends_by work named timestamp no_change answer done.outcome (group_of done.has.newest named) done.has.gives (assemble_closes (group_of done.has.newest named) done.outcome answer done.ends)
 
+-- ---- what that says of a call
+
+module _ {D : Type 0} (work : Work D) (status : ℕ) (ending : IsEnding work status) where
   -- status 3 comes from a slot
-  pub change_cause : IsChangeDone work named timestamp request answer → answer.status ≡ 3 → SomeSlotRose work.old work.new
-  change_cause done e = ⊎_elim (λ end. absurd (not_three answer.status end e)) (λ rose. rose) (ending done).end
+  pub end_cause : status ≡ 3 → SomeSlotRose work.old work.new
+  end_cause e = ⊎_elim (λ end. absurd (not_three status end e)) (λ rose. rose) ending.end
 
   -- where nothing failed it is done, or refused, or records contradict each other, or memory ran out
-  pub change_no_fault : IsChangeDone work named timestamp request answer → (SomeSlotRose work.old work.new → ⊥) → (answer.status ≡ 6 → ⊥)
-      → (answer.status ≡ 0) ⊎ (answer.status ≡ 5) ⊎ (answer.status ≡ 1) ⊎ (answer.status ≡ 4)
-  change_no_fault done none good = ⊎_elim (good_end answer.status good) (λ rose. absurd (none rose)) (ending done).end
+  pub end_no_fault : (SomeSlotRose work.old work.new → ⊥) → (status ≡ 6 → ⊥) → (status ≡ 0) ⊎ (status ≡ 5) ⊎ (status ≡ 1) ⊎ (status ≡ 4)
+  end_no_fault none good = ⊎_elim (good_end status good) (λ rose. absurd (none rose)) ending.end
 
 -- ---- before anything was done
 
@@ -84,17 +111,23 @@ nothing_in old tells timestamp request (Ok group) = reads_start old
 nothing_in old tells timestamp request (Err fault) = (inr refl, reads_start old)
 
 -- memory ran out
-pub changed_nothing : {D : Type 0} (old : BayState D) (tells told : Type 0) (before : SinkState) (named : Option (List ℕ)) (timestamp : ℕ) (request : Request) → IsLooked old old
-    → IsChangeDone (work_of tells old old) named timestamp request (answer_of told before before 5)
-changed_nothing old tells told before named timestamp request looked = record {
-  outcome = Err Memory;
-  has = record {
-    left = looked.left;
-    every_slot = looked.every_slot;
-    failed = looked.are_failed.rose;
-    newest = newest_from old 0 looked.left;
-    read = λ tells. refl;
-    gives = nothing_in old tells timestamp request (group_of (newest_from old 0 looked.left) named);
-  };
-  ends = (refl, λ told. refl);
+spent_first : {D : Type 0} (old : BayState D) (tells : Type 0) (named : Option (List ℕ)) (timestamp : ℕ) (request : Request) → IsLooked old old
+    → HasChanged (work_of tells old old) named timestamp request (Err Memory)
+spent_first old tells named timestamp request looked = record {
+  left = looked.left;
+  every_slot = looked.every_slot;
+  failed = looked.are_failed.rose;
+  newest = newest_from old 0 looked.left;
+  read = λ tells. refl;
+  gives = nothing_in old tells timestamp request (group_of (newest_from old 0 looked.left) named);
+  keeps = λ told found is steps asked. reads_keep old old looked.left found steps Memory (reads_start old);
 }
+
+module _ {D : Type 0} (old : BayState D) (tells told : Type 0) (before : SinkState) (named : Option (List ℕ)) (timestamp : ℕ) (looked : IsLooked old old) where
+  pub changed_nothing : (request : Request) → IsChangeDone (work_of tells old old) named timestamp request (answer_of told before before 5)
+  changed_nothing request = record { outcome = Err Memory; has = spent_first old tells named timestamp request looked; ends = (refl, λ told. refl) }
+
+  pub assembled_nothing : IsAssembleDone (work_of tells old old) named timestamp (answer_of told before before 5)
+  assembled_nothing =
+      let has = spent_first old tells named timestamp no_change looked in
+      record { outcome = Err Memory; has = has; ends = told_failure (group_of has.newest named) Memory (answer_of told before before 5) (refl, λ told. refl) }

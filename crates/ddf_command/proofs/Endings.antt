@@ -13,7 +13,7 @@ use Rattle.ddf_assembly.specs.Group.{group_of}
 use Rattle.ddf_assembly.specs.Slots.{IsLooked, newest_from}
 use Rattle.ddf_command.proofs.LeftOut.{has_no_place}
 use Rattle.ddf_bytes.specs.Stamps.{timestamp_of}
-use Rattle.ddf_command.proofs.ChangeEnds.{changed_nothing}
+use Rattle.ddf_command.proofs.ChangeEnds.{assembled_nothing, changed_nothing}
 use Rattle.ddf_command.proofs.ReadBlocks.{memory_in}
 use Rattle.ddf_command.specs.Call.{Answer, Work, answer_of, work_of}
 use Rattle.ddf_command.specs.Examine.{IsExamined, some_failed}
@@ -111,11 +111,7 @@ stream_status status.Stream e = refl
 pub done_nothing : {D : Type 0} (old : BayState D) (tells told : Type 0) (before : SinkState) (stamp : Stamp) (group : Option (List ℕ)) (command : Command)
     → IsCommandDone (work_of tells old old) stamp group command (answer_of told before before 5)
 done_nothing old tells told before stamp group Examine = nothing_done old tells told before
-done_nothing old tells told before stamp group Assemble = record {
-  outcome = Err Memory;
-  has = record { looked = none_looked old; newest = newest_from old 0 (none_looked old).left; read = λ tells. refl; gives = inr refl };
-  ends = (refl, λ told. refl);
-}
+done_nothing old tells told before stamp group Assemble = assembled_nothing old tells told before group (timestamp_of stamp) (none_looked old)
 done_nothing old tells told before stamp group (Label slots) = record {
   outcome = Err Memory;
   tried = reads_start old;
@@ -137,7 +133,7 @@ done_nothing old tells told before stamp group (Read name start count) = record 
   ends = (refl, λ told. refl);
 }
 done_nothing old tells told before stamp group (Create name level qualifier code secondary elements) =
-    changed_nothing old tells told before group (timestamp_of stamp) (create_of (length old.sizes) stamp (creation_of name level qualifier code secondary elements)) (none_looked old)
-done_nothing old tells told before stamp group (Delete name) = changed_nothing old tells told before group (timestamp_of stamp) (delete_of name) (none_looked old)
-done_nothing old tells told before stamp group (Spare slot word) = changed_nothing old tells told before group (timestamp_of stamp) (spare_of (length old.sizes) slot word) (none_looked old)
-done_nothing old tells told before stamp group (Fail slot) = changed_nothing old tells told before group (timestamp_of stamp) (fail_of (length old.sizes) slot) (none_looked old)
+    changed_nothing old tells told before group (timestamp_of stamp) (none_looked old) (create_of (length old.sizes) stamp (creation_of name level qualifier code secondary elements))
+done_nothing old tells told before stamp group (Delete name) = changed_nothing old tells told before group (timestamp_of stamp) (none_looked old) (delete_of name)
+done_nothing old tells told before stamp group (Spare slot word) = changed_nothing old tells told before group (timestamp_of stamp) (none_looked old) (spare_of (length old.sizes) slot word)
+done_nothing old tells told before stamp group (Fail slot) = changed_nothing old tells told before group (timestamp_of stamp) (none_looked old) (fail_of (length old.sizes) slot)

@@ -93,3 +93,9 @@ all_blank sizes held named none place slot at =
     let all = none_is (is_anchored sizes held) slots (none_anchored sizes held slots (none_missing sizes held named none)) in
     let here : get_or slots place 0 ≡ slot = get_or_from_slice_get slots place slot 0 at in
     blank_is (anchor_at (slice_index sizes slot) (held slot)) (rw here at (all place 0 (slice_get_within slots place slot at)))
+
+-- Those that aren't refused are few.
+pub few_labelled : (sizes : List ℕ) (held : Image) (named : List ℕ) → label_refusal sizes held named ≡ None → length (chosen (length sizes) named) ≤ most_disks
+few_labelled sizes held named none =
+    let slots = chosen (length sizes) named in
+    (fits sizes slots (find (is_anchored sizes held) slots) (none_missing sizes held named none)).few

@@ -7,10 +7,12 @@ mod LabelEnds
 mod Labelled
 mod Quiet
 mod Rises
-mod Settling
 mod Writing
+mod Recovering
+mod Keeping
 mod Changing
 mod ChangeEnds
+mod Assembling
 pub mod Outcomes
 pub mod Readable
 pub mod ReadBlocks
@@ -18,3 +20,4 @@ pub mod LeftOut
 pub mod ReadEnds
 pub mod Requested
 pub mod SeatReferences
+mod Events

@@ -1,10 +1,12 @@
 -- What a command that changes a group does, and how it ends.
-use Rattle.std.specs.Prelude.{◌≡◌, ◌⊎◌, ℕ, ◌<◌, Bool, false, List, [], ◌∷◌, length, Option, Result, Ok, Err, IsTrue, slice_index_or, if◌then◌else◌}
+use Rattle.std.specs.Prelude.{◌≡◌, ◌⊎◌, ℕ, ◌<◌, Bool, true, false, List, [], ◌∷◌, length, Option, Result, Ok, Err, IsTrue, slice_index_or}
 use Rattle.ddf_bytes.specs.Counts.{Rose}
 use Rattle.ddf_bay.specs.ReadsOnly.{LookFailed, ReadsOnly}
+use Rattle.ddf_bay.specs.State.{BayState}
 use Rattle.ddf_copy.specs.declared.newest_copy.Newest.{Newest}
 use Rattle.ddf_config.specs.declared.refusal.Refusal.{Refusal}
-use Rattle.ddf_config.specs.declared.refusal.Refusal.TheVariants.{Unsettled}
+use Rattle.ddf_config.specs.declared.seat.Seat.{Seat}
+use Rattle.ddf_config.specs.Configuration.{Configuration}
 use Rattle.ddf_plan.specs.declared.change.Change.{Change}
 use Rattle.ddf_group.specs.declared.answer.Assembly.{Assembly}
 use Rattle.ddf_assembly.specs.declared.fault.GroupFault.{GroupFault}
@@ -12,34 +14,38 @@ use Rattle.ddf_update.specs.Group.{IsOneOf}
 use Rattle.ddf_assembly.specs.Committed.{AreSettled, slots_of}
 use Rattle.ddf_assembly.specs.Group.{GroupValue, group_of}
 use Rattle.ddf_assembly.specs.Ready.{readied}
+use Rattle.ddf_assembly.specs.Recovery.{config_recovered}
 use Rattle.ddf_assembly.specs.Slots.{newest_from}
 use Rattle.ddf_assembly.specs.Steps.{Step}
+use Rattle.ddf_history.specs.Groups.{groups}
+use Rattle.ddf_history.specs.Issued.{Past}
+use Rattle.ddf_stops.specs.Going.{IsAdmitted, KeepsHistory, changes_in}
+use Rattle.ddf_stops.specs.Kept.{AreAllKept}
 use Rattle.ddf_text.specs.Done.{sequence_line}
 use Rattle.ddf_command.specs.declared.failure.Failure.{Failure}
 use Rattle.ddf_command.specs.declared.failure.Failure.TheVariants.{Conflict, Disk, Memory, Refused, Split}
 use Rattle.ddf_command.specs.Answers.{IsToldFailure, failure_of, failure_of_group}
-use Rattle.ddf_command.specs.Assemble.{is_settled}
 use Rattle.ddf_command.specs.Call.{Answer, Work}
 use Rattle.ddf_command.specs.Tells.{ClosesWith}
 use Rattle.ddf_command.specs.Written.{AreWritten}
 
 -- ---- what is asked of a group
 
--- the change that a command asks of a group, or why there is none
+-- the changes that a command asks of a group, by its configuration once it is recovered and by its seats, or why there are none
 abbrev pub Request : Type 0
-Request = GroupValue → Result Change Refusal
+Request = Configuration → List Seat → Result (List Change) Refusal
 
 abbrev pub steps_or : Result (List Step) GroupFault → Result (List Step) Failure
 steps_or (Ok steps) = Ok steps
 steps_or (Err fault) = Err (failure_of_group fault)
 
-abbrev pub steps_asked : GroupValue → (timestamp : ℕ) → Result Change Refusal → Result (List Step) Failure
-steps_asked group timestamp (Ok change) = steps_or (readied group (change ∷ []) timestamp)
+abbrev pub steps_asked : GroupValue → (timestamp : ℕ) → Result (List Change) Refusal → Result (List Step) Failure
+steps_asked group timestamp (Ok changes) = steps_or (readied group changes timestamp)
 steps_asked group timestamp (Err refusal) = Err (Refused refusal)
 
--- In order: the group is settled; there is what the words ask for; the change isn't refused.
+-- In order: there is what the words ask for; the group can be recovered, and the changes aren't refused. The recovery comes before them.
 abbrev pub steps_of : GroupValue → (timestamp : ℕ) → Request → Result (List Step) Failure
-steps_of group timestamp request = if is_settled group then steps_asked group timestamp (request group) else Err (Refused Unsettled)
+steps_of group timestamp request = steps_asked group timestamp (request (config_recovered group) group.seats)
 
 -- the sequence number behind these steps
 abbrev pub last_sequence : (sequence : ℕ) → List Step → ℕ
@@ -53,7 +59,7 @@ pub record IsDoneTo {D : Type 0} (work : Work D) (group : GroupValue) (asked : R
   pub steps : List Step
   pub are_asked : asked ≡ Ok steps
   pub is_last : sequence ≡ last_sequence group.config.sequence steps
-  pub are_written : work.tells → AreWritten work.old work.new steps
+  pub are_written : work.tells → AreWritten work.old.sizes work.old.held steps work.new.held
   -- without a step no sector was asked to be written
   pub none_asked : steps ≡ [] → work.new.sectors_asked ≡ work.old.sectors_asked
   -- a stop leaves of the seats' slots what they hold
@@ -82,6 +88,19 @@ IsChangedIn work timestamp request (Ok group) outcome = IsChanged work group (st
 IsChangedIn work timestamp request (Err fault) outcome =
     ((outcome ≡ Err (failure_of fault)) ⊎ (outcome ≡ Err Memory)) × ReadsOnly work.old work.new
 
+-- ---- what it means to histories
+
+abbrev pub is_done : Result ℕ Failure → Bool
+is_done (Ok sequence) = true
+is_done (Err failure) = false
+
+-- Each history of the group that admits the call is kept: whatever a stop leaves, at any moment since the call's entry and at its end, shows
+-- what it should, for the changes as far as they are issued then; and where the call is done all of them are acknowledged.
+abbrev pub KeepsHistories : {D : Type 0} (old new : BayState D) → (left : List Bool) → GroupValue → List Step → Result ℕ Failure → Type 0
+KeepsHistories old new left found steps outcome =
+    (group : List ℕ) → found.config.group ≡ group → (past : Past (groups group)) → AreAllKept group past old → IsAdmitted group past old left found
+    → KeepsHistory group old new past left found (changes_in found steps) (is_done outcome)
+
 -- A call came to this: what it made of the group that the newest copies of the slots give that aren't left out. A slot is left out
 -- only where a call of this call failed on it.
 pub record HasChanged {D : Type 0} (work : Work D) (named : Option (List ℕ)) (timestamp : ℕ) (request : Request) (outcome : Result ℕ Failure) : Type 0 where
@@ -91,6 +110,8 @@ pub record HasChanged {D : Type 0} (work : Work D) (named : Option (List ℕ)) (
   pub newest : List (Option Newest)
   pub read : work.tells → newest ≡ newest_from work.old 0 left
   pub gives : IsChangedIn work timestamp request (group_of newest named) outcome
+  pub keeps : work.tells → (found : GroupValue) → group_of newest named ≡ Ok found → (steps : List Step) → steps_of found timestamp request ≡ Ok steps
+      → KeepsHistories work.old work.new left found steps outcome
 
 -- what is told of it, and with which status: once a disk was written no memory is taken
 abbrev pub IsToldChange : Result ℕ Failure → Answer → Type 0

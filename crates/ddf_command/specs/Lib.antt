@@ -12,6 +12,7 @@ pub mod Arrays
 pub mod Read
 pub mod Written
 pub mod Change
-pub mod Settled
+pub mod GroupRead
 pub mod Requests
 pub mod Run
+pub mod History

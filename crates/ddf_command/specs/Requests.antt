@@ -1,6 +1,8 @@
 -- What the commands that change a group ask of it.
-use Rattle.std.specs.Prelude.{ℕ, ◌^◌, ◌<◌, List, Option, unwrap_or}
+use Rattle.std.specs.Prelude.{ℕ, ◌^◌, ◌<◌, List, [], ◌∷◌, Option, unwrap_or, Result, Ok, Err}
 use Rattle.ddf_bytes.specs.declared.stamp.Stamp.{Stamp}
+use Rattle.ddf_config.specs.declared.refusal.Refusal.{Refusal}
+use Rattle.ddf_plan.specs.declared.change.Change.{Change}
 use Rattle.ddf_words.specs.declared.command.CreateElement.{CreateElement}
 use Rattle.ddf_words.specs.declared.command.SpareWord.{SpareWord}
 use Rattle.ddf_request.specs.NewArray.{Creation}
@@ -24,14 +26,19 @@ creation_of name level qualifier code secondary elements = record {
   elements = elements;
 }
 
+-- the one change
+abbrev pub alone : Result Change Refusal → Result (List Change) Refusal
+alone (Ok change) = Ok (change ∷ [])
+alone (Err refusal) = Err refusal
+
 abbrev pub create_of : (slots : ℕ) → Stamp → Creation → Request
-create_of slots stamp creation group = create_request slots group.config group.seats stamp creation
+create_of slots stamp creation config seats = alone (create_request slots config seats stamp creation)
 
 abbrev pub delete_of : (word : List ℕ) → Request
-delete_of word group = delete_request group.config word
+delete_of word config seats = alone (delete_request config word)
 
 abbrev pub spare_of : (slots slot : ℕ) → SpareWord → Request
-spare_of slots slot word group = spare_request slots group.config group.seats slot word
+spare_of slots slot word config seats = alone (spare_request slots config seats slot word)
 
 abbrev pub fail_of : (slots slot : ℕ) → Request
-fail_of slots slot group = fail_request slots group.seats slot
+fail_of slots slot config seats = alone (fail_request slots seats slot)

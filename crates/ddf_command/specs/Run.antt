@@ -26,7 +26,7 @@ AsksForNoWrite words = (asked : Asked) → IsAsked words asked → may_write ask
 abbrev pub IsCommandDone : {D : Type 0} → Work D → Stamp → (group : Option (List ℕ)) → Command → Answer → Type 0
 IsCommandDone work stamp group Examine answer = IsExamined work answer
 IsCommandDone work stamp group (Label slots) answer = IsLabelled work stamp slots answer
-IsCommandDone work stamp group Assemble answer = IsAssembleDone work group answer
+IsCommandDone work stamp group Assemble answer = IsAssembleDone work group (timestamp_of stamp) answer
 IsCommandDone work stamp group (Read name start count) answer = IsReadDone work group name start count answer
 IsCommandDone work stamp group (Create name level qualifier code secondary elements) answer =
     IsChangeDone work group (timestamp_of stamp) (create_of (length work.old.sizes) stamp (creation_of name level qualifier code secondary elements)) answer

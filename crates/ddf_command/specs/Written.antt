@@ -1,7 +1,6 @@
--- What the changes of a group wrote to its disks.
-use Rattle.std.specs.Prelude.{◌≡◌, ◌≢◌, ◌⊎◌, ℕ, List, [], ◌∷◌, slice_get, Some}
-use Rattle.ddf_bay.specs.State.{BayState, size_of}
-use Rattle.ddf_bay.specs.Moments.{IsSettled}
+-- What the steps of a group wrote to its disks.
+use Rattle.std.specs.Prelude.{◌≡◌, ◌≢◌, ◌⊎◌, ℕ, List, [], ◌∷◌, slice_get, slice_index, Some}
+use Rattle.ddf_bay.specs.Sectors.{Image}
 use Rattle.ddf_header.specs.declared.reading.Header.{Header}
 use Rattle.ddf_update.specs.declared.prepared.Mode.TheVariants.{Change}
 use Rattle.ddf_update.specs.declared.prepared.Prepared.{Prepared}
@@ -10,25 +9,24 @@ use Rattle.ddf_update.specs.Update.{AreBoth, IsInEither}
 use Rattle.ddf_assembly.specs.declared.seated.Seated.{Seated}
 use Rattle.ddf_assembly.specs.Steps.{Step}
 
--- A disk has its copy in both places, sure, and all outside these is as it was.
-pub record HasCopy {D : Type 0} (old new : BayState D) (disk : Seated) : Type 0 where
+-- A disk has its copy in both places, and all outside these is as it was.
+pub record HasCopy (sizes : List ℕ) (before after : Image) (disk : Seated) : Type 0 where
   pub anchor : Header
   pub update : Prepared
-  pub are_both : AreBoth (size_of old disk.seat.slot) (new.held disk.seat.slot) anchor disk.copy
+  pub are_both : AreBoth (slice_index sizes disk.seat.slot) (after disk.seat.slot) anchor disk.copy
   pub is_prepared : IsPrepared disk.copy disk.last Change update
-  pub outside : (l : ℕ) → (new.held disk.seat.slot l ≡ old.held disk.seat.slot l) ⊎ IsInEither update l
-  pub is_settled : IsSettled new.may_hold new.held disk.seat.slot
+  pub outside : (l : ℕ) → (after disk.seat.slot l ≡ before disk.seat.slot l) ⊎ IsInEither update l
 
 -- no disk of a step lies on a slot
 abbrev pub IsBeside : Step → (slot : ℕ) → Type 0
 IsBeside step slot = (place : ℕ) (disk : Seated) → slice_get step.disks place ≡ Some disk → disk.seat.slot ≢ slot
 
 -- Each disk of a step has its copy, and every other slot is as it was.
-pub record IsWritten {D : Type 0} (old new : BayState D) (step : Step) : Type 0 where
-  pub have_copies : (place : ℕ) (disk : Seated) → slice_get step.disks place ≡ Some disk → HasCopy old new disk
-  pub others : (slot l : ℕ) → IsBeside step slot → new.held slot l ≡ old.held slot l
+pub record IsWritten (sizes : List ℕ) (before : Image) (step : Step) (after : Image) : Type 0 where
+  pub have_copies : (place : ℕ) (disk : Seated) → slice_get step.disks place ≡ Some disk → HasCopy sizes before after disk
+  pub others : (slot l : ℕ) → IsBeside step slot → after slot l ≡ before slot l
 
--- No step was written, and every slot is as it was; or the only step was.
-abbrev pub AreWritten : {D : Type 0} (old new : BayState D) → List Step → Type 0
-AreWritten old new [] = (slot l : ℕ) → new.held slot l ≡ old.held slot l
-AreWritten old new (step ∷ others) = IsWritten old new step × (others ≡ [])
+-- The steps were written, one after another.
+abbrev pub AreWritten : (sizes : List ℕ) (before : Image) → List Step → (after : Image) → Type 0
+AreWritten sizes before [] after = (slot l : ℕ) → after slot l ≡ before slot l
+AreWritten sizes before (step ∷ others) after = (middle : Image) × IsWritten sizes before step middle × AreWritten sizes middle others after

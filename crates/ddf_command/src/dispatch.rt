@@ -69,7 +69,7 @@ pub fn run<B: Bay, S: Source, K: Sink>(
         Ok(asked) => {
             let group = asked.group;
             match asked.command {
-                Command::Assemble => assemble_disks(alloc, group, bay, sink).code(),
+                Command::Assemble => assemble_disks(alloc, group, bay, sink, &stamp).code(),
                 Command::Examine => examine(alloc, bay, sink).code(),
                 Command::Label { slots } => label(alloc, slots.items(), bay, sink, &stamp).code(),
                 Command::Read { name, start, count } => {

@@ -9,7 +9,7 @@ use crate::status::Status;
 use crate::tell::{tell, tell_line};
 use ddf_assembly::{Assembly, Differ, GroupFault};
 use ddf_bay::DiskFault;
-use ddf_bytes::Sink;
+use ddf_bytes::{NoMemory, Sink};
 use ddf_config::Refusal;
 use ddf_plan::PlanFault;
 use ddf_text::{ConflictText, RefusalText, SplitText, disk_fault_line};
@@ -100,6 +100,16 @@ impl From<GroupFault> for Failure {
             GroupFault::SequenceSpent => Failure::Refused(Refusal::SequenceSpent),
             GroupFault::Memory => Failure::Memory,
         }
+    }
+}
+
+impl From<NoMemory> for Failure {
+    ghost use Rattle.ddf_command.specs.declared.failure.Failure.TheVariants.{Memory};
+
+    ghost from_gives = { λ _ failure. failure ≡ Memory };
+
+    fn from(_error: NoMemory) -> Failure {
+        Failure::Memory
     }
 }
 

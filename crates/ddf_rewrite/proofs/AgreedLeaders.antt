@@ -155,7 +155,7 @@ module _ (old : DiskCopy) (group : List ℕ) (sequence : ℕ) (views : List View
       records : same_record holding.element mine.element ≡ true
       records =
           let led = is_led old (before views) wanted holding made in
-          let place = found_in wanted.guid wanted.index views led.leader led.leads in
+          let place = found_in wanted.guid wanted.index views led.leader led.found in
           let same = leaders_same place.0 place.1 wanted.guid wanted.index led.leader mine place.2 place.3 found in
           let fields = are_same led.leader.element mine.element (and_parts (same_record led.leader.element mine.element) (same_notes led.leader mine) same).0 in
           let own : AreSame led.leader.element holding.element = subst (λ (x : ElementValue). AreSame led.leader.element x) (sym led.element_is) (led_same old.header.geometry (own_record old wanted) led.leader.element) in

@@ -383,9 +383,12 @@ CanBeHeld geometry (Some held) = CanBeElement geometry held.element
 pub changed_can : (config : Configuration) (timestamp : ℕ) (geometry : Geometry) (revision : Revision) (own leader : Option Held) (wanted : Wanted) → HasRoom geometry → IsGiven geometry.max_members config wanted
     → timestamp < 2 ^ 32 → (leader ≡ None → array_capacity wanted.array < 2 ^ 64) → CanBeHeld geometry own → CanBeHeld geometry leader → CanBeElement geometry (changed_record config timestamp geometry revision own leader wanted)
 unfolding changed_record
-changed_can config timestamp geometry revision own None wanted room is time size mine theirs =
+changed_can config timestamp geometry revision None None wanted room is time size mine theirs =
     let fit = created_fit geometry.max_members config timestamp revision wanted is time (size refl) in
     can_be_over geometry (new_record_bytes geometry) (created config timestamp revision wanted) room (new_long geometry room) fit.has fit.is
+changed_can config timestamp geometry revision (Some own) None wanted room is time size mine theirs =
+    let fit = created_fit geometry.max_members config timestamp revision wanted is time (size refl) in
+    can_be_over geometry (element_bytes geometry own.element) (created config timestamp revision wanted) room (bytes_long geometry own.element room mine) fit.has fit.is
 changed_can config timestamp geometry revision None (Some leader) wanted room is time size mine theirs =
     let fit = altered_fit geometry.max_members config timestamp wanted leader.element is time (fit_from geometry leader.element theirs) in
     can_be_over geometry (element_bytes geometry leader.element) (altered config timestamp wanted leader.element) room (bytes_long geometry leader.element room theirs) fit.has fit.is

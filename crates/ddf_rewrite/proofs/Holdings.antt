@@ -191,7 +191,8 @@ over_is geometry bytes wanted element is = record { array = is.array; index = is
 pub record_planned : (config : Configuration) (timestamp : ℕ) (geometry : Geometry) (revision : Revision) (own leader : Option Held) (wanted : Wanted)
     → IsPlanned wanted (changed_record config timestamp geometry revision own leader wanted)
 unfolding changed_record
-record_planned config timestamp geometry revision own None wanted = record { array = refl; index = refl; count = refl; secondary = refl; level = refl; qualifier = refl; strip = refl; blocks = refl; members = refl }
+record_planned config timestamp geometry revision None None wanted = record { array = refl; index = refl; count = refl; secondary = refl; level = refl; qualifier = refl; strip = refl; blocks = refl; members = refl }
+record_planned config timestamp geometry revision (Some own) None wanted = record { array = refl; index = refl; count = refl; secondary = refl; level = refl; qualifier = refl; strip = refl; blocks = refl; members = refl }
 record_planned config timestamp geometry revision None (Some leader) wanted =
     over_is geometry leader.element wanted (altered config timestamp wanted leader.element) (altered_is config timestamp wanted leader.element)
 record_planned config timestamp geometry revision (Some own) (Some leader) wanted =
@@ -215,7 +216,9 @@ plain config timestamp revision (Some leader) wanted = altered config timestamp 
 record_plain : (config : Configuration) (timestamp : ℕ) (geometry : Geometry) (revision : Revision) (own leader : Option Held) (wanted : Wanted)
     → AreSame (plain config timestamp revision leader wanted) (changed_record config timestamp geometry revision own leader wanted)
 unfolding changed_record plain
-record_plain config timestamp geometry revision own None wanted =
+record_plain config timestamp geometry revision None None wanted =
+    record { array = refl; sequence = refl; strip = refl; level = refl; qualifier = refl; count = refl; index = refl; secondary = refl; blocks = refl; size = refl; spares = refl; members = refl }
+record_plain config timestamp geometry revision (Some own) None wanted =
     record { array = refl; sequence = refl; strip = refl; level = refl; qualifier = refl; count = refl; index = refl; secondary = refl; blocks = refl; size = refl; spares = refl; members = refl }
 record_plain config timestamp geometry revision None (Some leader) wanted =
     record { array = refl; sequence = refl; strip = refl; level = refl; qualifier = refl; count = refl; index = refl; secondary = refl; blocks = refl; size = refl; spares = refl; members = refl }

@@ -21,6 +21,7 @@ use Rattle.ddf_rewrite.specs.declared.item.Item.TheVariants as kinds
 use Rattle.ddf_rewrite.specs.declared.item.Item.{Item}
 use Rattle.ddf_rewrite.proofs.AllWanted.{filter_map_get, wanted_item}
 use Rattle.ddf_rewrite.proofs.Holdings.{AreSame}
+use Rattle.ddf_rewrite.proofs.Listed.{leading_held}
 use Rattle.ddf_rewrite.proofs.Lists.{found_place}
 use Rattle.ddf_rewrite.proofs.Made.{AreApart}
 use Rattle.ddf_rewrite.proofs.ReadCan.{found_named}
@@ -41,6 +42,7 @@ led_same geometry (Some own) leader =
 pub record IsLed (old : DiskCopy) (leaders : Before) (wanted : Wanted) (holding : Holding) : Type 0 where
   pub leader : Held
   pub leads : leading_record leaders wanted.guid wanted.index ≡ Some leader
+  pub found : find_held wanted.guid wanted.index leaders.elements ≡ Some leader
   pub wanted_is : holding.wanted ≡ wanted
   pub element_is : holding.element ≡ recovered_record old.header.geometry (own_record old wanted) leader.element
   pub own_only : leaders.noted ≡ false → holding.copied ≡ false
@@ -59,6 +61,7 @@ is_led old leaders wanted holding h = go (leading_record leaders wanted.guid wan
     parts leader noted copied n c at same = record {
       leader = leader;
       leads = at;
+      found = leading_held leaders wanted.guid wanted.index leader at;
       wanted_is = sym (ap (λ (x : Holding). x.wanted) same);
       element_is = sym (ap (λ (x : Holding). x.element) same);
       own_only = λ no. sym (ap (λ (x : Holding). x.copied) same) ∙ c (sym n ∙ no);
@@ -119,10 +122,10 @@ led_apart old leaders config names = record {
       let from = filter_map_get (recovered_holding old leaders) (all_wanted config) n holding at in
       let led = is_led old leaders from.1 holding from.3 in
       ap (λ (x : ElementValue). x.array) led.element_is ∙ sym (led_same old.header.geometry (own_record old from.1) led.leader.element).array
-      ∙ found_array from.1.guid from.1.index leaders.elements led.leader led.leads ∙ ap (λ (w : Wanted). w.guid) (sym led.wanted_is);
+      ∙ found_array from.1.guid from.1.index leaders.elements led.leader led.found ∙ ap (λ (w : Wanted). w.guid) (sym led.wanted_is);
   index_is = λ n holding at.
       let from = filter_map_get (recovered_holding old leaders) (all_wanted config) n holding at in
       let led = is_led old leaders from.1 holding from.3 in
       ap (λ (x : ElementValue). x.index) led.element_is ∙ sym (led_same old.header.geometry (own_record old from.1) led.leader.element).index
-      ∙ found_named from.1.guid from.1.index leaders.elements led.leader led.leads ∙ ap (λ (w : Wanted). w.index) (sym led.wanted_is);
+      ∙ found_named from.1.guid from.1.index leaders.elements led.leader led.found ∙ ap (λ (w : Wanted). w.index) (sym led.wanted_is);
 }

@@ -8,6 +8,7 @@ pub mod Tables
 pub mod Holdings
 pub mod AllWanted
 pub mod Given
+pub mod Listed
 pub mod Made
 pub mod Showing
 pub mod Changed

@@ -17,12 +17,13 @@ use Rattle.ddf_copy.specs.declared.copy.DiskCopy.{DiskCopy}
 use Rattle.ddf_copy.specs.Written.{CanBeCopy}
 use Rattle.ddf_view.specs.View.{Held, find_held, first_spare, is_element, notes_of, view_of}
 use Rattle.ddf_view.proofs.Finds.{find_has}
-use Rattle.ddf_rewrite.specs.Before.{Before}
+use Rattle.ddf_rewrite.specs.Before.{Before, leading_record}
 use Rattle.ddf_rewrite.specs.Hold.{AreHeld, IsHoldable}
 use Rattle.ddf_rewrite.specs.Wanted.{Wanted, all_wanted}
 use Rattle.ddf_rewrite.proofs.ElementsCan.{IsGiven, given}
 use Rattle.ddf_rewrite.specs.Room.{CanHoldSpare, lacks_entries}
 use Rattle.ddf_rewrite.specs.Spares.{arrays_of_spare, spare_use}
+use Rattle.ddf_rewrite.proofs.Listed.{leading_held}
 use Rattle.ddf_rewrite.proofs.Lists.{some_same}
 use Rattle.ddf_rewrite.proofs.SlotsCan.{elements_can, first_spare_can}
 use Rattle.ddf_rewrite.proofs.SparesCan.{CanBeOwn}
@@ -41,8 +42,9 @@ own_can old array index held is at =
     (elements_can old.header.geometry old.header.guid old.header.sequence (notes_of old) old.slots is.slots_can) at
 
 -- a leader's record
-pub leader_can : (geometry : Geometry) (leaders : Before) (array : List ℕ) (index : ℕ) (held : Held) → AreHeld geometry leaders → find_held array index leaders.elements ≡ Some held → CanBeElement geometry held.element
-leader_can geometry leaders array index held are at = find_has (λ one. CanBeElement geometry one.element) (is_element array index) leaders.elements held are at
+pub leader_can : (geometry : Geometry) (leaders : Before) (array : List ℕ) (index : ℕ) (held : Held) → AreHeld geometry leaders → leading_record leaders array index ≡ Some held → CanBeElement geometry held.element
+leader_can geometry leaders array index held are at =
+    find_has (λ one. CanBeElement geometry one.element) (is_element array index) leaders.elements held are (leading_held leaders array index held at)
 
 -- an element of a configuration that can be held
 pub wanted_given : (most : ℕ) (config : Configuration) (all : List Wanted) (i : ℕ) (wanted : Wanted) → all ≡ all_wanted config → IsHoldable most config → i < length all → wanted ≡ get_or all i wanted

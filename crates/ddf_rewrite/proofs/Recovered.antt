@@ -44,6 +44,7 @@ use Rattle.ddf_rewrite.proofs.Fully.{spare_again}
 use Rattle.ddf_rewrite.proofs.Given.{GivesAll, HoldsEach, elements_given, elements_held, not_wanted, plan_again}
 use Rattle.ddf_rewrite.proofs.Holdings.{AreSame}
 use Rattle.ddf_rewrite.proofs.Led.{is_led, led_apart, led_noted, led_same}
+use Rattle.ddf_rewrite.proofs.Listed.{leading_held, listed_leads, read_listed}
 use Rattle.ddf_rewrite.proofs.Lists.{all_at, get_map, get_range, list_all_get, map_get, some_same}
 use Rattle.ddf_rewrite.proofs.Made.{made_found, made_has_notes, made_none, made_noted}
 use Rattle.ddf_rewrite.proofs.Plans.{HasPlan, plan_noted}
@@ -245,7 +246,7 @@ module _ (old : DiskCopy) (group : List ℕ) (sequence : ℕ) (views : List View
   recovered_leads n wanted at =
       let is = is_read group sequence views n wanted at in (
         is.held,
-        ap (λ (g : List ℕ). find_held g wanted.index elements) is.guid ∙ is.found,
+        listed_leads (before views) wanted.guid wanted.index (read_listed group sequence views n wanted at) ∙ ap (λ (g : List ℕ). find_held g wanted.index elements) is.guid ∙ is.found,
         subst (λ (p : ElementPlan). HasPlan is.held.element p) (sym is.plan) (has_read (disks_in views) (find_note is.entry.guid wanted.index elements) is.held.element),
       )
 
@@ -331,7 +332,7 @@ module _ (old : DiskCopy) (group : List ℕ) (sequence : ℕ) (views : List View
           go (Some holding) e =
               let led = is_led old (before views) wanted holding e in
               let same = led_same old.header.geometry (own_record old wanted) led.leader.element in
-              let leader : led.leader ≡ is.held = some_same led.leads is.found in
+              let leader : led.leader ≡ is.held = some_same led.found is.found in
               let count : holding.element.elements ≡ length entry.1.elements = ap (λ (x : ElementValue). x.elements) led.element_is ∙ sym same.count ∙ ap (λ (x : Held). x.element.elements) leader ∙ is.count in
               let level : holding.element.secondary ≡ entry.1.secondary = ap (λ (x : ElementValue). x.secondary) led.element_is ∙ sym same.secondary ∙ ap (λ (x : Held). x.element.secondary) leader ∙ is.level in
               let one : eqb holding.element.elements (length entry.1.elements) ≡ true = eq-eqb holding.element.elements (length entry.1.elements) count in
@@ -372,7 +373,7 @@ module _ (old : DiskCopy) (group : List ℕ) (sequence : ℕ) (views : List View
       ap (option_map (λ (held : Held). f held.element)) (recovered_found n wanted at)
       ∙ ap (λ o. option_map (λ (held : Held). f held.element) (option_map (held_as (before views).noted) o)) holds.1
       ∙ ap (λ (x : X). Some x) is
-      ∙ sym (ap (option_map (λ (held : Held). f held.element)) read.1)
+      ∙ sym (ap (option_map (λ (held : Held). f held.element)) (leading_held (before views) wanted.guid wanted.index read.0 read.1))
 
   -- each element is held
   recovered_holds : (before views).noted ≡ true → HoldsEach config view.elements

@@ -153,7 +153,8 @@ keeping_spares own leader element = go (same_record own leader)
 pub record_spares : (config : Configuration) (timestamp : ℕ) (geometry : Geometry) (revision : Revision) (own leader : Option Held) (wanted : Wanted)
     → (changed_record config timestamp geometry revision own leader wanted).spares ≡ spares_after config wanted.guid (base_spares leader)
 unfolding changed_record
-record_spares config timestamp geometry revision own None wanted = refl
+record_spares config timestamp geometry revision None None wanted = refl
+record_spares config timestamp geometry revision (Some own) None wanted = refl
 record_spares config timestamp geometry revision None (Some leader) wanted = altered_spares config timestamp wanted leader.element
 record_spares config timestamp geometry revision (Some own) (Some leader) wanted =
     keeping_spares own.element leader.element (altered config timestamp wanted leader.element) ∙ altered_spares config timestamp wanted leader.element

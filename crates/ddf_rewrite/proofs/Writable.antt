@@ -1,5 +1,5 @@
 -- The copy that a change or a recovery gives a disk can be written.
-use Rattle.std.proofs.Common.{◌≡◌, ℕ, suc, ◌<◌, ◌≤◌, ◌^◌, Bool, true, false, List, [], ◌∷◌, length, map, Option, Some, None, refl, sym, ◌∙◌, subst}
+use Rattle.std.proofs.Common.{◌≡◌, ℕ, suc, ◌<◌, ◌≤◌, ◌^◌, Bool, true, false, cond, List, [], ◌∷◌, length, map, Option, Some, None, refl, sym, ◌∙◌, subst}
 use Rattle.std.proofs.lemmas.Bool.{ltb-false, false≢true}
 use Rattle.std.specs.Prelude.{slice_get, filter_map}
 use Rattle.std.specs.List.{AllByRecursion, cons_option}
@@ -24,11 +24,11 @@ use Rattle.ddf_config.specs.declared.member.Member.{Member}
 use Rattle.ddf_view.specs.View.{Held, find_held, first_spare, is_element, notes_of, view_of}
 use Rattle.ddf_view.proofs.Finds.{find_has}
 use Rattle.ddf_rewrite.specs.Arrays.{array_rows_after, arrays_after}
-use Rattle.ddf_rewrite.specs.Before.{Before, leading_record}
+use Rattle.ddf_rewrite.specs.Before.{Before, is_listed, leading_record}
 use Rattle.ddf_rewrite.specs.Changing.{CanChange}
 use Rattle.ddf_rewrite.specs.Copies.{changed_copy, changed_holding, changed_holdings, copy_after, items_of, own_record, placed_on, recovered_copy, recovered_holding, recovered_holdings, slots_after}
 use Rattle.ddf_rewrite.specs.Disks.{changed_disks, disk_rows_after, recovered_disks}
-use Rattle.ddf_rewrite.specs.Hold.{CanBeRecovered, CanHold, CanWrite, FitsPlan}
+use Rattle.ddf_rewrite.specs.Hold.{AreHeld, CanBeRecovered, CanHold, CanWrite, FitsPlan}
 use Rattle.ddf_rewrite.specs.Notes.{Holding, notes_after}
 use Rattle.ddf_rewrite.specs.Readable.{HasSpares}
 use Rattle.ddf_rewrite.specs.Room.{lacks_entries, lacks_notes}
@@ -97,6 +97,13 @@ held_can geometry wanted elements all = go (find_held wanted.guid wanted.index e
     go None e = tt
     go (Some held) e = find_has (λ one. CanBeElement geometry one.element) (is_element wanted.guid wanted.index) elements held all e
 
+leading_can : (geometry : Geometry) (leaders : Before) (wanted : Wanted) → AreHeld geometry leaders → CanBeHeld geometry (leading_record leaders wanted.guid wanted.index)
+leading_can geometry leaders wanted all = go (is_listed leaders wanted.guid)
+  where
+    go : (b : Bool) → CanBeHeld geometry (cond b (find_held wanted.guid wanted.index leaders.elements) None)
+    go true = held_can geometry wanted leaders.elements all
+    go false = tt
+
 own_can : (old : DiskCopy) (wanted : Wanted) → CanBeCopy old → CanBeHeld old.header.geometry (own_record old wanted)
 unfolding view_of
 own_can old wanted is = held_can old.header.geometry wanted (view_of old).elements (elements_can old.header.geometry old.header.guid old.header.sequence (notes_of old) old.slots is.slots_can)
@@ -153,7 +160,7 @@ changed_slots old leaders config timestamp is change can =
     let geometry = old.header.geometry in
     let elements = all_mapped (HasElement geometry) make (all_wanted config) (all_by_get (λ wanted. HasElement geometry (make wanted)) (all_wanted config) (λ n wanted at.
     changed_can config timestamp geometry old.header.revision (own_record old wanted) (leading_record leaders wanted.guid wanted.index) wanted (room_of old is)
-    (given geometry.max_members config can.config_can change.readable n wanted at) can.timestamp_fits (can.capacities_fit n wanted at) (own_can old wanted is) (held_can geometry wanted leaders.elements can.leaders_can))) in
+    (given geometry.max_members config can.config_can change.readable n wanted at) can.timestamp_fits (can.capacities_fit n wanted at) (own_can old wanted is) (leading_can geometry leaders wanted can.leaders_can))) in
     let plans = all_mapped (HasPlan geometry.max_members) make (all_wanted config) (all_by_get (λ wanted. FitsPlan geometry.max_members wanted) (all_wanted config) can.config_can.plans) in
     let differ = items_differ true use_as holdings (made_apart config make change.names (changed_makes old leaders config timestamp)).differ in
     let placing = in_place old.header.guid old.header.sequence old.slots (items_of true use_as holdings) differ change.room.records in
@@ -191,7 +198,7 @@ recovered_slots old leaders config timestamp is can =
     let geometry = old.header.geometry in
     let elements = all_made (HasElement geometry) make (all_wanted config) (λ n wanted holding at made.
     let led = is_led old leaders wanted holding made in
-    let theirs = subst (CanBeHeld geometry) led.leads (held_can geometry wanted leaders.elements can.leaders_can) in
+    let theirs = subst (CanBeHeld geometry) led.found (held_can geometry wanted leaders.elements can.leaders_can) in
     subst (CanBeElement geometry) (sym led.element_is) (recovered_can geometry (own_record old wanted) led.leader.element (room_of old is) (own_can old wanted is) theirs)) in
     let plans = all_made (HasPlan geometry.max_members) make (all_wanted config) (λ n wanted holding at made.
     let led = is_led old leaders wanted holding made in

@@ -117,10 +117,15 @@ abbrev pub changed_over : Geometry → (own : Option Held) → (leader : Element
 changed_over geometry None leader element = element_over geometry leader element
 changed_over geometry (Some own) leader element = element_over geometry own.element (keeping own.element leader element)
 
--- The record of an element on a disk, by its own record and by that of the lowest leader that holds it; a new one where no leader
--- does.
+-- over the disk's own record, where it has one, and else over a new one
+abbrev pub created_over : Geometry → (own : Option Held) → ElementValue → ElementValue
+created_over geometry None element = fresh_element geometry element
+created_over geometry (Some own) element = element_over geometry own.element element
+
+-- The record of an element on a disk, by its own record and by what the leaders record of it. Where they record nothing all named
+-- fields are those of a new record.
 unfoldable pub changed_record : Configuration → (timestamp : ℕ) → Geometry → Revision → (own leader : Option Held) → Wanted → ElementValue
-changed_record config timestamp geometry revision own None wanted = fresh_element geometry (created config timestamp revision wanted)
+changed_record config timestamp geometry revision own None wanted = created_over geometry own (created config timestamp revision wanted)
 changed_record config timestamp geometry revision own (Some leader) wanted =
     changed_over geometry own leader.element (altered config timestamp wanted leader.element)
 

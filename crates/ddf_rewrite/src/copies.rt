@@ -20,6 +20,7 @@ use crate::change::Change;
 use crate::disks::{Sources, changed_disks, recovered_disks};
 use crate::elements::changed_record;
 use crate::holding::{Holding, holding_on};
+use crate::leading::leading_record;
 use crate::recovery::{are_noted, recovered_holdings};
 use crate::rows::{array_rows_after, disk_rows_after};
 use crate::slots::slots_after;
@@ -29,7 +30,7 @@ use ddf_config::Config;
 use ddf_copy::DiskCopy;
 use ddf_header::Header;
 use ddf_tables::{ArrayTable, BadBlockLog, DiskEntry, DiskTable};
-use ddf_view::{View, disk_rows, find_held};
+use ddf_view::{View, disk_rows};
 use std::alloc::Global;
 
 /// What a disk is to hold of an element after a change.
@@ -49,7 +50,7 @@ fn changed_holding<'a>(
     ensures size { IfOk result (λ holding. leading_record (before leaders.now) wanted.now.guid wanted.now.index ≡ None → array_capacity wanted.now.array < 2 ^ 64) }
 {
     let own = View::new(old).find_held(&wanted.guid, wanted.index);
-    let leader = find_held(leaders, &wanted.guid, wanted.index);
+    let leader = leading_record(leaders, &wanted.guid, wanted.index);
     let element = changed_record(
         alloc,
         change,
@@ -193,7 +194,8 @@ fn changed_copy_over(
 
 /// The copy of a disk after a change of its group (SNIA DDF 2.0; what is kept is profile), by the copy that it has and those of the
 /// group's leaders, the lowest first. Every byte that no field names stays as it is on this disk, and new records take the lowest
-/// unused slots.
+/// unused slots. An array that the lowest leader doesn't list is new: all named fields of its records are those of new ones, also over a
+/// record that stands under its GUID.
 ///
 /// # Errors
 /// Memory ran out.

@@ -4,7 +4,7 @@ ghost use Rattle.std.specs.Option.{ForSome, option_copied};
 ghost use Rattle.ddf_configs.specs.Elements.{CanBeElement, HasRoom};
 ghost use Rattle.ddf_configs.specs.Building.{element_over};
 ghost use Rattle.ddf_config.specs.Shapes.{array_capacity};
-ghost use Rattle.ddf_rewrite.specs.Elements.{altered, changed_over, changed_record, created, keeping, place_in, planned, recovered_record, spares_of};
+ghost use Rattle.ddf_rewrite.specs.Elements.{altered, changed_over, changed_record, created, created_over, keeping, place_in, planned, recovered_record, spares_of};
 
 use crate::associated::{NO_REFERENCE, spares_after, spares_of};
 use crate::change::Change;
@@ -227,8 +227,26 @@ fn changed_over(
     }
 }
 
-/// The record of an element on a disk with this header, by its own record and by that of the lowest leader that holds it; a new one
-/// where no leader does.
+/// The fields of a new record over the disk's own one, where it has one, and else in a new one.
+fn created_over(
+    alloc: Global,
+    geometry: &Geometry,
+    own: Option<&Held>,
+    element: Element,
+) -> Result<Element, NoMemory>
+    requires room { HasRoom geometry.now }
+    requires own { ForSome (option_copied own) (λ held. CanBeElement geometry.now held.element) }
+    requires few { length element.members ≤ geometry.now.max_members }
+    ensures { IfOk result (λ over. over ≡ created_over geometry.now (option_copied own.entry) element) }
+{
+    match own {
+        Some(held) => element.over(alloc, geometry, held.element),
+        None => element.fresh(alloc, geometry),
+    }
+}
+
+/// The record of an element on a disk with this header, by its own record and by what the leaders record of it. Where they record
+/// nothing all named fields are those of a new record.
 #[tactic(auto, unfolding(crate::specs::Elements::changed_record))]
 pub(crate) fn changed_record(
     alloc: Global,
@@ -257,7 +275,7 @@ pub(crate) fn changed_record(
         }
         None => {
             let element = created(alloc, change, wanted, &dedicated, header.revision)?;
-            element.fresh(alloc, geometry)
+            created_over(alloc, geometry, own, element)
         }
     }
 }

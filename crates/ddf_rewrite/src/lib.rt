@@ -11,6 +11,7 @@ mod elements;
 mod holding;
 mod item;
 mod laws;
+mod leading;
 mod notes;
 mod placement;
 mod recovery;

@@ -12,11 +12,12 @@ ghost use Rattle.ddf_rewrite.specs.Hold.{AreHeld};
 
 use crate::elements::recovered_record;
 use crate::holding::{Holding, holding_on};
+use crate::leading::leading_record;
 use crate::wanted::Wanted;
 use ddf_bytes::NoMemory;
 use ddf_configs::Element;
 use ddf_copy::DiskCopy;
-use ddf_view::{View, find_held};
+use ddf_view::View;
 use std::alloc::Global;
 
 /// Whether a leader has valid notes.
@@ -56,7 +57,7 @@ fn recovered_holding<'a>(
     if !are_noted(leaders) && !wanted.refers_to(old.disk_data.reference) {
         return Ok(None);
     }
-    match find_held(leaders, &wanted.guid, wanted.index) {
+    match leading_record(leaders, &wanted.guid, wanted.index) {
         Some(leader) => Ok(Some(led_holding(alloc, old, wanted, leader.element)?)),
         None => Ok(None),
     }

@@ -14,6 +14,7 @@ use crate::associated::{NO_REFERENCE, has_places, spares_of};
 use crate::change::Change;
 use crate::copies::changed_holdings;
 use crate::holding::Holding;
+use crate::leading::leading_record;
 use crate::recovery::{are_noted, recovered_holdings};
 use crate::slots::{items_of, placed_on};
 use crate::spares::spare_use;
@@ -22,7 +23,7 @@ use ddf_bytes::NoMemory;
 use ddf_config::{Config, FullTable, SpareUse};
 use ddf_configs::{notes_fit, spare_entries};
 use ddf_copy::DiskCopy;
-use ddf_view::{View, find_held};
+use ddf_view::View;
 use std::alloc::Global;
 
 /// How many entries a spare record of this use needs.
@@ -63,7 +64,7 @@ fn lacks_notes(old: &DiskCopy, noted: bool) -> bool
 fn spares_before(leaders: &[View], wanted: &Wanted) -> [u32; 8]
     ensures { result ≡ spares_before (before leaders.now) wanted.now }
 {
-    match find_held(leaders, &wanted.guid, wanted.index) {
+    match leading_record(leaders, &wanted.guid, wanted.index) {
         Some(held) => {
             let element = held.element;
             element.spares

@@ -22,7 +22,7 @@ takes_group (Fail slot) = true
 abbrev pub may_write : Command → Bool
 may_write Examine = false
 may_write (Label slots) = true
-may_write Assemble = false
+may_write Assemble = true
 may_write (Read name start count) = false
 may_write (Create name level qualifier code secondary elements) = true
 may_write (Delete name) = true

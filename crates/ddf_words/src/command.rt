@@ -109,8 +109,9 @@ impl Command {
         ensures { result ≡ may_write self.now }
     {
         match self {
-            Command::Examine | Command::Assemble | Command::Read { .. } => false,
+            Command::Examine | Command::Read { .. } => false,
             Command::Label { .. }
+            | Command::Assemble
             | Command::Create { .. }
             | Command::Delete { .. }
             | Command::Spare { .. }

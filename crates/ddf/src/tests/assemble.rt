@@ -13,7 +13,12 @@ const WRITES: usize = 83;
 
 const ASSEMBLE: &[&str] = &["d0", "d1", "--", "assemble"];
 
-const UNSETTLED: &str = "refused 39 unsettled\n";
+/// Two disks of which the second is lost.
+const SECOND_LOST: &str = "\
+group 524444462d47202052854b00000000000000000000000007 sequence 3
+member 00000007 slot 0 size 32687
+member 00000008 missing
+";
 
 /// Two blank slots, each with room for a label and some changes.
 fn two_slots(alloc: Global) -> Result<MemoryBay, Fail> {
@@ -54,7 +59,7 @@ member 00000009 slot 2 size 32687
         "@524444462d47202052854b00000000000000000000000009",
         "assemble",
     ];
-    let mut bay = MemoryBay::new(alloc, &[SECTORS; 3], 4 * WRITES, Vec::new(alloc), None)?;
+    let mut bay = MemoryBay::new(alloc, &[SECTORS; 3], 6 * WRITES, Vec::new(alloc), None)?;
     let calls: [(&[&str], u8, &str); 5] = [
         (&images, 1, "refused 12 no group\n"),
         (&["d0", "d1", "d2", "--", "label"], 0, "ok sequence 1\n"),
@@ -66,7 +71,13 @@ member 00000009 slot 2 size 32687
     for lba in [PRIMARY, SECONDARY] {
         write(&rt, &mut bay, 1, lba, &[0; 512]);
     }
-    assert_told(&rt, alloc, &images, &mut bay, 1, UNSETTLED)?;
+    let lost = "\
+group 524444462d47202052854b00000000000000000000000007 sequence 3
+member 00000007 slot 0 size 32687
+member 00000008 missing
+member 00000009 slot 2 size 32687
+";
+    assert_told(&rt, alloc, &images, &mut bay, 0, lost)?;
     Ok(())
 }
 
@@ -108,7 +119,7 @@ fn slots_that_fail_are_left_out(rt: HostRuntime) -> Result<(), Fail> {
     let mut bay = two_disks(&rt, alloc)?;
     assert!(rt; 1 < bay.slots());
     bay.unplug(1);
-    assert_told(&rt, alloc, ASSEMBLE, &mut bay, 1, UNSETTLED)?;
+    assert_told(&rt, alloc, ASSEMBLE, &mut bay, 0, SECOND_LOST)?;
     assert!(rt; 0 < bay.slots());
     bay.unplug(0);
     assert_told(&rt, alloc, ASSEMBLE, &mut bay, 1, "refused 12 no group\n")?;
@@ -134,9 +145,26 @@ fn an_older_record_without_a_newest_disk_is_told(rt: HostRuntime) -> Result<(), 
     let mut bay = two_disks(&rt, alloc)?;
     set_sequence(&rt, &mut bay, 0, 5);
     set_sequence(&rt, &mut bay, 1, 3);
-    assert_told(&rt, alloc, ASSEMBLE, &mut bay, 1, UNSETTLED)?;
+    let text = "\
+group 524444462d47202052854b00000000000000000000000007 sequence 5
+member 00000007 slot 0 size 32687
+member 00000008 slot 1 size 32687
+";
+    assert_told(&rt, alloc, ASSEMBLE, &mut bay, 0, text)?;
+    set_sequence(&rt, &mut bay, 1, 3);
     alter_disks(&rt, &mut bay, 1, 94, &[0x00, 0x42]);
     assert_told(&rt, alloc, ASSEMBLE, &mut bay, 4, "split slots 0 1\n")?;
+    Ok(())
+}
+
+#[test]
+fn a_newest_record_that_does_not_list_its_own_disk_is_not_written_over(
+    rt: HostRuntime,
+) -> Result<(), Fail> {
+    let alloc = rt.alloc();
+    let mut bay = two_disks(&rt, alloc)?;
+    alter_disks(&rt, &mut bay, 1, 158, &[0x00, 0x42]);
+    assert_told(&rt, alloc, ASSEMBLE, &mut bay, 1, "refused 39 unsettled\n")?;
     Ok(())
 }
 

@@ -155,6 +155,51 @@ fn assert_bytes(rt: &impl Abort, bay: &mut MemoryBay, slot: usize, all: &[Bytes]
 /// `RDDF-A  `, the timestamp, the sequence number and the salt.
 const ARRAY: [u8; 24] = *b"RDDF-A  \x52\x85\x4b\x00\0\0\0\x02\0\0\0\0\0\0\0\x07";
 
+/// Of every disk: the sequence number, the disks and the array, the head of the notes, and the record, which lists the spare.
+const ALL: [Bytes; 16] = [
+    (0, 40, b"\0\0\0\x03\x52\x85\x4b\x00"),
+    (2, 8, b"\0\x04\0\x0F"),
+    (2, 88, b"\0\0\0\x07\0\x02\0\x01\0\0\0\0\0\0\x7F\xAF"),
+    (2, 280, b"\0\0\0\x0A\0\x08\0\x01\0\0\0\0\0\0\x7F\xAF"),
+    (4, 8, b"\0\x01\0\x0F"),
+    (4, 64, &ARRAY),
+    (4, 88, b"\0\0\xFF\xFF\0\0\0\0\x10\0"),
+    (4, 112, b"vol             "),
+    (6, 32, b"RDDFNOTE\0\0\0\x03\0\x10\0\x10"),
+    (8, 8, &ARRAY),
+    (8, 32, b"\x52\x85\x4b\x00\0\0\0\x03"),
+    (
+        8,
+        64,
+        b"\0\x03\0\x05\x03\x01\0\0\0\0\0\0\0\0\0\x09\0\0\0\0\0\0\0\x12\x02\0",
+    ),
+    (8, 96, b"\0\0\0\x0A\xFF\xFF\xFF\xFF"),
+    (8, 128, b"\0\0\0\0\0\0\0\0\xFF"),
+    (9, 0, b"\0\0\0\x07\0\0\0\x08\0\0\0\x09\xFF\xFF\xFF\xFF"),
+    (
+        9,
+        64,
+        b"\0\0\0\0\0\0\0\0\0\0\0\0\0\0\0\0\0\0\0\0\0\0\0\0\xFF",
+    ),
+];
+
+/// Of a member: it holds the record as its own, and has no spare record.
+const MEMBER: [Bytes; 3] = [
+    (6, 82, b"\0\0\xFF\xFF\0\0\0\0\0\0\0\0\0\0\0\0\0\0"),
+    (8, 0, b"\xEE\xEE\xEE\xEE"),
+    (10, 0, b"\xFF\xFF\xFF\xFF"),
+];
+
+/// Of the spare: it holds the record as a vendor's, and has a spare record.
+const SPARE: [Bytes; 6] = [
+    (6, 82, b"\x01\0\xFF\xFF\0\0\0\0\0\0\0\0\0\0\0\0\0\0"),
+    (8, 0, b"\x88\x88\x88\x88"),
+    (10, 0, b"\x55\x55\x55\x55"),
+    (10, 8, b"\x52\x85\x4b\x00"),
+    (10, 19, b"\x01\0\x01\0\x1F"),
+    (10, 32, &ARRAY),
+];
+
 #[test]
 fn the_bytes_of_a_new_array_and_its_spare(rt: HostRuntime) -> Result<(), Fail> {
     let alloc = rt.alloc();
@@ -169,53 +214,12 @@ fn the_bytes_of_a_new_array_and_its_spare(rt: HostRuntime) -> Result<(), Fail> {
         ("spare 3 for vol", 0, "ok sequence 3\n"),
     ];
     assert_calls_told(&rt, alloc, &mut bay, &calls)?;
-    // The sequence number, the disks and the array, the head of the notes, and the record, which lists the spare.
-    let all: [Bytes; 16] = [
-        (0, 40, b"\0\0\0\x03\x52\x85\x4b\x00"),
-        (2, 8, b"\0\x04\0\x0F"),
-        (2, 88, b"\0\0\0\x07\0\x02\0\x01\0\0\0\0\0\0\x7F\xAF"),
-        (2, 280, b"\0\0\0\x0A\0\x08\0\x01\0\0\0\0\0\0\x7F\xAF"),
-        (4, 8, b"\0\x01\0\x0F"),
-        (4, 64, &ARRAY),
-        (4, 88, b"\0\0\xFF\xFF\0\0\0\0\x10\0"),
-        (4, 112, b"vol             "),
-        (6, 32, b"RDDFNOTE\0\0\0\x03\0\x10\0\x10"),
-        (8, 8, &ARRAY),
-        (8, 32, b"\x52\x85\x4b\x00\0\0\0\x03"),
-        (
-            8,
-            64,
-            b"\0\x03\0\x05\x03\x01\0\0\0\0\0\0\0\0\0\x09\0\0\0\0\0\0\0\x12\x02\0",
-        ),
-        (8, 96, b"\0\0\0\x0A\xFF\xFF\xFF\xFF"),
-        (8, 128, b"\0\0\0\0\0\0\0\0\xFF"),
-        (9, 0, b"\0\0\0\x07\0\0\0\x08\0\0\0\x09\xFF\xFF\xFF\xFF"),
-        (
-            9,
-            64,
-            b"\0\0\0\0\0\0\0\0\0\0\0\0\0\0\0\0\0\0\0\0\0\0\0\0\xFF",
-        ),
-    ];
-    // A member holds the record as its own; the spare holds it as a vendor's, and has a spare record.
-    let member: [Bytes; 3] = [
-        (6, 82, b"\0\0\xFF\xFF\0\0\0\0\0\0\0\0\0\0\0\0\0\0"),
-        (8, 0, b"\xEE\xEE\xEE\xEE"),
-        (10, 0, b"\xFF\xFF\xFF\xFF"),
-    ];
-    let spare: [Bytes; 6] = [
-        (6, 82, b"\x01\0\xFF\xFF\0\0\0\0\0\0\0\0\0\0\0\0\0\0"),
-        (8, 0, b"\x88\x88\x88\x88"),
-        (10, 0, b"\x55\x55\x55\x55"),
-        (10, 8, b"\x52\x85\x4b\x00"),
-        (10, 19, b"\x01\0\x01\0\x1F"),
-        (10, 32, &ARRAY),
-    ];
     for slot in 0..4 {
-        assert_bytes(&rt, &mut bay, slot, &all);
+        assert_bytes(&rt, &mut bay, slot, &ALL);
     }
     for slot in 0..3 {
-        assert_bytes(&rt, &mut bay, slot, &member);
+        assert_bytes(&rt, &mut bay, slot, &MEMBER);
     }
-    assert_bytes(&rt, &mut bay, 3, &spare);
+    assert_bytes(&rt, &mut bay, 3, &SPARE);
     Ok(())
 }

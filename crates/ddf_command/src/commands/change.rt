@@ -1,14 +1,16 @@
 // What the commands that change a group share.
-ghost use Rattle.std.specs.Prelude.{◌≡◌, ◌≤◌, ℕ, [], ◌∷◌, IfOk};
+ghost use Rattle.std.specs.Prelude.{◌≡◌, ◌≤◌, ℕ, Bool, List, length, Option, Ok, IfOk};
+ghost use Rattle.std.specs.List.{AllByRecursion};
 ghost use Rattle.ddf_bay.specs.Moments.{GoesOn};
 ghost use Rattle.ddf_bay.specs.ReadsOnly.{ReadsOnly};
 ghost use Rattle.ddf_bytes.specs.Streams.{SinkRose};
 ghost use Rattle.ddf_assembly.specs.Asked.{CanBeAsked};
 ghost use Rattle.ddf_assembly.specs.Ready.{readied};
-ghost use Rattle.ddf_command.specs.Assemble.{is_settled};
+ghost use Rattle.ddf_assembly.specs.Recovery.{config_recovered, loss_of};
+ghost use Rattle.ddf_assembly.specs.Steps.{Step};
 ghost use Rattle.ddf_command.specs.Call.{answer_of, work_of};
-ghost use Rattle.ddf_command.specs.Change.{IsChanged, IsToldChange, steps_or};
-ghost use Rattle.ddf_command.specs.Settled.{IsReadFrom, IsSettledRead};
+ghost use Rattle.ddf_command.specs.Change.{IsChanged, IsToldChange, KeepsHistories, steps_or};
+ghost use Rattle.ddf_command.specs.GroupRead.{IsFoundBy, IsGroupRead, IsReadFrom};
 ghost use Rattle.ddf_command.specs.Status.{code_of};
 
 use crate::failure::{Failure, tell_failure};
@@ -17,56 +19,60 @@ use crate::tell::tell;
 use ddf_assembly::{Group, assemble};
 use ddf_bay::Bay;
 use ddf_bytes::{Guid, Sink};
-use ddf_config::Refusal;
+use ddf_config::Config;
 use ddf_plan::Change;
 use ddf_text::sequence_line;
 use std::alloc::Global;
-use std::slice;
 
-/// Whether each current member has a seat, and each seat the configuration in two level copies.
-pub(crate) fn is_settled(group: &Group) -> bool
-    ensures { result ≡ is_settled group.now }
-{
-    group.absent().is_empty() && group.lagging().is_empty()
-}
-
-/// The group that the disks are, where it is settled.
-pub(crate) fn settled_group<B: Bay>(
+/// The group that the disks are.
+pub(crate) fn read_group<B: Bay>(
     alloc: Global,
     named: Option<Guid>,
     bay: &mut B,
 ) -> Result<Group, Failure>
-    ensures read { IsSettledRead (work_of B.tells (B.disks bay.old) (B.disks bay.new)) named result }
+    ensures read { IsGroupRead (work_of B.tells (B.disks bay.old) (B.disks bay.new)) named result }
     ensures from { IfOk result (IsReadFrom B.tells (B.disks bay.old)) }
     ensures reads { ReadsOnly (B.disks bay.old) (B.disks bay.new) }
     ensures reads_rise { (slot : ℕ) → (B.disks bay.old).failed_reads slot ≤ (B.disks bay.new).failed_reads slot }
     ensures writes_rise { (slot : ℕ) → (B.disks bay.old).failed_writes slot ≤ (B.disks bay.new).failed_writes slot }
 {
     let group = assemble(alloc, bay, named)?;
-    if is_settled(&group) {
-        Ok(group)
-    } else {
-        Err(Failure::Refused(Refusal::Unsettled))
+    Ok(group)
+}
+
+/// The configuration of a group once it is recovered: the one in which its absent members are lost, where some are.
+pub(crate) fn recovered<'a>(group: &'a Group, loss: &'a Option<Config>) -> &'a Config
+    requires { loss.now ≡ loss_of group.now }
+    ensures { result.now ≡ config_recovered group.now }
+{
+    match loss {
+        Some(config) => config,
+        None => group.config(),
     }
 }
 
-/// Writes a change of a group, and answers the group's sequence number behind it.
-pub(crate) fn write_change<B: Bay>(
+/// Recovers a group and writes changes of it, one at the most, and answers the group's sequence number behind them.
+pub(crate) fn write_changes<B: Bay>(
     alloc: Global,
     group: &mut Group,
-    change: &Change,
+    changes: &[Change],
     timestamp: u32,
     bay: &mut B,
 ) -> Result<u32, Failure>
     requires from { IsReadFrom B.tells (B.disks bay.old) group.old }
-    requires asked { CanBeAsked change.now }
-    ensures changed { IsChanged (work_of B.tells (B.disks bay.old) (B.disks bay.new)) group.old (steps_or (readied group.old (change.now ∷ []) timestamp)) result }
+    requires asked { AllByRecursion CanBeAsked changes.now }
+    requires one { length changes.now ≤ 1 }
+    ensures changed { IsChanged (work_of B.tells (B.disks bay.old) (B.disks bay.new)) group.old (steps_or (readied group.old changes.now timestamp)) result }
+
+    // Each history that admits the call is kept, from entry to exit.
+    ensures keeps { B.tells → (left : List Bool) (named : Option (List ℕ)) → IsFoundBy (B.disks bay.old) left named group.old → (steps : List Step) → readied group.old changes.now timestamp ≡ Ok steps
+        → KeepsHistories (B.disks bay.old) (B.disks bay.new) left group.old steps result }
     ensures goes_on { GoesOn (B.disks bay.old) (B.disks bay.new) }
     ensures reads_rise { (slot : ℕ) → (B.disks bay.old).failed_reads slot ≤ (B.disks bay.new).failed_reads slot }
     ensures writes_rise { (slot : ℕ) → (B.disks bay.old).failed_writes slot ≤ (B.disks bay.new).failed_writes slot }
 {
-    let mut ready = group.ready(alloc, slice::from_ref(change), timestamp)?;
-    group.recover(bay)?;
+    let mut ready = group.ready(alloc, changes, timestamp)?;
+    group.recover(bay, &mut ready)?;
     group.commit(bay, &mut ready)?;
     Ok(group.config().sequence)
 }

@@ -9,13 +9,14 @@ ghost use Rattle.ddf_command.specs.Requests.{HasByteCodes, create_of};
 ghost use Rattle.ddf_words.specs.Commands.{FitsCreate};
 ghost use Rattle.ddf_command.specs.Status.{code_of};
 
-use crate::commands::change::{settled_group, tell_changed, write_change};
+use crate::commands::change::{read_group, recovered, tell_changed, write_changes};
 use crate::failure::Failure;
 use crate::status::Status;
 use ddf_bay::Bay;
 use ddf_bytes::{Guid, Sink, Stamp};
 use ddf_request::{Creation, create_request};
 use std::alloc::Global;
+use std::slice;
 
 /// Creates an array, and prints the new sequence number of the group.
 pub(crate) fn create<B: Bay, K: Sink>(
@@ -48,16 +49,23 @@ fn created<B: Bay>(
     ensures goes_on { GoesOn (B.disks bay.old) (B.disks bay.new) }
 {
     have_byte_codes(creation);
-    let mut group = settled_group(alloc, named, bay)?;
+    let mut group = read_group(alloc, named, bay)?;
+    let loss = group.loss(alloc)?;
     let change = create_request(
         alloc,
         bay.slots(),
-        group.config(),
+        recovered(&group, &loss),
         group.seats(),
         stamp,
         creation,
     )?;
-    write_change(alloc, &mut group, &change, stamp.timestamp(), bay)
+    write_changes(
+        alloc,
+        &mut group,
+        slice::from_ref(&change),
+        stamp.timestamp(),
+        bay,
+    )
 }
 
 /// The codes of the levels are bytes, as their types say.

@@ -8,13 +8,14 @@ ghost use Rattle.ddf_command.specs.Change.{HasChanged, IsChangeDone};
 ghost use Rattle.ddf_command.specs.Requests.{delete_of};
 ghost use Rattle.ddf_command.specs.Status.{code_of};
 
-use crate::commands::change::{settled_group, tell_changed, write_change};
+use crate::commands::change::{read_group, recovered, tell_changed, write_changes};
 use crate::failure::Failure;
 use crate::status::Status;
 use ddf_bay::Bay;
 use ddf_bytes::{Guid, Sink, Stamp};
 use ddf_request::delete_request;
 use std::alloc::Global;
+use std::slice;
 
 /// Deletes an array, and prints the new sequence number of the group.
 pub(crate) fn delete<B: Bay, K: Sink>(
@@ -44,7 +45,14 @@ fn deleted<B: Bay>(
     ensures changed { HasChanged (work_of B.tells (B.disks bay.old) (B.disks bay.new)) named (timestamp_of stamp.now) (delete_of name.now) result }
     ensures goes_on { GoesOn (B.disks bay.old) (B.disks bay.new) }
 {
-    let mut group = settled_group(alloc, named, bay)?;
-    let change = delete_request(group.config(), name)?;
-    write_change(alloc, &mut group, &change, stamp.timestamp(), bay)
+    let mut group = read_group(alloc, named, bay)?;
+    let loss = group.loss(alloc)?;
+    let change = delete_request(recovered(&group, &loss), name)?;
+    write_changes(
+        alloc,
+        &mut group,
+        slice::from_ref(&change),
+        stamp.timestamp(),
+        bay,
+    )
 }

@@ -8,13 +8,14 @@ ghost use Rattle.ddf_command.specs.Change.{HasChanged, IsChangeDone};
 ghost use Rattle.ddf_command.specs.Requests.{fail_of};
 ghost use Rattle.ddf_command.specs.Status.{code_of};
 
-use crate::commands::change::{settled_group, tell_changed, write_change};
+use crate::commands::change::{read_group, tell_changed, write_changes};
 use crate::failure::Failure;
 use crate::status::Status;
 use ddf_bay::Bay;
 use ddf_bytes::{Guid, Sink, Stamp};
 use ddf_request::fail_request;
 use std::alloc::Global;
+use std::slice;
 
 /// Takes the disk of a slot for failed, and prints the new sequence number of the group. That disk isn't written.
 pub(crate) fn fail<B: Bay, K: Sink>(
@@ -44,7 +45,13 @@ fn failed<B: Bay>(
     ensures changed { HasChanged (work_of B.tells (B.disks bay.old) (B.disks bay.new)) named (timestamp_of stamp.now) (fail_of (length (B.disks bay.old).sizes) slot) result }
     ensures goes_on { GoesOn (B.disks bay.old) (B.disks bay.new) }
 {
-    let mut group = settled_group(alloc, named, bay)?;
+    let mut group = read_group(alloc, named, bay)?;
     let change = fail_request(bay.slots(), group.seats(), slot)?;
-    write_change(alloc, &mut group, &change, stamp.timestamp(), bay)
+    write_changes(
+        alloc,
+        &mut group,
+        slice::from_ref(&change),
+        stamp.timestamp(),
+        bay,
+    )
 }

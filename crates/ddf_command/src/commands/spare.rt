@@ -9,7 +9,7 @@ ghost use Rattle.ddf_command.specs.Requests.{spare_of};
 ghost use Rattle.ddf_words.specs.Commands.{FitsSpare};
 ghost use Rattle.ddf_command.specs.Status.{code_of};
 
-use crate::commands::change::{settled_group, tell_changed, write_change};
+use crate::commands::change::{read_group, recovered, tell_changed, write_changes};
 use crate::failure::Failure;
 use crate::status::Status;
 use ddf_bay::Bay;
@@ -17,6 +17,7 @@ use ddf_bytes::{Guid, Sink, Stamp};
 use ddf_request::spare_request;
 use ddf_words::SpareWord;
 use std::alloc::Global;
+use std::slice;
 
 /// Says what the disk of a slot may stand in for, and prints the new sequence number of the group.
 pub(crate) fn spare<B: Bay, K: Sink>(
@@ -50,14 +51,21 @@ fn spared<B: Bay>(
     ensures changed { HasChanged (work_of B.tells (B.disks bay.old) (B.disks bay.new)) named (timestamp_of stamp.now) (spare_of (length (B.disks bay.old).sizes) slot word.now) result }
     ensures goes_on { GoesOn (B.disks bay.old) (B.disks bay.new) }
 {
-    let mut group = settled_group(alloc, named, bay)?;
+    let mut group = read_group(alloc, named, bay)?;
+    let loss = group.loss(alloc)?;
     let change = spare_request(
         alloc,
         bay.slots(),
-        group.config(),
+        recovered(&group, &loss),
         group.seats(),
         slot,
         word,
     )?;
-    write_change(alloc, &mut group, &change, stamp.timestamp(), bay)
+    write_changes(
+        alloc,
+        &mut group,
+        slice::from_ref(&change),
+        stamp.timestamp(),
+        bay,
+    )
 }

@@ -1,14 +1,10 @@
-use Rattle.std.proofs.Common.{◌≡◌, ◌∙◌, sym, subst, false, List}
-use Rattle.std.specs.List.{AllByRecursion}
+use Rattle.std.proofs.Common.{◌≡◌, ◌∙◌, sym, false}
 use Rattle.ddf_rewrite.specs.Before.{before}
-use Rattle.ddf_view.specs.View.{View}
 use Rattle.ddf_assembly.specs.Full.{lengths_differ}
-use Rattle.ddf_assembly.specs.Trying.{CanTry}
 use Rattle.ddf_assembly.proofs.OneLength.{can_try_all}
 use Rattle.ddf_assembly.proofs.full.full_of.Goals as goal
 
 pub least_full-requires : goal.least_full-requires
 least_full-requires c =
     let same : lengths_differ c.args.disks.now ≡ false = sym c.lengths_differ.ensures ∙ c.if-lengths_differ.false in
-    subst (λ (views : List View). AllByRecursion (CanTry (before views) c.args.config.now) c.args.disks.now) (sym c.requires.leaders)
-    (can_try_all c.args.config.now c.args.disks.now c.requires.copies same c.requires.held)
+    can_try_all (before c.args.leaders.now) c.args.config.now c.args.disks.now c.requires.copies same c.requires.leaders c.requires.held

@@ -3,7 +3,7 @@ use Rattle.ddf_config.specs.Configuration.{Configuration}
 use Rattle.ddf_assembly.specs.Refusing.{most_members}
 use Rattle.ddf_assembly.specs.Tried.{IsTried}
 use Rattle.ddf_assembly.specs.Trying.{CanBeHeldOn}
-use Rattle.ddf_assembly.proofs.Following.{next_held}
+use Rattle.ddf_assembly.proofs.Following.{copies_are, next_held}
 use Rattle.ddf_assembly.proofs.Holdable.{new_guid}
 use Rattle.ddf_assembly.proofs.Refused.{causes_are, fault_passed, no_step_free, refused_first, step_by_tables, tried_fault, tried_step}
 use Rattle.ddf_assembly.proofs.trying.next_step.Goals as goal
@@ -28,7 +28,7 @@ pub step_with_room-requires-clause-held : goal.step_with_room-requires-clause-he
 step_with_room-requires-clause-held c =
     let causes = causes_are c.args.config.now c.args.disks.now c.args.change.now _ _ _ c.most_members.ensures (c.deref.ensures.value ∙ c.in_ok-seats.ensures) c.in_ok-refusal.ensures in
     subst (λ (next : Configuration). CanBeHeldOn next c.args.disks.now) (sym c.in_ok-next.ensures)
-    (next_held c.args.config.now c.args.disks.now c.args.change.now c.requires.changed c.requires.asked (causes ∙ c.in_default.is))
+    (next_held c.args.config.now c.args.disks.now c.args.change.now (copies_are c.args.config.now c.args.disks.now c.requires.changed.of_group) c.requires.changed.can_hold c.requires.asked (causes ∙ c.in_default.is))
 
 pub returns-in_err-step-clause-tried : goal.returns-in_err-step-clause-tried
 returns-in_err-step-clause-tried c =

@@ -5,8 +5,10 @@ use Rattle.ddf_view.specs.View.{View}
 use Rattle.ddf_rewrite.specs.Before.{before}
 use Rattle.ddf_assembly.specs.declared.seated.Seated.{Seated}
 use Rattle.ddf_assembly.specs.Full.{full_on}
+use Rattle.ddf_assembly.specs.Seated.{views_in}
+use Rattle.ddf_assembly.specs.Steps.{disks_after}
 use Rattle.ddf_assembly.specs.Trying.{CanTry}
-use Rattle.ddf_assembly.proofs.OneLength.{can_try_all}
+use Rattle.ddf_assembly.proofs.OneLength.{can_try_all, led_by_all}
 use Rattle.ddf_assembly.proofs.Following.{copies_are, room_for, step_follows}
 use Rattle.ddf_assembly.proofs.trying.step_with_room.Goals as goal
 
@@ -16,8 +18,9 @@ room_refusal-requires-clause-copies c = copies_are c.args.config.now c.args.disk
 pub make_step-requires-clause-can : goal.make_step-requires-clause-can
 make_step-requires-clause-can c =
     let room = room_for c.args.timestamp c.args.config.now c.args.next c.args.disks.now c.args.change.now c.requires.next (sym c.in_ok-refusal.ensures ∙ c.in_default.is) in
+    let are = copies_are c.args.config.now c.args.disks.now c.requires.changed.of_group in
     subst (λ (views : List View). AllByRecursion (CanTry (before views) c.args.next) c.args.disks.now) (sym (c.deref-2.ensures.value ∙ c.in_ok-leaders.ensures))
-    (can_try_all c.args.next c.args.disks.now (copies_are c.args.config.now c.args.disks.now c.requires.changed.of_group) room.same c.requires.held)
+    (can_try_all (before (views_in c.args.disks.now)) c.args.next c.args.disks.now are room.same (led_by_all c.args.disks.now are) c.requires.held)
 
 pub make_step-requires-clause-room : goal.make_step-requires-clause-room
 make_step-requires-clause-room c =
@@ -27,5 +30,9 @@ make_step-requires-clause-room c =
 pub returns-clause-follows : goal.returns-clause-follows
 returns-clause-follows c =
     let room = room_for c.args.timestamp c.args.config.now c.args.next c.args.disks.now c.args.change.now c.requires.next (sym c.in_ok-refusal.ensures ∙ c.in_default.is) in
-    step_follows c.args.timestamp c.ranges.timestamp.fits c.args.config.now c.args.next c.args.disks.now (ap (λ (config : Configuration). config.group) c.requires.next) c.requires.changed c.requires.held room
-    c.in_ok-step.step c.in_ok-step.ensures.step c.in_ok-step.ensures.prepared
+    let leaders = before (views_in c.args.disks.now) in
+    let views = c.deref-2.ensures.value ∙ c.in_ok-leaders.ensures in
+    let is = c.in_ok-step.ensures.step ∙ ap (λ (some : List View). record { config = c.args.next; disks = disks_after c.args.timestamp (before some) c.args.next c.args.disks.now }) views in
+    step_follows c.args.timestamp c.ranges.timestamp.fits leaders c.args.config.now c.args.next c.args.disks.now (ap (λ (config : Configuration). config.group) c.requires.next)
+    c.requires.changed.of_group (led_by_all c.args.disks.now (copies_are c.args.config.now c.args.disks.now c.requires.changed.of_group)) c.requires.held room
+    c.in_ok-step.step is c.in_ok-step.ensures.prepared

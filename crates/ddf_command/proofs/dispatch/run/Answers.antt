@@ -8,10 +8,9 @@ use Rattle.std.specs.Prelude.{IsTrue}
 use Rattle.ddf_command.specs.Call.{answer_of}
 use Rattle.ddf_command.specs.Run.{is_unwritten}
 use Rattle.ddf_command.specs.Tells.{EndsWith}
-use Rattle.ddf_command.proofs.ChangeEnds.{change_cause, change_no_fault, change_unwritten}
+use Rattle.ddf_command.proofs.ChangeEnds.{assemble_ending, change_ending, end_cause, end_no_fault}
 use Rattle.ddf_command.proofs.Endings.{fault_cause, no_fault, done_nothing, one_place, same_asked, stream_status}
 use Rattle.ddf_command.proofs.LabelEnds.{label_no_fault}
-use Rattle.ddf_command.proofs.Outcomes.{assemble_no_disk, assemble_no_fault}
 use Rattle.ddf_command.proofs.ReadEnds.{read_cause, read_no_fault}
 use Rattle.ddf_command.proofs.dispatch.run.Goals as goal
 
@@ -20,16 +19,20 @@ returns-in-Assemble-clause-done g c = λ asked is.
     let same : c.in-Ok.asked ≡ asked = same_asked c.asked.result c.in-Ok.asked asked c.in-Ok.is (c.asked.ensures.every asked is) in
     let one : Assemble ≡ asked.command = sym c.in-Assemble.is ∙ ap (λ (a : Asked). a.command) same in
     let group : c.in-Ok.asked.group ≡ asked.group = ap (λ (a : Asked). a.group) same in
-    rw (← one, ← group) (rw c.code.ensures c.assemble_disks.ensures.assembled)
+    rw (← one, ← group) (rw c.code.ensures c.assemble_disks.ensures.done)
+
+pub returns-in-Assemble-clause-unwritten : goal.returns-in-Assemble-clause-unwritten
+returns-in-Assemble-clause-unwritten g c = λ unwritten.
+    (assemble_ending _ _ _ _ c.assemble_disks.ensures.done).unwritten (subst (λ (status : ℕ). IsTrue (is_unwritten status)) c.code.ensures unwritten)
 
 pub returns-in-Assemble-clause-disk_fault : goal.returns-in-Assemble-clause-disk_fault
-returns-in-Assemble-clause-disk_fault g c = λ e. absurd (assemble_no_disk _ _ _ c.assemble_disks.ensures.assembled (sym c.code.ensures ∙ e))
+returns-in-Assemble-clause-disk_fault g c = λ e. end_cause _ _ (assemble_ending _ _ _ _ c.assemble_disks.ensures.done) (sym c.code.ensures ∙ e)
 
 pub returns-in-Assemble-clause-complete : goal.returns-in-Assemble-clause-complete
 returns-in-Assemble-clause-complete g c = λ asked is none good.
     let same : c.in-Ok.asked ≡ asked = same_asked c.asked.result c.in-Ok.asked asked c.in-Ok.is (c.asked.ensures.every asked is) in
     let one : Assemble ≡ asked.command = sym c.in-Assemble.is ∙ ap (λ (a : Asked). a.command) same in
-    let status = assemble_no_fault _ _ _ c.assemble_disks.ensures.assembled (λ six. good (c.assemble_disks.ensures.stream (stream_status c.assemble_disks.result six))) in
+    let status = end_no_fault _ _ (assemble_ending _ _ _ _ c.assemble_disks.ensures.done) none (λ six. good (c.assemble_disks.ensures.stream (stream_status c.assemble_disks.result six))) in
     rw (c.code.ensures, ← one) (⊎_elim inl (λ other. inr (⊎_elim inl (λ later. inr (⊎_elim (λ refused. inl (refused, refl)) (λ four. inr (four, refl)) later)) other)) status)
 
 pub returns-in-Examine-clause-done : goal.returns-in-Examine-clause-done
@@ -74,16 +77,16 @@ returns-in-Delete-clause-done g c = λ asked is.
 
 pub returns-in-Delete-clause-unwritten : goal.returns-in-Delete-clause-unwritten
 returns-in-Delete-clause-unwritten g c = λ unwritten.
-    change_unwritten _ _ _ _ _ c.delete.ensures.done (subst (λ (status : ℕ). IsTrue (is_unwritten status)) c.code-in-Delete.ensures unwritten)
+    (change_ending _ _ _ _ _ c.delete.ensures.done).unwritten (subst (λ (status : ℕ). IsTrue (is_unwritten status)) c.code-in-Delete.ensures unwritten)
 
 pub returns-in-Delete-clause-disk_fault : goal.returns-in-Delete-clause-disk_fault
-returns-in-Delete-clause-disk_fault g c = λ e. change_cause _ _ _ _ _ c.delete.ensures.done (sym c.code-in-Delete.ensures ∙ e)
+returns-in-Delete-clause-disk_fault g c = λ e. end_cause _ _ (change_ending _ _ _ _ _ c.delete.ensures.done) (sym c.code-in-Delete.ensures ∙ e)
 
 pub returns-in-Delete-clause-complete : goal.returns-in-Delete-clause-complete
 returns-in-Delete-clause-complete g c = λ asked is none good.
     let same : c.in-Ok.asked ≡ asked = same_asked c.asked.result c.in-Ok.asked asked c.in-Ok.is (c.asked.ensures.every asked is) in
     let one : Delete c.in-Delete.name ≡ asked.command = sym c.in-Delete.is ∙ ap (λ (a : Asked). a.command) same in
-    let status = change_no_fault _ _ _ _ _ c.delete.ensures.done none (λ six. good (c.delete.ensures.stream (stream_status c.delete.result six))) in
+    let status = end_no_fault _ _ (change_ending _ _ _ _ _ c.delete.ensures.done) none (λ six. good (c.delete.ensures.stream (stream_status c.delete.result six))) in
     rw (c.code-in-Delete.ensures, ← one) (⊎_elim inl (λ other. inr (⊎_elim inl (λ later. inr (⊎_elim (λ refused. inl (refused, refl)) (λ four. inr (four, refl)) later)) other)) status)
 
 pub returns-in-Spare-clause-done : goal.returns-in-Spare-clause-done
@@ -95,16 +98,16 @@ returns-in-Spare-clause-done g c = λ asked is.
 
 pub returns-in-Spare-clause-unwritten : goal.returns-in-Spare-clause-unwritten
 returns-in-Spare-clause-unwritten g c = λ unwritten.
-    change_unwritten _ _ _ _ _ c.spare.ensures.done (subst (λ (status : ℕ). IsTrue (is_unwritten status)) c.code-in-Spare.ensures unwritten)
+    (change_ending _ _ _ _ _ c.spare.ensures.done).unwritten (subst (λ (status : ℕ). IsTrue (is_unwritten status)) c.code-in-Spare.ensures unwritten)
 
 pub returns-in-Spare-clause-disk_fault : goal.returns-in-Spare-clause-disk_fault
-returns-in-Spare-clause-disk_fault g c = λ e. change_cause _ _ _ _ _ c.spare.ensures.done (sym c.code-in-Spare.ensures ∙ e)
+returns-in-Spare-clause-disk_fault g c = λ e. end_cause _ _ (change_ending _ _ _ _ _ c.spare.ensures.done) (sym c.code-in-Spare.ensures ∙ e)
 
 pub returns-in-Spare-clause-complete : goal.returns-in-Spare-clause-complete
 returns-in-Spare-clause-complete g c = λ asked is none good.
     let same : c.in-Ok.asked ≡ asked = same_asked c.asked.result c.in-Ok.asked asked c.in-Ok.is (c.asked.ensures.every asked is) in
     let one : Spare c.in-Spare.slot c.in-Spare.word ≡ asked.command = sym c.in-Spare.is ∙ ap (λ (a : Asked). a.command) same in
-    let status = change_no_fault _ _ _ _ _ c.spare.ensures.done none (λ six. good (c.spare.ensures.stream (stream_status c.spare.result six))) in
+    let status = end_no_fault _ _ (change_ending _ _ _ _ _ c.spare.ensures.done) none (λ six. good (c.spare.ensures.stream (stream_status c.spare.result six))) in
     rw (c.code-in-Spare.ensures, ← one) (⊎_elim inl (λ other. inr (⊎_elim inl (λ later. inr (⊎_elim (λ refused. inl (refused, refl)) (λ four. inr (four, refl)) later)) other)) status)
 
 pub returns-in-Fail-clause-done : goal.returns-in-Fail-clause-done
@@ -116,16 +119,16 @@ returns-in-Fail-clause-done g c = λ asked is.
 
 pub returns-in-Fail-clause-unwritten : goal.returns-in-Fail-clause-unwritten
 returns-in-Fail-clause-unwritten g c = λ unwritten.
-    change_unwritten _ _ _ _ _ c.fail.ensures.done (subst (λ (status : ℕ). IsTrue (is_unwritten status)) c.code-in-Fail.ensures unwritten)
+    (change_ending _ _ _ _ _ c.fail.ensures.done).unwritten (subst (λ (status : ℕ). IsTrue (is_unwritten status)) c.code-in-Fail.ensures unwritten)
 
 pub returns-in-Fail-clause-disk_fault : goal.returns-in-Fail-clause-disk_fault
-returns-in-Fail-clause-disk_fault g c = λ e. change_cause _ _ _ _ _ c.fail.ensures.done (sym c.code-in-Fail.ensures ∙ e)
+returns-in-Fail-clause-disk_fault g c = λ e. end_cause _ _ (change_ending _ _ _ _ _ c.fail.ensures.done) (sym c.code-in-Fail.ensures ∙ e)
 
 pub returns-in-Fail-clause-complete : goal.returns-in-Fail-clause-complete
 returns-in-Fail-clause-complete g c = λ asked is none good.
     let same : c.in-Ok.asked ≡ asked = same_asked c.asked.result c.in-Ok.asked asked c.in-Ok.is (c.asked.ensures.every asked is) in
     let one : Fail c.in-Fail.slot ≡ asked.command = sym c.in-Fail.is ∙ ap (λ (a : Asked). a.command) same in
-    let status = change_no_fault _ _ _ _ _ c.fail.ensures.done none (λ six. good (c.fail.ensures.stream (stream_status c.fail.result six))) in
+    let status = end_no_fault _ _ (change_ending _ _ _ _ _ c.fail.ensures.done) none (λ six. good (c.fail.ensures.stream (stream_status c.fail.result six))) in
     rw (c.code-in-Fail.ensures, ← one) (⊎_elim inl (λ other. inr (⊎_elim inl (λ later. inr (⊎_elim (λ refused. inl (refused, refl)) (λ four. inr (four, refl)) later)) other)) status)
 
 pub returns-in-Create-clause-done : goal.returns-in-Create-clause-done
@@ -139,16 +142,16 @@ returns-in-Create-clause-done g c = λ asked is.
 
 pub returns-in-Create-clause-unwritten : goal.returns-in-Create-clause-unwritten
 returns-in-Create-clause-unwritten g c = λ unwritten.
-    change_unwritten _ _ _ _ _ c.create.ensures.done (subst (λ (status : ℕ). IsTrue (is_unwritten status)) c.code-in-Create.ensures unwritten)
+    (change_ending _ _ _ _ _ c.create.ensures.done).unwritten (subst (λ (status : ℕ). IsTrue (is_unwritten status)) c.code-in-Create.ensures unwritten)
 
 pub returns-in-Create-clause-disk_fault : goal.returns-in-Create-clause-disk_fault
-returns-in-Create-clause-disk_fault g c = λ e. change_cause _ _ _ _ _ c.create.ensures.done (sym c.code-in-Create.ensures ∙ e)
+returns-in-Create-clause-disk_fault g c = λ e. end_cause _ _ (change_ending _ _ _ _ _ c.create.ensures.done) (sym c.code-in-Create.ensures ∙ e)
 
 pub returns-in-Create-clause-complete : goal.returns-in-Create-clause-complete
 returns-in-Create-clause-complete g c = λ asked is none good.
     let same : c.in-Ok.asked ≡ asked = same_asked c.asked.result c.in-Ok.asked asked c.in-Ok.is (c.asked.ensures.every asked is) in
     let one : Create c.in-Create.name c.in-Create.level c.in-Create.qualifier c.in-Create.code c.in-Create.secondary c.in-Create.elements ≡ asked.command = sym c.in-Create.is ∙ ap (λ (a : Asked). a.command) same in
-    let status = change_no_fault _ _ _ _ _ c.create.ensures.done none (λ six. good (c.create.ensures.stream (stream_status c.create.result six))) in
+    let status = end_no_fault _ _ (change_ending _ _ _ _ _ c.create.ensures.done) none (λ six. good (c.create.ensures.stream (stream_status c.create.result six))) in
     rw (c.code-in-Create.ensures, ← one) (⊎_elim inl (λ other. inr (⊎_elim inl (λ later. inr (⊎_elim (λ refused. inl (refused, refl)) (λ four. inr (four, refl)) later)) other)) status)
 
 pub create-requires : goal.create-requires

@@ -16,4 +16,4 @@ changed_record-requires-clause-own c = λ held at.
 pub changed_record-requires-clause-leader : goal.changed_record-requires-clause-leader
 changed_record-requires-clause-leader c = λ held at.
     let wanted = c.wanted.inside in
-    leader_can c.args.old.now.header.geometry (before c.args.leaders.now) wanted.guid wanted.index held c.requires.leaders (sym c.find_held-leader.ensures ∙ sym c.as_ref-2.ensures.value ∙ at)
+    leader_can c.args.old.now.header.geometry (before c.args.leaders.now) wanted.guid wanted.index held c.requires.leaders (sym c.leading_record-leader.ensures ∙ sym c.as_ref-2.ensures.value ∙ at)

@@ -1,0 +1,144 @@
+-- What recovery makes of a group of which members are absent or seats lag (profile).
+use Rattle.std.specs.Prelude.{ℕ, Bool, true, false, not, ◌&&◌, ◌||◌, ◌==◌, nat_le, nat_lt, List, [], ◌∷◌, map, filter, fold, Option, Some, None, if◌then◌else◌}
+use Rattle.std.specs.List.{list_any}
+use Rattle.std.specs.Str.{bytes_eq}
+use Rattle.ddf_copy.specs.declared.copy.DiskCopy.{DiskCopy}
+use Rattle.ddf_copy.specs.declared.which.Which.TheVariants.{Primary}
+use Rattle.ddf_copy.specs.Headers.{written_as}
+use Rattle.ddf_config.specs.declared.refusal.FullTable.{FullTable}
+use Rattle.ddf_config.specs.declared.refusal.FullTable.TheVariants.{Records}
+use Rattle.ddf_config.specs.Configuration.{Configuration}
+use Rattle.ddf_plan.specs.declared.change.Change.{Change}
+use Rattle.ddf_plan.specs.declared.change.Change.TheVariants.{Lose}
+use Rattle.ddf_plan.specs.Refusals.{greatest_sequence}
+use Rattle.ddf_view.specs.View.{View, lists_itself, view_of}
+use Rattle.ddf_view.specs.Shows.{shows}
+use Rattle.ddf_rewrite.specs.Before.{Before, before}
+use Rattle.ddf_rewrite.specs.Copies.{recovered_copy}
+use Rattle.ddf_rewrite.specs.Room.{full_after_recovery}
+use Rattle.ddf_assembly.specs.declared.seated.Seated.{Seated}
+use Rattle.ddf_assembly.specs.Group.{GroupValue}
+use Rattle.ddf_assembly.specs.Seated.{seated, views_in}
+use Rattle.ddf_assembly.specs.Steps.{Step, config_after, disks_after, levelled}
+use Rattle.ddf_assembly.specs.Full.{full_of, lengths_differ, lesser}
+
+-- ---- the leaders
+
+-- A disk leads: its copy is of the group and of the configuration's sequence number, and lists the disk itself as a current member.
+abbrev pub leads : Configuration → Seated → Bool
+leads config disk = bytes_eq disk.copy.header.guid config.group && disk.copy.header.sequence == config.sequence && lists_itself (view_of disk.copy)
+
+-- the leaders, the lowest first
+unfoldable pub leading_disks : GroupValue → List Seated
+leading_disks group = filter (leads group.config) (seated group)
+
+-- what they say
+abbrev pub leading_views : GroupValue → List View
+leading_views group = views_in (leading_disks group)
+
+abbrev pub leading : GroupValue → Before
+leading group = before (leading_views group)
+
+-- ---- members that are absent
+
+-- they are lost
+abbrev pub loss : GroupValue → Change
+loss group = Lose group.absent
+
+abbrev pub config_lost : GroupValue → Configuration
+config_lost group = config_after group.config (loss group)
+
+-- the loss is written to every seat
+abbrev pub lost_step : (timestamp : ℕ) → GroupValue → Step
+lost_step timestamp group = record {
+  config = config_lost group;
+  disks = disks_after timestamp (leading group) (config_lost group) (seated group);
+}
+
+-- ---- seats that lag
+
+-- a disk is on a slot that lags
+abbrev pub lags : GroupValue → Seated → Bool
+lags group disk = list_any (λ slot. slot == disk.seat.slot) group.lagging
+
+-- A copy that shows the configuration stays as it is, and any other becomes as the leaders have it.
+abbrev pub mended_copy : Before → Configuration → (timestamp : ℕ) → DiskCopy → DiskCopy
+mended_copy leaders config timestamp copy = if shows config (view_of copy) then copy else recovered_copy copy leaders config timestamp
+
+-- It is written to both places.
+abbrev pub mended : Before → Configuration → (timestamp : ℕ) → Seated → Seated
+mended leaders config timestamp disk = record disk { copy = written_as (mended_copy leaders config timestamp disk.copy) Primary }
+
+-- the configuration as it is is written to each seat that lags
+abbrev pub mending_step : (timestamp : ℕ) → GroupValue → Step
+mending_step timestamp group = record {
+  config = group.config;
+  disks = map (mended (leading group) group.config timestamp) (filter (lags group) (seated group));
+}
+
+abbrev pub mended_or_kept : (timestamp : ℕ) → GroupValue → Seated → Seated
+mended_or_kept timestamp group disk = if lags group disk then levelled (mended (leading group) group.config timestamp disk) else disk
+
+-- ---- recovery
+
+abbrev pub some : {X : Type 0} → List X → Bool
+some [] = false
+some (x ∷ xs) = true
+
+-- the configuration in which they are lost, where some are
+unfoldable pub loss_of : GroupValue → Option Configuration
+loss_of group = if some group.absent then Some (config_lost group) else None
+
+-- Where members are absent their loss; else, where seats lag, these; and else nothing.
+unfoldable pub recovery_of : (timestamp : ℕ) → GroupValue → Option Step
+recovery_of timestamp group =
+    if some group.absent then Some (lost_step timestamp group)
+    else if some group.lagging then Some (mending_step timestamp group)
+    else None
+
+-- the configuration and the disks behind it
+unfoldable pub config_recovered : GroupValue → Configuration
+config_recovered group = if some group.absent then config_lost group else group.config
+
+unfoldable pub disks_recovered : (timestamp : ℕ) → GroupValue → List Seated
+disks_recovered timestamp group =
+    if some group.absent then map levelled (lost_step timestamp group).disks
+    else map (mended_or_kept timestamp group) (seated group)
+
+-- ---- what it has no room for
+
+-- the first table of a disk that has no room for it
+abbrev pub full_mended : Before → Configuration → Seated → Option FullTable
+full_mended leaders config disk = if shows config (view_of disk.copy) then None else full_after_recovery disk.copy leaders config
+
+-- Records of different lengths come first, then the least table that is full on some seat that lags.
+abbrev pub full_of_mending : GroupValue → Option FullTable
+full_of_mending group =
+    if lengths_differ (seated group) then Some Records
+    else fold (λ least disk. lesser least (full_mended (leading group) group.config disk)) None (filter (lags group) (seated group))
+
+-- the table that has no room, where something is to be written
+unfoldable pub full_of_recovery : (timestamp : ℕ) → GroupValue → Option FullTable
+full_of_recovery timestamp group =
+    if some group.absent then full_of timestamp (leading group) (config_lost group) (seated group)
+    else if some group.lagging then full_of_mending group
+    else None
+
+-- ---- a sequence number that is spent
+
+-- The loss is a step to a sequence number past the greatest. To give the configuration to the seats that lag raises none.
+abbrev pub loss_spent : GroupValue → Bool
+loss_spent group = some group.absent && nat_lt greatest_sequence (config_lost group).sequence
+
+-- ---- what can't be recovered
+
+-- A disk over whose copy recovery can't write safely. It is of another group, as disks that joined a group may have it: the disk's anchor names
+-- that one. Or it is of the configuration's sequence number, or of a later one, and doesn't show the configuration, so that a stop might leave
+-- two copies of one sequence number that differ. No controller leaves the latter.
+abbrev pub is_stray : Configuration → Seated → Bool
+is_stray config disk =
+    not (bytes_eq disk.copy.header.guid config.group)
+    || (nat_le config.sequence disk.copy.header.sequence && not (shows config (view_of disk.copy)))
+
+abbrev pub has_stray : GroupValue → Bool
+has_stray group = list_any (is_stray group.config) (seated group)

@@ -1,0 +1,45 @@
+-- What `assemble` comes to, and what it tells.
+use Rattle.std.proofs.Common.{◌≡◌, ℕ, List, Option, Result, Ok, Err, subst, sym}
+use Rattle.std.specs.Prelude.{string_bytes}
+use Rattle.std.specs.declared.string.String.{String}
+use Rattle.std.specs.declared.alloc.Global.{Global}
+use Rattle.ddf_group.specs.declared.answer.Assembly.{Assembly}
+use Rattle.ddf_assembly.specs.Group.{GroupValue, group_of}
+use Rattle.ddf_command.specs.declared.failure.Failure.{Failure}
+use Rattle.ddf_command.specs.Answers.{IsToldFailure}
+use Rattle.ddf_command.specs.Assemble.{HasTold, IsAssembleDone, IsTold, no_change, told_group}
+use Rattle.ddf_command.specs.Call.{Answer, Work}
+use Rattle.ddf_command.specs.Change.{HasChanged}
+use Rattle.ddf_command.specs.Tells.{ClosesWith}
+use Rattle.ddf_command.proofs.ChangeEnds.{told_failure}
+
+module _ {D : Type 0} {work : Work D} {named : Option (List ℕ)} {timestamp : ℕ} where
+  -- why it tells nothing of a group
+  pub told_not : {outcome : Result ℕ Failure} {failure : Failure} → outcome ≡ Err failure → HasChanged work named timestamp no_change outcome → HasTold work named timestamp (Err failure)
+  told_not {outcome = outcome} is has = record { outcome = outcome; has = has; failed = is; told = tt }
+
+  -- the text of a group that was recovered
+  pub told_text : {outcome : Result ℕ Failure} {sequence : ℕ} {group : GroupValue} {text : String Global} → outcome ≡ Ok sequence → (has : HasChanged work named timestamp no_change outcome)
+      → group_of has.newest named ≡ Ok group → string_bytes text ≡ told_group group → HasTold work named timestamp (Ok text)
+  told_text {outcome = outcome} {sequence = sequence} {group = group} is has found text = record { outcome = outcome; has = has; failed = tt; told = (group, sequence, found, is, text) }
+
+  -- a text was printed
+  pub text_done : {text : String Global} {answer : Answer} → HasTold work named timestamp (Ok text) → ClosesWith 0 (string_bytes text) answer → IsAssembleDone work named timestamp answer
+  text_done {answer = answer} is closes =
+      let all = is.told in
+      record {
+        outcome = is.outcome;
+        has = is.has;
+        ends = subst (λ (found : Result GroupValue Assembly). IsTold found is.outcome answer) (sym all.2)
+            (subst (λ (outcome : Result ℕ Failure). IsTold (Ok all.0) outcome answer) (sym all.3)
+            (subst (λ (text : List ℕ). ClosesWith 0 text answer) all.4 closes));
+      }
+
+  -- or a failure was
+  pub failure_done : {failure : Failure} {answer : Answer} → HasTold work named timestamp (Err failure) → IsToldFailure failure answer → IsAssembleDone work named timestamp answer
+  failure_done {failure = failure} {answer = answer} is told = record {
+    outcome = is.outcome;
+    has = is.has;
+    ends = subst (λ (outcome : Result ℕ Failure). IsTold (group_of is.has.newest named) outcome answer) (sym is.failed)
+        (told_failure (group_of is.has.newest named) failure answer told);
+  }

@@ -1,0 +1,85 @@
+-- Histories of a group: their calls are those that the program makes.
+use Rattle.std.specs.Prelude.{◌≡◌, ◌⊎◌, ℕ, ◌≤◌, List, Option, Result, Ok}
+use Rattle.std.proofs.Common.{inl, inr}
+use Rattle.ddf_bay.specs.State.{BayState}
+use Rattle.ddf_bay.specs.Sectors.{Image, IsLeft}
+use Rattle.ddf_view.specs.View.{View}
+use Rattle.ddf_assembly.specs.Group.{GroupValue, group_of}
+use Rattle.ddf_assembly.specs.Steps.{Step}
+use Rattle.ddf_history.specs.Reading.{Scene}
+use Rattle.ddf_history.specs.Issued.{Past}
+use Rattle.ddf_history.specs.Calls.{AreAside}
+use Rattle.ddf_history.specs.Groups.{groups}
+use Rattle.ddf_history.specs.Promise.{IsKept}
+use Rattle.ddf_history.specs.Scenes.{scene_of}
+use Rattle.ddf_history.specs.History.{Moment}
+use Rattle.ddf_stops.specs.Kept.{AreAllKept, is_read}
+use Rattle.ddf_stops.specs.Going.{Goes, IsAdmitted, KeepsHistory, changes_in}
+use Rattle.ddf_command.specs.declared.failure.Failure.{Failure}
+use Rattle.ddf_command.specs.Call.{work_of}
+use Rattle.ddf_command.specs.Change.{HasChanged, Request, is_done, steps_of}
+
+-- `disks` is what a bay of type B tells, and `told` that it tells what they hold.
+module _ {B : Type 0} {tells : Type 0} (told : tells) (disks : B → BayState B) (group : List ℕ) where
+  -- what the slots show where a stop leaves one of the images of a bay
+  pub record Leaves (bay : B) (scene : Scene View) : Type 0 where
+    pub image : Image
+    pub is_left : IsLeft (disks bay).may_hold image
+    pub is_shown : scene ≡ scene_of (disks bay).sizes image
+
+  -- ---- calls on the group
+
+  -- A call of a command that changes the group, as the program's call promises it: the group that it found is this one, it wasn't refused, and
+  -- the history admits it.
+  pub record GroupCall (old : Moment (groups group) B) : Type 0 where
+    pub exit : B
+    pub named : Option (List ℕ)
+    pub timestamp : ℕ
+    pub request : Request
+    pub outcome : Result ℕ Failure
+    pub changed : HasChanged (work_of tells (disks old.bay) (disks exit)) named timestamp request outcome
+    pub found : GroupValue
+    pub is_found : group_of changed.newest named ≡ Ok found
+    pub same_group : found.config.group ≡ group
+    pub steps : List Step
+    pub are_asked : steps_of found timestamp request ≡ Ok steps
+    pub admitted : IsAdmitted group old.past (disks old.bay) changed.left found
+
+  -- what it promises of the history
+  abbrev pub kept_by : (old : Moment (groups group) B) (call : GroupCall old) → AreAllKept group old.past (disks old.bay)
+      → KeepsHistory group (disks old.bay) (disks call.exit) old.past call.changed.left call.found (changes_in call.found call.steps) (is_done call.outcome)
+  kept_by old call kept = call.changed.keeps told call.found call.is_found call.steps call.are_asked group call.same_group old.past kept call.admitted
+
+  -- The call came to its end, where the bay still tells what a stop may leave.
+  pub record IsEnd (old new : Moment (groups group) B) : Type 0 where
+    pub call : GroupCall old
+    pub tells_left : (disks call.exit).tells_left
+    pub is_left : (scene : Scene View) → Leaves new.bay scene → Leaves call.exit scene
+    pub is_past : (kept : AreAllKept group old.past (disks old.bay)) → new.past ≡ ((kept_by old call kept).ends tells_left).0
+
+  -- how far a call came at a moment: as at its entry, or this far
+  abbrev pub past_at : {A : Type 0} {P Q : Past (groups group) → Type 0} → Past (groups group) → A ⊎ ((now : Past (groups group)) × P now × Q now) → Past (groups group)
+  past_at past (inl before) = past
+  past_at past (inr now) = now.0
+
+  -- A stop within the call left this image.
+  pub record IsCut (old new : Moment (groups group) B) : Type 0 where
+    pub call : GroupCall old
+    pub image : Image
+    pub was_left : (disks call.exit).left_since (disks old.bay).moment image
+    pub is_left : (scene : Scene View) → Leaves new.bay scene → scene ≡ scene_of (disks old.bay).sizes image
+    pub is_past : (since : (disks old.bay).moment ≤ (disks old.bay).moment) (kept : AreAllKept group old.past (disks old.bay))
+        → new.past ≡ past_at {P = Goes group old.past (is_read call.changed.left) call.found (changes_in call.found call.steps)} {Q = λ now. IsKept now (scene_of (disks old.bay).sizes image)}
+        old.past ((kept_by old call kept).any_moment.since (disks old.bay).moment image since was_left)
+
+  -- ---- other calls
+
+  -- A call that only reads, that was refused, or that writes other disks, at its end or within it: what it may leave is, slot by slot, as
+  -- before, or on disks that are no members.
+  pub record IsAsideCall (old new : Moment (groups group) B) : Type 0 where
+    pub same_past : new.past ≡ old.past
+    pub is_aside : (scene : Scene View) → Leaves new.bay scene → (before : Scene View) × Leaves old.bay before × AreAside old.past before scene
+
+  -- a call, at its end or within it
+  abbrev pub IsCall : Moment (groups group) B → Moment (groups group) B → Type 0
+  IsCall old new = IsEnd old new ⊎ IsCut old new ⊎ IsAsideCall old new

@@ -1,0 +1,59 @@
+-- A call keeps its history from its entry on, over all that it only read before, where the bay tells of it.
+use Rattle.std.proofs.Common.{ℕ, ◌≤◌, Bool, List, inl, inr, refl, subst, arith}
+use Rattle.ddf_bay.specs.ReadsOnly.{ReadsOnly}
+use Rattle.ddf_bay.specs.Sectors.{Image, IsLeft}
+use Rattle.ddf_bay.specs.State.{BayState}
+use Rattle.ddf_bay.proofs.Steps.{left_keeps}
+use Rattle.ddf_config.specs.Configuration.{Configuration}
+use Rattle.ddf_history.specs.Groups.{groups}
+use Rattle.ddf_history.specs.Issued.{Past}
+use Rattle.ddf_history.specs.Promise.{IsKept}
+use Rattle.ddf_history.specs.Scenes.{scene_of}
+use Rattle.ddf_assembly.specs.Group.{GroupValue}
+use Rattle.ddf_stops.specs.Going.{IsAdmitted, KeepsHistory}
+use Rattle.ddf_stops.specs.Kept.{AreAllKept}
+
+module _ (group : List ℕ) {D : Type 0} (past : Past (groups group)) (left : List Bool) (found : GroupValue) (changes : List Configuration) (done : Bool) where
+  -- What is kept where the disks as they read are one of the images that a stop may leave is kept: a bay that tells of an image tells of that one.
+  pub keeps_where_told : (old new : BayState D) → old.moment ≤ new.moment → ((t : ℕ) (image : Image) → new.left_since t image → new.tells_left)
+      → (new.tells_left → IsLeft old.may_hold old.held) → (IsLeft old.may_hold old.held → KeepsHistory group old new past left found changes done)
+      → KeepsHistory group old new past left found changes done
+  keeps_where_told old new later told back keeps = record {
+    any_moment = record { later = later; since = λ t image le was_left. (keeps (back (told t image was_left))).any_moment.since t image le was_left };
+    ends = λ tells. (keeps (back tells)).ends tells;
+  }
+
+  -- What holds of disks that were only read holds of what they were.
+  kept_still : (old middle : BayState D) → ReadsOnly old middle → AreAllKept group past old → AreAllKept group past middle
+  kept_still old middle reads kept image was_left =
+      rw reads.same_sizes (kept image (left_keeps old.may_hold middle.may_hold image reads.keeps was_left))
+
+  admitted_still : (old middle : BayState D) → ReadsOnly old middle → IsAdmitted group past old left found → IsAdmitted group past middle left found
+  admitted_still old middle reads admitted = record {
+    same_slots = rw reads.same_sizes admitted.same_slots;
+    may_read = rw (reads.same_sizes, reads.same_held) admitted.may_read;
+    member = rw (reads.same_sizes, reads.same_held) admitted.member;
+    all_present = admitted.all_present;
+    are_bytes = rw reads.same_held admitted.are_bytes;
+    is_kept = rw (reads.same_sizes, reads.same_held) admitted.is_kept;
+  }
+
+  -- What a call keeps since it had read its disks it keeps since its entry.
+  pub keeps_since_entry : (old middle new : BayState D) → ReadsOnly old middle
+      → (AreAllKept group past middle → IsAdmitted group past middle left found → KeepsHistory group middle new past left found changes done)
+      → AreAllKept group past old → IsAdmitted group past old left found → KeepsHistory group old new past left found changes done
+  keeps_since_entry old middle new reads keeps kept admitted =
+      let since = keeps (kept_still old middle reads kept) (admitted_still old middle reads admitted) in
+      record {
+        any_moment = record {
+          later = let one = reads.any_moment.later in let other = since.any_moment.later in omega (arith, one, other);
+          since = λ t image le was_left. elim (since.any_moment.since t image (let one = reads.any_moment.later in omega (arith, le, one)) was_left) [
+            | inl before ↦ elim (reads.any_moment.since t image le before) [
+              | inl at_first ↦ inl at_first
+              | inr might ↦ inr (past, inl refl, kept image might)
+            ]
+            | inr now ↦ inr (now.0, now.1, subst (λ (sizes : List ℕ). IsKept now.0 (scene_of sizes image)) reads.same_sizes now.2)
+          ];
+        };
+        ends = since.ends;
+      }

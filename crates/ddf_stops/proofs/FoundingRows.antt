@@ -1,0 +1,156 @@
+-- What the copies of new disks say: one table of the disks, each of them a current member with a reference of its own.
+use Rattle.std.proofs.Common.{◌≡◌, ℕ, zero, suc, ◌+◌, ◌-◌, ◌<◌, ◌≤◌, ◌==◌, ◌&&◌, Bool, true, false, not, List, [], ◌∷◌, ◌++◌, length, replicate, Option, None, Some, refl, ap, sym, ◌∙◌, subst, inl, inr, arith, map, filter_map, find, nat_eq}
+use Rattle.std.proofs.lemmas.Bool.{and_from, cases_eq, eq-eqb}
+use Rattle.std.specs.Prelude.{is_some, option_map, slice_get}
+use Rattle.std.specs.List.{AllByRecursion, IsDistinct}
+use Rattle.std.specs.Option.{option_map_or}
+use Rattle.std.specs.Str.{bytes_eq}
+use Rattle.ddf_bytes.specs.declared.stamp.Stamp.{Stamp}
+use Rattle.ddf_tables.specs.declared.disks.DiskEntry.{DiskEntry}
+use Rattle.ddf_tables.specs.declared.disks.DiskRow.{DiskRow}
+use Rattle.ddf_tables.specs.declared.disks.DiskRow.TheVariants as disk_rows
+use Rattle.ddf_tables.specs.Disks.{reference_of}
+use Rattle.ddf_configs.specs.declared.notes.Notes.{Notes}
+use Rattle.ddf_configs.specs.declared.notes.SlotNote.{SlotNote}
+use Rattle.ddf_configs.specs.declared.spare.SpareRecord.{SpareRecord}
+use Rattle.ddf_configs.specs.declared.slot.RecordSlot.{RecordSlot}
+use Rattle.ddf_configs.specs.declared.slot.RecordSlot.TheVariants as slots
+use Rattle.ddf_configs.specs.Slots.{valid_notes}
+use Rattle.ddf_update.specs.NewCopies.{disk_guid, entries_from, group_of, new_arrays, new_copy, new_notes, new_rows, new_slots, reference_at, unused_slot}
+use Rattle.ddf_update.proofs.NewRows.{have_references}
+use Rattle.ddf_view.specs.View.{View, Held, disk_of, first_spare, held_from, is_missing, lists_current, view_of}
+use Rattle.ddf_view.proofs.Tests.{bytes_same}
+use Rattle.ddf_history.proofs.Since.{which}
+use Rattle.ddf_stops.proofs.FoundingViews.{plain_view}
+
+-- ---- the table
+
+-- the disks of these sizes, from a place on, of a table with so many unused rows behind them
+abbrev disks_from : Stamp → (place : ℕ) → List ℕ → (unused : ℕ) → List DiskEntry
+disks_from stamp place sizes unused = filter_map disk_of (entries_from stamp place sizes ++ replicate unused (disk_rows.Unused (replicate 64 255)))
+
+-- the disks that new copies list
+abbrev pub new_disk_list : Stamp → List ℕ → List DiskEntry
+new_disk_list stamp sizes = disks_from stamp 0 sizes (15 - length sizes)
+
+-- The references in a table are those of its disks.
+references : (rows : List DiskRow) → filter_map reference_of rows ≡ map (λ disk. disk.reference) (filter_map disk_of rows)
+references [] = refl
+references (disk_rows.Entry entry ∷ rows) = ap (λ others. entry.reference ∷ others) (references rows)
+references (disk_rows.Unused whole ∷ rows) = references rows
+
+-- No two of the disks have one reference.
+pub new_references : (stamp : Stamp) (sizes : List ℕ) → length sizes ≤ 15 → IsDistinct nat_eq (map (λ disk. disk.reference) (new_disk_list stamp sizes))
+new_references stamp sizes few = subst (λ names. IsDistinct nat_eq names) (references (new_rows stamp sizes)) (have_references stamp sizes few).all_differ
+
+-- ---- its members
+
+-- Where no disk of a table is missing, one of those that pass a test is found as one that isn't.
+found_current : (test : DiskEntry → Bool) (disks : List DiskEntry) (place : ℕ) (disk : DiskEntry) → AllByRecursion (λ one. is_missing one ≡ false) disks
+    → slice_get disks place ≡ Some disk → test disk ≡ true → option_map_or (λ one. not (is_missing one)) (find test disks) false ≡ true
+found_current test [] place disk current at is = absurd cc
+found_current test (first ∷ disks) zero disk current at is =
+    let same : first ≡ disk = cc in
+    let passes : test first ≡ true = ap test same ∙ is in
+    rw passes (ap not current.0)
+found_current test (first ∷ disks) (suc place) disk current at is = elim (which (test first)) [
+  | inl passes ↦ rw passes (ap not current.0)
+  | inr fails ↦ rw fails (found_current test disks place disk current.1 at is)
+]
+
+-- An unused row lists no disk.
+none_of_unused : (unused : ℕ) → filter_map disk_of (replicate unused (disk_rows.Unused (replicate 64 255))) ≡ []
+none_of_unused zero = refl
+none_of_unused (suc unused) = none_of_unused unused
+
+-- None of the disks is missing.
+none_missing : (stamp : Stamp) (from : ℕ) (sizes : List ℕ) (unused : ℕ) → AllByRecursion (λ one. is_missing one ≡ false) (disks_from stamp from sizes unused)
+none_missing stamp from [] unused = subst (AllByRecursion (λ one. is_missing one ≡ false)) (sym (none_of_unused unused)) tt
+none_missing stamp from (size ∷ sizes) unused = (refl, none_missing stamp (suc from) sizes unused)
+
+-- A disk of a table that has the names of the disk at a place.
+record IsListed (stamp : Stamp) (place : ℕ) (disks : List DiskEntry) : Type 0 where
+  row : ℕ
+  disk : DiskEntry
+  is_there : slice_get disks row ≡ Some disk
+  reference : disk.reference ≡ reference_at stamp place
+  guid : disk.guid ≡ disk_guid stamp place
+
+-- The disk of each place is listed.
+listed : (stamp : Stamp) (from place : ℕ) (sizes : List ℕ) (unused : ℕ) → from ≤ place → place < from + length sizes
+    → IsListed stamp place (disks_from stamp from sizes unused)
+listed stamp from place [] unused le lt = absurd (omega (arith, le, lt))
+listed stamp from place (size ∷ sizes) unused le lt = elim (cases_eq from place) [
+  | inl same ↦ record { row = 0; disk = _; is_there = refl; reference = ap (reference_at stamp) same; guid = ap (disk_guid stamp) same }
+  | inr differ ↦
+      let later = listed stamp (suc from) place sizes unused (omega (arith, le, differ)) (omega (arith, lt)) in
+      record { row = suc later.row; disk = later.disk; is_there = later.is_there; reference = later.reference; guid = later.guid }
+]
+
+-- A view of this table lists the disk of each place as a current member.
+pub new_lists : (stamp : Stamp) (sizes : List ℕ) (group guid : List ℕ) (reference place : ℕ) → place < length sizes
+    → lists_current (plain_view group guid reference (new_disk_list stamp sizes)) (disk_guid stamp place) (reference_at stamp place) ≡ true
+unfolding lists_current
+new_lists stamp sizes group guid reference place lt =
+    let unused = 15 - length sizes in
+    let one = listed stamp 0 place sizes unused (omega arith) (omega (arith, lt)) in
+    found_current (λ disk. disk.reference == reference_at stamp place && bytes_eq disk.guid (disk_guid stamp place)) (new_disk_list stamp sizes)
+    one.row one.disk (none_missing stamp 0 sizes unused) one.is_there
+    (and_from (one.disk.reference == reference_at stamp place) (bytes_eq one.disk.guid (disk_guid stamp place))
+    (eq-eqb one.disk.reference (reference_at stamp place) one.reference)
+    (ap (λ name. bytes_eq name (disk_guid stamp place)) one.guid ∙ bytes_same (disk_guid stamp place)))
+
+-- ---- the view of a copy
+
+-- Notes of the group and the sequence in the first slot are valid.
+first_noted : (group : List ℕ) (notes : List SlotNote) (others : List RecordSlot)
+    → is_some (valid_notes group 1 (slots.Notes (record { group = group; sequence = 1; slots = notes }) ∷ others)) ≡ true
+first_noted group notes others = rw (bytes_same group) refl
+
+-- Unused slots hold no element.
+none_held : (notes : Option Notes) (at count : ℕ) (bytes : List ℕ) → held_from notes at (replicate count (slots.Unused bytes)) ≡ []
+none_held notes at zero bytes = refl
+none_held notes at (suc count) bytes = none_held notes (at + 1) count bytes
+
+-- They hold no spare record.
+none_spare : (count : ℕ) (bytes : List ℕ) → first_spare (replicate count (slots.Unused bytes)) ≡ None
+none_spare zero bytes = refl
+none_spare (suc count) bytes = none_spare count bytes
+
+-- An unused slot is one.
+unused_is : unused_slot ≡ slots.Unused (replicate 1024 255)
+unfolding unused_slot
+unused_is = refl
+
+-- The slots of a new copy hold no element.
+no_elements : (stamp : Stamp) (notes : Option Notes) → held_from notes 0 (new_slots stamp) ≡ []
+no_elements stamp notes = ap (λ slot. held_from notes 1 (replicate 15 slot)) unused_is ∙ none_held notes 1 15 (replicate 1024 255)
+
+-- They hold no spare record.
+no_spare : (stamp : Stamp) → first_spare (new_slots stamp) ≡ None
+no_spare stamp = ap (λ slot. first_spare (replicate 15 slot)) unused_is ∙ none_spare 15 (replicate 1024 255)
+
+-- a view of this table by what its slots tell
+view_by : Stamp → List ℕ → (place : ℕ) → List Held → (noted : Bool) → Option SpareRecord → View
+view_by stamp sizes place elements noted spare = record {
+  group = group_of stamp;
+  sequence = 1;
+  guid = disk_guid stamp place;
+  reference = reference_at stamp place;
+  disks = new_disk_list stamp sizes;
+  arrays = [];
+  elements = elements;
+  noted = noted;
+  spare = option_map (λ one. one.arrays) spare;
+}
+
+-- What a new copy says.
+pub new_view : (stamp : Stamp) (sizes : List ℕ) (place : ℕ)
+    → view_of (new_copy stamp sizes place) ≡ plain_view (group_of stamp) (disk_guid stamp place) (reference_at stamp place) (new_disk_list stamp sizes)
+unfolding view_of view_by new_arrays
+new_view stamp sizes place =
+    let notes = valid_notes (group_of stamp) 1 (new_slots stamp) in
+    ap (λ (elements : List Held). view_by stamp sizes place elements (is_some notes) (first_spare (new_slots stamp))) (no_elements stamp notes)
+    ∙ ap (λ (noted : Bool). view_by stamp sizes place [] noted (first_spare (new_slots stamp)))
+    (first_noted (group_of stamp) (new_notes stamp).slots (replicate 15 unused_slot))
+    ∙ ap (λ (spare : Option SpareRecord). view_by stamp sizes place [] true spare) (no_spare stamp)

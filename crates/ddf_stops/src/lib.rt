@@ -1,0 +1,6 @@
+//! What a stop leaves of the disks of a group, as its history tells of it.
+#![tactic(auto)]
+
+mod laws;
+
+pub use laws::a_call_is_answered_as_its_history_promises;
