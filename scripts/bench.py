@@ -1,4 +1,4 @@
-"""Measures `examine` beside other programs: see bench.sh."""
+"""Measures the commands beside other programs: see bench.sh."""
 
 import os
 import shutil
@@ -10,6 +10,9 @@ import zlib
 from dataclasses import dataclass, field
 from pathlib import Path
 from struct import pack
+
+from measuring import beside, measured, peak_of, row, spread
+from read_speed import read_rows
 
 SECTOR = 512
 
@@ -112,58 +115,6 @@ class Disk:
 # ---- measuring
 
 
-@dataclass
-class Times:
-    """Of many runs: processor time and time on the clock, in milliseconds."""
-
-    processor: list = field(default_factory=list)
-    clock: list = field(default_factory=list)
-
-    def add(self, command):
-        null = os.open(os.devnull, os.O_RDWR)
-        quiet = [(os.POSIX_SPAWN_DUP2, null, 1), (os.POSIX_SPAWN_DUP2, null, 2)]
-        before = time.perf_counter()
-        child = os.posix_spawnp(command[0], command, os.environ, file_actions=quiet)
-        _, status, usage = os.wait4(child, 0)
-        self.clock.append(1000 * (time.perf_counter() - before))
-        os.close(null)
-        if status:
-            sys.exit(f"bench: status {status} of {' '.join(command[:3])}")
-        self.processor.append(1000 * (usage.ru_utime + usage.ru_stime))
-
-
-def measured(rounds, *commands):
-    """The times of each command. In each round all run once, so that noise meets all of them."""
-    times = [Times() for _ in commands]
-    for _ in range(rounds):
-        for each, command in zip(times, commands):
-            each.add(command)
-    return times
-
-
-def spread(values):
-    return f"{min(values):.2f} / {statistics.median(values):.2f}"
-
-
-def row(what, own, other, ratio, goal):
-    print(f"| {what} | {own} | {other} | {ratio:.2f} | {goal} |", flush=True)
-
-
-def beside(rounds, what, own, other, name, goals):
-    """Rows for two commands: processor time and time on the clock."""
-    ours, theirs = measured(rounds, own, other)
-    for kind, goal in zip(("processor", "clock"), goals):
-        mine, its = getattr(ours, kind), getattr(theirs, kind)
-        row(f"{what}, {kind} ms", spread(mine), f"{name} {spread(its)}", min(mine) / min(its), goal)
-
-
-def peak_of(command):
-    """The peak of a process's memory, in bytes. GNU's time starts it: a child of this process would count our own peak too."""
-    timed = ["time", "-f", "%M", *command]
-    told = subprocess.run(timed, stdout=subprocess.DEVNULL, stderr=subprocess.PIPE, text=True, check=True)
-    return 1024 * int(told.stderr.split()[-1])
-
-
 def zlib_speed(size):
     """Bytes in a nanosecond."""
     data, count, best = os.urandom(size), max(1, (1 << 22) // size), float("inf")
@@ -173,6 +124,19 @@ def zlib_speed(size):
             zlib.crc32(data)
         best = min(best, (time.process_time_ns() - before) / (count * size))
     return 1 / best
+
+
+def xor_row(program, sectors, rounds):
+    """The exclusive-or of so many sectors into others, 16 MiB in all each time, beside a copy of them."""
+    size = SECTOR * sectors
+    times = (1 << 24) // size
+    told = subprocess.run([program, str(sectors), str(times), str(rounds)], stdout=subprocess.PIPE, text=True, check=True)
+    xor, copy = zip(*(map(int, line.split()) for line in told.stdout.splitlines()))
+
+    def speeds(taken):
+        return f"{size * times / min(taken):.1f} / {size * times / statistics.median(taken):.1f}"
+
+    row(f"exclusive-or of {size} bytes, GB/s", speeds(xor), f"copy {speeds(copy)}", min(copy) / min(xor), "")
 
 
 def main():
@@ -218,6 +182,12 @@ def main():
     if shutil.which("time"):
         peak, size = peak_of(examine(most.write(work / "most.img"))), 2 * most.copy_bytes()
         row("peak memory at the limit, MB", f"{peak / 1e6:.1f}", f"copies {size / 1e6:.1f}", peak / size, "2")
+
+    read_rows(program, work, rounds)
+    xor = work / "xor/crates/xor_speed/out/xor_speed"
+    if xor.exists():
+        for sectors in (1, 64):
+            xor_row(str(xor), sectors, rounds)
 
 
 main()

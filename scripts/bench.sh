@@ -1,12 +1,18 @@
 #!/bin/sh
-# Measures `examine` beside mdadm, blkid and zlib, where they are at hand, and prints a table for the README. It is no part of the
-# gate. ROUNDS is the number of rounds (40); in each round every program runs once, one after another.
+# Measures `examine` beside mdadm, blkid and zlib, where they are at hand, `read` beside cat and the exclusive-or beside a copy, and
+# prints a table for the README. It is no part of the gate. ROUNDS is the number of rounds (40); in each round every program runs
+# once, one after another.
 #
 # - Linux's disks: both read them as Linux left them (DDF_LINUX_DISKS, a folder of NAME.tar.xz). Then `ddf` reads them beside the same
 #   disks turned, with their checksums as the standard counts them (DDF_DISKS).
 # - CRC: how much longer `examine` takes over slots that are sealed than over slots of which none is, so that it reads and
 #   copies as much, counts no CRC and compares no slots. So a comparison of the two copies is in it. zlib's is that of Python.
 # - Memory: the peak of the process, where the sections that are kept in memory have the most sectors that they may have.
+# - `read` of 1 MiB, the most of one call, in pieces of arrays over three labelled disks, whole and without their first disk, beside cat
+#   of a file of the same bytes. The bytes and the parity are placed without `ddf`, and what it gives is compared with them once. Both
+#   write over a file that is there. The same of no block tells what the start and the assembly cost. Ratios are of throughput.
+# - The exclusive-or of sectors in cache beside a copy of as many, in one small program (xor_speed.rt.txt: only a crate has files
+#   named .rt), which `rt` proves and builds first. That takes a minute or more.
 #
 # Times are the least and the median of all rounds, of processor time and on the clock.
 set -eu
@@ -37,9 +43,28 @@ sixteen() {
     rm -rf "$work/sets"
 }
 
+# The program that times the exclusive-or, in a repository of its own with the crates that it stands on.
+build_xor() {
+    mkdir -p "$1/crates/xor_speed/src"
+    for crate in ddf_bytes ddf_parity; do
+        mkdir "$1/crates/$crate"
+        cp -r "$top/crates/$crate/src" "$top/crates/$crate/specs" "$top/crates/$crate/proofs" "$1/crates/$crate"
+        grep "^$crate:" "$top/crates.txt" >>"$1/crates.txt"
+    done
+    echo "xor_speed: ddf_bytes ddf_parity anyhow" >>"$1/crates.txt"
+    cp "$top/scripts/xor_speed.rt.txt" "$1/crates/xor_speed/src/main.rt"
+    cd "$1/crates/xor_speed" && nice rt run -- 1 1 1
+}
+
 "$top/ddf" --version >/dev/null
 sixteen "${DDF_DISKS:-$top/../shared/disks}" "$work/turned"
 sixteen "${DDF_LINUX_DISKS:-$top/../shared/linux-disks}" "$work/linux"
 truncate -s 32M "$work/labelled.img"
 "$top/ddf" "$work/labelled.img" -- label >/dev/null
-python3 "$top/scripts/bench.py" "$top/crates/ddf/out/ddf" "$work" "${ROUNDS:-40}"
+if ! command -v rt >/dev/null; then
+    echo "bench: rt isn't here, the exclusive-or isn't measured" >&2
+elif ! (build_xor "$work/xor") >"$work/xor.log" 2>&1; then
+    tail -n 20 "$work/xor.log" >&2
+    echo "bench: the exclusive-or isn't measured" >&2
+fi
+python3 -B "$top/scripts/bench.py" "$top/crates/ddf/out/ddf" "$work" "${ROUNDS:-40}"

@@ -15,6 +15,8 @@ use Rattle.ddf_command.specs.Assemble.{IsAssembleDone, IsTold, no_change}
 use Rattle.ddf_command.specs.Call.{Answer, Work, answer_of, work_of}
 use Rattle.ddf_command.specs.Change.{HasChanged, IsChangeDone, IsChangedIn, IsToldChange, Request}
 use Rattle.ddf_command.specs.Run.{SomeSlotRose, is_unwritten}
+use Rattle.ddf_assembly.specs.Committed.{slots_of}
+use Rattle.ddf_command.proofs.Beside.{reads_beside}
 use Rattle.ddf_command.proofs.Keeping.{reads_keep}
 use Rattle.ddf_command.proofs.Outcomes.{IsEnd, contradicted_end, refused_end}
 use Rattle.ddf_command.proofs.ReadEnds.{good_end, no_disk, not_three}
@@ -120,6 +122,7 @@ spent_first old tells named timestamp request looked = record {
   newest = newest_from old 0 looked.left;
   read = λ tells. refl;
   gives = nothing_in old tells timestamp request (group_of (newest_from old 0 looked.left) named);
+  beside = λ told found is. reads_beside old old (slots_of found.seats) (reads_start old);
   keeps = λ told found is steps asked. reads_keep old old looked.left found steps Memory (reads_start old);
 }
 

@@ -12,6 +12,7 @@ use Rattle.ddf_plan.specs.declared.change.Change.{Change}
 use Rattle.ddf_plan.specs.declared.fault.PlanFault.{PlanFault}
 use Rattle.ddf_plan.specs.declared.fault.PlanFault.TheVariants as plans
 use Rattle.ddf_request.specs.Request.{IsRequested}
+use Rattle.ddf_assembly.specs.Committed.{slots_of}
 use Rattle.ddf_assembly.specs.Group.{GroupValue, UpToMemory as FoundUpToMemory, group_of}
 use Rattle.ddf_assembly.specs.Held.{IsHeldOn, StandsUnder}
 use Rattle.ddf_assembly.specs.Ready.{readied}
@@ -26,6 +27,8 @@ use Rattle.ddf_command.specs.Call.{Work, work_of}
 use Rattle.ddf_command.specs.Change.{HasChanged, IsChanged, IsChangedIn, KeepsHistories, Request, steps_asked, steps_of, steps_or}
 use Rattle.ddf_command.specs.GroupRead.{IsFoundBy, IsGroupRead, IsReadFrom, group_or}
 use Rattle.ddf_command.specs.Requests.{alone}
+use Rattle.ddf_command.specs.Others.{LeavesOthers}
+use Rattle.ddf_command.proofs.Beside.{beside_since, reads_beside}
 use Rattle.ddf_command.proofs.Keeping.{reads_keep, since_entry}
 use Rattle.ddf_command.proofs.Rises.{look_still, rose_later}
 
@@ -72,6 +75,10 @@ newest_still : {D : Type 0} (old middle : BayState D) → middle.sizes ≡ old.s
 newest_still old middle sizes held slot [] = refl
 newest_still old middle sizes held slot (out ∷ left) = rw (sizes, held, newest_still old middle sizes held (suc slot) left) refl
 
+-- One group is found.
+found_same : (one other : GroupValue) → ◌≡◌ {A = Result GroupValue Assembly} (Ok one) (Ok other) → one ≡ other
+found_same one other is = cc
+
 -- The steps that are asked are those that were readied.
 asked_of : (answer : Result (List Step) GroupFault) (steps : List Step) → steps_or answer ≡ Ok steps → answer ≡ Ok steps
 asked_of (Ok all) steps is = let same : all ≡ steps = cc in ap (λ (one : List Step). Ok one) same
@@ -104,6 +111,7 @@ none_read work named timestamp request failure read reads = record {
   newest = read.newest;
   read = read.read;
   gives = none_in work timestamp request (group_of read.newest named) failure reads read.answer;
+  beside = λ told found is. reads_beside work.old work.new (slots_of found.seats) reads;
   keeps = λ told found is steps asked. reads_keep work.old work.new read.left found steps failure reads;
 }
 
@@ -119,6 +127,7 @@ module _ {D : Type 0} (work : Work D) (named : Option (List ℕ)) (timestamp : �
     newest = read.newest;
     read = read.read;
     gives = subst (λ (one : Result GroupValue Assembly). IsChangedIn work timestamp request one (Err failure)) (sym (group_read work named group read)) is;
+    beside = λ told found is. reads_beside work.old work.new (slots_of found.seats) reads;
     keeps = λ told found is steps asked. reads_keep work.old work.new read.left found steps failure reads;
   }
 
@@ -178,9 +187,9 @@ module _ {D : Type 0} (tells : Type 0) (old middle new : BayState D) (reads : Re
   pub has_changed : (named : Option (List ℕ)) (timestamp : ℕ) (request : Request) (group : GroupValue) (changes : List Change) (outcome : Result ℕ Failure)
       → IsGroupRead (work_of tells old middle) named (Ok group) → request (config_recovered group) group.seats ≡ Ok changes
       → ((slot : ℕ) → middle.failed_reads slot ≤ new.failed_reads slot) → ((slot : ℕ) → middle.failed_writes slot ≤ new.failed_writes slot)
-      → IsChanged (work_of tells middle new) group (steps_or (readied group changes timestamp)) outcome → Keeps group changes timestamp outcome
+      → IsChanged (work_of tells middle new) group (steps_or (readied group changes timestamp)) outcome → Keeps group changes timestamp outcome → (tells → LeavesOthers middle new (slots_of group.seats))
       → HasChanged (work_of tells old new) named timestamp request outcome
-  has_changed named timestamp request group changes outcome read is reads_then_rise writes_then_rise done keeps =
+  has_changed named timestamp request group changes outcome read is reads_then_rise writes_then_rise done keeps beside =
       let steps = ap (steps_asked group timestamp) is in
       record {
         left = read.left;
@@ -191,8 +200,11 @@ module _ {D : Type 0} (tells : Type 0) (old middle new : BayState D) (reads : Re
         gives = subst (λ (one : Result GroupValue Assembly). IsChangedIn (work_of tells old new) timestamp request one outcome) (sym (group_read (work_of tells old middle) named group read))
             (subst (λ (asked : Result (List Step) Failure). IsChanged (work_of tells old new) group asked outcome) (sym steps)
             (changed_before group (steps_or (readied group changes timestamp)) outcome done));
+        beside = λ told found is_found.
+            subst (λ (one : GroupValue). LeavesOthers old new (slots_of one.seats)) (found_same group found (sym (group_read (work_of tells old middle) named group read) ∙ is_found))
+            (beside_since old middle new (slots_of group.seats) reads (beside told));
         keeps = λ told found is_found asked are_asked.
-            let same : group ≡ found = let both : ◌≡◌ {A = Result GroupValue Assembly} (Ok group) (Ok found) = sym (group_read (work_of tells old middle) named group read) ∙ is_found in cc in
+            let same = found_same group found (sym (group_read (work_of tells old middle) named group read) ∙ is_found) in
             subst (λ (one : GroupValue). steps_of one timestamp request ≡ Ok asked → KeepsHistories old new read.left one asked outcome) same
             (λ now_asked.
             since_entry old middle new read.left group asked outcome reads
@@ -209,7 +221,7 @@ module _ {D : Type 0} (tells : Type 0) (old middle new : BayState D) (reads : Re
   pub changed_group : (named : Option (List ℕ)) (timestamp : ℕ) (request : Request) (group : GroupValue) (changes : List Change) (outcome : Result ℕ Failure)
       (read : IsGroupRead (work_of tells old middle) named (Ok group)) (is : request (config_recovered group) group.seats ≡ Ok changes)
       (reads_then_rise : (slot : ℕ) → middle.failed_reads slot ≤ new.failed_reads slot) (writes_then_rise : (slot : ℕ) → middle.failed_writes slot ≤ new.failed_writes slot)
-      (done : IsChanged (work_of tells middle new) group (steps_or (readied group changes timestamp)) outcome) (keeps : Keeps group changes timestamp outcome)
-      → group_of (has_changed named timestamp request group changes outcome read is reads_then_rise writes_then_rise done keeps).newest named ≡ Ok group
+      (done : IsChanged (work_of tells middle new) group (steps_or (readied group changes timestamp)) outcome) (keeps : Keeps group changes timestamp outcome) (beside : tells → LeavesOthers middle new (slots_of group.seats))
+      → group_of (has_changed named timestamp request group changes outcome read is reads_then_rise writes_then_rise done keeps beside).newest named ≡ Ok group
   unfolding has_changed
-  changed_group named timestamp request group changes outcome read is reads_then_rise writes_then_rise done keeps = group_read (work_of tells old middle) named group read
+  changed_group named timestamp request group changes outcome read is reads_then_rise writes_then_rise done keeps beside = group_read (work_of tells old middle) named group read

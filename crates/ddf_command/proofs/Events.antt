@@ -1,5 +1,6 @@
 -- What each event of a history keeps.
-use Rattle.std.proofs.Common.{◌⊎◌, ℕ, ◌≤◌, Bool, List, ◌∷◌, inl, inr, refl, arith}
+use Rattle.std.proofs.Common.{◌≡◌, ◌⊎◌, ◌∙◌, if◌then◌else◌, ℕ, ◌≤◌, Bool, true, false, List, ◌∷◌, [], inl, inr, refl, sym, ap, arith}
+use Rattle.std.proofs.Math.Path.{fun_ext}
 use Rattle.ddf_bay.specs.State.{BayState}
 use Rattle.ddf_bay.specs.Sectors.{Image, IsLeft}
 use Rattle.ddf_config.specs.Configuration.{Configuration}
@@ -8,17 +9,19 @@ use Rattle.ddf_assembly.specs.Group.{GroupValue}
 use Rattle.ddf_history.specs.Reading.{Each, Scene}
 use Rattle.ddf_history.specs.Issued.{Past}
 use Rattle.ddf_history.specs.Groups.{groups}
+use Rattle.ddf_history.specs.Calls.{AreAside, IsAside}
 use Rattle.ddf_history.specs.Promise.{IsKept}
 use Rattle.ddf_history.specs.Scenes.{scene_of}
 use Rattle.ddf_history.specs.History.{AllKept, Answers, DoCallsKeep, IsHistory, KeepsAcked, Moment}
 use Rattle.ddf_history.proofs.Aside.{aside_kept}
-use Rattle.ddf_history.proofs.Histories.{a_history_answers_at_every_moment, a_history_keeps_what_was_acknowledged}
+use Rattle.ddf_history.proofs.Histories.{a_history_answers_at_every_moment, a_history_keeps_what_was_acknowledged, step_kept}
 use Rattle.ddf_history.proofs.Sound.{groups_are_sound}
-use Rattle.ddf_stops.specs.Kept.{AreAllKept, is_read}
+use Rattle.ddf_stops.specs.Kept.{AreAllKept, is_read, is_slot}
 use Rattle.ddf_stops.specs.Going.{Goes, changes_in}
 use Rattle.ddf_stops.proofs.Acked.{ends_keeps, goes_keeps}
+use Rattle.ddf_stops.proofs.Stops.{same_scene}
 use Rattle.ddf_command.specs.Change.{is_done}
-use Rattle.ddf_command.specs.History.{IsAsideCall, IsCall, IsCut, IsEnd, Leaves, kept_by, past_at}
+use Rattle.ddf_command.specs.History.{IsCall, IsCut, IsEnd, IsOther, Leaves, OtherCall, kept_by, past_at}
 
 module _ {B : Type 0} {tells : Type 0} (told : tells) (disks : B → BayState B) (group : List ℕ)
     (only_now : (bay : B) (image : Image) → (disks bay).left_since (disks bay).moment image → IsLeft (disks bay).may_hold image) where
@@ -61,12 +64,51 @@ module _ {B : Type 0} {tells : Type 0} (told : tells) (disks : B → BayState B)
         rw (cut.is_past now_is held) both.1,
       )
 
-  -- A call on other disks.
-  other_kept : (old new : Moment (groups group) B) → IsAsideCall told disks group old new → AllKept (Leaves told disks group) old → AllKept (Leaves told disks group) new × KeepsAcked old.past new.past
+  -- A call that doesn't take the group.
+  module _ (old : Moment (groups group) B) (shown : AllKept (Leaves told disks group) old) (call : OtherCall told disks group old) (image : Image)
+      (was_left : (disks call.exit).left_since (disks old.bay).moment image) where
+    abbrev entry : BayState B
+    entry = disks old.bay
+
+    -- what stands in the other slots then, with what the written ones held
+    before : Image
+    before s l = if is_slot call.written s then entry.held s l else image s l
+
+    -- It might have been left before.
+    before_left : IsLeft entry.may_hold before
+    unfolding before
+    before_left s l = by (is_slot call.written s) refl
+      where
+        by : (b : Bool) → is_slot call.written s ≡ b → entry.may_hold s l (if b then entry.held s l else image s l)
+        by true here = call.is_held s l
+        by false other = elim (call.leaves_others.since entry.moment image (omega arith) was_left) [
+          | inl first ↦ only_now old.bay image first s l
+          | inr others ↦ others s l other
+        ]
+
+    -- Each slot is as then, or aside.
+    aside : AreAside old.past (scene_of entry.sizes before) (scene_of entry.sizes image)
+    unfolding before
+    aside slot = by (is_slot call.written slot) refl
+      where
+        by : (b : Bool) → is_slot call.written slot ≡ b
+            → (scene_of entry.sizes image slot ≡ scene_of entry.sizes before slot) ⊎ IsAside old.past slot (scene_of entry.sizes image slot)
+        by true here = elim (call.are_aside image was_left slot here) [
+          | inl same ↦ inl (same ∙ same_scene entry.sizes entry.held before slot (fun_ext (λ l. sym (ap (λ (b : Bool). if b then entry.held slot l else image slot l) here))))
+          | inr out ↦ inr out
+        ]
+        by false other = inl (same_scene entry.sizes image before slot (fun_ext (λ l. sym (ap (λ (b : Bool). if b then entry.held slot l else image slot l) other))))
+
+    other_shows : IsKept old.past (scene_of entry.sizes image)
+    other_shows =
+        aside_kept (groups group) (groups_are_sound group) old.past (scene_of entry.sizes before) (scene_of entry.sizes image)
+        (images_kept old shown before before_left) aside
+
+  other_kept : (old new : Moment (groups group) B) → IsOther told disks group old new → AllKept (Leaves told disks group) old → AllKept (Leaves told disks group) new × KeepsAcked old.past new.past
   other_kept old new other kept = (
     λ scene leaves.
-        let before = other.is_aside scene leaves in
-        rw other.same_past (aside_kept (groups group) (groups_are_sound group) old.past before.0 scene (kept before.0 before.1) before.2),
+        let left = other.was_left scene leaves in
+        rw (other.same_past, left.2) (other_shows old kept other.call left.0 left.1),
     rw other.same_past (record { later = omega arith; same = λ i config le at. at }),
   )
 
@@ -85,3 +127,11 @@ module _ {B : Type 0} {tells : Type 0} (told : tells) (disks : B → BayState B)
   pub history_keeps : (start : Moment (groups group) B) (history : List (Moment (groups group) B)) → AllKept (Leaves told disks group) start
       → IsHistory (Leaves told disks group) (IsCall told disks group) start history → Each (λ (moment : Moment (groups group) B). KeepsAcked start.past moment.past) history
   history_keeps = a_history_keeps_what_was_acknowledged (groups group) (groups_are_sound group) B (Leaves told disks group) (IsCall told disks group) calls_keep
+
+  -- And each slot shows what it should at every moment.
+  pub history_kept : (start : Moment (groups group) B) (history : List (Moment (groups group) B)) → AllKept (Leaves told disks group) start
+      → IsHistory (Leaves told disks group) (IsCall told disks group) start history → Each (AllKept (Leaves told disks group)) history
+  history_kept start [] kept is = tt
+  history_kept start (next ∷ rest) kept is =
+      let then_kept = step_kept (groups group) (groups_are_sound group) B (Leaves told disks group) (IsCall told disks group) calls_keep start next is.0 kept in
+      (then_kept, history_kept next rest then_kept is.1)

@@ -10,6 +10,7 @@ mod Rises
 mod Writing
 mod Recovering
 mod Keeping
+mod Beside
 mod Changing
 mod ChangeEnds
 mod Assembling

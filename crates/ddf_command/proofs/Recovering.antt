@@ -94,6 +94,10 @@ module _ {D : Type 0} (tells : Type 0) (old : BayState D) (group : GroupValue) (
   pub rest_lies : LieOnSlots old.sizes (next_slots rest) (next_updates rest)
   rest_lies = next_lies old.sizes recovered (recovered_anchored group changes timestamp ready was old.sizes from.under) rest is_ready
 
+  -- it is written to slots of seats
+  pub rest_on_seats : (slot : ℕ) → IsOneOf (next_slots rest) slot → IsOneOf (slots_of group.seats) slot
+  rest_on_seats slot one = still_seat group ready.recovery slot (recovery_on_seats group changes timestamp ready was slot) (next_on_seat recovered ready.steps is_ready.rewrites slot one)
+
   -- A write or a sync of a seat's slot failed.
   fault_on : (new : BayState D) (slot : ℕ) → IsOneOf (slots_of group.seats) slot → Rose (old.failed_writes slot) (new.failed_writes slot)
       → IsFaultOn (work_of tells old new) group (steps_or (readied group changes timestamp)) slot
@@ -116,9 +120,7 @@ module _ {D : Type 0} (tells : Type 0) (old : BayState D) (group : GroupValue) (
   pub commit_failed : (middle new : BayState D) (slot : ℕ) → IsOneOf (next_slots rest) slot → middle.failed_writes ≡ old.failed_writes → Rose (middle.failed_writes slot) (new.failed_writes slot)
       → IsFaultOn (work_of tells old new) group (steps_or (readied group changes timestamp)) slot
   commit_failed middle new slot one same rose =
-      fault_on new slot
-      (still_seat group ready.recovery slot (recovery_on_seats group changes timestamp ready was slot) (next_on_seat recovered ready.steps is_ready.rewrites slot one))
-      (rw same at rose)
+      fault_on new slot (rest_on_seats slot one) (rw same at rose)
 
   -- ---- all that is written
 

@@ -26,6 +26,7 @@ use Rattle.ddf_command.specs.declared.failure.Failure.{Failure}
 use Rattle.ddf_command.specs.declared.failure.Failure.TheVariants.{Conflict, Disk, Memory, Refused, Split}
 use Rattle.ddf_command.specs.Answers.{IsToldFailure, failure_of, failure_of_group}
 use Rattle.ddf_command.specs.Call.{Answer, Work}
+use Rattle.ddf_command.specs.Others.{LeavesOthers}
 use Rattle.ddf_command.specs.Tells.{ClosesWith}
 use Rattle.ddf_command.specs.Written.{AreWritten}
 
@@ -110,6 +111,7 @@ pub record HasChanged {D : Type 0} (work : Work D) (named : Option (List ℕ)) (
   pub newest : List (Option Newest)
   pub read : work.tells → newest ≡ newest_from work.old 0 left
   pub gives : IsChangedIn work timestamp request (group_of newest named) outcome
+  pub beside : work.tells → (found : GroupValue) → group_of newest named ≡ Ok found → LeavesOthers work.old work.new (slots_of found.seats)
   pub keeps : work.tells → (found : GroupValue) → group_of newest named ≡ Ok found → (steps : List Step) → steps_of found timestamp request ≡ Ok steps
       → KeepsHistories work.old work.new left found steps outcome
 

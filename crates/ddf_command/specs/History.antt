@@ -1,5 +1,5 @@
 -- Histories of a group: their calls are those that the program makes.
-use Rattle.std.specs.Prelude.{◌≡◌, ◌⊎◌, ℕ, ◌≤◌, List, Option, Result, Ok}
+use Rattle.std.specs.Prelude.{◌≡◌, ◌⊎◌, ℕ, ◌≤◌, true, List, Option, Result, Ok}
 use Rattle.std.proofs.Common.{inl, inr}
 use Rattle.ddf_bay.specs.State.{BayState}
 use Rattle.ddf_bay.specs.Sectors.{Image, IsLeft}
@@ -8,16 +8,17 @@ use Rattle.ddf_assembly.specs.Group.{GroupValue, group_of}
 use Rattle.ddf_assembly.specs.Steps.{Step}
 use Rattle.ddf_history.specs.Reading.{Scene}
 use Rattle.ddf_history.specs.Issued.{Past}
-use Rattle.ddf_history.specs.Calls.{AreAside}
+use Rattle.ddf_history.specs.Calls.{IsAside}
 use Rattle.ddf_history.specs.Groups.{groups}
 use Rattle.ddf_history.specs.Promise.{IsKept}
 use Rattle.ddf_history.specs.Scenes.{scene_of}
 use Rattle.ddf_history.specs.History.{Moment}
-use Rattle.ddf_stops.specs.Kept.{AreAllKept, is_read}
+use Rattle.ddf_stops.specs.Kept.{AreAllKept, is_read, is_slot}
 use Rattle.ddf_stops.specs.Going.{Goes, IsAdmitted, KeepsHistory, changes_in}
 use Rattle.ddf_command.specs.declared.failure.Failure.{Failure}
 use Rattle.ddf_command.specs.Call.{work_of}
 use Rattle.ddf_command.specs.Change.{HasChanged, Request, is_done, steps_of}
+use Rattle.ddf_command.specs.Others.{LeavesOthers}
 
 -- `disks` is what a bay of type B tells, and `told` that it tells what they hold.
 module _ {B : Type 0} {tells : Type 0} (told : tells) (disks : B → BayState B) (group : List ℕ) where
@@ -74,12 +75,25 @@ module _ {B : Type 0} {tells : Type 0} (told : tells) (disks : B → BayState B)
 
   -- ---- other calls
 
-  -- A call that only reads, that was refused, or that writes other disks, at its end or within it: what it may leave is, slot by slot, as
-  -- before, or on disks that are no members.
-  pub record IsAsideCall (old new : Moment (groups group) B) : Type 0 where
+  -- A call that doesn't take the group: it may write these slots alone. A command that changes another group leaves those that are no seats'
+  -- of that group as before, `label` those that it doesn't label, and a call that only reads, or is refused, leaves all. It belongs to the
+  -- history where each of them is as it was, or its disk is no current member since the last acknowledged change and it doesn't show the group
+  -- then, nor names such a member.
+  pub record OtherCall (old : Moment (groups group) B) : Type 0 where
+    pub exit : B
+    pub written : List ℕ
+    pub leaves_others : LeavesOthers (disks old.bay) (disks exit) written
+    pub is_held : IsLeft (disks old.bay).may_hold (disks old.bay).held
+    pub are_aside : (image : Image) → (disks exit).left_since (disks old.bay).moment image → (slot : ℕ) → is_slot written slot ≡ true
+        → (scene_of (disks old.bay).sizes image slot ≡ scene_of (disks old.bay).sizes (disks old.bay).held slot) ⊎ IsAside old.past slot (scene_of (disks old.bay).sizes image slot)
+
+  -- Such a call, at its end or cut by a stop: what may be left is an image that a stop left since its entry.
+  pub record IsOther (old new : Moment (groups group) B) : Type 0 where
+    pub call : OtherCall old
     pub same_past : new.past ≡ old.past
-    pub is_aside : (scene : Scene View) → Leaves new.bay scene → (before : Scene View) × Leaves old.bay before × AreAside old.past before scene
+    pub was_left : (scene : Scene View) → Leaves new.bay scene
+        → (image : Image) × (disks call.exit).left_since (disks old.bay).moment image × (scene ≡ scene_of (disks old.bay).sizes image)
 
   -- a call, at its end or within it
   abbrev pub IsCall : Moment (groups group) B → Moment (groups group) B → Type 0
-  IsCall old new = IsEnd old new ⊎ IsCut old new ⊎ IsAsideCall old new
+  IsCall old new = IsEnd old new ⊎ IsCut old new ⊎ IsOther old new

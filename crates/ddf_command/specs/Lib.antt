@@ -16,3 +16,4 @@ pub mod GroupRead
 pub mod Requests
 pub mod Run
 pub mod History
+pub mod Others

@@ -27,6 +27,11 @@ pub fn a_group_is_assembled_at_every_moment_of_its_history<B: Bay>()
     ensures acknowledged { (told : B.tells) (group : List ℕ) (start : Moment (groups group) B) (history : List (Moment (groups group) B))
         → AllKept (Leaves told B.disks group) start → IsHistory (Leaves told B.disks group) (IsCall told B.disks group) start history
         → Each (λ moment. KeepsAcked start.past moment.past) history }
+
+    // So each moment may be the start of what follows it.
+    ensures kept { (told : B.tells) (group : List ℕ) (start : Moment (groups group) B) (history : List (Moment (groups group) B))
+        → AllKept (Leaves told B.disks group) start → IsHistory (Leaves told B.disks group) (IsCall told B.disks group) start history
+        → Each (AllKept (Leaves told B.disks group)) history }
 {}
 
 /// A history of a new group begins where a `label` was done: whatever a stop may leave then shows the group on each of its disks. The names

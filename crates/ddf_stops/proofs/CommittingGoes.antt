@@ -67,6 +67,7 @@ module _ (group : List ℕ) where
         since = since;
         issued = length (changes ++ next ∷ []);
         few = omega arith;
+        loses = λ absent. let more : length (changes ++ next ∷ []) ≡ length changes + 1 = length-append changes (next ∷ []) in omega (arith, more);
         acked = acked;
         stands = stands;
         most = let more : length (changes ++ next ∷ []) ≡ length changes + 1 = length-append changes (next ∷ []) in omega (arith, most, more);

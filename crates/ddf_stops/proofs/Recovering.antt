@@ -210,6 +210,13 @@ module _ {group : List ℕ} {D : Type 0} (past : Past (groups group)) (state : B
       by true = refl
       by false = refl
 
+  -- Where members are absent their loss is issued.
+  loss_issued : some found.absent ≡ true → 1 ≤ length recovery_changes
+  loss_issued absent =
+      let rises = lost_rises group past state left named found taken changes timestamp ready was may absent in
+      let one : length recovery_changes ≡ 1 = ap (λ (issued : List Configuration). length issued) (lost_changes timestamp found absent rises) in
+      omega (arith, one)
+
   -- Before it is acknowledged the recovery is under way.
   pub recovery_goes : (later : List Configuration) → IsUnderway group past (is_read left) found (recovery_changes ++ later) recovery_past
   recovery_goes later =
@@ -219,6 +226,7 @@ module _ {group : List ℕ} {D : Type 0} (past : Past (groups group)) (state : B
         since = begun_with.1;
         issued = length recovery_changes;
         few = less_first recovery_changes later;
+        loses = loss_issued;
         acked = past.changes.acked;
         stands = inl refl;
         most = omega arith;
@@ -233,6 +241,7 @@ module _ {group : List ℕ} {D : Type 0} (past : Past (groups group)) (state : B
     since = begun_with.1;
     issued = length recovery_changes;
     few = less_first recovery_changes later;
+    loses = loss_issued;
     acked = recovery_last;
     stands = inr (omega arith);
     most = omega arith;

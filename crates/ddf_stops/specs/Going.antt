@@ -31,12 +31,14 @@ module _ (group : List ℕ) where
   issue_all past (next ∷ others) = issue_all (issue past next) others
 
   -- Behind what the call assembled, the first of its changes are issued, so many, and this is the last that is acknowledged: it was so at
-  -- entry, or what was assembled is, or one of them.
+  -- entry, or what was assembled is, or one of them. Where members are absent their loss is the first, so that no slot counts as lost before it
+  -- is issued.
   pub record IsUnderway (past : Past (groups group)) (readable : ℕ → Bool) (found : GroupValue) (changes : List Configuration) (now : Past (groups group)) : Type 0 where
     pub number : ℕ
     pub since : IsSince past.changes number found.config
     pub issued : ℕ
     pub few : issued ≤ length changes
+    pub loses : some found.absent ≡ true → 1 ≤ issued
     pub acked : ℕ
     pub stands : (acked ≡ past.changes.acked) ⊎ (number ≤ acked)
     pub most : acked ≤ number + issued

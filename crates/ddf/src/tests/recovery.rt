@@ -191,19 +191,15 @@ fn assert_recovered(
 fn a_stop_leaves_the_group_before_or_after_a_change(rt: HostRuntime) -> Result<(), Fail> {
     let alloc = rt.alloc();
     let calls = 3 * READS + 3 + 3 * UPDATE;
-    // Every sixth call, others for each of these; the recovery is stopped at a call of its own.
-    let keeps = [
-        (0, [false; WRITES]),
-        (2, [true; WRITES]),
-        (4, every_second()),
-    ];
-    for (first, keep) in &keeps {
-        for call in (3 * READS + *first..=calls).step_by(6) {
-            let stop = call * 7 % calls;
-            let mut bay = three_disks(&rt, alloc, Some(call))?;
-            let (status, _) = answer_of(&rt, alloc, &mut bay, CREATE)?;
-            let made = assert_recovered(&rt, alloc, bay, keep, Some(stop))?;
-            assert!(rt; made || status != 0);
+    for keep in &[[false; WRITES], [true; WRITES], every_second()] {
+        for call in 3 * READS..=calls {
+            // The recovery is stopped at every tenth call, others for each call.
+            for stop in (call % 10..calls).step_by(10) {
+                let mut bay = three_disks(&rt, alloc, Some(call))?;
+                let (status, _) = answer_of(&rt, alloc, &mut bay, CREATE)?;
+                let made = assert_recovered(&rt, alloc, bay, keep, Some(stop))?;
+                assert!(rt; made || status != 0);
+            }
         }
     }
     Ok(())

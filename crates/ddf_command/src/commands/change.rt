@@ -5,12 +5,14 @@ ghost use Rattle.ddf_bay.specs.Moments.{GoesOn};
 ghost use Rattle.ddf_bay.specs.ReadsOnly.{ReadsOnly};
 ghost use Rattle.ddf_bytes.specs.Streams.{SinkRose};
 ghost use Rattle.ddf_assembly.specs.Asked.{CanBeAsked};
+ghost use Rattle.ddf_assembly.specs.Committed.{slots_of};
 ghost use Rattle.ddf_assembly.specs.Ready.{readied};
 ghost use Rattle.ddf_assembly.specs.Recovery.{config_recovered, loss_of};
 ghost use Rattle.ddf_assembly.specs.Steps.{Step};
 ghost use Rattle.ddf_command.specs.Call.{answer_of, work_of};
 ghost use Rattle.ddf_command.specs.Change.{IsChanged, IsToldChange, KeepsHistories, steps_or};
 ghost use Rattle.ddf_command.specs.GroupRead.{IsFoundBy, IsGroupRead, IsReadFrom};
+ghost use Rattle.ddf_command.specs.Others.{LeavesOthers};
 ghost use Rattle.ddf_command.specs.Status.{code_of};
 
 use crate::failure::{Failure, tell_failure};
@@ -64,7 +66,8 @@ pub(crate) fn write_changes<B: Bay>(
     requires one { length changes.now ≤ 1 }
     ensures changed { IsChanged (work_of B.tells (B.disks bay.old) (B.disks bay.new)) group.old (steps_or (readied group.old changes.now timestamp)) result }
 
-    // Each history that admits the call is kept, from entry to exit.
+    // From entry to exit slots that are no seats' are left as before, and each history that admits the call is kept.
+    ensures beside { B.tells → LeavesOthers (B.disks bay.old) (B.disks bay.new) (slots_of group.old.seats) }
     ensures keeps { B.tells → (left : List Bool) (named : Option (List ℕ)) → IsFoundBy (B.disks bay.old) left named group.old → (steps : List Step) → readied group.old changes.now timestamp ≡ Ok steps
         → KeepsHistories (B.disks bay.old) (B.disks bay.new) left group.old steps result }
     ensures goes_on { GoesOn (B.disks bay.old) (B.disks bay.new) }

@@ -33,7 +33,7 @@ returns-in_err-write_changes-clause-told g c =
     let changed = rw c.timestamp.ensures at written.changed in
     let keeps = rw c.timestamp.ensures at written.keeps in
     rw (failed.1, failed.2)
-    (told_not c.in_err-write_changes.was (has_changed _ _ _ _ read.reads read.reads_rise read.writes_rise _ _ _ _ _ _ c.in_ok-group.ensures.read refl written.reads_rise written.writes_rise changed keeps))
+    (told_not c.in_err-write_changes.was (has_changed _ _ _ _ read.reads read.reads_rise read.writes_rise _ _ _ _ _ _ c.in_ok-group.ensures.read refl written.reads_rise written.writes_rise changed keeps written.beside))
 
 pub returns-clause-told : goal.returns-clause-told
 returns-clause-told g c =
@@ -43,6 +43,6 @@ returns-clause-told g c =
     let keeps = rw c.timestamp.ensures at written.keeps in
     let text = c.in_ok-text.ensures ∙ ap (λ config. group_text config c.seats.result.now) c.recovered.ensures ∙ ap (group_text (config_recovered c.in_ok-group.group)) c.seats.ensures in
     told_text c.in_ok-write_changes.was
-    (has_changed _ _ _ _ read.reads read.reads_rise read.writes_rise _ _ _ _ _ _ c.in_ok-group.ensures.read refl written.reads_rise written.writes_rise changed keeps)
-    (changed_group _ _ _ _ read.reads read.reads_rise read.writes_rise _ _ _ _ _ _ c.in_ok-group.ensures.read refl written.reads_rise written.writes_rise changed keeps)
+    (has_changed _ _ _ _ read.reads read.reads_rise read.writes_rise _ _ _ _ _ _ c.in_ok-group.ensures.read refl written.reads_rise written.writes_rise changed keeps written.beside)
+    (changed_group _ _ _ _ read.reads read.reads_rise read.writes_rise _ _ _ _ _ _ c.in_ok-group.ensures.read refl written.reads_rise written.writes_rise changed keeps written.beside)
     text

@@ -5,10 +5,14 @@ use Rattle.ddf_bay.specs.Moments.{StopsLeave}
 use Rattle.ddf_bay.proofs.Looks.{reads_start}
 use Rattle.ddf_update.specs.Changes.{IsLeftChangingAll, MayChangeAll, SlotChange}
 use Rattle.ddf_update.specs.Group.{IsOneOf, LieOnSlots}
-use Rattle.ddf_assembly.specs.Committed.{group_next, group_recovered, next_slots, next_updates}
+use Rattle.ddf_assembly.specs.Committed.{group_next, group_recovered, next_slots, next_updates, slots_of}
 use Rattle.ddf_assembly.specs.Group.{GroupValue}
 use Rattle.ddf_assembly.specs.Ready.{ReadyValue}
 use Rattle.ddf_command.proofs.Recovering.{Commits, commit_failed, done_to, first_lies, recover_failed, rest_lies, slots_there, was_readied}
+use Rattle.ddf_assembly.proofs.Committed.{may_write_next}
+use Rattle.ddf_assembly.proofs.RecoveredGroup.{recovered_ready}
+use Rattle.ddf_assembly.proofs.RecoveryWritten.{may_recover, recovered_held}
+use Rattle.ddf_command.proofs.Beside.{commit_beside, reads_beside, recovery_beside}
 use Rattle.ddf_command.proofs.Keeping.{Tells, commit_keeps, done_keeps, reads_keep, recover_keeps}
 use Rattle.ddf_command.proofs.Writing.{none_asked}
 use Rattle.ddf_command.proofs.commands.change.write_changes.Goals as goal
@@ -152,3 +156,51 @@ returns-clause-keeps g c = λ told left named by steps asked group same past kep
     (g.met.B.Bay.held_is_left c.args.bay.now) left named by steps asked group same past kept admitted middle c.recover.ensures.spends.same_sizes (c.recover.ensures.any_moment told) tell
     (c.in_ok-recover.ensures.changed told) (c.in_ok-recover.ensures.settled told) new c.commit.ensures.spends.same_sizes next tell_new (g.met.B.Bay.only_now c.recover.new.bay)
     (subst (λ (one : ReadyValue). Commits middle new one) c.recover.ensures.left (c.in_ok-commit.ensures.changed told))
+
+pub returns-in_err-ready-clause-beside : goal.returns-in_err-ready-clause-beside
+returns-in_err-ready-clause-beside g c = λ told.
+    reads_beside (g.B.Bay.disks c.args.bay.now) (g.B.Bay.disks c.args.bay.now) (slots_of c.args.group.now.seats) (reads_start (g.B.Bay.disks c.args.bay.now))
+
+pub returns-in_err-recover-clause-beside : goal.returns-in_err-recover-clause-beside
+returns-in_err-recover-clause-beside g c = λ told.
+    let old = g.B.Bay.disks c.args.bay.now in
+    let middle = g.B.Bay.disks c.recover.new.bay in
+    let made = c.in_ok-ready.ensures in
+    let was = was_readied c.args.group.now c.args.changes.now c.args.timestamp c.in_ok-ready.ready c.requires.from.assembled c.ranges.timestamp.fits made.readied made.recovery made.recovers made.follows in
+    let may = may_recover c.args.group.now c.args.changes.now c.args.timestamp c.in_ok-ready.ready was old (c.requires.from.held told) (c.requires.from.stand told) in
+    let moments = c.recover.ensures.any_moment told may.seat may.may_change in
+    recovery_beside g.B.Bay.tells old c.args.group.now c.args.changes.now c.args.timestamp c.in_ok-ready.ready c.requires.from was may middle moments
+
+pub returns-in_err-commit-clause-beside : goal.returns-in_err-commit-clause-beside
+returns-in_err-commit-clause-beside g c = λ told.
+    let old = g.B.Bay.disks c.args.bay.now in
+    let middle = g.B.Bay.disks c.recover.new.bay in
+    let made = c.in_ok-ready.ensures in
+    let was = was_readied c.args.group.now c.args.changes.now c.args.timestamp c.in_ok-ready.ready c.requires.from.assembled c.ranges.timestamp.fits made.readied made.recovery made.recovers made.follows in
+    let may = may_recover c.args.group.now c.args.changes.now c.args.timestamp c.in_ok-ready.ready was old (c.requires.from.held told) (c.requires.from.stand told) in
+    let moments = c.recover.ensures.any_moment told may.seat may.may_change in
+    let new = g.B.Bay.disks c.commit.new.bay in
+    let first = c.in_ok-recover.ensures.changed told may.seat may.may_change in
+    let rest : ReadyValue = record { recovery = None; steps = c.in_ok-ready.ready.steps } in
+    let may_rest = may_write_next middle (group_recovered c.args.group.now c.in_ok-ready.ready.recovery) rest
+    (recovered_held c.args.group.now c.args.changes.now c.args.timestamp c.in_ok-ready.ready was old middle c.recover.ensures.spends.same_sizes (c.requires.from.held told) (c.requires.from.stand told) may first) (recovered_ready c.args.group.now c.args.changes.now c.args.timestamp c.in_ok-ready.ready was) in
+    let next = subst (λ (one : ReadyValue). (seat : ℕ → SlotChange) → MayChangeAll middle (next_slots one) seat (next_updates one) → StopsLeave middle new (IsLeftChangingAll middle (next_slots one) seat (next_updates one)))
+    c.recover.ensures.left (c.commit.ensures.any_moment told) in
+    commit_beside g.B.Bay.tells old c.args.group.now c.args.changes.now c.args.timestamp c.in_ok-ready.ready c.requires.from was may middle moments first may_rest.seat new (next may_rest.seat may_rest.may_change)
+
+pub returns-clause-beside : goal.returns-clause-beside
+returns-clause-beside g c = λ told.
+    let old = g.B.Bay.disks c.args.bay.now in
+    let middle = g.B.Bay.disks c.recover.new.bay in
+    let made = c.in_ok-ready.ensures in
+    let was = was_readied c.args.group.now c.args.changes.now c.args.timestamp c.in_ok-ready.ready c.requires.from.assembled c.ranges.timestamp.fits made.readied made.recovery made.recovers made.follows in
+    let may = may_recover c.args.group.now c.args.changes.now c.args.timestamp c.in_ok-ready.ready was old (c.requires.from.held told) (c.requires.from.stand told) in
+    let moments = c.recover.ensures.any_moment told may.seat may.may_change in
+    let new = g.B.Bay.disks c.commit.new.bay in
+    let first = c.in_ok-recover.ensures.changed told may.seat may.may_change in
+    let rest : ReadyValue = record { recovery = None; steps = c.in_ok-ready.ready.steps } in
+    let may_rest = may_write_next middle (group_recovered c.args.group.now c.in_ok-ready.ready.recovery) rest
+    (recovered_held c.args.group.now c.args.changes.now c.args.timestamp c.in_ok-ready.ready was old middle c.recover.ensures.spends.same_sizes (c.requires.from.held told) (c.requires.from.stand told) may first) (recovered_ready c.args.group.now c.args.changes.now c.args.timestamp c.in_ok-ready.ready was) in
+    let next = subst (λ (one : ReadyValue). (seat : ℕ → SlotChange) → MayChangeAll middle (next_slots one) seat (next_updates one) → StopsLeave middle new (IsLeftChangingAll middle (next_slots one) seat (next_updates one)))
+    c.recover.ensures.left (c.commit.ensures.any_moment told) in
+    commit_beside g.B.Bay.tells old c.args.group.now c.args.changes.now c.args.timestamp c.in_ok-ready.ready c.requires.from was may middle moments first may_rest.seat new (next may_rest.seat may_rest.may_change)

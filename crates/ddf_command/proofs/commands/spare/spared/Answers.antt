@@ -39,4 +39,4 @@ returns-clause-changed g c =
     let written = c.write_changes.ensures in
     let changed = rw (c.from_ref.ensures.value, c.timestamp.ensures) at written.changed in
     let keeps = rw (c.from_ref.ensures.value, c.timestamp.ensures) at written.keeps in
-    has_changed _ _ _ _ read.reads read.reads_rise read.writes_rise _ _ _ _ _ _ c.in_ok-group.ensures.read (same ∙ ap alone c.in_ok-change.ensures) written.reads_rise written.writes_rise changed keeps
+    has_changed _ _ _ _ read.reads read.reads_rise read.writes_rise _ _ _ _ _ _ c.in_ok-group.ensures.read (same ∙ ap alone c.in_ok-change.ensures) written.reads_rise written.writes_rise changed keeps written.beside
