@@ -1,12 +1,13 @@
 -- How the bytes that a stop may leave go on while records are added and made sure, and through a stop.
-use Rattle.std.specs.Prelude.{◌≡◌, ◌≢◌, ◌⊎◌, ℕ, suc, ◌+◌, ◌-◌, ◌<◌, ◌≤◌, List, [], ◌∷◌, ◌++◌, length, get_or, Bool, ◌&&◌, if◌then◌else◌, drop, IsTrue}
+use Rattle.std.specs.Prelude.{◌≡◌, ◌≢◌, ◌⊎◌, ℕ, zero, suc, ◌+◌, ◌-◌, ◌<◌, ◌≤◌, List, [], ◌∷◌, ◌++◌, length, get_or, Bool, ◌&&◌, if◌then◌else◌, drop, IsTrue, true, false, ◌==◌, nat_lt, slice_index}
+use Rattle.std.specs.List.{list_all}
 use Rattle.std.proofs.Common.{inl, inr, ⊎_elim, refl, sym, ◌∙◌, ap, arith}
 use Rattle.std.proofs.Math.Path.{fun_ext}
-use Rattle.std.proofs.lemmas.Bool.{cases_lt}
+use Rattle.std.proofs.lemmas.Bool.{cases_lt, false≢true}
 use Rattle.std.proofs.lemmas.Grind.{common_steps}
 use Rattle.ddf_bay.specs.declared.record.Record.{Record}
-use Rattle.ddf_bay.specs.Sectors.{InRun, put_run}
-use Rattle.ddf_bay.specs.Records.{held_of, zeros, is_at, is_sure, newest, sure_bytes, IsPending, MayHold, are_past, are_whole, settled, run_records, survivors}
+use Rattle.ddf_bay.specs.Sectors.{InRun, IsWhole, put_run}
+use Rattle.ddf_bay.specs.Records.{held_of, zeros, is_at, is_sure, newest, sure_bytes, IsPending, MayHold, are_past, are_whole, is_whole, settled, run_records, survivors}
 
 -- records that tell of no later moment still don't when time goes on
 pub past_later : (m n : ℕ) (rs : List Record) → m ≤ n → IsTrue (are_past m rs) → IsTrue (are_past n rs)
@@ -220,25 +221,52 @@ left_after_sync m slot now rs s l v lt (inl e) = inl (e ∙ sym (sure_sync m slo
 left_after_sync m slot now rs s l v lt (inr h) = inr (pending_after_sync m slot now rs s l v lt h)
 
 -- Each record has the bytes of a whole sector, and so has what a stop may leave.
-sure_whole : (m : ℕ) (rs : List Record) (s l : ℕ) (d : List ℕ) → IsTrue (are_whole rs) → length d ≡ 512 → length (sure_bytes m rs s l d) ≡ 512
-sure_whole m [] s l d whole long = long
-sure_whole m (r ∷ rs) s l d whole long = grind (arith, common_steps, sure_whole m rs s l)
+both_parts : (a b : Bool) → IsTrue (a && b) → IsTrue a × IsTrue b
+both_parts true b both = (refl, both)
+both_parts false b both = absurd (false≢true both)
 
-pending_whole : (m : ℕ) (rs : List Record) (s l : ℕ) (v : List ℕ) → IsTrue (are_whole rs) → IsPending m rs s l v → length v ≡ 512
+sure_whole : (m : ℕ) (rs : List Record) (s l : ℕ) (d : List ℕ) → IsTrue (are_whole rs) → IsTrue (is_whole d) → IsTrue (is_whole (sure_bytes m rs s l d))
+sure_whole m [] s l d whole own = own
+sure_whole m (r ∷ rs) s l d whole own = grind (arith, common_steps, sure_whole m rs s l)
+
+pending_whole : (m : ℕ) (rs : List Record) (s l : ℕ) (v : List ℕ) → IsTrue (are_whole rs) → IsPending m rs s l v → IsTrue (is_whole v)
 pending_whole m [] s l v whole h = absurd h
-pending_whole m (r ∷ rs) s l v whole h = grind (arith, common_steps, pending_whole m rs s l v)
+pending_whole m (r ∷ rs) s l v whole (inl h) = rw h.1 (both_parts (is_whole r.bytes) (are_whole rs) whole).0
+pending_whole m (r ∷ rs) s l v whole (inr h) = pending_whole m rs s l v (both_parts (is_whole r.bytes) (are_whole rs) whole).1 h
 
-zeros_whole : length zeros ≡ 512
+zeros_whole : IsTrue (is_whole zeros)
 unfolding zeros
 zeros_whole = refl
 
-pub left_whole : (m : ℕ) (rs : List Record) (s l : ℕ) (v : List ℕ) → IsTrue (are_whole rs) → MayHold m rs s l v → length v ≡ 512
-left_whole m rs s l v whole (inl e) = ap length e ∙ sure_whole m rs s l zeros whole zeros_whole
-left_whole m rs s l v whole (inr h) = pending_whole m rs s l v whole h
+-- what the test of a sector says
+whole_is : (bytes : List ℕ) → IsTrue (is_whole bytes) → IsWhole bytes
+whole_is bytes whole =
+    let both = both_parts (length bytes == 512) (list_all (λ (byte : ℕ). nat_lt byte 256) bytes) whole in
+    record {
+      size = grind (arith, common_steps);
+      are_bytes = λ i. all_bytes bytes i both.1;
+    }
+  where
+    all_bytes : (bytes : List ℕ) (i : ℕ) → IsTrue (list_all (λ (byte : ℕ). nat_lt byte 256) bytes) → slice_index bytes i < 256
+    all_bytes [] i all = omega arith
+    all_bytes (b ∷ bs) zero all = grind (arith, common_steps)
+    all_bytes (b ∷ bs) (suc i) all = grind (arith, common_steps, all_bytes bs i)
 
-pub whole_added : (rs : List Record) (r : Record) → IsTrue (are_whole rs) → length r.bytes ≡ 512 → IsTrue (are_whole (rs ++ r ∷ []))
-whole_added [] r whole long = grind (arith, common_steps)
-whole_added (q ∷ rs) r whole long = grind (arith, common_steps, whole_added rs r)
+pub left_whole : (m : ℕ) (rs : List Record) (s l : ℕ) (v : List ℕ) → IsTrue (are_whole rs) → MayHold m rs s l v → IsWhole v
+left_whole m rs s l v whole (inl e) = whole_is v (rw e (sure_whole m rs s l zeros whole zeros_whole))
+left_whole m rs s l v whole (inr h) = whole_is v (pending_whole m rs s l v whole h)
+
+-- what every list of bytes meets
+pub all_bytes_true : (bytes : List ℕ) → ((i : ℕ) → slice_index bytes i < 256) → IsTrue (list_all (λ (byte : ℕ). nat_lt byte 256) bytes)
+all_bytes_true [] are = refl
+all_bytes_true (b ∷ bs) are =
+    let first : b < 256 = are 0 in
+    let rest = all_bytes_true bs (λ i. are (suc i)) in
+    grind (arith, common_steps)
+
+pub whole_added : (rs : List Record) (r : Record) → IsTrue (are_whole rs) → IsTrue (is_whole r.bytes) → IsTrue (are_whole (rs ++ r ∷ []))
+whole_added [] r whole own = grind (arith, common_steps)
+whole_added (q ∷ rs) r whole own = grind (arith, common_steps, whole_added rs r)
 
 pub whole_sync : (slot now : ℕ) (rs : List Record) → IsTrue (are_whole rs) → IsTrue (are_whole (settled slot now rs))
 whole_sync slot now [] whole = whole

@@ -1,5 +1,6 @@
 -- What a bay in memory holds: a record for each sector written, in the order of the writes, over zeros.
-use Rattle.std.specs.Prelude.{◌≡◌, ◌⊎◌, ℕ, ◌+◌, ◌≤◌, List, [], ◌∷◌, length, replicate, drop, Bool, true, false, not, ◌==◌, ◌&&◌, nat_le, if◌then◌else◌, map, filter, Option, Some, None, IsTrue, is_none, is_some}
+use Rattle.std.specs.Prelude.{◌≡◌, ◌⊎◌, ℕ, ◌+◌, ◌≤◌, List, [], ◌∷◌, length, replicate, drop, Bool, true, false, not, ◌==◌, ◌&&◌, nat_le, nat_lt, if◌then◌else◌, map, filter, Option, Some, None, IsTrue, is_none, is_some}
+use Rattle.std.specs.List.{list_all}
 use Rattle.ddf_bay.specs.Sectors.{Image}
 use Rattle.ddf_bay.specs.declared.record.Record.{Record}
 
@@ -54,10 +55,14 @@ pub record LeftSince (clock : ℕ) (rs : List Record) (t : ℕ) (image : Image) 
   pub until : moment ≤ clock
   pub left : (s l : ℕ) → MayHold moment rs s l (image s l)
 
+-- 512 of them, each less than 256
+abbrev pub is_whole : List ℕ → Bool
+is_whole bytes = (length bytes == 512) && list_all (λ byte. nat_lt byte 256) bytes
+
 -- each record has the bytes of a whole sector
 abbrev pub are_whole : List Record → Bool
 are_whole [] = true
-are_whole (r ∷ rs) = (length r.bytes == 512) && are_whole rs
+are_whole (r ∷ rs) = is_whole r.bytes && are_whole rs
 
 -- no moment that the record tells of is later than this one
 abbrev pub is_past : ℕ → Record → Bool

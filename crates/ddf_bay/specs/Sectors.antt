@@ -1,5 +1,5 @@
 -- The sectors of a bay, and what may stand at each of them after a stop.
-use Rattle.std.specs.Prelude.{◌≡◌, ℕ, ◌+◌, ◌-◌, ◌<◌, ◌≤◌, List, [], length, slice_index_or, nat_lt, nat_le, ◌==◌, ◌&&◌, if◌then◌else◌}
+use Rattle.std.specs.Prelude.{◌≡◌, ℕ, ◌+◌, ◌-◌, ◌<◌, ◌≤◌, List, [], length, slice_index, slice_index_or, nat_lt, nat_le, ◌==◌, ◌&&◌, if◌then◌else◌}
 
 -- the bytes of each sector of each slot, at one moment
 abbrev pub Image : Type 0
@@ -23,6 +23,11 @@ put_run image slot lba sectors s l =
 -- each sector by itself has bytes that it may have
 abbrev pub IsLeft : Outcomes → Image → Type 0
 IsLeft may image = (s l : ℕ) → may s l (image s l)
+
+-- the bytes of a whole sector: 512 of them
+pub record IsWhole (bytes : List ℕ) : Type 0 where
+  pub size : length bytes ≡ 512
+  pub are_bytes : (i : ℕ) → slice_index bytes i < 256
 
 -- the sectors of a slot as read from lba on
 abbrev pub IsRead : (ℕ → List ℕ) → ℕ → List (List ℕ) → Type 0

@@ -1,7 +1,7 @@
 // A bay of disks: numbered slots of sectors, of which a stop leaves some of what was written since the last good sync.
 ghost use Rattle.std.specs.Prelude.{◌≡◌, ◌<◌, ◌≤◌, ◌+◌, ◌^◌, [], ◌∷◌, List, ℕ, length, OnOk, OnErr, slice_index};
 ghost use Rattle.ddf_bytes.specs.Counts.{Rose};
-ghost use Rattle.ddf_bay.specs.Sectors.{IsLeft, IsRead, put_run};
+ghost use Rattle.ddf_bay.specs.Sectors.{IsLeft, IsRead, IsWhole, put_run};
 ghost use Rattle.ddf_bay.specs.State.{BayState};
 ghost use Rattle.ddf_bay.specs.Moments.{StopsLeave, Remembers, SpendsReads, SpendsWrites, Keeps, Adds, Mixes, IsSettled, IsAmong};
 
@@ -116,8 +116,8 @@ pub trait Bay {
     /// Where an image is told, the bay tells at this moment what a stop may leave.
     ghost told_since: { (bay : Self) (t : ℕ) (image : ℕ → ℕ → List ℕ) → (disks bay).left_since t image → (disks bay).tells_left };
 
-    /// A sector is whole: what a stop may leave in it has 512 bytes.
-    ghost whole: { (bay : Self) (s l : ℕ) (bytes : List ℕ) → (disks bay).may_hold s l bytes → length bytes ≡ 512 };
+    /// A sector is whole: what a stop may leave in it is 512 bytes.
+    ghost whole: { (bay : Self) (s l : ℕ) (bytes : List ℕ) → (disks bay).may_hold s l bytes → IsWhole bytes };
 
     /// A bay is one that calls may make of it: none has to change it.
     ghost leads: { (bay : Self) → (disks bay).leads_to bay };

@@ -1,7 +1,8 @@
-ghost use Rattle.std.specs.Prelude.{◌≡◌, ◌<◌, ◌≤◌, ◌+◌, ◌-◌, ◌^◌, [], ◌∷◌, ◌++◌, List, length, vec_len, vec_capacity, IfOk, IsTrue};
+ghost use Rattle.std.specs.Prelude.{◌≡◌, ◌<◌, ◌≤◌, ◌+◌, ◌-◌, ◌^◌, [], ◌∷◌, ◌++◌, List, length, vec_len, vec_capacity, IfOk, IsTrue, nat_lt};
+ghost use Rattle.std.specs.List.{list_all};
 ghost use Rattle.std.specs.HashMap.{hash_map_len, spare};
 ghost use Rattle.ddf_bay.specs.Sectors.{IsRead};
-ghost use Rattle.ddf_bay.specs.Records.{are_whole, held_of, newest, zeros, settled, run_records, survivors};
+ghost use Rattle.ddf_bay.specs.Records.{are_whole, is_whole, held_of, newest, zeros, settled, run_records, survivors};
 ghost use Rattle.ddf_bay.specs.Finding.{noted, Finds, IsWithin};
 
 use crate::index::{Index, Place, note};
@@ -63,7 +64,7 @@ impl Log {
     #[tactic(auto, using(crate::specs::RecordLaws::whole_added))]
     fn push_one(&mut self, entry: Record)
         requires room { 0 < self.old.room }
-        requires whole { length entry.bytes ≡ 512 }
+        requires whole { IsTrue (is_whole entry.bytes) }
         ensures records { self.new.records.items ≡ self.old.records.items ++ entry ∷ [] }
         ensures room { self.new.room + 1 ≡ self.old.room }
     {
@@ -124,10 +125,16 @@ impl Log {
 /// The bytes of a sector.
 fn bytes_of(sector: &Sector) -> Sector
     ensures value { result ≡ sector.now }
-    ensures whole { length result ≡ 512 }
+    ensures whole { IsTrue (is_whole result) }
 {
+    are_bytes(sector);
     *sector
 }
+
+/// Each of them is a byte.
+fn are_bytes(bytes: &[u8])
+    ensures { IsTrue (list_all (λ byte. nat_lt byte 256) bytes.now) }
+{}
 
 /// A sector that was never written.
 fn blank() -> Sector

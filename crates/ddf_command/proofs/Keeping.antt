@@ -3,7 +3,7 @@ use Rattle.std.proofs.Common.{◌≡◌, ◌⊎◌, ℕ, ◌≤◌, Bool, true, 
 use Rattle.std.specs.List.{AllByRecursion}
 use Rattle.ddf_bay.specs.Moments.{StopsLeave}
 use Rattle.ddf_bay.specs.ReadsOnly.{ReadsOnly}
-use Rattle.ddf_bay.specs.Sectors.{Image, IsLeft}
+use Rattle.ddf_bay.specs.Sectors.{Image, IsLeft, IsWhole}
 use Rattle.ddf_bay.specs.State.{BayState}
 use Rattle.ddf_plan.specs.declared.change.Change.{Change}
 use Rattle.ddf_update.specs.Changes.{AreChanged, IsLeftChangingAll, MayChangeAll, SlotChange}
@@ -19,7 +19,7 @@ use Rattle.ddf_assembly.proofs.Committed.{may_write_next}
 use Rattle.ddf_assembly.proofs.RecoveredGroup.{recovered_ready}
 use Rattle.ddf_assembly.proofs.RecoveryWritten.{may_recover, recovered_held}
 use Rattle.ddf_stops.specs.Going.{IsAdmitted, KeepsHistory, changes_in}
-use Rattle.ddf_stops.specs.Kept.{AreAllKept}
+use Rattle.ddf_stops.specs.Kept.{AreAllKept, ReadsTrue}
 use Rattle.ddf_stops.proofs.Calling as calling
 use Rattle.ddf_stops.proofs.Calling.{only_reads}
 use Rattle.ddf_stops.proofs.Entering.{keeps_since_entry, keeps_where_told}
@@ -52,6 +52,13 @@ module _ {D : Type 0} (old : BayState D) (found : GroupValue) (ready : ReadyValu
   EndsSynced middle = (seat : ℕ → SlotChange) → MayChangeAll (synced old (slots_of found.seats)) (recovery_slots ready) seat (recovery_updates ready)
       → LeavesSynced old middle (slots_of found.seats) (recovery_slots ready) seat (recovery_updates ready)
 
+-- Where a bay tells what a stop may leave, what it holds is of that, and bytes.
+pub reads_true : {D : Type 0} (disks : BayState D) → (disks.tells_left → IsLeft disks.may_hold disks.held)
+    → ((s l : ℕ) (bytes : List ℕ) → disks.may_hold s l bytes → IsWhole bytes) → disks.tells_left → ReadsTrue disks
+reads_true disks held whole tells =
+    let is_left = held tells in
+    record { is_left = is_left; holds_bytes = λ slot l. whole slot l (disks.held slot l) (is_left slot l) }
+
 -- A bay tells of what it holds where it tells of an image.
 pub record Tells {D : Type 0} (old new : BayState D) : Type 0 where
   pub told : (t : ℕ) (image : Image) → new.left_since t image → new.tells_left
@@ -61,7 +68,7 @@ pub record Tells {D : Type 0} (old new : BayState D) : Type 0 where
 
 module _ {D : Type 0} (tells : Type 0) (old : BayState D) (found : GroupValue) (changes : List Change) (timestamp : ℕ) (ready : ReadyValue) (from : IsReadFrom tells old found)
     (was : WasReadied found changes timestamp ready) (can : AllByRecursion CanBeAsked changes) (few : length changes ≤ 1) (told : tells)
-    (held_left : old.tells_left → IsLeft old.may_hold old.held)
+    (reads_true : old.tells_left → ReadsTrue old)
     (left : List Bool) (named : Option (List ℕ)) (found_by : IsFoundBy old left named found) (steps : List Step) (are_asked : readied found changes timestamp ≡ Ok steps) where
   -- the steps are those that are ready
   steps_are : steps_in (all_ready ready) ≡ steps
@@ -76,11 +83,11 @@ module _ {D : Type 0} (tells : Type 0) (old : BayState D) (found : GroupValue) (
     Keeps new done = KeepsHistory group old new past left found (changes_in found (steps_in (all_ready ready))) done
 
     -- It is kept where the bay tells of an image.
-    where_told : (new : BayState D) (done : Bool) → Tells old new → old.moment ≤ new.moment → (IsLeft old.may_hold old.held → Keeps new done)
+    where_told : (new : BayState D) (done : Bool) → Tells old new → old.moment ≤ new.moment → (ReadsTrue old → Keeps new done)
         → KeepsHistory group old new past left found (changes_in found steps) done
     where_told new done tell later keeps =
         subst (λ (all : List Step). KeepsHistory group old new past left found (changes_in found all) done) steps_are
-        (keeps_where_told group past left found (changes_in found (steps_in (all_ready ready))) done old new later tell.told (λ tells_left. held_left (tell.back tells_left)) keeps)
+        (keeps_where_told group past left found (changes_in found (steps_in (all_ready ready))) done old new later tell.told (λ tells_left. reads_true (tell.back tells_left)) keeps)
 
     module _ (middle : BayState D) (same_sizes : middle.sizes ≡ old.sizes) (moments : Moments old found ready middle) (tell : Tells old middle) where
       stops : StopsLeave old middle (MayLeave old found ready may.seat)
@@ -90,7 +97,7 @@ module _ {D : Type 0} (tells : Type 0) (old : BayState D) (found : GroupValue) (
       pub recover_keeps : EndsSynced old found ready middle → KeepsHistory group old middle past left found (changes_in found steps) false
       recover_keeps ends =
           where_told middle false tell stops.later
-          (λ is_left. calling.recovery_failed past old left named found kept admitted is_left found_by.every_slot found_by.is_found same_group (from.held told) (from.stand told) from.under from.seats
+          (λ reads. calling.recovery_failed past old left named found kept admitted reads found_by.every_slot found_by.is_found same_group (from.held told) (from.stand told) from.under from.seats
           changes timestamp ready was may can few middle same_sizes stops (ends may.seat may.may_change))
 
       module _ (recovers : Recovers tells old found changes timestamp ready from was middle) (settles : Settles tells old found changes timestamp ready from was middle) where
@@ -126,14 +133,14 @@ module _ {D : Type 0} (tells : Type 0) (old : BayState D) (found : GroupValue) (
           pub commit_keeps : KeepsHistory group old new past left found (changes_in found steps) false
           commit_keeps =
               where_told new false both (let one = stops.later in let other = next_stops.later in omega (arith, one, other))
-              (λ is_left. calling.commit_failed past old left named found kept admitted is_left found_by.every_slot found_by.is_found same_group (from.held told) (from.stand told) from.under from.seats
+              (λ reads. calling.commit_failed past old left named found kept admitted reads found_by.every_slot found_by.is_found same_group (from.held told) (from.stand told) from.under from.seats
               changes timestamp ready was may can few middle same_sizes stops first (settles may.seat may.may_change) may_rest new new_sizes next_stops middle_left tell_new.counts only_now)
 
           -- and one that was written
           pub done_keeps : Commits middle new rest → KeepsHistory group old new past left found (changes_in found steps) true
           done_keeps commits =
               where_told new true both (let one = stops.later in let other = next_stops.later in omega (arith, one, other))
-              (λ is_left. calling.call_done past old left named found kept admitted is_left found_by.every_slot found_by.is_found same_group (from.held told) (from.stand told) from.under from.seats
+              (λ reads. calling.call_done past old left named found kept admitted reads found_by.every_slot found_by.is_found same_group (from.held told) (from.stand told) from.under from.seats
               changes timestamp ready was may can few middle same_sizes stops first (settles may.seat may.may_change) may_rest new new_sizes next_stops middle_left tell_new.counts only_now
               (commits may_rest.seat may_rest.may_change)
               (λ image was_left. tell_new.held (tell_new.told new.moment image (tell_new.counts new.moment image (omega arith) was_left))))

@@ -1,11 +1,12 @@
 -- Turning is its own inverse and keeps the length and the signature.
-use Rattle.std.specs.Prelude.{◌≡◌, ℕ, List, [], ◌∷◌, length, bit_xor, Option, Some, None, is_some, false, take}
+use Rattle.std.specs.Prelude.{◌≡◌, ◌<◌, ℕ, zero, suc, slice_index, List, [], ◌∷◌, length, bit_xor, Option, Some, None, is_some, false, take}
 use Rattle.std.specs.Int.Bits.{xor_self, xor_zero_r}
 use lib.Bits.{xor_assoc}
-use Rattle.std.proofs.Common.{refl, ap, sym, ◌∙◌}
+use Rattle.std.proofs.Common.{refl, ap, sym, ◌∙◌, subst, arith}
+use Rattle.std.proofs.lemmas.Nat.{xor_lt}
 use Rattle.std.specs.Int.{w32, to_be_bytes}
 use Rattle.ddf_linux.specs.Turning.{added}
-use Rattle.ddf_bay.specs.Sectors.{Image, Outcomes, IsLeft}
+use Rattle.ddf_bay.specs.Sectors.{Image, Outcomes, IsLeft, IsWhole}
 use Rattle.ddf_linux.specs.declared.kind.SlotKind.{SlotKind}
 use Rattle.ddf_linux.specs.Kinds.{kind_at, kind_constant, signature_of, turned_by, turn, turns}
 
@@ -23,6 +24,28 @@ unfolding added
 added_length bytes [] = refl
 added_length [] (m ∷ mask) = refl
 added_length (byte ∷ bytes) (m ∷ mask) = rw (added_length bytes mask) refl
+
+-- bytes stay bytes
+abbrev are_bytes : List ℕ → Type 0
+are_bytes bytes = (i : ℕ) → slice_index bytes i < 256
+
+added_bytes : (bytes mask : List ℕ) → are_bytes bytes → are_bytes mask → are_bytes (added bytes mask)
+unfolding added
+added_bytes bytes [] own others i = own i
+added_bytes [] (m ∷ mask) own others i = omega arith
+added_bytes (byte ∷ bytes) (m ∷ mask) own others zero = xor_lt 8 byte m (own 0) (others 0)
+added_bytes (byte ∷ bytes) (m ∷ mask) own others (suc i) = added_bytes bytes mask (λ j. own (suc j)) (λ j. others (suc j)) i
+
+mask_bytes : (constant : ℕ) → are_bytes (0 ∷ 0 ∷ 0 ∷ 0 ∷ to_be_bytes w32 constant)
+mask_bytes constant zero = omega arith
+mask_bytes constant (suc zero) = omega arith
+mask_bytes constant (suc (suc zero)) = omega arith
+mask_bytes constant (suc (suc (suc zero))) = omega arith
+mask_bytes constant (suc (suc (suc (suc zero)))) = omega arith
+mask_bytes constant (suc (suc (suc (suc (suc zero))))) = omega arith
+mask_bytes constant (suc (suc (suc (suc (suc (suc zero)))))) = omega arith
+mask_bytes constant (suc (suc (suc (suc (suc (suc (suc zero))))))) = omega arith
+mask_bytes constant (suc (suc (suc (suc (suc (suc (suc (suc i)))))))) = omega arith
 
 pub front_same : (bytes mask : List ℕ) → take 4 (added bytes (0 ∷ 0 ∷ 0 ∷ 0 ∷ mask)) ≡ take 4 bytes
 unfolding added
@@ -44,6 +67,10 @@ pub by_length : (constant : Option ℕ) (bytes : List ℕ) → length (turned_by
 by_length None bytes = refl
 by_length (Some constant) bytes = added_length bytes (0 ∷ 0 ∷ 0 ∷ 0 ∷ to_be_bytes w32 constant)
 
+by_bytes : (constant : Option ℕ) (bytes : List ℕ) → are_bytes bytes → are_bytes (turned_by constant bytes)
+by_bytes None bytes are = are
+by_bytes (Some constant) bytes are = added_bytes bytes (0 ∷ 0 ∷ 0 ∷ 0 ∷ to_be_bytes w32 constant) are (mask_bytes constant)
+
 module _ (kind : SlotKind) (lba : ℕ) (bytes : List ℕ) where
   pub turn_signature : signature_of (turn kind lba bytes) ≡ signature_of bytes
   turn_signature = by_signature (kind_constant kind lba (signature_of bytes)) bytes
@@ -57,9 +84,15 @@ module _ (kind : SlotKind) (lba : ℕ) (bytes : List ℕ) where
   pub turn_length : length (turn kind lba bytes) ≡ length bytes
   turn_length = by_length (kind_constant kind lba (signature_of bytes)) bytes
 
-  -- a sector that a stop may leave is whole
-  pub turned_whole : length (turn kind lba bytes) ≡ 512 → length bytes ≡ 512
-  turned_whole whole = sym turn_length ∙ whole
+  turn_bytes : are_bytes bytes → are_bytes (turn kind lba bytes)
+  turn_bytes are = by_bytes (kind_constant kind lba (signature_of bytes)) bytes are
+
+-- a sector that a stop may leave is whole
+pub turned_whole : (kind : SlotKind) (lba : ℕ) (bytes : List ℕ) → IsWhole (turn kind lba bytes) → IsWhole bytes
+turned_whole kind lba bytes whole = record {
+  size = sym (turn_length kind lba bytes) ∙ whole.size;
+  are_bytes = subst are_bytes (turn_twice kind lba bytes) (turn_bytes kind lba (turn kind lba bytes) whole.are_bytes);
+}
 
 -- a sector that isn't one of those that are turned
 by_none : (constant : Option ℕ) (bytes : List ℕ) → is_some constant ≡ false → turned_by constant bytes ≡ bytes

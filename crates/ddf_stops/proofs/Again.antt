@@ -58,7 +58,7 @@ module _ (sector : ℕ → List ℕ) (holds : HoldsBytes sector) where
   bytes_long : (from count : ℕ) → length (bytes_in (map sector (range_with_len from count))) ≡ 512 * count
   bytes_long from zero = refl
   bytes_long from (suc count) =
-      let size = holds.size from in
+      let size = (holds from).size in
       let rest = bytes_long (from + 1) count in
       length-append (sector from) (bytes_in (map sector (range_with_len (from + 1) count))) ∙ omega (arith, size, rest)
 
@@ -66,7 +66,7 @@ module _ (sector : ℕ → List ℕ) (holds : HoldsBytes sector) where
   bytes_are : (from count : ℕ) → AreBytes (bytes_in (map sector (range_with_len from count)))
   bytes_are from zero i = omega arith
   bytes_are from (suc count) i = elim (cases_lt i (length (sector from))) [
-    | inl less ↦ subst (λ n. n < 256) (sym (get_or_append_left (sector from) (bytes_in (map sector (range_with_len (from + 1) count))) 0 i less)) (holds.are_bytes from i)
+    | inl less ↦ subst (λ n. n < 256) (sym (get_or_append_left (sector from) (bytes_in (map sector (range_with_len (from + 1) count))) 0 i less)) ((holds from).are_bytes i)
     | inr more ↦
         subst (λ n. n < 256) (sym (get_or-append_right (sector from) (bytes_in (map sector (range_with_len (from + 1) count))) (length (sector from)) i 0 refl more))
         (bytes_are (from + 1) count (i - length (sector from)))
@@ -191,7 +191,7 @@ header_sound size sector anchor which header holds h =
     let placed = placed_parts (ltb (place_of which anchor) size) (gated size anchor which bytes (decoded (kind_of which) bytes)) header h in
     let read = gated_parts size anchor which bytes (decoded (kind_of which) bytes) header placed in
     good_has (λ (one : Header). IsSound one.geometry) (decoded (kind_of which) bytes) header read
-    (decoded_sound (kind_of which) bytes (decoded (kind_of which) bytes) (holds.size (place_of which anchor)) (holds.are_bytes (place_of which anchor)) refl)
+    (decoded_sound (kind_of which) bytes (decoded (kind_of which) bytes) ((holds (place_of which anchor)).size) ((holds (place_of which anchor)).are_bytes) refl)
 
 -- A layout has eight sections.
 eight : (bytes : List ℕ) → length (geometry_at bytes).sections ≡ 8
@@ -269,7 +269,7 @@ module _ (size : ℕ) (sector : ℕ → List ℕ) (holds : HoldsBytes sector) (a
   data_again =
       let bytes = raw.disk_data in
       let at = lba + (section_of geometry 4).offset in
-      let of = (disk_data_both_ways bytes (decoded_disk_data bytes) (holds.size at) (holds.are_bytes at) refl copy.disk_data).0 read.parts.data_is in
+      let of = (disk_data_both_ways bytes (decoded_disk_data bytes) ((holds at).size) ((holds at).are_bytes) refl copy.disk_data).0 read.parts.data_is in
       ap decoded_disk_data (disk_data_again copy.disk_data bytes of) ∙ read.parts.data_is
 
   -- So is each of its configuration records.

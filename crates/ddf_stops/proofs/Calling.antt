@@ -24,7 +24,7 @@ use Rattle.ddf_assembly.specs.Ready.{ReadyStep, ReadyValue, all_ready}
 use Rattle.ddf_assembly.specs.Slots.{newest_from}
 use Rattle.ddf_assembly.proofs.RecoveredGroup.{recovered_ready}
 use Rattle.ddf_stops.specs.Going.{Goes, IsAdmitted, IsOver, IsUnderway, KeepsHistory, changes_in}
-use Rattle.ddf_stops.specs.Kept.{AreAllKept, is_read}
+use Rattle.ddf_stops.specs.Kept.{AreAllKept, ReadsTrue, is_read}
 use Rattle.ddf_stops.proofs.AtEnd.{IsAtEnd}
 use Rattle.ddf_stops.proofs.Committing as committing
 use Rattle.ddf_stops.proofs.CommittingFirst.{IsFirstStep, first_step, no_change}
@@ -61,21 +61,21 @@ none_next : (ready : ReadyValue) → ready.steps ≡ [] → next_slots ready ≡
 none_next ready none = ap (λ (steps : List ReadyStep). next_slots (record ready { steps = steps })) none
 
 module _ {group : List ℕ} {D : Type 0} (past : Past (groups group)) (state : BayState D) (left : List Bool) (named : Option (List ℕ)) (found : GroupValue)
-    (kept : AreAllKept group past state) (admitted : IsAdmitted group past state left found) (is_left : IsLeft state.may_hold state.held)
+    (kept : AreAllKept group past state) (admitted : IsAdmitted group past state left found) (reads : ReadsTrue state)
     (every_slot : length left ≡ length state.sizes) (is : group_of (newest_from state 0 left) named ≡ Ok found) (same_group : found.config.group ≡ group)
     (held : AreHeldOn state found.newest) (stand : StandUnder state found.newest) (under : HaveAnchors state.sizes found.newest)
     (fit : SeatsFit state.sizes found.seats)
     (asked : List Change) (timestamp : ℕ) (ready : ReadyValue) (was : WasReadied found asked timestamp ready) (may : MayRecover state found ready) where
   -- the list once the recovery is issued, and once it is acknowledged
   abbrev during : Past (groups group)
-  during = recovery_past past state left named found kept admitted is_left every_slot is same_group held stand under fit asked timestamp ready was may
+  during = recovery_past past state left named found kept admitted reads every_slot is same_group held stand under fit asked timestamp ready was may
 
   abbrev behind : Past (groups group)
-  behind = acknowledge during (recovery_last past state left named found kept admitted is_left every_slot is same_group held stand under fit asked timestamp ready was may)
+  behind = acknowledge during (recovery_last past state left named found kept admitted reads every_slot is same_group held stand under fit asked timestamp ready was may)
 
   -- what the recovery issues, and what the call does
   abbrev first_changes : List Configuration
-  first_changes = recovery_changes past state left named found kept admitted is_left every_slot is same_group held stand under fit asked timestamp ready was may
+  first_changes = recovery_changes past state left named found kept admitted reads every_slot is same_group held stand under fit asked timestamp ready was may
 
   abbrev changes : List Configuration
   changes = changes_in found (map (λ (one : ReadyStep). one.step) (all_ready ready))
@@ -100,10 +100,10 @@ module _ {group : List ℕ} {D : Type 0} (past : Past (groups group)) (state : B
 
   module _ (can : AllByRecursion CanBeAsked asked) (few : length asked ≤ 1) where
     during_goes : Goes group past (is_read left) found changes during
-    during_goes = inr (goes_by ready.steps refl during (recovery_goes past state left named found kept admitted is_left every_slot is same_group held stand under fit asked timestamp ready was may) can few)
+    during_goes = inr (goes_by ready.steps refl during (recovery_goes past state left named found kept admitted reads every_slot is same_group held stand under fit asked timestamp ready was may) can few)
 
     behind_goes : Goes group past (is_read left) found changes behind
-    behind_goes = inr (goes_by ready.steps refl behind (recovery_goes_on past state left named found kept admitted is_left every_slot is same_group held stand under fit asked timestamp ready was may) can few)
+    behind_goes = inr (goes_by ready.steps refl behind (recovery_goes_on past state left named found kept admitted reads every_slot is same_group held stand under fit asked timestamp ready was may) can few)
 
     -- ---- the recovery
 
@@ -114,7 +114,7 @@ module _ {group : List ℕ} {D : Type 0} (past : Past (groups group)) (state : B
       pub recovery_moments : StopsLeave state middle Shows
       recovery_moments = stops_weaken moments (λ image one. elim one [
         | inl before ↦ (past, inl refl, kept image before)
-        | inr changing ↦ (during, during_goes, recovery_kept past state left named found kept admitted is_left every_slot is same_group held stand under fit asked timestamp ready was may image changing)
+        | inr changing ↦ (during, during_goes, recovery_kept past state left named found kept admitted reads every_slot is same_group held stand under fit asked timestamp ready was may image changing)
       ])
 
       -- A recovery that failed keeps the history.
@@ -128,8 +128,8 @@ module _ {group : List ℕ} {D : Type 0} (past : Past (groups group)) (state : B
             during,
             during_goes,
             λ image was_left. rw same_sizes (elim (each image was_left) [
-              | inl before ↦ synced_kept past state left named found kept admitted is_left every_slot is same_group held stand under fit asked timestamp ready was may image before
-              | inr changing ↦ recovery_kept past state left named found kept admitted is_left every_slot is same_group held stand under fit asked timestamp ready was may image changing
+              | inl before ↦ synced_kept past state left named found kept admitted reads every_slot is same_group held stand under fit asked timestamp ready was may image before
+              | inr changing ↦ recovery_kept past state left named found kept admitted reads every_slot is same_group held stand under fit asked timestamp ready was may image changing
             ]),
           )
         ];
@@ -147,7 +147,7 @@ module _ {group : List ℕ} {D : Type 0} (past : Past (groups group)) (state : B
 
         -- the group is at the end of the history, where the disks as they read are one of the images
         at_end : IsLeft middle.may_hold middle.held → IsAtEnd group behind middle (group_recovered found ready.recovery)
-        at_end mid_left = recovery_done past state left named found kept admitted is_left every_slot is same_group held stand under fit asked timestamp ready was may middle same_sizes mid_left changed settled
+        at_end mid_left = recovery_done past state left named found kept admitted reads every_slot is same_group held stand under fit asked timestamp ready was may middle same_sizes mid_left changed settled
 
         abbrev Changing : Image → Type 0
         Changing image = IsLeftChangingAll middle (next_slots next_ready) may_write.seat (next_updates next_ready) image
@@ -161,9 +161,9 @@ module _ {group : List ℕ} {D : Type 0} (past : Past (groups group)) (state : B
         next_goes [] none = behind_goes
         next_goes (one ∷ others) first =
             let step = has_step found timestamp ready asked can few was one others first in
-            let begun = begun_with past state left named found kept admitted is_left every_slot is same_group held stand under fit asked timestamp ready was may in
+            let begun = begun_with past state left named found kept admitted reads every_slot is same_group held stand under fit asked timestamp ready was may in
             inr (subst (λ (all : List Configuration). IsUnderway group past (is_read left) found all (issue behind one.step.config)) (sym (with_next one others first step.is_first.none_behind))
-            (change_goes group past (is_read left) found begun.0 begun.1 first_changes one.step.config (recovery_last past state left named found kept admitted is_left every_slot is same_group held stand under fit asked timestamp ready was may) (inr (omega arith)) (omega arith)))
+            (change_goes group past (is_read left) found begun.0 begun.1 first_changes one.step.config (recovery_last past state left named found kept admitted reads every_slot is same_group held stand under fit asked timestamp ready was may) (inr (omega arith)) (omega arith)))
 
         -- Each image that a stop may leave then shows what it should.
         next_kept : IsLeft middle.may_hold middle.held → (steps : List ReadyStep) → ready.steps ≡ steps → (image : Image) → IsLeft middle.may_hold image ⊎ Changing image
@@ -224,13 +224,13 @@ module _ {group : List ℕ} {D : Type 0} (past : Past (groups group)) (state : B
 
             end_over : (steps : List ReadyStep) → ready.steps ≡ steps → IsOver group past (is_read left) found changes (end_by steps)
             end_over [] none =
-                subst (λ (all : List Configuration). IsOver group past (is_read left) found all behind) (sym (changes_alone found asked timestamp ready was none)) (recovery_over past state left named found kept admitted is_left every_slot is same_group held stand under fit asked timestamp ready was may)
+                subst (λ (all : List Configuration). IsOver group past (is_read left) found all behind) (sym (changes_alone found asked timestamp ready was none)) (recovery_over past state left named found kept admitted reads every_slot is same_group held stand under fit asked timestamp ready was may)
             end_over (one ∷ others) first =
                 let step = has_step found timestamp ready asked can few was one others first in
-                let begun = begun_with past state left named found kept admitted is_left every_slot is same_group held stand under fit asked timestamp ready was may in
+                let begun = begun_with past state left named found kept admitted reads every_slot is same_group held stand under fit asked timestamp ready was may in
                 subst (λ (all : List Configuration). IsOver group past (is_read left) found all (acknowledge (issue behind one.step.config) (length behind.changes.issued)))
                 (sym (with_next one others first step.is_first.none_behind))
-                (change_over group past (is_read left) found begun.0 begun.1 first_changes one.step.config (recovery_last past state left named found kept admitted is_left every_slot is same_group held stand under fit asked timestamp ready was may))
+                (change_over group past (is_read left) found begun.0 begun.1 first_changes one.step.config (recovery_last past state left named found kept admitted reads every_slot is same_group held stand under fit asked timestamp ready was may))
 
             end_kept : (steps : List ReadyStep) → ready.steps ≡ steps → (image : Image) → IsLeft new.may_hold image → IsKept (end_by steps) (scene_of new.sizes image)
             end_kept [] none image was_left =

@@ -11,12 +11,12 @@ use Rattle.ddf_history.specs.Promise.{IsKept}
 use Rattle.ddf_history.specs.Scenes.{scene_of}
 use Rattle.ddf_assembly.specs.Group.{GroupValue}
 use Rattle.ddf_stops.specs.Going.{IsAdmitted, KeepsHistory}
-use Rattle.ddf_stops.specs.Kept.{AreAllKept}
+use Rattle.ddf_stops.specs.Kept.{AreAllKept, ReadsTrue}
 
 module _ (group : List ℕ) {D : Type 0} (past : Past (groups group)) (left : List Bool) (found : GroupValue) (changes : List Configuration) (done : Bool) where
-  -- What is kept where the disks as they read are one of the images that a stop may leave is kept: a bay that tells of an image tells of that one.
+  -- What is kept where the disks read as they are is kept: a bay that tells of an image tells so.
   pub keeps_where_told : (old new : BayState D) → old.moment ≤ new.moment → ((t : ℕ) (image : Image) → new.left_since t image → new.tells_left)
-      → (new.tells_left → IsLeft old.may_hold old.held) → (IsLeft old.may_hold old.held → KeepsHistory group old new past left found changes done)
+      → (new.tells_left → ReadsTrue old) → (ReadsTrue old → KeepsHistory group old new past left found changes done)
       → KeepsHistory group old new past left found changes done
   keeps_where_told old new later told back keeps = record {
     any_moment = record { later = later; since = λ t image le was_left. (keeps (back (told t image was_left))).any_moment.since t image le was_left };
@@ -34,7 +34,6 @@ module _ (group : List ℕ) {D : Type 0} (past : Past (groups group)) (left : Li
     may_read = rw (reads.same_sizes, reads.same_held) admitted.may_read;
     member = rw (reads.same_sizes, reads.same_held) admitted.member;
     all_present = admitted.all_present;
-    are_bytes = rw reads.same_held admitted.are_bytes;
     is_kept = rw (reads.same_sizes, reads.same_held) admitted.is_kept;
   }
 

@@ -25,7 +25,7 @@ use Rattle.ddf_assembly.specs.Steps.{Step}
 use Rattle.ddf_assembly.proofs.RecoveredGroup.{is_recovered}
 use Rattle.ddf_assembly.proofs.RecoveryWritten.{recovered_anchored, recovered_held}
 use Rattle.ddf_stops.specs.Going.{IsAdmitted, IsOver, IsUnderway, begun, changes_in, issue_all}
-use Rattle.ddf_stops.specs.Kept.{AreAllKept, is_read}
+use Rattle.ddf_stops.specs.Kept.{AreAllKept, ReadsTrue, is_read}
 use Rattle.ddf_stops.proofs.AtEnd.{IsAtEnd}
 use Rattle.ddf_stops.proofs.RecoveringEntry.{IsTaken, issued}
 use Rattle.ddf_stops.proofs.RecoveringLoss.{lost_past, lost_rises}
@@ -74,7 +74,7 @@ acked_still group past [] = refl
 acked_still group past (next ∷ others) = acked_still group (issue past next) others
 
 module _ {group : List ℕ} {D : Type 0} (past : Past (groups group)) (state : BayState D) (left : List Bool) (named : Option (List ℕ)) (found : GroupValue)
-    (kept : AreAllKept group past state) (admitted : IsAdmitted group past state left found) (is_left : IsLeft state.may_hold state.held)
+    (kept : AreAllKept group past state) (admitted : IsAdmitted group past state left found) (reads : ReadsTrue state)
     (every_slot : length left ≡ length state.sizes) (is : group_of (newest_from state 0 left) named ≡ Ok found) (same_group : found.config.group ≡ group)
     (held : AreHeldOn state found.newest) (stand : StandUnder state found.newest) (under : HaveAnchors state.sizes found.newest)
     (fit : SeatsFit state.sizes found.seats)
@@ -84,7 +84,8 @@ module _ {group : List ℕ} {D : Type 0} (past : Past (groups group)) (state : B
   taken = record {
     kept = kept;
     admitted = admitted;
-    is_left = is_left;
+    is_left = reads.is_left;
+    holds_bytes = reads.holds_bytes;
     every_slot = every_slot;
     is_found = is;
     same_group = same_group;

@@ -35,7 +35,7 @@ use Rattle.ddf_assembly.specs.Slots.{newest_from}
 use Rattle.ddf_assembly.proofs.Committed.{no_change}
 use Rattle.ddf_assembly.proofs.CommittedSeats.{seated_is}
 use Rattle.ddf_stops.specs.Going.{IsAdmitted}
-use Rattle.ddf_stops.specs.Kept.{AreAllKept, is_read, is_slot}
+use Rattle.ddf_stops.specs.Kept.{AreAllKept, HoldsBytes, is_read, is_slot}
 use Rattle.ddf_stops.proofs.Begun.{IsMadeOf, assembled_kept, assembled_since, found_named}
 use Rattle.ddf_stops.proofs.Claimed as claims
 use Rattle.ddf_stops.proofs.Slots.{slot_is, slot_placed}
@@ -48,6 +48,7 @@ pub record IsTaken (group : List ℕ) {D : Type 0} (past : Past (groups group)) 
   pub admitted : IsAdmitted group past state left found
   -- the disks as they read are one of the images that a stop may leave
   pub is_left : IsLeft state.may_hold state.held
+  pub holds_bytes : (slot : ℕ) → HoldsBytes (state.held slot)
   pub every_slot : length left ≡ length state.sizes
   pub is_found : group_of (newest_from state 0 left) named ≡ Ok found
   pub same_group : found.config.group ≡ group

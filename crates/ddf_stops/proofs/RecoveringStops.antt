@@ -43,7 +43,7 @@ module _ (group : List ℕ) {D : Type 0} (past : Past (groups group)) (state : B
 
   -- Each slot says one thing by both of its copies.
   pub entry_says : (slot : ℕ) → SaysOne (size_of state slot) (state.held slot)
-  entry_says slot = bytes_say_one (size_of state slot) (state.held slot) (taken.admitted.are_bytes slot)
+  entry_says slot = bytes_say_one (size_of state slot) (state.held slot) (taken.holds_bytes slot)
 
   -- A stop may leave what the slots hold.
   held_left : (s l : ℕ) → is_slot slots s ≡ true → sure.may_hold s l (sure.held s l)

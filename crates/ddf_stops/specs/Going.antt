@@ -11,7 +11,7 @@ use Rattle.ddf_history.specs.Scenes.{scene_of}
 use Rattle.ddf_assembly.specs.Group.{GroupValue}
 use Rattle.ddf_assembly.specs.Recovery.{some}
 use Rattle.ddf_assembly.specs.Steps.{Step}
-use Rattle.ddf_stops.specs.Kept.{AreAllKept, HoldsBytes, is_read}
+use Rattle.ddf_stops.specs.Kept.{AreAllKept, is_read}
 
 -- ---- the changes of a call
 
@@ -62,13 +62,12 @@ module _ (group : List ℕ) where
   -- ---- what a call asks of a history, and what it promises
 
   -- A history admits a call that takes its group and leaves these slots out. A current member is among the slots that it reads. In a group
-  -- from elsewhere all members are present until a change of this engine is acknowledged. The disks hold bytes, and show what they should.
+  -- from elsewhere all members are present until a change of this engine is acknowledged. The disks show what they should.
   pub record IsAdmitted {D : Type 0} (past : Past (groups group)) (disks : BayState D) (left : List Bool) (found : GroupValue) : Type 0 where
     pub same_slots : past.slots ≡ length disks.sizes
     pub may_read : IsReadable past (scene_of disks.sizes disks.held) (is_read left)
     pub member : HasMember past (scene_of disks.sizes disks.held) (is_read left)
     pub all_present : past.changes.acked < past.changes.own_from → found.absent ≡ []
-    pub are_bytes : (slot : ℕ) → HoldsBytes (disks.held slot)
     pub is_kept : IsKept past (scene_of disks.sizes disks.held)
 
   -- Whatever a stop leaves, at any moment since the call's entry, shows what it should for the changes as they then are; and so does, at

@@ -1,9 +1,8 @@
 -- What a stop leaves of the disks of a group, as histories tell of it.
 use Rattle.std.specs.Prelude.{◌≡◌, ℕ, ◌==◌, ◌&&◌, nat_lt, not, Bool, true, false, List, length, slice_index_or, if◌then◌else◌, Result, Ok, Err}
 use Rattle.std.specs.List.{list_any}
-use Rattle.ddf_bay.specs.Sectors.{Image, IsLeft}
+use Rattle.ddf_bay.specs.Sectors.{Image, IsLeft, IsWhole}
 use Rattle.ddf_bay.specs.State.{BayState}
-use Rattle.ddf_seal.specs.Unread.{AreBytes}
 use Rattle.ddf_header.specs.declared.reading.Header.{Header}
 use Rattle.ddf_config.specs.Configuration.{Configuration}
 use Rattle.ddf_copy.specs.declared.copy.DiskCopy.{DiskCopy}
@@ -38,9 +37,13 @@ abbrev pub unwritten : {D : Type 0} → BayState D → (slots : List ℕ) → Im
 unwritten start slots image s l = if is_slot slots s then start.held s l else image s l
 
 -- The sectors of a disk hold bytes, 512 of them each.
-pub record HoldsBytes (sector : ℕ → List ℕ) : Type 0 where
-  pub size : (l : ℕ) → length (sector l) ≡ 512
-  pub are_bytes : (l : ℕ) → AreBytes (sector l)
+abbrev pub HoldsBytes : (sector : ℕ → List ℕ) → Type 0
+HoldsBytes sector = (l : ℕ) → IsWhole (sector l)
+
+-- The disks as they read are one of the images that a stop may leave, of whole sectors.
+pub record ReadsTrue {D : Type 0} (disks : BayState D) : Type 0 where
+  pub is_left : IsLeft disks.may_hold disks.held
+  pub holds_bytes : (slot : ℕ) → HoldsBytes (disks.held slot)
 
 -- The two copies of a disk, where they are level, say the same. They do where its sectors hold bytes.
 pub record SaysOne (size : ℕ) (sector : ℕ → List ℕ) : Type 0 where

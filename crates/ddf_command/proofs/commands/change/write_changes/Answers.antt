@@ -13,7 +13,7 @@ use Rattle.ddf_assembly.proofs.Committed.{may_write_next}
 use Rattle.ddf_assembly.proofs.RecoveredGroup.{recovered_ready}
 use Rattle.ddf_assembly.proofs.RecoveryWritten.{may_recover, recovered_held}
 use Rattle.ddf_command.proofs.Beside.{commit_beside, reads_beside, recovery_beside}
-use Rattle.ddf_command.proofs.Keeping.{Tells, commit_keeps, done_keeps, reads_keep, recover_keeps}
+use Rattle.ddf_command.proofs.Keeping.{Tells, commit_keeps, done_keeps, reads_keep, reads_true, recover_keeps}
 use Rattle.ddf_command.proofs.Writing.{none_asked}
 use Rattle.ddf_command.proofs.commands.change.write_changes.Goals as goal
 
@@ -100,7 +100,7 @@ returns-in_err-recover-clause-keeps g c = λ told left named by steps asked.
     rw failed.1
     (λ group same past kept admitted.
     recover_keeps g.B.Bay.tells old c.args.group.now c.args.changes.now c.args.timestamp c.in_ok-ready.ready c.requires.from was c.requires.asked c.requires.one told
-    (g.met.B.Bay.held_is_left c.args.bay.now) left named by steps asked group same past kept admitted middle c.recover.ensures.spends.same_sizes (c.recover.ensures.any_moment told) tell
+    (reads_true old (g.met.B.Bay.held_is_left c.args.bay.now) (g.met.B.Bay.whole c.args.bay.now)) left named by steps asked group same past kept admitted middle c.recover.ensures.spends.same_sizes (c.recover.ensures.any_moment told) tell
     (c.in_err-recover.ensures.ends told))
 
 pub returns-in_err-commit-clause-keeps : goal.returns-in_err-commit-clause-keeps
@@ -128,7 +128,7 @@ returns-in_err-commit-clause-keeps g c = λ told left named by steps asked.
     rw failed.1
     (λ group same past kept admitted.
     commit_keeps g.B.Bay.tells old c.args.group.now c.args.changes.now c.args.timestamp c.in_ok-ready.ready c.requires.from was c.requires.asked c.requires.one told
-    (g.met.B.Bay.held_is_left c.args.bay.now) left named by steps asked group same past kept admitted middle c.recover.ensures.spends.same_sizes (c.recover.ensures.any_moment told) tell
+    (reads_true old (g.met.B.Bay.held_is_left c.args.bay.now) (g.met.B.Bay.whole c.args.bay.now)) left named by steps asked group same past kept admitted middle c.recover.ensures.spends.same_sizes (c.recover.ensures.any_moment told) tell
     (c.in_ok-recover.ensures.changed told) (c.in_ok-recover.ensures.settled told) new c.commit.ensures.spends.same_sizes next tell_new (g.met.B.Bay.only_now c.recover.new.bay))
 
 pub returns-clause-keeps : goal.returns-clause-keeps
@@ -153,7 +153,7 @@ returns-clause-keeps g c = λ told left named by steps asked group same past kep
     let next = subst (λ (one : ReadyValue). (seat : ℕ → SlotChange) → MayChangeAll middle (next_slots one) seat (next_updates one) → StopsLeave middle new (IsLeftChangingAll middle (next_slots one) seat (next_updates one)))
     c.recover.ensures.left (c.commit.ensures.any_moment told) in
     done_keeps g.B.Bay.tells old c.args.group.now c.args.changes.now c.args.timestamp c.in_ok-ready.ready c.requires.from was c.requires.asked c.requires.one told
-    (g.met.B.Bay.held_is_left c.args.bay.now) left named by steps asked group same past kept admitted middle c.recover.ensures.spends.same_sizes (c.recover.ensures.any_moment told) tell
+    (reads_true old (g.met.B.Bay.held_is_left c.args.bay.now) (g.met.B.Bay.whole c.args.bay.now)) left named by steps asked group same past kept admitted middle c.recover.ensures.spends.same_sizes (c.recover.ensures.any_moment told) tell
     (c.in_ok-recover.ensures.changed told) (c.in_ok-recover.ensures.settled told) new c.commit.ensures.spends.same_sizes next tell_new (g.met.B.Bay.only_now c.recover.new.bay)
     (subst (λ (one : ReadyValue). Commits middle new one) c.recover.ensures.left (c.in_ok-commit.ensures.changed told))
 
