@@ -10,8 +10,8 @@ images and block devices. Slots are the images in their order, from 0.
 Commands:
   examine          show what each disk holds; nothing is written
   label [SLOT..]   make a new group of these blank disks, or of all
-  assemble         show which group the disks are, with its members and arrays;
-                   nothing is written
+  assemble         recover the group that the disks are, and show its members and
+                   arrays; where all is in order nothing is written
   read NAME START COUNT
                    print the bytes of so many blocks of an array, from one on, and
                    nothing else: at most 2048 of 512 bytes each; nothing is written
@@ -26,7 +26,8 @@ Commands:
   fail SLOT        take a disk out of use for good; it isn't written any more
 
 Each but examine and label is over a group: the only one that the disks show, or the one that is
-named, by @ and the 48 hexadecimal digits of its GUID.
+named, by @ and the 48 hexadecimal digits of its GUID. All of these but read recover it first: a
+member whose disk is left out of the words is listed as missing, for good.
 
 Disks are opened for reading alone by commands that write nothing. Others don't touch a
 disk that is mounted, swapped to, part of another device, locked by another program, or
