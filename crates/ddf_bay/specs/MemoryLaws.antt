@@ -1,12 +1,12 @@
 -- The trait's laws for a bay in memory, and what its clock adds: past the last value nothing is told.
-use Rattle.std.specs.Prelude.{◌≡◌, ◌⊎◌, ℕ, ◌+◌, ◌-◌, ◌^◌, ◌<◌, ◌≤◌, List, [], ◌∷◌, ◌++◌, zero, suc, Bool, IsTrue, nat_le, slice_index}
+use Rattle.std.specs.Prelude.{◌≡◌, ◌⊎◌, ℕ, ◌+◌, ◌-◌, ◌^◌, ◌<◌, ◌≤◌, List, [], ◌∷◌, ◌++◌, zero, suc, Bool, false, IsTrue, nat_le, slice_index, slice_index_or}
 use Rattle.std.specs.List.{list_all}
-use Rattle.std.proofs.Common.{arith, refl, subst, inl, inr, ⊎_elim}
+use Rattle.std.proofs.Common.{arith, refl, ap, ◌∙◌, subst, inl, inr, ⊎_elim}
 use Rattle.std.proofs.lemmas.Bool.{cases_lt}
 use Rattle.std.proofs.lemmas.Grind.{common_steps}
 use Rattle.ddf_bay.specs.declared.record.Record.{Record}
 use Rattle.ddf_bay.specs.Sectors.{InRun}
-use Rattle.ddf_bay.specs.Memory.{MayBecome, MemoryState}
+use Rattle.ddf_bay.specs.Memory.{IsHealthy, LeavesNoMore, MayBecome, MemoryState}
 use Rattle.ddf_bay.specs.Records.{MayHold, LeftSince, held_of, are_past, settled, run_records, survivors}
 use Rattle.ddf_bay.specs.RecordLaws.{left_later, left_before, left_added, sync_keeps, sync_before, survivors_left, survivors_settled, stop_before, left_after_run, left_after_sync}
 
@@ -124,4 +124,60 @@ becomes_start bay = record {
   asked_up = omega arith;
   no_reads = λ healthy. refl;
   no_writes = λ healthy. inl refl;
+  unasked = λ same low. record { later = omega arith; left = λ s l bytes left. left; since = λ t image le left. inl left };
+}
+
+no_more_then : (bay next last : MemoryState) → LeavesNoMore bay next → LeavesNoMore next last → LeavesNoMore bay last
+no_more_then bay next last first second = record {
+  later = omega (arith, first.later, second.later);
+  left = λ s l bytes left. first.left s l bytes (second.left s l bytes left);
+  since = λ t image le left. ⊎_elim
+      (λ before. first.since t image le before)
+      (λ now. inr (λ s l. first.left s l (image s l) (now s l)))
+      (second.since t image (omega (arith, le, first.later)) left);
+}
+
+-- several calls, one after another
+pub becomes_then : (bay next last : MemoryState) → MayBecome bay next → MayBecome next last → MayBecome bay last
+becomes_then bay next last first second =
+    let still : IsHealthy bay → IsHealthy next = λ healthy. record {
+      none_listed = first.same_failing ∙ healthy.none_listed;
+      never_over = first.same_stop ∙ healthy.never_over;
+      plugged = λ slot. ap (λ (unplugged : List Bool). slice_index_or unplugged slot false) first.same_unplugged ∙ healthy.plugged slot;
+    } in
+    record {
+      same_sizes = second.same_sizes ∙ first.same_sizes;
+      same_failing = second.same_failing ∙ first.same_failing;
+      same_stop = second.same_stop ∙ first.same_stop;
+      same_unplugged = second.same_unplugged ∙ first.same_unplugged;
+      same_room = second.same_room ∙ first.same_room;
+      written_up = omega (arith, first.written_up, second.written_up);
+      asked_up = omega (arith, first.asked_up, second.asked_up);
+      no_reads = λ healthy. second.no_reads (still healthy) ∙ first.no_reads healthy;
+      no_writes = λ healthy. ⊎_elim
+          (λ same. ⊎_elim (λ before. inl (same ∙ before)) (λ short. inr (omega (arith, short, second.same_room, second.asked_up))) (first.no_writes healthy))
+          inr
+          (second.no_writes (still healthy));
+      unasked = λ same low.
+          let none : next.asked ≡ bay.asked = omega (arith, same, first.asked_up, second.asked_up) in
+          let after : last.asked ≡ next.asked = omega (arith, same, none) in
+          no_more_then bay next last (first.unasked none (omega (arith, after, low))) (second.unasked after low);
+    }
+
+-- a call that leaves the records
+pub still_no_more : (bay next : MemoryState) → IsTrue (are_past bay.clock bay.records) → bay.clock ≤ next.clock → (next.clock < 2 ^ 64 - 1 → next.clock ≡ bay.clock + 1) → next.records ≡ bay.records
+    → LeavesNoMore bay next
+still_no_more bay next past up moves same = record {
+  later = up;
+  left = rw same (still_left bay.clock next.clock bay.records past up moves);
+  since = rw same (still_since bay.clock next.clock bay.records past up moves);
+}
+
+-- a good sync of a slot
+pub sync_no_more : (bay next : MemoryState) (slot : ℕ) → IsTrue (are_past bay.clock bay.records) → bay.clock ≤ next.clock → (next.clock < 2 ^ 64 - 1 → next.clock ≡ bay.clock + 1)
+    → next.records ≡ settled slot next.clock bay.records → LeavesNoMore bay next
+sync_no_more bay next slot past up moves same = record {
+  later = up;
+  left = rw same (sync_left bay.clock next.clock slot bay.records past up moves);
+  since = rw same (sync_since bay.clock next.clock slot bay.records past up moves);
 }

@@ -1,5 +1,5 @@
 // A bay of disks: numbered slots of sectors, of which a stop leaves some of what was written since the last good sync.
-ghost use Rattle.std.specs.Prelude.{◌≡◌, ◌<◌, ◌≤◌, ◌+◌, ◌^◌, [], ◌∷◌, List, ℕ, length, OnOk, OnErr, slice_index};
+ghost use Rattle.std.specs.Prelude.{◌≡◌, ◌<◌, ◌≤◌, ◌+◌, ◌-◌, ◌^◌, [], ◌∷◌, List, ℕ, length, OnOk, OnErr, slice_index};
 ghost use Rattle.ddf_bytes.specs.Counts.{Rose};
 ghost use Rattle.ddf_bay.specs.Sectors.{IsLeft, IsRead, IsWhole, put_run};
 ghost use Rattle.ddf_bay.specs.State.{BayState};
@@ -121,6 +121,10 @@ pub trait Bay {
 
     /// A bay is one that calls may make of it: none has to change it.
     ghost leads: { (bay : Self) → (disks bay).leads_to bay };
+
+    /// Where calls asked for no write a stop leaves nothing else than before. A count at its last value tells nothing of that.
+    ghost unasked: { (bay next : Self) → (disks bay).leads_to next → (disks next).sectors_asked ≡ (disks bay).sectors_asked → (disks next).sectors_asked < 2 ^ 64 - 1
+        → StopsLeave (disks bay) (disks next) (IsLeft (disks bay).may_hold) };
 
     /// The bay as it reads is one of its images.
     ghost held_is_left: { (bay : Self) → (disks bay).tells_left → IsLeft (disks bay).may_hold (disks bay).held };

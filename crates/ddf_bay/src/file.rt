@@ -116,7 +116,7 @@ impl<R: Files> FileBay<R> {
 }
 
 impl<R: Files> Bay for FileBay<R> {
-    ghost use Rattle.ddf_bay.specs.FileBays.{disks_of, has_opened, is_writable, IsCounted};
+    ghost use Rattle.ddf_bay.specs.FileBays.{disks_of, has_opened, is_writable, moment_stays, IsCounted};
     ghost use Rattle.ddf_bay.specs.MemoryLaws.{size_small};
     ghost use Rattle.ddf_bay.specs.Counting.{one_more};
 
@@ -137,6 +137,8 @@ impl<R: Files> Bay for FileBay<R> {
     ghost whole = { λ b s l bytes left. absurd left };
 
     ghost leads = { λ b. record { opened = λ s i. has_opened b s; access = λ i. is_writable b } };
+
+    ghost unasked = { λ b next leads same low. record { later = moment_stays; since = λ t image le left. absurd left } };
 
     ghost held_is_left = { λ b told s l. told };
 

@@ -33,6 +33,8 @@ impl Bay for MemoryBay {
 
     ghost leads = { λ b. becomes_start (state_of b) };
 
+    ghost unasked = { λ b next leads same low. record { later = (leads.unasked same low).later; since = (leads.unasked same low).since } };
+
     ghost held_is_left = { λ b told s l. (told, held_left b.clock b.log.records.items s l b.past) };
 
     fn slots(&self) -> usize {

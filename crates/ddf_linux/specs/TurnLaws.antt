@@ -1,5 +1,5 @@
 -- Turning is its own inverse and keeps the length and the signature.
-use Rattle.std.specs.Prelude.{◌≡◌, ◌<◌, ℕ, zero, suc, slice_index, List, [], ◌∷◌, length, bit_xor, Option, Some, None, is_some, false, take}
+use Rattle.std.specs.Prelude.{◌≡◌, ◌⊎◌, ◌<◌, ◌≤◌, ℕ, zero, suc, slice_index, List, [], ◌∷◌, length, bit_xor, Option, Some, None, is_some, false, take}
 use Rattle.std.specs.Int.Bits.{xor_self, xor_zero_r}
 use lib.Bits.{xor_assoc}
 use Rattle.std.proofs.Common.{refl, ap, sym, ◌∙◌, subst, arith}
@@ -7,7 +7,10 @@ use Rattle.std.proofs.lemmas.Nat.{xor_lt}
 use Rattle.std.specs.Int.{w32, to_be_bytes}
 use Rattle.ddf_linux.specs.Turning.{added}
 use Rattle.ddf_bay.specs.Sectors.{Image, Outcomes, IsLeft, IsWhole}
+use Rattle.ddf_bay.specs.State.{BayState}
+use Rattle.ddf_bay.specs.Moments.{StopsLeave}
 use Rattle.ddf_linux.specs.declared.kind.SlotKind.{SlotKind}
+use Rattle.ddf_linux.specs.State.{turned_image}
 use Rattle.ddf_linux.specs.Kinds.{kind_at, kind_constant, signature_of, turned_by, turn, turns}
 
 pub xor_twice : (a m : ℕ) → bit_xor (bit_xor a m) m ≡ a
@@ -106,3 +109,9 @@ turn_plain kind lba bytes none = by_none (kind_constant kind lba (signature_of b
 pub turned_left : (kinds : List SlotKind) (may : Outcomes) (held : Image) → IsLeft may held
     → (s l : ℕ) → may s l (turn (kind_at kinds s) l (turn (kind_at kinds s) l (held s l)))
 turned_left kinds may held left s l = rw (turn_twice (kind_at kinds s) l (held s l)) (left s l)
+
+-- What stops leave from one moment to another they leave turned.
+pub turned_since : {D : Type 0} (kinds other : List SlotKind) (a b : BayState D) → other ≡ kinds → StopsLeave a b (IsLeft a.may_hold)
+    → (t : ℕ) (image : Image) → t ≤ a.moment → b.left_since t (turned_image other image)
+    → a.left_since t (turned_image kinds image) ⊎ ((s l : ℕ) → a.may_hold s l (turn (kind_at kinds s) l (image s l)))
+turned_since kinds other a b same stops t image le left = stops.since t (turned_image kinds image) le (rw same at left)

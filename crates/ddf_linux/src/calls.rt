@@ -6,7 +6,7 @@ ghost use Rattle.ddf_bay.specs.Sectors.{IsLeft, IsRead, put_run};
 ghost use Rattle.ddf_bay.specs.Moments.{StopsLeave, Remembers, SpendsReads, SpendsWrites, Keeps, Adds, Mixes, IsSettled, IsAmong};
 ghost use Rattle.ddf_linux.specs.Kinds.{is_unread, kind_at, turn};
 ghost use Rattle.ddf_linux.specs.State.{turned_image};
-ghost use Rattle.ddf_linux.specs.TurnLaws.{turned_left, turned_whole};
+ghost use Rattle.ddf_linux.specs.TurnLaws.{turned_left, turned_since, turned_whole};
 
 use crate::pieces::write_pieces;
 use crate::turned::Turned;
@@ -36,6 +36,10 @@ impl<B: Bay + Drop> Bay for Turned<B> {
     ghost whole = { λ t s l bytes left. turned_whole (kind_at t.kinds s) l bytes (B.whole t.inner s l (turn (kind_at t.kinds s) l bytes) left) };
 
     ghost leads = { λ t. (B.leads t.inner, refl) };
+
+    ghost unasked = { λ t next leads same low.
+        let stops = B.unasked t.inner next.inner leads.0 same low in
+        record { later = stops.later; since = turned_since t.kinds next.kinds (B.disks t.inner) (B.disks next.inner) leads.1 stops } };
 
     ghost held_is_left = { λ t told. turned_left t.kinds (B.disks t.inner).may_hold (B.disks t.inner).held (B.held_is_left t.inner told) };
 

@@ -1,7 +1,9 @@
-use Rattle.std.proofs.Common.{sym, ◌∙◌, arith}
+use Rattle.std.proofs.Common.{refl, sym, ◌∙◌, arith}
 use Rattle.ddf_bay.specs.Records.{zeros}
 use Rattle.ddf_bay.specs.RecordLaws.{past_later, past_sync, held_sync, sync_settles, newest_sync}
-use Rattle.ddf_bay.specs.MemoryLaws.{same_remembers, sync_remembers, still_left, still_since, sync_left, sync_since}
+use Rattle.ddf_bay.specs.MemoryLaws.{becomes_then, same_remembers, sync_remembers, still_left, still_no_more, still_since, sync_left, sync_no_more, sync_since}
+use Rattle.ddf_bay.specs.Memory.{state_of}
+use Rattle.ddf_bay.proofs.MemorySteps.{becomes_still, never_fails, spends_still}
 use Rattle.ddf_bay.proofs.memory_calls.MemoryBayBay.sync.Goals as goal
 
 pub invariant_of-self : goal.invariant_of-self
@@ -39,3 +41,25 @@ returns-then-fails-clause-remembers c told = same_remembers c.args.self.now.cloc
 
 pub returns-clause-remembers : goal.returns-clause-remembers
 returns-clause-remembers c told = rw c.settle.ensures.records (sync_remembers c.args.self.now.clock c.next-self.result c.args.slot c.args.self.now.log.records.items c.next-self.ensures.least c.next-self.ensures.more told)
+
+pub returns-then-fails-clause-spends : goal.returns-then-fails-clause-spends
+returns-then-fails-clause-spends c =
+    let bay = state_of c.args.self.now in
+    let clock = c.next-self.ensures in
+    let made = c.next-self-2.ensures in
+    spends_still c.args.slot
+    (λ next leads. becomes_then bay _ (state_of next) (becomes_still bay c.next-self.result c.next-self-2.result bay.room bay.failed_reads c.raise.new.counts bay.records refl
+    (λ healthy. refl) (λ healthy. absurd (never_fails bay c.args.slot c.fails-fails.result c.fails-fails.ensures c.if-fails.true healthy))
+    (still_no_more bay _ c.args.self.now.past clock.least clock.more refl)) leads)
+    (λ told. omega (arith, told, clock.least)) refl refl c.raise.ensures.kept c.raise.ensures.others refl refl made.least made.most
+
+pub returns-clause-spends : goal.returns-clause-spends
+returns-clause-spends c =
+    let bay = state_of c.args.self.now in
+    let clock = c.next-self.ensures in
+    let made = c.next-self-2.ensures in
+    let log = c.settle.new.self in
+    spends_still c.args.slot
+    (λ next leads. becomes_then bay _ (state_of next) (becomes_still bay c.next-self.result c.next-self-2.result log.room bay.failed_reads bay.failed_writes log.records.items c.settle.ensures.room
+    (λ healthy. refl) (λ healthy. refl) (sync_no_more bay _ c.args.slot c.args.self.now.past clock.least clock.more c.settle.ensures.records)) leads)
+    (λ told. omega (arith, told, clock.least)) refl refl (λ s. omega arith) (λ s other. refl) refl refl made.least made.most
