@@ -10,7 +10,8 @@
 # - Memory: the peak of the process, where the sections that are kept in memory have the most sectors that they may have.
 # - `read` of 1 MiB, the most of one call, in pieces of arrays over three labelled disks, whole and without their first disk, beside cat
 #   of a file of the same bytes. The bytes and the parity are placed without `ddf`, and what it gives is compared with them once. Both
-#   write over a file that is there. The same of no block tells what the start and the assembly cost. Ratios are of throughput.
+#   write over a file that is there, in memory where /dev/shm is, so that the kernel doesn't copy for cat within one file system. The
+#   same of no block tells what the start and the assembly cost. Ratios are of throughput.
 # - The exclusive-or of sectors in cache beside a copy of as many, in one small program (xor_speed.rt.txt: only a crate has files
 #   named .rt), which `rt` proves and builds first. That takes a minute or more.
 #

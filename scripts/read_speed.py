@@ -114,9 +114,15 @@ def rows(rounds, what, pairs, output, goal):
         row(f"{what}, {kind} ms", spread(mine), f"cat {spread(its)}", min(its) / min(mine), goal)
 
 
+def in_memory(work):
+    """A file for the output, in memory where there is a file system for it: within one file system the kernel would copy for cat."""
+    shared = Path("/dev/shm")
+    return shared / f"ddf-bench-{os.getpid()}" if shared.is_dir() else work / "output"
+
+
 def read_rows(program, work, rounds):
     """Rows for each array, whole and without its first disk where its level allows it, and for a call without blocks."""
-    folder, output = work / "arrays", work / "output"
+    folder, output = work / "arrays", in_memory(work)
     folder.mkdir()
     images, pieces = made(program, folder)
 
@@ -134,3 +140,4 @@ def read_rows(program, work, rounds):
             rows(rounds, f"`read` of 1 MiB of {what} short of a disk", pairs(name, images[1:]), output, "0.5")
     none = [program, *images, "--", "read", "parity", "0", "0"]
     rows(rounds, "`read` of no block", [(none, ["cat", "/dev/null"])], output, "")
+    output.unlink(missing_ok=True)

@@ -1,17 +1,21 @@
 -- What `assemble` comes to, and what it tells.
-use Rattle.std.proofs.Common.{◌≡◌, ℕ, List, Option, Result, Ok, Err, subst, sym}
+use Rattle.std.proofs.Common.{◌≡◌, ℕ, ◌≤◌, List, [], Option, Result, Ok, Err, refl, subst, sym}
 use Rattle.std.specs.Prelude.{string_bytes}
 use Rattle.std.specs.declared.string.String.{String}
 use Rattle.std.specs.declared.alloc.Global.{Global}
+use Rattle.ddf_bay.specs.ReadsOnly.{ReadsOnly}
+use Rattle.ddf_bay.specs.State.{BayState}
 use Rattle.ddf_group.specs.declared.answer.Assembly.{Assembly}
 use Rattle.ddf_assembly.specs.Group.{GroupValue, group_of}
 use Rattle.ddf_command.specs.declared.failure.Failure.{Failure}
 use Rattle.ddf_command.specs.Answers.{IsToldFailure}
 use Rattle.ddf_command.specs.Assemble.{HasTold, IsAssembleDone, IsTold, no_change, told_group}
-use Rattle.ddf_command.specs.Call.{Answer, Work}
+use Rattle.ddf_command.specs.Call.{Answer, Work, work_of}
 use Rattle.ddf_command.specs.Change.{HasChanged}
+use Rattle.ddf_command.specs.GroupRead.{IsGroupRead}
 use Rattle.ddf_command.specs.Tells.{ClosesWith}
 use Rattle.ddf_command.proofs.ChangeEnds.{told_failure}
+use Rattle.ddf_command.proofs.Changing.{HasWritten, changed_group, has_changed}
 
 module _ {D : Type 0} {work : Work D} {named : Option (List ℕ)} {timestamp : ℕ} where
   -- why it tells nothing of a group
@@ -43,3 +47,13 @@ module _ {D : Type 0} {work : Work D} {named : Option (List ℕ)} {timestamp : �
     ends = subst (λ (outcome : Result ℕ Failure). IsTold (group_of is.has.newest named) outcome answer) (sym is.failed)
         (told_failure (group_of is.has.newest named) failure answer told);
   }
+
+-- The text of a group that was read, and recovered.
+pub told_changed : {D : Type 0} (tells : Type 0) (old middle new : BayState D) (reads : ReadsOnly old middle)
+    (reads_rise : (slot : ℕ) → old.failed_reads slot ≤ middle.failed_reads slot) (writes_rise : (slot : ℕ) → old.failed_writes slot ≤ middle.failed_writes slot)
+    (named : Option (List ℕ)) (timestamp : ℕ) (group : GroupValue) (outcome : Result ℕ Failure) (sequence : ℕ) (text : String Global)
+    → IsGroupRead (work_of tells old middle) named (Ok group) → HasWritten tells middle new group [] timestamp outcome → outcome ≡ Ok sequence → string_bytes text ≡ told_group group
+    → HasTold (work_of tells old new) named timestamp (Ok text)
+told_changed tells old middle new reads reads_rise writes_rise named timestamp group outcome sequence text read written is same =
+    told_text is (has_changed tells old middle new reads reads_rise writes_rise named timestamp no_change group [] outcome read refl written)
+    (changed_group tells old middle new reads reads_rise writes_rise named timestamp no_change group [] outcome read refl written) same

@@ -1,16 +1,15 @@
 -- What the writing of a group's changes leaves of slots that are no seats'.
-use Rattle.std.proofs.Common.{◌≡◌, ◌≢◌, ◌⊎◌, ℕ, ◌≤◌, Bool, true, false, List, length, None, Some, inl, inr, refl, sym, ap, subst, ◌∙◌}
+use Rattle.std.proofs.Common.{◌≡◌, ◌≢◌, ℕ, false, List, length, None, Some, inl, inr, sym, ◌∙◌}
 use Rattle.std.proofs.lemmas.Bool.{false≢true}
 use Rattle.std.specs.Prelude.{slice_get}
 use Rattle.ddf_bay.specs.Moments.{StopsLeave}
 use Rattle.ddf_bay.specs.ReadsOnly.{ReadsOnly}
-use Rattle.ddf_bay.specs.Sectors.{Image, IsLeft}
 use Rattle.ddf_bay.specs.State.{BayState}
 use Rattle.ddf_bay.proofs.Steps.{stops_then, stops_weaken}
 use Rattle.ddf_plan.specs.declared.change.Change.{Change}
-use Rattle.ddf_update.specs.Changes.{AreChanged, IsLeftChangingAll, MayChangeAll, SlotChange}
+use Rattle.ddf_update.specs.Changes.{AreChanged, IsLeftChangingAll, SlotChange}
 use Rattle.ddf_update.specs.Group.{IsOneOf}
-use Rattle.ddf_assembly.specs.Committed.{MayRecover, MayWriteNext, WasReadied, group_recovered, next_slots, next_updates, recovery_slots, recovery_updates, slots_of, synced}
+use Rattle.ddf_assembly.specs.Committed.{MayRecover, WasReadied, next_slots, next_updates, recovery_slots, recovery_updates, slots_of, synced}
 use Rattle.ddf_assembly.specs.Group.{GroupValue}
 use Rattle.ddf_assembly.specs.Ready.{ReadyValue}
 use Rattle.ddf_assembly.proofs.RecoveryWritten.{recovery_on_seats}

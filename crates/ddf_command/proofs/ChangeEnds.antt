@@ -18,6 +18,7 @@ use Rattle.ddf_command.specs.Run.{SomeSlotRose, is_unwritten}
 use Rattle.ddf_assembly.specs.Committed.{slots_of}
 use Rattle.ddf_command.proofs.Beside.{reads_beside}
 use Rattle.ddf_command.proofs.Keeping.{reads_keep}
+use Rattle.ddf_command.proofs.LeftWriting.{reads_leave}
 use Rattle.ddf_command.proofs.Outcomes.{IsEnd, contradicted_end, refused_end}
 use Rattle.ddf_command.proofs.ReadEnds.{good_end, no_disk, not_three}
 use Rattle.ddf_text.specs.Conflicts.{conflict_line, split_line}
@@ -119,10 +120,12 @@ spent_first old tells named timestamp request looked = record {
   left = looked.left;
   every_slot = looked.every_slot;
   failed = looked.are_failed.rose;
+  seen = λ slot below kept. refl;
   newest = newest_from old 0 looked.left;
   read = λ tells. refl;
   gives = nothing_in old tells timestamp request (group_of (newest_from old 0 looked.left) named);
   beside = λ told found is. reads_beside old old (slots_of found.seats) (reads_start old);
+  leaves = λ told found is steps asked. reads_leave old old steps (reads_start old);
   keeps = λ told found is steps asked. reads_keep old old looked.left found steps Memory (reads_start old);
 }
 

@@ -1,6 +1,7 @@
 -- What a command that changes a group comes to.
-use Rattle.std.proofs.Common.{◌≡◌, ◌⊎◌, ℕ, suc, ◌≤◌, Bool, [], ◌∷◌, List, length, Option, Result, Ok, Err, refl, sym, ap, subst, ◌∙◌, inl, inr, ⊎_elim}
+use Rattle.std.proofs.Common.{◌≡◌, ◌⊎◌, ℕ, suc, ◌≤◌, Bool, [], ◌∷◌, List, length, Option, Result, Ok, Err, refl, sym, ap, subst, ◌∙◌, inl, inr, ⊎_elim, arith}
 use Rattle.ddf_bay.specs.State.{BayState}
+use Rattle.ddf_bay.specs.Moments.{StopsLeave}
 use Rattle.ddf_bay.specs.ReadsOnly.{ReadsOnly}
 use Rattle.ddf_bay.proofs.Looks.{reads_then}
 use Rattle.ddf_config.specs.declared.refusal.Refusal.{Refusal}
@@ -28,8 +29,10 @@ use Rattle.ddf_command.specs.Change.{HasChanged, IsChanged, IsChangedIn, KeepsHi
 use Rattle.ddf_command.specs.GroupRead.{IsFoundBy, IsGroupRead, IsReadFrom, group_or}
 use Rattle.ddf_command.specs.Requests.{alone}
 use Rattle.ddf_command.specs.Others.{LeavesOthers}
+use Rattle.ddf_command.specs.Writing.{IsLeftWriting}
 use Rattle.ddf_command.proofs.Beside.{beside_since, reads_beside}
 use Rattle.ddf_command.proofs.Keeping.{reads_keep, since_entry}
+use Rattle.ddf_command.proofs.LeftWriting.{leaves_since, reads_leave}
 use Rattle.ddf_command.proofs.Rises.{look_still, rose_later}
 
 -- ---- which group was read
@@ -80,7 +83,7 @@ found_same : (one other : GroupValue) → ◌≡◌ {A = Result GroupValue Assem
 found_same one other is = cc
 
 -- The steps that are asked are those that were readied.
-asked_of : (answer : Result (List Step) GroupFault) (steps : List Step) → steps_or answer ≡ Ok steps → answer ≡ Ok steps
+pub asked_of : (answer : Result (List Step) GroupFault) (steps : List Step) → steps_or answer ≡ Ok steps → answer ≡ Ok steps
 asked_of (Ok all) steps is = let same : all ≡ steps = cc in ap (λ (one : List Step). Ok one) same
 asked_of (Err fault) steps is = absurd cc
 
@@ -108,10 +111,12 @@ none_read work named timestamp request failure read reads = record {
   left = read.left;
   every_slot = read.every_slot;
   failed = read.failed;
+  seen = λ slot below kept. (read.seen slot below kept).0;
   newest = read.newest;
   read = read.read;
   gives = none_in work timestamp request (group_of read.newest named) failure reads read.answer;
   beside = λ told found is. reads_beside work.old work.new (slots_of found.seats) reads;
+  leaves = λ told found is steps asked. reads_leave work.old work.new steps reads;
   keeps = λ told found is steps asked. reads_keep work.old work.new read.left found steps failure reads;
 }
 
@@ -124,10 +129,12 @@ module _ {D : Type 0} (work : Work D) (named : Option (List ℕ)) (timestamp : �
     left = read.left;
     every_slot = read.every_slot;
     failed = read.failed;
+    seen = λ slot below kept. (read.seen slot below kept).0;
     newest = read.newest;
     read = read.read;
     gives = subst (λ (one : Result GroupValue Assembly). IsChangedIn work timestamp request one (Err failure)) (sym (group_read work named group read)) is;
     beside = λ told found is. reads_beside work.old work.new (slots_of found.seats) reads;
+    leaves = λ told found is steps asked. reads_leave work.old work.new steps reads;
     keeps = λ told found is steps asked. reads_keep work.old work.new read.left found steps failure reads;
   }
 
@@ -151,6 +158,16 @@ pub same_asked : {slots : ℕ} {old now : List ℕ} {config same_config : Config
 same_asked ask one sizes two three = rw (one, sizes, two, three) refl
 
 -- ---- changes are asked
+
+-- what the writing of changes promises
+pub record HasWritten {D : Type 0} (tells : Type 0) (middle new : BayState D) (group : GroupValue) (changes : List Change) (timestamp : ℕ) (outcome : Result ℕ Failure) : Type 0 where
+  pub changed : IsChanged (work_of tells middle new) group (steps_or (readied group changes timestamp)) outcome
+  pub beside : tells → LeavesOthers middle new (slots_of group.seats)
+  pub leaves : tells → (steps : List Step) → readied group changes timestamp ≡ Ok steps → StopsLeave middle new (IsLeftWriting middle steps)
+  pub keeps : tells → (left : List Bool) (named : Option (List ℕ)) → IsFoundBy middle left named group → (steps : List Step) → readied group changes timestamp ≡ Ok steps
+      → KeepsHistories middle new left group steps outcome
+  pub same_reads : new.failed_reads ≡ middle.failed_reads
+  pub writes_rise : (slot : ℕ) → middle.failed_writes slot ≤ new.failed_writes slot
 
 module _ {D : Type 0} (tells : Type 0) (old middle new : BayState D) (reads : ReadsOnly old middle)
     (reads_rise : (slot : ℕ) → old.failed_reads slot ≤ middle.failed_reads slot) (writes_rise : (slot : ℕ) → old.failed_writes slot ≤ middle.failed_writes slot) where
@@ -177,38 +194,37 @@ module _ {D : Type 0} (tells : Type 0) (old middle new : BayState D) (reads : Re
   changed_before group asked (Err (Conflict i j sequence differ)) done = absurd done
   changed_before group asked (Err (Split i j)) done = absurd done
 
-  -- what the writing of changes keeps of histories
-  abbrev Keeps : GroupValue → List Change → (timestamp : ℕ) → Result ℕ Failure → Type 0
-  Keeps group changes timestamp outcome =
-      tells → (left : List Bool) (named : Option (List ℕ)) → IsFoundBy middle left named group → (steps : List Step) → readied group changes timestamp ≡ Ok steps
-      → KeepsHistories middle new left group steps outcome
-
   -- what came of the changes that the words ask of the group
   pub has_changed : (named : Option (List ℕ)) (timestamp : ℕ) (request : Request) (group : GroupValue) (changes : List Change) (outcome : Result ℕ Failure)
-      → IsGroupRead (work_of tells old middle) named (Ok group) → request (config_recovered group) group.seats ≡ Ok changes
-      → ((slot : ℕ) → middle.failed_reads slot ≤ new.failed_reads slot) → ((slot : ℕ) → middle.failed_writes slot ≤ new.failed_writes slot)
-      → IsChanged (work_of tells middle new) group (steps_or (readied group changes timestamp)) outcome → Keeps group changes timestamp outcome → (tells → LeavesOthers middle new (slots_of group.seats))
+      → IsGroupRead (work_of tells old middle) named (Ok group) → request (config_recovered group) group.seats ≡ Ok changes → HasWritten tells middle new group changes timestamp outcome
       → HasChanged (work_of tells old new) named timestamp request outcome
-  has_changed named timestamp request group changes outcome read is reads_then_rise writes_then_rise done keeps beside =
+  has_changed named timestamp request group changes outcome read is written =
       let steps = ap (steps_asked group timestamp) is in
+      let same_reads : (slot : ℕ) → new.failed_reads slot ≡ middle.failed_reads slot = λ slot. ap (λ (counts : ℕ → ℕ). counts slot) written.same_reads in
       record {
         left = read.left;
         every_slot = read.every_slot;
-        failed = λ slot below out. look_still old middle new slot (reads_rise slot) (reads_then_rise slot) (writes_rise slot) (writes_then_rise slot) (read.failed slot below out);
+        failed = λ slot below out. look_still old middle new slot (reads_rise slot) (omega (arith, same_reads slot)) (writes_rise slot) (written.writes_rise slot) (read.failed slot below out);
+        seen = λ slot below kept. same_reads slot ∙ (read.seen slot below kept).0;
         newest = read.newest;
         read = read.read;
         gives = subst (λ (one : Result GroupValue Assembly). IsChangedIn (work_of tells old new) timestamp request one outcome) (sym (group_read (work_of tells old middle) named group read))
             (subst (λ (asked : Result (List Step) Failure). IsChanged (work_of tells old new) group asked outcome) (sym steps)
-            (changed_before group (steps_or (readied group changes timestamp)) outcome done));
+            (changed_before group (steps_or (readied group changes timestamp)) outcome written.changed));
         beside = λ told found is_found.
             subst (λ (one : GroupValue). LeavesOthers old new (slots_of one.seats)) (found_same group found (sym (group_read (work_of tells old middle) named group read) ∙ is_found))
-            (beside_since old middle new (slots_of group.seats) reads (beside told));
+            (beside_since old middle new (slots_of group.seats) reads (written.beside told));
+        leaves = λ told found is_found asked are_asked.
+            let same = found_same group found (sym (group_read (work_of tells old middle) named group read) ∙ is_found) in
+            subst (λ (one : GroupValue). steps_of one timestamp request ≡ Ok asked → StopsLeave old new (IsLeftWriting old asked)) same
+            (λ now_asked. leaves_since old middle new asked reads (written.leaves told asked (asked_of (readied group changes timestamp) asked (sym steps ∙ now_asked))))
+            are_asked;
         keeps = λ told found is_found asked are_asked.
             let same = found_same group found (sym (group_read (work_of tells old middle) named group read) ∙ is_found) in
             subst (λ (one : GroupValue). steps_of one timestamp request ≡ Ok asked → KeepsHistories old new read.left one asked outcome) same
             (λ now_asked.
             since_entry old middle new read.left group asked outcome reads
-            (keeps told read.left named
+            (written.keeps told read.left named
             (record {
               every_slot = rw reads.same_sizes read.every_slot;
               is_found = rw (newest_still old middle reads.same_sizes reads.same_held 0 read.left) (rw (read.read told) at (group_read (work_of tells old middle) named group read));
@@ -219,9 +235,7 @@ module _ {D : Type 0} (tells : Type 0) (old middle new : BayState D) (reads : Re
 
   -- and of which group
   pub changed_group : (named : Option (List ℕ)) (timestamp : ℕ) (request : Request) (group : GroupValue) (changes : List Change) (outcome : Result ℕ Failure)
-      (read : IsGroupRead (work_of tells old middle) named (Ok group)) (is : request (config_recovered group) group.seats ≡ Ok changes)
-      (reads_then_rise : (slot : ℕ) → middle.failed_reads slot ≤ new.failed_reads slot) (writes_then_rise : (slot : ℕ) → middle.failed_writes slot ≤ new.failed_writes slot)
-      (done : IsChanged (work_of tells middle new) group (steps_or (readied group changes timestamp)) outcome) (keeps : Keeps group changes timestamp outcome) (beside : tells → LeavesOthers middle new (slots_of group.seats))
-      → group_of (has_changed named timestamp request group changes outcome read is reads_then_rise writes_then_rise done keeps beside).newest named ≡ Ok group
+      (read : IsGroupRead (work_of tells old middle) named (Ok group)) (is : request (config_recovered group) group.seats ≡ Ok changes) (written : HasWritten tells middle new group changes timestamp outcome)
+      → group_of (has_changed named timestamp request group changes outcome read is written).newest named ≡ Ok group
   unfolding has_changed
-  changed_group named timestamp request group changes outcome read is reads_then_rise writes_then_rise done keeps beside = group_read (work_of tells old middle) named group read
+  changed_group named timestamp request group changes outcome read is written = group_read (work_of tells old middle) named group read

@@ -17,6 +17,7 @@ use Rattle.ddf_command.proofs.ChangeEnds.{assembled_nothing, changed_nothing}
 use Rattle.ddf_command.proofs.ReadBlocks.{memory_in}
 use Rattle.ddf_command.specs.Call.{Answer, Work, answer_of, work_of}
 use Rattle.ddf_command.specs.Examine.{IsExamined, some_failed}
+use Rattle.ddf_command.specs.Read.{NotRead}
 use Rattle.ddf_command.specs.Requests.{create_of, creation_of, delete_of, fail_of, spare_of}
 use Rattle.ddf_command.specs.Run.{IsCommandDone, SomeSlotRose}
 use Rattle.ddf_words.specs.declared.command.Command.{Command}
@@ -120,7 +121,7 @@ done_nothing old tells told before stamp group (Label slots) = record {
   refused = λ tells refusal is. reads_start old;
 }
 done_nothing old tells told before stamp group (Read name start count) = record {
-  outcome = Err Memory;
+  outcome = NotRead Memory;
   has = record {
     left = (none_looked old).left;
     every_slot = (none_looked old).every_slot;

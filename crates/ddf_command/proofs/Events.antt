@@ -1,5 +1,5 @@
 -- What each event of a history keeps.
-use Rattle.std.proofs.Common.{◌≡◌, ◌⊎◌, ◌∙◌, if◌then◌else◌, ℕ, ◌≤◌, Bool, true, false, List, ◌∷◌, [], inl, inr, refl, sym, ap, arith}
+use Rattle.std.proofs.Common.{◌≡◌, ◌⊎◌, ◌∙◌, if◌then◌else◌, ℕ, Bool, true, false, List, ◌∷◌, [], inl, inr, refl, sym, ap, arith}
 use Rattle.std.proofs.Math.Path.{fun_ext}
 use Rattle.ddf_bay.specs.State.{BayState}
 use Rattle.ddf_bay.specs.Sectors.{Image, IsLeft}
@@ -32,12 +32,11 @@ module _ {B : Type 0} {tells : Type 0} (told : tells) (disks : B → BayState B)
   -- A call that came to its end.
   end_kept : (old new : Moment (groups group) B) → IsEnd told disks group old new → AllKept (Leaves told disks group) old → AllKept (Leaves told disks group) new × KeepsAcked old.past new.past
   end_kept old new end kept =
-      let held = images_kept old kept in
-      let keeps = (kept_by told disks group old end.call held).ends end.tells_left in (
+      let keeps = (kept_by told disks group old end.call end.kept).ends end.tells_left in (
         λ scene leaves.
             let last = end.is_left scene leaves in
-            rw (end.is_past held, last.is_shown) (keeps.2 last.image last.is_left),
-        rw (end.is_past held)
+            rw (end.is_past, last.is_shown) (keeps.2 last.image last.is_left),
+        rw end.is_past
             (ends_keeps group old.past keeps.0 (is_read end.call.changed.left) end.call.found (changes_in end.call.found end.call.steps) (is_done end.call.outcome) keeps.1),
       )
 
@@ -55,13 +54,11 @@ module _ {B : Type 0} {tells : Type 0} (told : tells) (disks : B → BayState B)
   -- A call that was cut by a stop.
   cut_kept : (old new : Moment (groups group) B) → IsCut told disks group old new → AllKept (Leaves told disks group) old → AllKept (Leaves told disks group) new × KeepsAcked old.past new.past
   cut_kept old new cut kept =
-      let held = images_kept old kept in
-      let now_is : (disks old.bay).moment ≤ (disks old.bay).moment = omega arith in
-      let at = (kept_by told disks group old cut.call held).any_moment.since (disks old.bay).moment cut.image now_is cut.was_left in
+      let at = (kept_by told disks group old cut.call cut.kept).any_moment.since (disks old.bay).moment cut.image cut.since cut.was_left in
       let both = at_moment old.past (is_read cut.call.changed.left) cut.call.found (changes_in cut.call.found cut.call.steps) (scene_of (disks old.bay).sizes cut.image)
-      (λ first. held cut.image (only_now old.bay cut.image first)) at in (
-        λ scene leaves. rw (cut.is_past now_is held, cut.is_left scene leaves) both.0,
-        rw (cut.is_past now_is held) both.1,
+      (λ first. cut.kept cut.image (only_now old.bay cut.image first)) at in (
+        λ scene leaves. rw (cut.is_past, cut.is_left scene leaves) both.0,
+        rw cut.is_past both.1,
       )
 
   -- A call that doesn't take the group.

@@ -11,6 +11,7 @@ mod Writing
 mod Recovering
 mod Keeping
 mod Beside
+mod LeftWriting
 mod Changing
 mod ChangeEnds
 mod Assembling
@@ -18,7 +19,13 @@ pub mod Outcomes
 pub mod Readable
 pub mod ReadBlocks
 pub mod LeftOut
+mod Printing
 pub mod ReadEnds
 pub mod Requested
 pub mod SeatReferences
 mod Events
+mod Happening
+mod StepsCopies
+mod SeatsShown
+mod AnotherGroup
+mod Cut

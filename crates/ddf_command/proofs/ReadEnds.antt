@@ -1,13 +1,13 @@
 -- How `read` ends.
-use Rattle.std.proofs.Common.{◌≡◌, ◌⊎◌, inl, inr, ⊎_elim, ℕ, List, Option, Result, Ok, Err, arith}
+use Rattle.std.proofs.Common.{◌≡◌, ◌⊎◌, inl, inr, ⊎_elim, ℕ, ◌+◌, ◌-◌, List, length, Option, Result, Ok, Err, arith}
+use Rattle.ddf_array.specs.Volume.{Volume}
 use Rattle.ddf_group.specs.declared.answer.Assembly.{Assembly}
 use Rattle.ddf_group.specs.declared.answer.Assembly.TheVariants as faults
 use Rattle.ddf_assembly.specs.Group.{GroupValue, group_of}
-use Rattle.ddf_command.specs.declared.failure.Failure.{Failure}
 use Rattle.ddf_command.specs.declared.failure.Failure.TheVariants.{Conflict, Disk, Memory, Refused, Split}
 use Rattle.ddf_command.specs.Answers.{failure_of}
 use Rattle.ddf_command.specs.Call.{Answer, Work}
-use Rattle.ddf_command.specs.Read.{IsReadDone, IsReadIn, IsReadTold}
+use Rattle.ddf_command.specs.Read.{CutShort, IsReadDone, IsReadIn, IsReadTold, IsWithoutSource, NotRead, Outcome, Stopped, Whole}
 use Rattle.ddf_command.specs.Run.{SomeSlotRose}
 use Rattle.ddf_command.proofs.Outcomes.{IsEnd, contradicted_end, refused_end}
 use Rattle.ddf_text.specs.Conflicts.{conflict_line, split_line}
@@ -32,19 +32,28 @@ good_end status good end =
 
 module _ {D : Type 0} (work : Work D) (named : Option (List ℕ)) (word : List ℕ) (start count : ℕ) (answer : Answer) where
   -- a block without a source names a slot that failed
-  rose_by : (slot : ℕ) (group : Result GroupValue Assembly) → IsReadIn work word start count group (Err (Disk slot)) → SomeSlotRose work.old work.new
-  rose_by slot (Ok group) is = record { slot = slot; there = is.1.there; rose = inl is.1.none_left.none_left.this_failed }
+  rose_from : (v : Volume) (first most slot : ℕ) → IsWithoutSource work v first most slot → SomeSlotRose work.old work.new
+  rose_from v first most slot is = record { slot = slot; there = is.there; rose = inl is.none_left.none_left.this_failed }
+
+  rose_by : (slot : ℕ) (group : Result GroupValue Assembly) → IsReadIn work word start count group (NotRead (Disk slot)) → SomeSlotRose work.old work.new
+  rose_by slot (Ok group) is = rose_from is.0 start count slot is.2
   rose_by slot (Err fault) is = absurd (⊎_elim (λ e. no_disk fault slot cc) (λ memory. cc) is)
 
+  rose_behind : (front : List (List ℕ)) (slot : ℕ) (group : Result GroupValue Assembly) → IsReadIn work word start count group (Stopped front slot) → SomeSlotRose work.old work.new
+  rose_behind front slot (Ok group) is = rose_from is.0 (start + length front) (count - length front) slot is.2.2
+  rose_behind front slot (Err fault) is = absurd (⊎_elim (λ e. cc) (λ memory. cc) is)
+
   -- how it ends where no slot failed
-  end_by : (outcome : Result (List (List ℕ)) Failure) (group : Result GroupValue Assembly) → IsReadIn work word start count group outcome → IsReadTold outcome answer
+  end_by : (outcome : Outcome) (group : Result GroupValue Assembly) → IsReadIn work word start count group outcome → IsReadTold outcome answer
       → IsEnd answer.status ⊎ SomeSlotRose work.old work.new
-  end_by (Ok sectors) group is told = inl (⊎_elim inl (λ six. inr (inr (inr (inr six)))) told.ends)
-  end_by (Err (Refused refusal)) group is told = inl (refused_end (refusal_line refusal) answer told)
-  end_by (Err (Disk slot)) group is told = inr (rose_by slot group is)
-  end_by (Err (Conflict i j sequence differ)) group is told = inl (contradicted_end (conflict_line i j sequence differ) answer told)
-  end_by (Err (Split i j)) group is told = inl (contradicted_end (split_line i j) answer told)
-  end_by (Err Memory) group is told = inl (inr (inl told.0))
+  end_by (Whole sectors) group is told = inl (inl told.ends)
+  end_by (NotRead (Refused refusal)) group is told = inl (refused_end (refusal_line refusal) answer told)
+  end_by (NotRead (Disk slot)) group is told = inr (rose_by slot group is)
+  end_by (NotRead (Conflict i j sequence differ)) group is told = inl (contradicted_end (conflict_line i j sequence differ) answer told)
+  end_by (NotRead (Split i j)) group is told = inl (contradicted_end (split_line i j) answer told)
+  end_by (NotRead Memory) group is told = inl (inr (inl told.0))
+  end_by (Stopped front slot) group is told = inr (rose_behind front slot group is)
+  end_by (CutShort front) group is told = inl (inr (inr (inr (inr told.0))))
 
   ended : IsReadDone work named word start count answer → IsEnd answer.status ⊎ SomeSlotRose work.old work.new
   ended done = end_by done.outcome (group_of done.has.newest named) done.has.gives done.ends

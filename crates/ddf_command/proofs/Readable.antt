@@ -1,9 +1,8 @@
 -- Which refusals come first of an array that can't be used.
-use Rattle.std.proofs.Common.{◌≡◌, ◌∙◌, ◌+◌, ◌≤◌, ◌&&◌, ◌||◌, ℕ, Bool, true, false, not, List, [], ◌∷◌, map, Option, Some, None, Result, Ok, Err, ap, refl, subst}
+use Rattle.std.proofs.Common.{◌≡◌, ◌∙◌, ◌+◌, ◌&&◌, ◌||◌, ℕ, Bool, true, false, not, List, [], ◌∷◌, map, Option, Some, None, Ok, Err, ap, refl, subst}
 use Rattle.std.specs.Map.{lookup}
 use Rattle.std.specs.Option.{option_and_then, option_or}
 use Rattle.std.specs.Prelude.{nat_lt, option_map}
-use Rattle.std.proofs.lemmas.Bool.{ltb-false}
 use Rattle.ddf_config.specs.declared.refusal.Refusal.{Refusal}
 use Rattle.ddf_config.specs.declared.refusal.Refusal.TheVariants.{Held, Level, Lost, Range, Shape}
 use Rattle.ddf_config.specs.ElementValue.{ElementValue}
@@ -77,19 +76,10 @@ three_none a b c one two three =
 
 -- ---- an array that may be read
 
-in_range : (complete passes many : Bool) (capacity : ℕ) → refuse_if (complete && (passes || many)) (Range capacity) ≡ None → refuse_if (not complete) Lost ≡ None → many ≡ false
-in_range true true many capacity range whole = absurd cc
-in_range true false true capacity range whole = absurd cc
-in_range true false false capacity range whole = refl
-in_range false passes many capacity range whole = absurd cc
-
 within_range : (complete passes many : Bool) (capacity : ℕ) → refuse_if (complete && (passes || many)) (Range capacity) ≡ None → refuse_if (not complete) Lost ≡ None → passes ≡ false
 within_range true true many capacity range whole = absurd cc
 within_range true false many capacity range whole = refl
 within_range false passes many capacity range whole = absurd cc
-
-at_most : (most count : ℕ) → nat_lt most count ≡ false → count ≤ most
-at_most most count h = ltb-false most count h
 
 named_by : (arrays : List (List ℕ × Array)) (guid : List ℕ) (entry : List ℕ × Array) (found : Option Array) → lookup (same_guid guid) arrays ≡ found
     → option_map (λ array. (guid, array)) found ≡ Some entry → lookup (same_guid entry.0) arrays ≡ Some entry.1
@@ -107,15 +97,7 @@ named_in arrays entry (Some guid) e = named_by arrays guid entry (lookup (same_g
 pub named_is : (arrays : List (List ℕ × Array)) (word : List ℕ) (entry : List ℕ × Array) → named_array arrays word ≡ Some entry → lookup (same_guid entry.0) arrays ≡ Some entry.1
 named_is arrays word entry e = named_in arrays entry (named_guid arrays word) e
 
--- so many blocks may be read at the most
-pub few_blocks : (group : GroupValue) (start count : ℕ) (entry : List ℕ × Array) → first_refusal (array_refusals group entry.1 start count) ≡ None → count ≤ 2048
-few_blocks group start count entry accepted =
-    let array = entry.1 in
-    let none = none_of_six (unserved_level array) (refuse_if (not (is_served_on group.config.members group.seats (extents group.config.arrays) array)) Shape)
-    (refuse_if (is_out_of_range array start count) (Range (array_capacity array))) (bad_blocks group.seats array) (refuse_if (is_held array) Held) (refuse_if (not (is_complete array)) Lost) accepted in
-    at_most 2048 count (in_range (is_complete array) (nat_lt (array_capacity array) (start + count)) (nat_lt 2048 count) (array_capacity array) none.3 none.2)
-
--- and they don't pass the capacity
+-- its blocks don't pass the capacity
 pub range_of : (group : GroupValue) (start count : ℕ) (entry : List ℕ × Array) → first_refusal (array_refusals group entry.1 start count) ≡ None → nat_lt (array_capacity entry.1) (start + count) ≡ false
 range_of group start count entry accepted =
     let array = entry.1 in
@@ -134,14 +116,13 @@ module _ (group : GroupValue) (word : List ℕ) (start count : ℕ) (entry : Lis
       let none = none_of_six unserved ill (refuse_if (is_out_of_range array start count) (Range (array_capacity array))) (bad_blocks group.seats array) (refuse_if (is_held array) Held) unknown accepted in
       has_view group.config entry.0 group.seats array (named_is group.config.arrays word entry named) (three_none unserved ill unknown none.0 none.1 none.2)
 
-  pub may_view : first_refusal (array_refusals group entry.1 start count) ≡ None → (result : Result Volume Failure) → IsViewed (view_of group.config entry.0 group.seats) result
-      → MayRead group word start count result
-  may_view accepted (Ok volume) is = record { entry = entry; is_named = named; is_view = is; accepted = accepted }
-  may_view accepted (Err (Refused refusal)) is = let view = viewable accepted in absurd cc
-  may_view accepted (Err Memory) is = tt
-  may_view accepted (Err (Disk slot)) is = absurd is
-  may_view accepted (Err (Conflict i j sequence differ)) is = absurd is
-  may_view accepted (Err (Split i j)) is = absurd is
+  pub may_not_view : first_refusal (array_refusals group entry.1 start count) ≡ None → (failure : Failure) → IsViewed (view_of group.config entry.0 group.seats) (Err failure)
+      → MayRead group word start count (Err failure)
+  may_not_view accepted (Refused refusal) is = let view = viewable accepted in absurd cc
+  may_not_view accepted Memory is = tt
+  may_not_view accepted (Disk slot) is = absurd is
+  may_not_view accepted (Conflict i j sequence differ) is = absurd is
+  may_not_view accepted (Split i j) is = absurd is
 
   -- one that something refuses is refused for it
   pub may_refuse_for : (refusal : Refusal) → first_refusal (array_refusals group entry.1 start count) ≡ Some refusal → read_refusal group (named_array group.config.arrays word) start count ≡ Some refusal

@@ -1,6 +1,7 @@
 -- What a command that changes a group does, and how it ends.
 use Rattle.std.specs.Prelude.{◌≡◌, ◌⊎◌, ℕ, ◌<◌, Bool, true, false, List, [], ◌∷◌, length, Option, Result, Ok, Err, IsTrue, slice_index_or}
 use Rattle.ddf_bytes.specs.Counts.{Rose}
+use Rattle.ddf_bay.specs.Moments.{StopsLeave}
 use Rattle.ddf_bay.specs.ReadsOnly.{LookFailed, ReadsOnly}
 use Rattle.ddf_bay.specs.State.{BayState}
 use Rattle.ddf_copy.specs.declared.newest_copy.Newest.{Newest}
@@ -28,6 +29,7 @@ use Rattle.ddf_command.specs.Answers.{IsToldFailure, failure_of, failure_of_grou
 use Rattle.ddf_command.specs.Call.{Answer, Work}
 use Rattle.ddf_command.specs.Others.{LeavesOthers}
 use Rattle.ddf_command.specs.Tells.{ClosesWith}
+use Rattle.ddf_command.specs.Writing.{IsLeftWriting}
 use Rattle.ddf_command.specs.Written.{AreWritten}
 
 -- ---- what is asked of a group
@@ -103,15 +105,18 @@ KeepsHistories old new left found steps outcome =
     → KeepsHistory group old new past left found (changes_in found steps) (is_done outcome)
 
 -- A call came to this: what it made of the group that the newest copies of the slots give that aren't left out. A slot is left out
--- only where a call of this call failed on it.
+-- where a call of this call failed on it, as it was read, and nowhere else.
 pub record HasChanged {D : Type 0} (work : Work D) (named : Option (List ℕ)) (timestamp : ℕ) (request : Request) (outcome : Result ℕ Failure) : Type 0 where
   pub left : List Bool
   pub every_slot : length left ≡ length work.old.sizes
   pub failed : (slot : ℕ) → slot < length left → IsTrue (slice_index_or left slot false) → LookFailed work.old work.new slot
+  pub seen : (slot : ℕ) → slot < length left → slice_index_or left slot false ≡ false → work.new.failed_reads slot ≡ work.old.failed_reads slot
   pub newest : List (Option Newest)
   pub read : work.tells → newest ≡ newest_from work.old 0 left
   pub gives : IsChangedIn work timestamp request (group_of newest named) outcome
   pub beside : work.tells → (found : GroupValue) → group_of newest named ≡ Ok found → LeavesOthers work.old work.new (slots_of found.seats)
+  pub leaves : work.tells → (found : GroupValue) → group_of newest named ≡ Ok found → (steps : List Step) → steps_of found timestamp request ≡ Ok steps
+      → StopsLeave work.old work.new (IsLeftWriting work.old steps)
   pub keeps : work.tells → (found : GroupValue) → group_of newest named ≡ Ok found → (steps : List Step) → steps_of found timestamp request ≡ Ok steps
       → KeepsHistories work.old work.new left found steps outcome
 

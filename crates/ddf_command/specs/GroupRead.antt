@@ -1,7 +1,7 @@
 -- The group that the disks are, or why there is none.
 use Rattle.std.specs.Prelude.{◌≡◌, ◌⊎◌, ℕ, ◌<◌, Bool, false, List, length, Option, Result, Ok, Err, IsTrue, slice_index_or}
 use Rattle.ddf_bay.specs.State.{BayState}
-use Rattle.ddf_bay.specs.ReadsOnly.{LookFailed}
+use Rattle.ddf_bay.specs.ReadsOnly.{LookFailed, SlotSame}
 use Rattle.ddf_copy.specs.declared.newest_copy.Newest.{Newest}
 use Rattle.ddf_config.specs.Seats.{SeatsFit}
 use Rattle.ddf_group.specs.declared.answer.Assembly.{Assembly}
@@ -19,12 +19,13 @@ abbrev pub group_or : Result GroupValue Assembly → Result GroupValue Failure
 group_or (Ok group) = Ok group
 group_or (Err fault) = Err (failure_of fault)
 
--- A call came to this, or memory ran out: what the newest copies of the slots give that aren't left out. A slot is left out only where a
--- call of this call failed on it.
+-- A call came to this, or memory ran out: what the newest copies of the slots give that aren't left out. A slot is left out where a call of
+-- this call failed on it, and nowhere else.
 pub record IsGroupRead {D : Type 0} (work : Work D) (named : Option (List ℕ)) (result : Result GroupValue Failure) : Type 0 where
   pub left : List Bool
   pub every_slot : length left ≡ length work.old.sizes
   pub failed : (slot : ℕ) → slot < length left → IsTrue (slice_index_or left slot false) → LookFailed work.old work.new slot
+  pub seen : (slot : ℕ) → slot < length left → slice_index_or left slot false ≡ false → SlotSame work.old work.new slot
   pub newest : List (Option Newest)
   pub read : work.tells → newest ≡ newest_from work.old 0 left
   pub answer : (result ≡ group_or (group_of newest named)) ⊎ (result ≡ Err Memory)

@@ -54,9 +54,10 @@ module _ {B : Type 0} {tells : Type 0} (told : tells) (disks : B → BayState B)
   -- The call came to its end, where the bay still tells what a stop may leave.
   pub record IsEnd (old new : Moment (groups group) B) : Type 0 where
     pub call : GroupCall old
+    pub kept : AreAllKept group old.past (disks old.bay)
     pub tells_left : (disks call.exit).tells_left
     pub is_left : (scene : Scene View) → Leaves new.bay scene → Leaves call.exit scene
-    pub is_past : (kept : AreAllKept group old.past (disks old.bay)) → new.past ≡ ((kept_by old call kept).ends tells_left).0
+    pub is_past : new.past ≡ ((kept_by old call kept).ends tells_left).0
 
   -- how far a call came at a moment: as at its entry, or this far
   abbrev pub past_at : {A : Type 0} {P Q : Past (groups group) → Type 0} → Past (groups group) → A ⊎ ((now : Past (groups group)) × P now × Q now) → Past (groups group)
@@ -66,11 +67,13 @@ module _ {B : Type 0} {tells : Type 0} (told : tells) (disks : B → BayState B)
   -- A stop within the call left this image.
   pub record IsCut (old new : Moment (groups group) B) : Type 0 where
     pub call : GroupCall old
+    pub kept : AreAllKept group old.past (disks old.bay)
     pub image : Image
+    pub since : (disks old.bay).moment ≤ (disks old.bay).moment
     pub was_left : (disks call.exit).left_since (disks old.bay).moment image
     pub is_left : (scene : Scene View) → Leaves new.bay scene → scene ≡ scene_of (disks old.bay).sizes image
-    pub is_past : (since : (disks old.bay).moment ≤ (disks old.bay).moment) (kept : AreAllKept group old.past (disks old.bay))
-        → new.past ≡ past_at {P = Goes group old.past (is_read call.changed.left) call.found (changes_in call.found call.steps)} {Q = λ now. IsKept now (scene_of (disks old.bay).sizes image)}
+    pub is_past :
+        new.past ≡ past_at {P = Goes group old.past (is_read call.changed.left) call.found (changes_in call.found call.steps)} {Q = λ now. IsKept now (scene_of (disks old.bay).sizes image)}
         old.past ((kept_by old call kept).any_moment.since (disks old.bay).moment image since was_left)
 
   -- ---- other calls

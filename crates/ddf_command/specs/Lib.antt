@@ -10,10 +10,13 @@ pub mod Label
 pub mod Assemble
 pub mod Arrays
 pub mod Read
+pub mod Pieces
 pub mod Written
+pub mod Writing
 pub mod Change
 pub mod GroupRead
 pub mod Requests
 pub mod Run
 pub mod History
 pub mod Others
+pub mod Cut

@@ -1,7 +1,7 @@
 -- What `read` tells, and how it ends.
-use Rattle.std.specs.Prelude.{◌≡◌, ◌⊎◌, ℕ, ◌+◌, ◌<◌, Vec, Bool, true, false, not, ◌&&◌, ◌||◌, nat_lt, List, [], ◌∷◌, ◌++◌, length, Option, Some, None, Result, Ok, Err, IsTrue, slice_index_or}
+use Rattle.std.specs.Prelude.{◌≡◌, ◌⊎◌, ℕ, ◌+◌, ◌-◌, ◌%◌, ◌<◌, ◌≤◌, Bool, true, false, not, ◌&&◌, ◌||◌, nat_lt, List, [], ◌∷◌, ◌++◌, length, Option, Some, None, Result, Ok, Err, IsTrue, slice_index_or}
 use Rattle.std.specs.List.{flat_map}
-use Rattle.std.specs.declared.alloc.Global.{Global}
+use Rattle.ddf_bytes.specs.Streams.{TakesFront}
 use Rattle.ddf_bay.specs.ReadsOnly.{LookFailed}
 use Rattle.ddf_copy.specs.declared.newest_copy.Newest.{Newest}
 use Rattle.ddf_config.specs.declared.array.Array.{Array}
@@ -29,11 +29,15 @@ use Rattle.ddf_command.specs.declared.failure.Failure.TheVariants.{Conflict, Dis
 use Rattle.ddf_command.specs.Answers.{IsToldFailure, failure_of}
 use Rattle.ddf_command.specs.Arrays.{bad_blocks, is_held}
 use Rattle.ddf_command.specs.Call.{Answer, Work}
-use Rattle.ddf_command.specs.Tells.{ClosesWith}
+use Rattle.ddf_command.specs.Tells.{EndedWith}
 
 -- the most blocks of one read (profile)
 abbrev pub most_blocks : ℕ
 most_blocks = 2048
+
+-- the blocks of a piece: so many are read and printed, and then the next (profile)
+abbrev pub piece_blocks : ℕ
+piece_blocks = 128
 
 -- ---- what it is refused for
 
@@ -79,48 +83,61 @@ read_refusal group (Some entry) start count = first_refusal (array_refusals grou
 
 -- ---- what it gives
 
--- The sectors are the blocks of the array from a number on, as their sources give them, and where no read failed in this
--- call on a slot of the array's available places exactly their values.
-pub record AreBlocks {D : Type 0} (work : Work D) (group : GroupValue) (word : List ℕ) (start : ℕ) (sectors : List (List ℕ)) : Type 0 where
-  pub entry : List ℕ × Array
-  pub volume : Volume
-  pub is_named : named_array group.config.arrays word ≡ Some entry
-  pub is_view : view_of group.config entry.0 group.seats ≡ Ok volume
-  pub given : work.tells → AreGiven (Failed work.old work.new) work.old.held volume start (length sectors) sectors
-  pub values : work.tells → NoneFailed volume work.old work.new → AreValues work.old.held volume start (length sectors) sectors
+-- What came of a read: all blocks were read; none was, for this reason; the first were, and of one behind them no source is left, at
+-- this slot; the first were, and then the output gave out.
+pub data Outcome : Type 0 where
+  Whole : (sectors : List (List ℕ)) → Outcome
+  NotRead : (failure : Failure) → Outcome
+  Stopped : (front : List (List ℕ)) → (slot : ℕ) → Outcome
+  CutShort : (front : List (List ℕ)) → Outcome
 
--- No source is left for one of the blocks: each has a slot of which a read failed in this call, and the named one is such
--- a slot of the block's first source.
-pub record IsWithoutSource {D : Type 0} (work : Work D) (group : GroupValue) (word : List ℕ) (start count slot : ℕ) : Type 0 where
-  pub there : slot < length work.old.sizes
-  pub entry : List ℕ × Array
-  pub volume : Volume
-  pub is_named : named_array group.config.arrays word ≡ Some entry
-  pub is_view : view_of group.config entry.0 group.seats ≡ Ok volume
-  pub none_left : NoneLeftIn (Failed work.old work.new) volume start count slot
-
--- what came of a group: the blocks, that it is refused, that a block has no source left, or want of memory
-abbrev pub IsReadOf : {D : Type 0} → Work D → GroupValue → (word : List ℕ) → (start count : ℕ) → Result (List (List ℕ)) Failure → Type 0
-IsReadOf work group word start count (Ok sectors) =
-    (length sectors ≡ count) × (read_refusal group (named_array group.config.arrays word) start count ≡ None) × AreBlocks work group word start sectors
-IsReadOf work group word start count (Err (Refused refusal)) = read_refusal group (named_array group.config.arrays word) start count ≡ Some refusal
-IsReadOf work group word start count (Err (Disk slot)) =
-    (read_refusal group (named_array group.config.arrays word) start count ≡ None) × IsWithoutSource work group word start count slot
-IsReadOf work group word start count (Err Memory) = Unit {0}
-IsReadOf work group word start count (Err (Conflict i j sequence differ)) = ⊥
-IsReadOf work group word start count (Err (Split i j)) = ⊥
-
-abbrev pub IsReadIn : {D : Type 0} → Work D → (word : List ℕ) → (start count : ℕ) → Result GroupValue Assembly → Result (List (List ℕ)) Failure → Type 0
-IsReadIn work word start count (Ok group) outcome = IsReadOf work group word start count outcome
-IsReadIn work word start count (Err fault) outcome = (outcome ≡ Err (failure_of fault)) ⊎ (outcome ≡ Err Memory)
-
--- An array may be read, but for what its blocks tell, or why it may not.
+-- The word names an array of the group, of which so many blocks may be read from a number on.
 pub record IsReadable (group : GroupValue) (word : List ℕ) (start count : ℕ) (volume : Volume) : Type 0 where
   pub entry : List ℕ × Array
   pub is_named : named_array group.config.arrays word ≡ Some entry
   pub is_view : view_of group.config entry.0 group.seats ≡ Ok volume
-  pub accepted : first_refusal (array_refusals group entry.1 start count) ≡ None
+  pub accepted : read_refusal group (named_array group.config.arrays word) start count ≡ None
 
+-- The sectors are the blocks of an array from a number on, as their sources give them, and where no read failed in this
+-- call on a slot of the array's available places exactly their values.
+pub record AreBlocks {D : Type 0} (work : Work D) (volume : Volume) (start : ℕ) (sectors : List (List ℕ)) : Type 0 where
+  pub given : work.tells → AreGiven (Failed work.old work.new) work.old.held volume start (length sectors) sectors
+  pub values : work.tells → NoneFailed volume work.old work.new → AreValues work.old.held volume start (length sectors) sectors
+
+-- They are the first of so many blocks: all, or those of whole pieces.
+pub record AreFirstBlocks {D : Type 0} (work : Work D) (volume : Volume) (start count : ℕ) (sectors : List (List ℕ)) : Type 0 where
+  pub blocks : AreBlocks work volume start sectors
+  pub within : length sectors ≤ count
+  pub pieces : length sectors < count → length sectors % piece_blocks ≡ 0
+
+-- No source is left for one of the blocks: each has a slot of which a read failed in this call, and the named one is such
+-- a slot of the block's first source.
+pub record IsWithoutSource {D : Type 0} (work : Work D) (volume : Volume) (start count slot : ℕ) : Type 0 where
+  pub there : slot < length work.old.sizes
+  pub none_left : NoneLeftIn (Failed work.old work.new) volume start count slot
+
+-- what came of an array that may be read: the blocks; that one of them has no source left; the first, and that one of the others has
+-- none left; the first; or want of memory
+abbrev pub IsReadFrom : {D : Type 0} → Work D → Volume → (start count : ℕ) → Outcome → Type 0
+IsReadFrom work volume start count (Whole sectors) = (length sectors ≡ count) × AreBlocks work volume start sectors
+IsReadFrom work volume start count (NotRead (Disk slot)) = IsWithoutSource work volume start count slot
+IsReadFrom work volume start count (NotRead Memory) = Unit {0}
+IsReadFrom work volume start count (NotRead other) = ⊥
+IsReadFrom work volume start count (Stopped front slot) =
+    (0 < length front) × AreFirstBlocks work volume start count front × IsWithoutSource work volume (start + length front) (count - length front) slot
+IsReadFrom work volume start count (CutShort front) = AreFirstBlocks work volume start count front
+
+-- what came of a group: that it is refused, want of memory, or what came of the array
+abbrev pub IsReadOf : {D : Type 0} → Work D → GroupValue → (word : List ℕ) → (start count : ℕ) → Outcome → Type 0
+IsReadOf work group word start count (NotRead (Refused refusal)) = read_refusal group (named_array group.config.arrays word) start count ≡ Some refusal
+IsReadOf work group word start count (NotRead Memory) = Unit {0}
+IsReadOf work group word start count outcome = (volume : Volume) × IsReadable group word start count volume × IsReadFrom work volume start count outcome
+
+abbrev pub IsReadIn : {D : Type 0} → Work D → (word : List ℕ) → (start count : ℕ) → Result GroupValue Assembly → Outcome → Type 0
+IsReadIn work word start count (Ok group) outcome = IsReadOf work group word start count outcome
+IsReadIn work word start count (Err fault) outcome = (outcome ≡ NotRead (failure_of fault)) ⊎ (outcome ≡ NotRead Memory)
+
+-- an array may be read, why it may not, or want of memory
 abbrev pub MayRead : GroupValue → (word : List ℕ) → (start count : ℕ) → Result Volume Failure → Type 0
 MayRead group word start count (Ok volume) = IsReadable group word start count volume
 MayRead group word start count (Err (Refused refusal)) = read_refusal group (named_array group.config.arrays word) start count ≡ Some refusal
@@ -145,11 +162,6 @@ failure_of_read volumes.Lost = Refused Lost
 failure_of_read volumes.Unsure = Refused Unsure
 failure_of_read (volumes.Disk slot) = Disk slot
 
--- the bytes of sectors that were read
-abbrev pub sectors_read : Result (Vec (List ℕ) Global) Failure → Result (List (List ℕ)) Failure
-sectors_read (Ok sectors) = Ok sectors.items
-sectors_read (Err failure) = Err failure
-
 -- no array of the group, if there is one, has an available place on this slot
 abbrev pub HasNoPlace : Result GroupValue Assembly → ℕ → Type 0
 HasNoPlace (Ok group) slot = (guid : List ℕ) (volume : Volume) → view_of group.config guid group.seats ≡ Ok volume → IsOn volume slot → ⊥
@@ -157,7 +169,7 @@ HasNoPlace (Err fault) slot = Unit {0}
 
 -- A call came to this: what the group gives that the newest copies of the slots are that aren't left out. A slot is left out only
 -- where a call of this call failed on it, and then no array has an available place on it.
-pub record HasRead {D : Type 0} (work : Work D) (named : Option (List ℕ)) (word : List ℕ) (start count : ℕ) (outcome : Result (List (List ℕ)) Failure) : Type 0 where
+pub record HasRead {D : Type 0} (work : Work D) (named : Option (List ℕ)) (word : List ℕ) (start count : ℕ) (outcome : Outcome) : Type 0 where
   pub left : List Bool
   pub every_slot : length left ≡ length work.old.sizes
   pub failed : (slot : ℕ) → slot < length left → IsTrue (slice_index_or left slot false) → LookFailed work.old work.new slot
@@ -166,13 +178,24 @@ pub record HasRead {D : Type 0} (work : Work D) (named : Option (List ℕ)) (wor
   pub no_place : work.tells → (slot : ℕ) → IsTrue (slice_index_or left slot false) → HasNoPlace (group_of newest named) slot
   pub gives : IsReadIn work word start count (group_of newest named) outcome
 
--- what is told of it: the bytes of the blocks alone, or why there are none
-abbrev pub IsReadTold : Result (List (List ℕ)) Failure → Answer → Type 0
-IsReadTold (Ok sectors) answer = ClosesWith 0 (flat_map (λ sector. sector) sectors) answer
-IsReadTold (Err failure) answer = IsToldFailure failure answer
+-- ---- what it tells
 
--- It came to this, and said so.
-pub record IsReadDone {D : Type 0} (work : Work D) (named : Option (List ℕ)) (word : List ℕ) (start count : ℕ) (answer : Answer) : Type 0 where
-  pub outcome : Result (List (List ℕ)) Failure
-  pub has : HasRead work named word start count outcome
+-- the bytes of sectors
+abbrev pub bytes_of : List (List ℕ) → List ℕ
+bytes_of sectors = flat_map (λ sector. sector) sectors
+
+-- what is told: the bytes of the blocks alone; why there are none; the bytes of the first blocks alone; a front of these
+abbrev pub IsReadTold : Outcome → Answer → Type 0
+IsReadTold (Whole sectors) answer = EndedWith 0 (bytes_of sectors) answer
+IsReadTold (NotRead failure) answer = IsToldFailure failure answer
+IsReadTold (Stopped front slot) answer = EndedWith 3 (bytes_of front) answer
+IsReadTold (CutShort front) answer = (answer.status ≡ 6) × (answer.tells → TakesFront answer.old answer.new (bytes_of front))
+
+-- It came to an outcome of this kind, and said so.
+pub record CameTo (Has : Outcome → Type 0) (answer : Answer) : Type 0 where
+  pub outcome : Outcome
+  pub has : Has outcome
   pub ends : IsReadTold outcome answer
+
+abbrev pub IsReadDone : {D : Type 0} → Work D → (named : Option (List ℕ)) → (word : List ℕ) → (start count : ℕ) → Answer → Type 0
+IsReadDone work named word start count answer = CameTo (HasRead work named word start count) answer

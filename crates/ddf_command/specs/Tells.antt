@@ -17,6 +17,11 @@ pub record EndsWith (expected : ℕ) (text : List ℕ) (answer : Answer) : Type 
   pub ends : (answer.status ≡ expected) ⊎ IsCutShort answer.status
   pub tells : answer.tells → Tells answer text
 
+-- A call told exactly this text and ended with this status.
+pub record EndedWith (expected : ℕ) (text : List ℕ) (answer : Answer) : Type 0 where
+  pub ends : answer.status ≡ expected
+  pub tells : answer.tells → answer.new.taken ≡ answer.old.taken ++ text
+
 -- A call that takes no memory any more tells this text and ends with this status, unless the output gives out.
 pub record ClosesWith (expected : ℕ) (text : List ℕ) (answer : Answer) : Type 0 where
   pub ends : (answer.status ≡ expected) ⊎ (answer.status ≡ 6)

@@ -7,5 +7,6 @@ pub(crate) mod examine;
 pub(crate) mod fail;
 pub(crate) mod label;
 mod label_slots;
+mod pieces;
 pub(crate) mod read;
 pub(crate) mod spare;

@@ -57,6 +57,7 @@ pub fn run<B: Bay, S: Source, K: Sink>(
     // What stays.
     ensures stays { AsksForNoWrite (words_of words.now) → ReadsOnly (B.disks bay.old) (B.disks bay.new) }
     ensures goes_on { GoesOn (B.disks bay.old) (B.disks bay.new) }
+    ensures same_sizes { (B.disks bay.new).sizes ≡ (B.disks bay.old).sizes }
     ensures source { source.new ≡ source.old }
 
     // Each status has its cause.

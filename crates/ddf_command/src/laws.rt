@@ -1,18 +1,34 @@
 // Laws of histories: functions that do nothing, whose contracts are the laws.
-ghost use Rattle.std.specs.Prelude.{◌≡◌, ℕ, ◌∷◌, List, Ok};
+ghost use Rattle.std.specs.Prelude.{◌≡◌, ◌<◌, ◌-◌, ◌^◌, ℕ, Bool, true, false, ◌∷◌, [], List, length, Option, Some, Result, Ok, slice_get};
+ghost use Rattle.std.specs.Str.{bytes_eq};
 ghost use Rattle.ddf_bytes.specs.declared.stamp.Stamp.{Stamp};
+ghost use Rattle.ddf_bay.specs.Moments.{GoesOn};
 ghost use Rattle.ddf_bay.specs.Sectors.{Image, IsLeft};
+ghost use Rattle.ddf_plan.specs.declared.change.Change.{Change};
 ghost use Rattle.ddf_update.specs.NewCopies.{group_of};
-ghost use Rattle.ddf_history.specs.Groups.{groups};
+ghost use Rattle.ddf_view.specs.View.{View, view_of};
+ghost use Rattle.ddf_history.specs.Calls.{IsAside};
+ghost use Rattle.ddf_history.specs.Groups.{disk_of, groups};
 ghost use Rattle.ddf_history.specs.History.{AllKept, Answers, IsHistory, KeepsAcked, Moment};
 ghost use Rattle.ddf_history.specs.Issued.{Past};
-ghost use Rattle.ddf_history.specs.Reading.{Each};
+ghost use Rattle.ddf_history.specs.Reading.{Each, Scene};
 ghost use Rattle.ddf_history.specs.Scenes.{scene_of};
-ghost use Rattle.ddf_stops.specs.Founding.{AreNamesNew, IsNewGroup};
-ghost use Rattle.ddf_stops.specs.Kept.{AreAllKept};
+ghost use Rattle.ddf_assembly.specs.Committed.{slots_of};
+ghost use Rattle.ddf_assembly.specs.Group.{GroupValue, group_of as group_found};
+ghost use Rattle.ddf_assembly.specs.Ready.{readied};
+ghost use Rattle.ddf_assembly.specs.Seated.{seated};
+ghost use Rattle.ddf_assembly.specs.Steps.{Step};
+ghost use Rattle.ddf_assembly.specs.declared.seated.Seated.{Seated};
+ghost use Rattle.ddf_stops.specs.Founding.{AreNamesNew, IsNewGroup, founding_config};
+ghost use Rattle.ddf_stops.specs.Kept.{AreAllKept, is_read, is_slot};
 ghost use Rattle.ddf_command.specs.Call.{work_of};
-ghost use Rattle.ddf_command.specs.History.{IsCall, Leaves};
+ghost use Rattle.ddf_command.specs.Change.{HasChanged, Request};
+ghost use Rattle.ddf_command.specs.Cut.{AreLabelled, Gives, IsLeftByLabel, IsNewLabel};
+ghost use Rattle.ddf_command.specs.History.{GroupCall, IsCall, IsCut, IsEnd, Leaves, OtherCall};
 ghost use Rattle.ddf_command.specs.Label.{IsTried, label_copy, label_slots};
+ghost use Rattle.ddf_command.specs.Others.{LeavesOthers};
+ghost use Rattle.ddf_command.specs.Writing.{IsWrittenOn};
+ghost use Rattle.ddf_command.specs.declared.failure.Failure.{Failure};
 
 use ddf_bay::Bay;
 
@@ -34,14 +50,77 @@ pub fn a_group_is_assembled_at_every_moment_of_its_history<B: Bay>()
         → Each (AllKept (Leaves told B.disks group)) history }
 {}
 
+/// Each call on a group that its history admits is an event of it: at its end, where the bay still tells what a stop may leave, and with
+/// whatever image a stop left since its entry.
+pub fn a_call_is_an_event_of_its_history<B: Bay>()
+    ensures ends { (told : B.tells) (group : List ℕ) (old : Moment (groups group) B) (call : GroupCall told B.disks group old) → AreAllKept group old.past (B.disks old.bay)
+        → (B.disks call.exit).tells_left → (new : Moment (groups group) B) × (new.bay ≡ call.exit) × IsEnd told B.disks group old new }
+    ensures cut { (told : B.tells) (group : List ℕ) (old : Moment (groups group) B) (call : GroupCall told B.disks group old) → AreAllKept group old.past (B.disks old.bay)
+        → (cut : B) (image : Image) → (B.disks call.exit).left_since (B.disks old.bay).moment image
+        → ((scene : Scene View) → Leaves told B.disks group cut scene → scene ≡ scene_of (B.disks old.bay).sizes image)
+        → (new : Moment (groups group) B) × (new.bay ≡ cut) × IsCut told B.disks group old new }
+{}
+
 /// A history of a new group begins where a `label` was done: whatever a stop may leave then shows the group on each of its disks. The names
 /// of the group and of its disks are new, so that no other slot shows them.
 pub fn a_label_begins_a_history<B: Bay>()
     ensures { (told : B.tells) (stamp : Stamp) (named : List ℕ) (old new : B) → IsTried (work_of B.tells (B.disks old) (B.disks new)) stamp named (Ok tt)
         → (B.disks new).sizes ≡ (B.disks old).sizes → IsLeft (B.disks old).may_hold (B.disks old).held
         → ((image : Image) → IsLeft (B.disks old).may_hold image
-        → AreNamesNew (group_of stamp) (label_slots (B.disks old).sizes named) (label_copy stamp (B.disks old).sizes named) (scene_of (B.disks old).sizes image))
+        → AreNamesNew (group_of stamp) (is_slot (label_slots (B.disks old).sizes named)) (label_copy stamp (B.disks old).sizes named) (scene_of (B.disks old).sizes image))
         → (past : Past (groups (group_of stamp)))
-        → IsNewGroup (group_of stamp) past (B.disks old).sizes (label_slots (B.disks old).sizes named) (label_copy stamp (B.disks old).sizes named)
+        → IsNewGroup (group_of stamp) past (B.disks old).sizes (label_slots (B.disks old).sizes named) (label_copy stamp (B.disks old).sizes named) (is_slot (label_slots (B.disks old).sizes named))
         → AreAllKept (group_of stamp) past (B.disks new) }
+{}
+
+/// A `label` that was cut short begins a history too, of the disks that had their copies by then: the members whose disks had none are absent.
+/// The names of the group and of its disks are new, so that no slot showed them before.
+pub fn a_label_cut_short_begins_a_history<B: Bay>()
+    ensures begins { (stamp : Stamp) (named : List ℕ) (old new cut : B) (founded : ℕ → Bool) → IsNewLabel (B.disks old) (B.disks new) stamp named
+        → IsLeftByLabel (B.disks old) (B.disks new) (B.disks cut) stamp named founded
+        → (past : Past (groups (group_of stamp)))
+        → IsNewGroup (group_of stamp) past (B.disks old).sizes (label_slots (B.disks old).sizes named) (label_copy stamp (B.disks old).sizes named) founded
+        → AreAllKept (group_of stamp) past (B.disks cut) }
+
+    // Whatever a stop left, it is told which slots are founded in it, if any.
+    ensures founded { (stamp : Stamp) (named : List ℕ) (old new : B) (image : Image) → IsNewLabel (B.disks old) (B.disks new) stamp named
+        → (B.disks new).left_since (B.disks old).moment image → (founded : ℕ → Bool) × AreLabelled (B.disks old) stamp named image founded }
+
+    // No other slot shows the group, or names a member of it: where none is founded, none does.
+    ensures others { (stamp : Stamp) (named : List ℕ) (old new : B) (image : Image) (founded : ℕ → Bool) → IsNewLabel (B.disks old) (B.disks new) stamp named
+        → (B.disks new).left_since (B.disks old).moment image → AreLabelled (B.disks old) stamp named image founded
+        → AreNamesNew (group_of stamp) founded (label_copy stamp (B.disks old).sizes named) (scene_of (B.disks old).sizes image) }
+
+    // Assembly of slots of which a founded one is read gives the founding configuration.
+    ensures assembles { (stamp : Stamp) (named : List ℕ) (old new cut : B) (founded : ℕ → Bool) → IsNewLabel (B.disks old) (B.disks new) stamp named
+        → IsLeftByLabel (B.disks old) (B.disks new) (B.disks cut) stamp named founded → IsLeft (B.disks cut).may_hold (B.disks cut).held
+        → (left : List Bool) → length left ≡ length (B.disks cut).sizes → (slot : ℕ) → founded slot ≡ true → is_read left slot ≡ true
+        → Gives (B.disks cut) left (group_of stamp) (founding_config (label_copy stamp (B.disks old).sizes named)) }
+{}
+
+/// A call that asked for no write leaves of every slot what a stop might have left before. A count at its last value tells nothing of that.
+pub fn a_call_without_a_write_leaves_all_as_it_was<B: Bay>()
+    ensures { (old new : B) → GoesOn (B.disks old) (B.disks new) → (B.disks new).sectors_asked ≡ (B.disks old).sectors_asked → (B.disks new).sectors_asked < 2 ^ 64 - 1
+        → LeavesOthers (B.disks old) (B.disks new) [] }
+{}
+
+/// Each copy that the steps of a group write is of the group, and names the disk that the copy of its seat named before.
+pub fn a_steps_copies_name_their_group_and_disks()
+    ensures group { (found : GroupValue) (changes : List Change) (timestamp : ℕ) (steps : List Step) → readied found changes timestamp ≡ Ok steps
+        → (slot : ℕ) (on : IsWrittenOn steps slot) → (view_of on.disk.copy).group ≡ found.config.group }
+    ensures disk { (found : GroupValue) (changes : List Change) (timestamp : ℕ) (steps : List Step) → readied found changes timestamp ≡ Ok steps
+        → (slot : ℕ) (on : IsWrittenOn steps slot) → (place : ℕ) × (before : Seated) × (slice_get (seated found) place ≡ Some before)
+        × (before.seat.slot ≡ slot) × (disk_of (view_of on.disk.copy) ≡ disk_of (view_of before.copy)) }
+{}
+
+/// A call of a command that changes another group, as the program's call promises it, doesn't take the group of a history, whether it was
+/// done, refused or cut short: where the slots of the other group's seats were aside before, whatever a stop might have left, they stay so.
+pub fn a_change_of_another_group_is_aside<B: Bay>()
+    ensures { (told : B.tells) (group : List ℕ) (old : Moment (groups group) B) (exit : B) (named : Option (List ℕ)) (timestamp : ℕ) (request : Request) (outcome : Result ℕ Failure)
+        → (changed : HasChanged (work_of B.tells (B.disks old.bay) (B.disks exit)) named timestamp request outcome)
+        → (found : GroupValue) → group_found changed.newest named ≡ Ok found → bytes_eq group found.config.group ≡ false
+        → IsLeft (B.disks old.bay).may_hold (B.disks old.bay).held
+        → ((image : Image) → IsLeft (B.disks old.bay).may_hold image → (slot : ℕ) → is_slot (slots_of found.seats) slot ≡ true
+        → IsAside old.past slot (scene_of (B.disks old.bay).sizes image slot))
+        → (call : OtherCall told B.disks group old) × (call.exit ≡ exit) × (call.written ≡ slots_of found.seats) }
 {}

@@ -25,7 +25,7 @@ use Rattle.ddf_assembly.specs.Slots.{newest_from}
 use Rattle.ddf_assembly.proofs.RecoveredGroup.{recovered_ready}
 use Rattle.ddf_stops.specs.Going.{Goes, IsAdmitted, IsOver, IsUnderway, KeepsHistory, changes_in}
 use Rattle.ddf_stops.specs.Kept.{AreAllKept, ReadsTrue, is_read}
-use Rattle.ddf_stops.proofs.AtEnd.{IsAtEnd}
+use Rattle.ddf_stops.specs.AtEnd.{IsAtEnd}
 use Rattle.ddf_stops.proofs.Committing as committing
 use Rattle.ddf_stops.proofs.CommittingFirst.{IsFirstStep, first_step, no_change}
 use Rattle.ddf_stops.proofs.CommittingGoes.{change_goes, change_over, changes_alone, changes_behind}

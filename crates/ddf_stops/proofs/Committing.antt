@@ -30,7 +30,7 @@ use Rattle.ddf_assembly.specs.Trying.{SlotsRise}
 use Rattle.ddf_assembly.proofs.Committed.{next_lies}
 use Rattle.ddf_assembly.proofs.CommittedAfter.{after_is, committed_anchored, committed_holds, left_ready}
 use Rattle.ddf_stops.specs.Kept.{is_slot}
-use Rattle.ddf_stops.proofs.AtEnd.{IsAtEnd, IsMember}
+use Rattle.ddf_stops.specs.AtEnd.{IsAtEnd, IsMember}
 use Rattle.ddf_stops.proofs.Changing.{acknowledged_last, follows}
 use Rattle.ddf_stops.proofs.ChangingCopies.{changed_views}
 use Rattle.ddf_stops.proofs.CommittingScenes.{all_say, changed_written, written_shows}
@@ -94,7 +94,7 @@ module _ (group : List ℕ) {D : Type 0} (past : Past (groups group)) (disks : B
     kept image left =
         let start = unwritten_left disks slots may.seat updates image (λ s l here. end.is_left s l) left in
         step_kept group past disks found end timestamp time change asked not_refused is_change rises image start (scene_of disks.sizes image)
-        (stop_writes disks slots may.seat updates image new news lies.are_slots lies.counted may.may_change (λ place slot at. end.says_one slot) left)
+        (stop_writes disks slots may.seat updates image lies.are_slots lies.counted may.may_change (λ place slot at. end.says_one slot) left new news)
 
     -- ---- behind it
 

@@ -81,7 +81,7 @@ module _ (found : GroupValue) (timestamp : ℕ) (ready : ReadyValue) where
   now = group_recovered found ready.recovery
 
   -- The changes are tried on the group as it is recovered.
-  tried_on : (changes : List Change) → WasReadied found changes timestamp ready
+  pub tried_on : (changes : List Change) → WasReadied found changes timestamp ready
       → steps_from timestamp None changes now.config (seated now) ≡ Ok (steps_in ready.steps)
   tried_on changes was =
       let is = is_recovered found changes timestamp ready was in

@@ -39,7 +39,7 @@ use Rattle.ddf_assembly.specs.Steps.{config_after, disks_after, stays_in}
 use Rattle.ddf_assembly.specs.Trying.{IsOfGroup}
 use Rattle.ddf_assembly.proofs.LeftStep.{same_disk, same_view}
 use Rattle.ddf_stops.specs.Kept.{is_slot, unwritten}
-use Rattle.ddf_stops.proofs.AtEnd.{IsAtEnd, IsMember}
+use Rattle.ddf_stops.specs.AtEnd.{IsAtEnd, IsMember}
 use Rattle.ddf_stops.proofs.Changing.{change_acknowledged, change_kept, follows, issued_kept}
 use Rattle.ddf_stops.proofs.ChangingCopies.{changed_views}
 use Rattle.ddf_stops.proofs.ChangingStays.{stays_current}

@@ -1,7 +1,7 @@
 -- A call keeps its history from its entry on, over all that it only read before, where the bay tells of it.
 use Rattle.std.proofs.Common.{ℕ, ◌≤◌, Bool, List, inl, inr, refl, subst, arith}
 use Rattle.ddf_bay.specs.ReadsOnly.{ReadsOnly}
-use Rattle.ddf_bay.specs.Sectors.{Image, IsLeft}
+use Rattle.ddf_bay.specs.Sectors.{Image}
 use Rattle.ddf_bay.specs.State.{BayState}
 use Rattle.ddf_bay.proofs.Steps.{left_keeps}
 use Rattle.ddf_config.specs.Configuration.{Configuration}

@@ -36,8 +36,8 @@ module _ {D : Type 0} (group : List ℕ) (old new : BayState D) (same_sizes : ne
   shown_before slot other none is_copy = subst (λ (shown : Shown View). IsCopyOf shown other) (same_else slot none) is_copy
 
   -- So names that were new are.
-  pub names_stay : ((before : Image) → IsLeft old.may_hold before → AreNamesNew group slots copy (scene_of old.sizes before))
-      → AreNamesNew group slots copy (scene_of new.sizes image)
+  pub names_stay : ((before : Image) → IsLeft old.may_hold before → AreNamesNew group (is_slot slots) copy (scene_of old.sizes before))
+      → AreNamesNew group (is_slot slots) copy (scene_of new.sizes image)
   names_stay were_new =
       let names_new = were_new (unwritten old slots image) left_before in
       record {

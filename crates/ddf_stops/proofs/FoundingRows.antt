@@ -1,23 +1,20 @@
 -- What the copies of new disks say: one table of the disks, each of them a current member with a reference of its own.
 use Rattle.std.proofs.Common.{◌≡◌, ℕ, zero, suc, ◌+◌, ◌-◌, ◌<◌, ◌≤◌, ◌==◌, ◌&&◌, Bool, true, false, not, List, [], ◌∷◌, ◌++◌, length, replicate, Option, None, Some, refl, ap, sym, ◌∙◌, subst, inl, inr, arith, map, filter_map, find, nat_eq}
-use Rattle.std.proofs.lemmas.Bool.{and_from, cases_eq, eq-eqb}
+use Rattle.std.proofs.lemmas.Bool.{and_from, cases_eq, eq-eqb, ne_eqb}
 use Rattle.std.specs.Prelude.{is_some, option_map, slice_get}
 use Rattle.std.specs.List.{AllByRecursion, IsDistinct}
 use Rattle.std.specs.Option.{option_map_or}
 use Rattle.std.specs.Str.{bytes_eq}
 use Rattle.ddf_bytes.specs.declared.stamp.Stamp.{Stamp}
 use Rattle.ddf_tables.specs.declared.disks.DiskEntry.{DiskEntry}
-use Rattle.ddf_tables.specs.declared.disks.DiskRow.{DiskRow}
 use Rattle.ddf_tables.specs.declared.disks.DiskRow.TheVariants as disk_rows
-use Rattle.ddf_tables.specs.Disks.{reference_of}
 use Rattle.ddf_configs.specs.declared.notes.Notes.{Notes}
 use Rattle.ddf_configs.specs.declared.notes.SlotNote.{SlotNote}
 use Rattle.ddf_configs.specs.declared.spare.SpareRecord.{SpareRecord}
 use Rattle.ddf_configs.specs.declared.slot.RecordSlot.{RecordSlot}
 use Rattle.ddf_configs.specs.declared.slot.RecordSlot.TheVariants as slots
 use Rattle.ddf_configs.specs.Slots.{valid_notes}
-use Rattle.ddf_update.specs.NewCopies.{disk_guid, entries_from, group_of, new_arrays, new_copy, new_notes, new_rows, new_slots, reference_at, unused_slot}
-use Rattle.ddf_update.proofs.NewRows.{have_references}
+use Rattle.ddf_update.specs.NewCopies.{disk_guid, entries_from, group_of, new_arrays, new_copy, new_notes, new_slots, reference_at, unused_slot}
 use Rattle.ddf_view.specs.View.{View, Held, disk_of, first_spare, held_from, is_missing, lists_current, view_of}
 use Rattle.ddf_view.proofs.Tests.{bytes_same}
 use Rattle.ddf_history.proofs.Since.{which}
@@ -33,15 +30,29 @@ disks_from stamp place sizes unused = filter_map disk_of (entries_from stamp pla
 abbrev pub new_disk_list : Stamp → List ℕ → List DiskEntry
 new_disk_list stamp sizes = disks_from stamp 0 sizes (15 - length sizes)
 
--- The references in a table are those of its disks.
-references : (rows : List DiskRow) → filter_map reference_of rows ≡ map (λ disk. disk.reference) (filter_map disk_of rows)
-references [] = refl
-references (disk_rows.Entry entry ∷ rows) = ap (λ others. entry.reference ∷ others) (references rows)
-references (disk_rows.Unused whole ∷ rows) = references rows
+-- An unused row lists no disk.
+none_of_unused : (unused : ℕ) → filter_map disk_of (replicate unused (disk_rows.Unused (replicate 64 255))) ≡ []
+none_of_unused zero = refl
+none_of_unused (suc unused) = none_of_unused unused
+
+-- The reference of a disk is none of those behind it.
+later_differ : (stamp : Stamp) (one place : ℕ) (sizes : List ℕ) (unused : ℕ) → one < place
+    → AllByRecursion (λ name. nat_eq (reference_at stamp one) name ≡ false) (map (λ disk. disk.reference) (disks_from stamp place sizes unused))
+later_differ stamp one place [] unused lt =
+    subst (λ disks. AllByRecursion (λ name. nat_eq (reference_at stamp one) name ≡ false) (map (λ disk. disk.reference) disks)) (sym (none_of_unused unused)) tt
+later_differ stamp one place (size ∷ sizes) unused lt = (
+  ne_eqb (reference_at stamp one) (reference_at stamp place) (λ (e : reference_at stamp one ≡ reference_at stamp place). absurd (omega (arith, e, lt))),
+  later_differ stamp one (suc place) sizes unused (omega (arith, lt)),
+)
+
+all_differ : (stamp : Stamp) (place : ℕ) (sizes : List ℕ) (unused : ℕ) → IsDistinct nat_eq (map (λ disk. disk.reference) (disks_from stamp place sizes unused))
+unfolding IsDistinct
+all_differ stamp place [] unused = subst (λ disks. IsDistinct nat_eq (map (λ disk. disk.reference) disks)) (sym (none_of_unused unused)) tt
+all_differ stamp place (size ∷ sizes) unused = (later_differ stamp place (suc place) sizes unused (omega arith), all_differ stamp (suc place) sizes unused)
 
 -- No two of the disks have one reference.
-pub new_references : (stamp : Stamp) (sizes : List ℕ) → length sizes ≤ 15 → IsDistinct nat_eq (map (λ disk. disk.reference) (new_disk_list stamp sizes))
-new_references stamp sizes few = subst (λ names. IsDistinct nat_eq names) (references (new_rows stamp sizes)) (have_references stamp sizes few).all_differ
+pub new_references : (stamp : Stamp) (sizes : List ℕ) → IsDistinct nat_eq (map (λ disk. disk.reference) (new_disk_list stamp sizes))
+new_references stamp sizes = all_differ stamp 0 sizes (15 - length sizes)
 
 -- ---- its members
 
@@ -57,11 +68,6 @@ found_current test (first ∷ disks) (suc place) disk current at is = elim (whic
   | inl passes ↦ rw passes (ap not current.0)
   | inr fails ↦ rw fails (found_current test disks place disk current.1 at is)
 ]
-
--- An unused row lists no disk.
-none_of_unused : (unused : ℕ) → filter_map disk_of (replicate unused (disk_rows.Unused (replicate 64 255))) ≡ []
-none_of_unused zero = refl
-none_of_unused (suc unused) = none_of_unused unused
 
 -- None of the disks is missing.
 none_missing : (stamp : Stamp) (from : ℕ) (sizes : List ℕ) (unused : ℕ) → AllByRecursion (λ one. is_missing one ≡ false) (disks_from stamp from sizes unused)

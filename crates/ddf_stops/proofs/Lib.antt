@@ -4,6 +4,7 @@ pub mod ShownCopies
 pub mod Stops
 pub mod Told
 pub mod Begun
+pub mod Alone
 pub mod Filtered
 pub mod Seats
 pub mod Claimed
@@ -26,7 +27,6 @@ pub mod ChangingCopies
 pub mod Changing
 pub mod ChangingLoss
 pub mod ChangingStays
-pub mod AtEnd
 pub mod RecoveringEntry
 pub mod RecoveringPlaces
 pub mod RecoveringStops
@@ -43,6 +43,9 @@ pub mod CommittingStep
 pub mod Committing
 pub mod CommittingFirst
 pub mod CommittingGoes
+pub mod RecoveringKeeps
+pub mod StepsAsked
+pub mod CommittingKeeps
 pub mod Acked
 pub mod Calling
 pub mod Entering
@@ -51,3 +54,5 @@ pub mod FoundingRows
 pub mod FoundingConfig
 pub mod FoundingNames
 pub mod Founding
+pub mod FoundingRead
+pub mod FoundingCut

@@ -26,7 +26,7 @@ use Rattle.ddf_assembly.proofs.RecoveredGroup.{is_recovered}
 use Rattle.ddf_assembly.proofs.RecoveryWritten.{recovered_anchored, recovered_held}
 use Rattle.ddf_stops.specs.Going.{IsAdmitted, IsOver, IsUnderway, begun, changes_in, issue_all}
 use Rattle.ddf_stops.specs.Kept.{AreAllKept, ReadsTrue, is_read}
-use Rattle.ddf_stops.proofs.AtEnd.{IsAtEnd}
+use Rattle.ddf_stops.specs.AtEnd.{IsAtEnd}
 use Rattle.ddf_stops.proofs.RecoveringEntry.{IsTaken, issued}
 use Rattle.ddf_stops.proofs.RecoveringLoss.{lost_past, lost_rises}
 use Rattle.ddf_stops.proofs.RecoveringLossEnd.{lost_run}

@@ -33,7 +33,7 @@ use Rattle.ddf_assembly.proofs.Leaders.{filter_pass}
 use Rattle.ddf_assembly.proofs.RecoveredGroup.{is_recovered}
 use Rattle.ddf_assembly.proofs.Rewritten.{closed_view}
 use Rattle.ddf_stops.specs.Kept.{is_read, is_slot}
-use Rattle.ddf_stops.proofs.AtEnd.{IsMember}
+use Rattle.ddf_stops.specs.AtEnd.{IsMember}
 use Rattle.ddf_stops.proofs.Changing.{follows}
 use Rattle.ddf_stops.proofs.ChangingStays.{stays_current}
 use Rattle.ddf_stops.proofs.RecoveringEntry.{IsTaken, assembled, claimed_is_current, claimed_seated, disk_claimed, disk_reference, issued, kept_held, member_claimed, seat_on}

@@ -25,7 +25,7 @@ use Rattle.ddf_assembly.specs.Steps.{levelled}
 use Rattle.ddf_assembly.proofs.RecoveredGroup.{is_recovered}
 use Rattle.ddf_assembly.proofs.Rewritten.{closed_view}
 use Rattle.ddf_stops.specs.Kept.{is_slot}
-use Rattle.ddf_stops.proofs.AtEnd.{IsMember}
+use Rattle.ddf_stops.specs.AtEnd.{IsMember}
 use Rattle.ddf_stops.proofs.RecoveringEntry.{IsTaken, claimed_is_current, current_seated, disk_claimed, disk_reference, issued}
 use Rattle.ddf_stops.proofs.RecoveringMending.{mended_begins, mended_ends, mended_goes, mended_views, new, none}
 use Rattle.ddf_stops.proofs.RecoveringRun.{IsRun}

@@ -17,7 +17,7 @@ use Rattle.ddf_assembly.specs.Group.{GroupValue}
 use Rattle.ddf_assembly.specs.Ready.{ReadyValue}
 use Rattle.ddf_assembly.specs.Seated.{seated}
 use Rattle.ddf_stops.specs.Kept.{is_slot}
-use Rattle.ddf_stops.proofs.AtEnd.{IsMember}
+use Rattle.ddf_stops.specs.AtEnd.{IsMember}
 
 -- With this list of changes, and with its last one acknowledged, each slot shows what it should: whatever the sure slots leave, while new copies are written over it,
 -- and once all of them were.

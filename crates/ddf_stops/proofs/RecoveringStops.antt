@@ -60,7 +60,7 @@ module _ (group : List ℕ) {D : Type 0} (past : Past (groups group)) (state : B
     pub stop_written : (new : ℕ → View) → ((place slot : ℕ) → slice_get slots place ≡ Some slot → new slot ≡ view_of (may.seat place).new)
         → AreWritten (is_slot slots) new (scene_of state.sizes (before image)) (scene_of state.sizes image)
     stop_written new news =
-        stop_writes sure slots may.seat (recovery_updates ready) image new news lies.are_slots lies.counted may.may_change (λ place slot at. entry_says slot) leaves
+        stop_writes sure slots may.seat (recovery_updates ready) image lies.are_slots lies.counted may.may_change (λ place slot at. entry_says slot) leaves new news
 
   -- ---- once it was
 

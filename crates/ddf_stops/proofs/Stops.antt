@@ -1,5 +1,5 @@
 -- What a stop leaves of slots that get new copies one after another, and what they show once they have them.
-use Rattle.std.proofs.Common.{◌≡◌, ℕ, ◌<◌, Bool, true, false, List, length, Some, if◌then◌else◌, ap, sym, ◌∙◌, inl, inr, ⊎_elim, arith, subst}
+use Rattle.std.proofs.Common.{◌≡◌, ◌⊎◌, ℕ, ◌<◌, Bool, true, false, List, length, Some, if◌then◌else◌, ap, sym, ◌∙◌, inl, inr, ⊎_elim, arith, subst}
 use Rattle.std.proofs.lemmas.Bool.{cases_lt, lt-ltb}
 use Rattle.std.proofs.Math.Path.{fun_ext}
 use Rattle.std.specs.Prelude.{nat_lt, slice_get, slice_index}
@@ -8,7 +8,7 @@ use Rattle.ddf_bay.specs.State.{BayState, size_of}
 use Rattle.ddf_update.specs.declared.prepared.Prepared.{Prepared}
 use Rattle.ddf_update.specs.Changes.{AreChanged, IsLeftChangingAll, MayChangeAll, SlotChange}
 use Rattle.ddf_update.specs.Group.{AreSlots}
-use Rattle.ddf_update.specs.Update.{IsChanging}
+use Rattle.ddf_update.specs.Update.{IsChanging, IsInEither}
 use Rattle.ddf_view.specs.View.{View, view_of}
 use Rattle.ddf_view.proofs.Finds.{place_there, place_within}
 use Rattle.ddf_history.specs.Reading.Shown.{Nothing, One}
@@ -17,7 +17,7 @@ use Rattle.ddf_history.specs.Steps.{AreWritten}
 use Rattle.ddf_history.proofs.Since.{which}
 use Rattle.ddf_stops.specs.Kept.{SaysOne, is_slot, unwritten}
 use Rattle.ddf_stops.proofs.ShownCopies.{IsWrittenAs, both_say, both_show, changing_shows, shows_at}
-use Rattle.ddf_stops.proofs.Slots.{not_placed, slot_placed}
+use Rattle.ddf_stops.proofs.Slots.{not_placed, slot_is, slot_placed}
 
 -- ---- one slot
 
@@ -55,27 +55,35 @@ pub unwritten_left : {D : Type 0} (start : BayState D) (slots : List ℕ) (seat 
     → IsLeft start.may_hold (unwritten start slots image)
 unwritten_left start slots seat updates image held left = left_unwritten start slots image held (λ s l none. left.others s l (not_placed slots s none))
 
-module _ {D : Type 0} (start : BayState D) (slots : List ℕ) (seat : ℕ → SlotChange) (updates : List Prepared) (image : Image) (new : ℕ → View)
-    (news : (place slot : ℕ) → slice_get slots place ≡ Some slot → new slot ≡ view_of (seat place).new)
+module _ {D : Type 0} (start : BayState D) (slots : List ℕ) (seat : ℕ → SlotChange) (updates : List Prepared) (image : Image)
     (are : AreSlots start.sizes slots) (counted : length updates ≡ length slots) (may : MayChangeAll start slots seat updates)
     (says : (place slot : ℕ) → slice_get slots place ≡ Some slot → SaysOne (size_of start slot) (start.held slot))
     (left : IsLeftChangingAll start slots seat updates image) where
   -- what is left of a slot
   abbrev IsLeftAs : (slot : ℕ) → View → Type 0
-  IsLeftAs slot view = IsWrittenAs (shows_at (size_of start slot) (start.held slot)) (shows_at (size_of start slot) (image slot)) view
+  IsLeftAs slot view = IsWrittenAs (scene_of start.sizes (unwritten start slots image) slot) (scene_of start.sizes image slot) view
+
+  -- by what it shows and showed
+  left_as : (place slot : ℕ) (view : View) → slice_get slots place ≡ Some slot → IsWrittenAs (shows_at (size_of start slot) (start.held slot)) (shows_at (size_of start slot) (image slot)) view
+      → IsLeftAs slot view
+  left_as place slot view at is =
+      let below = are.there place slot at in
+      let was = same_scene start.sizes (unwritten start slots image) start.held slot (unwritten_here start slots image slot (slot_is slots place slot at)) ∙ scene_at start.sizes start.held slot below in
+      let now = scene_at start.sizes image slot below in
+      rw (was, now) is
 
   -- A slot whose turn is over shows its new copy.
   earlier_shows : (place slot : ℕ) (update : Prepared) → place < left.turn → slice_get slots place ≡ Some slot → slice_get updates place ≡ Some update
       → IsLeftAs slot (view_of (seat place).new)
   earlier_shows place slot update lt at there =
       let is = left.earlier place slot update lt at there in
-      inr (inr (both_show (size_of start slot) (image slot) (seat place).anchor (seat place).new is.are_both))
+      left_as place slot (view_of (seat place).new) at (inr (inr (both_show (size_of start slot) (image slot) (seat place).anchor (seat place).new is.are_both)))
 
   -- One whose turn has not come shows what it showed.
   later_shows : (place slot : ℕ) → left.turn < place → slice_get slots place ≡ Some slot → IsLeftAs slot (view_of (seat place).new)
   later_shows place slot lt at =
       let same : image slot ≡ start.held slot = fun_ext (λ l. left.later place slot l lt at) in
-      inl (ap (shows_at (size_of start slot)) same)
+      left_as place slot (view_of (seat place).new) at (inl (ap (shows_at (size_of start slot)) same))
 
   -- One whose turn it is shows what it showed, of two copies perhaps one alone, or its new copy.
   here_shows : (place slot : ℕ) (update : Prepared) → place ≡ left.turn → slice_get slots place ≡ Some slot → slice_get updates place ≡ Some update
@@ -85,32 +93,49 @@ module _ {D : Type 0} (start : BayState D) (slots : List ℕ) (seat : ℕ → Sl
       let can = may.may_change place slot at in
       let says_one = says place slot at in
       let turned = subst (λ (n : ℕ). IsChanging (size_of start slot) (start.held slot) (image slot) update (seat n).anchor (seat n).last (seat n).old (seat n).new) (sym turn) is in
-      changing_shows (size_of start slot) (start.held slot) (image slot) (seat place).anchor (seat place).last (seat place).old (seat place).new
-      says_one can.is_anchored can.last_is can.is_newest can.is_newer turned.is_anchored turned.copies
+      left_as place slot (view_of (seat place).new) at
+      (changing_shows (size_of start slot) (start.held slot) (image slot) (seat place).anchor (seat place).last (seat place).old (seat place).new
+      says_one can.is_anchored can.last_is can.is_newest can.is_newer turned.is_anchored turned.copies)
 
   -- So does each of the slots.
-  each_shows : (place slot : ℕ) → slice_get slots place ≡ Some slot → IsLeftAs slot (new slot)
+  pub each_shows : (place slot : ℕ) → slice_get slots place ≡ Some slot → IsLeftAs slot (view_of (seat place).new)
   each_shows place slot at =
       let within = place_within slots place slot at in
       let update = place_there updates place (omega arith) in
-      subst (IsLeftAs slot) (sym (news place slot at)) (elim (cases_lt place left.turn) [
+      elim (cases_lt place left.turn) [
         | inl earlier ↦ earlier_shows place slot update.0 earlier at update.1
         | inr more ↦ elim (cases_lt left.turn place) [
           | inl later ↦ later_shows place slot later at
           | inr also ↦ here_shows place slot update.0 (omega arith) at update.1
         ]
-      ])
+      ]
+
+  -- Every other slot shows what is left of it.
+  pub other_shows : (slot : ℕ) → is_slot slots slot ≡ false → scene_of start.sizes image slot ≡ scene_of start.sizes (unwritten start slots image) slot
+  other_shows slot none = same_scene start.sizes image (unwritten start slots image) slot (sym (unwritten_else start slots image slot none))
+
+  -- Outside the places of the new copies a slot is as it was.
+  pub each_outside : (place slot : ℕ) (update : Prepared) → slice_get slots place ≡ Some slot → slice_get updates place ≡ Some update
+      → (l : ℕ) → (image slot l ≡ start.held slot l) ⊎ IsInEither update l
+  each_outside place slot update at there l = elim (cases_lt place left.turn) [
+    | inl earlier ↦ (left.earlier place slot update earlier at there).outside l
+    | inr more ↦ elim (cases_lt left.turn place) [
+      | inl later ↦ inl (left.later place slot l later at)
+      | inr also ↦
+          let turn : left.turn ≡ place = omega arith in
+          (left.here slot update (ap (slice_get slots) turn ∙ at) (ap (slice_get updates) turn ∙ there)).outside l
+    ]
+  ]
 
   -- Of all slots, those that get new copies are left as written, and the others are as they are left.
-  pub stop_writes : AreWritten (is_slot slots) new (scene_of start.sizes (unwritten start slots image)) (scene_of start.sizes image)
-  stop_writes slot = elim (which (is_slot slots slot)) [
+  pub stop_writes : (new : ℕ → View) → ((place slot : ℕ) → slice_get slots place ≡ Some slot → new slot ≡ view_of (seat place).new)
+      → AreWritten (is_slot slots) new (scene_of start.sizes (unwritten start slots image)) (scene_of start.sizes image)
+  stop_writes new news slot = elim (which (is_slot slots slot)) [
     | inl here ↦
         let place = slot_placed slots slot here in
-        let below = are.there place.0 slot place.1 in
-        let was = same_scene start.sizes (unwritten start slots image) start.held slot (unwritten_here start slots image slot here) ∙ scene_at start.sizes start.held slot below in
-        let now = scene_at start.sizes image slot below in
-        rw (was, now) (⊎_elim inl (λ written. inr (here, written)) (each_shows place.0 slot place.1))
-    | inr none ↦ inl (same_scene start.sizes image (unwritten start slots image) slot (sym (unwritten_else start slots image slot none)))
+        let shown = subst (IsLeftAs slot) (sym (news place.0 slot place.1)) (each_shows place.0 slot place.1) in
+        ⊎_elim inl (λ written. inr (here, written)) shown
+    | inr none ↦ inl (other_shows slot none)
   ]
 
 -- ---- once all slots have their new copies

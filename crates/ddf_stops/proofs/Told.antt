@@ -154,7 +154,7 @@ shown_somewhere slots slot group at = go (is_shown slots group) refl
     go false is = absurd (false≢true (sym (none_below (λ s. shows_group group (slot_at slots s)) (length slots) is slot within) ∙ shows_it))
 
 -- The group that is chosen is shown.
-chosen_shows : (slots : List GroupShown) (named : Option (List ℕ)) (group : List ℕ) → chosen slots named ≡ Ok group → is_shown slots group ≡ true
+pub chosen_shows : (slots : List GroupShown) (named : Option (List ℕ)) (group : List ℕ) → chosen slots named ≡ Ok group → is_shown slots group ≡ true
 unfolding chosen
 chosen_shows slots (Some name) group is = go (is_shown slots name) refl is
   where

@@ -1,3 +1,5 @@
 pub mod Kept
 pub mod Going
+pub mod AtEnd
+pub mod Steps
 pub mod Founding

@@ -3,4 +3,7 @@
 
 mod laws;
 
-pub use laws::a_call_is_answered_as_its_history_promises;
+pub use laws::{
+    a_call_is_answered_as_its_history_promises, a_commit_keeps_its_history,
+    a_recovery_keeps_its_history,
+};

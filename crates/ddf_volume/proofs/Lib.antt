@@ -19,3 +19,4 @@ pub mod StripsAlong
 pub mod Followers
 pub mod MissingCells
 pub mod WithoutCopies
+pub mod Narrower

@@ -14,17 +14,17 @@ use Rattle.ddf_volume.specs.Given.{HaveSources}
 use Rattle.ddf_volume.specs.Refused.{lacks_copy, is_unsure, read_refusal}
 use Rattle.ddf_volume.proofs.Lacking.{any_hit}
 
-none_by : (a b c : Bool) (x y z : VolumeFault) → (if a then Some x else (if not b then Some y else (if c then Some z else None))) ≡ None → (a ≡ false) × (b ≡ true) × (c ≡ false)
+pub none_by : (a b c : Bool) (x y z : VolumeFault) → (if a then Some x else (if not b then Some y else (if c then Some z else None))) ≡ None → (a ≡ false) × (b ≡ true) × (c ≡ false)
 none_by true b c x y z e = absurd (cc)
 none_by false false c x y z e = absurd (cc)
 none_by false true true x y z e = absurd (cc)
 none_by false true false x y z e = (refl, refl, refl)
 
-never_true : (b : Bool) → (b ≡ true → ⊥) → b ≡ false
+pub never_true : (b : Bool) → (b ≡ true → ⊥) → b ≡ false
 never_true true never = absurd (never refl)
 never_true false never = refl
 
-true_false : true ≡ false → ⊥
+pub true_false : true ≡ false → ⊥
 true_false e = cc
 
 some_copy : (found : List Site) → is_none (slice_get found 0) ≡ false → 0 < length (map copy found)

@@ -24,4 +24,4 @@ pub use ddf_array::{
 };
 pub use fault::VolumeFault;
 pub use laws::{a_good_read_gives_the_first, a_read_gives_a_source};
-pub use read::read_blocks;
+pub use read::{read_blocks, read_refusal};

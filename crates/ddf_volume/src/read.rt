@@ -41,8 +41,10 @@ fn lacks_copies(view: &View, start: u64, count: usize) -> bool
     false
 }
 
-/// Why a range of blocks isn't read, if it isn't.
-fn read_refusal(view: &View, start: u64, count: usize) -> Option<VolumeFault>
+/// Why `read_blocks` reads none of so many blocks from one on: `Range` where they pass the capacity, `Lost` where the array
+/// isn't within its level, `Unsure` where it is marked and a block has no available cell, the first of these that holds. None
+/// where only reads that fail can keep it from them.
+pub fn read_refusal(view: &View, start: u64, count: usize) -> Option<VolumeFault>
     ensures value { result ≡ read_refusal view.now start count }
     ensures small { result ≡ None → start + count < 2 ^ 64 }
     ensures sound { IsVolume view.now }

@@ -1,5 +1,5 @@
 // `read`: blocks of an array, or why there are none.
-use crate::tests::harness::{Call, answer_of, assert_calls_told};
+use crate::tests::harness::{Call, answer_of, assert_calls_told, called};
 use crate::tests::headers::{PRIMARY, SECONDARY, SECTORS};
 use crate::tests::sectors::{alter_table, write};
 use ddf_bay::{Bay, MemoryBay};
@@ -245,6 +245,85 @@ fn no_failing_read_gives_a_wrong_byte(rt: HostRuntime) -> Result<(), Fail> {
             _ => assert_eq!(rt; bytes.as_slice(), b"disk fault slot 1\n".as_slice()),
         }
     }
+    Ok(())
+}
+
+/// The blocks of an array of three pieces.
+const MANY: usize = 300;
+
+/// The byte that fills one of them.
+fn byte_of(block: usize) -> u8 {
+    (block % 251) as u8
+}
+
+/// A disk with such an array from its first sector on. The listed calls fail.
+fn filled(rt: &impl Abort, alloc: Global, failing: Vec<u64>) -> Result<MemoryBay, Fail> {
+    let mut bay = MemoryBay::new(alloc, &[SECTORS; 1], 2 * WRITES + MANY, failing, None)?;
+    let calls: [Call; 2] = [
+        ("label", 0, "ok sequence 1\n"),
+        ("create a jbod 0 single 0@300", 0, "ok sequence 2\n"),
+    ];
+    assert_calls_told(rt, alloc, &mut bay, &calls)?;
+    for block in 0..MANY {
+        write(rt, &mut bay, 0, block as u64, &[byte_of(block); 512]);
+    }
+    Ok(bay)
+}
+
+/// What a read of all of them answers and prints, over an output of so much room.
+fn read_many(
+    rt: &impl Abort,
+    alloc: Global,
+    bay: &mut MemoryBay,
+    room: usize,
+) -> Result<(u8, Vec<u8>), Fail> {
+    called(
+        rt,
+        alloc,
+        &["d0", "--", "read", "a", "0", "300"],
+        bay,
+        room,
+        &[],
+    )
+}
+
+/// Asserts that these are the first bytes of the blocks, so many.
+fn assert_first(rt: &impl Abort, bytes: &[u8], count: usize) {
+    assert_eq!(rt; bytes.len(), count);
+    for (place, byte) in bytes.iter().enumerate() {
+        assert_eq!(rt; *byte, byte_of(place / 512), "byte {place}");
+    }
+}
+
+#[test]
+fn a_read_that_stops_has_printed_its_first_pieces(rt: HostRuntime) -> Result<(), Fail> {
+    let alloc = rt.alloc();
+    let whole = filled(&rt, alloc, Vec::new(alloc))?;
+    let mut pieces: usize = 0;
+    for call in 0..30 {
+        let first = whole.calls().saturating_add(call);
+        let failing = Vec::from_slice(alloc, &[first, first.saturating_add(1)])?;
+        let mut bay = filled(&rt, alloc, failing)?;
+        let (status, bytes) = read_many(&rt, alloc, &mut bay, 200_000)?;
+        match status {
+            0 => assert_first(&rt, &bytes, 512 * MANY),
+            1 => assert_eq!(rt; bytes.as_slice(), b"refused 12 no group\n".as_slice()),
+            _ if pieces == 0 => {
+                assert_eq!(rt; bytes.as_slice(), b"disk fault slot 0\n".as_slice());
+                pieces = 1;
+            }
+            _ => {
+                assert_eq!(rt; status, 3);
+                assert_first(&rt, &bytes, pieces.saturating_mul(65_536));
+                pieces = pieces.saturating_add(1);
+            }
+        }
+    }
+    assert_eq!(rt; pieces, 3);
+    let mut bay = filled(&rt, alloc, Vec::new(alloc))?;
+    let (status, bytes) = read_many(&rt, alloc, &mut bay, 100_000)?;
+    assert_eq!(rt; status, 6);
+    assert_first(&rt, &bytes, 100_000);
     Ok(())
 }
 

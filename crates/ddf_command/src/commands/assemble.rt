@@ -26,6 +26,7 @@ pub(crate) fn assemble_disks<B: Bay, K: Sink>(
 ) -> Status
     ensures done { IsAssembleDone (work_of B.tells (B.disks bay.old) (B.disks bay.new)) named (timestamp_of stamp.now) (answer_of K.tells (K.output sink.old) (K.output sink.new) (code_of result)) }
     ensures goes_on { GoesOn (B.disks bay.old) (B.disks bay.new) }
+    ensures same_sizes { (B.disks bay.new).sizes ≡ (B.disks bay.old).sizes }
     ensures stream { result ≡ Status.Stream → SinkRose (K.output sink.old) (K.output sink.new) }
 {
     match assembled(alloc, named, bay, stamp) {
@@ -43,6 +44,7 @@ fn assembled<B: Bay>(
 ) -> Result<String, Failure>
     ensures told { HasTold (work_of B.tells (B.disks bay.old) (B.disks bay.new)) named (timestamp_of stamp.now) result }
     ensures goes_on { GoesOn (B.disks bay.old) (B.disks bay.new) }
+    ensures same_sizes { (B.disks bay.new).sizes ≡ (B.disks bay.old).sizes }
 {
     let mut group = read_group(alloc, named, bay)?;
     let loss = group.loss(alloc)?;

@@ -1,7 +1,7 @@
 // What the commands that change a group share.
 ghost use Rattle.std.specs.Prelude.{◌≡◌, ◌≤◌, ℕ, Bool, List, length, Option, Ok, IfOk};
 ghost use Rattle.std.specs.List.{AllByRecursion};
-ghost use Rattle.ddf_bay.specs.Moments.{GoesOn};
+ghost use Rattle.ddf_bay.specs.Moments.{GoesOn, StopsLeave};
 ghost use Rattle.ddf_bay.specs.ReadsOnly.{ReadsOnly};
 ghost use Rattle.ddf_bytes.specs.Streams.{SinkRose};
 ghost use Rattle.ddf_assembly.specs.Asked.{CanBeAsked};
@@ -14,6 +14,7 @@ ghost use Rattle.ddf_command.specs.Change.{IsChanged, IsToldChange, KeepsHistori
 ghost use Rattle.ddf_command.specs.GroupRead.{IsFoundBy, IsGroupRead, IsReadFrom};
 ghost use Rattle.ddf_command.specs.Others.{LeavesOthers};
 ghost use Rattle.ddf_command.specs.Status.{code_of};
+ghost use Rattle.ddf_command.specs.Writing.{IsLeftWriting};
 
 use crate::failure::{Failure, tell_failure};
 use crate::status::Status;
@@ -66,12 +67,15 @@ pub(crate) fn write_changes<B: Bay>(
     requires one { length changes.now ≤ 1 }
     ensures changed { IsChanged (work_of B.tells (B.disks bay.old) (B.disks bay.new)) group.old (steps_or (readied group.old changes.now timestamp)) result }
 
-    // From entry to exit slots that are no seats' are left as before, and each history that admits the call is kept.
+    // From entry to exit slots that are no seats' are left as before, each history that admits the call is kept, and of the seats' slots nothing
+    // is another than before but the copies that are written.
     ensures beside { B.tells → LeavesOthers (B.disks bay.old) (B.disks bay.new) (slots_of group.old.seats) }
     ensures keeps { B.tells → (left : List Bool) (named : Option (List ℕ)) → IsFoundBy (B.disks bay.old) left named group.old → (steps : List Step) → readied group.old changes.now timestamp ≡ Ok steps
         → KeepsHistories (B.disks bay.old) (B.disks bay.new) left group.old steps result }
+    ensures leaves { B.tells → (steps : List Step) → readied group.old changes.now timestamp ≡ Ok steps → StopsLeave (B.disks bay.old) (B.disks bay.new) (IsLeftWriting (B.disks bay.old) steps) }
     ensures goes_on { GoesOn (B.disks bay.old) (B.disks bay.new) }
-    ensures reads_rise { (slot : ℕ) → (B.disks bay.old).failed_reads slot ≤ (B.disks bay.new).failed_reads slot }
+    ensures same_sizes { (B.disks bay.new).sizes ≡ (B.disks bay.old).sizes }
+    ensures reads { (B.disks bay.new).failed_reads ≡ (B.disks bay.old).failed_reads }
     ensures writes_rise { (slot : ℕ) → (B.disks bay.old).failed_writes slot ≤ (B.disks bay.new).failed_writes slot }
 {
     let mut ready = group.ready(alloc, changes, timestamp)?;

@@ -30,6 +30,7 @@ pub(crate) fn create<B: Bay, K: Sink>(
     requires { FitsCreate creation.now.name creation.now.code creation.now.elements }
     ensures done { IsChangeDone (work_of B.tells (B.disks bay.old) (B.disks bay.new)) named (timestamp_of stamp.now) (create_of (length (B.disks bay.old).sizes) stamp.now creation.now) (answer_of K.tells (K.output sink.old) (K.output sink.new) (code_of result)) }
     ensures goes_on { GoesOn (B.disks bay.old) (B.disks bay.new) }
+    ensures same_sizes { (B.disks bay.new).sizes ≡ (B.disks bay.old).sizes }
     ensures stream { result ≡ Status.Stream → SinkRose (K.output sink.old) (K.output sink.new) }
 {
     let outcome = created(alloc, named, creation, bay, stamp);
@@ -47,6 +48,7 @@ fn created<B: Bay>(
     requires { FitsCreate creation.now.name creation.now.code creation.now.elements }
     ensures changed { HasChanged (work_of B.tells (B.disks bay.old) (B.disks bay.new)) named (timestamp_of stamp.now) (create_of (length (B.disks bay.old).sizes) stamp.now creation.now) result }
     ensures goes_on { GoesOn (B.disks bay.old) (B.disks bay.new) }
+    ensures same_sizes { (B.disks bay.new).sizes ≡ (B.disks bay.old).sizes }
 {
     have_byte_codes(creation);
     let mut group = read_group(alloc, named, bay)?;

@@ -28,6 +28,7 @@ pub(crate) fn delete<B: Bay, K: Sink>(
 ) -> Status
     ensures done { IsChangeDone (work_of B.tells (B.disks bay.old) (B.disks bay.new)) named (timestamp_of stamp.now) (delete_of name.now) (answer_of K.tells (K.output sink.old) (K.output sink.new) (code_of result)) }
     ensures goes_on { GoesOn (B.disks bay.old) (B.disks bay.new) }
+    ensures same_sizes { (B.disks bay.new).sizes ≡ (B.disks bay.old).sizes }
     ensures stream { result ≡ Status.Stream → SinkRose (K.output sink.old) (K.output sink.new) }
 {
     let outcome = deleted(alloc, named, name, bay, stamp);
@@ -44,6 +45,7 @@ fn deleted<B: Bay>(
 ) -> Result<u32, Failure>
     ensures changed { HasChanged (work_of B.tells (B.disks bay.old) (B.disks bay.new)) named (timestamp_of stamp.now) (delete_of name.now) result }
     ensures goes_on { GoesOn (B.disks bay.old) (B.disks bay.new) }
+    ensures same_sizes { (B.disks bay.new).sizes ≡ (B.disks bay.old).sizes }
 {
     let mut group = read_group(alloc, named, bay)?;
     let loss = group.loss(alloc)?;

@@ -28,6 +28,7 @@ pub(crate) fn fail<B: Bay, K: Sink>(
 ) -> Status
     ensures done { IsChangeDone (work_of B.tells (B.disks bay.old) (B.disks bay.new)) named (timestamp_of stamp.now) (fail_of (length (B.disks bay.old).sizes) slot) (answer_of K.tells (K.output sink.old) (K.output sink.new) (code_of result)) }
     ensures goes_on { GoesOn (B.disks bay.old) (B.disks bay.new) }
+    ensures same_sizes { (B.disks bay.new).sizes ≡ (B.disks bay.old).sizes }
     ensures stream { result ≡ Status.Stream → SinkRose (K.output sink.old) (K.output sink.new) }
 {
     let outcome = failed(alloc, named, slot, bay, stamp);
@@ -44,6 +45,7 @@ fn failed<B: Bay>(
 ) -> Result<u32, Failure>
     ensures changed { HasChanged (work_of B.tells (B.disks bay.old) (B.disks bay.new)) named (timestamp_of stamp.now) (fail_of (length (B.disks bay.old).sizes) slot) result }
     ensures goes_on { GoesOn (B.disks bay.old) (B.disks bay.new) }
+    ensures same_sizes { (B.disks bay.new).sizes ≡ (B.disks bay.old).sizes }
 {
     let mut group = read_group(alloc, named, bay)?;
     let change = fail_request(bay.slots(), group.seats(), slot)?;

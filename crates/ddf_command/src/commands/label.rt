@@ -30,6 +30,7 @@ pub(crate) fn label<B: Bay, K: Sink>(
 ) -> Status
     ensures labelled { IsLabelled (work_of B.tells (B.disks bay.old) (B.disks bay.new)) stamp.now named.now (answer_of K.tells (K.output sink.old) (K.output sink.new) (code_of result)) }
     ensures goes_on { GoesOn (B.disks bay.old) (B.disks bay.new) }
+    ensures same_sizes { (B.disks bay.new).sizes ≡ (B.disks bay.old).sizes }
     ensures stream { result ≡ Status.Stream → SinkRose (K.output sink.old) (K.output sink.new) }
 {
     match labelled(alloc, named, bay, stamp) {
@@ -43,6 +44,7 @@ fn labelled<B: Bay>(alloc: Global, named: &[u8], bay: &mut B, stamp: &Stamp) -> 
     ensures tried { IsTried (work_of B.tells (B.disks bay.old) (B.disks bay.new)) stamp.now named.now result }
     ensures any_moment { B.tells → StopsLeave (B.disks bay.old) (B.disks bay.new) (IsLeftFoundingAll (B.disks bay.old) (label_slots (B.disks bay.old).sizes named.now) (label_copy stamp.now (B.disks bay.old).sizes named.now)) }
     ensures goes_on { GoesOn (B.disks bay.old) (B.disks bay.new) }
+    ensures same_sizes { (B.disks bay.new).sizes ≡ (B.disks bay.old).sizes }
     ensures refused { B.tells → (refusal : Refusal) → label_refusal (B.disks bay.old).sizes (B.disks bay.old).held named.now ≡ Some refusal → ReadsOnly (B.disks bay.old) (B.disks bay.new) }
 {
     let slots = match fit_slots(alloc, named, bay) {

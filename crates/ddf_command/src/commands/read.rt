@@ -1,31 +1,28 @@
 // `read`: blocks of an array.
-ghost use Rattle.std.specs.Prelude.{◌≡◌, ℕ, List, Some, ◌+◌, ◌≤◌, nat_lt, None, length, IfErr, IfOk, OnOk};
+ghost use Rattle.std.specs.Prelude.{◌≡◌, ℕ, List, Some, ◌+◌, ◌<◌, ◌^◌, nat_lt, None, IfOk, OnOk};
 ghost use Rattle.ddf_array.specs.Viewing.{view_of};
 ghost use Rattle.ddf_bay.specs.ReadsOnly.{ReadsOnly};
 ghost use Rattle.ddf_bytes.specs.Streams.{SinkRose};
 ghost use Rattle.ddf_config.specs.Refusals.{first_refusal};
 ghost use Rattle.ddf_config.specs.Seats.{SeatsFit};
 ghost use Rattle.ddf_config.specs.Shapes.{array_capacity};
-ghost use Rattle.ddf_array.specs.Volume.{Fits};
-ghost use Rattle.ddf_volume.specs.Given.{AreGiven};
-ghost use Rattle.ddf_volume.specs.Reading.{Failed, OnlyReads};
+ghost use Rattle.ddf_volume.specs.Reading.{OnlyReads};
 ghost use Rattle.ddf_volume.specs.Refused as volume;
-ghost use Rattle.ddf_volume.specs.Refused.{IsReadFault};
 ghost use Rattle.ddf_request.specs.Named.{named_array};
 ghost use Rattle.ddf_command.specs.Call.{answer_of, work_of};
-ghost use Rattle.ddf_command.specs.Read.{HasRead, IsReadDone, IsReadOf, IsViewed, MayRead, array_refusals, failure_of_read, is_out_of_range, is_useless, sectors_read};
+ghost use Rattle.ddf_command.specs.Read.{CameTo, IsReadDone, IsReadOf, IsViewed, MayRead, array_refusals, failure_of_read, is_out_of_range, is_useless};
 ghost use Rattle.ddf_command.specs.Status.{code_of};
 
+use crate::commands::pieces::print_blocks;
 use crate::failure::{Failure, tell_failure};
 use crate::named::{bad_blocks, is_held};
 use crate::status::Status;
-use crate::tell::tell;
 use ddf_assembly::{Group, assemble};
 use ddf_bay::Bay;
-use ddf_bytes::{Guid, NoMemory, Sector, Sink};
+use ddf_bytes::{Guid, NoMemory, Sink};
 use ddf_config::{Array, Refusal, array_capacity, first_refusal, refuse_if};
 use ddf_request::named_array;
-use ddf_volume::{View, ViewFault, VolumeFault, read_blocks, use_refusal};
+use ddf_volume::{View, ViewFault, VolumeFault, read_refusal, use_refusal};
 use std::alloc::Global;
 
 /// The most blocks of one read (profile).
@@ -45,92 +42,34 @@ pub(crate) fn read<B: Bay, K: Sink>(
     ensures reads { ReadsOnly (B.disks bay.old) (B.disks bay.new) }
     ensures stream { result ≡ Status.Stream → SinkRose (K.output sink.old) (K.output sink.new) }
 {
-    match blocks(alloc, named, name, start, count, bay) {
-        Ok(sectors) => tell(sink, sectors.as_flattened(), Status::Ok),
-        Err(failure) => tell_failure(alloc, failure, sink),
-    }
-}
-
-/// The blocks of the group's array, or why they aren't read.
-fn blocks<B: Bay>(
-    alloc: Global,
-    named: Option<Guid>,
-    name: &[u8],
-    start: u64,
-    count: u64,
-    bay: &mut B,
-) -> Result<Vec<Sector>, Failure>
-    ensures read { HasRead (work_of B.tells (B.disks bay.old) (B.disks bay.new)) named name.now start count (sectors_read result) }
-    ensures reads { ReadsOnly (B.disks bay.old) (B.disks bay.new) }
-{
     match assemble(alloc, bay, named) {
-        Ok(group) => blocks_of(alloc, &group, name, start, count, bay),
-        Err(fault) => Err(Failure::from(fault)),
+        Ok(group) => print_array(alloc, &group, name, start, count, bay, sink),
+        Err(fault) => tell_failure(alloc, Failure::from(fault), sink),
     }
 }
 
-/// The blocks of an array of this group, or why they aren't read.
-fn blocks_of<B: Bay>(
+/// Prints the blocks of an array of this group, or why they aren't read.
+fn print_array<B: Bay, K: Sink>(
     alloc: Global,
     group: &Group,
     name: &[u8],
     start: u64,
     count: u64,
     bay: &mut B,
-) -> Result<Vec<Sector>, Failure>
+    sink: &mut K,
+) -> Status
     requires { SeatsFit (B.disks bay.old).sizes group.now.seats }
-    ensures read { IsReadOf (work_of B.tells (B.disks bay.old) (B.disks bay.new)) group.now name.now start count (sectors_read result) }
+    ensures done { CameTo (IsReadOf (work_of B.tells (B.disks bay.old) (B.disks bay.new)) group.now name.now start count) (answer_of K.tells (K.output sink.old) (K.output sink.new) (code_of result)) }
     ensures reads { OnlyReads (B.disks bay.old) (B.disks bay.new) }
+    ensures stream { result ≡ Status.Stream → SinkRose (K.output sink.old) (K.output sink.new) }
 {
-    let view = readable(alloc, group, name, start, count)?;
-    let Ok(mut sectors) = blank_sectors(alloc, count) else {
-        return Err(Failure::Memory);
-    };
-    match read_into(bay, &view, start, &mut sectors) {
-        Ok(()) => Ok(sectors),
-        Err(fault) => Err(failure_of(fault)),
+    match readable(alloc, group, name, start, count) {
+        Ok(view) => print_blocks(alloc, &view, start, count, bay, sink),
+        Err(failure) => tell_failure(alloc, failure, sink),
     }
 }
 
-/// Reads the blocks of an array, as many as there are sectors, into these.
-fn read_into<B: Bay>(
-    bay: &mut B,
-    view: &View,
-    start: u64,
-    sectors: &mut Vec<Sector>,
-) -> Result<(), VolumeFault>
-    requires { Fits (B.disks bay.old).sizes view.now }
-    ensures counted { length sectors.new.items ≡ length sectors.old.items }
-    ensures given { B.tells → OnOk result (AreGiven (Failed (B.disks bay.old) (B.disks bay.new)) (B.disks bay.old).held view.now start (length sectors.old.items) sectors.new.items) }
-    ensures ok { OnOk result (volume.read_refusal view.now start (length sectors.old.items) ≡ None) }
-    ensures fault { IfErr result (IsReadFault (Failed (B.disks bay.old) (B.disks bay.new)) view.now start (length sectors.old.items)) }
-    ensures reads { OnlyReads (B.disks bay.old) (B.disks bay.new) }
-{
-    read_blocks(bay, view, start, sectors)
-}
-
-/// So many sectors of zeros.
-fn blank_sectors(alloc: Global, count: u64) -> Result<Vec<Sector>, NoMemory>
-    requires { count ≤ 2048 }
-    ensures { IfOk result (λ sectors. length sectors.items ≡ count) }
-{
-    let sectors = vec![in alloc; [0; 512]; count as usize]?;
-    Ok(sectors)
-}
-
-/// Why blocks aren't read, as the program tells it.
-fn failure_of(fault: VolumeFault) -> Failure
-    ensures { result ≡ failure_of_read fault }
-{
-    match fault {
-        VolumeFault::Range(capacity) => Failure::Refused(Refusal::Range(capacity)),
-        VolumeFault::Lost => Failure::Refused(Refusal::Lost),
-        VolumeFault::Unsure => Failure::Refused(Refusal::Unsure),
-        VolumeFault::Disk(slot) => Failure::Disk(slot),
-    }
-}
-
-/// The view of an array that may be read, but for what its blocks tell, or why it may not.
+/// The view of an array of which blocks may be read, or why they may not.
 fn readable(
     alloc: Global,
     group: &Group,
@@ -139,7 +78,8 @@ fn readable(
     count: u64,
 ) -> Result<View, Failure>
     ensures may { MayRead group.now name.now start count result }
-    ensures few { OnOk result (count ≤ 2048) }
+    ensures accepted { IfOk result (λ view. volume.read_refusal view start count ≡ None) }
+    ensures small { OnOk result (start + count < 2 ^ 64) }
 {
     let config = group.config();
     match named_array(&config.arrays, name) {
@@ -158,12 +98,28 @@ fn readable_array(
     count: u64,
 ) -> Result<View, Failure>
     ensures may { (word : List ℕ) → named_array group.now.config.arrays word ≡ Some (guid, array.now) → MayRead group.now word start count result }
-    ensures few { OnOk result (count ≤ 2048) }
+    ensures accepted { IfOk result (λ view. volume.read_refusal view start count ≡ None) }
+    ensures small { OnOk result (start + count < 2 ^ 64) }
 {
-    match array_refusal(alloc, group, array, start, count) {
-        Ok(None) => view_of(alloc, group, &guid),
-        Ok(Some(refusal)) => Err(Failure::Refused(refusal)),
-        Err(NoMemory) => Err(Failure::Memory),
+    if let Some(refusal) = array_refusal(alloc, group, array, start, count)? {
+        return Err(Failure::Refused(refusal));
+    }
+    let view = view_of(alloc, group, &guid)?;
+    match read_refusal(&view, start, count as usize) {
+        None => Ok(view),
+        Some(fault) => Err(failure_of(fault)),
+    }
+}
+
+/// Why blocks aren't read, as the program tells it.
+fn failure_of(fault: VolumeFault) -> Failure
+    ensures { result ≡ failure_of_read fault }
+{
+    match fault {
+        VolumeFault::Range(capacity) => Failure::Refused(Refusal::Range(capacity)),
+        VolumeFault::Lost => Failure::Refused(Refusal::Lost),
+        VolumeFault::Unsure => Failure::Refused(Refusal::Unsure),
+        VolumeFault::Disk(slot) => Failure::Disk(slot),
     }
 }
 

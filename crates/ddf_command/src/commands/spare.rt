@@ -32,6 +32,7 @@ pub(crate) fn spare<B: Bay, K: Sink>(
     requires { FitsSpare word.now }
     ensures done { IsChangeDone (work_of B.tells (B.disks bay.old) (B.disks bay.new)) named (timestamp_of stamp.now) (spare_of (length (B.disks bay.old).sizes) slot word.now) (answer_of K.tells (K.output sink.old) (K.output sink.new) (code_of result)) }
     ensures goes_on { GoesOn (B.disks bay.old) (B.disks bay.new) }
+    ensures same_sizes { (B.disks bay.new).sizes ≡ (B.disks bay.old).sizes }
     ensures stream { result ≡ Status.Stream → SinkRose (K.output sink.old) (K.output sink.new) }
 {
     let outcome = spared(alloc, named, slot, word, bay, stamp);
@@ -50,6 +51,7 @@ fn spared<B: Bay>(
     requires { FitsSpare word.now }
     ensures changed { HasChanged (work_of B.tells (B.disks bay.old) (B.disks bay.new)) named (timestamp_of stamp.now) (spare_of (length (B.disks bay.old).sizes) slot word.now) result }
     ensures goes_on { GoesOn (B.disks bay.old) (B.disks bay.new) }
+    ensures same_sizes { (B.disks bay.new).sizes ≡ (B.disks bay.old).sizes }
 {
     let mut group = read_group(alloc, named, bay)?;
     let loss = group.loss(alloc)?;

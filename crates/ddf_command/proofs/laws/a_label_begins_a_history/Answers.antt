@@ -1,12 +1,11 @@
 use Rattle.ddf_stops.proofs.Founding.{founded_since}
 use Rattle.ddf_command.specs.Label.{label_slots}
 use Rattle.ddf_command.proofs.Chosen.{chosen_once}
-use Rattle.ddf_command.proofs.Fits.{few_labelled}
 use Rattle.ddf_command.proofs.laws.a_label_begins_a_history.Goals as goal
 
 pub returns : goal.returns
 returns g c = λ told stamp named old new tried same_sizes is_left names_new past is_new.
     let one = tried told in
     let before = g.B.Bay.disks old in
-    founded_since stamp before (g.B.Bay.disks new) same_sizes (label_slots before.sizes named) (chosen_once before.sizes named) (few_labelled before.sizes before.held named one.0) one.1 past is_new
+    founded_since stamp before (g.B.Bay.disks new) same_sizes (label_slots before.sizes named) (chosen_once before.sizes named) one.1 past is_new
     is_left names_new

@@ -1,8 +1,13 @@
 use Rattle.std.proofs.Common.{refl}
 use Rattle.ddf_assembly.specs.Slots.{newest_from}
+use Rattle.ddf_stops.proofs.Alone.{alone_answered}
 use Rattle.ddf_stops.proofs.Begun.{group_answered}
 use Rattle.ddf_stops.proofs.laws.a_call_is_answered_as_its_history_promises.Goals as goal
 
-pub returns : goal.returns
-returns g c = λ group bay left past long counted kept may member name same.
+pub returns-clause-named : goal.returns-clause-named
+returns-clause-named g c = λ group bay left past long counted kept may member name same.
     group_answered group (g.B.Bay.disks bay) left (newest_from (g.B.Bay.disks bay) 0 left) long refl past counted kept may member name same
+
+pub returns-clause-alone : goal.returns-clause-alone
+returns-clause-alone g c = λ group bay left past long counted kept may member free.
+    alone_answered group (g.B.Bay.disks bay) left (newest_from (g.B.Bay.disks bay) 0 left) long refl past counted kept may member free

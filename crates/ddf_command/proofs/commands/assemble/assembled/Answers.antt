@@ -2,8 +2,8 @@ use Rattle.std.proofs.Common.{◌∙◌, ap, refl}
 use Rattle.std.proofs.lemmas.Result.{err_from_is_err_and}
 use Rattle.ddf_assembly.specs.Recovery.{config_recovered}
 use Rattle.ddf_text.specs.GroupText.{group_text}
-use Rattle.ddf_command.proofs.Assembling.{told_not, told_text}
-use Rattle.ddf_command.proofs.Changing.{changed_group, has_changed, memory_spent, none_read, read_still}
+use Rattle.ddf_command.proofs.Assembling.{told_changed, told_not}
+use Rattle.ddf_command.proofs.Changing.{has_changed, memory_spent, none_read, read_still}
 use Rattle.ddf_command.proofs.commands.assemble.assembled.Goals as goal
 
 pub returns-in_err-group-clause-told : goal.returns-in_err-group-clause-told
@@ -30,19 +30,26 @@ returns-in_err-write_changes-clause-told g c =
     let failed = err_from_is_err_and c.from_residual-in_err-write_changes.result c.from_residual-in_err-write_changes.ensures.1 in
     let read = c.read_group.ensures in
     let written = c.write_changes.ensures in
-    let changed = rw c.timestamp.ensures at written.changed in
-    let keeps = rw c.timestamp.ensures at written.keeps in
     rw (failed.1, failed.2)
-    (told_not c.in_err-write_changes.was (has_changed _ _ _ _ read.reads read.reads_rise read.writes_rise _ _ _ _ _ _ c.in_ok-group.ensures.read refl written.reads_rise written.writes_rise changed keeps written.beside))
+    (told_not c.in_err-write_changes.was (has_changed _ _ _ _ read.reads read.reads_rise read.writes_rise _ _ _ _ _ _ c.in_ok-group.ensures.read refl (record {
+      changed = rw c.timestamp.ensures at written.changed;
+      beside = written.beside;
+      leaves = rw c.timestamp.ensures at written.leaves;
+      keeps = rw c.timestamp.ensures at written.keeps;
+      same_reads = written.reads;
+      writes_rise = written.writes_rise;
+    })))
 
 pub returns-clause-told : goal.returns-clause-told
 returns-clause-told g c =
     let read = c.read_group.ensures in
     let written = c.write_changes.ensures in
-    let changed = rw c.timestamp.ensures at written.changed in
-    let keeps = rw c.timestamp.ensures at written.keeps in
     let text = c.in_ok-text.ensures ∙ ap (λ config. group_text config c.seats.result.now) c.recovered.ensures ∙ ap (group_text (config_recovered c.in_ok-group.group)) c.seats.ensures in
-    told_text c.in_ok-write_changes.was
-    (has_changed _ _ _ _ read.reads read.reads_rise read.writes_rise _ _ _ _ _ _ c.in_ok-group.ensures.read refl written.reads_rise written.writes_rise changed keeps written.beside)
-    (changed_group _ _ _ _ read.reads read.reads_rise read.writes_rise _ _ _ _ _ _ c.in_ok-group.ensures.read refl written.reads_rise written.writes_rise changed keeps written.beside)
-    text
+    told_changed _ _ _ _ read.reads read.reads_rise read.writes_rise _ _ _ _ _ _ c.in_ok-group.ensures.read (record {
+      changed = rw c.timestamp.ensures at written.changed;
+      beside = written.beside;
+      leaves = rw c.timestamp.ensures at written.leaves;
+      keeps = rw c.timestamp.ensures at written.keeps;
+      same_reads = written.reads;
+      writes_rise = written.writes_rise;
+    }) c.in_ok-write_changes.was text

@@ -9,6 +9,7 @@ returns-clause-read g c =
       left = assembled.looked.left;
       every_slot = assembled.looked.every_slot;
       failed = assembled.looked.are_failed.rose;
+      seen = assembled.looked.are_failed.same;
       newest = assembled.newest;
       read = assembled.read;
       answer = group_found c.in_ok-group.group _ assembled.answer;

@@ -14,6 +14,7 @@ use Rattle.ddf_assembly.proofs.RecoveredGroup.{recovered_ready}
 use Rattle.ddf_assembly.proofs.RecoveryWritten.{may_recover, recovered_held}
 use Rattle.ddf_command.proofs.Beside.{commit_beside, reads_beside, recovery_beside}
 use Rattle.ddf_command.proofs.Keeping.{Tells, commit_keeps, done_keeps, reads_keep, reads_true, recover_keeps}
+use Rattle.ddf_command.proofs.LeftWriting.{commit_leaves, reads_leave, recover_leaves}
 use Rattle.ddf_command.proofs.Writing.{none_asked}
 use Rattle.ddf_command.proofs.commands.change.write_changes.Goals as goal
 
@@ -204,3 +205,81 @@ returns-clause-beside g c = λ told.
     let next = subst (λ (one : ReadyValue). (seat : ℕ → SlotChange) → MayChangeAll middle (next_slots one) seat (next_updates one) → StopsLeave middle new (IsLeftChangingAll middle (next_slots one) seat (next_updates one)))
     c.recover.ensures.left (c.commit.ensures.any_moment told) in
     commit_beside g.B.Bay.tells old c.args.group.now c.args.changes.now c.args.timestamp c.in_ok-ready.ready c.requires.from was may middle moments first may_rest.seat new (next may_rest.seat may_rest.may_change)
+
+pub returns-in_err-ready-clause-leaves : goal.returns-in_err-ready-clause-leaves
+returns-in_err-ready-clause-leaves g c = λ told steps asked. reads_leave (g.B.Bay.disks c.args.bay.now) (g.B.Bay.disks c.args.bay.now) steps (reads_start (g.B.Bay.disks c.args.bay.now))
+
+pub returns-in_err-recover-clause-leaves : goal.returns-in_err-recover-clause-leaves
+returns-in_err-recover-clause-leaves g c = λ told steps asked.
+    let old = g.B.Bay.disks c.args.bay.now in
+    let middle = g.B.Bay.disks c.recover.new.bay in
+    let made = c.in_ok-ready.ensures in
+    let was = was_readied c.args.group.now c.args.changes.now c.args.timestamp c.in_ok-ready.ready c.requires.from.assembled c.ranges.timestamp.fits made.readied made.recovery made.recovers made.follows in
+    let tell : Tells old middle = record {
+      told = g.met.B.Bay.told_since c.recover.new.bay;
+      counts = g.met.B.Bay.counts_now c.recover.new.bay;
+      back = c.recover.ensures.spends.told;
+      held = g.met.B.Bay.held_is_left c.recover.new.bay;
+    } in
+    recover_leaves g.B.Bay.tells old c.args.group.now c.args.changes.now c.args.timestamp c.in_ok-ready.ready c.requires.from was told
+    (reads_true old (g.met.B.Bay.held_is_left c.args.bay.now) (g.met.B.Bay.whole c.args.bay.now)) (g.met.B.Bay.only_now c.args.bay.now) steps asked middle c.recover.ensures.spends.same_sizes (c.recover.ensures.any_moment told) tell
+
+pub returns-in_err-commit-clause-leaves : goal.returns-in_err-commit-clause-leaves
+returns-in_err-commit-clause-leaves g c = λ told steps asked.
+    let old = g.B.Bay.disks c.args.bay.now in
+    let middle = g.B.Bay.disks c.recover.new.bay in
+    let new = g.B.Bay.disks c.commit.new.bay in
+    let made = c.in_ok-ready.ensures in
+    let was = was_readied c.args.group.now c.args.changes.now c.args.timestamp c.in_ok-ready.ready c.requires.from.assembled c.ranges.timestamp.fits made.readied made.recovery made.recovers made.follows in
+    let tell : Tells old middle = record {
+      told = g.met.B.Bay.told_since c.recover.new.bay;
+      counts = g.met.B.Bay.counts_now c.recover.new.bay;
+      back = c.recover.ensures.spends.told;
+      held = g.met.B.Bay.held_is_left c.recover.new.bay;
+    } in
+    let tell_new : Tells middle new = record {
+      told = g.met.B.Bay.told_since c.commit.new.bay;
+      counts = g.met.B.Bay.counts_now c.commit.new.bay;
+      back = c.commit.ensures.spends.told;
+      held = g.met.B.Bay.held_is_left c.commit.new.bay;
+    } in
+    let next = subst (λ (one : ReadyValue). (seat : ℕ → SlotChange) → MayChangeAll middle (next_slots one) seat (next_updates one) → StopsLeave middle new (IsLeftChangingAll middle (next_slots one) seat (next_updates one)))
+    c.recover.ensures.left (c.commit.ensures.any_moment told) in
+    let rest : ReadyValue = record { recovery = None; steps = c.in_ok-ready.ready.steps } in
+    let may = may_recover c.args.group.now c.args.changes.now c.args.timestamp c.in_ok-ready.ready was old (c.requires.from.held told) (c.requires.from.stand told) in
+    let held = recovered_held c.args.group.now c.args.changes.now c.args.timestamp c.in_ok-ready.ready was old middle c.recover.ensures.spends.same_sizes (c.requires.from.held told) (c.requires.from.stand told)
+    may (c.in_ok-recover.ensures.changed told may.seat may.may_change) in
+    let can = may_write_next middle (group_recovered c.args.group.now c.in_ok-ready.ready.recovery) rest held (recovered_ready c.args.group.now c.args.changes.now c.args.timestamp c.in_ok-ready.ready was) in
+    commit_leaves g.B.Bay.tells old c.args.group.now c.args.changes.now c.args.timestamp c.in_ok-ready.ready c.requires.from was told
+    (reads_true old (g.met.B.Bay.held_is_left c.args.bay.now) (g.met.B.Bay.whole c.args.bay.now)) (g.met.B.Bay.only_now c.args.bay.now) steps asked middle c.recover.ensures.spends.same_sizes (c.recover.ensures.any_moment told) tell
+    can (reads_true middle (g.met.B.Bay.held_is_left c.recover.new.bay) (g.met.B.Bay.whole c.recover.new.bay)) new next tell_new
+
+pub returns-clause-leaves : goal.returns-clause-leaves
+returns-clause-leaves g c = λ told steps asked.
+    let old = g.B.Bay.disks c.args.bay.now in
+    let middle = g.B.Bay.disks c.recover.new.bay in
+    let new = g.B.Bay.disks c.commit.new.bay in
+    let made = c.in_ok-ready.ensures in
+    let was = was_readied c.args.group.now c.args.changes.now c.args.timestamp c.in_ok-ready.ready c.requires.from.assembled c.ranges.timestamp.fits made.readied made.recovery made.recovers made.follows in
+    let tell : Tells old middle = record {
+      told = g.met.B.Bay.told_since c.recover.new.bay;
+      counts = g.met.B.Bay.counts_now c.recover.new.bay;
+      back = c.recover.ensures.spends.told;
+      held = g.met.B.Bay.held_is_left c.recover.new.bay;
+    } in
+    let tell_new : Tells middle new = record {
+      told = g.met.B.Bay.told_since c.commit.new.bay;
+      counts = g.met.B.Bay.counts_now c.commit.new.bay;
+      back = c.commit.ensures.spends.told;
+      held = g.met.B.Bay.held_is_left c.commit.new.bay;
+    } in
+    let next = subst (λ (one : ReadyValue). (seat : ℕ → SlotChange) → MayChangeAll middle (next_slots one) seat (next_updates one) → StopsLeave middle new (IsLeftChangingAll middle (next_slots one) seat (next_updates one)))
+    c.recover.ensures.left (c.commit.ensures.any_moment told) in
+    let rest : ReadyValue = record { recovery = None; steps = c.in_ok-ready.ready.steps } in
+    let may = may_recover c.args.group.now c.args.changes.now c.args.timestamp c.in_ok-ready.ready was old (c.requires.from.held told) (c.requires.from.stand told) in
+    let held = recovered_held c.args.group.now c.args.changes.now c.args.timestamp c.in_ok-ready.ready was old middle c.recover.ensures.spends.same_sizes (c.requires.from.held told) (c.requires.from.stand told)
+    may (c.in_ok-recover.ensures.changed told may.seat may.may_change) in
+    let can = may_write_next middle (group_recovered c.args.group.now c.in_ok-ready.ready.recovery) rest held (recovered_ready c.args.group.now c.args.changes.now c.args.timestamp c.in_ok-ready.ready was) in
+    commit_leaves g.B.Bay.tells old c.args.group.now c.args.changes.now c.args.timestamp c.in_ok-ready.ready c.requires.from was told
+    (reads_true old (g.met.B.Bay.held_is_left c.args.bay.now) (g.met.B.Bay.whole c.args.bay.now)) (g.met.B.Bay.only_now c.args.bay.now) steps asked middle c.recover.ensures.spends.same_sizes (c.recover.ensures.any_moment told) tell
+    can (reads_true middle (g.met.B.Bay.held_is_left c.recover.new.bay) (g.met.B.Bay.whole c.recover.new.bay)) new next tell_new

@@ -37,6 +37,11 @@ returns-clause-changed g c =
     c.slots.ensures.slots c.read_group.ensures.reads.same_sizes c.recovered.ensures c.seats.ensures in
     let read = c.read_group.ensures in
     let written = c.write_changes.ensures in
-    let changed = rw (c.from_ref.ensures.value, c.timestamp.ensures) at written.changed in
-    let keeps = rw (c.from_ref.ensures.value, c.timestamp.ensures) at written.keeps in
-    has_changed _ _ _ _ read.reads read.reads_rise read.writes_rise _ _ _ _ _ _ c.in_ok-group.ensures.read (same ∙ ap alone c.in_ok-change.ensures) written.reads_rise written.writes_rise changed keeps written.beside
+    has_changed _ _ _ _ read.reads read.reads_rise read.writes_rise _ _ _ _ _ _ c.in_ok-group.ensures.read (same ∙ ap alone c.in_ok-change.ensures) (record {
+      changed = rw (c.from_ref.ensures.value, c.timestamp.ensures) at written.changed;
+      beside = written.beside;
+      leaves = rw (c.from_ref.ensures.value, c.timestamp.ensures) at written.leaves;
+      keeps = rw (c.from_ref.ensures.value, c.timestamp.ensures) at written.keeps;
+      same_reads = written.reads;
+      writes_rise = written.writes_rise;
+    })

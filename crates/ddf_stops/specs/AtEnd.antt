@@ -1,6 +1,5 @@
 -- The end of a call's step: a settled group that disks hold, as the last change of a history.
-use Rattle.std.proofs.Common.{◌≡◌, ℕ, true, false, List, length, Some}
-use Rattle.std.specs.Prelude.{slice_get}
+use Rattle.std.specs.Prelude.{◌≡◌, ℕ, true, false, List, length, Some, slice_get}
 use Rattle.ddf_bay.specs.State.{BayState, size_of}
 use Rattle.ddf_bay.specs.Sectors.{IsLeft}
 use Rattle.ddf_config.specs.Configuration.{Configuration}
