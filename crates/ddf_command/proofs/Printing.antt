@@ -9,7 +9,7 @@ use Rattle.ddf_array.specs.Volume.{Fits, Volume}
 use Rattle.ddf_volume.specs.Given.{AreGiven, NoneLeftIn}
 use Rattle.ddf_volume.specs.Reading.{Failed, OnlyReads}
 use Rattle.ddf_volume.proofs.OnlyReading.{failed_behind, only_reads_start, only_reads_then}
-use Rattle.ddf_volume.proofs.Pieces.{given_more, left_after, left_more}
+use Rattle.ddf_volume.proofs.Pieces.{given_more, left_after}
 use Rattle.ddf_volume.proofs.SourceSlots.{slot_there}
 use Rattle.ddf_text.specs.Refusal.{disk_fault_line}
 use Rattle.ddf_command.specs.declared.failure.Failure.TheVariants.{Disk}
@@ -70,18 +70,14 @@ module _ {D : Type 0} (tells : Type 0) (v : Volume) (start count : ℕ) where
     }
 
     -- a block of the next piece without a source
-    module _ (fits : Fits old.sizes v) (size slot : ℕ) (inside : at + size ≤ count) (left : NoneLeftIn (Failed now new) v (start + at) size slot) where
-      there : slot < length old.sizes
-      there = slot_there old.sizes v fits (start + at + left.block) slot left.none_left.is_of_first
-
-      pub without_any : IsWithoutSource (work_of tells old new) v start count slot
-      without_any = record { there = there; none_left = left_more gone.reads next v start at size count slot inside left }
-
-      pub without_behind : IsWithoutSource (work_of tells old new) v (start + length front) (count - length front) slot
-      without_behind =
-          let all = left_after gone.reads next v (start + at) size slot left in
-          let rest : NoneLeftIn (Failed old new) v (start + at) (count - at) slot = record { block = all.block; is_in = omega (arith, all.is_in, inside); none_left = all.none_left } in
-          subst (λ (n : ℕ). IsWithoutSource (work_of tells old new) v (start + n) (count - n) slot) (sym gone.long) (record { there = there; none_left = rest })
+    module _ (fits : Fits old.sizes v) (size slot : ℕ) (is : size ≡ min (count - at) piece_blocks) (left : NoneLeftIn (Failed now new) v (start + at) size slot) where
+      pub without_source : IsWithoutSource (work_of tells old new) v (start + length front) (min (count - length front) piece_blocks) slot
+      without_source =
+          let found : IsWithoutSource (work_of tells old new) v (start + at) (min (count - at) piece_blocks) slot = record {
+            there = slot_there old.sizes v fits (start + at + left.block) slot left.none_left.is_of_first;
+            none_left = subst (λ (n : ℕ). NoneLeftIn (Failed old new) v (start + at) n slot) is (left_after gone.reads next v (start + at) size slot left);
+          } in
+          subst (λ (n : ℕ). IsWithoutSource (work_of tells old new) v (start + n) (min (count - n) piece_blocks) slot) (sym gone.long) found
 
   pub first_blocks : (old now : BayState D) (at : ℕ) (front : List (List ℕ)) → HasGone tells old now v start count at front → AreFirstBlocks (work_of tells old now) v start count front
   first_blocks old now at front gone = record {
@@ -178,9 +174,6 @@ module _ {D : Type 0} (tells told : Type 0) (v : Volume) (start count : ℕ) whe
     }
 
     module _ (new : BayState D) (next : OnlyReads now new) (below : at < count) (size : ℕ) (is : size ≡ min (count - at) piece_blocks) where
-      inside : at + size ≤ count
-      inside = omega (arith, is, below)
-
       pub come_more : (last : SinkState) (piece : List (List ℕ)) → length piece ≡ size → (tells → AreGiven (Failed now new) now.held v (start + at) (length piece) piece)
           → HasPrinted told after last piece → SinkNeverFalls after last → HasCome tells old new v start count (at + size) told before last
       come_more last piece long given printed falls = record {
@@ -205,7 +198,7 @@ module _ {D : Type 0} (tells told : Type 0) (v : Volume) (start count : ℕ) whe
           has = (
             omega (arith, some, come.gone.long),
             first_blocks tells v start count old new at come.front (gone_later tells v start count old now new at come.front come.gone next),
-            without_behind tells v start count old now new at come.front come.gone next fits size slot inside left,
+            without_source tells v start count old now new at come.front come.gone next fits size slot is left,
           );
           ends = record { ends = refl; tells = come.printed };
         }
@@ -214,7 +207,13 @@ module _ {D : Type 0} (tells told : Type 0) (v : Volume) (start count : ℕ) whe
             → CameTo (IsReadFrom (work_of tells old new) v start count) (answer_of told before last status)
         come_none first last status closes = record {
           outcome = NotRead (Disk slot);
-          has = without_any tells v start count old now new at come.front come.gone next fits size slot inside left;
+          has =
+              let none : length come.front ≡ 0 = omega (arith, come.gone.long, first) in
+              let from : start + length come.front ≡ start = omega (arith, none) in
+              let most : count - length come.front ≡ count = omega (arith, none) in
+              subst (λ (n : ℕ). IsWithoutSource (work_of tells old new) v n (min count piece_blocks) slot) from
+              (subst (λ (n : ℕ). IsWithoutSource (work_of tells old new) v (start + length come.front) (min n piece_blocks) slot) most
+              (without_source tells v start count old now new at come.front come.gone next fits size slot is left));
           ends = closes_first told before after last (disk_fault_line slot) 3 status
               (λ is.
               come.printed is

@@ -1,6 +1,6 @@
 -- What a read of blocks comes to.
 use Rattle.std.proofs.Common.{◌≡◌, ◌∙◌, inl, inr, ⊎_elim, ℕ, ◌+◌, ◌-◌, ◌<◌, ◌≤◌, Bool, true, false, not, List, [], ◌∷◌, length, Option, Some, None, Result, Ok, Err, ap, refl, sym, subst}
-use Rattle.std.specs.Prelude.{nat_lt, if◌then◌else◌}
+use Rattle.std.specs.Prelude.{min, nat_lt, if◌then◌else◌}
 use Rattle.std.specs.Map.{lookup}
 use Rattle.std.specs.Option.{option_or}
 use Rattle.ddf_bytes.specs.Counts.{Rose}
@@ -34,7 +34,7 @@ use Rattle.ddf_command.specs.declared.failure.Failure.{Failure}
 use Rattle.ddf_command.specs.declared.failure.Failure.TheVariants.{Conflict, Disk, Memory, Refused, Split}
 use Rattle.ddf_command.specs.Answers.{failure_of}
 use Rattle.ddf_command.specs.Call.{Work, work_of}
-use Rattle.ddf_command.specs.Read.{AreBlocks, AreFirstBlocks, CutShort, IsReadFrom, IsReadIn, IsReadOf, IsReadable, IsWithoutSource, MayRead, NotRead, Outcome, Stopped, Whole, array_refusals, block_refusals, failure_of_read, needs_parity, read_refusal}
+use Rattle.ddf_command.specs.Read.{AreBlocks, AreFirstBlocks, CutShort, IsReadFrom, IsReadIn, IsReadOf, IsReadable, IsWithoutSource, MayRead, NotRead, Outcome, Stopped, Whole, array_refusals, block_refusals, failure_of_read, needs_parity, piece_blocks, read_refusal}
 use Rattle.ddf_command.proofs.Readable.{named_is, range_of}
 use Rattle.ddf_volume.proofs.GivenLaws.{values_of}
 use Rattle.ddf_command.proofs.Rises.{rose_later, rose_still}
@@ -202,12 +202,12 @@ module _ {D : Type 0} (tells : Type 0) (old middle new : BayState D)
     from_behind : (start count : ℕ) (outcome : Outcome) → IsReadFrom (work_of tells middle new) v start count outcome → IsReadFrom (work_of tells old new) v start count outcome
     from_behind start count (Whole sectors) is = (is.0, blocks_behind start sectors is.1)
     from_behind start count (NotRead (Refused refusal)) is = is
-    from_behind start count (NotRead (Disk slot)) is = without_behind start count slot is
+    from_behind start count (NotRead (Disk slot)) is = without_behind start (min count piece_blocks) slot is
     from_behind start count (NotRead (Conflict i j sequence differ)) is = is
     from_behind start count (NotRead (Split i j)) is = is
     from_behind start count (NotRead Memory) is = is
     from_behind start count (Stopped front slot) is =
-        (is.0, first_behind start count front is.1, without_behind (start + length front) (count - length front) slot is.2)
+        (is.0, first_behind start count front is.1, without_behind (start + length front) (min (count - length front) piece_blocks) slot is.2)
     from_behind start count (CutShort front) is = first_behind start count front is
 
   module _ (group : GroupValue) (word : List ℕ) (start count : ℕ) where

@@ -1,5 +1,5 @@
 -- How `read` ends.
-use Rattle.std.proofs.Common.{◌≡◌, ◌⊎◌, inl, inr, ⊎_elim, ℕ, ◌+◌, ◌-◌, List, length, Option, Result, Ok, Err, arith}
+use Rattle.std.proofs.Common.{◌≡◌, ◌⊎◌, inl, inr, ⊎_elim, ℕ, List, Option, Result, Ok, Err, arith}
 use Rattle.ddf_array.specs.Volume.{Volume}
 use Rattle.ddf_group.specs.declared.answer.Assembly.{Assembly}
 use Rattle.ddf_group.specs.declared.answer.Assembly.TheVariants as faults
@@ -32,15 +32,15 @@ good_end status good end =
 
 module _ {D : Type 0} (work : Work D) (named : Option (List ℕ)) (word : List ℕ) (start count : ℕ) (answer : Answer) where
   -- a block without a source names a slot that failed
-  rose_from : (v : Volume) (first most slot : ℕ) → IsWithoutSource work v first most slot → SomeSlotRose work.old work.new
-  rose_from v first most slot is = record { slot = slot; there = is.there; rose = inl is.none_left.none_left.this_failed }
+  rose_from : {v : Volume} {first most : ℕ} (slot : ℕ) → IsWithoutSource work v first most slot → SomeSlotRose work.old work.new
+  rose_from slot is = record { slot = slot; there = is.there; rose = inl is.none_left.none_left.this_failed }
 
   rose_by : (slot : ℕ) (group : Result GroupValue Assembly) → IsReadIn work word start count group (NotRead (Disk slot)) → SomeSlotRose work.old work.new
-  rose_by slot (Ok group) is = rose_from is.0 start count slot is.2
+  rose_by slot (Ok group) is = rose_from slot is.2
   rose_by slot (Err fault) is = absurd (⊎_elim (λ e. no_disk fault slot cc) (λ memory. cc) is)
 
   rose_behind : (front : List (List ℕ)) (slot : ℕ) (group : Result GroupValue Assembly) → IsReadIn work word start count group (Stopped front slot) → SomeSlotRose work.old work.new
-  rose_behind front slot (Ok group) is = rose_from is.0 (start + length front) (count - length front) slot is.2.2
+  rose_behind front slot (Ok group) is = rose_from slot is.2.2
   rose_behind front slot (Err fault) is = absurd (⊎_elim (λ e. cc) (λ memory. cc) is)
 
   -- how it ends where no slot failed

@@ -1,5 +1,5 @@
 -- What `read` tells, and how it ends.
-use Rattle.std.specs.Prelude.{◌≡◌, ◌⊎◌, ℕ, ◌+◌, ◌-◌, ◌%◌, ◌<◌, ◌≤◌, Bool, true, false, not, ◌&&◌, ◌||◌, nat_lt, List, [], ◌∷◌, ◌++◌, length, Option, Some, None, Result, Ok, Err, IsTrue, slice_index_or}
+use Rattle.std.specs.Prelude.{◌≡◌, ◌⊎◌, ℕ, ◌+◌, ◌-◌, ◌%◌, ◌<◌, ◌≤◌, Bool, true, false, not, ◌&&◌, ◌||◌, nat_lt, List, [], ◌∷◌, ◌++◌, length, min, Option, Some, None, Result, Ok, Err, IsTrue, slice_index_or}
 use Rattle.std.specs.List.{flat_map}
 use Rattle.ddf_bytes.specs.Streams.{TakesFront}
 use Rattle.ddf_bay.specs.ReadsOnly.{LookFailed}
@@ -120,11 +120,11 @@ pub record IsWithoutSource {D : Type 0} (work : Work D) (volume : Volume) (start
 -- none left; the first; or want of memory
 abbrev pub IsReadFrom : {D : Type 0} → Work D → Volume → (start count : ℕ) → Outcome → Type 0
 IsReadFrom work volume start count (Whole sectors) = (length sectors ≡ count) × AreBlocks work volume start sectors
-IsReadFrom work volume start count (NotRead (Disk slot)) = IsWithoutSource work volume start count slot
+IsReadFrom work volume start count (NotRead (Disk slot)) = IsWithoutSource work volume start (min count piece_blocks) slot
 IsReadFrom work volume start count (NotRead Memory) = Unit {0}
 IsReadFrom work volume start count (NotRead other) = ⊥
 IsReadFrom work volume start count (Stopped front slot) =
-    (0 < length front) × AreFirstBlocks work volume start count front × IsWithoutSource work volume (start + length front) (count - length front) slot
+    (0 < length front) × AreFirstBlocks work volume start count front × IsWithoutSource work volume (start + length front) (min (count - length front) piece_blocks) slot
 IsReadFrom work volume start count (CutShort front) = AreFirstBlocks work volume start count front
 
 -- what came of a group: that it is refused, want of memory, or what came of the array
