@@ -29,3 +29,4 @@ mod StepsCopies
 mod SeatsShown
 mod AnotherGroup
 mod Cut
+mod FoundedMember

@@ -7,6 +7,7 @@ ghost use Rattle.ddf_bay.specs.Sectors.{Image, IsLeft};
 ghost use Rattle.ddf_plan.specs.declared.change.Change.{Change};
 ghost use Rattle.ddf_update.specs.NewCopies.{group_of};
 ghost use Rattle.ddf_view.specs.View.{View, view_of};
+ghost use Rattle.ddf_history.specs.Answer.{HasMember};
 ghost use Rattle.ddf_history.specs.Calls.{IsAside};
 ghost use Rattle.ddf_history.specs.Groups.{disk_of, groups};
 ghost use Rattle.ddf_history.specs.History.{AllKept, Answers, IsHistory, KeepsAcked, Moment};
@@ -96,6 +97,15 @@ pub fn a_label_cut_short_begins_a_history<B: Bay>()
         → IsLeftByLabel (B.disks old) (B.disks new) (B.disks cut) stamp named founded → IsLeft (B.disks cut).may_hold (B.disks cut).held
         → (left : List Bool) → length left ≡ length (B.disks cut).sizes → (slot : ℕ) → founded slot ≡ true → is_read left slot ≡ true
         → Gives (B.disks cut) left (group_of stamp) (founding_config (label_copy stamp (B.disks old).sizes named)) }
+{}
+
+/// A slot that a `label` founded is a current member, as a history asks that one is read.
+pub fn a_founded_slot_is_a_current_member<B: Bay>()
+    ensures { (stamp : Stamp) (named : List ℕ) (old bay : B) (founded : ℕ → Bool) → AreLabelled (B.disks old) stamp named (B.disks bay).held founded
+        → (past : Past (groups (group_of stamp)))
+        → IsNewGroup (group_of stamp) past (B.disks old).sizes (label_slots (B.disks old).sizes named) (label_copy stamp (B.disks old).sizes named) founded
+        → (readable : ℕ → Bool) (slot : ℕ) → founded slot ≡ true → readable slot ≡ true
+        → HasMember past (scene_of (B.disks old).sizes (B.disks bay).held) readable }
 {}
 
 /// A call that asked for no write leaves of every slot what a stop might have left before. A count at its last value tells nothing of that.
