@@ -30,3 +30,4 @@ mod SeatsShown
 mod AnotherGroup
 mod Cut
 mod FoundedMember
+mod LabelAside

@@ -4,14 +4,15 @@ ghost use Rattle.std.specs.Str.{bytes_eq};
 ghost use Rattle.ddf_bytes.specs.declared.stamp.Stamp.{Stamp};
 ghost use Rattle.ddf_bay.specs.Moments.{GoesOn};
 ghost use Rattle.ddf_bay.specs.Sectors.{Image, IsLeft};
+ghost use Rattle.ddf_config.specs.Configuration.{Configuration};
 ghost use Rattle.ddf_plan.specs.declared.change.Change.{Change};
 ghost use Rattle.ddf_update.specs.NewCopies.{group_of};
 ghost use Rattle.ddf_view.specs.View.{View, view_of};
 ghost use Rattle.ddf_history.specs.Answer.{HasMember};
 ghost use Rattle.ddf_history.specs.Calls.{IsAside};
-ghost use Rattle.ddf_history.specs.Groups.{disk_of, groups};
+ghost use Rattle.ddf_history.specs.Groups.{disk_of, groups, has_current};
 ghost use Rattle.ddf_history.specs.History.{AllKept, Answers, IsHistory, KeepsAcked, Moment};
-ghost use Rattle.ddf_history.specs.Issued.{Past};
+ghost use Rattle.ddf_history.specs.Issued.{IsSince, Past};
 ghost use Rattle.ddf_history.specs.Reading.{Each, Scene};
 ghost use Rattle.ddf_history.specs.Scenes.{scene_of};
 ghost use Rattle.ddf_assembly.specs.Committed.{slots_of};
@@ -106,6 +107,18 @@ pub fn a_founded_slot_is_a_current_member<B: Bay>()
         → IsNewGroup (group_of stamp) past (B.disks old).sizes (label_slots (B.disks old).sizes named) (label_copy stamp (B.disks old).sizes named) founded
         → (readable : ℕ → Bool) (slot : ℕ) → founded slot ≡ true → readable slot ≡ true
         → HasMember past (scene_of (B.disks old).sizes (B.disks bay).held) readable }
+{}
+
+/// A `label` doesn't take the group of another history, whether it was done, refused or cut short: where its slots were aside before, whatever
+/// a stop might have left, they stay so. The names of its disks are none that the history counts as members.
+pub fn a_label_is_aside_of_other_histories<B: Bay>()
+    ensures { (told : B.tells) (group : List ℕ) (old : Moment (groups group) B) (exit : B) (stamp : Stamp) (named : List ℕ)
+        → IsNewLabel (B.disks old.bay) (B.disks exit) stamp named → bytes_eq group (group_of stamp) ≡ false
+        → ((image : Image) → IsLeft (B.disks old.bay).may_hold image → (slot : ℕ) → is_slot (label_slots (B.disks old.bay).sizes named) slot ≡ true
+        → IsAside old.past slot (scene_of (B.disks old.bay).sizes image slot))
+        → ((place slot number : ℕ) (config : Configuration) → slice_get (label_slots (B.disks old.bay).sizes named) place ≡ Some slot → IsSince old.past.changes number config
+        → has_current config (disk_of (view_of (label_copy stamp (B.disks old.bay).sizes named place))) ≡ true → ⊥)
+        → (call : OtherCall told B.disks group old) × (call.exit ≡ exit) × (call.written ≡ label_slots (B.disks old.bay).sizes named) }
 {}
 
 /// A call that asked for no write leaves of every slot what a stop might have left before. A count at its last value tells nothing of that.

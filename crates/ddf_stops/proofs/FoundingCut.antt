@@ -62,10 +62,10 @@ module _ {D : Type 0} (stamp : Stamp) (old : BayState D) (slots : List ℕ) (are
     scene = scene_of old.sizes image
 
     -- what is left of one slot, with what the others held
-    beside : (slot : ℕ) → Image
+    pub beside : (slot : ℕ) → Image
     beside slot s l = if s == slot then image s l else old.held s l
 
-    beside_left : (slot : ℕ) → ((l : ℕ) → old.may_hold slot l (image slot l)) → IsLeft old.may_hold (beside slot)
+    pub beside_left : (slot : ℕ) → ((l : ℕ) → old.may_hold slot l (image slot l)) → IsLeft old.may_hold (beside slot)
     unfolding beside
     beside_left slot may s l = by (s == slot) refl
       where
@@ -77,7 +77,7 @@ module _ {D : Type 0} (stamp : Stamp) (old : BayState D) (slots : List ℕ) (are
     unfolding beside
     beside_here slot = fun_ext (λ l. ap (λ (b : Bool). if b then image slot l else old.held slot l) (eq-eqb slot slot refl))
 
-    same_shown : (slot : ℕ) → scene slot ≡ scene_of old.sizes (beside slot) slot
+    pub same_shown : (slot : ℕ) → scene slot ≡ scene_of old.sizes (beside slot) slot
     same_shown slot = same_scene old.sizes image (beside slot) slot (sym (beside_here slot))
 
     -- A slot as it might be left before shows no copy of the group, nor one that names a member.
@@ -91,7 +91,7 @@ module _ {D : Type 0} (stamp : Stamp) (old : BayState D) (slots : List ℕ) (are
         (names_new (beside slot) (beside_left slot may)).names_none slot other refl (subst (λ (shown : Shown View). IsCopyOf shown other) (same_shown slot) is_copy)
 
     -- A blank one shows nothing.
-    blank_there : (place slot : ℕ) → slice_get slots place ≡ Some slot → anchor_at (size_of old slot) (image slot) ≡ Err Blank → scene slot ≡ Nothing
+    pub blank_there : (place slot : ℕ) → slice_get slots place ≡ Some slot → anchor_at (size_of old slot) (image slot) ≡ Err Blank → scene slot ≡ Nothing
     blank_there place slot at blank = scene_at old.sizes image slot (are.there place slot at) ∙ blank_shows (size_of old slot) (image slot) blank
 
     -- the slot has its copy in both places
@@ -99,7 +99,7 @@ module _ {D : Type 0} (stamp : Stamp) (old : BayState D) (slots : List ℕ) (are
     HasCopy place slot = AreBoth (size_of old slot) (image slot) (anchor_header (copy place)) (copy place)
 
     -- One with its copy shows it.
-    copy_there : (place slot : ℕ) → slice_get slots place ≡ Some slot → HasCopy place slot → scene slot ≡ One (view_at stamp (slot_sizes old.sizes slots) place)
+    pub copy_there : (place slot : ℕ) → slice_get slots place ≡ Some slot → HasCopy place slot → scene slot ≡ One (view_at stamp (slot_sizes old.sizes slots) place)
     copy_there place slot at both =
         scene_at old.sizes image slot (are.there place slot at)
         ∙ both_show (size_of old slot) (image slot) (anchor_header (copy place)) (copy place) both
