@@ -31,3 +31,4 @@ mod AnotherGroup
 mod Cut
 mod FoundedMember
 mod LabelAside
+mod NoNewMembers

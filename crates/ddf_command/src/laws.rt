@@ -13,7 +13,7 @@ ghost use Rattle.ddf_history.specs.Calls.{IsAside};
 ghost use Rattle.ddf_history.specs.Groups.{disk_of, groups, has_current};
 ghost use Rattle.ddf_history.specs.History.{AllKept, Answers, IsHistory, KeepsAcked, Moment};
 ghost use Rattle.ddf_history.specs.Issued.{IsSince, Past};
-ghost use Rattle.ddf_history.specs.Reading.{Each, Scene};
+ghost use Rattle.ddf_history.specs.Reading.{Each, Scene, Shown};
 ghost use Rattle.ddf_history.specs.Scenes.{scene_of};
 ghost use Rattle.ddf_assembly.specs.Committed.{slots_of};
 ghost use Rattle.ddf_assembly.specs.Group.{GroupValue, group_of as group_found};
@@ -22,6 +22,7 @@ ghost use Rattle.ddf_assembly.specs.Seated.{seated};
 ghost use Rattle.ddf_assembly.specs.Steps.{Step};
 ghost use Rattle.ddf_assembly.specs.declared.seated.Seated.{Seated};
 ghost use Rattle.ddf_stops.specs.Founding.{AreNamesNew, IsNewGroup, founding_config};
+ghost use Rattle.ddf_stops.specs.Going.{Ends, changes_in};
 ghost use Rattle.ddf_stops.specs.Kept.{AreAllKept, is_read, is_slot};
 ghost use Rattle.ddf_command.specs.Call.{work_of};
 ghost use Rattle.ddf_command.specs.Change.{HasChanged, Request};
@@ -107,6 +108,14 @@ pub fn a_founded_slot_is_a_current_member<B: Bay>()
         → IsNewGroup (group_of stamp) past (B.disks old).sizes (label_slots (B.disks old).sizes named) (label_copy stamp (B.disks old).sizes named) founded
         → (readable : ℕ → Bool) (slot : ℕ) → founded slot ≡ true → readable slot ≡ true
         → HasMember past (scene_of (B.disks old).sizes (B.disks bay).held) readable }
+{}
+
+/// A change of a group makes no disk a current member that wasn't one since the last acknowledged configuration: however far a call on the group
+/// came, a slot that was aside of its history is so behind it, while it shows what it showed.
+pub fn a_change_makes_no_disk_a_member()
+    ensures { (group : List ℕ) (past now : Past (groups group)) (readable : ℕ → Bool) (found : GroupValue) (changes : List Change) (timestamp : ℕ) (steps : List Step)
+        → readied found changes timestamp ≡ Ok steps → (done : Bool) → Ends group past readable found (changes_in found steps) done now
+        → (slot : ℕ) (shown : Shown View) → IsAside past slot shown → IsAside now slot shown }
 {}
 
 /// A `label` doesn't take the group of another history, whether it was done, refused or cut short: where its slots were aside before, whatever

@@ -1,0 +1,235 @@
+-- A change of a group makes no disk a current member that wasn't one since the last acknowledged configuration.
+use Rattle.std.proofs.Common.{◌≡◌, ◌⊎◌, ℕ, zero, suc, ◌+◌, ◌≤◌, ◌==◌, not, Bool, true, false, List, [], ◌∷◌, length, map, filter, take, Option, Some, None, Result, Ok, Err, if◌then◌else◌, refl, ap, sym, ◌∙◌, subst, inl, inr, ⊎_elim, arith}
+use Rattle.std.specs.Prelude.{slice_get}
+use Rattle.ddf_config.specs.declared.refusal.FullTable.{FullTable}
+use Rattle.ddf_config.specs.declared.refusal.Refusal.{Refusal}
+use Rattle.ddf_config.specs.declared.refusal.Refusal.TheVariants.{Unsettled}
+use Rattle.ddf_config.specs.Configuration.{Configuration}
+use Rattle.ddf_plan.specs.declared.change.Change.{Change}
+use Rattle.ddf_plan.specs.Same.{is_step}
+use Rattle.ddf_view.specs.View.{View}
+use Rattle.ddf_rewrite.proofs.Lists.{map_get}
+use Rattle.ddf_history.specs.Calls.{IsAside}
+use Rattle.ddf_history.specs.Groups.{Disk, groups, has_current}
+use Rattle.ddf_history.specs.Issued.{IsSince, Past, issue, leave_out, take_off}
+use Rattle.ddf_history.specs.Reading.{Shown}
+use Rattle.ddf_history.proofs.Following.{changes_follow}
+use Rattle.ddf_history.proofs.Lists.{get_more, get_taken}
+use Rattle.ddf_assembly.specs.declared.fault.GroupFault.{GroupFault}
+use Rattle.ddf_assembly.specs.declared.fault.GroupFault.TheVariants.{Refused}
+use Rattle.ddf_assembly.specs.declared.seated.Seated.{Seated}
+use Rattle.ddf_assembly.specs.Group.{GroupValue}
+use Rattle.ddf_assembly.specs.Ready.{full_or_none, readied, steps_from, unless_spent, with_recovery, with_step}
+use Rattle.ddf_assembly.specs.Recovery.{config_lost, config_recovered, disks_recovered, full_of_recovery, has_stray, loss, loss_spent, lost_step, mending_step, recovery_of, some}
+use Rattle.ddf_assembly.specs.Refusing.{step_refusal}
+use Rattle.ddf_assembly.specs.Steps.{Step, config_after, levelled, step_of}
+use Rattle.ddf_assembly.proofs.CommittedReadied.{filter_get, steps_or_spent}
+use Rattle.ddf_stops.specs.Going.{Ends, Goes, IsOver, begun, changes_in, issue_all}
+
+-- ---- the steps
+
+-- Each current member of the later configuration is one of the earlier.
+abbrev pub IsWithin : (earlier later : Configuration) → Type 0
+IsWithin earlier later = (disk : Disk) → has_current later disk ≡ true → has_current earlier disk ≡ true
+
+-- A change gives such a configuration.
+change_within : (config : Configuration) (change : Change) → IsWithin config (config_after config change)
+change_within config change = (changes_follow config.group config change (config.sequence + 1) (omega arith)).no_more
+
+module _ (first : Configuration) where
+  abbrev AreWithin : List Step → Type 0
+  AreWithin steps = (number : ℕ) (step : Step) → slice_get steps number ≡ Some step → IsWithin first step.config
+
+  cons_within : (step : Step) (others : List Step) → IsWithin first step.config → AreWithin others → AreWithin (step ∷ others)
+  cons_within step others here rest zero one at = let same : step ≡ one = cc in subst (λ (each : Step). IsWithin first each.config) same here
+  cons_within step others here rest (suc number) one at = rest number one at
+
+  with_within : (step : Step) (behind : Result (List Step) Refusal) (steps : List Step) → IsWithin first step.config
+      → ((others : List Step) → behind ≡ Ok others → AreWithin others) → with_step step behind ≡ Ok steps → AreWithin steps
+  with_within step (Err refusal) steps here rest is = absurd cc
+  with_within step (Ok others) steps here rest is = let same : step ∷ others ≡ steps = cc in subst AreWithin same (cons_within step others here (rest others refl))
+
+  full_within : (full : Option FullTable) (steps : List Step) → full_or_none full ≡ Ok steps → AreWithin steps
+  full_within None steps is = let none : [] ≡ steps = cc in subst AreWithin none (λ number step at. absurd cc)
+  full_within (Some table) steps is = absurd cc
+
+  next_within : (refusal : Option Refusal) (alters : Bool) (step : Step) (behind stay : Result (List Step) Refusal) (steps : List Step) → IsWithin first step.config
+      → ((others : List Step) → behind ≡ Ok others → AreWithin others) → ((others : List Step) → stay ≡ Ok others → AreWithin others)
+      → ◌≡◌ {A = Result (List Step) Refusal} (elim refusal [ Some one ↦ Err one | None ↦ if alters then with_step step behind else stay ]) (Ok steps) → AreWithin steps
+  next_within (Some one) alters step behind stay steps here rest same is = absurd cc
+  next_within None true step behind stay steps here rest same is = with_within step behind steps here rest is
+  next_within None false step behind stay steps here rest same is = same steps is
+
+  from_within : (timestamp : ℕ) (full : Option FullTable) (changes : List Change) (config : Configuration) (disks : List Seated) (steps : List Step) → IsWithin first config
+      → steps_from timestamp full changes config disks ≡ Ok steps → AreWithin steps
+  from_within timestamp full [] config disks steps within is = full_within full steps is
+  from_within timestamp full (change ∷ changes) config disks steps within is =
+      let step = step_of timestamp config disks change in
+      let here : IsWithin first step.config = λ disk now. within disk (change_within config change disk now) in
+      next_within (step_refusal timestamp full config disks change) (is_step config change) step (steps_from timestamp None changes step.config (map levelled step.disks))
+      (steps_from timestamp None changes config disks) steps here
+      (λ others are. from_within timestamp None changes step.config (map levelled step.disks) others here are)
+      (λ others are. from_within timestamp None changes config disks others within are)
+      is
+
+  recovered_within : (spent : Bool) (next : Option Step) (behind : Result (List Step) GroupFault) (steps : List Step) → ((step : Step) → next ≡ Some step → IsWithin first step.config)
+      → ((others : List Step) → behind ≡ Ok others → AreWithin others) → with_recovery spent next behind ≡ Ok steps → AreWithin steps
+  recovered_within spent None behind steps one rest is = rest steps is
+  recovered_within spent (Some step) (Err fault) steps one rest is = absurd cc
+  recovered_within true (Some step) (Ok others) steps one rest is = absurd cc
+  recovered_within false (Some step) (Ok others) steps one rest is =
+      let same : step ∷ others ≡ steps = cc in
+      subst AreWithin same (cons_within step others (one step refl) (rest others refl))
+
+module _ (found : GroupValue) (timestamp : ℕ) where
+  recovery_within : (step : Step) → recovery_of timestamp found ≡ Some step → IsWithin found.config step.config
+  unfolding recovery_of
+  recovery_within step is = by (some found.absent) (some found.lagging) is
+    where
+      by : (absent lagging : Bool)
+          → ◌≡◌ {A = Option Step} (if absent then Some (lost_step timestamp found) else if lagging then Some (mending_step timestamp found) else None) (Some step)
+          → IsWithin found.config step.config
+      by true lagging is = let same : lost_step timestamp found ≡ step = cc in subst (λ (one : Step). IsWithin found.config one.config) same (change_within found.config (loss found))
+      by false true is = let same : mending_step timestamp found ≡ step = cc in subst (λ (one : Step). IsWithin found.config one.config) same (λ disk is. is)
+      by false false is = absurd cc
+
+  behind_within : IsWithin found.config (config_recovered found)
+  unfolding config_recovered
+  behind_within = by (some found.absent)
+    where
+      by : (absent : Bool) → IsWithin found.config (if absent then config_lost found else found.config)
+      by true = change_within found.config (loss found)
+      by false = λ disk is. is
+
+  module _ (changes : List Change) (steps : List Step) (are : readied found changes timestamp ≡ Ok steps) where
+    abbrev tried : Result (List Step) Refusal
+    tried = steps_from timestamp (full_of_recovery timestamp found) changes (config_recovered found) (disks_recovered timestamp found)
+
+    pub steps_within : AreWithin found.config steps
+    unfolding readied
+    steps_within = by (has_stray found) are
+      where
+        by : (stray : Bool)
+            → ◌≡◌ {A = Result (List Step) GroupFault} (if stray then Err (Refused Unsettled) else with_recovery (loss_spent found) (recovery_of timestamp found) (unless_spent tried)) (Ok steps)
+            → AreWithin found.config steps
+        by true is = absurd cc
+        by false is =
+            recovered_within found.config (loss_spent found) (recovery_of timestamp found) (unless_spent tried) steps recovery_within
+            (λ others tried_are.
+            from_within found.config timestamp (full_of_recovery timestamp found) changes (config_recovered found) (disks_recovered timestamp found) others behind_within
+            (steps_or_spent tried others tried_are).0)
+            is
+
+-- ---- the history
+
+module _ (group : List ℕ) where
+  -- The configuration's current members were so in one since the last acknowledged one.
+  record HadMembers (past : Past (groups group)) (config : Configuration) : Type 0 where
+    number : ℕ
+    earlier : Configuration
+    since : IsSince past.changes number earlier
+    within : IsWithin earlier config
+
+  -- An issued change is an earlier one, or one of these.
+  issued_one : (past : Past (groups group)) (changes : List Configuration) (n : ℕ) (config : Configuration) → slice_get (issue_all group past changes).changes.issued n ≡ Some config
+      → (slice_get past.changes.issued n ≡ Some config) ⊎ ((i : ℕ) × (slice_get changes i ≡ Some config))
+  issued_one past [] n config at = inl at
+  issued_one past (next ∷ others) n config at = elim (issued_one (issue past next) others n config at) [
+    | inl before ↦ elim (get_more past.changes.issued next n config before) [
+      | inl older ↦ inl older
+      | inr new ↦ inr (0, ap Some (sym new.1))
+    ]
+    | inr later ↦ inr (suc later.0, later.1)
+  ]
+
+  module _ (past : Past (groups group)) (readable : ℕ → Bool) (found : GroupValue) where
+    begun_one : (number n : ℕ) (config : Configuration) → slice_get (begun group past readable found number).changes.issued n ≡ Some config → slice_get past.changes.issued n ≡ Some config
+    begun_one number n config at = by (some found.absent) at
+      where
+        by : (absent : Bool) → slice_get (if absent then take_off (leave_out past readable found.config) number else take_off past number).changes.issued n ≡ Some config
+            → slice_get past.changes.issued n ≡ Some config
+        by true is = (get_taken past.changes.issued (number + 1) n config is).0
+        by false is = (get_taken past.changes.issued (number + 1) n config is).0
+
+    module _ (number : ℕ) (since : IsSince past.changes number found.config) (changes : List Configuration)
+        (within : (i : ℕ) (config : Configuration) → slice_get changes i ≡ Some config → IsWithin found.config config) where
+      had_members : (acked n : ℕ) (config : Configuration) → (acked ≡ past.changes.acked) ⊎ (number ≤ acked) → acked ≤ n
+          → slice_get (issue_all group (begun group past readable found number) changes).changes.issued n ≡ Some config → HadMembers past config
+      had_members acked n config stands late at = elim (issued_one (begun group past readable found number) changes n config at) [
+        | inl older ↦
+            let from = since.late in
+            record {
+              number = n;
+              earlier = config;
+              since = record { late = ⊎_elim (λ same. omega (arith, same, late)) (λ far. omega (arith, far, from, late)) stands; is_there = begun_one number n config older };
+              within = λ disk is. is;
+            }
+        | inr new ↦ record { number = number; earlier = found.config; since = since; within = within new.0 config new.1 }
+      ]
+
+    module _ (changes : List Configuration) (within : (i : ℕ) (config : Configuration) → slice_get changes i ≡ Some config → IsWithin found.config config) where
+      goes_had : (now : Past (groups group)) → Goes group past readable found changes now → (n : ℕ) (config : Configuration) → IsSince now.changes n config → HadMembers past config
+      goes_had now (inl same) n config since =
+          record { number = n; earlier = config; since = subst (λ (one : Past (groups group)). IsSince one.changes n config) same since; within = λ disk is. is }
+      goes_had now (inr is) n config since =
+          let at = subst (λ (one : Past (groups group)). IsSince one.changes n config) is.is_now since in
+          had_members is.number is.since (take is.issued changes) (λ i one there. within i one (get_taken changes is.issued i one there).0)
+          is.acked n config is.stands at.late at.is_there
+
+      over_had : (now : Past (groups group)) → IsOver group past readable found changes now → (n : ℕ) (config : Configuration) → IsSince now.changes n config → HadMembers past config
+      over_had now is n config since =
+          let at = subst (λ (one : Past (groups group)). IsSince one.changes n config) is.is_now since in
+          had_members is.number is.since changes within (is.number + length changes) n config (inr (omega arith)) at.late at.is_there
+
+  -- the configurations of steps
+  changed_within : (found : GroupValue) (steps : List Step) → AreWithin found.config steps → (i : ℕ) (config : Configuration) → slice_get (changes_in found steps) i ≡ Some config
+      → IsWithin found.config config
+  changed_within found steps within i config at =
+      let later : Step → Bool = λ step. not (step.config.sequence == found.config.sequence) in
+      let one = map_get (λ (step : Step). step.config) (filter later steps) i config at in
+      let from = filter_get later steps i one.0 one.1 in
+      subst (IsWithin found.config) one.2 (within from.0 one.0 from.1)
+
+  -- ---- slots that are aside
+
+  -- Where each configuration since the last acknowledged one had its members, a slot that was aside is so.
+  stays_aside : (past now : Past (groups group)) → now.disk ≡ past.disk → ((n : ℕ) (config : Configuration) → IsSince now.changes n config → HadMembers past config)
+      → (slot : ℕ) (shown : Shown View) → IsAside past slot shown → IsAside now slot shown
+  stays_aside past now disks had slot shown aside = record {
+    no_member = λ n config since current.
+        let was = had n config since in
+        aside.no_member was.number was.earlier was.since (was.within (past.disk slot) (subst (λ (disk : ℕ → Disk). has_current config (disk slot) ≡ true) disks current));
+    shows_none = aside.shows_none;
+    names_none = λ copy n config is since current. let was = had n config since in aside.names_none copy was.number was.earlier is was.since (was.within _ current);
+  }
+
+  -- The disks of the slots stay.
+  issued_disks : (past : Past (groups group)) (changes : List Configuration) → (issue_all group past changes).disk ≡ past.disk
+  issued_disks past [] = refl
+  issued_disks past (next ∷ others) = issued_disks (issue past next) others
+
+  begun_disks : (past : Past (groups group)) (readable : ℕ → Bool) (found : GroupValue) (number : ℕ) → (begun group past readable found number).disk ≡ past.disk
+  begun_disks past readable found number = by (some found.absent)
+    where
+      by : (absent : Bool) → (if absent then take_off (leave_out past readable found.config) number else take_off past number).disk ≡ past.disk
+      by true = refl
+      by false = refl
+
+  under_disks : (past : Past (groups group)) (readable : ℕ → Bool) (found : GroupValue) (number : ℕ) (changes : List Configuration) → (issue_all group (begun group past readable found number) changes).disk ≡ past.disk
+  under_disks past readable found number changes = issued_disks (begun group past readable found number) changes ∙ begun_disks past readable found number
+
+  goes_disks : (past now : Past (groups group)) (readable : ℕ → Bool) (found : GroupValue) (changes : List Configuration) → Goes group past readable found changes now → now.disk ≡ past.disk
+  goes_disks past now readable found changes (inl same) = ap (λ (one : Past (groups group)). one.disk) same
+  goes_disks past now readable found changes (inr is) = ap (λ (one : Past (groups group)). one.disk) is.is_now ∙ under_disks past readable found is.number (take is.issued changes)
+
+  -- So it is behind each call of the group, however far that came.
+  module _ (past now : Past (groups group)) (readable : ℕ → Bool) (found : GroupValue) (asked : List Change) (timestamp : ℕ) (steps : List Step) (are : readied found asked timestamp ≡ Ok steps) where
+    abbrev within : (i : ℕ) (config : Configuration) → slice_get (changes_in found steps) i ≡ Some config → IsWithin found.config config
+    within = changed_within found steps (steps_within found timestamp asked steps are)
+
+    pub still_aside : (done : Bool) → Ends group past readable found (changes_in found steps) done now → (slot : ℕ) (shown : Shown View) → IsAside past slot shown → IsAside now slot shown
+    still_aside true over =
+        stays_aside past now (ap (λ (one : Past (groups group)). one.disk) over.is_now ∙ under_disks past readable found over.number (changes_in found steps))
+        (over_had past readable found (changes_in found steps) within now over)
+    still_aside false goes =
+        stays_aside past now (goes_disks past now readable found (changes_in found steps) goes) (goes_had past readable found (changes_in found steps) within now goes)
