@@ -25,6 +25,7 @@ pub mod Requested
 pub mod SeatReferences
 mod Events
 mod Happening
+mod ReadiedSteps
 mod StepsCopies
 mod SeatsShown
 mod AnotherGroup

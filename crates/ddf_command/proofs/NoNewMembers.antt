@@ -1,12 +1,8 @@
 -- A change of a group makes no disk a current member that wasn't one since the last acknowledged configuration.
-use Rattle.std.proofs.Common.{◌≡◌, ◌⊎◌, ℕ, zero, suc, ◌+◌, ◌≤◌, ◌==◌, not, Bool, true, false, List, [], ◌∷◌, length, map, filter, take, Option, Some, None, Result, Ok, Err, if◌then◌else◌, refl, ap, sym, ◌∙◌, subst, inl, inr, ⊎_elim, arith}
+use Rattle.std.proofs.Common.{◌≡◌, ◌⊎◌, ℕ, suc, ◌+◌, ◌≤◌, ◌==◌, not, Bool, true, false, List, [], ◌∷◌, length, filter, take, Option, Some, None, Ok, if◌then◌else◌, refl, ap, sym, ◌∙◌, subst, inl, inr, ⊎_elim, arith}
 use Rattle.std.specs.Prelude.{slice_get}
-use Rattle.ddf_config.specs.declared.refusal.FullTable.{FullTable}
-use Rattle.ddf_config.specs.declared.refusal.Refusal.{Refusal}
-use Rattle.ddf_config.specs.declared.refusal.Refusal.TheVariants.{Unsettled}
 use Rattle.ddf_config.specs.Configuration.{Configuration}
 use Rattle.ddf_plan.specs.declared.change.Change.{Change}
-use Rattle.ddf_plan.specs.Same.{is_step}
 use Rattle.ddf_view.specs.View.{View}
 use Rattle.ddf_rewrite.proofs.Lists.{map_get}
 use Rattle.ddf_history.specs.Calls.{IsAside}
@@ -15,15 +11,12 @@ use Rattle.ddf_history.specs.Issued.{IsSince, Past, issue, leave_out, take_off}
 use Rattle.ddf_history.specs.Reading.{Shown}
 use Rattle.ddf_history.proofs.Following.{changes_follow}
 use Rattle.ddf_history.proofs.Lists.{get_more, get_taken}
-use Rattle.ddf_assembly.specs.declared.fault.GroupFault.{GroupFault}
-use Rattle.ddf_assembly.specs.declared.fault.GroupFault.TheVariants.{Refused}
-use Rattle.ddf_assembly.specs.declared.seated.Seated.{Seated}
 use Rattle.ddf_assembly.specs.Group.{GroupValue}
-use Rattle.ddf_assembly.specs.Ready.{full_or_none, readied, steps_from, unless_spent, with_recovery, with_step}
-use Rattle.ddf_assembly.specs.Recovery.{config_lost, config_recovered, disks_recovered, full_of_recovery, has_stray, loss, loss_spent, lost_step, mending_step, recovery_of, some}
-use Rattle.ddf_assembly.specs.Refusing.{step_refusal}
-use Rattle.ddf_assembly.specs.Steps.{Step, config_after, levelled, step_of}
-use Rattle.ddf_assembly.proofs.CommittedReadied.{filter_get, steps_or_spent}
+use Rattle.ddf_assembly.specs.Ready.{readied}
+use Rattle.ddf_assembly.specs.Recovery.{config_lost, config_recovered, loss, lost_step, mending_step, recovery_of, some}
+use Rattle.ddf_assembly.specs.Steps.{Step, config_after}
+use Rattle.ddf_assembly.proofs.CommittedReadied.{filter_get}
+use Rattle.ddf_command.proofs.ReadiedSteps.{AllSteps, readied_all}
 use Rattle.ddf_stops.specs.Going.{Ends, Goes, IsOver, begun, changes_in, issue_all}
 
 -- ---- the steps
@@ -36,50 +29,8 @@ IsWithin earlier later = (disk : Disk) → has_current later disk ≡ true → h
 change_within : (config : Configuration) (change : Change) → IsWithin config (config_after config change)
 change_within config change = (changes_follow config.group config change (config.sequence + 1) (omega arith)).no_more
 
-module _ (first : Configuration) where
-  abbrev AreWithin : List Step → Type 0
-  AreWithin steps = (number : ℕ) (step : Step) → slice_get steps number ≡ Some step → IsWithin first step.config
-
-  cons_within : (step : Step) (others : List Step) → IsWithin first step.config → AreWithin others → AreWithin (step ∷ others)
-  cons_within step others here rest zero one at = let same : step ≡ one = cc in subst (λ (each : Step). IsWithin first each.config) same here
-  cons_within step others here rest (suc number) one at = rest number one at
-
-  with_within : (step : Step) (behind : Result (List Step) Refusal) (steps : List Step) → IsWithin first step.config
-      → ((others : List Step) → behind ≡ Ok others → AreWithin others) → with_step step behind ≡ Ok steps → AreWithin steps
-  with_within step (Err refusal) steps here rest is = absurd cc
-  with_within step (Ok others) steps here rest is = let same : step ∷ others ≡ steps = cc in subst AreWithin same (cons_within step others here (rest others refl))
-
-  full_within : (full : Option FullTable) (steps : List Step) → full_or_none full ≡ Ok steps → AreWithin steps
-  full_within None steps is = let none : [] ≡ steps = cc in subst AreWithin none (λ number step at. absurd cc)
-  full_within (Some table) steps is = absurd cc
-
-  next_within : (refusal : Option Refusal) (alters : Bool) (step : Step) (behind stay : Result (List Step) Refusal) (steps : List Step) → IsWithin first step.config
-      → ((others : List Step) → behind ≡ Ok others → AreWithin others) → ((others : List Step) → stay ≡ Ok others → AreWithin others)
-      → ◌≡◌ {A = Result (List Step) Refusal} (elim refusal [ Some one ↦ Err one | None ↦ if alters then with_step step behind else stay ]) (Ok steps) → AreWithin steps
-  next_within (Some one) alters step behind stay steps here rest same is = absurd cc
-  next_within None true step behind stay steps here rest same is = with_within step behind steps here rest is
-  next_within None false step behind stay steps here rest same is = same steps is
-
-  from_within : (timestamp : ℕ) (full : Option FullTable) (changes : List Change) (config : Configuration) (disks : List Seated) (steps : List Step) → IsWithin first config
-      → steps_from timestamp full changes config disks ≡ Ok steps → AreWithin steps
-  from_within timestamp full [] config disks steps within is = full_within full steps is
-  from_within timestamp full (change ∷ changes) config disks steps within is =
-      let step = step_of timestamp config disks change in
-      let here : IsWithin first step.config = λ disk now. within disk (change_within config change disk now) in
-      next_within (step_refusal timestamp full config disks change) (is_step config change) step (steps_from timestamp None changes step.config (map levelled step.disks))
-      (steps_from timestamp None changes config disks) steps here
-      (λ others are. from_within timestamp None changes step.config (map levelled step.disks) others here are)
-      (λ others are. from_within timestamp None changes config disks others within are)
-      is
-
-  recovered_within : (spent : Bool) (next : Option Step) (behind : Result (List Step) GroupFault) (steps : List Step) → ((step : Step) → next ≡ Some step → IsWithin first step.config)
-      → ((others : List Step) → behind ≡ Ok others → AreWithin others) → with_recovery spent next behind ≡ Ok steps → AreWithin steps
-  recovered_within spent None behind steps one rest is = rest steps is
-  recovered_within spent (Some step) (Err fault) steps one rest is = absurd cc
-  recovered_within true (Some step) (Ok others) steps one rest is = absurd cc
-  recovered_within false (Some step) (Ok others) steps one rest is =
-      let same : step ∷ others ≡ steps = cc in
-      subst AreWithin same (cons_within step others (one step refl) (rest others refl))
+abbrev AreWithin : Configuration → List Step → Type 0
+AreWithin first = AllSteps (λ step. IsWithin first step.config)
 
 module _ (found : GroupValue) (timestamp : ℕ) where
   recovery_within : (step : Step) → recovery_of timestamp found ≡ Some step → IsWithin found.config step.config
@@ -101,24 +52,10 @@ module _ (found : GroupValue) (timestamp : ℕ) where
       by true = change_within found.config (loss found)
       by false = λ disk is. is
 
-  module _ (changes : List Change) (steps : List Step) (are : readied found changes timestamp ≡ Ok steps) where
-    abbrev tried : Result (List Step) Refusal
-    tried = steps_from timestamp (full_of_recovery timestamp found) changes (config_recovered found) (disks_recovered timestamp found)
-
-    pub steps_within : AreWithin found.config steps
-    unfolding readied
-    steps_within = by (has_stray found) are
-      where
-        by : (stray : Bool)
-            → ◌≡◌ {A = Result (List Step) GroupFault} (if stray then Err (Refused Unsettled) else with_recovery (loss_spent found) (recovery_of timestamp found) (unless_spent tried)) (Ok steps)
-            → AreWithin found.config steps
-        by true is = absurd cc
-        by false is =
-            recovered_within found.config (loss_spent found) (recovery_of timestamp found) (unless_spent tried) steps recovery_within
-            (λ others tried_are.
-            from_within found.config timestamp (full_of_recovery timestamp found) changes (config_recovered found) (disks_recovered timestamp found) others behind_within
-            (steps_or_spent tried others tried_are).0)
-            is
+  pub steps_within : (changes : List Change) (steps : List Step) → readied found changes timestamp ≡ Ok steps → AreWithin found.config steps
+  steps_within = readied_all (λ step. IsWithin found.config step.config) (λ config disks. IsWithin found.config config) timestamp
+      (λ config disks change from. let here : IsWithin found.config (config_after config change) = λ disk now. from disk (change_within config change disk now) in (here, here))
+      found (λ own. recovery_within) (λ own. behind_within)
 
 -- ---- the history
 

@@ -1,13 +1,9 @@
 -- The copies that the steps of a group write: each is of the group, and names the disk that the copy of its seat named before.
-use Rattle.std.proofs.Common.{◌≡◌, ℕ, zero, suc, Bool, true, false, List, [], ◌∷◌, map, filter, Option, Some, None, Result, Ok, Err, if◌then◌else◌, refl, ap, ◌∙◌, subst}
+use Rattle.std.proofs.Common.{◌≡◌, ℕ, Bool, true, false, List, map, filter, Option, Some, None, Ok, if◌then◌else◌, refl, ap, ◌∙◌, subst}
 use Rattle.std.specs.Prelude.{slice_get}
-use Rattle.ddf_config.specs.declared.refusal.FullTable.{FullTable}
-use Rattle.ddf_config.specs.declared.refusal.Refusal.{Refusal}
-use Rattle.ddf_config.specs.declared.refusal.Refusal.TheVariants.{Unsettled}
 use Rattle.ddf_config.specs.Configuration.{Configuration}
 use Rattle.ddf_copy.specs.declared.copy.DiskCopy.{DiskCopy}
 use Rattle.ddf_plan.specs.declared.change.Change.{Change}
-use Rattle.ddf_plan.specs.Same.{is_step}
 use Rattle.ddf_view.specs.View.{View, view_of}
 use Rattle.ddf_view.specs.Shows.{shows}
 use Rattle.ddf_rewrite.specs.Before.{Before, before}
@@ -15,19 +11,17 @@ use Rattle.ddf_rewrite.specs.Copies.{changed_copy, recovered_copy}
 use Rattle.ddf_rewrite.proofs.Lists.{all_at, map_get}
 use Rattle.ddf_history.specs.Groups.{disk_of}
 use Rattle.ddf_history.proofs.Copies.{changed_names}
-use Rattle.ddf_assembly.specs.declared.fault.GroupFault.{GroupFault}
-use Rattle.ddf_assembly.specs.declared.fault.GroupFault.TheVariants.{Refused}
 use Rattle.ddf_assembly.specs.declared.seated.Seated.{Seated}
 use Rattle.ddf_assembly.specs.Group.{GroupValue}
-use Rattle.ddf_assembly.specs.Ready.{full_or_none, readied, steps_from, unless_spent, with_recovery, with_step}
-use Rattle.ddf_assembly.specs.Recovery.{config_lost, config_recovered, disks_recovered, full_of_recovery, has_stray, lags, leading, loss_spent, lost_step, mended, mended_copy, mended_or_kept, mending_step, recovery_of, some}
-use Rattle.ddf_assembly.specs.Refusing.{step_refusal}
+use Rattle.ddf_assembly.specs.Ready.{readied}
+use Rattle.ddf_assembly.specs.Recovery.{config_lost, config_recovered, disks_recovered, has_stray, lags, leading, lost_step, mended, mended_copy, mended_or_kept, mending_step, recovery_of, some}
 use Rattle.ddf_assembly.specs.Seated.{seated, views_in}
 use Rattle.ddf_assembly.specs.Steps.{Step, config_after, disks_after, levelled, rewritten, stays_in, step_of}
-use Rattle.ddf_assembly.proofs.CommittedReadied.{filter_get, steps_or_spent}
+use Rattle.ddf_assembly.proofs.CommittedReadied.{filter_get}
 use Rattle.ddf_assembly.proofs.Recovered.{IsOwn, all_own}
 use Rattle.ddf_assembly.proofs.Rewritten.{closed_view}
 use Rattle.ddf_command.specs.Writing.{IsWrittenOn}
+use Rattle.ddf_command.proofs.ReadiedSteps.{AllSteps, readied_all}
 
 -- ---- copies
 
@@ -65,9 +59,6 @@ pub record IsKnown (group : List ℕ) (seats : List Seated) (disk : Seated) : Ty
 module _ (group : List ℕ) (seats : List Seated) where
   abbrev pub AreKnown : List Seated → Type 0
   AreKnown disks = (place : ℕ) (disk : Seated) → slice_get disks place ≡ Some disk → IsKnown group seats disk
-
-  abbrev pub AreAllKnown : List Step → Type 0
-  AreAllKnown steps = (number : ℕ) (step : Step) → slice_get steps number ≡ Some step → AreKnown step.disks
 
   -- So it is by a new copy of the group that names the same disk.
   renewed : (disk next : Seated) → IsKnown group seats disk → disk.seat.slot ≡ next.seat.slot → (view_of next.copy).group ≡ group
@@ -116,50 +107,6 @@ module _ (group : List ℕ) (seats : List Seated) where
             × (disk_of (view_of (if b then disk.copy else recovered_copy disk.copy leaders config timestamp)) ≡ disk_of (view_of disk.copy))
         by true = (known.of_group, refl)
         by false = (recovered_group disk.copy leaders config timestamp ∙ same, recovered_names disk.copy leaders config timestamp)
-
-  -- ---- steps of changes, one behind another
-
-  cons_known : (step : Step) (others : List Step) → AreKnown step.disks → AreAllKnown others → AreAllKnown (step ∷ others)
-  cons_known step others here rest zero one at = let same : step ≡ one = cc in subst (λ (each : Step). AreKnown each.disks) same here
-  cons_known step others here rest (suc number) one at = rest number one at
-
-  with_known : (step : Step) (behind : Result (List Step) Refusal) (steps : List Step) → AreKnown step.disks
-      → ((others : List Step) → behind ≡ Ok others → AreAllKnown others) → with_step step behind ≡ Ok steps → AreAllKnown steps
-  with_known step (Err refusal) steps here rest is = absurd cc
-  with_known step (Ok others) steps here rest is = let same : step ∷ others ≡ steps = cc in subst AreAllKnown same (cons_known step others here (rest others refl))
-
-  full_known : (full : Option FullTable) (steps : List Step) → full_or_none full ≡ Ok steps → AreAllKnown steps
-  full_known None steps is = let none : [] ≡ steps = cc in subst AreAllKnown none (λ number step at. absurd cc)
-  full_known (Some table) steps is = absurd cc
-
-  next_known : (refusal : Option Refusal) (alters : Bool) (step : Step) (behind stay : Result (List Step) Refusal) (steps : List Step) → AreKnown step.disks
-      → ((others : List Step) → behind ≡ Ok others → AreAllKnown others) → ((others : List Step) → stay ≡ Ok others → AreAllKnown others)
-      → ◌≡◌ {A = Result (List Step) Refusal} (elim refusal [ Some one ↦ Err one | None ↦ if alters then with_step step behind else stay ]) (Ok steps) → AreAllKnown steps
-  next_known (Some one) alters step behind stay steps here rest same is = absurd cc
-  next_known None true step behind stay steps here rest same is = with_known step behind steps here rest is
-  next_known None false step behind stay steps here rest same is = same steps is
-
-  from_known : (timestamp : ℕ) (full : Option FullTable) (changes : List Change) (config : Configuration) (disks : List Seated) (steps : List Step) → config.group ≡ group
-      → AreKnown disks → steps_from timestamp full changes config disks ≡ Ok steps → AreAllKnown steps
-  from_known timestamp full [] config disks steps same known is = full_known full steps is
-  from_known timestamp full (change ∷ changes) config disks steps same known is =
-      let step = step_of timestamp config disks change in
-      let here = after_known (before (views_in disks)) (config_after config change) timestamp same disks known in
-      next_known (step_refusal timestamp full config disks change) (is_step config change) step (steps_from timestamp None changes step.config (map levelled step.disks))
-      (steps_from timestamp None changes config disks) steps here
-      (λ others are. from_known timestamp None changes step.config (map levelled step.disks) others same (mapped_known levelled step.disks levelled_known here) are)
-      (λ others are. from_known timestamp None changes config disks others same known are)
-      is
-
-  -- A recovery, where there is one, and the steps behind it.
-  recovered_known : (spent : Bool) (next : Option Step) (behind : Result (List Step) GroupFault) (steps : List Step) → ((step : Step) → next ≡ Some step → AreKnown step.disks)
-      → ((others : List Step) → behind ≡ Ok others → AreAllKnown others) → with_recovery spent next behind ≡ Ok steps → AreAllKnown steps
-  recovered_known spent None behind steps first rest is = rest steps is
-  recovered_known spent (Some step) (Err fault) steps first rest is = absurd cc
-  recovered_known true (Some step) (Ok others) steps first rest is = absurd cc
-  recovered_known false (Some step) (Ok others) steps first rest is =
-      let same : step ∷ others ≡ steps = cc in
-      subst AreAllKnown same (cons_known step others (first step refl) (rest others refl))
 
 -- ---- the recovery, and the steps behind it
 
@@ -221,23 +168,12 @@ module _ (found : GroupValue) (timestamp : ℕ) where
         by false = refl
 
   module _ (changes : List Change) (steps : List Step) (are : readied found changes timestamp ≡ Ok steps) where
-    abbrev tried : Result (List Step) Refusal
-    tried = steps_from timestamp (full_of_recovery timestamp found) changes (config_recovered found) (disks_recovered timestamp found)
-
-    steps_known : AreAllKnown group disks steps
-    unfolding readied
-    steps_known = by (has_stray found) refl are
-      where
-        by : (stray : Bool) → has_stray found ≡ stray
-            → ◌≡◌ {A = Result (List Step) GroupFault} (if stray then Err (Refused Unsettled) else with_recovery (loss_spent found) (recovery_of timestamp found) (unless_spent tried)) (Ok steps)
-            → AreAllKnown group disks steps
-        by true own is = absurd cc
-        by false own is =
-            recovered_known group disks (loss_spent found) (recovery_of timestamp found) (unless_spent tried) steps (recovery_known own)
-            (λ others tried_are.
-            from_known group disks timestamp (full_of_recovery timestamp found) changes (config_recovered found) (disks_recovered timestamp found) others (same_group own) (behind_known own)
-            (steps_or_spent tried others tried_are).0)
-            is
+    steps_known : AllSteps (λ step. AreKnown group disks step.disks) steps
+    steps_known = readied_all (λ step. AreKnown group disks step.disks) (λ config seats. (config.group ≡ group) × AreKnown group disks seats) timestamp
+        (λ config seats change from.
+        let here = after_known group disks (before (views_in seats)) (config_after config change) timestamp from.0 seats from.1 in
+        (here, (from.0, mapped_known group disks levelled (step_of timestamp config seats change).disks (levelled_known group disks) here)))
+        found recovery_known (λ own. (same_group own, behind_known own)) changes steps are
 
     -- Each disk that the steps write is so.
     pub written_known : (slot : ℕ) (on : IsWrittenOn steps slot) → IsKnown group disks on.disk
