@@ -28,6 +28,7 @@ becomes_still bay clock calls room reads writes records same_room no_reads no_wr
   asked_up = omega arith;
   no_reads = no_reads;
   no_writes = λ healthy. inl (no_writes healthy);
+  later = no_more.later;
   unasked = λ same low. no_more;
 }
 

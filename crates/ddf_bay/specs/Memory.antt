@@ -63,8 +63,8 @@ pub record LeavesNoMore (bay next : MemoryState) : Type 0 where
   pub since : (t : ℕ) (image : Image) → t ≤ bay.clock → (next.clock < 2 ^ 64 - 1) × LeftSince next.clock next.records t image
       → ((bay.clock < 2 ^ 64 - 1) × LeftSince bay.clock bay.records t image) ⊎ ((s l : ℕ) → (bay.clock < 2 ^ 64 - 1) × MayHold bay.clock bay.records s l (image s l))
 
--- Calls keep what fails and how many sectors can be written in all. On a bay in health no call fails while there is room. Where no sector was
--- asked for a stop leaves nothing else than before.
+-- Calls keep what fails and how many sectors can be written in all, and move the clock on. On a bay in health no call fails while there is
+-- room. Where no sector was asked for a stop leaves nothing else than before.
 pub record MayBecome (bay next : MemoryState) : Type 0 where
   pub same_sizes : next.sizes ≡ bay.sizes
   pub same_failing : next.failing ≡ bay.failing
@@ -75,6 +75,7 @@ pub record MayBecome (bay next : MemoryState) : Type 0 where
   pub asked_up : bay.asked ≤ next.asked
   pub no_reads : IsHealthy bay → next.failed_reads ≡ bay.failed_reads
   pub no_writes : IsHealthy bay → (next.failed_writes ≡ bay.failed_writes) ⊎ IsShort next
+  pub later : bay.clock ≤ next.clock
   pub unasked : next.asked ≡ bay.asked → next.asked < 2 ^ 64 - 1 → LeavesNoMore bay next
 
 -- what the bay tells: of what a stop may leave while its clock is below its last value

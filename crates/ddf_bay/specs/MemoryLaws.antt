@@ -23,6 +23,10 @@ size_small [] s small = omega arith
 size_small (n ∷ sizes) zero small = grind (arith, common_steps)
 size_small (n ∷ sizes) (suc s) small = grind (arith, common_steps, size_small sizes s)
 
+-- what is told at a moment was told before
+pub told_earlier : (clock now : ℕ) → clock ≤ now → now < 2 ^ 64 - 1 → clock < 2 ^ 64 - 1
+told_earlier clock now up told = omega (arith, up, told)
+
 -- A call moves the clock by one. An image of a stop since t is then one of those before, or of this moment.
 pub since_now : (clock now : ℕ) (rs rs' : List Record) → (now < 2 ^ 64 - 1 → now ≡ clock + 1)
     → ((m s l : ℕ) (v : List ℕ) → m < now → MayHold m rs' s l v → MayHold m rs s l v)
@@ -124,6 +128,7 @@ becomes_start bay = record {
   asked_up = omega arith;
   no_reads = λ healthy. refl;
   no_writes = λ healthy. inl refl;
+  later = omega arith;
   unasked = λ same low. record { later = omega arith; left = λ s l bytes left. left; since = λ t image le left. inl left };
 }
 
@@ -158,6 +163,7 @@ becomes_then bay next last first second =
           (λ same. ⊎_elim (λ before. inl (same ∙ before)) (λ short. inr (omega (arith, short, second.same_room, second.asked_up))) (first.no_writes healthy))
           inr
           (second.no_writes (still healthy));
+      later = omega (arith, first.later, second.later);
       unasked = λ same low.
           let none : next.asked ≡ bay.asked = omega (arith, same, first.asked_up, second.asked_up) in
           let after : last.asked ≡ next.asked = omega (arith, same, none) in

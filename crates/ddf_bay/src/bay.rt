@@ -126,6 +126,9 @@ pub trait Bay {
     ghost unasked: { (bay next : Self) → (disks bay).leads_to next → (disks next).sectors_asked ≡ (disks bay).sectors_asked → (disks next).sectors_asked < 2 ^ 64 - 1
         → StopsLeave (disks bay) (disks next) (IsLeft (disks bay).may_hold) };
 
+    /// What a stop may leave was told before, where it is told behind calls.
+    ghost told_before: { (bay next : Self) → (disks bay).leads_to next → (disks next).tells_left → (disks bay).tells_left };
+
     /// The bay as it reads is one of its images.
     ghost held_is_left: { (bay : Self) → (disks bay).tells_left → IsLeft (disks bay).may_hold (disks bay).held };
 }

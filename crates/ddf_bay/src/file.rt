@@ -140,6 +140,8 @@ impl<R: Files> Bay for FileBay<R> {
 
     ghost unasked = { λ b next leads same low. record { later = moment_stays; since = λ t image le left. absurd left } };
 
+    ghost told_before = { λ b next leads told. told };
+
     ghost held_is_left = { λ b told s l. told };
 
     fn slots(&self) -> usize {

@@ -12,7 +12,7 @@ use std::slice;
 impl Bay for MemoryBay {
     ghost use Rattle.ddf_bay.specs.Memory.{state_of, disks_of};
     ghost use Rattle.ddf_bay.specs.Memory.{fails_next, called, read_failed, write_failed, run_written, sync_failed, synced};
-    ghost use Rattle.ddf_bay.specs.MemoryLaws.{becomes_start, left_only, left_counts, size_small};
+    ghost use Rattle.ddf_bay.specs.MemoryLaws.{becomes_start, left_only, left_counts, size_small, told_earlier};
     ghost use Rattle.ddf_bay.specs.RecordLaws.{held_left, left_whole};
 
     ghost disks = { disks_of };
@@ -34,6 +34,8 @@ impl Bay for MemoryBay {
     ghost leads = { λ b. becomes_start (state_of b) };
 
     ghost unasked = { λ b next leads same low. record { later = (leads.unasked same low).later; since = (leads.unasked same low).since } };
+
+    ghost told_before = { λ b next leads told. told_earlier b.clock next.clock leads.later told };
 
     ghost held_is_left = { λ b told s l. (told, held_left b.clock b.log.records.items s l b.past) };
 

@@ -41,6 +41,8 @@ impl<B: Bay + Drop> Bay for Turned<B> {
         let stops = B.unasked t.inner next.inner leads.0 same low in
         record { later = stops.later; since = turned_since t.kinds next.kinds (B.disks t.inner) (B.disks next.inner) leads.1 stops } };
 
+    ghost told_before = { λ t next leads told. B.told_before t.inner next.inner leads.0 told };
+
     ghost held_is_left = { λ t told. turned_left t.kinds (B.disks t.inner).may_hold (B.disks t.inner).held (B.held_is_left t.inner told) };
 
     fn slots(&self) -> usize {
