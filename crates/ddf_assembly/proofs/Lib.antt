@@ -40,6 +40,7 @@ pub mod CommittedLevels
 pub mod CommittedAfter
 pub mod CommittedReadied
 pub mod Replaced
+pub mod ReadiedSteps
 pub mod ReadiedParts
 pub mod RecoveredDisks
 pub mod RecoveredGroup

@@ -67,7 +67,7 @@ module _ (timestamp : ℕ) (config : Configuration) (disks : List Seated) (chang
   from_first None false steps free same later gives = same gives
   from_first None true steps free same later gives = with_numbered config.sequence first behind steps first_above later gives free
 
-steps_numbered : (timestamp : ℕ) (changes : List Change) (config : Configuration) (disks : List Seated) (steps : List Step) → steps_from timestamp None changes config disks ≡ Ok steps
+pub steps_numbered : (timestamp : ℕ) (changes : List Change) (config : Configuration) (disks : List Seated) (steps : List Step) → steps_from timestamp None changes config disks ≡ Ok steps
     → list_any is_spent steps ≡ false → AreNumbered config.sequence steps
 steps_numbered timestamp [] config disks steps gives free =
     let same : [] ≡ steps = cc in

@@ -1,80 +1,36 @@
--- What was readied, taken apart: the group has no disk that recovery can't write, no table is full, and no sequence number is spent.
-use Rattle.std.proofs.Common.{◌≡◌, ℕ, ◌<◌, Bool, true, false, ◌&&◌, nat_lt, List, [], ◌∷◌, ◌++◌, map, Option, Some, None, Result, Ok, Err, refl, sym, ap, ◌∙◌, arith, if◌then◌else◌}
-use Rattle.std.proofs.lemmas.Bool.{ltb-false}
+-- What is ready to be written, taken apart as the steps are that were readied.
+use Rattle.std.proofs.Common.{◌≡◌, ℕ, ◌<◌, true, false, List, ◌++◌, map, Option, Some, None, Ok, sym, ap, ◌∙◌, subst}
 use Rattle.std.specs.Prelude.{option_map, option_to_list}
-use Rattle.std.specs.List.{AllByRecursion}
-use Rattle.ddf_config.specs.declared.refusal.FullTable.{FullTable}
-use Rattle.ddf_config.specs.declared.refusal.Refusal.{Refusal}
-use Rattle.ddf_config.specs.declared.refusal.Refusal.TheVariants.{Unsettled}
-use Rattle.ddf_config.specs.Configuration.{Configuration}
+use Rattle.std.specs.List.{AllByRecursion, list_any}
 use Rattle.ddf_plan.specs.declared.change.Change.{Change}
-use Rattle.ddf_plan.specs.Refusals.{greatest_sequence}
-use Rattle.ddf_assembly.specs.declared.fault.GroupFault.{GroupFault}
-use Rattle.ddf_assembly.specs.declared.fault.GroupFault.TheVariants.{Refused}
-use Rattle.ddf_assembly.specs.declared.seated.Seated.{Seated}
 use Rattle.ddf_assembly.specs.Committed.{WasReadied}
 use Rattle.ddf_assembly.specs.Group.{GroupValue}
-use Rattle.ddf_assembly.specs.Ready.{ReadyStep, ReadyValue, all_ready, readied, steps_from, unless_spent, with_recovery}
-use Rattle.ddf_assembly.specs.Recovery.{config_lost, config_recovered, disks_recovered, full_of_recovery, has_stray, loss_spent, recovery_of, some}
+use Rattle.ddf_assembly.specs.Ready.{ReadyStep, ReadyValue, all_ready, is_spent, steps_from}
+use Rattle.ddf_assembly.specs.Recovery.{config_lost, config_recovered, disks_recovered, full_of_recovery, has_stray, recovery_of, some}
 use Rattle.ddf_assembly.specs.Seated.{seated}
 use Rattle.ddf_assembly.specs.Steps.{Step}
 use Rattle.ddf_assembly.specs.Trying.{IsOfGroup}
 use Rattle.ddf_assembly.proofs.Behind.{IsBehind, is_behind}
-use Rattle.ddf_assembly.proofs.CommittedReadied.{NoneSpent, raised_more, steps_or_spent}
+use Rattle.ddf_assembly.proofs.CommittedReadied.{NoneSpent}
+use Rattle.ddf_assembly.proofs.ReadiedSteps as readied_steps
 use Rattle.ddf_assembly.proofs.Recovered.{IsOwn, all_own, of_own}
-use Rattle.ddf_assembly.proofs.WhenFull.{full_first}
 
-abbrev Steps : Type 0
-Steps = Result (List Step) Refusal
-
-abbrev Answer : Type 0
-Answer = Result (List Step) GroupFault
-
--- Where a table is full changes are refused.
-none_full : (timestamp : ℕ) (full : Option FullTable) (changes : List Change) (config : Configuration) (disks : List Seated) (steps : List Step)
-    → ◌≡◌ {A = Steps} (steps_from timestamp full changes config disks) (Ok steps) → full ≡ None
-none_full timestamp None changes config disks steps h = refl
-none_full timestamp (Some table) [] config disks steps h = absurd cc
-none_full timestamp (Some table) (change ∷ changes) config disks steps h =
-    let refused = sym (full_first timestamp table config disks change changes) ∙ h in absurd cc
-
--- The steps behind a recovery, and whether that is spent.
-record HasSteps (spent : Bool) (next : Option ReadyStep) (found : Answer) (steps : List Step) : Type 0 where
-  behind : found ≡ Ok steps
-  not_spent : (one : ReadyStep) → next ≡ Some one → spent ≡ false
-
-steps_behind : (spent : Bool) (next : Option ReadyStep) (found : Answer) (ready : ReadyValue) → next ≡ ready.recovery
-    → ◌≡◌ {A = Answer} (with_recovery spent (option_map (λ one. one.step) next) found) (Ok (map (λ one. one.step) (all_ready ready))) → HasSteps spent next found (map (λ one. one.step) ready.steps)
-steps_behind spent None found ready same h = record {
-  behind = h ∙ ap (λ (next : Option ReadyStep). Ok (map (λ (one : ReadyStep). one.step) (option_to_list next ++ ready.steps))) (sym same);
-  not_spent = λ one e. absurd cc;
-}
-steps_behind spent (Some one) (Err fault) ready same h = absurd cc
-steps_behind true (Some one) (Ok found) ready same h = absurd cc
-steps_behind false (Some one) (Ok found) ready same h =
-    let all : ◌≡◌ {A = Answer} (Ok (one.step ∷ found)) (Ok (one.step ∷ map (λ (other : ReadyStep). other.step) ready.steps)) =
-    h ∙ ap (λ (next : Option ReadyStep). Ok (map (λ (other : ReadyStep). other.step) (option_to_list next ++ ready.steps))) (sym same) in
-    let rest : found ≡ map (λ (other : ReadyStep). other.step) ready.steps = cc in
-    record { behind = ap (λ (l : List Step). Ok l) rest; not_spent = λ other e. refl }
+-- Where two lists begin with the same recovery they go on alike.
+same_rest : (one : Option ReadyStep) (next : Option Step) (steps : List ReadyStep) (rest : List Step) → option_map (λ (one : ReadyStep). one.step) one ≡ next
+    → map (λ (one : ReadyStep). one.step) (option_to_list one ++ steps) ≡ option_to_list next ++ rest → rest ≡ map (λ (one : ReadyStep). one.step) steps
+same_rest None None steps rest next is = sym is
+same_rest None (Some step) steps rest next is = absurd cc
+same_rest (Some one) None steps rest next is = absurd cc
+same_rest (Some one) (Some step) steps rest next is = cc
 
 module _ (group : GroupValue) (changes : List Change) (timestamp : ℕ) (ready : ReadyValue) (was : WasReadied group changes timestamp ready) where
-  abbrev tried : Steps
-  tried = steps_from timestamp (full_of_recovery timestamp group) changes (config_recovered group) (disks_recovered timestamp group)
-
-  abbrev answered : Bool → Answer
-  answered stray = if stray then Err (Refused Unsettled) else with_recovery (loss_spent group) (recovery_of timestamp group) (unless_spent tried)
-
-  is_answered : answered (has_stray group) ≡ Ok (map (λ one. one.step) (all_ready ready))
-  unfolding readied
-  is_answered = was.is_readied
+  -- all that is ready
+  abbrev steps : List Step
+  steps = map (λ one. one.step) (all_ready ready)
 
   -- No seat's disk is one that recovery can't write.
   pub none_stray : has_stray group ≡ false
-  none_stray = by (has_stray group) is_answered
-    where
-      by : (b : Bool) → answered b ≡ Ok (map (λ one. one.step) (all_ready ready)) → b ≡ false
-      by true h = absurd cc
-      by false h = refl
+  none_stray = readied_steps.none_stray group changes timestamp steps was.is_readied
 
   -- So each is of the group and no later than its configuration.
   pub own : AllByRecursion (IsOwn group.config) (seated group)
@@ -83,32 +39,29 @@ module _ (group : GroupValue) (changes : List Change) (timestamp : ℕ) (ready :
   pub of_group : AllByRecursion (IsOfGroup group.config) (seated group)
   of_group = of_own group.config (seated group) was.assembled.are_copies none_stray
 
-  has_steps : HasSteps (loss_spent group) ready.recovery (unless_spent tried) (map (λ one. one.step) ready.steps)
-  has_steps =
-      steps_behind (loss_spent group) ready.recovery (unless_spent tried) ready refl
-      (ap (λ (next : Option Step). with_recovery (loss_spent group) next (unless_spent tried)) was.is_recovery ∙ sym (ap answered none_stray) ∙ is_answered)
-
-  both : (tried ≡ Ok (map (λ one. one.step) ready.steps)) × NoneSpent ready.steps
-  both = steps_or_spent tried (map (λ one. one.step) ready.steps) has_steps.behind
+  -- The steps behind the recovery are those that are ready.
+  behind_are : readied_steps.behind group changes timestamp steps was.is_readied ≡ map (λ one. one.step) ready.steps
+  behind_are =
+      same_rest ready.recovery (recovery_of timestamp group) ready.steps (readied_steps.behind group changes timestamp steps was.is_readied) was.is_recovery
+      (readied_steps.steps_are group changes timestamp steps was.is_readied)
 
   -- No table is full.
   pub has_room : full_of_recovery timestamp group ≡ None
-  has_room = none_full timestamp (full_of_recovery timestamp group) changes (config_recovered group) (disks_recovered timestamp group) (map (λ one. one.step) ready.steps) both.0
+  has_room = readied_steps.has_room group changes timestamp steps was.is_readied
 
-  -- The steps are those of the changes behind the recovery.
+  -- They are those of the changes behind the recovery.
   pub are_tried : steps_from timestamp None changes (config_recovered group) (disks_recovered timestamp group) ≡ Ok (map (λ one. one.step) ready.steps)
-  are_tried = ap (λ (full : Option FullTable). steps_from timestamp full changes (config_recovered group) (disks_recovered timestamp group)) (sym has_room) ∙ both.0
+  are_tried = readied_steps.are_tried group changes timestamp steps was.is_readied ∙ ap (λ (all : List Step). Ok all) behind_are
 
   -- None of them is spent.
   pub none_spent : NoneSpent ready.steps
-  none_spent = both.1
+  none_spent = subst (λ (all : List Step). list_any is_spent all ≡ false) behind_are (readied_steps.none_spent group changes timestamp steps was.is_readied)
 
   -- The sequence number of a loss is greater than the group's.
   pub loss_rises : (one : ReadyStep) → ready.recovery ≡ Some one → some group.absent ≡ true → group.config.sequence < (config_lost group).sequence
-  loss_rises one e lost =
-      let unspent : nat_lt greatest_sequence (config_lost group).sequence ≡ false =
-      sym (ap (λ (b : Bool). b && nat_lt greatest_sequence (config_lost group).sequence) lost) ∙ has_steps.not_spent one e in
-      raised_more group.config.sequence 2 (omega arith) (ltb-false greatest_sequence (config_lost group).sequence unspent)
+  loss_rises one is =
+      readied_steps.loss_rises group changes timestamp steps was.is_readied one.step
+      (sym was.is_recovery ∙ ap (λ (next : Option ReadyStep). option_map (λ (one : ReadyStep). one.step) next) is)
 
   -- The configuration and the disks are those behind the recovery.
   pub behind : IsBehind timestamp group ready.recovery

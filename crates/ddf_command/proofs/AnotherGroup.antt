@@ -37,11 +37,11 @@ use Rattle.ddf_command.proofs.StepsCopies.{IsKnown, written_known}
 -- ---- the steps that were asked for
 
 -- They are those that are readied for some changes.
-record AreReadied (found : GroupValue) (timestamp : ℕ) (steps : List Step) : Type 0 where
-  changes : List Change
-  is : readied found changes timestamp ≡ Ok steps
+pub record AreReadied (found : GroupValue) (timestamp : ℕ) (steps : List Step) : Type 0 where
+  pub changes : List Change
+  pub is : readied found changes timestamp ≡ Ok steps
 
-readied_by : (found : GroupValue) (timestamp : ℕ) (asked : Result (List Change) Refusal) (steps : List Step) → steps_asked found timestamp asked ≡ Ok steps → AreReadied found timestamp steps
+pub readied_by : (found : GroupValue) (timestamp : ℕ) (asked : Result (List Change) Refusal) (steps : List Step) → steps_asked found timestamp asked ≡ Ok steps → AreReadied found timestamp steps
 readied_by found timestamp (Ok changes) steps is = record { changes = changes; is = asked_of (readied found changes timestamp) steps is }
 readied_by found timestamp (Err refusal) steps is = absurd cc
 

@@ -36,19 +36,19 @@ module _ {D : Type 0} (stamp : Stamp) (named : List ℕ) (old new : BayState D)
 
   module _ (image : Image) (was_left : new.left_since old.moment image) where
     pub cut_founded : (founded : ℕ → Bool) × AreLabelled old stamp named image founded
-    cut_founded = founded_told stamp old slots are label.is_held label.names_new image (left_so image was_left)
+    cut_founded = founded_told stamp old slots are label.is_held image label.names_new (left_so image was_left)
 
     pub cut_others : (founded : ℕ → Bool) → AreLabelled old stamp named image founded → AreNamesNew (group_of stamp) founded copy (scene_of old.sizes image)
-    cut_others founded are_founded = others_new stamp old slots are label.is_held label.names_new image (left_so image was_left) founded are_founded
+    cut_others founded are_founded = others_new stamp old slots are label.is_held image label.names_new (left_so image was_left) founded are_founded
 
   pub cut_begins : (cut : BayState D) (founded : ℕ → Bool) → IsLeftByLabel old new cut stamp named founded → (past : Past (groups (group_of stamp)))
       → IsNewGroup (group_of stamp) past old.sizes slots copy founded → AreAllKept (group_of stamp) past cut
   cut_begins cut founded is past is_new = λ image left.
       rw is.same_sizes
-      (cut_kept stamp old slots are label.is_held label.names_new image (left_so image (is.was_left image left)) founded (is.are_founded image left) past is_new)
+      (cut_kept stamp old slots are label.is_held image label.names_new (left_so image (is.was_left image left)) founded (is.are_founded image left) past is_new)
 
   pub cut_assembles : (cut : BayState D) (founded : ℕ → Bool) → IsLeftByLabel old new cut stamp named founded → IsLeft cut.may_hold cut.held
       → (left : List Bool) → length left ≡ length cut.sizes → (slot : ℕ) → founded slot ≡ true → is_read left slot ≡ true → Gives cut left (group_of stamp) (founding_config copy)
   cut_assembles cut founded is held left long slot here readable =
-      cut_read stamp old slots are label.is_held label.names_new cut.held (left_so cut.held (is.was_left cut.held held)) founded (is.are_founded cut.held held)
+      cut_read stamp old slots are label.is_held cut.held label.names_new (left_so cut.held (is.was_left cut.held held)) founded (is.are_founded cut.held held)
       cut is.same_sizes refl left long slot here readable

@@ -10,13 +10,13 @@ use Rattle.ddf_update.specs.Group.{AreSlots, slot_sizes}
 use Rattle.ddf_update.specs.NewCopies.{group_of, new_copy}
 use Rattle.ddf_view.specs.View.{View}
 use Rattle.ddf_history.specs.Answer.{HasMember}
-use Rattle.ddf_history.specs.Groups.{groups}
+use Rattle.ddf_history.specs.Groups.{disk_of, groups, has_current}
 use Rattle.ddf_history.specs.Issued.{Past}
 use Rattle.ddf_history.specs.Reading.{IsCopyOf, Shown}
 use Rattle.ddf_history.specs.Reading.Shown.{One}
 use Rattle.ddf_history.specs.Scenes.{scene_of}
 use Rattle.ddf_stops.specs.Founding.{AreFounded, IsNewGroup, founding_config}
-use Rattle.ddf_stops.proofs.Founding.{view_at, view_shows, view_stands}
+use Rattle.ddf_stops.proofs.Founding.{view_at, view_is_member, view_shows, view_stands}
 use Rattle.ddf_stops.proofs.FoundingRows.{new_view}
 use Rattle.ddf_stops.proofs.ShownCopies.{both_show}
 use Rattle.ddf_stops.proofs.Slots.{slot_placed}
@@ -47,3 +47,12 @@ module _ (stamp : Stamp) (sizes slots : List ℕ) (are : AreSlots sizes slots) (
         is_standing = view_stands stamp (slot_sizes sizes slots) place.0 within;
         shows = (view_shows stamp (slot_sizes sizes slots) place.0).shows;
       }
+
+  -- Its disk is one of the founding configuration.
+  pub founded_listed : (slot : ℕ) → founded slot ≡ true → has_current (founding_config (new_copy stamp (slot_sizes sizes slots))) (past.disk slot) ≡ true
+  founded_listed slot here =
+      let place = slot_placed slots slot (are_founded.are_among slot here) in
+      let within : place.0 < length (slot_sizes sizes slots) = rw (length-map slots (slice_index sizes)) (slice_get_within slots place.0 slot place.1) in
+      ap (has_current (founding_config (new_copy stamp (slot_sizes sizes slots))))
+      (is_new.names place.0 slot place.1 here ∙ ap disk_of (new_view stamp (slot_sizes sizes slots) place.0))
+      ∙ view_is_member stamp (slot_sizes sizes slots) place.0 within

@@ -4,6 +4,7 @@ use Rattle.std.proofs.lemmas.Bool.{and_parts, false≢true}
 use Rattle.std.specs.Prelude.{slice_get}
 use Rattle.std.specs.Str.{bytes_eq}
 use Rattle.ddf_bytes.specs.declared.stamp.Stamp.{Stamp}
+use Rattle.ddf_bay.specs.Moments.{StopsLeave}
 use Rattle.ddf_bay.specs.Sectors.{Image, IsLeft}
 use Rattle.ddf_bay.specs.State.{BayState}
 use Rattle.ddf_config.specs.Configuration.{Configuration}
@@ -23,7 +24,6 @@ use Rattle.ddf_stops.proofs.Founding.{view_at}
 use Rattle.ddf_stops.proofs.FoundingCut.{beside, beside_left, blank_there, copy_there, same_shown}
 use Rattle.ddf_stops.proofs.FoundingRows.{new_view}
 use Rattle.ddf_stops.proofs.Slots.{not_placed, slot_placed}
-use Rattle.ddf_command.specs.Cut.{IsNewLabel}
 use Rattle.ddf_command.specs.History.{OtherCall}
 use Rattle.ddf_command.specs.Label.{label_copy, label_slots}
 use Rattle.ddf_command.specs.Others.{LeavesOthers}
@@ -31,7 +31,9 @@ use Rattle.ddf_command.proofs.Chosen.{chosen_once}
 
 module _ {B : Type 0} {tells : Type 0} (told : tells) (disks : B → BayState B) (group : List ℕ)
     (only_now : (bay : B) (image : Image) → (disks bay).left_since (disks bay).moment image → IsLeft (disks bay).may_hold image)
-    (old : Moment (groups group) B) (exit : B) (stamp : Stamp) (named : List ℕ) (label : IsNewLabel (disks old.bay) (disks exit) stamp named)
+    (old : Moment (groups group) B) (exit : B) (stamp : Stamp) (named : List ℕ)
+    (any_moment : StopsLeave (disks old.bay) (disks exit) (IsLeftFoundingAll (disks old.bay) (label_slots (disks old.bay).sizes named) (label_copy stamp (disks old.bay).sizes named)))
+    (is_held : IsLeft (disks old.bay).may_hold (disks old.bay).held)
     (another : bytes_eq group (group_of stamp) ≡ false)
     (aside : (image : Image) → IsLeft (disks old.bay).may_hold image → (slot : ℕ) → is_slot (label_slots (disks old.bay).sizes named) slot ≡ true
     → IsAside old.past slot (scene_of (disks old.bay).sizes image slot))
@@ -61,13 +63,13 @@ module _ {B : Type 0} {tells : Type 0} (told : tells) (disks : B → BayState B)
     with : ((one : View) → IsCopyOf shown one → stands (groups group) one ≡ true → ⊥)
         → ((one : View) (number : ℕ) (config : Configuration) → IsCopyOf shown one → IsSince old.past.changes number config → has_current config (disk_of one) ≡ true → ⊥)
         → IsAside old.past slot shown
-    with stands_not names_not = record { no_member = (aside entry.held label.is_held slot among).no_member; shows_none = stands_not; names_none = names_not }
+    with stands_not names_not = record { no_member = (aside entry.held is_held slot among).no_member; shows_none = stands_not; names_none = names_not }
 
     as_before : ((l : ℕ) → entry.may_hold slot l (image slot l)) → IsAside old.past slot shown
     as_before may =
-        subst (IsAside old.past slot) (sym (same_shown stamp entry slots are label.is_held label.names_new image slot))
-        (aside (beside stamp entry slots are label.is_held label.names_new image slot)
-        (beside_left stamp entry slots are label.is_held label.names_new image slot may) slot among)
+        subst (IsAside old.past slot) (sym (same_shown stamp entry slots are is_held image slot))
+        (aside (beside stamp entry slots are is_held image slot)
+        (beside_left stamp entry slots are is_held image slot may) slot among)
 
     blank_aside : shown ≡ Nothing → IsAside old.past slot shown
     blank_aside nothing =
@@ -92,22 +94,22 @@ module _ {B : Type 0} {tells : Type 0} (told : tells) (disks : B → BayState B)
         elim (left.each place.0 slot place.1) [
           | inl before ↦ as_before before
           | inr now ↦ elim now [
-            | inl blank ↦ blank_aside (blank_there stamp entry slots are label.is_held label.names_new image place.0 slot place.1 blank)
-            | inr both ↦ copy_aside place.0 place.1 (copy_there stamp entry slots are label.is_held label.names_new image place.0 slot place.1 both)
+            | inl blank ↦ blank_aside (blank_there stamp entry slots are is_held image place.0 slot place.1 blank)
+            | inr both ↦ copy_aside place.0 place.1 (copy_there stamp entry slots are is_held image place.0 slot place.1 both)
           ]
         ]
 
   -- So is what a stop within the call leaves.
   stops_aside : (image : Image) → (disks exit).left_since entry.moment image → (slot : ℕ) → is_slot slots slot ≡ true → IsAside old.past slot (scene_of entry.sizes image slot)
-  stops_aside image was_left slot among = elim (label.any_moment.since entry.moment image (omega arith) was_left) [
+  stops_aside image was_left slot among = elim (any_moment.since entry.moment image (omega arith) was_left) [
     | inl before ↦ aside image (only_now old.bay image before) slot among
     | inr founding ↦ left_aside image founding slot among
   ]
 
   leaves_others : LeavesOthers entry (disks exit) slots
   leaves_others = record {
-    later = label.any_moment.later;
-    since = λ t image le was_left. elim (label.any_moment.since t image le was_left) [
+    later = any_moment.later;
+    since = λ t image le was_left. elim (any_moment.since t image le was_left) [
       | inl before ↦ inl before
       | inr founding ↦ inr (λ s l none. founding.others s l (not_placed slots s none))
     ];
@@ -118,7 +120,7 @@ module _ {B : Type 0} {tells : Type 0} (told : tells) (disks : B → BayState B)
     exit = exit;
     written = slots;
     leaves_others = leaves_others;
-    is_held = label.is_held;
+    is_held = is_held;
     are_aside = λ image was_left slot among. inr (stops_aside image was_left slot among);
   }
 

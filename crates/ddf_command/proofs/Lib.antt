@@ -25,7 +25,7 @@ pub mod Requested
 pub mod SeatReferences
 mod Events
 mod Happening
-mod ReadiedSteps
+mod AllSteps
 mod StepsCopies
 mod SeatsShown
 mod AnotherGroup
@@ -33,3 +33,6 @@ mod Cut
 mod FoundedMember
 mod LabelAside
 mod NoNewMembers
+mod LastStep
+mod StepsMembers
+mod MembersBehind

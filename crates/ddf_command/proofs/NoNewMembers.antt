@@ -1,12 +1,12 @@
--- A change of a group makes no disk a current member that wasn't one since the last acknowledged configuration.
-use Rattle.std.proofs.Common.{◌≡◌, ◌⊎◌, ℕ, suc, ◌+◌, ◌≤◌, ◌==◌, not, Bool, true, false, List, [], ◌∷◌, length, filter, take, Option, Some, None, Ok, if◌then◌else◌, refl, ap, sym, ◌∙◌, subst, inl, inr, ⊎_elim, arith}
+-- A change of a group makes no disk a current member that wasn't one since the last acknowledged configuration, and keeps missing what was missing.
+use Rattle.std.proofs.Common.{◌≡◌, ◌⊎◌, ℕ, suc, ◌+◌, ◌≤◌, ◌==◌, not, Bool, true, false, List, [], ◌∷◌, length, filter, take, Option, Some, None, Ok, if◌then◌else◌, ap, sym, subst, inl, inr, ⊎_elim, arith}
 use Rattle.std.specs.Prelude.{slice_get}
 use Rattle.ddf_config.specs.Configuration.{Configuration}
 use Rattle.ddf_plan.specs.declared.change.Change.{Change}
 use Rattle.ddf_view.specs.View.{View}
 use Rattle.ddf_rewrite.proofs.Lists.{map_get}
 use Rattle.ddf_history.specs.Calls.{IsAside}
-use Rattle.ddf_history.specs.Groups.{Disk, groups, has_current}
+use Rattle.ddf_history.specs.Groups.{Disk, groups, has_current, has_missing}
 use Rattle.ddf_history.specs.Issued.{IsSince, Past, issue, leave_out, take_off}
 use Rattle.ddf_history.specs.Reading.{Shown}
 use Rattle.ddf_history.proofs.Following.{changes_follow}
@@ -16,56 +16,66 @@ use Rattle.ddf_assembly.specs.Ready.{readied}
 use Rattle.ddf_assembly.specs.Recovery.{config_lost, config_recovered, loss, lost_step, mending_step, recovery_of, some}
 use Rattle.ddf_assembly.specs.Steps.{Step, config_after}
 use Rattle.ddf_assembly.proofs.CommittedReadied.{filter_get}
-use Rattle.ddf_command.proofs.ReadiedSteps.{AllSteps, readied_all}
+use Rattle.ddf_command.proofs.AllSteps.{AllSteps, readied_all}
+use Rattle.ddf_stops.proofs.LastIssued.{ends_slots}
 use Rattle.ddf_stops.specs.Going.{Ends, Goes, IsOver, begun, changes_in, issue_all}
 
 -- ---- the steps
 
--- Each current member of the later configuration is one of the earlier.
-abbrev pub IsWithin : (earlier later : Configuration) → Type 0
-IsWithin earlier later = (disk : Disk) → has_current later disk ≡ true → has_current earlier disk ≡ true
+-- Each current member of the later configuration is one of the earlier, and a member that was missing is so.
+pub record IsFrom (earlier later : Configuration) : Type 0 where
+  pub no_more : (disk : Disk) → has_current later disk ≡ true → has_current earlier disk ≡ true
+  pub stays_missing : (disk : Disk) → has_missing earlier disk ≡ true → has_missing later disk ≡ true
+
+as_it_is : (config : Configuration) → IsFrom config config
+as_it_is config = record { no_more = λ disk is. is; stays_missing = λ disk is. is }
+
+one_after_another : (first middle last : Configuration) → IsFrom first middle → IsFrom middle last → IsFrom first last
+one_after_another first middle last one other = record {
+  no_more = λ disk is. one.no_more disk (other.no_more disk is);
+  stays_missing = λ disk is. other.stays_missing disk (one.stays_missing disk is);
+}
 
 -- A change gives such a configuration.
-change_within : (config : Configuration) (change : Change) → IsWithin config (config_after config change)
-change_within config change = (changes_follow config.group config change (config.sequence + 1) (omega arith)).no_more
-
-abbrev AreWithin : Configuration → List Step → Type 0
-AreWithin first = AllSteps (λ step. IsWithin first step.config)
+pub change_from : (config : Configuration) (change : Change) → IsFrom config (config_after config change)
+change_from config change =
+    let follow = changes_follow config.group config change (config.sequence + 1) (omega arith) in
+    record { no_more = follow.no_more; stays_missing = follow.stays_missing }
 
 module _ (found : GroupValue) (timestamp : ℕ) where
-  recovery_within : (step : Step) → recovery_of timestamp found ≡ Some step → IsWithin found.config step.config
+  recovery_from : (step : Step) → recovery_of timestamp found ≡ Some step → IsFrom found.config step.config
   unfolding recovery_of
-  recovery_within step is = by (some found.absent) (some found.lagging) is
+  recovery_from step is = by (some found.absent) (some found.lagging) is
     where
       by : (absent lagging : Bool)
           → ◌≡◌ {A = Option Step} (if absent then Some (lost_step timestamp found) else if lagging then Some (mending_step timestamp found) else None) (Some step)
-          → IsWithin found.config step.config
-      by true lagging is = let same : lost_step timestamp found ≡ step = cc in subst (λ (one : Step). IsWithin found.config one.config) same (change_within found.config (loss found))
-      by false true is = let same : mending_step timestamp found ≡ step = cc in subst (λ (one : Step). IsWithin found.config one.config) same (λ disk is. is)
+          → IsFrom found.config step.config
+      by true lagging is = let same : lost_step timestamp found ≡ step = cc in subst (λ (one : Step). IsFrom found.config one.config) same (change_from found.config (loss found))
+      by false true is = let same : mending_step timestamp found ≡ step = cc in subst (λ (one : Step). IsFrom found.config one.config) same (as_it_is found.config)
       by false false is = absurd cc
 
-  behind_within : IsWithin found.config (config_recovered found)
+  behind_from : IsFrom found.config (config_recovered found)
   unfolding config_recovered
-  behind_within = by (some found.absent)
+  behind_from = by (some found.absent)
     where
-      by : (absent : Bool) → IsWithin found.config (if absent then config_lost found else found.config)
-      by true = change_within found.config (loss found)
-      by false = λ disk is. is
+      by : (absent : Bool) → IsFrom found.config (if absent then config_lost found else found.config)
+      by true = change_from found.config (loss found)
+      by false = as_it_is found.config
 
-  pub steps_within : (changes : List Change) (steps : List Step) → readied found changes timestamp ≡ Ok steps → AreWithin found.config steps
-  steps_within = readied_all (λ step. IsWithin found.config step.config) (λ config disks. IsWithin found.config config) timestamp
-      (λ config disks change from. let here : IsWithin found.config (config_after config change) = λ disk now. from disk (change_within config change disk now) in (here, here))
-      found (λ own. recovery_within) (λ own. behind_within)
+  steps_from_found : (changes : List Change) (steps : List Step) → readied found changes timestamp ≡ Ok steps → AllSteps (λ step. IsFrom found.config step.config) steps
+  steps_from_found = readied_all (λ step. IsFrom found.config step.config) (λ config disks. IsFrom found.config config) timestamp
+      (λ config disks change from. let here = one_after_another found.config config (config_after config change) from (change_from config change) in (here, here))
+      found (λ own. recovery_from) (λ own. behind_from)
 
 -- ---- the history
 
 module _ (group : List ℕ) where
-  -- The configuration's current members were so in one since the last acknowledged one.
+  -- The configuration is made of one since the last acknowledged one.
   record HadMembers (past : Past (groups group)) (config : Configuration) : Type 0 where
     number : ℕ
     earlier : Configuration
     since : IsSince past.changes number earlier
-    within : IsWithin earlier config
+    within : IsFrom earlier config
 
   -- An issued change is an earlier one, or one of these.
   issued_one : (past : Past (groups group)) (changes : List Configuration) (n : ℕ) (config : Configuration) → slice_get (issue_all group past changes).changes.issued n ≡ Some config
@@ -89,7 +99,7 @@ module _ (group : List ℕ) where
         by false is = (get_taken past.changes.issued (number + 1) n config is).0
 
     module _ (number : ℕ) (since : IsSince past.changes number found.config) (changes : List Configuration)
-        (within : (i : ℕ) (config : Configuration) → slice_get changes i ≡ Some config → IsWithin found.config config) where
+        (within : (i : ℕ) (config : Configuration) → slice_get changes i ≡ Some config → IsFrom found.config config) where
       had_members : (acked n : ℕ) (config : Configuration) → (acked ≡ past.changes.acked) ⊎ (number ≤ acked) → acked ≤ n
           → slice_get (issue_all group (begun group past readable found number) changes).changes.issued n ≡ Some config → HadMembers past config
       had_members acked n config stands late at = elim (issued_one (begun group past readable found number) changes n config at) [
@@ -99,15 +109,15 @@ module _ (group : List ℕ) where
               number = n;
               earlier = config;
               since = record { late = ⊎_elim (λ same. omega (arith, same, late)) (λ far. omega (arith, far, from, late)) stands; is_there = begun_one number n config older };
-              within = λ disk is. is;
+              within = as_it_is config;
             }
         | inr new ↦ record { number = number; earlier = found.config; since = since; within = within new.0 config new.1 }
       ]
 
-    module _ (changes : List Configuration) (within : (i : ℕ) (config : Configuration) → slice_get changes i ≡ Some config → IsWithin found.config config) where
+    module _ (changes : List Configuration) (within : (i : ℕ) (config : Configuration) → slice_get changes i ≡ Some config → IsFrom found.config config) where
       goes_had : (now : Past (groups group)) → Goes group past readable found changes now → (n : ℕ) (config : Configuration) → IsSince now.changes n config → HadMembers past config
       goes_had now (inl same) n config since =
-          record { number = n; earlier = config; since = subst (λ (one : Past (groups group)). IsSince one.changes n config) same since; within = λ disk is. is }
+          record { number = n; earlier = config; since = subst (λ (one : Past (groups group)). IsSince one.changes n config) same since; within = as_it_is config }
       goes_had now (inr is) n config since =
           let at = subst (λ (one : Past (groups group)). IsSince one.changes n config) is.is_now since in
           had_members is.number is.since (take is.issued changes) (λ i one there. within i one (get_taken changes is.issued i one there).0)
@@ -119,13 +129,13 @@ module _ (group : List ℕ) where
           had_members is.number is.since changes within (is.number + length changes) n config (inr (omega arith)) at.late at.is_there
 
   -- the configurations of steps
-  changed_within : (found : GroupValue) (steps : List Step) → AreWithin found.config steps → (i : ℕ) (config : Configuration) → slice_get (changes_in found steps) i ≡ Some config
-      → IsWithin found.config config
+  changed_within : (found : GroupValue) (steps : List Step) → AllSteps (λ step. IsFrom found.config step.config) steps → (i : ℕ) (config : Configuration) → slice_get (changes_in found steps) i ≡ Some config
+      → IsFrom found.config config
   changed_within found steps within i config at =
       let later : Step → Bool = λ step. not (step.config.sequence == found.config.sequence) in
       let one = map_get (λ (step : Step). step.config) (filter later steps) i config at in
       let from = filter_get later steps i one.0 one.1 in
-      subst (IsWithin found.config) one.2 (within from.0 one.0 from.1)
+      subst (IsFrom found.config) one.2 (within from.0 one.0 from.1)
 
   -- ---- slots that are aside
 
@@ -135,38 +145,30 @@ module _ (group : List ℕ) where
   stays_aside past now disks had slot shown aside = record {
     no_member = λ n config since current.
         let was = had n config since in
-        aside.no_member was.number was.earlier was.since (was.within (past.disk slot) (subst (λ (disk : ℕ → Disk). has_current config (disk slot) ≡ true) disks current));
+        aside.no_member was.number was.earlier was.since (was.within.no_more (past.disk slot) (subst (λ (disk : ℕ → Disk). has_current config (disk slot) ≡ true) disks current));
     shows_none = aside.shows_none;
-    names_none = λ copy n config is since current. let was = had n config since in aside.names_none copy was.number was.earlier is was.since (was.within _ current);
+    names_none = λ copy n config is since current. let was = had n config since in aside.names_none copy was.number was.earlier is was.since (was.within.no_more _ current);
   }
-
-  -- The disks of the slots stay.
-  issued_disks : (past : Past (groups group)) (changes : List Configuration) → (issue_all group past changes).disk ≡ past.disk
-  issued_disks past [] = refl
-  issued_disks past (next ∷ others) = issued_disks (issue past next) others
-
-  begun_disks : (past : Past (groups group)) (readable : ℕ → Bool) (found : GroupValue) (number : ℕ) → (begun group past readable found number).disk ≡ past.disk
-  begun_disks past readable found number = by (some found.absent)
-    where
-      by : (absent : Bool) → (if absent then take_off (leave_out past readable found.config) number else take_off past number).disk ≡ past.disk
-      by true = refl
-      by false = refl
-
-  under_disks : (past : Past (groups group)) (readable : ℕ → Bool) (found : GroupValue) (number : ℕ) (changes : List Configuration) → (issue_all group (begun group past readable found number) changes).disk ≡ past.disk
-  under_disks past readable found number changes = issued_disks (begun group past readable found number) changes ∙ begun_disks past readable found number
-
-  goes_disks : (past now : Past (groups group)) (readable : ℕ → Bool) (found : GroupValue) (changes : List Configuration) → Goes group past readable found changes now → now.disk ≡ past.disk
-  goes_disks past now readable found changes (inl same) = ap (λ (one : Past (groups group)). one.disk) same
-  goes_disks past now readable found changes (inr is) = ap (λ (one : Past (groups group)). one.disk) is.is_now ∙ under_disks past readable found is.number (take is.issued changes)
 
   -- So it is behind each call of the group, however far that came.
   module _ (past now : Past (groups group)) (readable : ℕ → Bool) (found : GroupValue) (asked : List Change) (timestamp : ℕ) (steps : List Step) (are : readied found asked timestamp ≡ Ok steps) where
-    abbrev within : (i : ℕ) (config : Configuration) → slice_get (changes_in found steps) i ≡ Some config → IsWithin found.config config
-    within = changed_within found steps (steps_within found timestamp asked steps are)
+    abbrev within : (i : ℕ) (config : Configuration) → slice_get (changes_in found steps) i ≡ Some config → IsFrom found.config config
+    within = changed_within found steps (steps_from_found found timestamp asked steps are)
+
+    had : (done : Bool) → Ends group past readable found (changes_in found steps) done now → (n : ℕ) (config : Configuration) → IsSince now.changes n config → HadMembers past config
+    had true over = over_had past readable found (changes_in found steps) within now over
+    had false goes = goes_had past readable found (changes_in found steps) within now goes
 
     pub still_aside : (done : Bool) → Ends group past readable found (changes_in found steps) done now → (slot : ℕ) (shown : Shown View) → IsAside past slot shown → IsAside now slot shown
-    still_aside true over =
-        stays_aside past now (ap (λ (one : Past (groups group)). one.disk) over.is_now ∙ under_disks past readable found over.number (changes_in found steps))
-        (over_had past readable found (changes_in found steps) within now over)
-    still_aside false goes =
-        stays_aside past now (goes_disks past now readable found (changes_in found steps) goes) (goes_had past readable found (changes_in found steps) within now goes)
+    still_aside done ends = stays_aside past now (ends_slots group past readable found (changes_in found steps) done now ends).same_disks (had done ends)
+
+    -- A disk that was no current member is none, and one that was missing is so.
+    pub still_none : (done : Bool) → Ends group past readable found (changes_in found steps) done now
+        → (disk : Disk) → ((n : ℕ) (config : Configuration) → IsSince past.changes n config → has_current config disk ≡ true → ⊥)
+        → (n : ℕ) (config : Configuration) → IsSince now.changes n config → has_current config disk ≡ true → ⊥
+    still_none done ends disk none n config since current = let was = had done ends n config since in none was.number was.earlier was.since (was.within.no_more disk current)
+
+    pub still_missing : (done : Bool) → Ends group past readable found (changes_in found steps) done now
+        → (disk : Disk) → ((n : ℕ) (config : Configuration) → IsSince past.changes n config → has_missing config disk ≡ true)
+        → (n : ℕ) (config : Configuration) → IsSince now.changes n config → has_missing config disk ≡ true
+    still_missing done ends disk missing n config since = let was = had done ends n config since in was.within.stays_missing disk (missing was.number was.earlier was.since)

@@ -10,7 +10,6 @@ use Rattle.ddf_rewrite.specs.Before.{Before, before}
 use Rattle.ddf_rewrite.specs.Copies.{changed_copy, recovered_copy}
 use Rattle.ddf_rewrite.proofs.Lists.{all_at, map_get}
 use Rattle.ddf_history.specs.Groups.{disk_of}
-use Rattle.ddf_history.proofs.Copies.{changed_names}
 use Rattle.ddf_assembly.specs.declared.seated.Seated.{Seated}
 use Rattle.ddf_assembly.specs.Group.{GroupValue}
 use Rattle.ddf_assembly.specs.Ready.{readied}
@@ -20,8 +19,9 @@ use Rattle.ddf_assembly.specs.Steps.{Step, config_after, disks_after, levelled, 
 use Rattle.ddf_assembly.proofs.CommittedReadied.{filter_get}
 use Rattle.ddf_assembly.proofs.Recovered.{IsOwn, all_own}
 use Rattle.ddf_assembly.proofs.Rewritten.{closed_view}
+use Rattle.ddf_stops.proofs.StepMembers.{mended_names, rewritten_names}
 use Rattle.ddf_command.specs.Writing.{IsWrittenOn}
-use Rattle.ddf_command.proofs.ReadiedSteps.{AllSteps, readied_all}
+use Rattle.ddf_command.proofs.AllSteps.{AllSteps, readied_all}
 
 -- ---- copies
 
@@ -30,15 +30,10 @@ changed_group : (old : DiskCopy) (leaders : Before) (config : Configuration) (ti
 unfolding changed_copy view_of
 changed_group old leaders config timestamp = refl
 
--- So is a recovered one,
+-- So is a recovered one.
 recovered_group : (old : DiskCopy) (leaders : Before) (config : Configuration) (timestamp : ℕ) → (view_of (recovered_copy old leaders config timestamp)).group ≡ config.group
 unfolding recovered_copy view_of
 recovered_group old leaders config timestamp = refl
-
--- and it names the disk that the old one names.
-recovered_names : (old : DiskCopy) (leaders : Before) (config : Configuration) (timestamp : ℕ) → disk_of (view_of (recovered_copy old leaders config timestamp)) ≡ disk_of (view_of old)
-unfolding recovered_copy view_of
-recovered_names old leaders config timestamp = refl
 
 -- A copy is of the group of its header.
 view_group : (copy : DiskCopy) → (view_of copy).group ≡ copy.header.guid
@@ -88,10 +83,9 @@ module _ (group : List ℕ) (seats : List Seated) where
   module _ (leaders : Before) (config : Configuration) (timestamp : ℕ) (same : config.group ≡ group) where
     rewritten_known : (disk : Seated) → IsKnown group seats disk → IsKnown group seats (rewritten leaders config timestamp disk)
     rewritten_known disk known =
-        let closed = closed_view (changed_copy disk.copy leaders config timestamp) in
         renewed disk (rewritten leaders config timestamp disk) known refl
-        (ap (λ (view : View). view.group) closed ∙ changed_group disk.copy leaders config timestamp ∙ same)
-        (ap disk_of closed ∙ changed_names disk.copy leaders config timestamp)
+        (ap (λ (view : View). view.group) (closed_view (changed_copy disk.copy leaders config timestamp)) ∙ changed_group disk.copy leaders config timestamp ∙ same)
+        (rewritten_names leaders config timestamp disk)
 
     after_known : (disks : List Seated) → AreKnown disks → AreKnown (disks_after timestamp leaders config disks)
     unfolding disks_after
@@ -99,14 +93,13 @@ module _ (group : List ℕ) (seats : List Seated) where
 
     mended_known : (disk : Seated) → IsKnown group seats disk → IsKnown group seats (mended leaders config timestamp disk)
     mended_known disk known =
-        let closed = closed_view (mended_copy leaders config timestamp disk.copy) in
-        let is = by (shows config (view_of disk.copy)) in
-        renewed disk (mended leaders config timestamp disk) known refl (ap (λ (view : View). view.group) closed ∙ is.0) (ap disk_of closed ∙ is.1)
+        renewed disk (mended leaders config timestamp disk) known refl
+        (ap (λ (view : View). view.group) (closed_view (mended_copy leaders config timestamp disk.copy)) ∙ by (shows config (view_of disk.copy)))
+        (mended_names leaders config timestamp disk)
       where
-        by : (b : Bool) → ((view_of (if b then disk.copy else recovered_copy disk.copy leaders config timestamp)).group ≡ group)
-            × (disk_of (view_of (if b then disk.copy else recovered_copy disk.copy leaders config timestamp)) ≡ disk_of (view_of disk.copy))
-        by true = (known.of_group, refl)
-        by false = (recovered_group disk.copy leaders config timestamp ∙ same, recovered_names disk.copy leaders config timestamp)
+        by : (b : Bool) → (view_of (if b then disk.copy else recovered_copy disk.copy leaders config timestamp)).group ≡ group
+        by true = known.of_group
+        by false = recovered_group disk.copy leaders config timestamp ∙ same
 
 -- ---- the recovery, and the steps behind it
 

@@ -1,16 +1,17 @@
 // Laws of histories: functions that do nothing, whose contracts are the laws.
-ghost use Rattle.std.specs.Prelude.{◌≡◌, ◌<◌, ◌-◌, ◌^◌, ℕ, Bool, true, false, ◌∷◌, [], List, length, Option, Some, Result, Ok, slice_get};
+ghost use Rattle.std.specs.Prelude.{◌≡◌, ◌<◌, ◌≤◌, ◌+◌, ◌-◌, ◌^◌, ℕ, Bool, true, false, ◌∷◌, [], List, length, Option, Some, Result, Ok, slice_get};
 ghost use Rattle.std.specs.Str.{bytes_eq};
 ghost use Rattle.ddf_bytes.specs.declared.stamp.Stamp.{Stamp};
-ghost use Rattle.ddf_bay.specs.Moments.{GoesOn};
+ghost use Rattle.ddf_bay.specs.Moments.{GoesOn, StopsLeave};
 ghost use Rattle.ddf_bay.specs.Sectors.{Image, IsLeft};
 ghost use Rattle.ddf_config.specs.Configuration.{Configuration};
 ghost use Rattle.ddf_plan.specs.declared.change.Change.{Change};
+ghost use Rattle.ddf_update.specs.Group.{IsLeftFoundingAll};
 ghost use Rattle.ddf_update.specs.NewCopies.{group_of};
 ghost use Rattle.ddf_view.specs.View.{View, view_of};
 ghost use Rattle.ddf_history.specs.Answer.{HasMember};
 ghost use Rattle.ddf_history.specs.Calls.{IsAside};
-ghost use Rattle.ddf_history.specs.Groups.{disk_of, groups, has_current};
+ghost use Rattle.ddf_history.specs.Groups.{Disk, disk_of, groups, has_current, has_missing};
 ghost use Rattle.ddf_history.specs.History.{AllKept, Answers, IsHistory, KeepsAcked, Moment};
 ghost use Rattle.ddf_history.specs.Issued.{IsSince, Past};
 ghost use Rattle.ddf_history.specs.Reading.{Each, Scene, Shown};
@@ -25,7 +26,7 @@ ghost use Rattle.ddf_stops.specs.Founding.{AreNamesNew, IsNewGroup, founding_con
 ghost use Rattle.ddf_stops.specs.Going.{Ends, changes_in};
 ghost use Rattle.ddf_stops.specs.Kept.{AreAllKept, is_read, is_slot};
 ghost use Rattle.ddf_command.specs.Call.{work_of};
-ghost use Rattle.ddf_command.specs.Change.{HasChanged, Request};
+ghost use Rattle.ddf_command.specs.Change.{HasChanged, Request, is_done};
 ghost use Rattle.ddf_command.specs.Cut.{AreLabelled, Gives, IsLeftByLabel, IsNewLabel};
 ghost use Rattle.ddf_command.specs.History.{GroupCall, IsCall, IsCut, IsEnd, Leaves, OtherCall};
 ghost use Rattle.ddf_command.specs.Label.{IsTried, label_copy, label_slots};
@@ -101,19 +102,61 @@ pub fn a_label_cut_short_begins_a_history<B: Bay>()
         → Gives (B.disks cut) left (group_of stamp) (founding_config (label_copy stamp (B.disks old).sizes named)) }
 {}
 
-/// A slot that a `label` founded is a current member, as a history asks that one is read.
+/// A slot that a `label` founded is a current member at the beginning of the history, as it is asked that one is read: its disk is one of the
+/// founding configuration.
 pub fn a_founded_slot_is_a_current_member<B: Bay>()
-    ensures { (stamp : Stamp) (named : List ℕ) (old bay : B) (founded : ℕ → Bool) → AreLabelled (B.disks old) stamp named (B.disks bay).held founded
+    ensures member { (stamp : Stamp) (named : List ℕ) (old bay : B) (founded : ℕ → Bool) → AreLabelled (B.disks old) stamp named (B.disks bay).held founded
         → (past : Past (groups (group_of stamp)))
         → IsNewGroup (group_of stamp) past (B.disks old).sizes (label_slots (B.disks old).sizes named) (label_copy stamp (B.disks old).sizes named) founded
         → (readable : ℕ → Bool) (slot : ℕ) → founded slot ≡ true → readable slot ≡ true
         → HasMember past (scene_of (B.disks old).sizes (B.disks bay).held) readable }
+    ensures listed { (stamp : Stamp) (named : List ℕ) (old bay : B) (founded : ℕ → Bool) → AreLabelled (B.disks old) stamp named (B.disks bay).held founded
+        → (past : Past (groups (group_of stamp)))
+        → IsNewGroup (group_of stamp) past (B.disks old).sizes (label_slots (B.disks old).sizes named) (label_copy stamp (B.disks old).sizes named) founded
+        → (slot : ℕ) → founded slot ≡ true → has_current (founding_config (label_copy stamp (B.disks old).sizes named)) (past.disk slot) ≡ true }
 {}
 
-/// A change of a group makes no disk a current member that wasn't one since the last acknowledged configuration: however far a call on the group
-/// came, a slot that was aside of its history is so behind it, while it shows what it showed.
+/// Each seat of the group that a call found was read, and its disk is a current member of the configuration that it found. Each disk that its
+/// steps are written to is one of theirs.
+pub fn a_calls_disks_are_current_members<B: Bay>()
+    ensures seats { (told : B.tells) (group : List ℕ) (old : Moment (groups group) B) (call : GroupCall told B.disks group old)
+        → (place : ℕ) (disk : Seated) → slice_get (seated call.found) place ≡ Some disk
+        → (is_read call.changed.left disk.seat.slot ≡ true) × (has_current call.found.config (old.past.disk disk.seat.slot) ≡ true) }
+    ensures steps { (told : B.tells) (group : List ℕ) (old : Moment (groups group) B) (call : GroupCall told B.disks group old)
+        → (slot : ℕ) (on : IsWrittenOn call.steps slot) → (is_read call.changed.left slot ≡ true) × (has_current on.step.config (old.past.disk slot) ≡ true) }
+{}
+
+/// Behind a call that was done each disk that its last step was written to is a current member, as a history asks that one is read: in a group
+/// from elsewhere once a change of this engine is acknowledged. Where it had no step each of its seats is one.
+pub fn a_call_that_was_done_leaves_current_members<B: Bay>()
+    ensures written { (told : B.tells) (group : List ℕ) (old new : Moment (groups group) B) (end : IsEnd told B.disks group old new) → is_done end.call.outcome ≡ true
+        → new.past.changes.own_from ≤ new.past.changes.acked → (scene : Scene View) → Leaves told B.disks group new.bay scene → (readable : ℕ → Bool)
+        → (slot : ℕ) (on : IsWrittenOn end.call.steps slot) → on.number + 1 ≡ length end.call.steps → readable slot ≡ true → HasMember new.past scene readable }
+    ensures seated { (told : B.tells) (group : List ℕ) (old new : Moment (groups group) B) (end : IsEnd told B.disks group old new) → is_done end.call.outcome ≡ true
+        → new.past.changes.own_from ≤ new.past.changes.acked → (scene : Scene View) → Leaves told B.disks group new.bay scene → (readable : ℕ → Bool)
+        → (place : ℕ) (disk : Seated) → slice_get (seated end.call.found) place ≡ Some disk → end.call.steps ≡ [] → readable disk.seat.slot ≡ true
+        → HasMember new.past scene readable }
+{}
+
+/// Behind a call that was done each current member whose disk it didn't read is missing.
+pub fn a_member_that_was_left_out_is_missing<B: Bay>()
+    ensures { (told : B.tells) (group : List ℕ) (old new : Moment (groups group) B) (end : IsEnd told B.disks group old new) → is_done end.call.outcome ≡ true
+        → (slot : ℕ) → is_read end.call.changed.left slot ≡ false → has_current end.call.found.config (old.past.disk slot) ≡ true
+        → (number : ℕ) (config : Configuration) → IsSince new.past.changes number config → has_missing config (new.past.disk slot) ≡ true }
+{}
+
+/// However far a call on a group came, a disk that was no current member since the last acknowledged configuration is none, one that was
+/// missing is so, and a slot that was aside of the history is so, while it shows what it showed.
 pub fn a_change_makes_no_disk_a_member()
-    ensures { (group : List ℕ) (past now : Past (groups group)) (readable : ℕ → Bool) (found : GroupValue) (changes : List Change) (timestamp : ℕ) (steps : List Step)
+    ensures members { (group : List ℕ) (past now : Past (groups group)) (readable : ℕ → Bool) (found : GroupValue) (changes : List Change) (timestamp : ℕ) (steps : List Step)
+        → readied found changes timestamp ≡ Ok steps → (done : Bool) → Ends group past readable found (changes_in found steps) done now
+        → (disk : Disk) → ((number : ℕ) (config : Configuration) → IsSince past.changes number config → has_current config disk ≡ true → ⊥)
+        → (number : ℕ) (config : Configuration) → IsSince now.changes number config → has_current config disk ≡ true → ⊥ }
+    ensures missing { (group : List ℕ) (past now : Past (groups group)) (readable : ℕ → Bool) (found : GroupValue) (changes : List Change) (timestamp : ℕ) (steps : List Step)
+        → readied found changes timestamp ≡ Ok steps → (done : Bool) → Ends group past readable found (changes_in found steps) done now
+        → (disk : Disk) → ((number : ℕ) (config : Configuration) → IsSince past.changes number config → has_missing config disk ≡ true)
+        → (number : ℕ) (config : Configuration) → IsSince now.changes number config → has_missing config disk ≡ true }
+    ensures aside { (group : List ℕ) (past now : Past (groups group)) (readable : ℕ → Bool) (found : GroupValue) (changes : List Change) (timestamp : ℕ) (steps : List Step)
         → readied found changes timestamp ≡ Ok steps → (done : Bool) → Ends group past readable found (changes_in found steps) done now
         → (slot : ℕ) (shown : Shown View) → IsAside past slot shown → IsAside now slot shown }
 {}
@@ -122,7 +165,8 @@ pub fn a_change_makes_no_disk_a_member()
 /// a stop might have left, they stay so. The names of its disks are none that the history counts as members.
 pub fn a_label_is_aside_of_other_histories<B: Bay>()
     ensures { (told : B.tells) (group : List ℕ) (old : Moment (groups group) B) (exit : B) (stamp : Stamp) (named : List ℕ)
-        → IsNewLabel (B.disks old.bay) (B.disks exit) stamp named → bytes_eq group (group_of stamp) ≡ false
+        → StopsLeave (B.disks old.bay) (B.disks exit) (IsLeftFoundingAll (B.disks old.bay) (label_slots (B.disks old.bay).sizes named) (label_copy stamp (B.disks old.bay).sizes named))
+        → IsLeft (B.disks old.bay).may_hold (B.disks old.bay).held → bytes_eq group (group_of stamp) ≡ false
         → ((image : Image) → IsLeft (B.disks old.bay).may_hold image → (slot : ℕ) → is_slot (label_slots (B.disks old.bay).sizes named) slot ≡ true
         → IsAside old.past slot (scene_of (B.disks old.bay).sizes image slot))
         → ((place slot number : ℕ) (config : Configuration) → slice_get (label_slots (B.disks old.bay).sizes named) place ≡ Some slot → IsSince old.past.changes number config

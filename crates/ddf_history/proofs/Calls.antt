@@ -27,12 +27,12 @@ last_issued changes last c there = record {
 }
 
 -- A slot of which a copy is seen is readable.
-seen_read : {A : Type 0} (b : Bool) (shown : Shown A) (copy : A) → IsCopyOf (if b then shown else Nothing) copy → b ≡ true
+pub seen_read : {A : Type 0} (b : Bool) (shown : Shown A) (copy : A) → IsCopyOf (if b then shown else Nothing) copy → b ≡ true
 seen_read true shown copy is = refl
 seen_read false shown copy is = absurd is
 
 -- A copy that is seen is one that its slot shows.
-seen_copy : {A : Type 0} (b : Bool) (shown : Shown A) (copy : A) → IsCopyOf (if b then shown else Nothing) copy → IsCopyOf shown copy
+pub seen_copy : {A : Type 0} (b : Bool) (shown : Shown A) (copy : A) → IsCopyOf (if b then shown else Nothing) copy → IsCopyOf shown copy
 seen_copy true shown copy is = is
 seen_copy false shown copy is = absurd is
 

@@ -1,6 +1,6 @@
 -- A change may follow the configuration that it changes.
-use Rattle.std.proofs.Common.{◌≡◌, ℕ, ◌<◌, Bool, true, false, not, ◌&&◌, eqb, List, [], ◌∷◌, Option, Some, nat_eq, refl, ap, sym, ◌∙◌, if◌then◌else◌}
-use Rattle.std.proofs.lemmas.Bool.{and_from, and_parts}
+use Rattle.std.proofs.Common.{◌≡◌, ℕ, ◌<◌, Bool, true, false, not, ◌&&◌, ◌||◌, eqb, List, [], ◌∷◌, Option, Some, nat_eq, refl, ap, sym, ◌∙◌, if◌then◌else◌}
+use Rattle.std.proofs.lemmas.Bool.{and_from, and_parts, eq-eqb, eqb-true, false≢true}
 use Rattle.std.specs.Map.{lookup}
 use Rattle.std.specs.Option.{option_map_or}
 use Rattle.std.specs.Str.{bytes_eq}
@@ -13,7 +13,7 @@ use Rattle.ddf_plan.specs.Changes.{changed_at, member_after, with_spare}
 use Rattle.ddf_plan.specs.Delete.{use_without}
 use Rattle.ddf_plan.specs.Lose.{is_among, lost_member}
 use Rattle.ddf_plan.specs.Spare.{use_in_order}
-use Rattle.ddf_history.specs.Groups.{groups}
+use Rattle.ddf_history.specs.Groups.{Disk, groups, has_current, has_missing}
 use Rattle.ddf_history.specs.Steps.{MayFollow}
 
 -- ---- one member
@@ -89,6 +89,40 @@ module _ (change : ℕ → Member → Option Member) (kept : (reference : ℕ) (
           let named : bytes_eq after.0.guid guid ≡ true = ap (λ (name : List ℕ). bytes_eq name guid) after.2.guid ∙ parts.0 in
           rw (after.1, here) (and_from _ _ named (after.2.missing parts.1))
       go after later false here = rw (after.1, here) (later (rw here at is))
+
+-- ---- members that are lost
+
+-- the entry of the disk's reference has its GUID and passes the test
+abbrev is_listed : (Member → Bool) → Disk → List (ℕ × Member) → Bool
+is_listed test disk members = option_map_or (λ (member : Member). bytes_eq member.guid disk.guid && test member) (lookup (λ reference. eqb reference disk.reference) members) false
+
+-- A current member whose reference is among those of lost disks is missing then.
+lost_listed : (references : List ℕ) (disk : Disk) → is_among references disk.reference ≡ true → (members : List (ℕ × Member)) → is_listed (λ member. not member.missing) disk members ≡ true
+    → is_listed (λ member. member.missing) disk (changed_entries (λ reference member. Some (lost_member references reference member)) members) ≡ true
+lost_listed references disk among [] is = absurd (false≢true is)
+lost_listed references disk among (entry ∷ members) is = go (lost_listed references disk among members) (eqb entry.0 disk.reference) refl
+  where
+    go : (is_listed (λ member. not member.missing) disk members ≡ true
+        → is_listed (λ member. member.missing) disk (changed_entries (λ reference member. Some (lost_member references reference member)) members) ≡ true)
+        → (here : Bool) → eqb entry.0 disk.reference ≡ here
+        → is_listed (λ member. member.missing) disk (changed_entries (λ reference member. Some (lost_member references reference member)) (entry ∷ members)) ≡ true
+    go later true here =
+        let own : is_among references entry.0 ≡ true = ap (is_among references) (eqb-true entry.0 disk.reference here) ∙ among in
+        let parts = and_parts (bytes_eq entry.1.guid disk.guid) (not entry.1.missing) (rw here at is) in
+        rw (here, own) (and_from _ _ parts.0 refl)
+    go later false here = rw here (later (rw here at is))
+
+-- So it is behind the change that loses it,
+pub lost_missing : (config : Configuration) (references : List ℕ) (sequence : ℕ) (disk : Disk) → has_current config disk ≡ true → is_among references disk.reference ≡ true
+    → has_missing (changed_at config (Lose references) sequence) disk ≡ true
+lost_missing config references sequence disk current among = lost_listed references disk among config.members current
+
+-- and behind the one that fails it.
+pub failed_missing : (config : Configuration) (failed sequence : ℕ) (disk : Disk) → has_current config disk ≡ true → disk.reference ≡ failed
+    → has_missing (changed_at config (Fail failed) sequence) disk ≡ true
+failed_missing config failed sequence disk current same =
+    let among : is_among (failed ∷ []) disk.reference ≡ true = rw same (ap (λ (b : Bool). b || false) (eq-eqb failed failed refl)) in
+    lost_listed (failed ∷ []) disk among config.members current
 
 -- A change may follow the configuration that it changes, at a greater sequence.
 pub changes_follow : (group : List ℕ) (config : Configuration) (change : Change) (sequence : ℕ) → config.sequence < sequence → MayFollow (groups group) config (changed_at config change sequence)

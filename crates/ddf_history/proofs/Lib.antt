@@ -21,3 +21,4 @@ pub mod AnsweredConflicts
 pub mod AnsweredConfig
 pub mod Answered
 pub mod AnsweredRead
+pub mod Members

@@ -1,19 +1,21 @@
 // Laws of histories: functions that do nothing, whose contracts are the laws.
-ghost use Rattle.std.specs.Prelude.{◌≡◌, ◌<◌, ◌≤◌, ℕ, Bool, true, List, None};
+ghost use Rattle.std.specs.Prelude.{◌≡◌, ◌<◌, ◌≤◌, ℕ, Bool, true, false, List, None, Some, slice_get};
 ghost use Rattle.std.specs.Str.{bytes_eq};
 ghost use Rattle.ddf_copy.specs.declared.copy.DiskCopy.{DiskCopy};
 ghost use Rattle.ddf_copy.specs.Written.{CanBeCopy};
 ghost use Rattle.ddf_config.specs.Configuration.{Configuration};
 ghost use Rattle.ddf_plan.specs.Changes.{changed_at};
+ghost use Rattle.ddf_plan.specs.Lose.{is_among};
 ghost use Rattle.ddf_plan.specs.declared.change.Change.{Change};
+ghost use Rattle.ddf_plan.specs.declared.change.Change.TheVariants.{Fail, Lose};
 ghost use Rattle.ddf_view.specs.View.{View, view_of};
 ghost use Rattle.ddf_view.specs.Differ.{difference};
 ghost use Rattle.ddf_rewrite.specs.Before.{Before};
 ghost use Rattle.ddf_rewrite.specs.Changing.{CanChange, HasRoomFor};
 ghost use Rattle.ddf_rewrite.specs.Copies.{changed_copy};
 ghost use Rattle.ddf_rewrite.specs.Readable.{AreRebuilt, HasOwnNames};
-ghost use Rattle.ddf_history.specs.Reading.{Scene};
-ghost use Rattle.ddf_history.specs.Groups.{Shows, ShowsFully, disk_of, groups};
+ghost use Rattle.ddf_history.specs.Reading.{IsCopyOf, Scene, stands};
+ghost use Rattle.ddf_history.specs.Groups.{Disk, Shows, ShowsFully, disk_of, groups, has_current, has_missing};
 ghost use Rattle.ddf_history.specs.Issued.{Past, IsSince, acknowledge, issue, leave_out, take_off};
 ghost use Rattle.ddf_history.specs.Leaders.{seen};
 ghost use Rattle.ddf_history.specs.Promise.{IsKept};
@@ -27,6 +29,18 @@ pub fn assembly_answers_a_configuration_since_the_last_acknowledged()
     ensures { (group : List ℕ) (past : Past (groups group)) (scene : Scene View) (readable : ℕ → Bool) (answer : Answer Configuration)
         → IsKept past scene → IsReadable past scene readable → HasMember past scene readable
         → IsAnswer (groups group) past.slots (seen readable scene) answer → IsPromised past readable answer }
+{}
+
+/// A member of the last acknowledged configuration that isn't lost is a current member, as it is asked that one is read: once a change of
+/// this engine is acknowledged, and before that too where its slot shows the group with that configuration's sequence number or a later one.
+pub fn a_member_that_is_not_lost_is_a_current_member()
+    ensures own { (group : List ℕ) (past : Past (groups group)) (scene : Scene View) → IsKept past scene → past.changes.own_from ≤ past.changes.acked
+        → (slot : ℕ) (config : Configuration) → slice_get past.changes.issued past.changes.acked ≡ Some config → has_current config (past.disk slot) ≡ true
+        → past.lost slot ≡ false → (readable : ℕ → Bool) → readable slot ≡ true → HasMember past scene readable }
+    ensures leads { (group : List ℕ) (past : Past (groups group)) (scene : Scene View) → IsKept past scene
+        → (slot : ℕ) (config : Configuration) → slice_get past.changes.issued past.changes.acked ≡ Some config → has_current config (past.disk slot) ≡ true
+        → past.lost slot ≡ false → (copy : View) → IsCopyOf (scene slot) copy → stands (groups group) copy ≡ true → config.sequence ≤ copy.sequence
+        → (readable : ℕ → Bool) → readable slot ≡ true → HasMember past scene readable }
 {}
 
 /// New copies of the last change, written to whichever of its seats, leave each slot showing what it should.
@@ -76,6 +90,14 @@ pub fn a_change_is_issued_behind_the_last()
 pub fn a_change_may_follow()
     ensures { (group : List ℕ) (config : Configuration) (change : Change) (sequence : ℕ)
         → config.sequence < sequence → MayFollow (groups group) config (changed_at config change sequence) }
+{}
+
+/// A current member that a change loses, or fails, is missing behind it.
+pub fn a_lost_member_is_missing()
+    ensures lost { (config : Configuration) (references : List ℕ) (sequence : ℕ) (disk : Disk) → has_current config disk ≡ true
+        → is_among references disk.reference ≡ true → has_missing (changed_at config (Lose references) sequence) disk ≡ true }
+    ensures failed { (config : Configuration) (sequence : ℕ) (disk : Disk) → has_current config disk ≡ true
+        → has_missing (changed_at config (Fail disk.reference) sequence) disk ≡ true }
 {}
 
 /// The last change may be acknowledged where each of its members that is here shows it.

@@ -13,7 +13,6 @@ use Rattle.ddf_config.specs.Members.{is_current}
 use Rattle.ddf_copy.specs.declared.copy.DiskCopy.{DiskCopy}
 use Rattle.ddf_copy.specs.Written.{CanBeCopy}
 use Rattle.ddf_plan.specs.declared.change.Change.{Change}
-use Rattle.ddf_plan.specs.Changes.{members_after}
 use Rattle.ddf_plan.specs.Same.{is_step}
 use Rattle.ddf_view.specs.View.{View, view_of}
 use Rattle.ddf_rewrite.specs.Before.{Before, before}
@@ -27,7 +26,6 @@ use Rattle.ddf_history.specs.Issued.{Past, acknowledge, is_away, issue}
 use Rattle.ddf_history.specs.Promise.{IsKept}
 use Rattle.ddf_history.specs.Scenes.{scene_of}
 use Rattle.ddf_history.specs.Steps.{AreWritten, MayFollow}
-use Rattle.ddf_history.proofs.Copies.{changed_names}
 use Rattle.ddf_history.proofs.Listed.{value_there}
 use Rattle.ddf_assembly.specs.declared.seated.Seated.{Seated}
 use Rattle.ddf_assembly.specs.Asked.{CanBeAsked}
@@ -37,15 +35,15 @@ use Rattle.ddf_assembly.specs.Refusing.{step_refusal}
 use Rattle.ddf_assembly.specs.Seated.{seated, seats_in, slots_in, views_in}
 use Rattle.ddf_assembly.specs.Steps.{config_after, disks_after, stays_in}
 use Rattle.ddf_assembly.specs.Trying.{IsOfGroup}
-use Rattle.ddf_assembly.proofs.LeftStep.{same_disk, same_view}
+use Rattle.ddf_assembly.proofs.LeftStep.{same_view}
 use Rattle.ddf_stops.specs.Kept.{is_slot, unwritten}
-use Rattle.ddf_stops.specs.AtEnd.{IsAtEnd, IsMember}
+use Rattle.ddf_stops.specs.AtEnd.{IsAtEnd}
 use Rattle.ddf_stops.proofs.Changing.{change_acknowledged, change_kept, follows, issued_kept}
 use Rattle.ddf_stops.proofs.ChangingCopies.{changed_views}
-use Rattle.ddf_stops.proofs.ChangingStays.{stays_current}
 use Rattle.ddf_stops.proofs.CommittingScenes.{seat_shows}
 use Rattle.ddf_stops.proofs.CommittingSeats.{IsWritten, can_change, copy_in, copy_is, is_written, new_is_copy, renewed, stays_written}
 use Rattle.ddf_stops.proofs.Slots.{slot_placed}
+use Rattle.ddf_stops.proofs.StepMembers.{AreMembers, after_members, stays_member}
 use Rattle.ddf_stops.proofs.Stops.{unwritten_here}
 
 -- ---- lists
@@ -132,10 +130,7 @@ module _ (group : List ℕ) {D : Type 0} (past : Past (groups group)) (state : B
   -- The disk of one that stays is one behind the change,
   stays_here : (place : ℕ) (disk : Seated) → slice_get (seated found) place ≡ Some disk → stays_in next disk ≡ true
       → has_current next (disk_of (view_of disk.copy)) ≡ true
-  stays_here place disk at stays =
-      let is = end.are_members place disk at in
-      let current : is_current (members_after found.config change) disk.seat.reference ≡ true = stays in
-      stays_current found.config change next.sequence (disk_of (view_of disk.copy)) is.is_current (rw is.same_reference at current)
+  stays_here place disk at stays = (stays_member found.config change disk (end.are_members place disk at) stays).is_current
 
   stays : (slot : ℕ) → is_slot slots slot ≡ true → has_current next (disk_of (view_of (old slot))) ≡ true
   stays = by_disk (λ copy. has_current next (disk_of (view_of copy)) ≡ true) stays_here
@@ -188,16 +183,8 @@ module _ (group : List ℕ) {D : Type 0} (past : Past (groups group)) (state : B
       ∙ ap (λ (disk : Seated). view_of disk.copy) own.is_made
 
   -- Its disk is a current member behind the change.
-  pub new_member : (place : ℕ) (made : Seated) → slice_get new_disks place ≡ Some made → IsMember next made
-  new_member place made at =
-      let own = renewed (seated found) led next timestamp place made at in
-      let same = same_disk led next timestamp own.disk in
-      let named = ap (λ (view : View). disk_of view) (same_view led next timestamp own.disk) ∙ changed_names own.disk.copy led next timestamp in
-      subst (IsMember next) own.is_made
-      (record {
-        same_reference = (end.are_members own.place own.disk own.at).same_reference ∙ sym same.1;
-        is_current = ap (has_current next) named ∙ stays_here own.place own.disk own.at own.stays;
-      })
+  pub new_member : AreMembers next new_disks
+  new_member = after_members timestamp led found.config change (seated found) end.are_members
 
   -- ---- what they show
 

@@ -61,7 +61,7 @@ module _ (stamp : Stamp) (sizes : List ℕ) where
       (new_references stamp sizes))
 
   -- The disk of each view is a current member.
-  view_is_member : (place : ℕ) → place < length sizes → has_current config (disk_of (view_at place)) ≡ true
+  pub view_is_member : (place : ℕ) → place < length sizes → has_current config (disk_of (view_at place)) ≡ true
   view_is_member place lt =
       sym ((groups_are_sound (group_of stamp)).same_current (view_at place) config (disk_of (view_at place)) (view_shows place).shows)
       ∙ new_lists stamp sizes (group_of stamp) (disk_guid stamp place) (reference_at stamp place) place lt

@@ -44,6 +44,8 @@ pub mod Committing
 pub mod CommittingFirst
 pub mod CommittingGoes
 pub mod RecoveringKeeps
+pub mod StepMembers
+pub mod LastIssued
 pub mod StepsAsked
 pub mod CommittingKeeps
 pub mod Acked

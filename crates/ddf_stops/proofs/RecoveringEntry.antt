@@ -2,16 +2,13 @@
 use Rattle.std.proofs.Common.{◌≡◌, ℕ, Bool, true, false, List, [], length, Option, Some, Ok, refl, ap, sym, ◌∙◌, subst}
 use Rattle.std.proofs.Math.Path.{fun_ext}
 use Rattle.std.specs.Prelude.{slice_get, unwrap_or}
-use Rattle.std.specs.Option.{option_and_then}
 use Rattle.ddf_bay.specs.Sectors.{Image, IsLeft}
 use Rattle.ddf_bay.specs.State.{BayState}
 use Rattle.ddf_config.specs.declared.seat.Seat.{Seat}
 use Rattle.ddf_copy.specs.declared.copy.DiskCopy.{DiskCopy}
 use Rattle.ddf_copy.specs.declared.newest_copy.Newest.{Newest}
-use Rattle.ddf_copy.specs.Copies.{standing_copy}
 use Rattle.ddf_view.specs.View.{View, view_of}
-use Rattle.ddf_rewrite.proofs.AllWanted.{filter_map_get}
-use Rattle.ddf_rewrite.proofs.Lists.{get_map, map_get, some_same}
+use Rattle.ddf_rewrite.proofs.Lists.{get_map, map_get}
 use Rattle.ddf_history.specs.Reading.{Scene}
 use Rattle.ddf_history.specs.Issued.{Past, IsSince, is_away}
 use Rattle.ddf_history.specs.Leaders.{seen}
@@ -20,23 +17,23 @@ use Rattle.ddf_history.specs.Answer.{IsClaimed}
 use Rattle.ddf_history.specs.Calls.{IsAssembled, AreSure, NoneAbsent}
 use Rattle.ddf_history.specs.Groups.{groups, has_current, disk_of}
 use Rattle.ddf_history.specs.Scenes.{scene_of}
-use Rattle.ddf_history.proofs.AnsweredLists.{map_some}
 use Rattle.ddf_history.proofs.Assembling.{read_as}
 use Rattle.ddf_history.proofs.Calls.{claims as members_claimed}
 use Rattle.ddf_history.proofs.Sound.{groups_are_sound}
 use Rattle.ddf_assembly.specs.declared.seated.Seated.{Seated}
 use Rattle.ddf_assembly.specs.Assembled.{IsAssembledGroup}
 use Rattle.ddf_assembly.specs.Committed.{slots_of, synced}
-use Rattle.ddf_assembly.specs.Group.{GroupValue, copy_at, group_as, group_of, seat_at, seat_of}
+use Rattle.ddf_assembly.specs.Group.{GroupValue, copy_at, group_of}
 use Rattle.ddf_assembly.specs.Held.{AreHeldOn, StandUnder}
 use Rattle.ddf_assembly.specs.Reading.{HaveAnchors}
 use Rattle.ddf_assembly.specs.Seated.{seated, seats_in}
 use Rattle.ddf_assembly.specs.Slots.{newest_from}
 use Rattle.ddf_assembly.proofs.Committed.{no_change}
 use Rattle.ddf_assembly.proofs.CommittedSeats.{seated_is}
+use Rattle.ddf_stops.specs.AtEnd.{IsMember}
 use Rattle.ddf_stops.specs.Going.{IsAdmitted}
 use Rattle.ddf_stops.specs.Kept.{AreAllKept, HoldsBytes, is_read, is_slot}
-use Rattle.ddf_stops.proofs.Begun.{IsMadeOf, assembled_kept, assembled_since, found_named}
+use Rattle.ddf_stops.proofs.Begun.{IsMadeOf, assembled_kept, assembled_since}
 use Rattle.ddf_stops.proofs.Claimed as claims
 use Rattle.ddf_stops.proofs.Slots.{slot_is, slot_placed}
 use Rattle.ddf_stops.proofs.Stops.{same_scene}
@@ -116,32 +113,26 @@ module _ (group : List ℕ) {D : Type 0} (past : Past (groups group)) (state : B
 
   -- It is made of what was found.
   pub made : IsMadeOf newest (Some group) found
-  made = found_named newest named group found taken.is_found taken.same_group
+  made =
+      claims.made group state left newest taken.every_slot refl past taken.admitted.same_slots kept_held taken.admitted.may_read taken.admitted.member named
+      found taken.is_found taken.same_group
 
   -- The group's newest copies are those that were read.
   pub newest_is : found.newest ≡ newest
-  newest_is = sym (ap (λ (one : GroupValue). one.newest) made.is_group)
+  newest_is =
+      claims.newest_is group state left newest taken.every_slot refl past taken.admitted.same_slots kept_held taken.admitted.may_read taken.admitted.member named
+      found taken.is_found taken.same_group
 
   -- the copy that stands for a slot
   abbrev pub old : ℕ → DiskCopy
   old slot = unwrap_or (copy_at found.newest slot) no_change.old
 
-  -- A seat is that of the copy of its slot.
-  seat_is : (place : ℕ) (seat : Seat) → slice_get found.seats place ≡ Some seat
-      → (copy : DiskCopy) × (copy_at newest seat.slot ≡ Some copy) × (seat_of seat.slot copy ≡ seat)
-  seat_is place seat at =
-      let there : slice_get (group_as newest made.found).seats place ≡ Some seat = ap (λ (one : GroupValue). slice_get one.seats place) made.is_group ∙ at in
-      let from = filter_map_get (seat_at newest) made.found.seats place seat there in
-      let has = map_some (seat_of from.1) (copy_at newest from.1) seat from.3 in
-      let slot_is : from.1 ≡ seat.slot = ap (λ (one : Seat). one.slot) has.2 in
-      (has.0, subst (λ (n : ℕ). copy_at newest n ≡ Some has.0) slot_is has.1, subst (λ (n : ℕ). seat_of n has.0 ≡ seat) slot_is has.2)
-
   module _ (k : ℕ) (disk : Seated) (at : slice_get (seated found) k ≡ Some disk) where
     -- The copy of a seat's disk stands for its slot.
     pub disk_copy : copy_at found.newest disk.seat.slot ≡ Some disk.copy
     disk_copy =
-        let own = seated_is found k disk at in
-        ap (λ (one : Option (Option Newest)). option_and_then (λ n. option_and_then standing_copy n) one) own.is_found ∙ own.stands
+        claims.disk_copy group state left newest taken.every_slot refl past taken.admitted.same_slots kept_held taken.admitted.may_read taken.admitted.member named
+        found taken.is_found taken.same_group k disk at
 
     pub old_is : old disk.seat.slot ≡ disk.copy
     old_is = ap (λ (one : Option DiskCopy). unwrap_or one no_change.old) disk_copy
@@ -155,19 +146,20 @@ module _ (group : List ℕ) {D : Type 0} (past : Past (groups group)) (state : B
     -- Its slot is claimed, by this copy.
     pub disk_claimed : IsClaimed (groups group) (seen (is_read left) held) disk.seat.slot (view_of disk.copy)
     disk_claimed =
-        let own = seated_is found k disk at in
-        claims.seats_claimed group state left newest taken.every_slot refl past taken.admitted.same_slots kept_held taken.admitted.may_read taken.admitted.member named
-        found taken.is_found taken.same_group own.place disk.seat disk.copy own.is_seat
-        (subst (λ (all : List (Option Newest)). copy_at all disk.seat.slot ≡ Some disk.copy) newest_is disk_copy)
+        claims.disk_claimed group state left newest taken.every_slot refl past taken.admitted.same_slots kept_held taken.admitted.may_read taken.admitted.member named
+        found taken.is_found taken.same_group k disk at
 
     -- The copy names the seat's reference.
     pub disk_reference : (view_of disk.copy).reference ≡ disk.seat.reference
-    unfolding view_of
     disk_reference =
-        let own = seated_is found k disk at in
-        let seat = seat_is own.place disk.seat own.is_seat in
-        let same : seat.0 ≡ disk.copy = some_same seat.1 (subst (λ (all : List (Option Newest)). copy_at all disk.seat.slot ≡ Some disk.copy) newest_is disk_copy) in
-        ap (λ (copy : DiskCopy). copy.disk_data.reference) (sym same) ∙ ap (λ (one : Seat). one.reference) seat.2
+        claims.disk_reference group state left newest taken.every_slot refl past taken.admitted.same_slots kept_held taken.admitted.may_read taken.admitted.member named
+        found taken.is_found taken.same_group k disk at
+
+    -- Its disk is a current member.
+    pub disk_member : IsMember found.config disk
+    disk_member =
+        claims.disk_member group state left newest taken.every_slot refl past taken.admitted.same_slots kept_held taken.admitted.may_read taken.admitted.member named
+        found taken.is_found taken.same_group k disk at
 
   -- A seat's disk is among the group's.
   pub record IsSeatOn (slot : ℕ) : Type 0 where

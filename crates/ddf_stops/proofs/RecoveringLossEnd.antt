@@ -1,24 +1,22 @@
 -- The end of the loss of absent members: each member that isn't away has its new copy.
-use Rattle.std.proofs.Common.{◌≡◌, ℕ, ◌+◌, ◌&&◌, ◌||◌, not, Bool, true, false, List, [], ◌∷◌, map, Option, Some, if◌then◌else◌, refl, ap, sym, ◌∙◌, inr, subst}
+use Rattle.std.proofs.Common.{◌≡◌, ℕ, ◌+◌, ◌&&◌, ◌||◌, not, Bool, true, false, List, [], ◌∷◌, map, Option, if◌then◌else◌, refl, ap, sym, ◌∙◌, inr, subst}
 use Rattle.std.proofs.lemmas.Bool.{or_from, or_parts}
-use Rattle.std.specs.Prelude.{filter, slice_get}
+use Rattle.std.specs.Prelude.{slice_get}
 use Rattle.ddf_bay.specs.State.{BayState}
 use Rattle.ddf_config.specs.Configuration.{Configuration}
 use Rattle.ddf_config.specs.Members.{is_current}
 use Rattle.ddf_plan.specs.declared.change.Change.{Change}
 use Rattle.ddf_plan.specs.declared.change.Change.TheVariants.{Lose}
 use Rattle.ddf_view.specs.View.{View, view_of}
-use Rattle.ddf_rewrite.specs.Copies.{changed_copy}
-use Rattle.ddf_rewrite.proofs.Lists.{all_at, map_get}
+use Rattle.ddf_rewrite.proofs.Lists.{map_get}
 use Rattle.ddf_history.specs.Reading.{Scene}
 use Rattle.ddf_history.specs.Issued.{Past, acknowledge, is_away}
 use Rattle.ddf_history.specs.Leaders.{seen}
 use Rattle.ddf_history.specs.Answer.{IsClaimed}
-use Rattle.ddf_history.specs.Groups.{Disk, disk_of, groups, has_current}
+use Rattle.ddf_history.specs.Groups.{disk_of, groups, has_current}
 use Rattle.ddf_history.specs.Scenes.{scene_of}
 use Rattle.ddf_history.specs.Steps.{IsLast}
 use Rattle.ddf_history.proofs.Calls.{seated_where_left_out}
-use Rattle.ddf_history.proofs.Copies.{changed_names}
 use Rattle.ddf_history.proofs.Since.{first_is_copy}
 use Rattle.ddf_history.proofs.Sound.{groups_are_sound}
 use Rattle.ddf_assembly.specs.declared.seated.Seated.{Seated}
@@ -28,18 +26,15 @@ use Rattle.ddf_assembly.specs.Ready.{ReadyStep, ReadyValue}
 use Rattle.ddf_assembly.specs.Recovery.{config_lost, config_recovered, disks_recovered, leading, lost_step, mended_or_kept, some}
 use Rattle.ddf_assembly.specs.Seated.{seated, seats_in, slots_in}
 use Rattle.ddf_assembly.specs.Steps.{disks_after, levelled, rewritten, stays_in}
-use Rattle.ddf_assembly.proofs.CommittedReadied.{filter_get}
-use Rattle.ddf_assembly.proofs.Leaders.{filter_pass}
 use Rattle.ddf_assembly.proofs.RecoveredGroup.{is_recovered}
-use Rattle.ddf_assembly.proofs.Rewritten.{closed_view}
 use Rattle.ddf_stops.specs.Kept.{is_read, is_slot}
 use Rattle.ddf_stops.specs.AtEnd.{IsMember}
 use Rattle.ddf_stops.proofs.Changing.{follows}
-use Rattle.ddf_stops.proofs.ChangingStays.{stays_current}
-use Rattle.ddf_stops.proofs.RecoveringEntry.{IsTaken, assembled, claimed_is_current, claimed_seated, disk_claimed, disk_reference, issued, kept_held, member_claimed, seat_on}
+use Rattle.ddf_stops.proofs.RecoveringEntry.{IsTaken, assembled, claimed_is_current, claimed_seated, disk_claimed, disk_member, disk_reference, issued, kept_held, member_claimed, seat_on}
 use Rattle.ddf_stops.proofs.RecoveringLoss.{listed_current, lost_acknowledged, lost_disks, lost_issued, lost_kept, lost_last, lost_one, lost_past, lost_rises, lost_views, new}
 use Rattle.ddf_stops.proofs.RecoveringPlaces.{passes_written}
 use Rattle.ddf_stops.proofs.RecoveringRun.{IsRun}
+use Rattle.ddf_stops.proofs.StepMembers.{AreMembers, after_members, levelled_member}
 use Rattle.ddf_stops.proofs.TheoryClaimed.{claimed_held}
 use Rattle.ddf_stops.proofs.TheoryLoss.{left_from}
 
@@ -121,39 +116,21 @@ module _ (group : List ℕ) {D : Type 0} (past : Past (groups group)) (state : B
       ∙ slots_same one.0.step.disks
       ∙ sym (ap slots_written one.1)
 
-  disks_are : seated after ≡ map levelled (map (rewritten (leading found) lost timestamp) (filter (stays_in lost) (seated found)))
-  unfolding disks_recovered disks_after
+  disks_are : seated after ≡ map levelled (disks_after timestamp (leading found) lost (seated found))
+  unfolding disks_recovered
   disks_are =
       (is_recovered found changes timestamp ready was).disks_are
       ∙ ap (λ (b : Bool). if b then map levelled (lost_step timestamp found).disks else map (mended_or_kept timestamp found) (seated found)) absent
 
   -- Each seat's disk is a current member then.
-  is_member : (k : ℕ) (disk : Seated) → slice_get (seated found) k ≡ Some disk → stays_in lost disk ≡ true
-      → IsMember lost (levelled (rewritten (leading found) lost timestamp disk))
-  is_member k disk at stays =
-      let names = closed_disk in
-      let claimed = claimed_is_current group past state left named found taken disk.seat.slot (view_of disk.copy)
-      (disk_claimed group past state left named found taken k disk at) in
-      let reference = disk_reference group past state left named found taken k disk at in
-      let current = stays_current found.config (Lose found.absent) lost.sequence (disk_of (view_of disk.copy)) claimed (ap (is_current lost.members) reference ∙ stays) in
-      record {
-        same_reference = sym reference ∙ ap (λ (one : Disk). one.reference) (sym names);
-        is_current = ap (has_current lost) names ∙ current;
-      }
-    where
-      closed_disk : disk_of (view_of (rewritten (leading found) lost timestamp disk).copy) ≡ disk_of (view_of disk.copy)
-      closed_disk = ap disk_of (closed_view (changed_copy disk.copy (leading found) lost timestamp)) ∙ changed_names disk.copy (leading found) lost timestamp
+  written_members : AreMembers lost (disks_after timestamp (leading found) lost (seated found))
+  written_members = after_members timestamp (leading found) found.config (Lose found.absent) (seated found) (disk_member group past state left named found taken)
 
-  are_members : (place : ℕ) (disk : Seated) → slice_get (seated after) place ≡ Some disk → IsMember after.config disk
+  are_members : AreMembers after.config (seated after)
   are_members place disk at =
-      let write = rewritten (leading found) lost timestamp in
-      let stay = filter (stays_in lost) (seated found) in
-      let one = map_get levelled (map write stay) place disk (ap (λ (all : List Seated). slice_get all place) (sym disks_are) ∙ at) in
-      let before = map_get write stay place one.0 one.1 in
-      let from = filter_get (stays_in lost) (seated found) place before.0 before.1 in
-      let stays = all_at (λ (other : Seated). stays_in lost other ≡ true) stay place before.0 (filter_pass (stays_in lost) (seated found)) before.1 in
+      let one = map_get levelled (disks_after timestamp (leading found) lost (seated found)) place disk (ap (λ (all : List Seated). slice_get all place) (sym disks_are) ∙ at) in
       subst (λ (config : Configuration). IsMember config disk) (sym config_is)
-      (subst (IsMember lost) (ap levelled before.2 ∙ one.2) (is_member from.0 before.0 from.1 stays))
+      (subst (IsMember lost) one.2 (levelled_member lost one.0 (written_members place one.0 one.1)))
 
   -- ---- all of it
 

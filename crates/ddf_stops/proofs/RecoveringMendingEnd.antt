@@ -4,47 +4,27 @@ use Rattle.std.specs.Prelude.{slice_get}
 use Rattle.ddf_bay.specs.State.{BayState}
 use Rattle.ddf_config.specs.declared.seat.Seat.{Seat}
 use Rattle.ddf_config.specs.Configuration.{Configuration}
-use Rattle.ddf_copy.specs.declared.copy.DiskCopy.{DiskCopy}
 use Rattle.ddf_plan.specs.declared.change.Change.{Change}
-use Rattle.ddf_view.specs.View.{view_of}
-use Rattle.ddf_view.specs.Shows.{shows}
-use Rattle.ddf_rewrite.specs.Before.{Before}
-use Rattle.ddf_rewrite.specs.Copies.{recovered_copy}
 use Rattle.ddf_rewrite.proofs.Lists.{map_get}
 use Rattle.ddf_history.specs.Issued.{Past, acknowledge, take_off}
-use Rattle.ddf_history.specs.Groups.{Disk, disk_of, groups, has_current}
+use Rattle.ddf_history.specs.Groups.{groups, has_current}
 use Rattle.ddf_history.specs.Steps.{IsLast}
 use Rattle.ddf_history.proofs.Calls.{last_cut}
 use Rattle.ddf_assembly.specs.declared.seated.Seated.{Seated}
 use Rattle.ddf_assembly.specs.Committed.{MayRecover, WasReadied, group_recovered, slots_of}
 use Rattle.ddf_assembly.specs.Group.{GroupValue}
 use Rattle.ddf_assembly.specs.Ready.{ReadyStep, ReadyValue}
-use Rattle.ddf_assembly.specs.Recovery.{config_lost, config_recovered, disks_recovered, lags, leading, lost_step, mended, mended_copy, mended_or_kept, some}
+use Rattle.ddf_assembly.specs.Recovery.{config_lost, config_recovered, disks_recovered, lags, leading, lost_step, mended, mended_or_kept, some}
 use Rattle.ddf_assembly.specs.Seated.{seated, seats_in}
 use Rattle.ddf_assembly.specs.Steps.{levelled}
 use Rattle.ddf_assembly.proofs.RecoveredGroup.{is_recovered}
-use Rattle.ddf_assembly.proofs.Rewritten.{closed_view}
 use Rattle.ddf_stops.specs.Kept.{is_slot}
 use Rattle.ddf_stops.specs.AtEnd.{IsMember}
-use Rattle.ddf_stops.proofs.RecoveringEntry.{IsTaken, claimed_is_current, current_seated, disk_claimed, disk_reference, issued}
+use Rattle.ddf_stops.proofs.RecoveringEntry.{IsTaken, current_seated, disk_member, issued}
 use Rattle.ddf_stops.proofs.RecoveringMending.{mended_begins, mended_ends, mended_goes, mended_views, new, none}
 use Rattle.ddf_stops.proofs.RecoveringRun.{IsRun}
+use Rattle.ddf_stops.proofs.StepMembers.{levelled_member, mended_member}
 use Rattle.ddf_stops.proofs.TheoryLast.{last_acknowledged}
-
--- A recovered copy names the disk that the old one names.
-recovered_names : (said : Before) (config : Configuration) (timestamp : ℕ) (copy : DiskCopy)
-    → disk_of (view_of (recovered_copy copy said config timestamp)) ≡ disk_of (view_of copy)
-unfolding recovered_copy view_of
-recovered_names said config timestamp copy = refl
-
--- So does a mended one.
-mended_names : (said : Before) (config : Configuration) (timestamp : ℕ) (copy : DiskCopy)
-    → disk_of (view_of (mended_copy said config timestamp copy)) ≡ disk_of (view_of copy)
-mended_names said config timestamp copy = by (shows config (view_of copy))
-  where
-    by : (b : Bool) → disk_of (view_of (if b then copy else recovered_copy copy said config timestamp)) ≡ disk_of (view_of copy)
-    by true = refl
-    by false = recovered_names said config timestamp copy
 
 module _ (group : List ℕ) {D : Type 0} (past : Past (groups group)) (state : BayState D) (left : List Bool) (named : Option (List ℕ)) (found : GroupValue)
     (taken : IsTaken group past state left named found) (changes : List Change) (timestamp : ℕ) (ready : ReadyValue) (was : WasReadied found changes timestamp ready)
@@ -85,23 +65,13 @@ module _ (group : List ℕ) {D : Type 0} (past : Past (groups group)) (state : B
   is_member : (k : ℕ) (disk : Seated) → slice_get (seated found) k ≡ Some disk → IsMember found.config (mended_or_kept timestamp found disk)
   is_member k disk at = by (lags found disk)
     where
-      current : has_current found.config (disk_of (view_of disk.copy)) ≡ true
-      current =
-          claimed_is_current group past state left named found taken disk.seat.slot (view_of disk.copy)
-          (disk_claimed group past state left named found taken k disk at)
-
-      reference : (view_of disk.copy).reference ≡ disk.seat.reference
-      reference = disk_reference group past state left named found taken k disk at
-
-      names : disk_of (view_of (mended (leading found) found.config timestamp disk).copy) ≡ disk_of (view_of disk.copy)
-      names = ap disk_of (closed_view (mended_copy (leading found) found.config timestamp disk.copy)) ∙ mended_names (leading found) found.config timestamp disk.copy
+      is : IsMember found.config disk
+      is = disk_member group past state left named found taken k disk at
 
       by : (b : Bool) → IsMember found.config (if b then levelled (mended (leading found) found.config timestamp disk) else disk)
-      by true = record {
-        same_reference = sym reference ∙ ap (λ (one : Disk). one.reference) (sym names);
-        is_current = ap (has_current found.config) names ∙ current;
-      }
-      by false = record { same_reference = sym reference; is_current = current }
+      by true =
+          levelled_member found.config (mended (leading found) found.config timestamp disk) (mended_member (leading found) found.config timestamp disk is)
+      by false = is
 
   are_members : (place : ℕ) (disk : Seated) → slice_get (seated after) place ≡ Some disk → IsMember after.config disk
   are_members place disk at =

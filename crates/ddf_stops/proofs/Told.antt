@@ -203,3 +203,12 @@ named_same newest named g is = go (chosen (map shown_of newest) named) refl is
         ap (λ (name : List ℕ). group_of newest (Some name)) own
         ∙ ap (λ (b : Bool). group_or_fault newest (assembled_group (map shown_of newest) (if b then Ok group else Err faults.NoGroup))) shows
         ∙ same
+
+-- One that was named has the name.
+pub found_name : (newest : List (Option Newest)) (name : List ℕ) (g : GroupValue) → group_of newest (Some name) ≡ Ok g → g.config.group ≡ name
+unfolding group_of assembled chosen
+found_name newest name g is = by (is_shown (map shown_of newest) name) is
+  where
+    by : (shown : Bool) → group_or_fault newest (assembled_group (map shown_of newest) (if shown then Ok name else Err faults.NoGroup)) ≡ Ok g → g.config.group ≡ name
+    by true same = group_named newest (map shown_of newest) name g (contradiction (map shown_of newest) name) same
+    by false same = absurd cc

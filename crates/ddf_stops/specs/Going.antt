@@ -59,6 +59,14 @@ module _ (group : List ℕ) where
   Ends past readable found changes true now = IsOver past readable found changes now
   Ends past readable found changes false now = Goes past readable found changes now
 
+  -- The slots stay: the disk in each, and which of them have returned. None is lost that the call reads.
+  pub record KeepsSlots (past now : Past (groups group)) (readable : ℕ → Bool) : Type 0 where
+    pub same_slots : now.slots ≡ past.slots
+    pub same_disks : now.disk ≡ past.disk
+    pub same_returned : now.returned ≡ past.returned
+    pub same_own : now.changes.own_from ≡ past.changes.own_from
+    pub not_lost : (slot : ℕ) → readable slot ≡ true → now.lost slot ≡ past.lost slot
+
   -- ---- what a call asks of a history, and what it promises
 
   -- A history admits a call that takes its group and leaves these slots out. A current member is among the slots that it reads. In a group

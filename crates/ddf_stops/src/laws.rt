@@ -1,6 +1,8 @@
 // Laws of calls in a history: functions that do nothing, whose contracts are the laws.
-ghost use Rattle.std.specs.Prelude.{◌≡◌, ◌⊎◌, ℕ, Bool, false, true, List, map, Option, None, Some, Err, length};
+ghost use Rattle.std.specs.Prelude.{◌≡◌, ◌⊎◌, ◌+◌, ◌∷◌, ℕ, Bool, false, true, List, map, Option, None, Some, Err, Ok, length, slice_get};
 ghost use Rattle.std.specs.Str.{bytes_eq};
+ghost use Rattle.ddf_config.specs.Configuration.{Configuration};
+ghost use Rattle.ddf_copy.specs.declared.newest_copy.Newest.{Newest};
 ghost use Rattle.ddf_plan.specs.declared.change.Change.{Change};
 ghost use Rattle.ddf_group.specs.Choice.{is_absorbed};
 ghost use Rattle.ddf_group.specs.Shown.{shown_of};
@@ -14,7 +16,7 @@ ghost use Rattle.ddf_history.specs.Groups.{groups};
 ghost use Rattle.ddf_history.specs.Issued.{Past};
 ghost use Rattle.ddf_history.specs.Promise.{IsKept};
 ghost use Rattle.ddf_history.specs.Scenes.{scene_of};
-ghost use Rattle.ddf_stops.specs.Going.{IsAdmitted, IsOver, KeepsHistory};
+ghost use Rattle.ddf_stops.specs.Going.{Ends, IsAdmitted, IsOver, KeepsHistory, KeepsSlots};
 ghost use Rattle.ddf_stops.specs.Kept.{AreAllKept, is_read, told_answer};
 ghost use Rattle.ddf_stops.specs.Steps.{IsCommit, IsRecovery, KeepsStep, StandsReady, WasTaken, behind_next, behind_recovery, recovery_changes};
 
@@ -66,4 +68,24 @@ pub fn a_commit_keeps_its_history<B: Bay>()
     ensures stands { (group : List ℕ) (past : Past (groups group)) (old new : B) (found : GroupValue) (ready : ReadyValue)
         → StandsReady group past (B.disks old) found ready → IsCommit (B.disks old) (B.disks new) ready true → (B.disks new).tells_left
         → StandsReady group (behind_next group past ready) (B.disks new) (group_next found ready) (left_behind ready) }
+{}
+
+/// However far a call on a group came, the slots of its history stay as they were, and none is lost that it read.
+pub fn a_call_keeps_the_slots()
+    ensures { (group : List ℕ) (past now : Past (groups group)) (readable : ℕ → Bool) (found : GroupValue) (changes : List Configuration) (done : Bool)
+        → Ends group past readable found changes done now → KeepsSlots group past now readable }
+{}
+
+/// Behind a call on a group that was done the last of the changes that it issued is the last acknowledged one, or where there is none what it
+/// found, and none is issued behind it.
+pub fn a_call_that_was_done_ends_with_its_last_change()
+    ensures last { (group : List ℕ) (past now : Past (groups group)) (readable : ℕ → Bool) (found : GroupValue) (changes : List Configuration)
+        → IsOver group past readable found changes now → slice_get now.changes.issued now.changes.acked ≡ slice_get (found.config ∷ changes) (length changes) }
+    ensures none_behind { (group : List ℕ) (past now : Past (groups group)) (readable : ℕ → Bool) (found : GroupValue) (changes : List Configuration)
+        → IsOver group past readable found changes now → length now.changes.issued ≡ now.changes.acked + 1 }
+{}
+
+/// A group that is found by a name has it.
+pub fn a_named_group_is_the_one_that_is_found()
+    ensures { (newest : List (Option Newest)) (name : List ℕ) (found : GroupValue) → group_of newest (Some name) ≡ Ok found → found.config.group ≡ name }
 {}

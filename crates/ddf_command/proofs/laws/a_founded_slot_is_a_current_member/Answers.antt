@@ -1,9 +1,15 @@
+use Rattle.std.proofs.Common.{true}
 use Rattle.ddf_command.specs.Label.{label_slots}
 use Rattle.ddf_command.proofs.Chosen.{chosen_once}
-use Rattle.ddf_command.proofs.FoundedMember.{founded_member}
+use Rattle.ddf_command.proofs.FoundedMember.{founded_listed, founded_member}
 use Rattle.ddf_command.proofs.laws.a_founded_slot_is_a_current_member.Goals as goal
 
-pub returns : goal.returns
-returns g c = λ stamp named old bay founded are_founded past is_new readable slot here read.
+pub returns-clause-member : goal.returns-clause-member
+returns-clause-member g c = λ stamp named old bay founded are_founded past is_new readable slot here read.
     let sizes = (g.B.Bay.disks old).sizes in
     founded_member stamp sizes (label_slots sizes named) (chosen_once sizes named) (g.B.Bay.disks bay).held founded are_founded past is_new readable slot here read
+
+pub returns-clause-listed : goal.returns-clause-listed
+returns-clause-listed g c = λ stamp named old bay founded are_founded past is_new slot here.
+    let sizes = (g.B.Bay.disks old).sizes in
+    founded_listed stamp sizes (label_slots sizes named) (chosen_once sizes named) (g.B.Bay.disks bay).held founded are_founded past is_new (λ slot. true) slot here
