@@ -5,8 +5,10 @@ use Rattle.std.proofs.lemmas.Option.{slice_get_within}
 use Rattle.std.specs.Prelude.{slice_index}
 use Rattle.ddf_bytes.specs.declared.stamp.Stamp.{Stamp}
 use Rattle.ddf_bay.specs.Sectors.{Image}
+use Rattle.ddf_bay.specs.State.{BayState}
+use Rattle.ddf_copy.specs.declared.copy.DiskCopy.{DiskCopy}
 use Rattle.ddf_copy.specs.Headers.{anchor_header}
-use Rattle.ddf_update.specs.Group.{AreSlots, slot_sizes}
+use Rattle.ddf_update.specs.Group.{AreSlots, HaveFirstCopies, slot_sizes}
 use Rattle.ddf_update.specs.NewCopies.{group_of, new_copy}
 use Rattle.ddf_view.specs.View.{View}
 use Rattle.ddf_history.specs.Answer.{HasMember}
@@ -19,7 +21,8 @@ use Rattle.ddf_stops.specs.Founding.{AreFounded, IsNewGroup, founding_config}
 use Rattle.ddf_stops.proofs.Founding.{view_at, view_is_member, view_shows, view_stands}
 use Rattle.ddf_stops.proofs.FoundingRows.{new_view}
 use Rattle.ddf_stops.proofs.ShownCopies.{both_show}
-use Rattle.ddf_stops.proofs.Slots.{slot_placed}
+use Rattle.ddf_stops.specs.Kept.{is_slot}
+use Rattle.ddf_stops.proofs.Slots.{slot_is, slot_placed}
 use Rattle.ddf_stops.proofs.Stops.{scene_at}
 
 module _ (stamp : Stamp) (sizes slots : List ℕ) (are : AreSlots sizes slots) (image : Image) (founded : ℕ → Bool) (are_founded : AreFounded sizes slots (new_copy stamp (slot_sizes sizes slots)) image founded)
@@ -56,3 +59,12 @@ module _ (stamp : Stamp) (sizes slots : List ℕ) (are : AreSlots sizes slots) (
       ap (has_current (founding_config (new_copy stamp (slot_sizes sizes slots))))
       (is_new.names place.0 slot place.1 here ∙ ap disk_of (new_view stamp (slot_sizes sizes slots) place.0))
       ∙ view_is_member stamp (slot_sizes sizes slots) place.0 within
+
+-- Where all slots have their copies, all are founded.
+pub all_founded : {D : Type 0} (old new : BayState D) (slots : List ℕ) (copy : ℕ → DiskCopy) → HaveFirstCopies old new slots copy (length slots)
+    → AreFounded old.sizes slots copy new.held (is_slot slots)
+all_founded old new slots copy have = record {
+  are_among = λ slot here. here;
+  have_copies = λ place slot at here. have.are_both place slot (slice_get_within slots place slot at) at;
+  no_others = λ place slot at both. slot_is slots place slot at;
+}

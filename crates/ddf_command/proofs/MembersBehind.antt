@@ -152,7 +152,7 @@ module _ {B : Type 0} {tells : Type 0} (told : tells) (disks : B → BayState B)
       subst (IsOver group old.past readable ended.found issued) (sym end.is_past)
       (subst (λ (b : Bool). Ends group old.past readable ended.found issued b ends.0) done ends.1)
 
-  slots : KeepsSlots group old.past new.past readable
+  slots : KeepsSlots group old.past new.past readable ended.found
   slots = ends_slots group old.past readable ended.found issued true new.past over
 
   same_disk : (slot : ℕ) → new.past.disk slot ≡ old.past.disk slot
@@ -196,11 +196,11 @@ module _ {B : Type 0} {tells : Type 0} (told : tells) (disks : B → BayState B)
         let current = step_current told disks group old ended slot on in
         read_member slot current.0 on.step.config (last_is on.number on.step on.is_step last) current.1 is
 
-    -- and one of a seat where there was no step.
-    pub seated_member : (place : ℕ) (disk : Seated) → slice_get (seated ended.found) place ≡ Some disk → ended.steps ≡ [] → reads disk.seat.slot ≡ true → HasMember new.past scene reads
+    -- and one of a seat where it issued no change.
+    pub seated_member : (place : ℕ) (disk : Seated) → slice_get (seated ended.found) place ≡ Some disk → issued ≡ [] → reads disk.seat.slot ≡ true → HasMember new.past scene reads
     seated_member place disk there none is =
         let current = seat_current told disks group old ended place disk there in
         let last : slice_get new.past.changes.issued new.past.changes.acked ≡ Some ended.found.config =
         over_last group old.past readable ended.found issued new.past over
-        ∙ ap (λ (steps : List Step). slice_get (ended.found.config ∷ changes_in ended.found steps) (length (changes_in ended.found steps))) none in
+        ∙ ap (λ (changes : List Configuration). slice_get (ended.found.config ∷ changes) (length changes)) none in
         read_member disk.seat.slot current.0 ended.found.config last current.1 is

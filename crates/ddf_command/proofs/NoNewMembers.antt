@@ -1,5 +1,5 @@
 -- A change of a group makes no disk a current member that wasn't one since the last acknowledged configuration, and keeps missing what was missing.
-use Rattle.std.proofs.Common.{◌≡◌, ◌⊎◌, ℕ, suc, ◌+◌, ◌≤◌, ◌==◌, not, Bool, true, false, List, [], ◌∷◌, length, filter, take, Option, Some, None, Ok, if◌then◌else◌, ap, sym, subst, inl, inr, ⊎_elim, arith}
+use Rattle.std.proofs.Common.{◌≡◌, ◌⊎◌, ℕ, suc, ◌+◌, ◌≤◌, ◌==◌, not, Bool, true, false, List, [], ◌∷◌, length, filter, take, Option, Some, None, Ok, if◌then◌else◌, refl, ap, sym, subst, inl, inr, ⊎_elim, arith}
 use Rattle.std.specs.Prelude.{slice_get}
 use Rattle.ddf_config.specs.Configuration.{Configuration}
 use Rattle.ddf_plan.specs.declared.change.Change.{Change}
@@ -70,12 +70,13 @@ module _ (found : GroupValue) (timestamp : ℕ) where
 -- ---- the history
 
 module _ (group : List ℕ) where
-  -- The configuration is made of one since the last acknowledged one.
-  record HadMembers (past : Past (groups group)) (config : Configuration) : Type 0 where
+  -- The configuration is made of one since the last acknowledged one: it is that one, or one of these changes.
+  record HadMembers (past : Past (groups group)) (changes : List Configuration) (config : Configuration) : Type 0 where
     number : ℕ
     earlier : Configuration
     since : IsSince past.changes number earlier
     within : IsFrom earlier config
+    origin : (earlier ≡ config) ⊎ ((i : ℕ) × (slice_get changes i ≡ Some config))
 
   -- An issued change is an earlier one, or one of these.
   issued_one : (past : Past (groups group)) (changes : List Configuration) (n : ℕ) (config : Configuration) → slice_get (issue_all group past changes).changes.issued n ≡ Some config
@@ -101,7 +102,7 @@ module _ (group : List ℕ) where
     module _ (number : ℕ) (since : IsSince past.changes number found.config) (changes : List Configuration)
         (within : (i : ℕ) (config : Configuration) → slice_get changes i ≡ Some config → IsFrom found.config config) where
       had_members : (acked n : ℕ) (config : Configuration) → (acked ≡ past.changes.acked) ⊎ (number ≤ acked) → acked ≤ n
-          → slice_get (issue_all group (begun group past readable found number) changes).changes.issued n ≡ Some config → HadMembers past config
+          → slice_get (issue_all group (begun group past readable found number) changes).changes.issued n ≡ Some config → HadMembers past changes config
       had_members acked n config stands late at = elim (issued_one (begun group past readable found number) changes n config at) [
         | inl older ↦
             let from = since.late in
@@ -110,39 +111,53 @@ module _ (group : List ℕ) where
               earlier = config;
               since = record { late = ⊎_elim (λ same. omega (arith, same, late)) (λ far. omega (arith, far, from, late)) stands; is_there = begun_one number n config older };
               within = as_it_is config;
+              origin = inl refl;
             }
-        | inr new ↦ record { number = number; earlier = found.config; since = since; within = within new.0 config new.1 }
+        | inr new ↦ record { number = number; earlier = found.config; since = since; within = within new.0 config new.1; origin = inr new }
       ]
 
     module _ (changes : List Configuration) (within : (i : ℕ) (config : Configuration) → slice_get changes i ≡ Some config → IsFrom found.config config) where
-      goes_had : (now : Past (groups group)) → Goes group past readable found changes now → (n : ℕ) (config : Configuration) → IsSince now.changes n config → HadMembers past config
+      goes_had : (now : Past (groups group)) → Goes group past readable found changes now → (n : ℕ) (config : Configuration) → IsSince now.changes n config → HadMembers past changes config
       goes_had now (inl same) n config since =
-          record { number = n; earlier = config; since = subst (λ (one : Past (groups group)). IsSince one.changes n config) same since; within = as_it_is config }
+          record { number = n; earlier = config; since = subst (λ (one : Past (groups group)). IsSince one.changes n config) same since; within = as_it_is config; origin = inl refl }
       goes_had now (inr is) n config since =
           let at = subst (λ (one : Past (groups group)). IsSince one.changes n config) is.is_now since in
-          had_members is.number is.since (take is.issued changes) (λ i one there. within i one (get_taken changes is.issued i one there).0)
-          is.acked n config is.stands at.late at.is_there
+          let was = had_members is.number is.since (take is.issued changes) (λ i one there. within i one (get_taken changes is.issued i one there).0)
+          is.acked n config is.stands at.late at.is_there in
+          record {
+            number = was.number;
+            earlier = was.earlier;
+            since = was.since;
+            within = was.within;
+            origin = ⊎_elim inl (λ new. inr (new.0, (get_taken changes is.issued new.0 config new.1).0)) was.origin;
+          }
 
-      over_had : (now : Past (groups group)) → IsOver group past readable found changes now → (n : ℕ) (config : Configuration) → IsSince now.changes n config → HadMembers past config
+      over_had : (now : Past (groups group)) → IsOver group past readable found changes now → (n : ℕ) (config : Configuration) → IsSince now.changes n config → HadMembers past changes config
       over_had now is n config since =
           let at = subst (λ (one : Past (groups group)). IsSince one.changes n config) is.is_now since in
           had_members is.number is.since changes within (is.number + length changes) n config (inr (omega arith)) at.late at.is_there
 
-  -- the configurations of steps
-  changed_within : (found : GroupValue) (steps : List Step) → AllSteps (λ step. IsFrom found.config step.config) steps → (i : ℕ) (config : Configuration) → slice_get (changes_in found steps) i ≡ Some config
-      → IsFrom found.config config
-  changed_within found steps within i config at =
+  -- A change is one of the steps.
+  changed_step : (found : GroupValue) (steps : List Step) (i : ℕ) (config : Configuration) → slice_get (changes_in found steps) i ≡ Some config
+      → (number : ℕ) × (step : Step) × (slice_get steps number ≡ Some step) × (step.config ≡ config)
+  changed_step found steps i config at =
       let later : Step → Bool = λ step. not (step.config.sequence == found.config.sequence) in
       let one = map_get (λ (step : Step). step.config) (filter later steps) i config at in
       let from = filter_get later steps i one.0 one.1 in
-      subst (IsFrom found.config) one.2 (within from.0 one.0 from.1)
+      (from.0, one.0, from.1, one.2)
+
+  changed_within : (found : GroupValue) (steps : List Step) → AllSteps (λ step. IsFrom found.config step.config) steps → (i : ℕ) (config : Configuration) → slice_get (changes_in found steps) i ≡ Some config
+      → IsFrom found.config config
+  changed_within found steps within i config at =
+      let from = changed_step found steps i config at in
+      subst (IsFrom found.config) from.3 (within from.0 from.1 from.2)
 
   -- ---- slots that are aside
 
   -- Where each configuration since the last acknowledged one had its members, a slot that was aside is so.
-  stays_aside : (past now : Past (groups group)) → now.disk ≡ past.disk → ((n : ℕ) (config : Configuration) → IsSince now.changes n config → HadMembers past config)
+  stays_aside : (past now : Past (groups group)) (changes : List Configuration) → now.disk ≡ past.disk → ((n : ℕ) (config : Configuration) → IsSince now.changes n config → HadMembers past changes config)
       → (slot : ℕ) (shown : Shown View) → IsAside past slot shown → IsAside now slot shown
-  stays_aside past now disks had slot shown aside = record {
+  stays_aside past now changes disks had slot shown aside = record {
     no_member = λ n config since current.
         let was = had n config since in
         aside.no_member was.number was.earlier was.since (was.within.no_more (past.disk slot) (subst (λ (disk : ℕ → Disk). has_current config (disk slot) ≡ true) disks current));
@@ -155,12 +170,12 @@ module _ (group : List ℕ) where
     abbrev within : (i : ℕ) (config : Configuration) → slice_get (changes_in found steps) i ≡ Some config → IsFrom found.config config
     within = changed_within found steps (steps_from_found found timestamp asked steps are)
 
-    had : (done : Bool) → Ends group past readable found (changes_in found steps) done now → (n : ℕ) (config : Configuration) → IsSince now.changes n config → HadMembers past config
+    had : (done : Bool) → Ends group past readable found (changes_in found steps) done now → (n : ℕ) (config : Configuration) → IsSince now.changes n config → HadMembers past (changes_in found steps) config
     had true over = over_had past readable found (changes_in found steps) within now over
     had false goes = goes_had past readable found (changes_in found steps) within now goes
 
     pub still_aside : (done : Bool) → Ends group past readable found (changes_in found steps) done now → (slot : ℕ) (shown : Shown View) → IsAside past slot shown → IsAside now slot shown
-    still_aside done ends = stays_aside past now (ends_slots group past readable found (changes_in found steps) done now ends).same_disks (had done ends)
+    still_aside done ends = stays_aside past now (changes_in found steps) (ends_slots group past readable found (changes_in found steps) done now ends).same_disks (had done ends)
 
     -- A disk that was no current member is none, and one that was missing is so.
     pub still_none : (done : Bool) → Ends group past readable found (changes_in found steps) done now
@@ -172,3 +187,17 @@ module _ (group : List ℕ) where
         → (disk : Disk) → ((n : ℕ) (config : Configuration) → IsSince past.changes n config → has_missing config disk ≡ true)
         → (n : ℕ) (config : Configuration) → IsSince now.changes n config → has_missing config disk ≡ true
     still_missing done ends disk missing n config since = let was = had done ends n config since in was.within.stays_missing disk (missing was.number was.earlier was.since)
+
+    -- A disk that was a current member is one where the steps keep it.
+    pub still_current : (done : Bool) → Ends group past readable found (changes_in found steps) done now
+        → (disk : Disk) → ((n : ℕ) (config : Configuration) → IsSince past.changes n config → has_current config disk ≡ true)
+        → ((number : ℕ) (step : Step) → slice_get steps number ≡ Some step → has_current step.config disk ≡ true)
+        → (n : ℕ) (config : Configuration) → IsSince now.changes n config → has_current config disk ≡ true
+    still_current done ends disk was_current keep n config since =
+        let was = had done ends n config since in
+        elim was.origin [
+          | inl same ↦ subst (λ (one : Configuration). has_current one disk ≡ true) same (was_current was.number was.earlier was.since)
+          | inr new ↦
+              let from = changed_step found steps new.0 config new.1 in
+              subst (λ (one : Configuration). has_current one disk ≡ true) from.3 (keep from.0 from.1 from.2)
+        ]

@@ -102,22 +102,24 @@ pub fn a_label_cut_short_begins_a_history<B: Bay>()
         → Gives (B.disks cut) left (group_of stamp) (founding_config (label_copy stamp (B.disks old).sizes named)) }
 {}
 
-/// A slot that a `label` founded is a current member at the beginning of the history, as it is asked that one is read: its disk is one of the
-/// founding configuration.
+/// A slot that a `label` founded is a current member at the beginning of the history, as it is asked that one is read, since its disk is a
+/// current member of the founding configuration. Where the label was done all of its slots are founded.
 pub fn a_founded_slot_is_a_current_member<B: Bay>()
     ensures member { (stamp : Stamp) (named : List ℕ) (old bay : B) (founded : ℕ → Bool) → AreLabelled (B.disks old) stamp named (B.disks bay).held founded
         → (past : Past (groups (group_of stamp)))
         → IsNewGroup (group_of stamp) past (B.disks old).sizes (label_slots (B.disks old).sizes named) (label_copy stamp (B.disks old).sizes named) founded
         → (readable : ℕ → Bool) (slot : ℕ) → founded slot ≡ true → readable slot ≡ true
         → HasMember past (scene_of (B.disks old).sizes (B.disks bay).held) readable }
+    ensures done { (told : B.tells) (stamp : Stamp) (named : List ℕ) (old new : B) → IsTried (work_of B.tells (B.disks old) (B.disks new)) stamp named (Ok tt)
+        → AreLabelled (B.disks old) stamp named (B.disks new).held (is_slot (label_slots (B.disks old).sizes named)) }
     ensures listed { (stamp : Stamp) (named : List ℕ) (old bay : B) (founded : ℕ → Bool) → AreLabelled (B.disks old) stamp named (B.disks bay).held founded
         → (past : Past (groups (group_of stamp)))
         → IsNewGroup (group_of stamp) past (B.disks old).sizes (label_slots (B.disks old).sizes named) (label_copy stamp (B.disks old).sizes named) founded
         → (slot : ℕ) → founded slot ≡ true → has_current (founding_config (label_copy stamp (B.disks old).sizes named)) (past.disk slot) ≡ true }
 {}
 
-/// Each seat of the group that a call found was read, and its disk is a current member of the configuration that it found. Each disk that its
-/// steps are written to is one of theirs.
+/// Each seat of the group that a call found was read, and its disk is a current member of the configuration that it found. So was each slot
+/// that a step is written to, and its disk is a current member of that step's configuration.
 pub fn a_calls_disks_are_current_members<B: Bay>()
     ensures seats { (told : B.tells) (group : List ℕ) (old : Moment (groups group) B) (call : GroupCall told B.disks group old)
         → (place : ℕ) (disk : Seated) → slice_get (seated call.found) place ≡ Some disk
@@ -127,14 +129,14 @@ pub fn a_calls_disks_are_current_members<B: Bay>()
 {}
 
 /// Behind a call that was done each disk that its last step was written to is a current member, as a history asks that one is read: in a group
-/// from elsewhere once a change of this engine is acknowledged. Where it had no step each of its seats is one.
+/// from elsewhere once a change of this engine is acknowledged. Where it issued no change each of its seats is one.
 pub fn a_call_that_was_done_leaves_current_members<B: Bay>()
     ensures written { (told : B.tells) (group : List ℕ) (old new : Moment (groups group) B) (end : IsEnd told B.disks group old new) → is_done end.call.outcome ≡ true
         → new.past.changes.own_from ≤ new.past.changes.acked → (scene : Scene View) → Leaves told B.disks group new.bay scene → (readable : ℕ → Bool)
         → (slot : ℕ) (on : IsWrittenOn end.call.steps slot) → on.number + 1 ≡ length end.call.steps → readable slot ≡ true → HasMember new.past scene readable }
     ensures seated { (told : B.tells) (group : List ℕ) (old new : Moment (groups group) B) (end : IsEnd told B.disks group old new) → is_done end.call.outcome ≡ true
         → new.past.changes.own_from ≤ new.past.changes.acked → (scene : Scene View) → Leaves told B.disks group new.bay scene → (readable : ℕ → Bool)
-        → (place : ℕ) (disk : Seated) → slice_get (seated end.call.found) place ≡ Some disk → end.call.steps ≡ [] → readable disk.seat.slot ≡ true
+        → (place : ℕ) (disk : Seated) → slice_get (seated end.call.found) place ≡ Some disk → changes_in end.call.found end.call.steps ≡ [] → readable disk.seat.slot ≡ true
         → HasMember new.past scene readable }
 {}
 
@@ -146,8 +148,9 @@ pub fn a_member_that_was_left_out_is_missing<B: Bay>()
 {}
 
 /// However far a call on a group came, a disk that was no current member since the last acknowledged configuration is none, one that was
-/// missing is so, and a slot that was aside of the history is so, while it shows what it showed.
-pub fn a_change_makes_no_disk_a_member()
+/// missing is so, one that was a current member is one where each of the steps has it so, and a slot that was aside of the history is so,
+/// while it shows what it showed.
+pub fn a_calls_changes_keep_members()
     ensures members { (group : List ℕ) (past now : Past (groups group)) (readable : ℕ → Bool) (found : GroupValue) (changes : List Change) (timestamp : ℕ) (steps : List Step)
         → readied found changes timestamp ≡ Ok steps → (done : Bool) → Ends group past readable found (changes_in found steps) done now
         → (disk : Disk) → ((number : ℕ) (config : Configuration) → IsSince past.changes number config → has_current config disk ≡ true → ⊥)
@@ -156,13 +159,19 @@ pub fn a_change_makes_no_disk_a_member()
         → readied found changes timestamp ≡ Ok steps → (done : Bool) → Ends group past readable found (changes_in found steps) done now
         → (disk : Disk) → ((number : ℕ) (config : Configuration) → IsSince past.changes number config → has_missing config disk ≡ true)
         → (number : ℕ) (config : Configuration) → IsSince now.changes number config → has_missing config disk ≡ true }
+    ensures current { (group : List ℕ) (past now : Past (groups group)) (readable : ℕ → Bool) (found : GroupValue) (changes : List Change) (timestamp : ℕ) (steps : List Step)
+        → readied found changes timestamp ≡ Ok steps → (done : Bool) → Ends group past readable found (changes_in found steps) done now
+        → (disk : Disk) → ((number : ℕ) (config : Configuration) → IsSince past.changes number config → has_current config disk ≡ true)
+        → ((place : ℕ) (step : Step) → slice_get steps place ≡ Some step → has_current step.config disk ≡ true)
+        → (number : ℕ) (config : Configuration) → IsSince now.changes number config → has_current config disk ≡ true }
     ensures aside { (group : List ℕ) (past now : Past (groups group)) (readable : ℕ → Bool) (found : GroupValue) (changes : List Change) (timestamp : ℕ) (steps : List Step)
         → readied found changes timestamp ≡ Ok steps → (done : Bool) → Ends group past readable found (changes_in found steps) done now
         → (slot : ℕ) (shown : Shown View) → IsAside past slot shown → IsAside now slot shown }
 {}
 
-/// A `label` doesn't take the group of another history, whether it was done, refused or cut short: where its slots were aside before, whatever
-/// a stop might have left, they stay so. The names of its disks are none that the history counts as members.
+/// A `label` doesn't take the group of another history, whether it was done, refused or cut short: where its own group is another one, the
+/// disks as they read are one of the images that a stop might have left, its slots were aside in each of these, and the names of its disks are
+/// none that the history counts as current members, its slots stay aside.
 pub fn a_label_is_aside_of_other_histories<B: Bay>()
     ensures { (told : B.tells) (group : List ℕ) (old : Moment (groups group) B) (exit : B) (stamp : Stamp) (named : List ℕ)
         → StopsLeave (B.disks old.bay) (B.disks exit) (IsLeftFoundingAll (B.disks old.bay) (label_slots (B.disks old.bay).sizes named) (label_copy stamp (B.disks old.bay).sizes named))

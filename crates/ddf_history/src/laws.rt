@@ -31,9 +31,10 @@ pub fn assembly_answers_a_configuration_since_the_last_acknowledged()
         → IsAnswer (groups group) past.slots (seen readable scene) answer → IsPromised past readable answer }
 {}
 
-/// A member of the last acknowledged configuration that isn't lost is a current member, as it is asked that one is read: once a change of
-/// this engine is acknowledged, and before that too where its slot shows the group with that configuration's sequence number or a later one.
-pub fn a_member_that_is_not_lost_is_a_current_member()
+/// A disk that the last acknowledged configuration lists as a current member, and whose slot isn't lost, is a current member, as it is asked
+/// that one is read: once a change of this engine is acknowledged, and before that too where its slot shows the group with that
+/// configuration's sequence number or a later one.
+pub fn a_listed_member_that_is_not_lost_is_a_current_member()
     ensures own { (group : List ℕ) (past : Past (groups group)) (scene : Scene View) → IsKept past scene → past.changes.own_from ≤ past.changes.acked
         → (slot : ℕ) (config : Configuration) → slice_get past.changes.issued past.changes.acked ≡ Some config → has_current config (past.disk slot) ≡ true
         → past.lost slot ≡ false → (readable : ℕ → Bool) → readable slot ≡ true → HasMember past scene readable }

@@ -28,7 +28,7 @@ use Rattle.ddf_assembly.specs.Group.{GroupValue, group_of, group_or_fault}
 use Rattle.ddf_assembly.specs.Slots.{newest_from}
 use Rattle.ddf_stops.specs.Kept.{is_read, told_answer}
 use Rattle.ddf_stops.proofs.Begun.{group_answered}
-use Rattle.ddf_stops.proofs.Told.{chosen_shows, one_group, scene_told}
+use Rattle.ddf_stops.proofs.Told.{chosen_shows, found_name, one_group, scene_told}
 
 -- A slot that shows a group shows it by its name.
 name_shown : (group : List ℕ) (found : Option (List ℕ)) → option_map_or (bytes_eq group) found false ≡ true → found ≡ Some group
@@ -129,4 +129,11 @@ module _ (group : List ℕ) {D : Type 0} (state : BayState D) (left : List Bool)
     | inl same ↦ inl (subst (λ (answer : Result GroupValue Assembly). IsPromised past (is_read left) (told_answer answer)) (sym (meant_same newest group same))
         (group_answered group state left newest long is past counted kept may member group (bytes_same group)))
     | inr others ↦ inr (others.0, others.1, several_told newest others.0 others.1 others.2)
+  ]
+
+  -- The group that is found is the one whose member was read.
+  pub alone_group : is_absorbed (map shown_of newest) group ≡ false → (found : GroupValue) → group_of newest None ≡ Ok found → found.config.group ≡ group
+  alone_group free found gives = elim (meant (map shown_of newest) group member.slot member_shows free) [
+    | inl same ↦ found_name newest group found (sym (meant_same newest group same) ∙ gives)
+    | inr others ↦ absurd (let both : ◌≡◌ {A = Result GroupValue Assembly} (Ok found) (Err (faults.SeveralGroups others.0 others.1)) = sym gives ∙ several_told newest others.0 others.1 others.2 in cc)
   ]

@@ -1,8 +1,9 @@
 -- What a call makes of a history: where it is done its last change stands last, and the slots stay.
-use Rattle.std.proofs.Common.{◌≡◌, ℕ, zero, suc, ◌+◌, ◌<◌, ◌||◌, Bool, true, false, List, [], ◌∷◌, ◌++◌, length, take, Some, if◌then◌else◌, refl, ap, sym, ◌∙◌, subst, inl, inr, arith}
+use Rattle.std.proofs.Common.{◌≡◌, ◌⊎◌, ℕ, zero, suc, ◌+◌, ◌<◌, not, ◌&&◌, ◌||◌, Bool, true, false, List, [], ◌∷◌, ◌++◌, length, take, Some, if◌then◌else◌, refl, ap, sym, ◌∙◌, subst, inl, inr, arith}
+use Rattle.std.proofs.lemmas.Bool.{and_parts}
 use Rattle.std.specs.Prelude.{slice_get}
 use Rattle.ddf_config.specs.Configuration.{Configuration}
-use Rattle.ddf_history.specs.Groups.{groups}
+use Rattle.ddf_history.specs.Groups.{groups, has_current}
 use Rattle.ddf_history.specs.Issued.{Past, IsSince, acknowledge, issue, leave_out, take_off}
 use Rattle.ddf_history.proofs.Lists.{get_last, get_within, taken_get}
 use Rattle.ddf_assembly.specs.Group.{GroupValue}
@@ -19,6 +20,14 @@ taken_length : {A : Type 0} (n : ℕ) (xs : List A) → n < length xs → length
 taken_length n [] within = absurd (omega (arith, within))
 taken_length zero (x ∷ xs) within = refl
 taken_length (suc n) (x ∷ xs) within = let rest = taken_length n xs (omega (arith, within)) in omega (arith, rest)
+
+or_false : (b : Bool) → (b || false) ≡ b
+or_false true = refl
+or_false false = refl
+
+not_true : (b : Bool) → not b ≡ true → b ≡ false
+not_true true is = absurd cc
+not_true false is = refl
 
 module _ (group : List ℕ) where
   -- The last of changes that are issued one after another stands last, or where there is none what stood so before.
@@ -80,47 +89,61 @@ module _ (group : List ℕ) where
 
     -- ---- the slots
 
-    abbrev Keeps : (before after : Past (groups group)) → Type 0
-    Keeps before after = KeepsSlots group before after readable
+    -- A change that is issued leaves them.
+    record AreSame (before after : Past (groups group)) : Type 0 where
+      same_slots : after.slots ≡ before.slots
+      same_disks : after.disk ≡ before.disk
+      same_returned : after.returned ≡ before.returned
+      same_own : after.changes.own_from ≡ before.changes.own_from
+      same_lost : after.lost ≡ before.lost
 
-    stay : (one : Past (groups group)) → Keeps one one
-    stay one = record { same_slots = refl; same_disks = refl; same_returned = refl; same_own = refl; not_lost = λ slot read. refl }
+    issued_same : (one : Past (groups group)) (changes : List Configuration) → AreSame one (issue_all group one changes)
+    issued_same one [] = record { same_slots = refl; same_disks = refl; same_returned = refl; same_own = refl; same_lost = refl }
+    issued_same one (next ∷ others) =
+        let rest = issued_same (issue one next) others in
+        record { same_slots = rest.same_slots; same_disks = rest.same_disks; same_returned = rest.same_returned; same_own = rest.same_own; same_lost = rest.same_lost }
 
-    keeps_then : (first middle last : Past (groups group)) → Keeps first middle → Keeps middle last → Keeps first last
-    keeps_then first middle last one other = record {
-      same_slots = other.same_slots ∙ one.same_slots;
-      same_disks = other.same_disks ∙ one.same_disks;
-      same_returned = other.same_returned ∙ one.same_returned;
-      same_own = other.same_own ∙ one.same_own;
-      not_lost = λ slot read. other.not_lost slot read ∙ one.not_lost slot read;
-    }
+    abbrev Keeps : (now : Past (groups group)) → Type 0
+    Keeps now = KeepsSlots group past now readable found
 
-    issued_slots : (one : Past (groups group)) (changes : List Configuration) → Keeps one (issue_all group one changes)
-    issued_slots one [] = stay one
-    issued_slots one (next ∷ others) =
-        keeps_then one (issue one next) (issue_all group (issue one next) others)
-        (record { same_slots = refl; same_disks = refl; same_returned = refl; same_own = refl; not_lost = λ slot read. refl })
-        (issued_slots (issue one next) others)
+    -- Where a call begins a slot is lost only where members are absent, and only one that it doesn't read.
+    left_lost : (slot : ℕ) (lost : Bool) → past.lost slot ≡ lost → (lost || not (readable slot) && has_current found.config (past.disk slot)) ≡ true
+        → (past.lost slot ≡ true) ⊎ ((readable slot ≡ false) × (has_current found.config (past.disk slot) ≡ true))
+    left_lost slot true was is = inl was
+    left_lost slot false was is =
+        let parts = and_parts (not (readable slot)) (has_current found.config (past.disk slot)) is in
+        inr (not_true (readable slot) parts.0, parts.1)
 
-    begun_slots : (number : ℕ) → Keeps past (begun group past readable found number)
-    begun_slots number = by (some found.absent)
+    under_slots : (number acked : ℕ) (changes : List Configuration) → Keeps (acknowledge (issue_all group (begun group past readable found number) changes) acked)
+    under_slots number acked changes = by (some found.absent)
       where
-        or_false : (b : Bool) → (b || false) ≡ b
-        or_false true = refl
-        or_false false = refl
-
-        by : (absent : Bool) → Keeps past (if absent then take_off (leave_out past readable found.config) number else take_off past number)
-        by true = record { same_slots = refl; same_disks = refl; same_returned = refl; same_own = refl; not_lost = λ slot read. rw read (or_false (past.lost slot)) }
-        by false = record { same_slots = refl; same_disks = refl; same_returned = refl; same_own = refl; not_lost = λ slot read. refl }
-
-    under_slots : (number acked : ℕ) (changes : List Configuration) → Keeps past (acknowledge (issue_all group (begun group past readable found number) changes) acked)
-    under_slots number acked changes =
-        let all = keeps_then past (begun group past readable found number) (issue_all group (begun group past readable found number) changes) (begun_slots number)
-        (issued_slots (begun group past readable found number) changes) in
-        record { same_slots = all.same_slots; same_disks = all.same_disks; same_returned = all.same_returned; same_own = all.same_own; not_lost = all.not_lost }
+        by : (absent : Bool)
+            → Keeps (acknowledge (issue_all group (if absent then take_off (leave_out past readable found.config) number else take_off past number) changes) acked)
+        by true =
+            let same = issued_same (take_off (leave_out past readable found.config) number) changes in
+            record {
+              same_slots = same.same_slots;
+              same_disks = same.same_disks;
+              same_returned = same.same_returned;
+              same_own = same.same_own;
+              not_lost = λ slot read. ap (λ (lost : ℕ → Bool). lost slot) same.same_lost ∙ rw read (or_false (past.lost slot));
+              lost_one = λ slot lost. left_lost slot (past.lost slot) refl (sym (ap (λ (all : ℕ → Bool). all slot) same.same_lost) ∙ lost);
+            }
+        by false =
+            let same = issued_same (take_off past number) changes in
+            record {
+              same_slots = same.same_slots;
+              same_disks = same.same_disks;
+              same_returned = same.same_returned;
+              same_own = same.same_own;
+              not_lost = λ slot read. ap (λ (lost : ℕ → Bool). lost slot) same.same_lost;
+              lost_one = λ slot lost. inl (sym (ap (λ (all : ℕ → Bool). all slot) same.same_lost) ∙ lost);
+            }
 
     -- They stay, however far the call came.
-    pub ends_slots : (changes : List Configuration) (done : Bool) (now : Past (groups group)) → Ends group past readable found changes done now → KeepsSlots group past now readable
-    ends_slots changes true now over = subst (Keeps past) (sym over.is_now) (under_slots over.number (over.number + length changes) changes)
-    ends_slots changes false now (inl same) = subst (Keeps past) (sym same) (stay past)
-    ends_slots changes false now (inr is) = subst (Keeps past) (sym is.is_now) (under_slots is.number is.acked (take is.issued changes))
+    pub ends_slots : (changes : List Configuration) (done : Bool) (now : Past (groups group)) → Ends group past readable found changes done now → Keeps now
+    ends_slots changes true now over = subst Keeps (sym over.is_now) (under_slots over.number (over.number + length changes) changes)
+    ends_slots changes false now (inl same) =
+        subst Keeps (sym same)
+        (record { same_slots = refl; same_disks = refl; same_returned = refl; same_own = refl; not_lost = λ slot read. refl; lost_one = λ slot lost. inl lost })
+    ends_slots changes false now (inr is) = subst Keeps (sym is.is_now) (under_slots is.number is.acked (take is.issued changes))

@@ -40,6 +40,14 @@ pub fn a_call_is_answered_as_its_history_promises<B: Bay>()
         → is_absorbed (map shown_of (newest_from (B.disks bay) 0 left)) group ≡ false
         → IsPromised past (is_read left) (told_answer (group_of (newest_from (B.disks bay) 0 left) None))
         ⊎ ((first : ℕ) × (second : ℕ) × (group_of (newest_from (B.disks bay) 0 left) None ≡ Err (SeveralGroups first second))) }
+
+    // The group that is found then is this one.
+    ensures found { (group : List ℕ) (bay : B) (left : List Bool) (past : Past (groups group)) → length left ≡ length (B.disks bay).sizes
+        → past.slots ≡ length (B.disks bay).sizes → IsKept past (scene_of (B.disks bay).sizes (B.disks bay).held)
+        → IsReadable past (scene_of (B.disks bay).sizes (B.disks bay).held) (is_read left)
+        → HasMember past (scene_of (B.disks bay).sizes (B.disks bay).held) (is_read left)
+        → is_absorbed (map shown_of (newest_from (B.disks bay) 0 left)) group ≡ false
+        → (found : GroupValue) → group_of (newest_from (B.disks bay) 0 left) None ≡ Ok found → found.config.group ≡ group }
 {}
 
 /// A call of `Group::recover` keeps each history that admits it: whatever a stop leaves, at any moment since the call's entry, shows what it
@@ -70,10 +78,11 @@ pub fn a_commit_keeps_its_history<B: Bay>()
         → StandsReady group (behind_next group past ready) (B.disks new) (group_next found ready) (left_behind ready) }
 {}
 
-/// However far a call on a group came, the slots of its history stay as they were, and none is lost that it read.
+/// However far a call on a group came, the slots of its history stay as they were. None is lost that it read, and of the others a current
+/// member's alone.
 pub fn a_call_keeps_the_slots()
     ensures { (group : List ℕ) (past now : Past (groups group)) (readable : ℕ → Bool) (found : GroupValue) (changes : List Configuration) (done : Bool)
-        → Ends group past readable found changes done now → KeepsSlots group past now readable }
+        → Ends group past readable found changes done now → KeepsSlots group past now readable found }
 {}
 
 /// Behind a call on a group that was done the last of the changes that it issued is the last acknowledged one, or where there is none what it

@@ -1,7 +1,7 @@
 use Rattle.std.proofs.Common.{true}
-use Rattle.ddf_command.specs.Label.{label_slots}
+use Rattle.ddf_command.specs.Label.{label_copy, label_slots}
 use Rattle.ddf_command.proofs.Chosen.{chosen_once}
-use Rattle.ddf_command.proofs.FoundedMember.{founded_listed, founded_member}
+use Rattle.ddf_command.proofs.FoundedMember.{all_founded, founded_listed, founded_member}
 use Rattle.ddf_command.proofs.laws.a_founded_slot_is_a_current_member.Goals as goal
 
 pub returns-clause-member : goal.returns-clause-member
@@ -13,3 +13,8 @@ pub returns-clause-listed : goal.returns-clause-listed
 returns-clause-listed g c = λ stamp named old bay founded are_founded past is_new slot here.
     let sizes = (g.B.Bay.disks old).sizes in
     founded_listed stamp sizes (label_slots sizes named) (chosen_once sizes named) (g.B.Bay.disks bay).held founded are_founded past is_new (λ slot. true) slot here
+
+pub returns-clause-done : goal.returns-clause-done
+returns-clause-done g c = λ told stamp named old new tried.
+    let before = g.B.Bay.disks old in
+    all_founded before (g.B.Bay.disks new) (label_slots before.sizes named) (label_copy stamp before.sizes named) (tried told).1

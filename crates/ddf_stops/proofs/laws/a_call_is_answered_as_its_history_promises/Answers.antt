@@ -1,6 +1,6 @@
 use Rattle.std.proofs.Common.{refl}
 use Rattle.ddf_assembly.specs.Slots.{newest_from}
-use Rattle.ddf_stops.proofs.Alone.{alone_answered}
+use Rattle.ddf_stops.proofs.Alone.{alone_answered, alone_group}
 use Rattle.ddf_stops.proofs.Begun.{group_answered}
 use Rattle.ddf_stops.proofs.laws.a_call_is_answered_as_its_history_promises.Goals as goal
 
@@ -11,3 +11,7 @@ returns-clause-named g c = λ group bay left past long counted kept may member n
 pub returns-clause-alone : goal.returns-clause-alone
 returns-clause-alone g c = λ group bay left past long counted kept may member free.
     alone_answered group (g.B.Bay.disks bay) left (newest_from (g.B.Bay.disks bay) 0 left) long refl past counted kept may member free
+
+pub returns-clause-found : goal.returns-clause-found
+returns-clause-found g c = λ group bay left past long counted kept may member free found gives.
+    alone_group group (g.B.Bay.disks bay) left (newest_from (g.B.Bay.disks bay) 0 left) long refl past counted kept may member free found gives

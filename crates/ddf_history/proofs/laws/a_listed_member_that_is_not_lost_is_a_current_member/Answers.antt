@@ -1,7 +1,7 @@
 use Rattle.ddf_history.specs.Groups.{groups}
 use Rattle.ddf_history.proofs.Sound.{groups_are_sound}
 use Rattle.ddf_history.proofs.Members.{leading_member, own_member}
-use Rattle.ddf_history.proofs.laws.a_member_that_is_not_lost_is_a_current_member.Goals as goal
+use Rattle.ddf_history.proofs.laws.a_listed_member_that_is_not_lost_is_a_current_member.Goals as goal
 
 pub returns-clause-own : goal.returns-clause-own
 returns-clause-own c = λ group past scene kept own slot config last current here readable read.
