@@ -29,13 +29,22 @@ numbered_above first sequence (step ∷ steps) le are =
 abbrev configs : List Step → List Configuration
 configs steps = map (λ (step : Step). step.config) steps
 
--- Where all raise the sequence number each of them is issued.
+-- whether a step raises the sequence number
+abbrev raises : GroupValue → Step → Bool
+raises found step = not (step.config.sequence == found.config.sequence)
+
+-- A step that does issues its configuration.
+first_issued : (found : GroupValue) (step : Step) (others : List Step) (same : Bool) → (step.config.sequence == found.config.sequence) ≡ same
+    → changes_in found (step ∷ others) ≡ (if same then changes_in found others else step.config ∷ changes_in found others)
+first_issued found step others true is = ap (λ (same : Bool). configs (cond (not same) (step ∷ filter (raises found) others) (filter (raises found) others))) is
+first_issued found step others false is = ap (λ (same : Bool). configs (cond (not same) (step ∷ filter (raises found) others) (filter (raises found) others))) is
+
+-- Where all do each of them is issued.
 above_issued : (found : GroupValue) (steps : List Step) → AreAbove found.config.sequence steps → changes_in found steps ≡ configs steps
 above_issued found [] above = refl
 above_issued found (step ∷ steps) above =
     let more = above.0 in
-    let differ : (step.config.sequence == found.config.sequence) ≡ false = ne_eqb step.config.sequence found.config.sequence (λ same. omega (arith, more, same)) in
-    ap (λ (same : Bool). configs (cond (not same) (step ∷ filter (λ (one : Step). not (one.config.sequence == found.config.sequence)) steps) (filter (λ (one : Step). not (one.config.sequence == found.config.sequence)) steps))) differ
+    first_issued found step steps false (ne_eqb step.config.sequence found.config.sequence (λ same. omega (arith, more, same)))
     ∙ ap (λ (others : List Configuration). step.config ∷ others) (above_issued found steps above.1)
 
 -- The last step's configuration is the last of theirs.
@@ -99,9 +108,7 @@ module _ (found : GroupValue) (changes : List Change) (timestamp : ℕ) (steps :
     where_mended same =
         let first = mending_step timestamp found in
         let none : changes_in found (first ∷ others) ≡ configs others =
-        ap (λ (b : Bool). configs (cond (not b) (first ∷ filter (λ (one : Step). not (one.config.sequence == found.config.sequence)) others) (filter (λ (one : Step). not (one.config.sequence == found.config.sequence)) others)))
-        (eq-eqb found.config.sequence found.config.sequence refl)
-        ∙ above_issued found others others_above in
+        first_issued found first others true (eq-eqb found.config.sequence found.config.sequence refl) ∙ above_issued found others others_above in
         let there = get_map (λ (one : Step). one.config) (first ∷ others) number step (subst (λ (list : List Step). slice_get list number ≡ Some step) same at) in
         let long : number ≡ length (configs others) = let all = last ∙ ap (λ (list : List Step). length list) same in let mapped = length-map others (λ (one : Step). one.config) in omega (arith, all, mapped) in
         subst IsLastOf (sym same)
