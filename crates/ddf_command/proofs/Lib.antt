@@ -32,7 +32,7 @@ mod AnotherGroup
 mod Cut
 mod FoundedMember
 mod LabelAside
-mod NoNewMembers
+mod MembersKept
 mod LastStep
 mod StepsMembers
 mod MembersBehind

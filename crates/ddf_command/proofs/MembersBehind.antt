@@ -27,7 +27,8 @@ use Rattle.ddf_assembly.proofs.ReadiedSteps.{behind}
 use Rattle.ddf_stops.specs.Going.{Ends, IsOver, KeepsSlots, changes_in}
 use Rattle.ddf_stops.specs.Kept.{AreAllKept, is_read}
 use Rattle.ddf_stops.proofs.Claimed as claims
-use Rattle.ddf_stops.proofs.LastIssued.{ends_slots, over_last, over_length}
+use Rattle.ddf_stops.proofs.LastIssued.{over_last, over_length}
+use Rattle.ddf_stops.proofs.SlotsKept.{ends_slots}
 use Rattle.ddf_stops.proofs.StepMembers.{AreMembers}
 use Rattle.ddf_command.specs.Change.{is_done}
 use Rattle.ddf_command.specs.History.{GroupCall, IsEnd, Leaves, kept_by}
@@ -35,7 +36,7 @@ use Rattle.ddf_command.specs.Writing.{IsWrittenOn}
 use Rattle.ddf_command.proofs.AllSteps.{AllSteps, readied_all}
 use Rattle.ddf_command.proofs.AnotherGroup.{AreReadied, readied_by}
 use Rattle.ddf_command.proofs.LastStep.{last_change, lost_first, lost_is}
-use Rattle.ddf_command.proofs.NoNewMembers.{change_from}
+use Rattle.ddf_command.proofs.MembersKept.{change_from}
 use Rattle.ddf_command.proofs.StepsCopies.{written_known}
 use Rattle.ddf_command.proofs.StepsMembers.{steps_members}
 

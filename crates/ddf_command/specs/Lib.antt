@@ -19,4 +19,5 @@ pub mod Requests
 pub mod Run
 pub mod History
 pub mod Others
+pub mod Members
 pub mod Cut

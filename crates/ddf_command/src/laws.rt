@@ -11,10 +11,10 @@ ghost use Rattle.ddf_update.specs.NewCopies.{group_of};
 ghost use Rattle.ddf_view.specs.View.{View, view_of};
 ghost use Rattle.ddf_history.specs.Answer.{HasMember};
 ghost use Rattle.ddf_history.specs.Calls.{IsAside};
-ghost use Rattle.ddf_history.specs.Groups.{Disk, disk_of, groups, has_current, has_missing};
+ghost use Rattle.ddf_history.specs.Groups.{disk_of, groups, has_current, has_missing};
 ghost use Rattle.ddf_history.specs.History.{AllKept, Answers, IsHistory, KeepsAcked, Moment};
 ghost use Rattle.ddf_history.specs.Issued.{IsSince, Past};
-ghost use Rattle.ddf_history.specs.Reading.{Each, Scene, Shown};
+ghost use Rattle.ddf_history.specs.Reading.{Each, Scene};
 ghost use Rattle.ddf_history.specs.Scenes.{scene_of};
 ghost use Rattle.ddf_assembly.specs.Committed.{slots_of};
 ghost use Rattle.ddf_assembly.specs.Group.{GroupValue, group_of as group_found};
@@ -30,6 +30,7 @@ ghost use Rattle.ddf_command.specs.Change.{HasChanged, Request, is_done};
 ghost use Rattle.ddf_command.specs.Cut.{AreLabelled, Gives, IsLeftByLabel, IsNewLabel};
 ghost use Rattle.ddf_command.specs.History.{GroupCall, IsCall, IsCut, IsEnd, Leaves, OtherCall};
 ghost use Rattle.ddf_command.specs.Label.{IsTried, label_copy, label_slots};
+ghost use Rattle.ddf_command.specs.Members.{KeepsMembers};
 ghost use Rattle.ddf_command.specs.Others.{LeavesOthers};
 ghost use Rattle.ddf_command.specs.Writing.{IsWrittenOn};
 ghost use Rattle.ddf_command.specs.declared.failure.Failure.{Failure};
@@ -147,26 +148,12 @@ pub fn a_member_that_was_left_out_is_missing<B: Bay>()
         → (number : ℕ) (config : Configuration) → IsSince new.past.changes number config → has_missing config (new.past.disk slot) ≡ true }
 {}
 
-/// However far a call on a group came, a disk that was no current member since the last acknowledged configuration is none, one that was
-/// missing is so, one that was a current member is one where each of the steps has it so, and a slot that was aside of the history is so,
-/// while it shows what it showed.
+/// However far a call on a group came, it makes no disk a current member that was none since the last acknowledged configuration, keeps one
+/// that each of its steps has as one, and keeps missing what was missing.
 pub fn a_calls_changes_keep_members()
-    ensures members { (group : List ℕ) (past now : Past (groups group)) (readable : ℕ → Bool) (found : GroupValue) (changes : List Change) (timestamp : ℕ) (steps : List Step)
+    ensures { (group : List ℕ) (past now : Past (groups group)) (readable : ℕ → Bool) (found : GroupValue) (changes : List Change) (timestamp : ℕ) (steps : List Step)
         → readied found changes timestamp ≡ Ok steps → (done : Bool) → Ends group past readable found (changes_in found steps) done now
-        → (disk : Disk) → ((number : ℕ) (config : Configuration) → IsSince past.changes number config → has_current config disk ≡ true → ⊥)
-        → (number : ℕ) (config : Configuration) → IsSince now.changes number config → has_current config disk ≡ true → ⊥ }
-    ensures missing { (group : List ℕ) (past now : Past (groups group)) (readable : ℕ → Bool) (found : GroupValue) (changes : List Change) (timestamp : ℕ) (steps : List Step)
-        → readied found changes timestamp ≡ Ok steps → (done : Bool) → Ends group past readable found (changes_in found steps) done now
-        → (disk : Disk) → ((number : ℕ) (config : Configuration) → IsSince past.changes number config → has_missing config disk ≡ true)
-        → (number : ℕ) (config : Configuration) → IsSince now.changes number config → has_missing config disk ≡ true }
-    ensures current { (group : List ℕ) (past now : Past (groups group)) (readable : ℕ → Bool) (found : GroupValue) (changes : List Change) (timestamp : ℕ) (steps : List Step)
-        → readied found changes timestamp ≡ Ok steps → (done : Bool) → Ends group past readable found (changes_in found steps) done now
-        → (disk : Disk) → ((number : ℕ) (config : Configuration) → IsSince past.changes number config → has_current config disk ≡ true)
-        → ((place : ℕ) (step : Step) → slice_get steps place ≡ Some step → has_current step.config disk ≡ true)
-        → (number : ℕ) (config : Configuration) → IsSince now.changes number config → has_current config disk ≡ true }
-    ensures aside { (group : List ℕ) (past now : Past (groups group)) (readable : ℕ → Bool) (found : GroupValue) (changes : List Change) (timestamp : ℕ) (steps : List Step)
-        → readied found changes timestamp ≡ Ok steps → (done : Bool) → Ends group past readable found (changes_in found steps) done now
-        → (slot : ℕ) (shown : Shown View) → IsAside past slot shown → IsAside now slot shown }
+        → KeepsMembers group past now steps }
 {}
 
 /// A `label` doesn't take the group of another history, whether it was done, refused or cut short: where its own group is another one, the

@@ -1,6 +1,6 @@
 -- What histories tell of the seats of an assembled group.
-use Rattle.std.proofs.Common.{◌≡◌, ◌⊎◌, ℕ, zero, suc, Bool, true, false, not, ◌&&◌, ◌||◌, eqb, nat_eq, List, [], ◌∷◌, length, map, Option, Some, Ok, if◌then◌else◌, refl, ap, sym, ◌∙◌, inl, inr, arith, subst}
-use Rattle.std.proofs.lemmas.Bool.{and_parts, eq-eqb, eqb-true, false≢true}
+use Rattle.std.proofs.Common.{◌≡◌, ◌⊎◌, ℕ, zero, suc, Bool, true, false, not, ◌&&◌, eqb, nat_eq, List, [], ◌∷◌, length, map, Option, Some, Ok, if◌then◌else◌, refl, ap, sym, ◌∙◌, inl, inr, arith, subst}
+use Rattle.std.proofs.lemmas.Bool.{and_parts, eq-eqb, eqb-true, false≢true, or_left, or_right}
 use Rattle.std.specs.Prelude.{filter, option_map, slice_get}
 use Rattle.std.specs.List.{list_any}
 use Rattle.std.specs.Option.{option_and_then}
@@ -97,13 +97,9 @@ listed_among : (references : List ℕ) (place reference : ℕ) → slice_get ref
 listed_among [] place reference at = absurd cc
 listed_among (one ∷ references) zero reference at =
     let same : one ≡ reference = cc in
-    ap (λ (b : Bool). b || list_any (nat_eq reference) references) (eq-eqb reference one (sym same))
+    or_left (nat_eq reference one) (list_any (nat_eq reference) references) (eq-eqb reference one (sym same))
 listed_among (one ∷ references) (suc place) reference at =
-    ap (λ (b : Bool). nat_eq reference one || b) (listed_among references place reference at) ∙ or_true (nat_eq reference one)
-  where
-    or_true : (b : Bool) → (b || true) ≡ true
-    or_true true = refl
-    or_true false = refl
+    or_right (nat_eq reference one) (list_any (nat_eq reference) references) (listed_among references place reference at)
 
 -- ---- the seats
 

@@ -46,6 +46,7 @@ pub mod CommittingGoes
 pub mod RecoveringKeeps
 pub mod StepMembers
 pub mod LastIssued
+pub mod SlotsKept
 pub mod StepsAsked
 pub mod CommittingKeeps
 pub mod Acked

@@ -1,4 +1,4 @@
-use Rattle.ddf_stops.proofs.LastIssued.{ends_slots}
+use Rattle.ddf_stops.proofs.SlotsKept.{ends_slots}
 use Rattle.ddf_stops.proofs.laws.a_call_keeps_the_slots.Goals as goal
 
 pub returns : goal.returns

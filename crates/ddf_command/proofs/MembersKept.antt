@@ -1,14 +1,11 @@
--- A change of a group makes no disk a current member that wasn't one since the last acknowledged configuration, and keeps missing what was missing.
+-- A call on a group makes no disk a current member that was none since the last acknowledged configuration, and keeps missing what was missing.
 use Rattle.std.proofs.Common.{◌≡◌, ◌⊎◌, ℕ, suc, ◌+◌, ◌≤◌, ◌==◌, not, Bool, true, false, List, [], ◌∷◌, length, filter, take, Option, Some, None, Ok, if◌then◌else◌, refl, ap, sym, subst, inl, inr, ⊎_elim, arith}
 use Rattle.std.specs.Prelude.{slice_get}
 use Rattle.ddf_config.specs.Configuration.{Configuration}
 use Rattle.ddf_plan.specs.declared.change.Change.{Change}
-use Rattle.ddf_view.specs.View.{View}
 use Rattle.ddf_rewrite.proofs.Lists.{map_get}
-use Rattle.ddf_history.specs.Calls.{IsAside}
 use Rattle.ddf_history.specs.Groups.{Disk, groups, has_current, has_missing}
 use Rattle.ddf_history.specs.Issued.{IsSince, Past, issue, leave_out, take_off}
-use Rattle.ddf_history.specs.Reading.{Shown}
 use Rattle.ddf_history.proofs.Following.{changes_follow}
 use Rattle.ddf_history.proofs.Lists.{get_more, get_taken}
 use Rattle.ddf_assembly.specs.Group.{GroupValue}
@@ -16,8 +13,9 @@ use Rattle.ddf_assembly.specs.Ready.{readied}
 use Rattle.ddf_assembly.specs.Recovery.{config_lost, config_recovered, loss, lost_step, mending_step, recovery_of, some}
 use Rattle.ddf_assembly.specs.Steps.{Step, config_after}
 use Rattle.ddf_assembly.proofs.CommittedReadied.{filter_get}
+use Rattle.ddf_command.specs.Members.{KeepsMembers}
 use Rattle.ddf_command.proofs.AllSteps.{AllSteps, readied_all}
-use Rattle.ddf_stops.proofs.LastIssued.{ends_slots}
+use Rattle.ddf_stops.proofs.SlotsKept.{ends_slots}
 use Rattle.ddf_stops.specs.Going.{Ends, Goes, IsOver, begun, changes_in, issue_all}
 
 -- ---- the steps
@@ -152,20 +150,7 @@ module _ (group : List ℕ) where
       let from = changed_step found steps i config at in
       subst (IsFrom found.config) from.3 (within from.0 from.1 from.2)
 
-  -- ---- slots that are aside
-
-  -- Where each configuration since the last acknowledged one had its members, a slot that was aside is so.
-  stays_aside : (past now : Past (groups group)) (changes : List Configuration) → now.disk ≡ past.disk → ((n : ℕ) (config : Configuration) → IsSince now.changes n config → HadMembers past changes config)
-      → (slot : ℕ) (shown : Shown View) → IsAside past slot shown → IsAside now slot shown
-  stays_aside past now changes disks had slot shown aside = record {
-    no_member = λ n config since current.
-        let was = had n config since in
-        aside.no_member was.number was.earlier was.since (was.within.no_more (past.disk slot) (subst (λ (disk : ℕ → Disk). has_current config (disk slot) ≡ true) disks current));
-    shows_none = aside.shows_none;
-    names_none = λ copy n config is since current. let was = had n config since in aside.names_none copy was.number was.earlier is was.since (was.within.no_more _ current);
-  }
-
-  -- So it is behind each call of the group, however far that came.
+  -- So is each behind a call of the group, however far that came.
   module _ (past now : Past (groups group)) (readable : ℕ → Bool) (found : GroupValue) (asked : List Change) (timestamp : ℕ) (steps : List Step) (are : readied found asked timestamp ≡ Ok steps) where
     abbrev within : (i : ℕ) (config : Configuration) → slice_get (changes_in found steps) i ≡ Some config → IsFrom found.config config
     within = changed_within found steps (steps_from_found found timestamp asked steps are)
@@ -174,30 +159,27 @@ module _ (group : List ℕ) where
     had true over = over_had past readable found (changes_in found steps) within now over
     had false goes = goes_had past readable found (changes_in found steps) within now goes
 
-    pub still_aside : (done : Bool) → Ends group past readable found (changes_in found steps) done now → (slot : ℕ) (shown : Shown View) → IsAside past slot shown → IsAside now slot shown
-    still_aside done ends = stays_aside past now (changes_in found steps) (ends_slots group past readable found (changes_in found steps) done now ends).same_disks (had done ends)
-
-    -- A disk that was no current member is none, and one that was missing is so.
-    pub still_none : (done : Bool) → Ends group past readable found (changes_in found steps) done now
-        → (disk : Disk) → ((n : ℕ) (config : Configuration) → IsSince past.changes n config → has_current config disk ≡ true → ⊥)
-        → (n : ℕ) (config : Configuration) → IsSince now.changes n config → has_current config disk ≡ true → ⊥
-    still_none done ends disk none n config since current = let was = had done ends n config since in none was.number was.earlier was.since (was.within.no_more disk current)
-
-    pub still_missing : (done : Bool) → Ends group past readable found (changes_in found steps) done now
-        → (disk : Disk) → ((n : ℕ) (config : Configuration) → IsSince past.changes n config → has_missing config disk ≡ true)
-        → (n : ℕ) (config : Configuration) → IsSince now.changes n config → has_missing config disk ≡ true
-    still_missing done ends disk missing n config since = let was = had done ends n config since in was.within.stays_missing disk (missing was.number was.earlier was.since)
-
-    -- A disk that was a current member is one where the steps keep it.
-    pub still_current : (done : Bool) → Ends group past readable found (changes_in found steps) done now
-        → (disk : Disk) → ((n : ℕ) (config : Configuration) → IsSince past.changes n config → has_current config disk ≡ true)
-        → ((number : ℕ) (step : Step) → slice_get steps number ≡ Some step → has_current step.config disk ≡ true)
-        → (n : ℕ) (config : Configuration) → IsSince now.changes n config → has_current config disk ≡ true
-    still_current done ends disk was_current keep n config since =
-        let was = had done ends n config since in
-        elim was.origin [
-          | inl same ↦ subst (λ (one : Configuration). has_current one disk ≡ true) same (was_current was.number was.earlier was.since)
-          | inr new ↦
-              let from = changed_step found steps new.0 config new.1 in
-              subst (λ (one : Configuration). has_current one disk ≡ true) from.3 (keep from.0 from.1 from.2)
-        ]
+    -- So members are kept.
+    pub members_kept : (done : Bool) → Ends group past readable found (changes_in found steps) done now → KeepsMembers group past now steps
+    members_kept done ends =
+        let same_disks = (ends_slots group past readable found (changes_in found steps) done now ends).same_disks in
+        record {
+          makes_none = λ disk none n config since current. let was = had done ends n config since in none was.number was.earlier was.since (was.within.no_more disk current);
+          stays_current = λ disk current keep n config since.
+              let was = had done ends n config since in
+              elim was.origin [
+                | inl same ↦ subst (λ (one : Configuration). has_current one disk ≡ true) same (current was.number was.earlier was.since)
+                | inr new ↦
+                    let from = changed_step found steps new.0 config new.1 in
+                    subst (λ (one : Configuration). has_current one disk ≡ true) from.3 (keep from.0 from.1 from.2)
+              ];
+          stays_missing = λ disk missing n config since. let was = had done ends n config since in was.within.stays_missing disk (missing was.number was.earlier was.since);
+          stays_aside = λ slot shown aside. record {
+            no_member = λ n config since current.
+                let was = had done ends n config since in
+                aside.no_member was.number was.earlier was.since
+                (was.within.no_more (past.disk slot) (subst (λ (disk : ℕ → Disk). has_current config (disk slot) ≡ true) same_disks current));
+            shows_none = aside.shows_none;
+            names_none = λ copy n config is since current. let was = had done ends n config since in aside.names_none copy was.number was.earlier is was.since (was.within.no_more _ current);
+          };
+        }
