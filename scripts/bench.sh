@@ -1,6 +1,6 @@
 #!/bin/sh
 # Measures `examine` beside mdadm, blkid and zlib, where they are at hand, `read` beside cat and the exclusive-or beside a copy, and
-# prints a table for the README. It is no part of the gate. ROUNDS is the number of rounds (40); in each round every program runs
+# prints the table of docs/SPEED.md. It is no part of the gate. ROUNDS is the number of rounds (40); in each round every program runs
 # once, one after another.
 #
 # - Linux's disks: both read them as Linux left them (DDF_LINUX_DISKS, a folder of NAME.tar.xz). Then `ddf` reads them beside the same

@@ -21,7 +21,7 @@ where
     requires { length paths.now ≤ 64 }
     ensures { IfOk result (λ disks. length (⟦<FileBay<R> as Bay>⟧.disks disks.0).sizes ≡ length paths.now) }
 {
-    let (bay, claims) = if command.may_write() {
+    let (bay, claims) = if command.traits().may_write {
         let mut bay = FileBay::open(rt, rt.alloc(), paths)?;
         let claims = claim_all(rt, &mut bay, paths)?;
         (bay, claims)

@@ -24,7 +24,7 @@ use crate::stamp::stamp_for;
 use crate::streams::hold_streams;
 use crate::wrong_words::explain;
 use ddf_bytes::{StdSink, StdSource};
-use ddf_command::{Asked, Command, WordFault, asked, refuse_words, run, slot_paths};
+use ddf_command::{Asked, Command, WordFault, asked, refuse_words, serve, slot_paths};
 use ddf_linux::Turned;
 use std::fs::File;
 use std::process::ExitCode;
@@ -125,7 +125,8 @@ fn answered(status: u8) -> Result<u8, Failure> {
 
 /// Whether a command may write to the disks of a group, and to go on without those that are away.
 fn changes_group(command: &Command) -> bool {
-    command.takes_group() && command.may_write()
+    let traits = command.traits();
+    traits.takes_group && traits.may_write
 }
 
 /// Opens the disks, and hands them to the command. A group isn't changed where a disk that is named can't be opened.
@@ -146,7 +147,7 @@ where
     let mut bay = Turned::new(files);
     let mut source = StdSource::new(rt.reader());
     let mut sink = StdSink::new(io::writer(rt));
-    let status = run(rt.alloc(), words, &mut bay, &mut source, &mut sink, stamp);
+    let status = serve(rt.alloc(), words, &mut bay, &mut source, &mut sink, stamp);
     drop(claims);
     if let Command::Examine | Command::Assemble = asked.command {
         name_turned(rt, &bay);

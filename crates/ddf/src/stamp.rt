@@ -10,7 +10,7 @@ use std::time::{SystemTime, UNIX_EPOCH};
 /// The clock's seconds, 0 where it can't be read, and 16 random bytes where the command makes names. It makes none without
 /// chance.
 pub fn stamp_for<R: Clock + Files>(rt: &R, command: &Command) -> io::Result<Stamp> {
-    let salt = if command.makes_names() {
+    let salt = if command.traits().makes_names {
         u128::from_be_bytes(chance(rt)?)
     } else {
         0

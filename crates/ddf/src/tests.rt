@@ -1,20 +1,4 @@
-// The program's calls over bays in memory: what is printed, and with which status.
-mod assemble;
+// What no scenario of `ddf_rig` says: files as disks, a bay in health, and a change that is applied by itself.
 mod bay;
 mod changes;
-mod copies;
-mod crc;
-mod create;
-mod examine;
-mod files;
-mod harness;
-mod headers;
 mod health;
-mod label;
-mod linux;
-mod primary;
-mod read;
-mod records;
-mod recovery;
-mod secondary;
-mod sectors;

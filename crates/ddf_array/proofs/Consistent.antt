@@ -37,7 +37,7 @@ in_append [] ys k x e = inr (k, e)
 in_append (z ∷ xs) ys zero x e = inl (0, e)
 in_append (z ∷ xs) ys (suc k) x e = ⊎_elim (λ front. inl (suc front.0, front.1)) (λ back. inr back) (in_append xs ys k x e)
 
-record FromFlat {X Y : Type 0} (f : X → List Y) (xs : List X) (y : Y) : Type 0 where
+pub record FromFlat {X Y : Type 0} (f : X → List Y) (xs : List X) (y : Y) : Type 0 where
   pub at : ℕ
   pub item : X
   pub is_at : slice_get xs at ≡ Some item
@@ -47,18 +47,18 @@ record FromFlat {X Y : Type 0} (f : X → List Y) (xs : List X) (y : Y) : Type 0
 flat_later : {X Y : Type 0} (f : X → List Y) (x : X) (xs : List X) (y : Y) → FromFlat f xs y → FromFlat f (x ∷ xs) y
 flat_later f x xs y from = record { at = suc from.at; item = from.item; is_at = from.is_at; inner = from.inner; is_inner = from.is_inner }
 
-in_flat : {X Y : Type 0} (f : X → List Y) (xs : List X) (k : ℕ) (y : Y) → slice_get (flat_map f xs) k ≡ Some y → FromFlat f xs y
+pub in_flat : {X Y : Type 0} (f : X → List Y) (xs : List X) (k : ℕ) (y : Y) → slice_get (flat_map f xs) k ≡ Some y → FromFlat f xs y
 in_flat f [] k y e = absurd (cc)
 in_flat f (x ∷ xs) k y e =
     ⊎_elim (λ front. record { at = 0; item = x; is_at = refl; inner = front.0; is_inner = front.1 })
     (λ back. flat_later f x xs y (in_flat f xs back.0 y back.1)) (in_append (f x) (flat_map f xs) k y e)
 
-in_map : {X Y : Type 0} (f : X → Y) (xs : List X) (k : ℕ) (y : Y) → slice_get (map f xs) k ≡ Some y → (x : X) × (slice_get xs k ≡ Some x) × (f x ≡ y)
+pub in_map : {X Y : Type 0} (f : X → Y) (xs : List X) (k : ℕ) (y : Y) → slice_get (map f xs) k ≡ Some y → (x : X) × (slice_get xs k ≡ Some x) × (f x ≡ y)
 in_map f [] k y e = absurd (cc)
 in_map f (x ∷ xs) zero y e = (x, refl, cc)
 in_map f (x ∷ xs) (suc k) y e = in_map f xs k y e
 
-record FromFilter {X Y : Type 0} (f : X → Option Y) (xs : List X) (y : Y) : Type 0 where
+pub record FromFilter {X Y : Type 0} (f : X → Option Y) (xs : List X) (y : Y) : Type 0 where
   pub at : ℕ
   pub item : X
   pub is_at : slice_get xs at ≡ Some item
@@ -73,7 +73,7 @@ in_filter_by f x xs k y None is e rest = filter_later f x xs y (rest k e)
 in_filter_by f x xs zero y (Some z) is e rest = let same : z ≡ y = cc in record { at = 0; item = x; is_at = refl; gives = is ∙ ap Some same }
 in_filter_by f x xs (suc k) y (Some z) is e rest = filter_later f x xs y (rest k e)
 
-in_filter : {X Y : Type 0} (f : X → Option Y) (xs : List X) (k : ℕ) (y : Y) → slice_get (filter_map f xs) k ≡ Some y → FromFilter f xs y
+pub in_filter : {X Y : Type 0} (f : X → Option Y) (xs : List X) (k : ℕ) (y : Y) → slice_get (filter_map f xs) k ≡ Some y → FromFilter f xs y
 in_filter f [] k y e = absurd (cc)
 in_filter f (x ∷ xs) k y e = in_filter_by f x xs k y (f x) refl e (λ j is. in_filter f xs j y is)
 

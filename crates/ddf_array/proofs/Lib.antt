@@ -18,3 +18,4 @@ pub mod RowSums
 pub mod Consistent
 pub mod RowParity
 pub mod LossLevels
+pub mod Apart

@@ -35,11 +35,11 @@ found_by : {X : Type 0} (test : X → Bool) (y x : X) (b : Bool) (rest : Option 
 found_by test y x true rest is e later = let same : y ≡ x = cc in sym (ap test same) ∙ is
 found_by test y x false rest is e later = later e
 
-found_passes : {X : Type 0} (test : X → Bool) (xs : List X) (x : X) → find test xs ≡ Some x → test x ≡ true
+pub found_passes : {X : Type 0} (test : X → Bool) (xs : List X) (x : X) → find test xs ≡ Some x → test x ≡ true
 found_passes test [] x e = absurd (cc)
 found_passes test (y ∷ xs) x e = found_by test y x (test y) (find test xs) refl e (λ later. found_passes test xs x later)
 
-record Passes {X : Type 0} (test : X → Bool) (xs : List X) : Type 0 where
+pub record Passes {X : Type 0} (test : X → Bool) (xs : List X) : Type 0 where
   pub at : ℕ
   pub item : X
   pub is_at : slice_get xs at ≡ Some item
@@ -50,7 +50,7 @@ passing_by test y xs true is any rest = record { at = 0; item = y; is_at = refl;
 passing_by test y xs false is any rest =
     let later = rest any in record { at = suc later.at; item = later.item; is_at = later.is_at; passes = later.passes }
 
-passing : {X : Type 0} (test : X → Bool) (xs : List X) → list_any test xs ≡ true → Passes test xs
+pub passing : {X : Type 0} (test : X → Bool) (xs : List X) → list_any test xs ≡ true → Passes test xs
 passing test [] any = absurd (cc)
 passing test (y ∷ xs) any = passing_by test y xs (test y) refl any (passing test xs)
 
@@ -116,7 +116,7 @@ module _ (cell : ℕ → List ℕ) (members position : ℕ) where
       ∙ sum_turned (map cell (after_parity members position)) (map cell (before_parity position))
 
   -- the data cells of a row are those before and after its parity
-  around_by : (layout : Layout) (number : ℕ) → parity_by layout members number ≡ Some position
+  pub around_by : (layout : Layout) (number : ℕ) → parity_by layout members number ≡ Some position
       → xor_all (map cell (data_by layout members number)) ≡ xor_all (map cell (before_parity position) ++ map cell (after_parity members position))
   around_by Raid0 number e = absurd (cc)
   around_by Raid1 number e = absurd (cc)

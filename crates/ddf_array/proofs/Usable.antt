@@ -44,6 +44,11 @@ module _ (members : List (ℕ × Member)) (seats : List Seat) (all : List Extent
       (and_first (has_shapes array && has_tiers array) (list_all (lies_well members all) (array_extents array))
       (and_first (is_served members all array) (not (list_any (passes_floor seats) (array_extents array))) served_on))
 
+  pub lie_well : list_all (lies_well members all) (array_extents array) ≡ true
+  lie_well =
+      and_second (has_shapes array && has_tiers array) (list_all (lies_well members all) (array_extents array))
+      (and_first (is_served members all array) (not (list_any (passes_floor seats) (array_extents array))) served_on)
+
   has_its_tiers : has_tiers array ≡ true
   has_its_tiers =
       and_second (has_shapes array) (has_tiers array)

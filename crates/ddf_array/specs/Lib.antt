@@ -11,3 +11,4 @@ pub mod Sound
 pub mod State
 pub mod Losing
 pub mod Viewing
+pub mod Apart

@@ -13,6 +13,7 @@ ghost use Rattle.ddf_primary.specs.Cells.{depth_of, parity_member};
 ghost use Rattle.ddf_array.specs.declared.part.Part.{Part};
 ghost use Rattle.ddf_array.specs.declared.place.Place.{Place};
 ghost use Rattle.ddf_array.specs.declared.site.Site.{Site};
+ghost use Rattle.ddf_array.specs.Apart.{AreSeats, IsApart};
 ghost use Rattle.ddf_array.specs.Places.{site_at};
 ghost use Rattle.ddf_array.specs.Volume.{Volume, IsVolume, Fits, capacity};
 ghost use Rattle.ddf_array.specs.Within.{is_within, is_redundant};
@@ -86,6 +87,12 @@ pub fn a_place_is_on_a_seat()
         → view_of config guid seats ≡ Ok volume → slice_get volume.parts element ≡ Some part
         → slice_get part.places position ≡ Some place → place.slot ≡ Some slot
         → (k : ℕ) × ((seat : Seat) × (slice_get seats k ≡ Some seat) × (seat.slot ≡ slot)) }
+{}
+
+/// No two extents of a view share a sector, where each seat is a member's and no slot has the seats of two.
+pub fn a_view_is_apart()
+    ensures { (config : Configuration) (guid : List ℕ) (seats : List Seat) (volume : Volume)
+        → view_of config guid seats ≡ Ok volume → AreSeats config.members seats → IsApart volume }
 {}
 
 /// Over fewer seats an array has lost disks.

@@ -8,7 +8,7 @@ use ddf_bytes::Seq;
 use ddf_primary::Shape;
 
 /// One element of an array, a basic virtual disk (SNIA DDF 2.0): its shape, and where its positions lie.
-#[derive(Debug, Drop)]
+#[derive(Drop)]
 pub struct Part {
     /// Where each of its blocks lies on its positions.
     pub shape: Shape,

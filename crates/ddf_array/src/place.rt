@@ -4,7 +4,7 @@ ghost use Rattle.ddf_array.specs.Places.{is_available, site, Ends};
 use crate::Site;
 
 /// Where the extent of one position of an element lies (profile).
-#[derive(Clone, Copy, Debug, Default, PartialEq, Eq)]
+#[derive(Clone, Copy, Default, PartialEq, Eq)]
 pub struct Place {
     /// The slot of its disk. None where its member has no seat, and where the extent ends past the seat's floor.
     pub slot: Option<usize>,

@@ -1,5 +1,5 @@
 /// A sector of a slot of the bay.
-#[derive(Clone, Copy, Debug, PartialEq, Eq)]
+#[derive(Clone, Copy, PartialEq, Eq)]
 pub struct Site {
     /// The number of the slot.
     pub slot: usize,

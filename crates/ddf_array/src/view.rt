@@ -1,5 +1,5 @@
-ghost use Rattle.std.specs.Prelude.{◌≡◌, ◌<◌, slice_get, length, map, Some, None, MatchOption};
-ghost use Rattle.ddf_secondary.specs.Spots.{spots};
+ghost use Rattle.std.specs.Prelude.{◌≡◌, ◌<◌, ◌↔◌, ℕ, slice_get, length, map, Some, None, MatchOption};
+ghost use Rattle.ddf_secondary.specs.Spots.{Holds, spots};
 ghost use Rattle.ddf_array.specs.Volume.{IsPart, IsVolume, volume, capacity, size_of};
 ghost use Rattle.ddf_array.specs.Cells.{is_in_every};
 ghost use Rattle.ddf_array.specs.Sources.{trusts_parity};
@@ -11,7 +11,7 @@ use std::marker::Model;
 
 /// One array, a virtual disk of a group (SNIA DDF 2.0), over the seats of the members that are there. What its disks hold
 /// isn't read: it tells where each block can be read. Contracts see it as a volume.
-#[derive(Debug, Drop)]
+#[derive(Drop)]
 pub struct View {
     marked: bool,
     tiers: Tiers,
@@ -87,6 +87,22 @@ impl View {
         ensures sound { IsVolume self.now }
     {
         self.tiers.locate(block)
+    }
+
+    /// The block of the array that an element holds as one of its blocks. None where it holds none there.
+    pub fn block_of(&self, spot: Spot) -> Option<u64>
+        ensures holds { (block : ℕ) → (result ≡ Some block) ↔ Holds self.now.tiers spot block }
+        ensures sound { IsVolume self.now }
+    {
+        self.tiers.block_at(spot)
+    }
+
+    /// The secondary level over the elements, which says which of them holds each block.
+    pub fn tiers(&self) -> &Tiers
+        ensures tiers { result.now ≡ self.now.tiers }
+        ensures sound { IsVolume self.now }
+    {
+        &self.tiers
     }
 
     /// Whether every element holds each block.

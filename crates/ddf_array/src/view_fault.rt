@@ -4,7 +4,7 @@ use ddf_bytes::NoMemory;
 use ddf_config::Refusal;
 
 /// Why there is no view of an array.
-#[derive(Clone, Copy, Debug, PartialEq, Eq)]
+#[derive(Clone, Copy, PartialEq, Eq)]
 pub enum ViewFault {
     /// The array isn't there, or can't be used.
     Refused(Refusal),

@@ -52,19 +52,20 @@ beyond_plans members = record { none = refl; some = λ plan. by (is_part_within 
 -- ---- arrays
 
 -- An array that can be held stays so under its GUID, and each element that is known stays known.
-pub record KeepsArrays (h : Array → Array) : Type 0 where
-  pub held : (most : ℕ) (guid : List ℕ) (array : Array) → IsHeldEntry most (guid, array) → IsHeldEntry most (guid, h array)
-  pub there : (array : Array) (index : ℕ) (plan : ElementPlan) → slice_get array.elements index ≡ Some (Some plan) → (next : ElementPlan) × (slice_get (h array).elements index ≡ Some (Some next))
+pub record KeepsArrays (h : List ℕ → Array → Array) : Type 0 where
+  pub held : (most : ℕ) (guid : List ℕ) (array : Array) → IsHeldEntry most (guid, array) → IsHeldEntry most (guid, h guid array)
+  pub there : (guid : List ℕ) (array : Array) (index : ℕ) (plan : ElementPlan) → slice_get array.elements index ≡ Some (Some plan)
+      → (next : ElementPlan) × (slice_get (h guid array).elements index ≡ Some (Some next))
 
 abbrev with_parts : Array → List (Option ElementPlan) → Array
 with_parts array parts = record array { elements = parts }
 
-pub lost_array_keeps : (members : List (ℕ × Member)) (references : List ℕ) → KeepsArrays (lost_array members references)
+pub lost_array_keeps : (members : List (ℕ × Member)) (references : List ℕ) → KeepsArrays (λ guid. lost_array members references)
 lost_array_keeps members references = record {
   held = λ most guid array is.
       held (is_mirrored array && has_part_within members (lost_parts references array)) most guid array
       (entry_kept (option_map (lost_element references)) (lost_plans references) most guid array is);
-  there = λ array index plan at.
+  there = λ guid array index plan at.
       let lost = still_there (option_map (lost_element references)) (lost_plans references) array.elements index plan at in
       there (is_mirrored array && has_part_within members (lost_parts references array)) array index lost.0 lost.1;
 }
@@ -79,8 +80,8 @@ lost_array_keeps members references = record {
     there true array index plan at = still_there (out_beyond members) (beyond_plans members) (lost_parts references array) index plan at
     there false array index plan at = (plan, at)
 
-pub same_array_keeps : KeepsArrays (λ array. array)
-same_array_keeps = record { held = λ most guid array is. is; there = λ array index plan at. (plan, at) }
+pub same_array_keeps : KeepsArrays (λ guid array. array)
+same_array_keeps = record { held = λ most guid array is. is; there = λ guid array index plan at. (plan, at) }
 
 low_small : (members : List (ℕ × Member)) (array : Array) → low_state members array ≤ 4
 low_small members array = by (not (is_within (is_available members) array)) (list_any has_position_out array.elements)
@@ -97,7 +98,7 @@ state_small members all array small = by (takes_low_state members all array)
     by true = let low = low_small members array in omega (arith, low, small)
     by false = small
 
-pub low_keeps : (members : List (ℕ × Member)) (all : List Extent) → KeepsArrays (array_with_low members all)
+pub low_keeps : (members : List (ℕ × Member)) (all : List Extent) → KeepsArrays (λ guid. array_with_low members all)
 low_keeps members all = record {
   held = λ most guid array is. record {
     fits = record {
@@ -112,31 +113,25 @@ low_keeps members all = record {
     readable = record { few = is.readable.few; alone = is.readable.alone; plain = is.readable.plain };
     plans = is.plans;
   };
-  there = λ array index plan at. (plan, at);
-}
-
-pub both_keep : (g h : Array → Array) → KeepsArrays g → KeepsArrays h → KeepsArrays (λ array. h (g array))
-both_keep g h first second = record {
-  held = λ most guid array is. second.held most guid (g array) (first.held most guid array is);
-  there = λ array index plan at. let once = first.there array index plan at in second.there (g array) index once.0 once.1;
+  there = λ guid array index plan at. (plan, at);
 }
 
 -- ---- tables
 
-abbrev pub with_arrays : (Array → Array) → List (List ℕ × Array) → List (List ℕ × Array)
-with_arrays h entries = map (λ (entry : List ℕ × Array). (entry.0, h entry.1)) entries
+abbrev pub with_arrays : (List ℕ → Array → Array) → List (List ℕ × Array) → List (List ℕ × Array)
+with_arrays h entries = map (λ (entry : List ℕ × Array). (entry.0, h entry.0 entry.1)) entries
 
 abbrev pub guids_of : List (List ℕ × Array) → List (List ℕ)
 guids_of entries = map (λ (entry : List ℕ × Array). entry.0) entries
 
-pub changed_all : (h : Array → Array) (entries : List (List ℕ × Array)) → changed_entries (λ guid array. Some (h array)) entries ≡ with_arrays h entries
+pub changed_all : (h : List ℕ → Array → Array) (entries : List (List ℕ × Array)) → changed_entries (λ guid array. Some (h guid array)) entries ≡ with_arrays h entries
 changed_all h [] = refl
-changed_all h (entry ∷ entries) = ap (λ l. (entry.0, h entry.1) ∷ l) (changed_all h entries)
+changed_all h (entry ∷ entries) = ap (λ l. (entry.0, h entry.0 entry.1) ∷ l) (changed_all h entries)
 
-pub guids_kept : (h : Array → Array) (entries : List (List ℕ × Array)) → guids_of (with_arrays h entries) ≡ guids_of entries
+pub guids_kept : (h : List ℕ → Array → Array) (entries : List (List ℕ × Array)) → guids_of (with_arrays h entries) ≡ guids_of entries
 guids_kept h [] = refl
 guids_kept h (entry ∷ entries) = ap (λ l. entry.0 ∷ l) (guids_kept h entries)
 
-pub all_kept : (h : Array → Array) → KeepsArrays h → (most : ℕ) (entries : List (List ℕ × Array)) → AllByRecursion (IsHeldEntry most) entries → AllByRecursion (IsHeldEntry most) (with_arrays h entries)
+pub all_kept : (h : List ℕ → Array → Array) → KeepsArrays h → (most : ℕ) (entries : List (List ℕ × Array)) → AllByRecursion (IsHeldEntry most) entries → AllByRecursion (IsHeldEntry most) (with_arrays h entries)
 all_kept h keeps most [] all = tt
 all_kept h keeps most (entry ∷ entries) all = (keeps.held most entry.0 entry.1 all.0, all_kept h keeps most entries all.1)

@@ -17,11 +17,11 @@ use Rattle.ddf_assembly.specs.Recovery.{config_lost, config_recovered, disks_rec
 use Rattle.ddf_assembly.specs.Seated.{seated, seats_in}
 use Rattle.ddf_assembly.specs.Steps.{Step, levelled}
 use Rattle.ddf_assembly.specs.Tried.{behind_written, config_behind, disks_behind}
-use Rattle.ddf_assembly.specs.Trying.{CanBeChanged, Follows, IsOfGroup, SlotsRise}
+use Rattle.ddf_assembly.specs.Trying.{CanBeChanged, Follows, SlotsRise}
 use Rattle.ddf_assembly.proofs.Following.{levelled_changed}
-use Rattle.ddf_assembly.proofs.Leaders.{held_on}
 use Rattle.ddf_assembly.proofs.Mended.{mended_changed}
 use Rattle.ddf_assembly.proofs.Recovered.{config_kept, disks_kept}
+use Rattle.ddf_assembly.proofs.Settled.{settled}
 
 -- ---- lists
 
@@ -87,7 +87,7 @@ pub record IsBehind (timestamp : ℕ) (group : GroupValue) (next : Option ReadyS
   pub disks_are : disks_behind group next (seated group) ≡ disks_recovered timestamp group
   pub changed : CanBeChanged (config_behind group next) (disks_behind group next (seated group))
 
-module _ (timestamp : ℕ) (time : timestamp < 2 ^ 32) (group : GroupValue) (is : IsAssembledGroup group) (of_group : AllByRecursion (IsOfGroup group.config) (seated group)) where
+module _ (timestamp : ℕ) (time : timestamp < 2 ^ 32) (group : GroupValue) (is : IsAssembledGroup group) where
   rises : SlotsRise (seats_in (seated group))
   rises = subst SlotsRise (sym is.are_seated) is.slots_rise
 
@@ -95,7 +95,7 @@ module _ (timestamp : ℕ) (time : timestamp < 2 ^ 32) (group : GroupValue) (is 
   behind_none none_absent none_lags = record {
     config_is = sym (config_kept group none_absent none_lags timestamp);
     disks_are = sym (disks_kept group none_absent none_lags timestamp);
-    changed = record { of_group = of_group; can_hold = held_on group is };
+    changed = (settled group is none_absent none_lags).can_be_changed;
   }
 
   behind_loss : (one : ReadyStep) → one.step ≡ lost_step timestamp group → some group.absent ≡ true → Follows (seated group) one → IsBehind timestamp group (Some one)
@@ -131,7 +131,7 @@ module _ (timestamp : ℕ) (time : timestamp < 2 ^ 32) (group : GroupValue) (is 
         config_is = config_is ∙ sym (ap (λ (b : Bool). if b then config_lost group else group.config) none);
         disks_are = disks_are ∙ sym (ap (λ (b : Bool). if b then map levelled (lost_step timestamp group).disks else map (mended_or_kept timestamp group) (seated group)) none);
         changed = subst (CanBeChanged one.step.config) (sym disks_are)
-            (subst (λ (config : Configuration). CanBeChanged config (map (mended_or_kept timestamp group) (seated group))) (sym config_is) (mended_changed timestamp time group is of_group free));
+            (subst (λ (config : Configuration). CanBeChanged config (map (mended_or_kept timestamp group) (seated group))) (sym config_is) (mended_changed timestamp time group is free));
       }
 
   -- What is recovered is behind the recovery.

@@ -18,6 +18,7 @@ use Rattle.ddf_group.specs.declared.shown.Shown.TheVariants.{Nothing}
 use Rattle.ddf_group.specs.Shown.{shown_of}
 use Rattle.ddf_group.specs.Slots.{slot_at, view_in}
 use Rattle.ddf_rewrite.proofs.Lists.{all_at}
+use Rattle.ddf_update.specs.declared.prepared.Mode.TheVariants.{Change}
 use Rattle.ddf_assembly.specs.declared.seated.Seated.{Seated}
 use Rattle.ddf_assembly.specs.Group.{seat_at, seat_of, seats_of}
 use Rattle.ddf_assembly.specs.Reading.{AreNewest}
@@ -90,7 +91,7 @@ module _ (newest : List (Option Newest)) (slot : ℕ) where
   module _ (has : HasDisk newest slot) where
     -- The disk.
     abbrev pub own_disk : Seated
-    own_disk = record { seat = seat_of slot has.copy; copy = has.copy; last = last_of has.found }
+    own_disk = record { seat = seat_of slot has.copy; copy = has.copy; last = last_of has.found; mode = Change }
 
     -- Its seat is that of the slot.
     pub own_seat : seat_at newest slot ≡ Some own_disk.seat
@@ -101,7 +102,7 @@ module _ (newest : List (Option Newest)) (slot : ℕ) where
     own_seated : seated_at newest own_disk.seat ≡ Some own_disk
     own_seated =
         ap (λ (found : Option (Option Newest)). option_and_then (λ one. option_and_then (seated_by own_disk.seat) one) found) has.is_found
-        ∙ ap (λ (found : Option DiskCopy). option_map (λ copy. record { seat = own_disk.seat; copy = copy; last = last_of has.found }) found) has.stands
+        ∙ ap (λ (found : Option DiskCopy). option_map (λ copy. record { seat = own_disk.seat; copy = copy; last = last_of has.found; mode = Change }) found) has.stands
 
     -- It is the slot's disk.
     pub own_is : disk_at newest slot ≡ Some own_disk

@@ -8,12 +8,13 @@ use Rattle.ddf_bay.specs.Moments.{IsSettled}
 use Rattle.ddf_header.specs.declared.reading.Header.{Header}
 use Rattle.ddf_copy.specs.declared.copy.DiskCopy.{DiskCopy}
 use Rattle.ddf_copy.specs.declared.which.Which.{Which}
-use Rattle.ddf_copy.specs.declared.which.Which.TheVariants.{Secondary}
+use Rattle.ddf_copy.specs.declared.which.Which.TheVariants.{Primary, Secondary}
 use Rattle.ddf_copy.specs.Anchor.{anchor_at}
 use Rattle.ddf_copy.specs.declared.newest_copy.Newest.{Newest}
 use Rattle.ddf_copy.specs.Copies.{copy_of, standing_copy}
 use Rattle.ddf_copy.specs.Headers.{IsUnder, anchor_header}
 use Rattle.ddf_copy.specs.Shows.{IsNewest, last_of}
+use Rattle.ddf_copy.specs.Which.{place_of}
 use Rattle.ddf_copy.specs.Written.{is_level}
 use Rattle.ddf_copy.proofs.LastCopies.{last_is}
 use Rattle.ddf_config.specs.declared.seat.Seat.{Seat}
@@ -21,23 +22,28 @@ use Rattle.ddf_config.specs.Seats.{SeatsFit}
 use Rattle.ddf_config.specs.Configuration.{Configuration}
 use Rattle.ddf_view.proofs.Tests.{all_map}
 use Rattle.ddf_rewrite.proofs.Lists.{all_at, all_by_get, map_get}
-use Rattle.ddf_update.specs.declared.prepared.Mode.TheVariants.{Change}
-use Rattle.ddf_update.specs.Changes.{MayChangeAll, SlotChange}
+use Rattle.ddf_update.specs.declared.prepared.Mode.{Mode}
+use Rattle.ddf_update.specs.declared.prepared.Mode.TheVariants.{Adopt, Change, Found}
+use Rattle.ddf_update.specs.Changes.{MayChangeAll, MayGet, SlotChange}
 use Rattle.ddf_update.specs.Group.{LieOnSlots}
 use Rattle.ddf_update.specs.NewCopies.{new_copy}
 use Rattle.ddf_update.specs.Prepared.{IsPrepared, LiesOn}
-use Rattle.ddf_update.specs.Update.{MayChange}
+use Rattle.ddf_update.specs.Update.{MayAdopt, MayChange}
+use Rattle.ddf_update.proofs.AdoptingShows.{one_kind}
 use Rattle.ddf_update.proofs.Lies.{lies_on}
 use Rattle.ddf_assembly.specs.declared.seated.Seated.{Seated}
 use Rattle.ddf_assembly.specs.Group.{GroupValue}
 use Rattle.ddf_assembly.specs.Reading.{HaveAnchors}
 use Rattle.ddf_assembly.specs.Ready.{ReadyStep, ReadyValue}
 use Rattle.ddf_assembly.specs.Seated.{seated, seats_in, slots_in}
-use Rattle.ddf_assembly.specs.Trying.{Follows, HasPlace, SlotsRise, StandOn}
-use Rattle.ddf_assembly.specs.Committed.{HaveSequence, HaveSlots, HoldsGroup, IsReadyFor, IsRewritten, MayWriteNext, next_slots, next_updates}
-use Rattle.ddf_assembly.proofs.CommittedCopies.{standing_is, standing_sequence, standing_under}
-use Rattle.ddf_assembly.proofs.CommittedSeats.{get_there, rise_differ, seated_is}
+use Rattle.ddf_assembly.specs.Steps.{in_order}
+use Rattle.ddf_assembly.specs.Trying.{Follows, HasPlace, IsOfGroup, SlotsRise, StandOn}
+use Rattle.ddf_assembly.specs.Committed.{HasPlacesOf, HaveSequence, HaveSlots, HoldsGroup, IsReadyFor, IsRewritten, MayWriteNext, next_slots, next_updates}
+use Rattle.ddf_assembly.proofs.CommittedCopies.{standing_is, standing_read, standing_sequence, standing_under}
+use Rattle.ddf_assembly.proofs.CommittedSeats.{get_there, seated_is}
 use Rattle.ddf_assembly.proofs.Lists.{get_within}
+use Rattle.ddf_assembly.proofs.Ordered.{order_all, order_differ, order_from}
+use Rattle.ddf_assembly.proofs.Rewritten.{adopted_other, none_founded, places_under}
 
 -- Seats that fit are on slots.
 pub seats_on_slots : (sizes : List ℕ) (seats : List Seat) → SeatsFit sizes seats → HaveSlots sizes seats
@@ -45,9 +51,10 @@ seats_on_slots sizes seats fit place seat at = (fit place seat at).0
 
 -- ---- what the slot of a disk gets
 
--- A disk's slot may get the disk's copy in this change.
+-- A disk's slot may get the disk's copy in this change, as the disk is to be written.
 pub record IsChange {D : Type 0} (disks : BayState D) (disk : Seated) (change : SlotChange) : Type 0 where
-  pub may_change : MayChange disks disk.seat.slot change.anchor change.last change.old change.new
+  pub may_get : MayGet change.mode disks disk.seat.slot change
+  pub has_mode : change.mode ≡ disk.mode
   pub has_last : change.last ≡ disk.last
   pub has_new : change.new ≡ disk.copy
 
@@ -56,7 +63,7 @@ no_copy : DiskCopy
 no_copy = new_copy (record { seconds = 0; salt = 0 }) [] 0
 
 pub no_change : SlotChange
-no_change = record { anchor = anchor_header no_copy; last = Secondary; old = no_copy; new = no_copy }
+no_change = record { mode = Change; anchor = anchor_header no_copy; last = Secondary; old = no_copy; new = no_copy }
 
 -- A change for each place, where there is one for each disk.
 chosen : {D : Type 0} (state : BayState D) (disks : List Seated)
@@ -89,7 +96,22 @@ IsNewerOver group before disk =
 -- A disk of a step rewrites one of the group, and may be written over it.
 pub record MayReplace (group : GroupValue) (config : Configuration) (disk : Seated) : Type 0 where
   pub rewrites : IsRewritten (seated group) config disk
-  pub newer : IsNewerOver group rewrites.before disk
+  pub newer : disk.mode ≡ Change → IsNewerOver group rewrites.before disk
+
+-- ---- how a slot gets it
+
+-- by how it is written
+get_by : {D : Type 0} (state : BayState D) (slot : ℕ) (change : SlotChange) (mode : Mode)
+    → (mode ≡ Change → MayChange state slot change.anchor change.last change.old change.new) → (mode ≡ Found → ⊥)
+    → (mode ≡ Adopt → IsSettled state.may_hold state.held slot × MayAdopt state slot change.anchor change.last change.old change.new) → MayGet mode state slot change
+get_by state slot change Change changes founds adopts = changes refl
+get_by state slot change Found changes founds adopts = founds refl
+get_by state slot change Adopt changes founds adopts = adopts refl
+
+-- A copy in the places of one that stands under an anchor is in the anchor's places.
+placed_as : (anchor : Header) (old new : DiskCopy) → HasPlacesOf old new → ((which : Which) → place_of which old.header ≡ place_of which anchor) → (which : Which) → place_of which new.header ≡ place_of which anchor
+placed_as anchor old new places in_place Primary = places.same_primary ∙ in_place Primary
+placed_as anchor old new places in_place Secondary = places.same_secondary ∙ in_place Secondary
 
 -- ---- the disks of a step
 
@@ -104,9 +126,10 @@ module _ {D : Type 0} (state : BayState D) (group : GroupValue) (holds : HoldsGr
       standing_under (size_of state slot) anchor own.found disk.copy own.stands (holds.are_under slot own.found found anchor anchored))
 
   module _ (one : ReadyStep) (follows : Follows (seated group) one) (replace : AllByRecursion (MayReplace group one.step.config) one.step.disks) where
-    change_of : (place : ℕ) (disk : Seated) → slice_get one.step.disks place ≡ Some disk → (change : SlotChange) × IsChange state disk change
+    change_of : (place : ℕ) (disk : Seated) → slice_get (in_order one.step.disks) place ≡ Some disk → (change : SlotChange) × IsChange state disk change
     change_of place disk at =
-        let may = all_at (MayReplace group one.step.config) one.step.disks place disk replace at in
+        let from = order_from one.step.disks place disk at in
+        let may = all_at (MayReplace group one.step.config) one.step.disks from.0 disk replace from.1 in
         let is = may.rewrites in
         let own = seated_is group is.place is.before is.is_there in
         let slot = disk.seat.slot in
@@ -118,43 +141,65 @@ module _ {D : Type 0} (state : BayState D) (group : GroupValue) (holds : HoldsGr
         let last : last_of own.found ≡ disk.last = sym (is.same_last ∙ own.has_last) in
         let newest = subst (λ (newest : _). IsNewest newest there.copy) held.is_newest there.is_newest in
         let alike = standing_sequence size (state.held slot) held.anchor own.found held.is_newest is.before.copy there.copy own.stands newest in
-        let settled = holds.are_settled own.place is.before.seat (get_within group.seats is.before.seat own.place own.is_seat) own.is_seat in (
-          record { anchor = held.anchor; last = disk.last; old = there.copy; new = disk.copy },
+        let settled = subst (IsSettled state.may_hold state.held) slot_is (holds.are_settled own.place is.before.seat (get_within group.seats is.before.seat own.place own.is_seat) own.is_seat) in
+        let last_there = subst (λ (which : Which). copy_of size (state.held slot) held.anchor which ≡ Ok there.copy) last there.is_there in
+        let read = standing_read size (state.held slot) held.anchor own.found held.is_newest is.before.copy own.stands in
+        let kind = one_kind size (state.held slot) held.anchor read.0 disk.last is.before.copy there.copy read.1 last_there in
+        let under = all_at (λ (other : Seated). other.seat.slot ≡ slot → IsUnder size held.anchor other.copy) (seated group) is.place is.before (seated_under slot held.anchor held.is_anchored) is.is_there slot_is in
+        let can = (all_at (IsOfGroup one.step.config) one.step.disks from.0 disk follows.can_be_changed.of_group from.1).is_copy in
+        let change : SlotChange = record { mode = disk.mode; anchor = held.anchor; last = disk.last; old = there.copy; new = disk.copy } in (
+          change,
           record {
-            may_change = record {
-              is_settled = subst (IsSettled state.may_hold state.held) slot_is settled;
-              is_anchored = held.is_anchored;
-              last_is = subst (λ (which : Which). copy_of size (state.held slot) held.anchor which ≡ Ok there.copy) last there.is_there;
-              is_newest = there.is_newest;
-              is_under = all_at (λ (one : Seated). one.seat.slot ≡ slot → IsUnder size held.anchor one.copy) one.step.disks place disk
-                  (follows.stand_on slot size held.anchor (seated_under slot held.anchor held.is_anchored)) at refl;
-              is_newer = λ same. may.newer own.found own.is_found own.stands there.copy alike newest same;
-            };
+            may_get = get_by state slot change disk.mode
+                (λ changes. record {
+                  is_settled = settled;
+                  is_anchored = held.is_anchored;
+                  last_is = last_there;
+                  is_newest = there.is_newest;
+                  is_under = all_at (λ (one : Seated). one.seat.slot ≡ slot → one.mode ≡ Change → IsUnder size held.anchor one.copy) one.step.disks from.0 disk
+                      (follows.stand_on slot size held.anchor (seated_under slot held.anchor held.is_anchored)) from.1 refl changes;
+                  is_newer = λ same. may.newer changes own.found own.is_found own.stands there.copy alike newest same;
+                })
+                (λ founds. none_founded one.step.config is.before (sym is.has_mode ∙ founds))
+                (λ adopts. (
+                  settled,
+                  record {
+                    is_anchored = held.is_anchored;
+                    last_is = last_there;
+                    is_newest = there.is_newest;
+                    is_under = places_under size held.anchor is.before.copy disk.copy under can is.has_places;
+                    same_places = placed_as held.anchor is.before.copy disk.copy is.has_places (λ which. under.in_place which);
+                    same_sections = is.has_places.same_sections ∙ kind.1;
+                    other_group = λ same. adopted_other one.step.config is.before (sym is.has_mode ∙ adopts) (kind.0 ∙ sym same ∙ is.has_group);
+                  },
+                ));
+            has_mode = refl;
             has_last = refl;
             has_new = refl;
           },
         )
 
     pub seat_of : ℕ → SlotChange
-    seat_of = chosen state one.step.disks change_of
+    seat_of = chosen state (in_order one.step.disks) change_of
 
-    pub seat_is : (place : ℕ) (disk : Seated) → slice_get one.step.disks place ≡ Some disk → IsChange state disk (seat_of place)
+    pub seat_is : (place : ℕ) (disk : Seated) → slice_get (in_order one.step.disks) place ≡ Some disk → IsChange state disk (seat_of place)
     unfolding seat_of
-    seat_is place disk at = chosen_is state one.step.disks change_of place disk at
+    seat_is place disk at = chosen_is state (in_order one.step.disks) change_of place disk at
 
-    pub may_change_all : MayChangeAll state (slots_in one.step.disks) seat_of one.updates
+    pub may_change_all : MayChangeAll state (slots_in (in_order one.step.disks)) seat_of one.updates
     may_change_all = record {
       may_change = λ place slot at.
-          let there = map_get (λ (disk : Seated). disk.seat.slot) one.step.disks place slot at in
+          let there = map_get (λ (disk : Seated). disk.seat.slot) (in_order one.step.disks) place slot at in
           let is = seat_is place there.0 there.1 in
-          subst (λ (n : ℕ). MayChange state n (seat_of place).anchor (seat_of place).last (seat_of place).old (seat_of place).new) there.2 is.may_change;
+          subst (λ (n : ℕ). MayGet (seat_of place).mode state n (seat_of place)) there.2 is.may_get;
       are_prepared = λ place update at.
-          let below : place < length one.step.disks = let within = get_within one.updates update place at in let counted = follows.are_prepared.counted in omega (arith, within, counted) in
-          let there = get_there one.step.disks place below in
+          let below : place < length (in_order one.step.disks) = let within = get_within one.updates update place at in let counted = follows.are_prepared.counted in omega (arith, within, counted) in
+          let there = get_there (in_order one.step.disks) place below in
           let is = seat_is place there.0 there.1 in
           let prepared = follows.are_prepared.each place there.0 update there.1 at in
-          subst (λ (last : Which). IsPrepared (seat_of place).new last Change update) (sym is.has_last)
-          (subst (λ (copy : DiskCopy). IsPrepared copy there.0.last Change update) (sym is.has_new) prepared);
+          subst (λ (mode : Mode). IsPrepared (seat_of place).new (seat_of place).last mode update) (sym is.has_mode)
+          (subst (λ (last : Which). IsPrepared (seat_of place).new last there.0.mode update) (sym is.has_last)
+          (subst (λ (copy : DiskCopy). IsPrepared copy there.0.last there.0.mode update) (sym is.has_new) prepared));
     }
 
 -- ---- the next step
@@ -166,7 +211,7 @@ later_replace group one have_sequence rewrites rises =
     all_map (IsRewritten (seated group) one.step.config) (MayReplace group one.step.config)
     (λ disk is. record {
       rewrites = is;
-      newer = λ found is_found stands old alike newest.
+      newer = λ changes found is_found stands old alike newest.
           let before = all_at (λ (other : Seated). other.copy.header.sequence ≡ group.config.sequence) (seated group) is.place is.before have_sequence is.is_there in
           never_same disk.copy old is.before.copy group.config.sequence one.step.config.sequence alike before is.has_sequence rises;
     })
@@ -199,23 +244,24 @@ module _ (sizes : List ℕ) (group : GroupValue) (have : HaveAnchors sizes group
       let here = have disk.seat.slot own.found own.is_found in
       record { there = here.0; anchor = here.1.anchor; under = standing_under (slice_index sizes disk.seat.slot) here.1.anchor own.found disk.copy own.stands here.1.under })
 
-  pub step_lies : (one : ReadyStep) → Follows (seated group) one → SlotsRise (seats_in (seated group)) → LieOnSlots sizes (slots_in one.step.disks) one.updates
+  pub step_lies : (one : ReadyStep) → Follows (seated group) one → SlotsRise (seats_in (seated group)) → LieOnSlots sizes (slots_in (in_order one.step.disks)) one.updates
   step_lies one follows rise =
-      let placed = follows.have_places sizes seated_placed in
-      let place_of = λ (place : ℕ) (disk : Seated) (at : slice_get one.step.disks place ≡ Some disk). all_at (HasPlace sizes) one.step.disks place disk placed at in
+      let written = in_order one.step.disks in
+      let placed = order_all (HasPlace sizes) one.step.disks (follows.have_places sizes seated_placed) in
+      let place_of = λ (place : ℕ) (disk : Seated) (at : slice_get written place ≡ Some disk). all_at (HasPlace sizes) written place disk placed at in
       record {
         are_slots = record {
           there = λ place slot at.
-              let found = map_get (λ (disk : Seated). disk.seat.slot) one.step.disks place slot at in
+              let found = map_get (λ (disk : Seated). disk.seat.slot) written place slot at in
               subst (λ (n : ℕ). n < length sizes) found.2 (place_of place found.0 found.1).there;
-          differ = λ first second slot at also. rise_differ one.step.disks (follows.slots_rise rise) first second slot at also;
+          differ = λ first second slot at also. order_differ one.step.disks (follows.slots_rise rise) first second slot at also;
         };
-        counted = follows.are_prepared.counted ∙ sym (length-map one.step.disks (λ (disk : Seated). disk.seat.slot));
+        counted = follows.are_prepared.counted ∙ sym (length-map written (λ (disk : Seated). disk.seat.slot));
         lie_on = λ place slot update at also.
-            let found = map_get (λ (disk : Seated). disk.seat.slot) one.step.disks place slot at in
+            let found = map_get (λ (disk : Seated). disk.seat.slot) written place slot at in
             let here = place_of place found.0 found.1 in
             subst (λ (n : ℕ). LiesOn (slice_index sizes n) update) found.2
-            (lies_on (slice_index sizes found.0.seat.slot) here.anchor found.0.copy found.0.last Change update here.under (follows.are_prepared.each place found.0 update found.1 also));
+            (lies_on (slice_index sizes found.0.seat.slot) here.anchor found.0.copy found.0.last found.0.mode update here.under (follows.are_prepared.each place found.0 update found.1 also));
       }
 
   steps_lie : (recovery : Option ReadyStep) (steps : List ReadyStep) → IsReadyFor group (record { recovery = recovery; steps = steps }) → LieOnSlots sizes (next_slots (record { recovery = recovery; steps = steps })) (next_updates (record { recovery = recovery; steps = steps }))

@@ -12,13 +12,20 @@ use Rattle.ddf_copy.specs.declared.copy.DiskCopy.{DiskCopy}
 use Rattle.ddf_copy.specs.declared.newest_copy.Newest.{Newest}
 use Rattle.ddf_copy.specs.declared.newest_copy.Newest.TheVariants.{Level}
 use Rattle.ddf_copy.specs.Anchor.{anchor_at}
-use Rattle.ddf_copy.specs.Headers.{IsUnder}
+use Rattle.ddf_header.specs.declared.kind.HeaderKind.TheVariants.{Anchor}
+use Rattle.ddf_header.specs.Header.{IsHeaderOf}
+use Rattle.ddf_header.proofs.Encoded.{encoded_again}
+use Rattle.ddf_copy.specs.Gate.{header_bytes}
+use Rattle.ddf_copy.specs.Headers.{IsAnchor, IsUnder, anchor_header}
 use Rattle.ddf_copy.specs.Whole.{IsNewestUnder}
 use Rattle.ddf_config.specs.declared.seat.Seat.{Seat}
 use Rattle.ddf_view.specs.Shows.{shows}
 use Rattle.ddf_view.specs.View.{view_of}
 use Rattle.ddf_rewrite.proofs.Lists.{all_at, all_by_get, all_mapped, get_map, map_get, some_same}
-use Rattle.ddf_update.specs.Changes.{AreChanged, MayChangeAll, SlotChange}
+use Rattle.ddf_update.specs.declared.prepared.Mode.{Mode}
+use Rattle.ddf_update.specs.declared.prepared.Mode.TheVariants.{Adopt, Change, Found}
+use Rattle.ddf_update.specs.Changes.{AreChanged, MayChangeAll, SlotChange, anchor_after}
+use Rattle.ddf_update.proofs.Getting.{has_old}
 use Rattle.ddf_update.specs.Update.{AreBoth}
 use Rattle.ddf_assembly.specs.declared.seated.Seated.{Seated}
 use Rattle.ddf_assembly.specs.Group.{GroupValue}
@@ -26,14 +33,16 @@ use Rattle.ddf_assembly.specs.Reading.{HasAnchor, HaveAnchors}
 use Rattle.ddf_assembly.specs.Ready.{ReadyStep, ReadyValue, group_after, with_level}
 use Rattle.ddf_assembly.specs.Seated.{seated, seats_in, slots_in}
 use Rattle.ddf_assembly.specs.Settled.{IsLevelIn, IsSettledGroup}
-use Rattle.ddf_assembly.specs.Steps.{levelled}
-use Rattle.ddf_assembly.specs.Trying.{AreFollowing, CanBeChanged, Follows, SlotsRise, StandOn}
+use Rattle.ddf_assembly.specs.Steps.{in_order, levelled}
+use Rattle.ddf_assembly.specs.Trying.{AreFollowing, CanBeChanged, Follows, IsOfGroup, SlotsRise, StandOn}
 use Rattle.ddf_assembly.specs.Committed.{AreRewriting, AreSettled, HaveSequence, HoldsGroup, IsReadyFor, IsRewritten, MayWriteNext, group_next, left_behind, next_slots, next_updates}
 use Rattle.ddf_assembly.specs.Held.{AreHeldOn, IsHeldOn, StandUnder}
 use Rattle.ddf_assembly.proofs.CommittedCopies.{standing_under}
 use Rattle.ddf_assembly.proofs.CommittedLevels.{changed_levelled, level_else, level_here, seated_after, seats_levelled, slot_or_none}
 use Rattle.ddf_assembly.proofs.CommittedSeats.{get_there, seated_is}
 use Rattle.ddf_assembly.proofs.Lists.{get_within}
+use Rattle.ddf_assembly.proofs.Ordered.{order_at, order_from}
+use Rattle.ddf_assembly.proofs.Rewritten.{none_founded, places_under}
 
 -- ---- a slot that isn't written
 
@@ -57,6 +66,20 @@ recovered_holds old new same_sizes same_held group held under settled =
       are_under = λ slot newest at anchor. under_still old new same_sizes slot newest (same slot) anchor (under slot newest at anchor);
       are_settled = settled;
     }
+
+-- ---- anchors
+
+-- An anchor that is written is spelled so.
+anchor_spelled : (copy : DiskCopy) (bytes : List ℕ) → IsHeaderOf Anchor (anchor_header copy) bytes → IsAnchor (anchor_header copy)
+anchor_spelled copy bytes is =
+    let same : header_bytes (anchor_header copy) ≡ bytes = encoded_again Anchor (anchor_header copy) bytes is in
+    subst (IsHeaderOf Anchor (anchor_header copy)) (sym same) is
+
+-- by how a disk is written
+mode_elim : {P : Type 0} (mode : Mode) → (mode ≡ Change → P) → (mode ≡ Found → P) → (mode ≡ Adopt → P) → P
+mode_elim Change changes founds adopts = changes refl
+mode_elim Found changes founds adopts = founds refl
+mode_elim Adopt changes founds adopts = adopts refl
 
 -- ---- a step's disks
 
@@ -136,15 +159,23 @@ module _ (group : GroupValue) (one : ReadyStep) (rise : SlotsRise (seats_in (sea
         let found : slice_get group.newest disk.seat.slot ≡ Some (Some own.found) = subst (λ (n : ℕ). slice_get group.newest n ≡ Some (Some own.found)) slot_is own.is_found in
         let prior = have disk.seat.slot own.found found in
         let size = slice_index sizes disk.seat.slot in
-        let under = all_at (λ (other : Seated). other.seat.slot ≡ disk.seat.slot → IsUnder size prior.1.anchor other.copy) one.step.disks k disk
-        (follows.stand_on disk.seat.slot size prior.1.anchor (stand_on disk.seat.slot own.found found size prior.1.anchor prior.1.under)) at refl in (
-          prior.0,
-          record {
-            anchor = prior.1.anchor;
-            is_anchor = prior.1.is_anchor;
-            under = subst (IsNewestUnder size prior.1.anchor) (level_is k disk at newest there) under;
-          },
-        )
+        let seated_under = stand_on disk.seat.slot own.found found size prior.1.anchor prior.1.under in
+        let under = all_at (λ (other : Seated). other.seat.slot ≡ disk.seat.slot → other.mode ≡ Change → IsUnder size prior.1.anchor other.copy) one.step.disks k disk
+        (follows.stand_on disk.seat.slot size prior.1.anchor seated_under) at refl in
+        let before_under = all_at (λ (other : Seated). other.seat.slot ≡ disk.seat.slot → IsUnder size prior.1.anchor other.copy) (seated group) is.place is.before seated_under is.is_there slot_is in
+        let can = (all_at (IsOfGroup one.step.config) one.step.disks k disk follows.can_be_changed.of_group at).is_copy in
+        let placed = order_at one.step.disks k disk at in
+        let update = get_there one.updates placed.0 (let below = get_within (in_order one.step.disks) disk placed.0 placed.1 in let counted = follows.are_prepared.counted in omega (arith, below, counted)) in
+        let prepared = follows.are_prepared.each placed.0 disk update.0 placed.1 update.1 in
+        let anchored = mode_elim disk.mode
+        (λ (changes : disk.mode ≡ Change). record { anchor = prior.1.anchor; is_anchor = prior.1.is_anchor; under = under changes })
+        (λ founds. absurd (none_founded one.step.config is.before (sym is.has_mode ∙ founds)))
+        (λ adopts. record {
+          anchor = anchor_header disk.copy;
+          is_anchor = anchor_spelled disk.copy update.0.anchor prepared.anchor_is;
+          under = places_under size prior.1.anchor is.before.copy disk.copy before_under can is.has_places;
+        }) in
+        (prior.0, subst (HasAnchor size) (level_is k disk at newest there) anchored)
 
     -- Each newest copy can be written again then, under an anchor of its slot.
     pub after_anchored : HaveAnchors sizes (group_after group one.step).newest
@@ -158,28 +189,32 @@ module _ (group : GroupValue) (one : ReadyStep) (rise : SlotsRise (seats_in (sea
   -- ---- what the disks hold then
 
   module _ {D : Type 0} (old new : BayState D) (same_sizes : new.sizes ≡ old.sizes) (holds : HoldsGroup old group) (seat : ℕ → SlotChange)
-      (may : MayChangeAll old (slots_in one.step.disks) seat one.updates)
-      (news : (place : ℕ) (disk : Seated) → slice_get one.step.disks place ≡ Some disk → (seat place).new ≡ disk.copy)
-      (changed : AreChanged old new (slots_in one.step.disks) seat one.updates (length (slots_in one.step.disks))) where
-    slot_at : (k : ℕ) (disk : Seated) → slice_get one.step.disks k ≡ Some disk → slice_get (slots_in one.step.disks) k ≡ Some disk.seat.slot
-    slot_at k disk at = get_map (λ (one : Seated). one.seat.slot) one.step.disks k disk at
+      (may : MayChangeAll old (slots_in (in_order one.step.disks)) seat one.updates)
+      (news : (place : ℕ) (disk : Seated) → slice_get (in_order one.step.disks) place ≡ Some disk → (seat place).new ≡ disk.copy)
+      (changed : AreChanged old new (slots_in (in_order one.step.disks)) seat one.updates (length (slots_in (in_order one.step.disks)))) where
+    abbrev written : List Seated
+    written = in_order one.step.disks
 
-    both_of : (k : ℕ) (disk : Seated) → slice_get one.step.disks k ≡ Some disk → AreBoth (size_of new disk.seat.slot) (new.held disk.seat.slot) (seat k).anchor disk.copy
+    slot_at : (k : ℕ) (disk : Seated) → slice_get written k ≡ Some disk → slice_get (slots_in written) k ≡ Some disk.seat.slot
+    slot_at k disk at = get_map (λ (one : Seated). one.seat.slot) written k disk at
+
+    both_of : (k : ℕ) (disk : Seated) → slice_get written k ≡ Some disk → AreBoth (size_of new disk.seat.slot) (new.held disk.seat.slot) (anchor_after (seat k)) disk.copy
     both_of k disk at =
         let slot = disk.seat.slot in
         let here = slot_at k disk at in
-        let below = get_within one.step.disks disk k at in
+        let below = get_within written disk k at in
         let counted = follows.are_prepared.counted in
         let update = get_there one.updates k (omega (arith, below, counted)) in
-        let is = changed.have_changed k slot update.0 (get_within (slots_in one.step.disks) slot k here) here update.1 in
-        subst (λ (sizes : List ℕ). AreBoth (slice_index sizes slot) (new.held slot) (seat k).anchor disk.copy) (sym same_sizes)
-        (subst (λ (copy : DiskCopy). AreBoth (size_of old slot) (new.held slot) (seat k).anchor copy) (news k disk at) is.are_both)
+        let is = changed.have_changed k slot update.0 (get_within (slots_in written) slot k here) here update.1 in
+        subst (λ (sizes : List ℕ). AreBoth (slice_index sizes slot) (new.held slot) (anchor_after (seat k)) disk.copy) (sym same_sizes)
+        (subst (λ (copy : DiskCopy). AreBoth (size_of old slot) (new.held slot) (anchor_after (seat k)) copy) (news k disk at) is.are_both)
 
     held_here : (k : ℕ) (disk : Seated) → slice_get one.step.disks k ≡ Some disk → IsHeldOn new disk.seat.slot (Level disk.copy)
     held_here k disk at =
-        let both = both_of k disk at in
+        let placed = order_at one.step.disks k disk at in
+        let both = both_of placed.0 disk placed.1 in
         record {
-          anchor = (seat k).anchor;
+          anchor = anchor_after (seat placed.0);
           is_anchored = both.is_anchored;
           is_newest = both.are_level ∙ ap (λ (copy : DiskCopy). Level copy) (disk_is k disk at).as_primary;
         }
@@ -188,17 +223,19 @@ module _ (group : GroupValue) (one : ReadyStep) (rise : SlotsRise (seats_in (sea
         → IsUnder (size_of new disk.seat.slot) anchor disk.copy
     under_here k disk at anchor anchored =
         let slot = disk.seat.slot in
-        let both = both_of k disk at in
-        let same : (seat k).anchor ≡ anchor = let two = sym both.is_anchored ∙ anchored in cc in
+        let placed = order_at one.step.disks k disk at in
+        let both = both_of placed.0 disk placed.1 in
+        let same : anchor_after (seat placed.0) ≡ anchor = let two = sym both.is_anchored ∙ anchored in cc in
         subst (λ (sizes : List ℕ). IsUnder (slice_index sizes slot) anchor disk.copy) (sym same_sizes)
         (subst (λ (header : Header). IsUnder (size_of old slot) header disk.copy) same
-        (subst (IsUnder (size_of old slot) (seat k).anchor) (news k disk at) (may.may_change k slot (slot_at k disk at)).is_under))
+        (subst (IsUnder (size_of old slot) (anchor_after (seat placed.0))) (news placed.0 disk placed.1) (has_old old slot (seat placed.0) (may.may_change placed.0 slot (slot_at placed.0 disk placed.1))).is_under))
 
     -- a slot that isn't written
     held_else : (slot : ℕ) → ((k : ℕ) (disk : Seated) → slice_get one.step.disks k ≡ Some disk → slot ≢ disk.seat.slot) → new.held slot ≡ old.held slot
     held_else slot none = fun_ext (λ l. changed.others slot l (λ place below at.
-        let found = map_get (λ (one : Seated). one.seat.slot) one.step.disks place slot at in
-        none place found.0 found.1 (sym found.2)))
+        let found = map_get (λ (one : Seated). one.seat.slot) written place slot at in
+        let from = order_from one.step.disks place found.0 found.1 in
+        none from.0 found.0 from.1 (sym found.2)))
 
     newest_else : (slot : ℕ) (newest : Newest) → ((k : ℕ) (disk : Seated) → slice_get one.step.disks k ≡ Some disk → slot ≢ disk.seat.slot)
         → slice_get (fold with_level group.newest one.step.disks) slot ≡ Some (Some newest) → slice_get group.newest slot ≡ Some (Some newest)
@@ -231,9 +268,10 @@ module _ (group : GroupValue) (one : ReadyStep) (rise : SlotsRise (seats_in (sea
       are_under = after_under;
       are_settled = λ place one_seat below at.
           let found = map_get (λ (one : Seated). one.seat) one.step.disks place one_seat at in
-          let here = slot_at place found.0 found.1 in
+          let placed = order_at one.step.disks place found.0 found.1 in
+          let here = slot_at placed.0 found.0 placed.1 in
           subst (λ (s : Seat). IsSettled new.may_hold new.held s.slot) found.2
-          (changed.are_settled place found.0.seat.slot (get_within (slots_in one.step.disks) found.0.seat.slot place here) here);
+          (changed.are_settled placed.0 found.0.seat.slot (get_within (slots_in written) found.0.seat.slot placed.0 here) here);
     }
 
 -- ---- the next step

@@ -7,8 +7,8 @@ use Rattle.ddf_config.specs.declared.refusal.Refusal.{Refusal}
 use Rattle.ddf_config.specs.Configuration.{Configuration}
 use Rattle.ddf_copy.specs.declared.copy.DiskCopy.{DiskCopy}
 use Rattle.ddf_plan.specs.declared.change.Change.{Change}
-use Rattle.ddf_plan.specs.declared.change.Change.TheVariants.{Lose, Create, Delete, Spare, Fail}
-use Rattle.ddf_plan.specs.Changes.{steps_of}
+use Rattle.ddf_plan.proofs.Afters.{steps_taken}
+use Rattle.ddf_plan.specs.Causes.{steps_of}
 use Rattle.ddf_plan.specs.Refusals.{greatest_sequence}
 use Rattle.ddf_plan.specs.Same.{is_step}
 use Rattle.ddf_rewrite.specs.Before.{Before, before}
@@ -26,6 +26,7 @@ use Rattle.ddf_assembly.specs.Trying.{AreFollowing}
 use Rattle.ddf_assembly.specs.Ready.{ReadyStep, ReadyValue, is_spent, readied, steps_from, unless_spent, with_step}
 use Rattle.ddf_assembly.specs.Committed.{AreRewriting, DoRise, HaveSequence, IsReadyFor, IsRewritten}
 use Rattle.ddf_assembly.proofs.Recovered.{settled_readied}
+use Rattle.ddf_assembly.proofs.Rewritten.{changed_header, changed_places}
 
 -- ---- the disks of a step
 
@@ -60,6 +61,9 @@ disks_rewritten timestamp leaders config disks =
       same_last = refl;
       as_primary = refl;
       has_sequence = changed_sequence found.0.copy leaders config timestamp;
+      has_group = ap (λ (header : _). header.guid) (changed_header found.0.copy leaders config timestamp);
+      has_places = changed_places found.0.copy leaders config timestamp;
+      has_mode = refl;
     }))
 
 -- ---- one step behind another
@@ -114,13 +118,6 @@ steps_rewrite timestamp (change ∷ changes) config disks steps h =
 
 -- ---- sequence numbers
 
-more_steps : (change : Change) → 0 < steps_of change
-more_steps (Lose references) = omega arith
-more_steps (Create guid array) = omega arith
-more_steps (Delete guid) = omega arith
-more_steps (Spare reference use_as) = omega arith
-more_steps (Fail reference) = omega arith
-
 pub raised_more : (sequence steps : ℕ) → 0 < steps → raised sequence steps ≤ greatest_sequence → sequence < raised sequence steps
 raised_more sequence steps more within = omega (arith, more, within)
 
@@ -153,7 +150,7 @@ steps_rise timestamp [] config disks (one ∷ others) h none = absurd cc
 steps_rise timestamp (change ∷ changes) config disks steps h none =
     let step = step_of timestamp config disks change in
     rise_by config.sequence step (steps_from timestamp None changes step.config (map levelled step.disks)) (steps_from timestamp None changes config disks) steps
-    (λ within. raised_more config.sequence (steps_of change) (more_steps change) within)
+    (λ within. raised_more config.sequence (steps_of change) (steps_taken change) within)
     (λ others is. steps_rise timestamp changes step.config (map levelled step.disks) others is)
     (λ others is. steps_rise timestamp changes config disks others is)
     (is_step config change)

@@ -8,6 +8,7 @@ use Rattle.ddf_copy.specs.declared.copy.DiskCopy.{DiskCopy}
 use Rattle.ddf_copy.specs.declared.newest_copy.Newest.{Newest}
 use Rattle.ddf_copy.specs.Copies.{standing_copy}
 use Rattle.ddf_copy.specs.Shows.{last_of}
+use Rattle.ddf_update.specs.declared.prepared.Mode.TheVariants.{Change}
 use Rattle.ddf_assembly.specs.declared.seated.Seated.{Seated}
 use Rattle.ddf_assembly.specs.Group.{GroupValue}
 use Rattle.ddf_rewrite.proofs.Lists.{all_at, get_map, map_get}
@@ -38,15 +39,16 @@ pub record IsSeatedIn (newest : List (Option Newest)) (seats : List Seat) (disk 
   pub is_found : slice_get newest disk.seat.slot ≡ Some (Some found)
   pub stands : standing_copy found ≡ Some disk.copy
   pub has_last : disk.last ≡ last_of found
+  pub has_mode : disk.mode ≡ Change
 
 module _ (newest : List (Option Newest)) (seats : List Seat) (place : ℕ) (seat : Seat) (is_seat : slice_get seats place ≡ Some seat) where
   seated_with : (one : Newest) (stands : Option DiskCopy) → slice_get newest seat.slot ≡ Some (Some one) → standing_copy one ≡ stands → (disk : Seated)
-      → option_map (λ copy. record { seat = seat; copy = copy; last = last_of one }) stands ≡ Some disk → IsSeatedIn newest seats disk
+      → option_map (λ copy. record { seat = seat; copy = copy; last = last_of one; mode = Change }) stands ≡ Some disk → IsSeatedIn newest seats disk
   seated_with one None at stands disk is = absurd cc
   seated_with one (Some copy) at stands disk is =
-      let own : Seated = record { seat = seat; copy = copy; last = last_of one } in
+      let own : Seated = record { seat = seat; copy = copy; last = last_of one; mode = Change } in
       let same : own ≡ disk = cc in
-      subst (IsSeatedIn newest seats) same (record { place = place; is_seat = is_seat; found = one; is_found = at; stands = stands; has_last = refl })
+      subst (IsSeatedIn newest seats) same (record { place = place; is_seat = is_seat; found = one; is_found = at; stands = stands; has_last = refl; has_mode = refl })
 
   seated_where : (found : Option (Option Newest)) → slice_get newest seat.slot ≡ found → (disk : Seated)
       → option_and_then (λ one. option_and_then (seated_by seat) one) found ≡ Some disk → IsSeatedIn newest seats disk

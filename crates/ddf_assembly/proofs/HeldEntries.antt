@@ -197,3 +197,86 @@ module _ (k : Option ElementPlan → Option ElementPlan) (keeps : KeepsPlans k) 
     readable = parts_readable array is.readable;
     plans = λ index plan at. subst (λ (n : ℕ). IsHeldPlan most n plan) (sym (length-map array.elements k)) (parts_held most (length array.elements) array.elements is.plans index plan at);
   }
+
+-- ---- elements that become others, one by one
+
+-- An unknown element stays unknown. One that is known stays known, and can be held where it could.
+abbrev pub IsPartKept : Option ElementPlan → Option ElementPlan → Type 0
+IsPartKept None None = Unit {0}
+IsPartKept None (Some next) = ⊥
+IsPartKept (Some plan) None = ⊥
+IsPartKept (Some plan) (Some next) = (most elements : ℕ) → IsHeldPlan most elements plan → IsHeldPlan most elements next
+
+abbrev pub ArePartsKept : List (Option ElementPlan) → List (Option ElementPlan) → Type 0
+ArePartsKept [] [] = Unit {0}
+ArePartsKept [] (next ∷ nexts) = ⊥
+ArePartsKept (part ∷ parts) [] = ⊥
+ArePartsKept (part ∷ parts) (next ∷ nexts) = IsPartKept part next × ArePartsKept parts nexts
+
+kept_length : (parts nexts : List (Option ElementPlan)) → ArePartsKept parts nexts → length nexts ≡ length parts
+kept_length [] [] are = refl
+kept_length [] (next ∷ nexts) are = absurd are
+kept_length (part ∷ parts) [] are = absurd are
+kept_length (part ∷ parts) (next ∷ nexts) are = ap suc (kept_length parts nexts are.1)
+
+pub kept_there : (parts nexts : List (Option ElementPlan)) → ArePartsKept parts nexts → (index : ℕ) (plan : ElementPlan) → slice_get parts index ≡ Some (Some plan)
+    → (next : ElementPlan) × (slice_get nexts index ≡ Some (Some next))
+kept_there [] nexts are index plan at = absurd cc
+kept_there (part ∷ parts) [] are index plan at = absurd are
+kept_there (part ∷ parts) (next ∷ nexts) are zero plan at = by part next are.0 (let same : part ≡ Some plan = cc in same)
+  where
+    by : (one other : Option ElementPlan) → IsPartKept one other → one ≡ Some plan → (k : ElementPlan) × (slice_get (other ∷ nexts) 0 ≡ Some (Some k))
+    by None None is e = absurd cc
+    by None (Some k) is e = absurd is
+    by (Some one) None is e = absurd is
+    by (Some one) (Some k) is e = (k, refl)
+kept_there (part ∷ parts) (next ∷ nexts) are (suc index) plan at = kept_there parts nexts are.1 index plan at
+
+kept_held : (most elements : ℕ) (parts nexts : List (Option ElementPlan)) → ArePartsKept parts nexts → ArePlansHeld most elements parts → ArePlansHeld most elements nexts
+kept_held most elements parts [] are all index next at = absurd cc
+kept_held most elements [] (other ∷ nexts) are all index next at = absurd are
+kept_held most elements (part ∷ parts) (other ∷ nexts) are all zero next at = by part other are.0 (all 0) (let same : other ≡ Some next = cc in same)
+  where
+    by : (one k : Option ElementPlan) → IsPartKept one k → ((plan : ElementPlan) → Some one ≡ Some (Some plan) → IsHeldPlan most elements plan) → k ≡ Some next → IsHeldPlan most elements next
+    by None None is held e = absurd cc
+    by None (Some k) is held e = absurd is
+    by (Some one) None is held e = absurd is
+    by (Some one) (Some k) is held e = let same : k ≡ next = cc in subst (IsHeldPlan most elements) same (is most elements (held one refl))
+kept_held most elements (part ∷ parts) (other ∷ nexts) are all (suc index) next at = kept_held most elements parts nexts are.1 (λ i plan there. all (suc i) plan there) index next at
+
+kept_least : (n : ℕ) (parts nexts : List (Option ElementPlan)) → ArePartsKept parts nexts → find (λ pair. is_some pair.1) (enumerate_from n nexts) ≡ None → find (λ pair. is_some pair.1) (enumerate_from n parts) ≡ None
+kept_least n [] nexts are h = refl
+kept_least n (part ∷ parts) [] are h = absurd are
+kept_least n (None ∷ parts) (None ∷ nexts) are h = kept_least (n + 1) parts nexts are.1 h
+kept_least n (None ∷ parts) (Some next ∷ nexts) are h = absurd are.0
+kept_least n (Some plan ∷ parts) (None ∷ nexts) are h = absurd are.0
+kept_least n (Some plan ∷ parts) (Some next ∷ nexts) are h = absurd cc
+
+kept_alone : (parts nexts : List (Option ElementPlan)) → ArePartsKept parts nexts → parts ≡ None ∷ [] → nexts ≡ None ∷ []
+kept_alone [] nexts are h = absurd cc
+kept_alone (part ∷ parts) [] are h = absurd are
+kept_alone (None ∷ []) (None ∷ []) are h = refl
+kept_alone (None ∷ []) (None ∷ next ∷ nexts) are h = absurd are.1
+kept_alone (None ∷ other ∷ parts) (next ∷ nexts) are h = absurd cc
+kept_alone (None ∷ []) (Some next ∷ nexts) are h = absurd are.0
+kept_alone (Some plan ∷ parts) (next ∷ nexts) are h = absurd cc
+
+-- an array with these elements
+pub entry_with : (most : ℕ) (guid : List ℕ) (array : Array) (nexts : List (Option ElementPlan)) → ArePartsKept array.elements nexts → IsHeldEntry most (guid, array) → IsHeldEntry most (guid, record array { elements = nexts })
+entry_with most guid array nexts are is = record {
+  fits = record {
+    guid = is.fits.guid;
+    used = is.fits.used;
+    number = is.fits.number;
+    state = is.fits.state;
+    init = is.fits.init;
+    name = is.fits.name;
+    secondary = is.fits.secondary;
+  };
+  readable = record {
+    few = let same = kept_length array.elements nexts are in omega (arith, same, is.readable.few);
+    alone = λ h. kept_alone array.elements nexts are (is.readable.alone (kept_least 0 array.elements nexts are h));
+    plain = λ h. is.readable.plain (kept_least 0 array.elements nexts are h);
+  };
+  plans = subst (λ (n : ℕ). ArePlansHeld most n nexts) (sym (kept_length array.elements nexts are)) (kept_held most (length array.elements) array.elements nexts are is.plans);
+}

@@ -25,14 +25,15 @@ use Rattle.ddf_config.specs.Shapes.{has_shapes, has_tiers}
 use Rattle.ddf_config.specs.States.{array_with_low, all_with_low}
 use Rattle.ddf_config.proofs.Firsts.{all_pass}
 use Rattle.ddf_plan.specs.declared.change.Change.{Change}
-use Rattle.ddf_plan.specs.declared.change.Change.TheVariants.{Lose, Create, Delete, Spare, Fail}
+use Rattle.ddf_plan.specs.declared.change.Change.TheVariants.{Create, Delete, Spare, Begin}
 use Rattle.ddf_plan.specs.Refusals.{not_current, refuse_first}
 use Rattle.ddf_plan.specs.Create.{created}
 use Rattle.ddf_plan.specs.CreateRefusal.{create_causes, has_more, has_named, is_no_shape, is_spare_disk, names_twice, passes_most, references}
-use Rattle.ddf_plan.specs.Lose.{lost_array}
 use Rattle.ddf_plan.specs.Spare.{holds_extent, lacks_array, use_in_order}
 use Rattle.ddf_plan.specs.Causes.{causes}
-use Rattle.ddf_plan.specs.Changes.{HasNewGuid, array_after, arrays_after, changed_at, kept_and_added, members_after}
+use Rattle.ddf_plan.specs.Members.{members_after, use_after}
+use Rattle.ddf_plan.specs.Arrays.{HasNewGuid, array_after, arrays_after, kept_and_added, kept_array}
+use Rattle.ddf_plan.specs.Changes.{changed_at}
 use Rattle.ddf_plan.proofs.Afters.{is_new}
 use Rattle.ddf_view.proofs.Tests.{same_bytes, bytes_same}
 use Rattle.ddf_rewrite.specs.Elements.{is_spare_for, no_reference}
@@ -42,10 +43,11 @@ use Rattle.ddf_rewrite.proofs.Lists.{all_append, map_get}
 use Rattle.ddf_rewrite.proofs.NamesCan.{own_names, own_references}
 use Rattle.ddf_assembly.specs.Asked.{CanBeAsked}
 use Rattle.ddf_assembly.proofs.HeldEntries.{IsHeldEntry, entries_fit, entries_held, entries_readable, entries_rebuilt, plans_held}
-use Rattle.ddf_assembly.proofs.ArraysAfter.{KeepsArrays, all_kept, changed_all, guids_kept, guids_of, lost_array_keeps, low_keeps, with_arrays}
-use Rattle.ddf_assembly.proofs.MembersAfter.{are_after, keys_kept, members_fit, use_after}
+use Rattle.ddf_assembly.proofs.ArraysAfter.{KeepsArrays, all_kept, changed_all, guids_kept, guids_of, low_keeps, with_arrays}
+use Rattle.ddf_assembly.proofs.NamedArrays.{array_after_keeps}
+use Rattle.ddf_assembly.proofs.MembersAfter.{are_after, keys_kept, members_fit}
 use Rattle.ddf_assembly.proofs.NewArray.{created_held}
-use Rattle.ddf_assembly.proofs.SparesAfter.{IsUseAmong, guids_end, guids_others, kept_use, others, use_ordered, use_with_new, use_without_gone}
+use Rattle.ddf_assembly.proofs.SparesAfter.{IsUseAmong, guids_end, guids_others, kept_use, no_use, others, use_ordered, use_with_new, use_without_gone}
 
 -- ---- what the causes exclude
 
@@ -103,11 +105,8 @@ create_allowed bound config seats guid array h =
 -- a created array has a new GUID
 pub new_guid : (bound : ℕ) (config : Configuration) (change : Change) (seats : List Seat) → causes (Some bound) config change seats ≡ None → HasNewGuid config.arrays change
 unfolding causes
-new_guid bound config (Lose references) seats h = tt
 new_guid bound config (Create guid array) seats h = (create_allowed bound config seats guid array h).new
-new_guid bound config (Delete guid) seats h = tt
-new_guid bound config (Spare spare use_as) seats h = tt
-new_guid bound config (Fail failed) seats h = tt
+new_guid bound config other seats h = tt
 
 -- ---- the arrays after a change
 
@@ -117,7 +116,7 @@ record AreHeldArrays (most : ℕ) (config : Configuration) (change : Change) (en
   apart : IsDistinct bytes_eq (guids_of entries)
   used : (k : ℕ) (use_as : SpareUse) → IsUseAmong config.arrays use_as → IsUseAmong entries (use_after config change k use_as)
 
-relabelled : (most : ℕ) (config : Configuration) (change : Change) (h : Array → Array) → KeepsArrays h → (entries : List (List ℕ × Array)) → AreHeldArrays most config change entries → AreHeldArrays most config change (with_arrays h entries)
+relabelled : (most : ℕ) (config : Configuration) (change : Change) (h : List ℕ → Array → Array) → KeepsArrays h → (entries : List (List ℕ × Array)) → AreHeldArrays most config change entries → AreHeldArrays most config change (with_arrays h entries)
 relabelled most config change h keeps entries are = record {
   held = all_kept h keeps most entries are.held;
   apart = subst (IsDistinct bytes_eq) (sym (guids_kept h entries)) are.apart;
@@ -128,17 +127,21 @@ relabelled most config change h keeps entries are = record {
 with_low : (most : ℕ) (config : Configuration) (change : Change) (members : List (ℕ × Member)) (all : List Extent) (entries : List (List ℕ × Array)) → AreHeldArrays most config change entries
     → AreHeldArrays most config change (all_with_low members all entries)
 with_low most config change members all entries are =
-    subst (AreHeldArrays most config change) (sym (changed_all (array_with_low members all) entries))
-    (relabelled most config change (array_with_low members all) (low_keeps members all) entries are)
+    subst (AreHeldArrays most config change) (sym (changed_all (λ guid. array_with_low members all) entries))
+    (relabelled most config change (λ guid. array_with_low members all) (low_keeps members all) entries are)
 
+-- the arrays of a table stay, each as the change leaves it
 module _ (most : ℕ) (config : Configuration) (can : IsHoldable most config) where
-  same_arrays : (change : Change) → ((k : ℕ) (use_as : SpareUse) → use_after config change k use_as ≡ use_as) → (h : Array → Array) → KeepsArrays h → AreHeldArrays most config change (with_arrays h config.arrays)
-  same_arrays change same h keeps =
-      relabelled most config change h keeps config.arrays (record {
-        held = entries_held most config can;
-        apart = can.can_hold.guids;
-        used = λ k use_as is. subst (IsUseAmong config.arrays) (sym (same k use_as)) is;
-      })
+  stay : (change : Change) → CanBeAsked change → ((k : ℕ) (use_as : SpareUse) → IsUseAmong config.arrays use_as → IsUseAmong config.arrays (use_after config change k use_as))
+      → AreHeldArrays most config change (with_arrays (array_after (members_after config change) change) config.arrays)
+  stay change asked used =
+      let h = array_after (members_after config change) change in
+      let keeps = array_after_keeps (members_after config change) change asked in
+      record {
+        held = all_kept h keeps most config.arrays (entries_held most config can);
+        apart = subst (IsDistinct bytes_eq) (sym (guids_kept h config.arrays)) can.can_hold.guids;
+        used = λ k use_as is. kept_use h keeps config.arrays (guids_kept h config.arrays) (use_after config change k use_as) (used k use_as is);
+      }
 
 distinct_filter : {X : Type 0} (eq : X → X → Bool) (p : X → Bool) (xs : List X) → IsDistinct eq xs → IsDistinct eq (filter p xs)
 unfolding IsDistinct
@@ -185,43 +188,36 @@ guids_away guid (entry ∷ entries) h = by (same_guid guid entry.0) refl h (guid
     by true e h rest = absurd cc
     by false e h rest = (turned e, rest h)
 
-kept_deleted : (members : List (ℕ × Member)) (gone : List ℕ) (entries : List (List ℕ × Array)) → changed_entries (array_after members (Delete gone)) entries ≡ others gone entries
+kept_deleted : (members : List (ℕ × Member)) (gone : List ℕ) (entries : List (List ℕ × Array)) → changed_entries (kept_array members (Delete gone)) entries ≡ others gone entries
 kept_deleted members gone [] = refl
 kept_deleted members gone (entry ∷ entries) = by (same_guid gone entry.0) (kept_deleted members gone entries)
   where
-    by : (b : Bool) → changed_entries (array_after members (Delete gone)) entries ≡ others gone entries
-        → cons_option (option_map (λ (value : Array). (entry.0, value)) (if b then None else Some entry.1)) (changed_entries (array_after members (Delete gone)) entries)
+    by : (b : Bool) → changed_entries (kept_array members (Delete gone)) entries ≡ others gone entries
+        → cons_option (option_map (λ (value : Array). (entry.0, value)) (if b then None else Some entry.1)) (changed_entries (kept_array members (Delete gone)) entries)
         ≡ cond (not b) (entry ∷ others gone entries) (others gone entries)
     by true rest = rest
     by false rest = ap (λ l. entry ∷ l) rest
 
+same_entries : (entries : List (List ℕ × Array)) → with_arrays (λ guid array. array) entries ≡ entries
+same_entries [] = refl
+same_entries (entry ∷ entries) = ap (λ l. entry ∷ l) (same_entries entries)
+
+chosen_use : (b : Bool) (entries : List (List ℕ × Array)) (next use_as : SpareUse) → IsUseAmong entries next → IsUseAmong entries use_as → IsUseAmong entries (if b then next else use_as)
+chosen_use true entries next use_as new is = new
+chosen_use false entries next use_as new is = is
+
 module _ (most bound : ℕ) (within : bound ≤ most) (config : Configuration) (can : IsHoldable most config) where
+  -- a change that drops no array and adds none
+  kept : (change : Change)
+      → ((entries : List (List ℕ × Array)) → changed_entries (kept_array (members_after config change) change) entries ≡ changed_entries (λ guid array. Some (array_after (members_after config change) change guid array)) entries)
+      → (kept_and_added config change ≡ changed_entries (kept_array (members_after config change) change) config.arrays)
+      → AreHeldArrays most config change (with_arrays (array_after (members_after config change) change) config.arrays) → AreHeldArrays most config change (kept_and_added config change)
+  kept change same none are =
+      subst (AreHeldArrays most config change) (sym (none ∙ same config.arrays ∙ changed_all (array_after (members_after config change) change) config.arrays)) are
+
   -- those of all arrays, their low states aside
   kept_are : (change : Change) (seats : List Seat) → CanBeAsked change → causes (Some bound) config change seats ≡ None → AreHeldArrays most config change (kept_and_added config change)
   unfolding causes
-  kept_are (Lose gone) seats asked h =
-      subst (AreHeldArrays most config (Lose gone)) (sym (append-nil _ ∙ changed_all (lost_array (members_after config (Lose gone)) gone) config.arrays))
-      (same_arrays most config can (Lose gone) (λ k use_as. refl) (lost_array (members_after config (Lose gone)) gone) (lost_array_keeps (members_after config (Lose gone)) gone))
-  kept_are (Fail failed) seats asked h =
-      subst (AreHeldArrays most config (Fail failed)) (sym (append-nil _ ∙ changed_all (lost_array (members_after config (Fail failed)) (failed ∷ [])) config.arrays))
-      (same_arrays most config can (Fail failed) (λ k use_as. refl) (lost_array (members_after config (Fail failed)) (failed ∷ [])) (lost_array_keeps (members_after config (Fail failed)) (failed ∷ [])))
-  kept_are (Spare spare next) seats asked h =
-      let arrays : kept_and_added config (Spare spare next) ≡ config.arrays = append-nil _ ∙ changed_all (λ array. array) config.arrays ∙ same_entries config.arrays in
-      let lacks = not_refused (lacks_array config next) NoArray
-      (all_pass (not_current config seats (spare ∷ []) ∷ []) (refuse_if (lacks_array config next) NoArray) (refuse_if (holds_extent config spare) (InUse (slot_of seats spare)) ∷ []) h) in
-      subst (AreHeldArrays most config (Spare spare next)) (sym arrays) (record {
-        held = entries_held most config can;
-        apart = can.can_hold.guids;
-        used = λ k use_as is. by (nat_eq spare k) use_as is (use_ordered config can.names.guids next asked lacks);
-      })
-    where
-      same_entries : (entries : List (List ℕ × Array)) → with_arrays (λ array. array) entries ≡ entries
-      same_entries [] = refl
-      same_entries (entry ∷ entries) = ap (λ l. entry ∷ l) (same_entries entries)
-
-      by : (b : Bool) (use_as : SpareUse) → IsUseAmong config.arrays use_as → IsUseAmong config.arrays (use_in_order config.arrays next) → IsUseAmong config.arrays (if b then use_in_order config.arrays next else use_as)
-      by true use_as is new = new
-      by false use_as is new = is
   kept_are (Delete gone) seats asked h =
       subst (AreHeldArrays most config (Delete gone)) (sym (append-nil _ ∙ kept_deleted (members_after config (Delete gone)) gone config.arrays)) (record {
         held = all_filter (IsHeldEntry most) (λ (entry : List ℕ × Array). not (same_guid gone entry.0)) config.arrays (entries_held most config can);
@@ -232,16 +228,23 @@ module _ (most bound : ℕ) (within : bound ≤ most) (config : Configuration) (
       let allowed = create_allowed bound config seats guid array h in
       let entry : List ℕ × Array = (guid, created config.members (extents config.arrays) array) in
       let held = created_held config.members (extents config.arrays) guid array bound most can.can_hold.members asked allowed.shapes allowed.tiers allowed.few within in
-      let arrays : changed_entries (array_after (members_after config (Create guid array)) (Create guid array)) config.arrays ≡ config.arrays = changed_all (λ array. array) config.arrays ∙ same_entries config.arrays in
+      let arrays : changed_entries (kept_array (members_after config (Create guid array)) (Create guid array)) config.arrays ≡ config.arrays = changed_all (λ guid array. array) config.arrays ∙ same_entries config.arrays in
       subst (λ (l : List (List ℕ × Array)). AreHeldArrays most config (Create guid array) (l ++ entry ∷ [])) (sym arrays) (record {
         held = all_append (IsHeldEntry most) config.arrays (entry ∷ []) (entries_held most config can) (held, tt);
         apart = subst (IsDistinct bytes_eq) (sym (guids_end config.arrays entry)) (distinct_end bytes_eq (guids_of config.arrays) guid can.can_hold.guids (guids_away guid config.arrays allowed.new));
         used = λ k use_as is. use_with_new guid (created config.members (extents config.arrays) array) config.arrays allowed.new use_as is;
       })
-    where
-      same_entries : (entries : List (List ℕ × Array)) → with_arrays (λ array. array) entries ≡ entries
-      same_entries [] = refl
-      same_entries (entry ∷ entries) = ap (λ l. entry ∷ l) (same_entries entries)
+  kept_are (Spare spare next) seats asked h =
+      let lacks = not_refused (lacks_array config next) NoArray
+      (all_pass (not_current config seats (spare ∷ []) ∷ []) (refuse_if (lacks_array config next) NoArray) (refuse_if (holds_extent config spare) (InUse (slot_of seats spare)) ∷ []) h) in
+      kept (Spare spare next) (λ entries. refl) (append-nil _)
+      (stay most config can (Spare spare next) asked
+      (λ k use_as is. chosen_use (nat_eq spare k) config.arrays (use_in_order config.arrays next) use_as (use_ordered config can.names.guids next asked lacks) is))
+  kept_are (Begin array element position spare start) seats asked h =
+      kept (Begin array element position spare start) (λ entries. refl) (append-nil _)
+      (stay most config can (Begin array element position spare start) asked
+      (λ k use_as is. chosen_use (nat_eq spare k) config.arrays uses.No use_as (no_use config.arrays) is))
+  kept_are other seats asked h = kept other (λ entries. refl) (append-nil _) (stay most config can other asked (λ k use_as is. is))
 
   arrays_are : (change : Change) (seats : List Seat) → CanBeAsked change → causes (Some bound) config change seats ≡ None → AreHeldArrays most config change (arrays_after config change)
   arrays_are change seats asked h =

@@ -44,7 +44,7 @@ use Rattle.ddf_assembly.specs.Refusing.{step_refusal}
 use Rattle.ddf_assembly.specs.Seated.{seated, seats_in, slots_in, views_in}
 use Rattle.ddf_assembly.specs.Settled.{IsSettledGroup}
 use Rattle.ddf_assembly.specs.Steps.{Step, config_after, disks_after, rewritten, stays_in, step_of}
-use Rattle.ddf_assembly.proofs.LeftBefore.{IsFoundAs, found_by, group_is, level_at, none_gone, shows_within, slots_claimed, claimed_current, claimed_disk, claims_within, group_own}
+use Rattle.ddf_assembly.proofs.LeftBefore.{IsFoundAs, all_pass, found_by, group_is, level_at, none_gone, shows_within, slots_claimed, claimed_current, claimed_disk, claims_within, group_own}
 use Rattle.ddf_assembly.proofs.LeftChoice.{ShowAlike, same_chosen}
 use Rattle.ddf_assembly.proofs.LeftLists.{IsNoneOf, one_or_none}
 use Rattle.std.specs.Str.{bytes_eq}
@@ -197,7 +197,8 @@ module _ (group : GroupValue) (are : AreNewest group.newest) (settled : IsSettle
       all_by_get (λ (disk : Seated). CanChange disk.copy led next timestamp) (filter (stays_in next) disks)
       (λ k disk at.
       let there = from_kept (stays_in next) disks k disk at in
-      can_change group are settled guid found timestamp change asked free is kept there.0 disk there.1)
+      can_change group are settled guid found timestamp change asked free is kept there.0 disk there.1
+      (all_at (λ (one : Seated). stays_in next one ≡ true) (filter (stays_in next) disks) k disk (all_pass (stays_in next) disks) at))
 
   read_now : read next.group next.sequence (map (λ (one : Seated). view_of one.copy) new) ≡ next
   unfolding disks_after

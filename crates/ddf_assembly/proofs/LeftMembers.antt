@@ -13,11 +13,8 @@ use Rattle.ddf_config.specs.Configuration.{Configuration}
 use Rattle.ddf_config.specs.Entries.{changed_entries}
 use Rattle.ddf_config.specs.Members.{is_current}
 use Rattle.ddf_plan.specs.declared.change.Change.{Change}
-use Rattle.ddf_plan.specs.declared.change.Change.TheVariants.{Lose, Create, Delete, Spare, Fail}
-use Rattle.ddf_plan.specs.Changes.{members_after, with_spare}
-use Rattle.ddf_plan.specs.Delete.{use_without}
-use Rattle.ddf_plan.specs.Lose.{is_among, lost_member}
-use Rattle.ddf_plan.specs.Spare.{use_in_order}
+use Rattle.ddf_plan.specs.Members.{member_after, members_after}
+use Rattle.ddf_plan.proofs.Kept.{missing_stays}
 use Rattle.ddf_rewrite.proofs.Lists.{found_place, get_map}
 use Rattle.ddf_view.specs.Reading.{member_entry_in, member_in, read}
 use Rattle.ddf_view.specs.Shows.{gives_member, same_flag, shows}
@@ -200,50 +197,14 @@ module _ (made : ℕ → Member → Member) (same_guid : (k : ℕ) (m : Member) 
       let at = get_made members is.place (reference, is.member) is.at in
       record { place = is.place; member = made reference is.member; at = at; same_guid = same_guid reference is.member ∙ is.same_guid; is_here = here is.place (made reference is.member) at }
 
-lost_guid : (references : List ℕ) (k : ℕ) (m : Member) → (lost_member references k m).guid ≡ m.guid
-lost_guid references k m = by (is_among references k)
-  where
-    by : (b : Bool) → (if b then record m { missing = true } else m).guid ≡ m.guid
-    by true = refl
-    by false = refl
-
-lost_stays : (references : List ℕ) (k : ℕ) (m : Member) → (lost_member references k m).missing ≡ false → m.missing ≡ false
-lost_stays references k m h = by (is_among references k) h
-  where
-    by : (b : Bool) → (if b then record m { missing = true } else m).missing ≡ false → m.missing ≡ false
-    by true at = absurd cc
-    by false at = at
-
-spare_guid : (b : Bool) (use_as : SpareUse) (m : Member) → (if b then with_spare m use_as else m).guid ≡ m.guid
-spare_guid true use_as m = refl
-spare_guid false use_as m = refl
-
-spare_stays : (b : Bool) (use_as : SpareUse) (m : Member) → (if b then with_spare m use_as else m).missing ≡ false → m.missing ≡ false
-spare_stays true use_as m h = h
-spare_stays false use_as m h = h
-
 -- A current member after a change was one before.
 pub was_current : (config : Configuration) (change : Change) (guid : List ℕ) (reference : ℕ) → IsCurrentIn (members_after config change) guid reference → IsCurrentIn config.members guid reference
-was_current config (Lose lost) guid reference is = made_before (lost_member lost) (lost_guid lost) (lost_stays lost) config.members guid reference is
-was_current config (Create new array) guid reference is = made_before (λ k m. m) (λ k m. refl) (λ k m h. h) config.members guid reference is
-was_current config (Delete gone) guid reference is =
-    made_before (λ k m. with_spare m (use_without gone m.spare)) (λ k m. refl) (λ k m h. h) config.members guid reference is
-was_current config (Spare spare use_as) guid reference is =
-    made_before (λ k m. if nat_eq spare k then with_spare m (use_in_order config.arrays use_as) else m)
-    (λ k m. spare_guid (nat_eq spare k) (use_in_order config.arrays use_as) m) (λ k m h. spare_stays (nat_eq spare k) (use_in_order config.arrays use_as) m h) config.members guid reference is
-was_current config (Fail failed) guid reference is = made_before (lost_member (failed ∷ [])) (lost_guid (failed ∷ [])) (lost_stays (failed ∷ [])) config.members guid reference is
+was_current config change guid reference is = made_before (member_after config change) (λ k m. refl) (missing_stays config change) config.members guid reference is
 
 -- A current member whose entry isn't missing after a change is one then.
 still_current : (config : Configuration) (change : Change) (guid : List ℕ) (reference : ℕ) → IsCurrentIn config.members guid reference
     → ((place : ℕ) (member : Member) → slice_get (members_after config change) place ≡ Some (reference, member) → member.missing ≡ false) → IsCurrentIn (members_after config change) guid reference
-still_current config (Lose lost) guid reference is here = made_after (lost_member lost) (lost_guid lost) (lost_stays lost) config.members guid reference is here
-still_current config (Create new array) guid reference is here = made_after (λ k m. m) (λ k m. refl) (λ k m h. h) config.members guid reference is here
-still_current config (Delete gone) guid reference is here =
-    made_after (λ k m. with_spare m (use_without gone m.spare)) (λ k m. refl) (λ k m h. h) config.members guid reference is here
-still_current config (Spare spare use_as) guid reference is here =
-    made_after (λ k m. if nat_eq spare k then with_spare m (use_in_order config.arrays use_as) else m)
-    (λ k m. spare_guid (nat_eq spare k) (use_in_order config.arrays use_as) m) (λ k m h. spare_stays (nat_eq spare k) (use_in_order config.arrays use_as) m h) config.members guid reference is here
-still_current config (Fail failed) guid reference is here = made_after (lost_member (failed ∷ [])) (lost_guid (failed ∷ [])) (lost_stays (failed ∷ [])) config.members guid reference is here
+still_current config change guid reference is here = made_after (member_after config change) (λ k m. refl) (missing_stays config change) config.members guid reference is here
 
 -- ---- the table's own test
 

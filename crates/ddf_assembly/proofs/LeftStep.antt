@@ -14,7 +14,7 @@ use Rattle.ddf_config.specs.declared.seat.Seat.{Seat}
 use Rattle.ddf_config.specs.Configuration.{Configuration}
 use Rattle.ddf_config.specs.Members.{is_current}
 use Rattle.ddf_plan.specs.declared.change.Change.{Change}
-use Rattle.ddf_plan.specs.Changes.{steps_of}
+use Rattle.ddf_plan.specs.Causes.{steps_of}
 use Rattle.ddf_plan.specs.Same.{is_step}
 use Rattle.ddf_plan.proofs.Afters.{steps_taken}
 use Rattle.ddf_view.specs.Differ.{difference}
@@ -39,7 +39,7 @@ use Rattle.ddf_rewrite.proofs.Lists.{all_at, all_by_get, get_map, get_range, map
 use Rattle.ddf_rewrite.proofs.Roomy.{change_can}
 use Rattle.ddf_assembly.specs.declared.seated.Seated.{Seated}
 use Rattle.ddf_assembly.specs.Asked.{CanBeAsked}
-use Rattle.ddf_assembly.specs.Full.{full_on, lengths_differ}
+use Rattle.ddf_assembly.specs.Full.{full_where_written, lengths_differ}
 use Rattle.ddf_assembly.specs.Group.{GroupValue, seat_of}
 use Rattle.ddf_assembly.specs.Reading.{AreNewest}
 use Rattle.ddf_assembly.specs.Ready.{is_spent, with_level}
@@ -55,7 +55,7 @@ use Rattle.ddf_assembly.proofs.LeftLists.{IsNoneOf}
 use Rattle.ddf_assembly.proofs.LeftMembers.{AreApart, IsCurrentIn, current_from, lists_from, none_missing_from, stays_current, table_current, was_current}
 use Rattle.ddf_assembly.proofs.LeftSlots.{IsLeft, IsWritten}
 use Rattle.ddf_assembly.proofs.Lists.{get_within}
-use Rattle.ddf_assembly.proofs.OneLength.{HasRoom, can_try_all, led_by_all, one_length}
+use Rattle.ddf_assembly.proofs.OneLength.{HasRoom, can_try_all, led_by_all, one_length, room_on}
 use Rattle.ddf_assembly.proofs.SettledSeats.{Rise}
 use Rattle.ddf_assembly.proofs.StepConfig.{has_room, no_cause, still_left, as_raised}
 
@@ -180,11 +180,11 @@ module _ (group : GroupValue) (are : AreNewest group.newest) (settled : IsSettle
   tries : AllByRecursion (CanTry led next) disks
   tries = can_try_all led next disks copies room.same (led_by_all disks copies) held
 
-  -- Each disk can have its new copy.
-  pub can_change : (k : ℕ) (disk : Seated) → slice_get disks k ≡ Some disk → CanChange disk.copy led next timestamp
-  can_change k disk at =
+  -- Each disk that stays can have its new copy.
+  pub can_change : (k : ℕ) (disk : Seated) → slice_get disks k ≡ Some disk → stays_in next disk ≡ true → CanChange disk.copy led next timestamp
+  can_change k disk at stays =
       let try = all_at (CanTry led next) disks k disk tries at in
-      change_can disk.copy led next timestamp try.is_copy try.holdable (all_at (λ (one : Seated). full_on led next timestamp one ≡ None) disks k disk room.none at)
+      change_can disk.copy led next timestamp try.is_copy try.holdable (room_on led next timestamp disk stays (all_at (λ (one : Seated). full_where_written led next timestamp one ≡ None) disks k disk room.none at))
 
   -- A disk of the step is one of the group, which stays a member.
   pub record IsMade (made : Seated) : Type 0 where
@@ -218,7 +218,7 @@ module _ (group : GroupValue) (are : AreNewest group.newest) (settled : IsSettle
     -- Its copy shows the configuration.
     pub made_shows : shows next (view_of made.copy) ≡ true
     made_shows =
-        let can = can_change own.place own.disk own.at in
+        let can = can_change own.place own.disk own.at own.stays in
         ap (shows next) made_view ∙ changed_shows own.disk.copy led next timestamp can.names can.rebuilt can.room
 
     pub made_guid : (view_of made.copy).guid ≡ (view_of own.disk.copy).guid
@@ -427,8 +427,8 @@ module _ (group : GroupValue) (are : AreNewest group.newest) (settled : IsSettle
 
   agrees : (one other : Seated) → IsMade one → IsMade other → difference (view_of one.copy) (view_of other.copy) ≡ None
   agrees one other own its =
-      let can = can_change own.place own.disk own.at in
-      let also = can_change its.place its.disk its.at in
+      let can = can_change own.place own.disk own.at own.stays in
+      let also = can_change its.place its.disk its.at its.stays in
       ap (λ (view : View). difference view (view_of other.copy)) (made_view one own)
       ∙ ap (difference (view_of (changed_copy own.disk.copy led next timestamp))) (made_view other its)
       ∙ copies_agree own.disk.copy its.disk.copy led next timestamp can.names can.rebuilt can.room also.room

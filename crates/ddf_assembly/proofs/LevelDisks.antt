@@ -8,6 +8,7 @@ use Rattle.ddf_copy.specs.declared.newest_copy.Newest.{Newest}
 use Rattle.ddf_copy.specs.declared.which.Which.TheVariants.{Secondary}
 use Rattle.ddf_copy.specs.Copies.{standing_copy}
 use Rattle.ddf_config.specs.declared.seat.Seat.{Seat}
+use Rattle.ddf_update.specs.declared.prepared.Mode.TheVariants.{Change}
 use Rattle.ddf_assembly.specs.declared.seated.Seated.{Seated}
 use Rattle.ddf_assembly.specs.Group.{GroupValue, seat_at, seat_of, seats_of}
 use Rattle.ddf_assembly.specs.Seated.{seated_at, seated_by, seats_in}
@@ -15,7 +16,7 @@ use Rattle.ddf_assembly.proofs.SettledSeats.{IsLevelOn}
 
 -- The disk of a slot with two level copies.
 abbrev level_disk : (slot : ℕ) → DiskCopy → Seated
-level_disk slot copy = record { seat = seat_of slot copy; copy = copy; last = Secondary }
+level_disk slot copy = record { seat = seat_of slot copy; copy = copy; last = Secondary; mode = Change }
 
 module _ (group : GroupValue) where
   -- Each of these slots has two level copies.

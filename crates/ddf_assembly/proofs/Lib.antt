@@ -7,6 +7,7 @@ pub mod Updates
 pub mod Rewritten
 pub mod HeldEntries
 pub mod ArraysAfter
+mod NamedArrays
 pub mod NewArray
 pub mod MembersAfter
 pub mod SparesAfter
@@ -36,6 +37,7 @@ pub mod Settled
 pub mod CommittedCopies
 pub mod CommittedSeats
 pub mod Committed
+pub mod Ordered
 pub mod CommittedLevels
 pub mod CommittedAfter
 pub mod CommittedReadied

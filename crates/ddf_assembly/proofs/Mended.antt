@@ -8,7 +8,7 @@ use Rattle.ddf_config.specs.Configuration.{Configuration}
 use Rattle.ddf_header.specs.declared.geometry.Geometry.{Geometry}
 use Rattle.ddf_header.specs.declared.reading.Header.{Header}
 use Rattle.ddf_copy.specs.declared.copy.DiskCopy.{DiskCopy}
-use Rattle.ddf_copy.specs.Headers.{IsUnder}
+use Rattle.ddf_copy.specs.Headers.{IsUnder, anchor_header}
 use Rattle.ddf_copy.specs.Written.{CanBeCopy}
 use Rattle.ddf_view.specs.Shows.{shows}
 use Rattle.ddf_view.specs.View.{view_of}
@@ -22,20 +22,23 @@ use Rattle.ddf_rewrite.proofs.Roomy.{recovery_can}
 use Rattle.ddf_rewrite.proofs.Under.{recovered_under}
 use Rattle.ddf_rewrite.proofs.Writable.{recovered_copy_can}
 use Rattle.ddf_assembly.specs.declared.seated.Seated.{Seated}
-use Rattle.ddf_assembly.specs.Assembled.{IsAssembledGroup}
+use Rattle.ddf_update.specs.declared.prepared.Mode.TheVariants.{Change}
+use Rattle.ddf_assembly.specs.Assembled.{IsAsGroup, IsAssembledGroup}
+use Rattle.ddf_assembly.specs.Committed.{HasPlacesOf}
 use Rattle.ddf_assembly.specs.Full.{lengths_differ, lesser, record_length}
 use Rattle.ddf_assembly.specs.Group.{GroupValue}
 use Rattle.ddf_assembly.specs.Mending.{CanMend}
 use Rattle.ddf_assembly.specs.Recovery.{full_mended, full_of_mending, lags, leading, leading_views, mended, mended_copy, mended_or_kept, mending_step, some}
 use Rattle.ddf_assembly.specs.Ready.{ReadyStep}
 use Rattle.ddf_assembly.specs.Seated.{seated, seats_in}
-use Rattle.ddf_assembly.specs.Steps.{Step, levelled}
+use Rattle.ddf_assembly.specs.Steps.{Step, in_order, levelled, mode_of}
 use Rattle.ddf_assembly.specs.Trying.{AreCopies, ArePrepared, CanBeChanged, Follows, HasPlace, HaveLength, IsOfGroup, SlotsRise}
 use Rattle.ddf_view.proofs.Tests.{all_map}
 use Rattle.ddf_assembly.proofs.Following.{both_all}
 use Rattle.ddf_assembly.proofs.Leaders.{filter_have, held_on, leading_fit, leading_many, led_on}
 use Rattle.ddf_assembly.proofs.OneLength.{lesser_none, one_length, own_length}
-use Rattle.ddf_assembly.proofs.Rewritten.{closed_can, closed_under, closed_view}
+use Rattle.ddf_assembly.proofs.Rewritten.{changed_own, closed_can, closed_under, closed_view, places_under}
+use Rattle.ddf_assembly.proofs.SettledSeats.{same_group}
 
 -- ---- what is asked
 
@@ -103,9 +106,8 @@ where_kept {X = X} P test (x ∷ xs) all = by (where_kept P test xs) (test x) re
 -- ---- the copies
 
 module _ (leaders : Before) (config : Configuration) (timestamp : ℕ) (time : timestamp < 2 ^ 32) where
-  -- A disk of the group, which may get the leaders' configuration, and has room for it.
+  -- A disk which may get the leaders' configuration, and has room for it.
   pub record IsMendable (disk : Seated) : Type 0 where
-    pub of_group : IsOfGroup config disk
     pub can : CanMend leaders config disk
     pub room : full_mended leaders config disk ≡ None
 
@@ -119,18 +121,18 @@ module _ (leaders : Before) (config : Configuration) (timestamp : ℕ) (time : t
         recovery_can old leaders config timestamp is.can.is_copy is.can.holdable is.can.leaders_held is.can.disks_fit is.can.many time none
 
     -- What the copy has that stays, and the one that the leaders give, has the copy that the disk gets.
-    by_shown : (P : DiskCopy → Type 0) → P old → (shows config (view_of old) ≡ false → P (recovered_copy old leaders config timestamp)) → P (mended_copy leaders config timestamp old)
+    by_shown : (P : DiskCopy → Type 0) → (shows config (view_of old) ≡ true → P old) → (shows config (view_of old) ≡ false → P (recovered_copy old leaders config timestamp)) → P (mended_copy leaders config timestamp old)
     by_shown P stays gets = by (shows config (view_of old)) refl
       where
         by : (b : Bool) → shows config (view_of old) ≡ b → P (if b then old else recovered_copy old leaders config timestamp)
-        by true e = stays
+        by true e = stays e
         by false e = gets e
 
     -- The copy can be written.
     pub mended_can : CanBeCopy (mended leaders config timestamp disk).copy
     mended_can =
         closed_can (mended_copy leaders config timestamp old)
-        (by_shown CanBeCopy is.can.is_copy (λ e. recovered_copy_can old leaders config timestamp is.can.is_copy (recovers e)))
+        (by_shown CanBeCopy (λ e. is.can.is_copy) (λ e. recovered_copy_can old leaders config timestamp is.can.is_copy (recovers e)))
 
     recovered_group : (recovered_copy old leaders config timestamp).header.guid ≡ config.group
     unfolding recovered_copy
@@ -142,17 +144,26 @@ module _ (leaders : Before) (config : Configuration) (timestamp : ℕ) (time : t
 
     -- It is of the group.
     pub mended_group : (mended leaders config timestamp disk).copy.header.guid ≡ config.group
-    mended_group = by_shown (λ (copy : DiskCopy). copy.header.guid ≡ config.group) is.of_group.same_group (λ e. recovered_group)
+    mended_group = by_shown (λ (copy : DiskCopy). copy.header.guid ≡ config.group) (λ e. same_group config old e) (λ e. recovered_group)
 
     -- Its sections are as large as before.
     pub mended_most : (mended leaders config timestamp disk).copy.header.geometry ≡ old.header.geometry
-    mended_most = by_shown (λ (copy : DiskCopy). copy.header.geometry ≡ old.header.geometry) refl (λ e. recovered_geometry)
+    mended_most = by_shown (λ (copy : DiskCopy). copy.header.geometry ≡ old.header.geometry) (λ e. refl) (λ e. recovered_geometry)
 
-    -- It stands where the one before it does.
-    pub mended_under : (size : ℕ) (anchor : Header) → IsUnder size anchor old → IsUnder size anchor (mended leaders config timestamp disk).copy
-    mended_under size anchor under =
+    -- It stands where the one before it does, under the same anchor where that one is of the group.
+    pub mended_under : mode_of config disk ≡ Change → (size : ℕ) (anchor : Header) → IsUnder size anchor old → IsUnder size anchor (mended leaders config timestamp disk).copy
+    mended_under changes size anchor under =
         closed_under size anchor (mended_copy leaders config timestamp old)
-        (by_shown (IsUnder size anchor) under (λ e. recovered_under size anchor old leaders config timestamp under (sym is.of_group.same_group) (recovers e)))
+        (by_shown (IsUnder size anchor) (λ e. under) (λ e. recovered_under size anchor old leaders config timestamp under (sym (changed_own config disk changes)) (recovers e)))
+
+    recovered_places : HasPlacesOf old (recovered_copy old leaders config timestamp)
+    unfolding recovered_copy
+    recovered_places = record { same_primary = refl; same_secondary = refl; same_sections = refl }
+
+    pub mended_places : HasPlacesOf old (mended leaders config timestamp disk).copy
+    mended_places =
+        let places = by_shown (HasPlacesOf old) (λ e. record { same_primary = refl; same_secondary = refl; same_sections = refl }) (λ e. recovered_places) in
+        record { same_primary = places.same_primary; same_secondary = places.same_secondary; same_sections = places.same_sections }
 
 -- ---- the step
 
@@ -165,7 +176,7 @@ kept_above slot test (disk ∷ disks) below = by (test disk) (kept_above slot te
     by false rest = rest
 
 -- The slots of those that a test keeps rise where those of all do.
-kept_rise : (test : Seated → Bool) (disks : List Seated) → SlotsRise (seats_in disks) → SlotsRise (seats_in (filter test disks))
+pub kept_rise : (test : Seated → Bool) (disks : List Seated) → SlotsRise (seats_in disks) → SlotsRise (seats_in (filter test disks))
 kept_rise test [] rise = tt
 kept_rise test (disk ∷ disks) rise = by (test disk) (above disks rise.0) (kept_rise test disks rise.1)
   where
@@ -177,7 +188,7 @@ kept_rise test (disk ∷ disks) rise = by (test disk) (above disks rise.0) (kept
     by true below rest = (below, rest)
     by false below rest = rest
 
-module _ (timestamp : ℕ) (time : timestamp < 2 ^ 32) (group : GroupValue) (is : IsAssembledGroup group) (of_group : AllByRecursion (IsOfGroup group.config) (seated group)) (free : full_of_mending group ≡ None) where
+module _ (timestamp : ℕ) (time : timestamp < 2 ^ 32) (group : GroupValue) (is : IsAssembledGroup group) (free : full_of_mending group ≡ None) where
   abbrev leaders : Before
   leaders = leading group
 
@@ -190,15 +201,15 @@ module _ (timestamp : ℕ) (time : timestamp < 2 ^ 32) (group : GroupValue) (is 
   abbrev Mendable : Seated → Type 0
   Mendable disk = IsMendable leaders group.config timestamp time disk
 
-  all_mendable : (disks : List Seated) → AllByRecursion (IsOfGroup group.config) disks → AllByRecursion (CanMend leaders group.config) disks
+  all_mendable : (disks : List Seated) → AllByRecursion (CanMend leaders group.config) disks
       → AllByRecursion (λ disk. full_mended leaders group.config disk ≡ None) disks → AllByRecursion Mendable disks
-  all_mendable [] of can room = tt
-  all_mendable (disk ∷ disks) of can room = (record { of_group = of.0; can = can.0; room = room.0 }, all_mendable disks of.1 can.1 room.1)
+  all_mendable [] can room = tt
+  all_mendable (disk ∷ disks) can room = (record { can = can.0; room = room.0 }, all_mendable disks can.1 room.1)
 
   mendable : AllByRecursion Mendable kept
   mendable =
       let room = mending_room group free in
-      all_mendable kept (filter_have (IsOfGroup group.config) (lags group) (seated group) of_group)
+      all_mendable kept
       (filter_have (CanMend leaders group.config) (lags group) (seated group) (can_mend_all group is room.same)) room.none
 
   made_have : (P : Seated → Type 0) → ((disk : Seated) → Mendable disk → P (mended leaders group.config timestamp disk)) → AllByRecursion P made
@@ -241,9 +252,9 @@ module _ (timestamp : ℕ) (time : timestamp < 2 ^ 32) (group : GroupValue) (is 
   seats_kept (disk ∷ disks) = ap (λ (others : List Seat). disk.seat ∷ others) (seats_kept disks)
 
   -- The step that was made of it follows.
-  pub mending_follows : (one : ReadyStep) → one.step ≡ mending_step timestamp group → ArePrepared one.step.disks one.updates → Follows (seated group) one
+  pub mending_follows : (one : ReadyStep) → one.step ≡ mending_step timestamp group → ArePrepared (in_order one.step.disks) one.updates → Follows (seated group) one
   mending_follows one same prepared =
-      subst (λ (step : Step). ArePrepared step.disks one.updates → Follows (seated group) (record { step = step; updates = one.updates })) (sym same)
+      subst (λ (step : Step). ArePrepared (in_order step.disks) one.updates → Follows (seated group) (record { step = step; updates = one.updates })) (sym same)
       (λ updates. record {
         can_be_changed = record {
           of_group = made_have (IsOfGroup group.config) mended_of;
@@ -253,9 +264,13 @@ module _ (timestamp : ℕ) (time : timestamp < 2 ^ 32) (group : GroupValue) (is 
         are_prepared = updates;
         slots_rise = λ rise. subst SlotsRise (sym (seats_kept kept)) (kept_rise (lags group) (seated group) rise);
         have_places = λ sizes places. made_both (HasPlace sizes) (HasPlace sizes)
-            (λ disk can place. record { there = place.there; anchor = place.anchor; under = mended_under leaders group.config timestamp time disk can _ place.anchor place.under }) places;
-        stand_on = λ slot size anchor stand. made_both (λ disk. disk.seat.slot ≡ slot → IsUnder size anchor disk.copy) (λ disk. disk.seat.slot ≡ slot → IsUnder size anchor disk.copy)
-            (λ disk can stands here. mended_under leaders group.config timestamp time disk can size anchor (stands here)) stand;
+            (λ disk can place. record {
+              there = place.there;
+              anchor = anchor_header (mended leaders group.config timestamp disk).copy;
+              under = places_under _ place.anchor disk.copy (mended leaders group.config timestamp disk).copy place.under (mended_can leaders group.config timestamp time disk can) (mended_places leaders group.config timestamp time disk can);
+            }) places;
+        stand_on = λ slot size anchor stand. made_both (λ disk. disk.seat.slot ≡ slot → IsUnder size anchor disk.copy) (λ disk. disk.seat.slot ≡ slot → disk.mode ≡ Change → IsUnder size anchor disk.copy)
+            (λ disk can stands here changes. mended_under leaders group.config timestamp time disk can changes size anchor (stands here)) stand;
       })
       prepared
 
@@ -264,21 +279,28 @@ module _ (timestamp : ℕ) (time : timestamp < 2 ^ 32) (group : GroupValue) (is 
   abbrev or_kept : Seated → Seated
   or_kept disk = mended_or_kept timestamp group disk
 
-  by_lagging : (P : Seated → Type 0) (disk : Seated) → P disk → ((lags group disk ≡ true) → P (levelled (mended leaders group.config timestamp disk))) → P (or_kept disk)
+  by_lagging : (P : Seated → Type 0) (disk : Seated) → (lags group disk ≡ false → P disk) → ((lags group disk ≡ true) → P (levelled (mended leaders group.config timestamp disk))) → P (or_kept disk)
   by_lagging P disk stays gets = by (lags group disk) refl
     where
       by : (b : Bool) → lags group disk ≡ b → P (if b then levelled (mended leaders group.config timestamp disk) else disk)
       by true e = gets e
-      by false e = stays
+      by false e = stays e
 
   each_mendable : AllByRecursion (λ disk. lags group disk ≡ true → Mendable disk) (seated group)
   each_mendable = where_kept Mendable (lags group) (seated group) mendable
 
-  all_or_kept : (P : Seated → Type 0) → AllByRecursion P (seated group) → ((disk : Seated) → Mendable disk → P (levelled (mended leaders group.config timestamp disk))) → AllByRecursion P (map or_kept (seated group))
+  all_or_kept : (P : Seated → Type 0) → AllByRecursion (λ disk. lags group disk ≡ false → P disk) (seated group) → ((disk : Seated) → Mendable disk → P (levelled (mended leaders group.config timestamp disk))) → AllByRecursion P (map or_kept (seated group))
   all_or_kept P all gives =
       all_mapped P or_kept (seated group)
-      (all_map (λ disk. P disk × (lags group disk ≡ true → Mendable disk)) (λ disk. P (or_kept disk)) (λ disk both. by_lagging P disk both.0 (λ h. gives disk (both.1 h))) (seated group)
-      (both_all P (λ disk. lags group disk ≡ true → Mendable disk) (seated group) all each_mendable))
+      (all_map (λ disk. (lags group disk ≡ false → P disk) × (lags group disk ≡ true → Mendable disk)) (λ disk. P (or_kept disk)) (λ disk both. by_lagging P disk both.0 (λ h. gives disk (both.1 h))) (seated group)
+      (both_all (λ disk. lags group disk ≡ false → P disk) (λ disk. lags group disk ≡ true → Mendable disk) (seated group) all each_mendable))
+
+  -- What doesn't lag is of the group.
+  kept_own : AllByRecursion (λ disk. lags group disk ≡ false → IsOfGroup group.config disk) (seated group)
+  kept_own =
+      all_map (λ disk. CanBeCopy disk.copy × (lags group disk ≡ false → IsAsGroup group disk)) (λ disk. lags group disk ≡ false → IsOfGroup group.config disk)
+      (λ disk both stays. record { is_copy = both.0; same_group = same_group group.config disk.copy (both.1 stays).is_shown }) (seated group)
+      (both_all (λ disk. CanBeCopy disk.copy) (λ disk. lags group disk ≡ false → IsAsGroup group disk) (seated group) is.are_copies is.unless_lags)
 
   -- Changes may be tried on the disks behind it.
   pub mended_changed : CanBeChanged group.config (map or_kept (seated group))
@@ -286,8 +308,8 @@ module _ (timestamp : ℕ) (time : timestamp < 2 ^ 32) (group : GroupValue) (is 
       let room = mending_room group free in
       let can = can_mend_all group is room.same in
       record {
-        of_group = all_or_kept (IsOfGroup group.config) of_group (λ disk able. record { is_copy = (mended_of disk able).is_copy; same_group = (mended_of disk able).same_group });
+        of_group = all_or_kept (IsOfGroup group.config) kept_own (λ disk able. record { is_copy = (mended_of disk able).is_copy; same_group = (mended_of disk able).same_group });
         can_hold = all_or_kept (λ disk. HaveLength (record_length disk) (map or_kept (seated group)) → IsHoldable disk.copy.header.geometry.max_members group.config)
-            (all_map (CanMend leaders group.config) (λ disk. HaveLength (record_length disk) (map or_kept (seated group)) → IsHoldable disk.copy.header.geometry.max_members group.config) (λ disk one same. one.holdable) (seated group) can)
+            (all_map (CanMend leaders group.config) (λ disk. lags group disk ≡ false → HaveLength (record_length disk) (map or_kept (seated group)) → IsHoldable disk.copy.header.geometry.max_members group.config) (λ disk one stays same. one.holdable) (seated group) can)
             (λ disk able same. mended_holds disk able);
       }

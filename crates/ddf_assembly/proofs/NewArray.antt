@@ -28,7 +28,8 @@ use Rattle.ddf_config.specs.Extents.{extents_on, ranges}
 use Rattle.ddf_config.specs.Room.{is_free, meets, multiples, least_start_of, start_on}
 use Rattle.ddf_config.specs.Shapes.{strip_sectors, element_shape, has_shape, has_shapes, has_tiers, has_no_strips, part_size, shape_size, sizes, secondary_level, array_tiers}
 use Rattle.ddf_config.specs.Within.{is_complete, is_redundant}
-use Rattle.ddf_plan.specs.Create.{created, created_state, element_strip, mark, placed_element, placed_position}
+use Rattle.ddf_plan.specs.Create.{created, created_state, element_strip, laid_element, laid_position}
+use Rattle.ddf_plan.specs.Mark.{mark}
 use Rattle.ddf_plan.specs.CreateRefusal.{has_more}
 use Rattle.ddf_plan.proofs.Clear.{found_passes}
 use Rattle.ddf_rewrite.specs.Hold.{FitsMember, FitsPosition}
@@ -124,28 +125,28 @@ start_fits members all strip blocks reference start fit e = by (lookup (nat_eq r
         omega arith
 
 module _ (members : List (ℕ × Member)) (all : List Extent) (fit : AllByRecursion FitsMember members) (strip blocks : ℕ) where
-  placed_fits : (position : Position) → IsNewPosition position → FitsPosition (placed_position members all strip blocks position)
+  placed_fits : (position : Position) → IsNewPosition position → FitsPosition (laid_position members all strip blocks position)
   placed_fits position is = record { reference = is.fits.reference; start = by (start_on members all strip blocks position.reference) refl; row = is.fits.row }
     where
       by : (r : Option ℕ) → start_on members all strip blocks position.reference ≡ r → unwrap_or r position.start < 2 ^ 64
       by None at = is.fits.start
       by (Some start) at = start_fits members all strip blocks position.reference start fit at
 
-  all_placed : (positions : List Position) → AllByRecursion IsNewPosition positions → AllByRecursion FitsPosition (map (placed_position members all strip blocks) positions)
+  all_placed : (positions : List Position) → AllByRecursion IsNewPosition positions → AllByRecursion FitsPosition (map (laid_position members all strip blocks) positions)
   all_placed [] each = tt
   all_placed (position ∷ positions) each = (placed_fits position each.0, all_placed positions each.1)
 
-  no_row_placed : (positions : List Position) → AllByRecursion IsNewPosition positions → (i : ℕ) (one : Position) → slice_get (map (placed_position members all strip blocks) positions) i ≡ Some one → one.row ≡ 0
+  no_row_placed : (positions : List Position) → AllByRecursion IsNewPosition positions → (i : ℕ) (one : Position) → slice_get (map (laid_position members all strip blocks) positions) i ≡ Some one → one.row ≡ 0
   no_row_placed positions each i one at =
-      let from = map_get (placed_position members all strip blocks) positions i one at in
+      let from = map_get (laid_position members all strip blocks) positions i one at in
       sym (ap (λ (p : Position). p.row) from.2) ∙ (all_at IsNewPosition positions i from.0 each from.1).no_row
 
 -- ---- the elements of a new array
 
 module _ (members : List (ℕ × Member)) (all : List Extent) (fit : AllByRecursion FitsMember members) (elements bound most : ℕ) (within : bound ≤ most) where
-  plan_held : (plan : ElementPlan) → IsNewPlan plan → HasShape elements plan → has_more bound (Some plan) ≡ false → IsHeldPlan most elements (placed_element members all elements plan)
+  plan_held : (plan : ElementPlan) → IsNewPlan plan → HasShape elements plan → has_more bound (Some plan) ≡ false → IsHeldPlan most elements (laid_element members all elements plan)
   plan_held plan is has few =
-      let f = placed_position members all (element_strip elements plan) plan.blocks in
+      let f = laid_position members all (element_strip elements plan) plan.blocks in
       let same = length-map plan.positions f in
       let below : length plan.positions ≤ bound = ltb-false bound (length plan.positions) few in
       record {
@@ -166,7 +167,7 @@ module _ (members : List (ℕ × Member)) (all : List Extent) (fit : AllByRecurs
   -- each element has a shape, and few members
   parts_new : (parts : List (Option ElementPlan)) → ((index : ℕ) (plan : ElementPlan) → slice_get parts index ≡ Some (Some plan) → IsNewPlan plan)
       → list_all (has_shape elements) parts ≡ true → list_any (has_more bound) parts ≡ false
-      → ArePlansHeld most elements (map (option_map (placed_element members all elements)) parts)
+      → ArePlansHeld most elements (map (option_map (laid_element members all elements)) parts)
   parts_new [] new shapes more index plan at = absurd cc
   parts_new (part ∷ parts) new shapes more zero plan at =
       by part (new 0) (and_parts (has_shape elements part) (list_all (has_shape elements) parts) shapes).0 (left (has_more bound part) (list_any (has_more bound) parts) more) at
@@ -176,10 +177,10 @@ module _ (members : List (ℕ × Member)) (all : List Extent) (fit : AllByRecurs
       left false b h = refl
 
       by : (part : Option ElementPlan) → ((plan : ElementPlan) → Some part ≡ Some (Some plan) → IsNewPlan plan) → has_shape elements part ≡ true → has_more bound part ≡ false
-          → Some (option_map (placed_element members all elements) part) ≡ Some (Some plan) → IsHeldPlan most elements plan
+          → Some (option_map (laid_element members all elements) part) ≡ Some (Some plan) → IsHeldPlan most elements plan
       by None new shape few at = absurd cc
       by (Some one) new shape few at =
-          let same : placed_element members all elements one ≡ plan = cc in
+          let same : laid_element members all elements one ≡ plan = cc in
           subst (IsHeldPlan most elements) same (plan_held one (new one refl) (shape_has elements one shape) few)
   parts_new (part ∷ parts) new shapes more (suc index) plan at =
       parts_new parts (λ i. new (suc i)) (and_parts (has_shape elements part) (list_all (has_shape elements) parts) shapes).1 (right (has_more bound part) (list_any (has_more bound) parts) more) index plan at
@@ -254,8 +255,8 @@ pub created_held : (members : List (ℕ × Member)) (all : List Extent) (guid : 
     → IsHeldEntry most (guid, created members all array)
 created_held members all guid array bound most fit is shapes tiers few within =
     let count = elements_counted array is.complete shapes tiers in
-    let same = length-map array.elements (option_map (placed_element members all (length array.elements))) in
-    let known = known_first (placed_element members all (length array.elements)) array.elements is.complete count.some in
+    let same = length-map array.elements (option_map (laid_element members all (length array.elements))) in
+    let known = known_first (laid_element members all (length array.elements)) array.elements is.complete count.some in
     record {
       fits = record {
         guid = is.fits.guid;

@@ -5,8 +5,8 @@ use Rattle.std.specs.List.{list_any}
 use Rattle.ddf_config.specs.declared.refusal.Refusal.{Refusal}
 use Rattle.ddf_config.specs.Configuration.{Configuration}
 use Rattle.ddf_plan.specs.declared.change.Change.{Change}
-use Rattle.ddf_plan.specs.declared.change.Change.TheVariants.{Lose, Create, Delete, Spare, Fail}
-use Rattle.ddf_plan.specs.Changes.{steps_of}
+use Rattle.ddf_plan.proofs.Afters.{steps_taken}
+use Rattle.ddf_plan.specs.Causes.{steps_of}
 use Rattle.ddf_plan.specs.Refusals.{greatest_sequence}
 use Rattle.ddf_plan.specs.Same.{is_step}
 use Rattle.ddf_assembly.specs.declared.fault.GroupFault.{GroupFault}
@@ -19,13 +19,6 @@ use Rattle.ddf_assembly.specs.Refusing.{step_refusal}
 use Rattle.ddf_assembly.specs.Settled.{IsSettledGroup}
 use Rattle.ddf_assembly.specs.Ready.{AreNumbered, is_spent, readied, steps_from, unless_spent, with_step}
 use Rattle.ddf_assembly.proofs.Recovered.{settled_readied}
-
-some_steps : (change : Change) → 0 < steps_of change
-some_steps (Lose references) = omega arith
-some_steps (Create guid array) = omega arith
-some_steps (Delete guid) = omega arith
-some_steps (Spare spare use_as) = omega arith
-some_steps (Fail failed) = omega arith
 
 -- A sequence number that isn't spent was raised.
 raised_above : (sequence steps : ℕ) → 0 < steps → raised sequence steps ≤ greatest_sequence → sequence < raised sequence steps
@@ -56,7 +49,7 @@ module _ (timestamp : ℕ) (config : Configuration) (disks : List Seated) (chang
   behind = steps_from timestamp None changes first.config (map levelled first.disks)
 
   first_above : is_spent first ≡ false → config.sequence < first.config.sequence
-  first_above free = raised_above config.sequence (steps_of change) (some_steps change) (ltb-false greatest_sequence first.config.sequence free)
+  first_above free = raised_above config.sequence (steps_of change) (steps_taken change) (ltb-false greatest_sequence first.config.sequence free)
 
   -- by what the first change is
   from_first : (refusal : Option Refusal) (is : Bool) (steps : List Step) → list_any is_spent steps ≡ false

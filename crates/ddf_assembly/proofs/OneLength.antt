@@ -1,5 +1,5 @@
 -- Disks whose records have one length: a change may be tried on their copies.
-use Rattle.std.proofs.Common.{◌≡◌, ℕ, Bool, true, false, not, eqb, nat_le, List, [], ◌∷◌, map, fold, Option, Some, None, refl, sym, ap, subst, if◌then◌else◌}
+use Rattle.std.proofs.Common.{◌≡◌, ℕ, Bool, true, false, not, eqb, nat_le, List, [], ◌∷◌, map, fold, Option, Some, None, refl, sym, ap, subst, ◌∙◌, if◌then◌else◌}
 use Rattle.std.proofs.lemmas.Bool.{and_parts, eqb-true}
 use Rattle.std.specs.List.{AllByRecursion, list_all}
 use Rattle.ddf_header.specs.declared.geometry.Geometry.{Geometry}
@@ -16,7 +16,8 @@ use Rattle.ddf_rewrite.specs.Hold.{AreHeld, IsHoldable, IsLeader}
 use Rattle.ddf_rewrite.proofs.Leaders.{leaders_held}
 use Rattle.ddf_assembly.specs.declared.seated.Seated.{Seated}
 use Rattle.ddf_assembly.specs.Seated.{views_in}
-use Rattle.ddf_assembly.specs.Full.{full_of, full_on, least_full, lengths_differ, lesser, rank, record_length}
+use Rattle.ddf_assembly.specs.Steps.{stays_in}
+use Rattle.ddf_assembly.specs.Full.{full_of, full_on, full_where_written, least_full, lengths_differ, lesser, rank, record_length}
 use Rattle.ddf_assembly.specs.Trying.{AreCopies, CanBeHeldOn, CanBeLed, CanTry, HaveLength}
 
 -- ---- one length
@@ -97,22 +98,27 @@ lesser_none (Some one) (Some other) h = by (nat_le (rank one) (rank other)) h
 
 -- no disk has a full table
 pub none_full : (leaders : Before) (config : Configuration) (timestamp : ℕ) (disks : List Seated) → least_full leaders config timestamp disks ≡ None
-    → AllByRecursion (λ disk. full_on leaders config timestamp disk ≡ None) disks
+    → AllByRecursion (λ disk. full_where_written leaders config timestamp disk ≡ None) disks
 unfolding least_full
 none_full leaders config timestamp disks h = (from None disks h).1
   where
-    from : (least : Option FullTable) (some : List Seated) → fold (λ one disk. lesser one (full_on leaders config timestamp disk)) least some ≡ None
-        → (least ≡ None) × AllByRecursion (λ disk. full_on leaders config timestamp disk ≡ None) some
+    from : (least : Option FullTable) (some : List Seated) → fold (λ one disk. lesser one (full_where_written leaders config timestamp disk)) least some ≡ None
+        → (least ≡ None) × AllByRecursion (λ disk. full_where_written leaders config timestamp disk ≡ None) some
     from least [] h = (h, tt)
     from least (disk ∷ some) h =
-        let rest = from (lesser least (full_on leaders config timestamp disk)) some h in
-        let both = lesser_none least (full_on leaders config timestamp disk) rest.0 in
+        let rest = from (lesser least (full_where_written leaders config timestamp disk)) some h in
+        let both = lesser_none least (full_where_written leaders config timestamp disk) rest.0 in
         (both.0, (both.1, rest.1))
 
--- Nothing is full: the records have one length, and no disk has a full table.
+-- Nothing is full: the records have one length, and no disk that is written has a full table.
 pub record HasRoom (timestamp : ℕ) (leaders : Before) (config : Configuration) (disks : List Seated) : Type 0 where
   pub same : lengths_differ disks ≡ false
-  pub none : AllByRecursion (λ disk. full_on leaders config timestamp disk ≡ None) disks
+  pub none : AllByRecursion (λ disk. full_where_written leaders config timestamp disk ≡ None) disks
+
+-- A disk that is written has room itself.
+pub room_on : (leaders : Before) (config : Configuration) (timestamp : ℕ) (disk : Seated) → stays_in config disk ≡ true → full_where_written leaders config timestamp disk ≡ None
+    → full_on leaders config timestamp disk ≡ None
+room_on leaders config timestamp disk stays none = sym (ap (λ b. if b then full_on leaders config timestamp disk else None) stays) ∙ none
 
 pub has_room : (timestamp : ℕ) (leaders : Before) (config : Configuration) (disks : List Seated) → full_of timestamp leaders config disks ≡ None → HasRoom timestamp leaders config disks
 unfolding full_of

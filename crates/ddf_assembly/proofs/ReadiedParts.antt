@@ -3,17 +3,18 @@ use Rattle.std.proofs.Common.{◌≡◌, ℕ, ◌<◌, true, false, List, ◌++�
 use Rattle.std.specs.Prelude.{option_map, option_to_list}
 use Rattle.std.specs.List.{AllByRecursion, list_any}
 use Rattle.ddf_plan.specs.declared.change.Change.{Change}
+use Rattle.ddf_view.specs.Reading.{are_noted}
+use Rattle.ddf_group.specs.Shown.{shown_of}
 use Rattle.ddf_assembly.specs.Committed.{WasReadied}
 use Rattle.ddf_assembly.specs.Group.{GroupValue}
 use Rattle.ddf_assembly.specs.Ready.{ReadyStep, ReadyValue, all_ready, is_spent, steps_from}
-use Rattle.ddf_assembly.specs.Recovery.{config_lost, config_recovered, disks_recovered, full_of_recovery, has_stray, recovery_of, some}
+use Rattle.ddf_assembly.specs.Recovery.{config_lost, config_recovered, disks_recovered, full_of_recovery, has_stray, leading_views, recovery_of, some}
 use Rattle.ddf_assembly.specs.Seated.{seated}
 use Rattle.ddf_assembly.specs.Steps.{Step}
-use Rattle.ddf_assembly.specs.Trying.{IsOfGroup}
 use Rattle.ddf_assembly.proofs.Behind.{IsBehind, is_behind}
 use Rattle.ddf_assembly.proofs.CommittedReadied.{NoneSpent}
 use Rattle.ddf_assembly.proofs.ReadiedSteps as readied_steps
-use Rattle.ddf_assembly.proofs.Recovered.{IsOwn, all_own, of_own}
+use Rattle.ddf_assembly.proofs.Recovered.{IsOwn, all_own}
 
 -- Where two lists begin with the same recovery they go on alike.
 same_rest : (one : Option ReadyStep) (next : Option Step) (steps : List ReadyStep) (rest : List Step) → option_map (λ (one : ReadyStep). one.step) one ≡ next
@@ -32,12 +33,9 @@ module _ (group : GroupValue) (changes : List Change) (timestamp : ℕ) (ready :
   pub none_stray : has_stray group ≡ false
   none_stray = readied_steps.none_stray group changes timestamp steps was.is_readied
 
-  -- So each is of the group and no later than its configuration.
+  -- So each that is of the group is no later than its configuration.
   pub own : AllByRecursion (IsOwn group.config) (seated group)
-  own = all_own group.config (seated group) none_stray
-
-  pub of_group : AllByRecursion (IsOfGroup group.config) (seated group)
-  of_group = of_own group.config (seated group) was.assembled.are_copies none_stray
+  own = all_own (map shown_of group.newest) group.newest (are_noted (leading_views group)) group.config (seated group) none_stray
 
   -- The steps behind the recovery are those that are ready.
   behind_are : readied_steps.behind group changes timestamp steps was.is_readied ≡ map (λ one. one.step) ready.steps
@@ -65,4 +63,4 @@ module _ (group : GroupValue) (changes : List Change) (timestamp : ℕ) (ready :
 
   -- The configuration and the disks are those behind the recovery.
   pub behind : IsBehind timestamp group ready.recovery
-  behind = is_behind timestamp was.time group was.assembled of_group ready.recovery was.is_recovery has_room was.recovers
+  behind = is_behind timestamp was.time group was.assembled ready.recovery was.is_recovery has_room was.recovers

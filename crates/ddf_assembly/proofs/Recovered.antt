@@ -1,24 +1,30 @@
 -- Where a group is settled there is nothing to be recovered.
-use Rattle.std.proofs.Common.{◌≡◌, ℕ, ◌≤◌, Bool, true, false, not, ◌&&◌, ◌||◌, nat_le, nat_lt, List, [], ◌∷◌, map, None, Err, refl, ap, ◌∙◌, arith, if◌then◌else◌}
-use Rattle.std.proofs.lemmas.Bool.{leb-false, not-false}
+use Rattle.std.proofs.Common.{◌≡◌, ℕ, ◌+◌, ◌≤◌, Bool, true, false, not, ◌&&◌, ◌||◌, nat_le, nat_lt, List, [], ◌∷◌, map, Option, None, Err, refl, sym, ap, ◌∙◌, arith, if◌then◌else◌}
+use Rattle.std.proofs.lemmas.Bool.{leb-false}
 use Rattle.std.specs.List.{AllByRecursion, list_any}
 use Rattle.std.specs.Str.{bytes_eq}
 use Rattle.ddf_config.specs.declared.refusal.Refusal.TheVariants.{Unsettled}
 use Rattle.ddf_config.specs.Configuration.{Configuration}
 use Rattle.ddf_plan.specs.declared.change.Change.{Change}
 use Rattle.ddf_plan.specs.Refusals.{greatest_sequence}
+use Rattle.ddf_view.specs.Reading.{are_noted}
 use Rattle.ddf_view.specs.Shows.{shows}
 use Rattle.ddf_view.specs.View.{view_of}
-use Rattle.ddf_view.proofs.Tests.{all_map, bytes_same, same_bytes}
+use Rattle.ddf_view.proofs.Tests.{all_map, bytes_same}
+use Rattle.ddf_copy.specs.declared.newest_copy.Newest.{Newest}
+use Rattle.ddf_group.specs.declared.shown.Shown.{Shown}
+use Rattle.ddf_group.specs.Choice.{shows_unabsorbed}
+use Rattle.ddf_group.specs.Shown.{shown_of}
 use Rattle.ddf_assembly.specs.declared.fault.GroupFault.TheVariants.{Refused}
 use Rattle.ddf_assembly.specs.declared.seated.Seated.{Seated}
 use Rattle.ddf_assembly.specs.Group.{GroupValue}
 use Rattle.ddf_assembly.specs.Seated.{seated}
 use Rattle.ddf_assembly.specs.Steps.{levelled}
 use Rattle.ddf_assembly.specs.Ready.{readied, steps_from, unless_spent, with_recovery}
-use Rattle.ddf_assembly.specs.Recovery.{config_lost, config_recovered, disks_recovered, full_of_recovery, is_stray, loss_spent, lost_step, mended_or_kept, recovery_of, some}
+use Rattle.ddf_assembly.specs.Recovery.{config_lost, config_recovered, disks_recovered, full_of_recovery, leading_views, loss_spent, lost_step, mended_or_kept, recovery_of, some}
+use Rattle.ddf_assembly.specs.Stray.{holds_only_record, is_ahead, is_of_another, is_stale, is_stray, most_behind}
 use Rattle.ddf_assembly.specs.Settled.{IsLevelIn, IsSettledGroup}
-use Rattle.ddf_assembly.specs.Trying.{AreCopies, DoShow, IsOfGroup}
+use Rattle.ddf_assembly.specs.Trying.{DoShow, IsOfGroup}
 use Rattle.ddf_assembly.proofs.SettledSeats.{same_sequence}
 
 -- ---- tests
@@ -29,56 +35,75 @@ neither false b h = (refl, h)
 
 -- ---- disks that recovery can't write
 
--- A disk is of the group, and its copy is no later than the configuration; where it is of its sequence number it shows the configuration.
+-- A disk of the group has a copy that is no later than the configuration, and shows it where it is of its sequence number.
 pub record IsOwn (config : Configuration) (disk : Seated) : Type 0 where
-  pub same_group : disk.copy.header.guid ≡ config.group
-  pub no_later : disk.copy.header.sequence ≤ config.sequence
-  pub is_shown : disk.copy.header.sequence ≡ config.sequence → shows config (view_of disk.copy) ≡ true
+  pub no_later : disk.copy.header.guid ≡ config.group → disk.copy.header.sequence ≤ config.sequence
+  pub is_shown : disk.copy.header.guid ≡ config.group → disk.copy.header.sequence ≡ config.sequence → shows config (view_of disk.copy) ≡ true
 
--- A disk of the group that shows the configuration is none of them.
-not_stray : (config : Configuration) (disk : Seated) → IsOfGroup config disk → shows config (view_of disk.copy) ≡ true → is_stray config disk ≡ false
-not_stray config disk of_group shown =
-    let own : bytes_eq disk.copy.header.guid config.group ≡ true = ap (λ (guid : List ℕ). bytes_eq guid config.group) of_group.same_group ∙ bytes_same config.group in
-    rw (own, shown) (and_false (nat_le config.sequence disk.copy.header.sequence))
+-- ---- a disk of the group that shows the configuration is none of them
+
+module _ (config : Configuration) (disk : Seated) (is_shown : shows config (view_of disk.copy) ≡ true) where
+  and_false : (b : Bool) → (b && false) ≡ false
+  and_false true = refl
+  and_false false = refl
+
+  not_ahead : is_ahead config disk ≡ false
+  not_ahead = rw is_shown (and_false (bytes_eq disk.copy.header.guid config.group && nat_le config.sequence disk.copy.header.sequence))
+
+  not_of_another : (slots : List Shown) → IsOfGroup config disk → is_of_another slots config disk ≡ false
+  not_of_another slots of_group =
+      ap (λ (guid : List ℕ). not (bytes_eq guid config.group) && shows_unabsorbed slots config.group disk.seat.slot) of_group.same_group
+      ∙ ap (λ (b : Bool). not b && shows_unabsorbed slots config.group disk.seat.slot) (bytes_same config.group)
+
+  not_only_record : (newest : List (Option Newest)) → holds_only_record newest config disk ≡ false
+  not_only_record newest = rw is_shown refl
+
+  not_stale : (noted : Bool) → is_stale noted config disk ≡ false
+  not_stale noted =
+      let same = same_sequence config disk.copy is_shown in
+      let none : nat_lt (disk.copy.header.sequence + most_behind config disk) config.sequence ≡ false = not_less disk.copy.header.sequence (most_behind config disk) config.sequence same in
+      ap (λ (b : Bool). noted && bytes_eq disk.copy.header.guid config.group && b) none ∙ and_false (noted && bytes_eq disk.copy.header.guid config.group)
+    where
+      not_less : (own more other : ℕ) → own ≡ other → nat_lt (own + more) other ≡ false
+      not_less own more other same = grind arith
+
+  not_stray : (slots : List Shown) (newest : List (Option Newest)) (noted : Bool) → IsOfGroup config disk → is_stray slots newest noted config disk ≡ false
+  not_stray slots newest noted of_group = rw (not_ahead, not_of_another slots of_group, not_only_record newest, not_stale noted) refl
+
+pub none_stray : (slots : List Shown) (newest : List (Option Newest)) (noted : Bool) (config : Configuration) (disks : List Seated) → AllByRecursion (IsOfGroup config) disks → DoShow config disks → list_any (is_stray slots newest noted config) disks ≡ false
+none_stray slots newest noted config [] of_group show = refl
+none_stray slots newest noted config (disk ∷ disks) of_group show =
+    ap (λ (b : Bool). b || list_any (is_stray slots newest noted config) disks) (not_stray config disk show.0 slots newest noted of_group.0)
+    ∙ none_stray slots newest noted config disks of_group.1 show.1
+
+-- ---- a disk that is none of them
+
+own_from : (config : Configuration) (disk : Seated) → is_ahead config disk ≡ false → IsOwn config disk
+own_from config disk h = by (bytes_eq disk.copy.header.guid config.group) refl (nat_le config.sequence disk.copy.header.sequence) refl (shows config (view_of disk.copy)) refl h
   where
-    and_false : (b : Bool) → (b && false) ≡ false
-    and_false true = refl
-    and_false false = refl
+    not_own : bytes_eq disk.copy.header.guid config.group ≡ false → disk.copy.header.guid ≡ config.group → ⊥
+    not_own other same =
+        let own : bytes_eq disk.copy.header.guid config.group ≡ true = ap (λ (guid : List ℕ). bytes_eq guid config.group) same ∙ bytes_same config.group in
+        let no : true ≡ false = sym own ∙ other in
+        absurd cc
 
-pub none_stray : (config : Configuration) (disks : List Seated) → AllByRecursion (IsOfGroup config) disks → DoShow config disks → list_any (is_stray config) disks ≡ false
-none_stray config [] of_group show = refl
-none_stray config (disk ∷ disks) of_group show =
-    ap (λ (b : Bool). b || list_any (is_stray config) disks) (not_stray config disk of_group.0 show.0) ∙ none_stray config disks of_group.1 show.1
-
-own_from : (config : Configuration) (disk : Seated) → is_stray config disk ≡ false → IsOwn config disk
-own_from config disk h =
-    let parts = neither (not (bytes_eq disk.copy.header.guid config.group)) (nat_le config.sequence disk.copy.header.sequence && not (shows config (view_of disk.copy))) h in
-    by parts.0 (nat_le config.sequence disk.copy.header.sequence) refl (shows config (view_of disk.copy)) refl parts.1
-  where
-    same : not (bytes_eq disk.copy.header.guid config.group) ≡ false → disk.copy.header.guid ≡ config.group
-    same here = same_bytes disk.copy.header.guid config.group (not-false (bytes_eq disk.copy.header.guid config.group) here)
-
-    by : not (bytes_eq disk.copy.header.guid config.group) ≡ false → (later : Bool) → nat_le config.sequence disk.copy.header.sequence ≡ later → (shown : Bool) → shows config (view_of disk.copy) ≡ shown
-        → (later && not shown) ≡ false → IsOwn config disk
-    by here later l true s kept = record { same_group = same here; no_later = let is = same_sequence config disk.copy s in omega (arith, is); is_shown = λ is. s }
-    by here true l false s kept = absurd cc
-    by here false l false s kept =
+    by : (b : Bool) → bytes_eq disk.copy.header.guid config.group ≡ b → (later : Bool) → nat_le config.sequence disk.copy.header.sequence ≡ later → (shown : Bool) → shows config (view_of disk.copy) ≡ shown
+        → (b && later && not shown) ≡ false → IsOwn config disk
+    by false e later l shown s kept = record { no_later = λ same. absurd (not_own e same); is_shown = λ same. absurd (not_own e same) }
+    by true e later l true s kept = record { no_later = λ same. let is = same_sequence config disk.copy s in omega (arith, is); is_shown = λ same is. s }
+    by true e true l false s kept = absurd cc
+    by true e false l false s kept =
         let less = leb-false config.sequence disk.copy.header.sequence l in
-        record { same_group = same here; no_later = omega (arith, less); is_shown = λ is. absurd (omega (arith, less, is)) }
+        record { no_later = λ same. omega (arith, less); is_shown = λ same is. absurd (omega (arith, less, is)) }
 
 -- Where there is none of them, each is such.
-pub all_own : (config : Configuration) (disks : List Seated) → list_any (is_stray config) disks ≡ false → AllByRecursion (IsOwn config) disks
-all_own config [] none = tt
-all_own config (disk ∷ disks) none =
-    let parts = neither (is_stray config disk) (list_any (is_stray config) disks) none in
-    (own_from config disk parts.0, all_own config disks parts.1)
-
--- They are of the group.
-pub of_own : (config : Configuration) (disks : List Seated) → AreCopies disks → list_any (is_stray config) disks ≡ false → AllByRecursion (IsOfGroup config) disks
-of_own config [] are none = tt
-of_own config (disk ∷ disks) are none =
-    let parts = neither (is_stray config disk) (list_any (is_stray config) disks) none in
-    (record { is_copy = are.0; same_group = (own_from config disk parts.0).same_group }, of_own config disks are.1 parts.1)
+pub all_own : (slots : List Shown) (newest : List (Option Newest)) (noted : Bool) (config : Configuration) (disks : List Seated) → list_any (is_stray slots newest noted config) disks ≡ false → AllByRecursion (IsOwn config) disks
+all_own slots newest noted config [] none = tt
+all_own slots newest noted config (disk ∷ disks) none =
+    let parts = neither (is_stray slots newest noted config disk) (list_any (is_stray slots newest noted config) disks) none in
+    let causes = neither (is_ahead config disk || is_of_another slots config disk || holds_only_record newest config disk) (is_stale noted config disk) parts.0 in
+    let two = neither (is_ahead config disk || is_of_another slots config disk) (holds_only_record newest config disk) causes.0 in
+    (own_from config disk (neither (is_ahead config disk) (is_of_another slots config disk) two.0).0, all_own slots newest noted config disks parts.1)
 
 -- ---- a group that is settled
 
@@ -129,7 +154,7 @@ settled_readied group is changes timestamp =
     if b then Err (Refused Unsettled)
     else with_recovery (loss_spent group) (recovery_of timestamp group)
     (unless_spent (steps_from timestamp (full_of_recovery timestamp group) changes (config_recovered group) (disks_recovered timestamp group))))
-    (none_stray group.config (seated group) is.can_be_changed.of_group (shown group is))
+    (none_stray (map shown_of group.newest) group.newest (are_noted (leading_views group)) group.config (seated group) is.can_be_changed.of_group (shown group is))
     ∙ rw (
       no_recovery group is.none_absent is.none_lags timestamp,
       none_full group is.none_absent is.none_lags timestamp,

@@ -13,6 +13,8 @@ use Rattle.ddf_copy.specs.Shows.{last_of}
 use Rattle.ddf_view.specs.Shows.{shows}
 use Rattle.ddf_view.specs.View.{view_of}
 use Rattle.ddf_rewrite.proofs.Lists.{all_at, all_by_get, all_mapped, get_map, map_get, some_same}
+use Rattle.ddf_update.specs.declared.prepared.Mode.{Mode}
+use Rattle.ddf_update.specs.declared.prepared.Mode.TheVariants.{Change}
 use Rattle.ddf_assembly.specs.declared.seated.Seated.{Seated}
 use Rattle.ddf_assembly.specs.Assembled.{IsAsGroup, IsAssembledGroup}
 use Rattle.ddf_assembly.specs.Group.{GroupValue}
@@ -32,8 +34,8 @@ abbrev pub IsLevelAt : List (Option Newest) → Configuration → Seated → Typ
 IsLevelAt newest config disk = (slice_get newest disk.seat.slot ≡ Some (Some (Level disk.copy))) × (shows config (view_of disk.copy) ≡ true)
 
 -- a seat with this copy, behind an update
-abbrev with_last : Seated → Which → Seated
-with_last disk last = record disk { last = last }
+abbrev with_last : Seated → Which → Mode → Seated
+with_last disk last mode = record disk { last = last; mode = mode }
 
 -- ---- seats that lagged
 
@@ -90,7 +92,8 @@ module _ (timestamp : ℕ) (group : GroupValue) (is : IsAssembledGroup group) (r
       by true e = ap (λ (found : Option (Option Newest)). option_and_then (λ one. option_and_then (seated_by disk.seat) one) found) (level_written k disk at e)
       by false e =
           ap (λ (found : Option (Option Newest)). option_and_then (λ one. option_and_then (seated_by disk.seat) one) found) (level_kept k disk at e)
-          ∙ ap (λ (last : Which). Some (with_last disk last)) (sym (last_kept k disk at e))
+          ∙ ap (λ (last : Which). Some (with_last disk last Change)) (sym (last_kept k disk at e))
+          ∙ ap (λ (mode : Mode). Some (with_last disk disk.last mode)) (sym (seated_is group k disk at).has_mode)
 
   -- the group then
   abbrev pub mended_group : GroupValue

@@ -11,9 +11,9 @@ use Rattle.ddf_config.specs.declared.seat.Seat.{Seat}
 use Rattle.ddf_config.specs.Seats.{SeatsFit}
 use Rattle.ddf_plan.specs.declared.change.Change.{Change}
 use Rattle.ddf_rewrite.proofs.Lists.{all_at, get_map, map_get}
-use Rattle.ddf_update.specs.Changes.{AreChanged, SlotChange}
+use Rattle.ddf_update.specs.Changes.{AreChanged, MayGet, SlotChange}
 use Rattle.ddf_update.specs.Group.{IsOneOf, LieOnSlots}
-use Rattle.ddf_update.specs.Update.{MayChange}
+use Rattle.ddf_update.proofs.Getting.{has_old}
 use Rattle.ddf_assembly.specs.declared.seated.Seated.{Seated}
 use Rattle.ddf_assembly.specs.Committed.{AreSettled, HoldsGroup, IsRewritten, MayRecover, WasReadied, group_recovered, recovery_slots, recovery_updates, slots_of, synced}
 use Rattle.ddf_assembly.specs.Group.{GroupValue}
@@ -22,11 +22,13 @@ use Rattle.ddf_assembly.specs.Reading.{HaveAnchors}
 use Rattle.ddf_assembly.specs.Ready.{ReadyStep, ReadyValue}
 use Rattle.ddf_assembly.specs.Recovery.{some}
 use Rattle.ddf_assembly.specs.Seated.{seated, seats_in, slots_in}
+use Rattle.ddf_assembly.specs.Steps.{in_order}
 use Rattle.ddf_assembly.specs.Trying.{SlotsRise}
 use Rattle.ddf_assembly.proofs.Committed.{may_change_all, no_change, seat_is, seat_of, step_lies}
 use Rattle.ddf_assembly.proofs.CommittedAfter.{after_anchored, after_held, after_under, held_still, recovered_holds, under_still}
 use Rattle.ddf_assembly.proofs.CommittedSeats.{seated_is}
 use Rattle.ddf_assembly.proofs.Lists.{get_within}
+use Rattle.ddf_assembly.proofs.Ordered.{order_from}
 use Rattle.ddf_assembly.proofs.RecoveredGroup.{recovery_follows, replaces, rewriting}
 use Rattle.ddf_assembly.proofs.Synced.{settled_since}
 
@@ -84,8 +86,9 @@ module _ (group : GroupValue) (changes : List Change) (timestamp : ℕ) (ready :
   on_seats_by : (next : Option ReadyStep) (steps : List ReadyStep) → ready.recovery ≡ next → (slot : ℕ) → IsOneOf (recovery_slots (record { recovery = next; steps = steps })) slot → IsOneOf (slots_of group.seats) slot
   on_seats_by None steps e slot of = let none = of.is_there in absurd cc
   on_seats_by (Some one) steps e slot of =
-      let found = map_get (λ (disk : Seated). disk.seat.slot) one.step.disks of.place slot of.is_there in
-      let among = seat_among group one (rewriting group changes timestamp ready was one e) of.place found.0 found.1 in
+      let found = map_get (λ (disk : Seated). disk.seat.slot) (in_order one.step.disks) of.place slot of.is_there in
+      let from = order_from one.step.disks of.place found.0 found.1 in
+      let among = seat_among group one (rewriting group changes timestamp ready was one e) from.0 found.0 from.1 in
       record { place = among.0; is_there = get_map (λ (seat : Seat). seat.slot) group.seats among.0 found.0.seat among.1 ∙ ap (λ (n : ℕ). Some n) found.2 }
 
   -- They are slots of seats.
@@ -102,13 +105,14 @@ module _ (group : GroupValue) (changes : List Change) (timestamp : ℕ) (ready :
     holds = synced_holds state group held under
 
     -- The copy that a slot shows is its newest.
-    old_is : (slot : ℕ) (change : SlotChange) → MayChange sure slot change.anchor change.last change.old change.new
+    old_is : (slot : ℕ) (change : SlotChange) → MayGet change.mode sure slot change
         → (newest : Newest) → slice_get group.newest slot ≡ Some (Some newest) → IsNewest newest change.old
     old_is slot change may newest at =
         let is = held slot newest at in
-        let anchors : Ok is.anchor ≡ Ok change.anchor = sym is.is_anchored ∙ may.is_anchored in
+        let can = has_old sure slot change may in
+        let anchors : Ok is.anchor ≡ Ok change.anchor = sym is.is_anchored ∙ can.is_anchored in
         let same : is.anchor ≡ change.anchor = cc in
-        subst (λ (one : Newest). IsNewest one change.old) (ap (newest_of (size_of state slot) (state.held slot)) (sym same) ∙ is.is_newest) may.is_newest
+        subst (λ (one : Newest). IsNewest one change.old) (ap (newest_of (size_of state slot) (state.held slot)) (sym same) ∙ is.is_newest) can.is_newest
 
     may_by : (next : Option ReadyStep) (steps : List ReadyStep) → ready.recovery ≡ next → MayRecover state group (record { recovery = next; steps = steps })
     may_by None steps e = record {
@@ -152,7 +156,7 @@ module _ (group : GroupValue) (changes : List Change) (timestamp : ℕ) (ready :
     holds_by (Some one) steps e may changed =
         let follows = recovery_follows group changes timestamp ready was one e in
         let rewrites = rewriting group changes timestamp ready was one e in
-        let settled = settled_since old new group.seats (slots_in one.step.disks) may.seat one.updates changed in
+        let settled = settled_since old new group.seats (slots_in (in_order one.step.disks)) may.seat one.updates changed in
         record {
           are_held = after_held group one rise follows rewrites (synced old (slots_of group.seats)) new same_sizes was_held may.seat may.may_change may.news changed;
           are_under = after_under group one rise follows rewrites (synced old (slots_of group.seats)) new same_sizes was_held may.seat may.may_change may.news changed;

@@ -18,7 +18,7 @@ use Rattle.ddf_rewrite.specs.Copies.{recovered_copy}
 use Rattle.ddf_rewrite.proofs.Lists.{all_at, all_by_get, map_get}
 use Rattle.ddf_assembly.specs.declared.seated.Seated.{Seated}
 use Rattle.ddf_assembly.specs.Assembled.{HasOneNewest, IsAssembledGroup}
-use Rattle.ddf_assembly.specs.Committed.{IsRewritten}
+use Rattle.ddf_assembly.specs.Committed.{HasPlacesOf, IsRewritten}
 use Rattle.ddf_assembly.specs.Group.{GroupValue}
 use Rattle.ddf_assembly.specs.Recovery.{config_lost, lags, leading, lost_step, mended, mended_copy, mending_step, recovery_of, some}
 use Rattle.ddf_assembly.specs.Ready.{ReadyStep}
@@ -27,7 +27,8 @@ use Rattle.ddf_assembly.specs.Steps.{Step}
 use Rattle.ddf_assembly.proofs.Committed.{IsNewerOver, MayReplace}
 use Rattle.ddf_assembly.proofs.CommittedReadied.{disks_rewritten, filter_get}
 use Rattle.ddf_assembly.proofs.Recovered.{IsOwn}
-use Rattle.ddf_assembly.proofs.SettledSeats.{same_sequence}
+use Rattle.ddf_assembly.proofs.Rewritten.{changed_own}
+use Rattle.ddf_assembly.proofs.SettledSeats.{same_group, same_sequence}
 
 -- ---- level copies
 
@@ -53,9 +54,10 @@ lost_replace timestamp group own less =
     all_map (IsRewritten (seated group) (config_lost group)) (MayReplace group (config_lost group))
     (λ disk is. record {
       rewrites = is;
-      newer = λ found is_found stands old alike newest same.
+      newer = λ changes found is_found stands old alike newest same.
           let before = all_at (IsOwn group.config) (seated group) is.place is.before own is.is_there in
-          absurd (omega (arith, before.no_later, is.has_sequence, alike, same, less));
+          let no_later = before.no_later (changed_own (config_lost group) is.before (sym is.has_mode ∙ changes)) in
+          absurd (omega (arith, no_later, is.has_sequence, alike, same, less));
     })
     (lost_step timestamp group).disks (disks_rewritten timestamp (leading group) (config_lost group) (seated group))
 
@@ -74,12 +76,36 @@ module _ (leaders : Before) (config : Configuration) (timestamp : ℕ) (copy : D
       by true e = same_sequence config copy e
       by false e = recovered_sequence
 
+  recovered_own : (recovered_copy copy leaders config timestamp).header.guid ≡ config.group
+  unfolding recovered_copy
+  recovered_own = refl
+
+  -- It is of the group.
+  mended_own : (mended_copy leaders config timestamp copy).header.guid ≡ config.group
+  mended_own = by (shows config (view_of copy)) refl
+    where
+      by : (b : Bool) → shows config (view_of copy) ≡ b → (if b then copy else recovered_copy copy leaders config timestamp).header.guid ≡ config.group
+      by true e = same_group config copy e
+      by false e = recovered_own
+
+  recovered_places : HasPlacesOf copy (recovered_copy copy leaders config timestamp)
+  unfolding recovered_copy
+  recovered_places = record { same_primary = refl; same_secondary = refl; same_sections = refl }
+
+  -- It has the old one's places.
+  mended_places : HasPlacesOf copy (written_as (mended_copy leaders config timestamp copy) Primary)
+  mended_places = by (shows config (view_of copy))
+    where
+      by : (b : Bool) → HasPlacesOf copy (written_as (if b then copy else recovered_copy copy leaders config timestamp) Primary)
+      by true = record { same_primary = refl; same_secondary = refl; same_sections = refl }
+      by false = record { same_primary = recovered_places.same_primary; same_secondary = recovered_places.same_secondary; same_sections = recovered_places.same_sections }
+
 -- A disk at the configuration's sequence number shows the configuration, so it keeps its copy.
-mended_newer : (timestamp : ℕ) (group : GroupValue) (disk : Seated) → IsOwn group.config disk → HasOneNewest group disk → IsNewerOver group disk (mended (leading group) group.config timestamp disk)
-mended_newer timestamp group disk own one found is_found stands old alike newest same =
+mended_newer : (timestamp : ℕ) (group : GroupValue) (disk : Seated) → IsOwn group.config disk → disk.copy.header.guid ≡ group.config.group → HasOneNewest group disk → IsNewerOver group disk (mended (leading group) group.config timestamp disk)
+mended_newer timestamp group disk own of_group one found is_found stands old alike newest same =
     let leaders = leading group in
     let at_sequence : disk.copy.header.sequence ≡ group.config.sequence = sym alike ∙ sym same ∙ mended_sequence leaders group.config timestamp disk.copy in
-    let shown = own.is_shown at_sequence in
+    let shown = own.is_shown of_group at_sequence in
     let kept : mended_copy leaders group.config timestamp disk.copy ≡ disk.copy = ap (λ (b : Bool). if b then disk.copy else recovered_copy disk.copy leaders group.config timestamp) shown in
     closed_level (mended_copy leaders group.config timestamp disk.copy) old
     ∙ ap (λ (copy : DiskCopy). is_level copy old) kept
@@ -103,8 +129,11 @@ mending_replace timestamp group is own =
         same_last = refl;
         as_primary = refl;
         has_sequence = mended_sequence (leading group) group.config timestamp found.0.copy;
+        has_group = mended_own (leading group) group.config timestamp found.0.copy;
+        has_places = mended_places (leading group) group.config timestamp found.0.copy;
+        has_mode = refl;
       };
-      newer = mended_newer timestamp group found.0 (all_at (IsOwn group.config) (seated group) here.0 found.0 own here.1) (all_at (HasOneNewest group) (seated group) here.0 found.0 is.have_one here.1);
+      newer = λ changes. mended_newer timestamp group found.0 (all_at (IsOwn group.config) (seated group) here.0 found.0 own here.1) (changed_own group.config found.0 changes) (all_at (HasOneNewest group) (seated group) here.0 found.0 is.have_one here.1);
     }))
 
 -- ---- both

@@ -1,5 +1,5 @@
 -- The copies that a change gives disks: each can be written, under the anchor of its disk.
-use Rattle.std.proofs.Common.{◌≡◌, ℕ, ◌^◌, ◌<◌, ◌≤◌, true, false, cond, List, [], ◌∷◌, length, map, filter, Some, None, refl, sym, ap, subst, ◌∙◌, arith}
+use Rattle.std.proofs.Common.{◌≡◌, ◌≢◌, if◌then◌else◌, ℕ, ◌^◌, ◌<◌, ◌≤◌, true, false, cond, List, [], ◌∷◌, length, map, filter, Some, None, refl, sym, ap, subst, ◌∙◌, arith}
 use Rattle.std.specs.Prelude.{slice_get}
 use Rattle.std.specs.List.{AllByRecursion}
 use Rattle.ddf_header.specs.declared.reading.Header.{Header}
@@ -10,9 +10,9 @@ use Rattle.ddf_config.specs.Shapes.{array_capacity}
 use Rattle.ddf_config.proofs.Capacity.{AreFew, capacity_fits}
 use Rattle.ddf_copy.specs.declared.copy.DiskCopy.{DiskCopy}
 use Rattle.ddf_copy.specs.declared.which.Which.TheVariants.{Primary}
-use Rattle.ddf_copy.specs.Headers.{IsUnder, written_as}
+use Rattle.ddf_copy.specs.Headers.{IsUnder, anchor_header, written_as}
 use Rattle.ddf_copy.specs.Written.{CanBeCopy}
-use Rattle.ddf_copy.proofs.Again.{under_changed}
+use Rattle.ddf_copy.proofs.Again.{under_adopted, under_changed}
 use Rattle.ddf_copy.proofs.HeadersWritten.{gate_can}
 use Rattle.ddf_view.specs.Shows.{shows}
 use Rattle.ddf_view.specs.View.{view_of}
@@ -27,7 +27,12 @@ use Rattle.ddf_rewrite.proofs.Roomy.{change_can, write_can, roomy_change_can}
 use Rattle.ddf_rewrite.proofs.Under.{changed_under}
 use Rattle.ddf_assembly.specs.declared.seated.Seated.{Seated}
 use Rattle.ddf_assembly.specs.Full.{full_on, record_length}
-use Rattle.ddf_assembly.specs.Steps.{rewritten, stays_in}
+use Rattle.ddf_update.specs.declared.prepared.Mode.TheVariants.{Adopt, Change, Found}
+use Rattle.ddf_update.specs.declared.prepared.Mode.{Mode}
+use Rattle.ddf_view.proofs.Tests.{bytes_same, same_bytes}
+use Rattle.std.specs.Str.{bytes_eq}
+use Rattle.ddf_assembly.specs.Committed.{HasPlacesOf}
+use Rattle.ddf_assembly.specs.Steps.{mode_of, rewritten, stays_in}
 use Rattle.ddf_assembly.specs.Trying.{CanTry}
 
 -- ---- capacities
@@ -70,10 +75,48 @@ pub changed_header : (old : DiskCopy) (leaders : Before) (config : Configuration
 unfolding changed_copy
 changed_header old leaders config timestamp = refl
 
+-- It is of the configuration's group, and has the old one's places.
+pub changed_places : (old : DiskCopy) (leaders : Before) (config : Configuration) (timestamp : ℕ) → HasPlacesOf old (written_as (changed_copy old leaders config timestamp) Primary)
+changed_places old leaders config timestamp = record {
+  same_primary = ap (λ (header : Header). header.primary_lba) (changed_header old leaders config timestamp);
+  same_secondary = ap (λ (header : Header). header.secondary_lba) (changed_header old leaders config timestamp);
+  same_sections = ap (λ (header : Header). header.geometry) (changed_header old leaders config timestamp);
+}
+
 -- A copy as its primary place has it says what it says.
 pub closed_view : (copy : DiskCopy) → view_of (written_as copy Primary) ≡ view_of copy
 unfolding view_of
 closed_view copy = refl
+
+-- ---- how a disk is written
+
+-- A disk that is changed is of the group.
+pub changed_own : (config : Configuration) (disk : Seated) → mode_of config disk ≡ Change → disk.copy.header.guid ≡ config.group
+changed_own config disk = by (bytes_eq disk.copy.header.guid config.group) refl
+  where
+    by : (b : _) → bytes_eq disk.copy.header.guid config.group ≡ b → ◌≡◌ {A = Mode} (if b then Change else Adopt) Change → disk.copy.header.guid ≡ config.group
+    by true e h = same_bytes disk.copy.header.guid config.group e
+    by false e h = absurd cc
+
+-- One that is adopted is of another.
+pub adopted_other : (config : Configuration) (disk : Seated) → mode_of config disk ≡ Adopt → disk.copy.header.guid ≢ config.group
+adopted_other config disk h same =
+    let own : bytes_eq disk.copy.header.guid config.group ≡ true = ap (λ (guid : List ℕ). bytes_eq guid config.group) same ∙ bytes_same config.group in
+    let changes : mode_of config disk ≡ Change = ap (λ (b : _). if b then Change else Adopt) own in
+    let no : ◌≡◌ {A = Mode} Change Adopt = sym changes ∙ h in
+    absurd cc
+
+-- None is founded.
+pub none_founded : (config : Configuration) (disk : Seated) → mode_of config disk ≡ Found → ⊥
+none_founded config disk = by (bytes_eq disk.copy.header.guid config.group)
+  where
+    by : (b : _) → ◌≡◌ {A = Mode} (if b then Change else Adopt) Found → ⊥
+    by true h = absurd cc
+    by false h = absurd cc
+
+-- A copy in the places and sections of another one stands where that one does, under an anchor of its own.
+pub places_under : (size : ℕ) (anchor : Header) (old new : DiskCopy) → IsUnder size anchor old → CanBeCopy new → HasPlacesOf old new → IsUnder size (anchor_header new) new
+places_under size anchor old new under can places = under_adopted size anchor old new under can places.same_sections places.same_primary places.same_secondary
 
 -- ---- disks
 
@@ -112,14 +155,11 @@ module _ (leaders : Before) (config : Configuration) (timestamp : ℕ) (time : t
   abbrev after : List Seated → List Seated
   after disks = map (rewritten leaders config timestamp) (filter (stays_in config) disks)
 
-  abbrev HasRoom : Seated → Type 0
-  HasRoom disk = full_on leaders config timestamp disk ≡ None
-
-  module _ (P Q : Seated → Type 0) (gives : (disk : Seated) → P disk → Q (rewritten leaders config timestamp disk)) where
+  module _ (P Q : Seated → Type 0) (gives : (disk : Seated) → stays_in config disk ≡ true → P disk → Q (rewritten leaders config timestamp disk)) where
     pub staying_have : (disks : List Seated) → AllByRecursion P disks → AllByRecursion Q (after disks)
     staying_have [] all = tt
-    staying_have (disk ∷ disks) all = by (stays_in config disk) (staying_have disks all.1)
+    staying_have (disk ∷ disks) all = by (stays_in config disk) refl (staying_have disks all.1)
       where
-        by : (b : _) → AllByRecursion Q (after disks) → AllByRecursion Q (map (rewritten leaders config timestamp) (cond b (disk ∷ filter (stays_in config) disks) (filter (stays_in config) disks)))
-        by true rest = (gives disk all.0, rest)
-        by false rest = rest
+        by : (b : _) → stays_in config disk ≡ b → AllByRecursion Q (after disks) → AllByRecursion Q (map (rewritten leaders config timestamp) (cond b (disk ∷ filter (stays_in config) disks) (filter (stays_in config) disks)))
+        by true stays rest = (gives disk stays all.0, rest)
+        by false stays rest = rest

@@ -12,7 +12,7 @@ use Rattle.std.specs.Prelude.{option_map}
 use Rattle.ddf_bytes.proofs.Nones.{none_first, none_map}
 use Rattle.ddf_tables.specs.declared.disks.DiskEntry.{DiskEntry}
 use Rattle.ddf_view.specs.View.{View, entry_in, is_missing, lists_current}
-use Rattle.ddf_view.specs.Differ.{difference, differing_arrays, differing_disks, differing_elements, disk_differs, element_difference, key_cmp, least, placed_disk, same_disk}
+use Rattle.ddf_view.specs.Differ.{difference, differing_arrays, differing_disks, differing_elements, disk_differs, element_difference, key_cmp, least, numbered_disk, same_disk}
 use Rattle.ddf_view.specs.declared.difference.Difference.TheVariants as differences
 use Rattle.ddf_view.proofs.Finds.{when_false, when_true}
 use Rattle.ddf_view.proofs.Tests.{and_five, bytes_same, same_bytes}
@@ -129,9 +129,9 @@ current_in_both one other apart none guid reference h = by (entry_in other guid 
         let own = found_names guid reference other.disks entry e in
         let same = same_entry one other none own.0 entry own.1 in
         let place = place_entered guid reference 0 other.disks entry apart e in
-        let placed : placed_disk entry.reference other.disks ≡ Some (place.0, entry) = ap (λ (n : ℕ). placed_disk n other.disks) own.2 ∙ place.1 in
-        let found = same_of (placed_disk entry.reference one.disks) (place.0, entry) (sym (ap (λ (o : Option (ℕ × DiskEntry)). not (option_eq same_disk (placed_disk entry.reference one.disks) o)) placed) ∙ same) in
-        let there : find (names reference) (enumerate_from 0 one.disks) ≡ Some found.0 = sym (ap (λ (n : ℕ). placed_disk n one.disks) own.2) ∙ found.1 in
+        let placed : numbered_disk entry.reference other.disks ≡ Some (place.0, entry) = ap (λ (n : ℕ). numbered_disk n other.disks) own.2 ∙ place.1 in
+        let found = same_of (numbered_disk entry.reference one.disks) (place.0, entry) (sym (ap (λ (o : Option (ℕ × DiskEntry)). not (option_eq same_disk (numbered_disk entry.reference one.disks) o)) placed) ∙ same) in
+        let there : find (names reference) (enumerate_from 0 one.disks) ≡ Some found.0 = sym (ap (λ (n : ℕ). numbered_disk n one.disks) own.2) ∙ found.1 in
         let named : bytes_eq found.0.1.guid guid ≡ true = ap (λ (g : List ℕ). bytes_eq g guid) (found.2 ∙ own.3) ∙ bytes_same guid in
         let entered : entry_in one guid reference ≡ Some found.0.1 = entry_placed guid reference 0 one.disks found.0 there named in
         let kept : is_missing found.0.1 ≡ is_missing entry = rw found.3 refl in

@@ -31,23 +31,23 @@ pub record IsUseAmong (entries : List (List ℕ × Array)) (use_as : SpareUse) :
       → (filter (λ guid. is_spare_for guid (uses.Dedicated arrays)) (guids_of entries) ≡ arrays) × (arrays ≡ [] → ⊥)
   pub known : (a : ℕ) (entry : List ℕ × Array) → slice_get entries a ≡ Some entry → is_spare_for entry.0 use_as ≡ true → HasKnown entry.1
 
-no_use : (entries : List (List ℕ × Array)) → IsUseAmong entries uses.No
+pub no_use : (entries : List (List ℕ × Array)) → IsUseAmong entries uses.No
 no_use entries = record { listed = λ arrays h. absurd cc; known = λ a entry at h. absurd (false≢true h) }
 
 global_use : (entries : List (List ℕ × Array)) → IsUseAmong entries uses.Global
 global_use entries = record { listed = λ arrays h. absurd cc; known = λ a entry at h. absurd (false≢true h) }
 
 -- the same among arrays of the same GUIDs, each known where it was
-pub kept_use : (h : Array → Array) → KeepsArrays h → (entries : List (List ℕ × Array)) → guids_of (with_arrays h entries) ≡ guids_of entries → (use_as : SpareUse) → IsUseAmong entries use_as → IsUseAmong (with_arrays h entries) use_as
+pub kept_use : (h : List ℕ → Array → Array) → KeepsArrays h → (entries : List (List ℕ × Array)) → guids_of (with_arrays h entries) ≡ guids_of entries → (use_as : SpareUse) → IsUseAmong entries use_as → IsUseAmong (with_arrays h entries) use_as
 kept_use h keeps entries same use_as is = record {
   listed = λ arrays e.
       let before = is.listed arrays e in
       (ap (filter (λ guid. is_spare_for guid (uses.Dedicated arrays))) same ∙ before.0, before.1);
   known = λ a entry at for.
-      let from = map_get (λ (one : List ℕ × Array). (one.0, h one.1)) entries a entry at in
+      let from = map_get (λ (one : List ℕ × Array). (one.0, h one.0 one.1)) entries a entry at in
       let own : is_spare_for from.0.0 use_as ≡ true = ap (λ (one : List ℕ × Array). is_spare_for one.0 use_as) from.2 ∙ for in
       let there = is.known a from.0 from.1 own in
-      let next = keeps.there from.0.1 there.0 there.1 there.2 in
+      let next = keeps.there from.0.0 from.0.1 there.0 there.1 there.2 in
       subst (λ (one : List ℕ × Array). HasKnown one.1) from.2 (there.0, next.0, next.1);
 }
 

@@ -16,16 +16,12 @@ use Rattle.ddf_config.specs.Room.{start_on}
 use Rattle.ddf_config.specs.Unusable.{passes_floor}
 use Rattle.ddf_config.proofs.Firsts.{all_pass, first_append, first_of_one}
 use Rattle.ddf_plan.specs.declared.change.Change.{Change}
-use Rattle.ddf_plan.specs.declared.change.Change.TheVariants.{Lose, Create, Delete, Spare, Fail}
+use Rattle.ddf_plan.specs.declared.change.Change.TheVariants.{Create}
 use Rattle.ddf_plan.specs.Refusals.{greatest_sequence, not_current, refuse_first, spent}
 use Rattle.ddf_plan.specs.Create.{element_strip}
-use Rattle.ddf_plan.specs.CreateRefusal.{create_causes, create_room, has_named, is_no_shape, is_spare_disk, lacks_room, no_extent, passes_most, references, room_refusal as element_room}
-use Rattle.ddf_plan.specs.Lose.{lose_causes}
-use Rattle.ddf_plan.specs.Delete.{delete_causes}
-use Rattle.ddf_plan.specs.Spare.{spare_causes}
-use Rattle.ddf_plan.specs.Fail.{fail_causes}
-use Rattle.ddf_plan.specs.Causes.{causes}
-use Rattle.ddf_plan.specs.Changes.{after, after_by, changed_at, members_after, refusal_of, steps_of}
+use Rattle.ddf_plan.specs.CreateRefusal.{create_causes, has_named, is_no_shape, is_spare_disk, no_extent, passes_most, references}
+use Rattle.ddf_plan.specs.Causes.{causes, causes_of, refusal_of, steps_of}
+use Rattle.ddf_plan.specs.Changes.{after, after_by, changed_at}
 use Rattle.ddf_plan.specs.Floors.{extent_refusal, extents_refusal, lacks_extent}
 use Rattle.ddf_plan.specs.Same.{is_step}
 use Rattle.ddf_rewrite.specs.Before.{before}
@@ -66,72 +62,76 @@ none_lacks : (seats : List Seat) (first : Option Position) → no_extent seats f
 none_lacks seats None h = refl
 none_lacks seats (Some position) h = absurd cc
 
-module _ (config : Configuration) (seats : List Seat) where
+module _ (config : Configuration) (floors seats : List Seat) where
   -- An extent that lies below the floors has a start.
-  has_start : (strip blocks : ℕ) (position : Position) → lacks_extent config seats strip blocks position ≡ false → lacks_room config strip blocks position ≡ false
+  has_start : (strip blocks : ℕ) (position : Position) → lacks_extent config floors strip blocks position ≡ false → lacks_extent config [] strip blocks position ≡ false
   has_start strip blocks position h = by (start_on config.members (extents config.arrays) strip blocks position.reference) h
     where
-      by : (found : Option ℕ) → (elim found [ None ↦ true | Some start ↦ passes_floor seats (extent blocks (record position { start = start })) ]) ≡ false → is_none found ≡ false
+      by : (found : Option ℕ) → (elim found [ None ↦ true | Some start ↦ passes_floor floors (extent blocks (record position { start = start })) ]) ≡ false → (elim found [ None ↦ true | Some start ↦ passes_floor [] (extent blocks (record position { start = start })) ]) ≡ false
       by None at = at
       by (Some start) at = refl
 
   -- So has each of an element.
-  element_has_room : (elements : ℕ) (part : Option ElementValue) → extent_refusal config seats elements part ≡ None → element_room config seats elements part ≡ None
+  element_has_room : (elements : ℕ) (part : Option ElementValue) → extent_refusal config floors seats elements part ≡ None → extent_refusal config [] seats elements part ≡ None
   element_has_room elements None h = refl
   element_has_room elements (Some element) h =
       let strip = element_strip elements element in
-      let none = none_lacks seats (find (lacks_extent config seats strip element.blocks) element.positions) h in
+      let none = none_lacks seats (find (lacks_extent config floors strip element.blocks) element.positions) h in
       ap (no_extent seats)
-      (none_found (lacks_extent config seats strip element.blocks) (lacks_room config strip element.blocks) (has_start strip element.blocks) element.positions none)
+      (none_found (lacks_extent config floors strip element.blocks) (lacks_extent config [] strip element.blocks) (has_start strip element.blocks) element.positions none)
 
   -- So has each of an array.
-  parts_have_room : (elements : ℕ) (parts : List (Option ElementValue)) → part_refusal (extent_refusal config seats elements) parts ≡ None → part_refusal (element_room config seats elements) parts ≡ None
+  parts_have_room : (elements : ℕ) (parts : List (Option ElementValue)) → part_refusal (extent_refusal config floors seats elements) parts ≡ None → part_refusal (extent_refusal config [] seats elements) parts ≡ None
   parts_have_room elements [] h = refl
   parts_have_room elements (part ∷ parts) h =
-      let first = all_pass [] (extent_refusal config seats elements part) (map (extent_refusal config seats elements) parts) h in
-      let others : part_refusal (extent_refusal config seats elements) parts ≡ None = rest (extent_refusal config seats elements part) first h in
-      both_pass (element_room config seats elements part ∷ []) (map (element_room config seats elements) parts)
-      (first_of_one (element_room config seats elements part) ∙ element_has_room elements part first)
+      let first = all_pass [] (extent_refusal config floors seats elements part) (map (extent_refusal config floors seats elements) parts) h in
+      let others : part_refusal (extent_refusal config floors seats elements) parts ≡ None = rest (extent_refusal config floors seats elements part) first h in
+      both_pass (extent_refusal config [] seats elements part ∷ []) (map (extent_refusal config [] seats elements) parts)
+      (first_of_one (extent_refusal config [] seats elements part) ∙ element_has_room elements part first)
       (parts_have_room elements parts others)
     where
-      rest : (check : Option Refusal) → check ≡ None → first_refusal (check ∷ map (extent_refusal config seats elements) parts) ≡ None → first_refusal (map (extent_refusal config seats elements) parts) ≡ None
+      rest : (check : Option Refusal) → check ≡ None → first_refusal (check ∷ map (extent_refusal config floors seats elements) parts) ≡ None → first_refusal (map (extent_refusal config floors seats elements) parts) ≡ None
       rest None e at = at
       rest (Some refusal) e at = absurd cc
 
+  -- A new array that has room below the floors has it by its disks' sizes.
+  has_room_by_size : (change : Change) → extents_refusal config change floors seats ≡ None → extents_refusal config change [] seats ≡ None
+  unfolding extents_refusal
+  has_room_by_size (Create guid array) room = parts_have_room (length array.elements) array.elements room
+  has_room_by_size other room = refl
+
+module _ (config : Configuration) (seats : List Seat) where
   -- ---- the causes of a change
 
   -- A sequence number that has the steps left is not spent.
   not_spent : (sequence steps : ℕ) → sequence + steps ≤ greatest_sequence → spent sequence steps ≡ None
   not_spent sequence steps h = grind arith
 
-  -- What is refused neither for its causes, nor for want of an extent, nor for its sequence number has a configuration after it.
-  none_refused : (most : ℕ) (change : Change) → causes (Some most) config change seats ≡ None → extents_refusal config change seats ≡ None → config.sequence + steps_of change ≤ greatest_sequence
-      → refusal_of config change seats ≡ None
-  unfolding causes extents_refusal
-  none_refused most (Lose lost) free room left =
-      both_pass (lose_causes config seats lost) (spent config.sequence 2 ∷ []) free (first_of_one (spent config.sequence 2) ∙ not_spent config.sequence 2 left)
-  none_refused most (Create guid array) free room left =
-      both_pass (create_causes None config seats guid array) (create_room config seats array ∷ spent config.sequence 1 ∷ [])
-      (without_bound
+  -- What no cause refuses with a bound none refuses without it.
+  free_without_bound : (bound : ℕ) (asked : Change) → causes (Some bound) config asked seats ≡ None → first_refusal (causes_of None config asked seats) ≡ None
+  unfolding causes
+  free_without_bound bound (Create guid array) unrefused =
+      without_bound
       (not_current config seats (references array)
       ∷ refuse_if (has_named config array.name) NameTaken
       ∷ unserved_level array
       ∷ [])
-      (passes_most (Some most) array) (is_no_shape array) Shape
+      (passes_most (Some bound) array) (is_no_shape array) Shape
       (refuse_if (is_some (lookup (same_guid guid) config.arrays)) (Clash guid)
       ∷ refuse_first seats (is_spare_disk config) InUse (references array)
       ∷ [])
-      free)
-      (both_pass (create_room config seats array ∷ []) (spent config.sequence 1 ∷ [])
-      (first_of_one (create_room config seats array) ∙ parts_have_room (length array.elements) array.elements room)
-      (first_of_one (spent config.sequence 1) ∙ not_spent config.sequence 1 left))
-  none_refused most (Delete guid) free room left =
-      both_pass (delete_causes config guid) (spent config.sequence 1 ∷ []) free (first_of_one (spent config.sequence 1) ∙ not_spent config.sequence 1 left)
-  none_refused most (Spare spare use_as) free room left =
-      both_pass (spare_causes config seats spare use_as) (spent config.sequence 1 ∷ []) free (first_of_one (spent config.sequence 1) ∙ not_spent config.sequence 1 left)
-  none_refused most (Fail failed) free room left =
-      both_pass (fail_causes config (members_after config (Fail failed)) seats failed) (spent config.sequence 2 ∷ []) free
-      (first_of_one (spent config.sequence 2) ∙ not_spent config.sequence 2 left)
+      unrefused
+  free_without_bound bound other unrefused = unrefused
+
+  -- What is refused neither for its causes, nor for want of an extent, nor for its sequence number has a configuration after it.
+  none_refused : (most : ℕ) (change : Change) → causes (Some most) config change seats ≡ None → extents_refusal config change seats seats ≡ None → config.sequence + steps_of change ≤ greatest_sequence
+      → refusal_of config change seats ≡ None
+  none_refused most change free room left =
+      both_pass (causes_of None config change seats) (extents_refusal config change [] seats ∷ spent config.sequence (steps_of change) ∷ [])
+      (free_without_bound most change free)
+      (both_pass (extents_refusal config change [] seats ∷ []) (spent config.sequence (steps_of change) ∷ [])
+      (first_of_one (extents_refusal config change [] seats) ∙ has_room_by_size config seats seats change room)
+      (first_of_one (spent config.sequence (steps_of change)) ∙ not_spent config.sequence (steps_of change) left))
 
 -- ---- a step
 
@@ -158,8 +158,8 @@ module _ (timestamp : ℕ) (config : Configuration) (disks : List Seated) (chang
         ∙ all_pass (causes (Some (most_members disks)) config change (seats_in disks) ∷ None ∷ []) (room_if_step timestamp config disks change) [] free
 
     -- Its extents have.
-    has_extents : extents_refusal config change (seats_in disks) ≡ None
-    has_extents = all_pass (option_map Full (full_of timestamp (before (views_in disks)) (config_after config change) disks) ∷ []) (extents_refusal config change (seats_in disks)) [] has_room
+    has_extents : extents_refusal config change (seats_in disks) (seats_in disks) ≡ None
+    has_extents = all_pass (option_map Full (full_of timestamp (before (views_in disks)) (config_after config change) disks) ∷ []) (extents_refusal config change (seats_in disks) (seats_in disks)) [] has_room
 
     -- Its configuration is that after the change.
     pub is_after : is_spent (step_of timestamp config disks change) ≡ false → after config change (seats_in disks) ≡ Ok (step_of timestamp config disks change).config

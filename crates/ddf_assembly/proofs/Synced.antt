@@ -8,8 +8,8 @@ use Rattle.ddf_bay.specs.State.{BayState, size_of}
 use Rattle.ddf_config.specs.declared.seat.Seat.{Seat}
 use Rattle.ddf_rewrite.proofs.Lists.{get_map, map_get}
 use Rattle.ddf_update.specs.declared.prepared.Prepared.{Prepared}
-use Rattle.ddf_update.specs.Changes.{AreChanged, HasChanged, IsLeftChangingAll, MayChangeAll, SlotChange}
-use Rattle.ddf_update.specs.Update.{IsChanging}
+use Rattle.ddf_update.specs.Changes.{AreChanged, HasChanged, IsGetting, IsLeftChangingAll, MayChangeAll, SlotChange}
+use Rattle.ddf_update.proofs.Getting.{get_again}
 use Rattle.ddf_assembly.specs.Committed.{AreSettled, LeavesSynced, slots_of, synced}
 use Rattle.ddf_assembly.proofs.Lists.{get_within}
 
@@ -46,15 +46,7 @@ module _ {D : Type 0} (old mid : BayState D) (seats : List Seat) (sizes : mid.si
   pub may_all : (slots : List ℕ) (seat : ℕ → SlotChange) (updates : List Prepared) → MayChangeAll (synced old (slots_of seats)) slots seat updates → MayChangeAll mid slots seat updates
   may_all slots seat updates may = record {
     may_change = λ place slot at.
-        let one = may.may_change place slot at in
-        record {
-          is_settled = λ l bytes left. one.is_settled l bytes (within slot l bytes left) ∙ sym (ap (λ (image : Image). image slot l) held);
-          is_anchored = rw (sizes, held) one.is_anchored;
-          last_is = rw (sizes, held) one.last_is;
-          is_newest = rw (sizes, held) one.is_newest;
-          is_under = rw sizes one.is_under;
-          is_newer = one.is_newer;
-        };
+        get_again (seat place).mode (synced old (slots_of seats)) mid slot (seat place) sizes (ap (λ (image : Image). image slot) held) (λ l bytes left. within slot l bytes left) (may.may_change place slot at);
     are_prepared = may.are_prepared;
   }
 
@@ -78,7 +70,7 @@ module _ {D : Type 0} (old mid : BayState D) (seats : List Seat) (sizes : mid.si
     turn = is.turn;
     earlier = λ place slot update below at also. has_changed slot (image slot) update (seat place) (is.earlier place slot update below at also);
     here = λ slot update at also.
-        let one : IsChanging (size_of old slot) (old.held slot) (image slot) update (seat is.turn).anchor (seat is.turn).last (seat is.turn).old (seat is.turn).new = rw (sym sizes, sym held) (is.here slot update at also) in
+        let one : IsGetting (seat is.turn).mode (size_of old slot) (old.held slot) (image slot) update (seat is.turn) = rw (sym sizes, sym held) (is.here slot update at also) in
         one;
     later = λ place slot l behind at. is.later place slot l behind at ∙ ap (λ (one : Image). one slot l) held;
     others = λ s l none. within s l (image s l) (is.others s l none);

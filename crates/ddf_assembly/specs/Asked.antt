@@ -8,7 +8,8 @@ use Rattle.ddf_config.specs.declared.array.Array.{Array}
 use Rattle.ddf_config.specs.ElementValue.{ElementValue as ElementPlan}
 use Rattle.ddf_config.specs.Within.{is_complete}
 use Rattle.ddf_plan.specs.declared.change.Change.{Change}
-use Rattle.ddf_plan.specs.declared.change.Change.TheVariants.{Lose, Create, Delete, Spare, Fail}
+use Rattle.ddf_plan.specs.declared.change.Change.TheVariants.{Create, Spare, Begin, Progress}
+use Rattle.ddf_plan.specs.Rebuild.{new_position}
 use Rattle.ddf_rewrite.specs.Hold.{FitsArray, FitsPosition}
 
 -- no row of a new element is rebuilt
@@ -35,8 +36,8 @@ IsNewUse uses.Global = Unit {0}
 IsNewUse (uses.Dedicated arrays) = 0 < length arrays
 
 abbrev pub CanBeAsked : Change → Type 0
-CanBeAsked (Lose references) = Unit {0}
 CanBeAsked (Create guid array) = IsNewArray guid array
-CanBeAsked (Delete guid) = Unit {0}
 CanBeAsked (Spare reference use_as) = IsNewUse use_as
-CanBeAsked (Fail reference) = Unit {0}
+CanBeAsked (Begin array element position reference start) = FitsPosition (new_position reference start)
+CanBeAsked (Progress array element position row) = row < 2 ^ 64
+CanBeAsked other = Unit {0}

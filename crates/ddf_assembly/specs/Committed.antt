@@ -4,6 +4,7 @@ use Rattle.std.specs.List.{AllByRecursion}
 use Rattle.ddf_bay.specs.State.{BayState}
 use Rattle.ddf_bay.specs.Moments.{IsSettled, Keeps, StopsLeave}
 use Rattle.ddf_bay.specs.Sectors.{Image, IsLeft}
+use Rattle.ddf_copy.specs.declared.copy.DiskCopy.{DiskCopy}
 use Rattle.ddf_copy.specs.declared.which.Which.TheVariants.{Primary}
 use Rattle.ddf_copy.specs.declared.newest_copy.Newest.{Newest}
 use Rattle.ddf_copy.specs.Headers.{written_as}
@@ -20,7 +21,7 @@ use Rattle.ddf_assembly.specs.Held.{AreHeldOn, StandUnder}
 use Rattle.ddf_assembly.specs.Seated.{seated, seats_in, slots_in}
 use Rattle.ddf_assembly.specs.Recovery.{disks_recovered, recovery_of, some}
 use Rattle.ddf_assembly.specs.Settled.{IsSettledGroup}
-use Rattle.ddf_assembly.specs.Steps.{levelled}
+use Rattle.ddf_assembly.specs.Steps.{in_order, levelled, mode_of}
 use Rattle.ddf_assembly.specs.Trying.{AreFollowing, Follows}
 use Rattle.ddf_assembly.specs.Ready.{ReadyStep, ReadyValue, all_ready, group_after, readied, with_level}
 
@@ -39,13 +40,13 @@ AreSettled disks seats count = (place : ℕ) (seat : Seat) → place < count →
 
 -- ---- the next step
 
--- the disks that the next step writes, with their new copies; none where no step is left
+-- the disks that the next step writes, in this order, with their new copies; none where no step is left
 abbrev pub next_disks : ReadyValue → List Seated
-next_disks ready = elim ready.steps [ [] ↦ [] | one ∷ others ↦ one.step.disks ]
+next_disks ready = elim ready.steps [ [] ↦ [] | one ∷ others ↦ in_order one.step.disks ]
 
 -- the slots that the next step writes, in this order, and their updates; none where no step is left
 abbrev pub next_slots : ReadyValue → List ℕ
-next_slots ready = elim ready.steps [ [] ↦ [] | one ∷ others ↦ slots_in one.step.disks ]
+next_slots ready = elim ready.steps [ [] ↦ [] | one ∷ others ↦ slots_in (in_order one.step.disks) ]
 
 abbrev pub next_updates : ReadyValue → List Prepared
 next_updates ready = elim ready.steps [ [] ↦ [] | one ∷ others ↦ one.updates ]
@@ -62,7 +63,7 @@ left_behind ready = elim ready.steps [ [] ↦ ready | one ∷ others ↦ record 
 -- the slots that the recovery writes, in this order, and their updates; none where there is no recovery
 abbrev pub slots_written : Option ReadyStep → List ℕ
 slots_written None = []
-slots_written (Some one) = slots_in one.step.disks
+slots_written (Some one) = slots_in (in_order one.step.disks)
 
 abbrev pub updates_written : Option ReadyStep → List Prepared
 updates_written None = []
@@ -70,7 +71,7 @@ updates_written (Some one) = one.updates
 
 abbrev pub disks_written : Option ReadyStep → List Seated
 disks_written None = []
-disks_written (Some one) = one.step.disks
+disks_written (Some one) = in_order one.step.disks
 
 abbrev pub recovery_slots : ReadyValue → List ℕ
 recovery_slots ready = slots_written ready.recovery
@@ -117,8 +118,14 @@ pub record WasReadied (group : GroupValue) (changes : List Change) (timestamp : 
   pub recovers : IfSome ready.recovery (Follows (seated group))
   pub follows : AreFollowing (disks_recovered timestamp group) ready.steps
 
--- A disk of a step to this configuration is one of these disks, with a new copy of the configuration's sequence number, as its primary
--- place has it.
+-- A copy has the places and sections of another.
+pub record HasPlacesOf (old new : DiskCopy) : Type 0 where
+  pub same_primary : new.header.primary_lba ≡ old.header.primary_lba
+  pub same_secondary : new.header.secondary_lba ≡ old.header.secondary_lba
+  pub same_sections : new.header.geometry ≡ old.header.geometry
+
+-- A disk of a step to this configuration is one of these disks, with a new copy of the configuration's group and sequence number, as its
+-- primary place has it, where its old one is. It is written as one of the group where it showed that.
 pub record IsRewritten (disks : List Seated) (config : Configuration) (disk : Seated) : Type 0 where
   pub place : ℕ
   pub before : Seated
@@ -127,6 +134,9 @@ pub record IsRewritten (disks : List Seated) (config : Configuration) (disk : Se
   pub same_last : disk.last ≡ before.last
   pub as_primary : written_as disk.copy Primary ≡ disk.copy
   pub has_sequence : disk.copy.header.sequence ≡ config.sequence
+  pub has_group : disk.copy.header.guid ≡ config.group
+  pub has_places : HasPlacesOf before.copy disk.copy
+  pub has_mode : disk.mode ≡ mode_of config before
 
 -- each step rewrites disks of the step before it
 abbrev pub AreRewriting : List Seated → List ReadyStep → Type 0

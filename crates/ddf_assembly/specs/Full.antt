@@ -7,6 +7,7 @@ use Rattle.ddf_config.specs.Configuration.{Configuration}
 use Rattle.ddf_rewrite.specs.Before.{Before}
 use Rattle.ddf_rewrite.specs.Room.{full_after_change}
 use Rattle.ddf_assembly.specs.declared.seated.Seated.{Seated}
+use Rattle.ddf_assembly.specs.Steps.{stays_in}
 
 -- in this order the tables are told
 abbrev pub rank : FullTable → ℕ
@@ -34,10 +35,14 @@ lengths_differ (disk ∷ disks) = not (list_all (λ other. record_length other =
 abbrev pub full_on : Before → Configuration → (timestamp : ℕ) → Seated → Option FullTable
 full_on leaders config timestamp disk = full_after_change disk.copy leaders config timestamp
 
--- the least table that is full on some disk
-unfoldable pub least_full : Before → Configuration → (timestamp : ℕ) → List Seated → Option FullTable
-least_full leaders config timestamp disks = fold (λ least disk. lesser least (full_on leaders config timestamp disk)) None disks
+-- of those that it writes: a disk that doesn't stay a current member, as one that fails, isn't written and needs no room
+abbrev pub full_where_written : Before → Configuration → (timestamp : ℕ) → Seated → Option FullTable
+full_where_written leaders config timestamp disk = if stays_in config disk then full_on leaders config timestamp disk else None
 
--- Records of different lengths come first, then the least table that is full on some disk.
+-- the least table that is full on some disk that is written
+unfoldable pub least_full : Before → Configuration → (timestamp : ℕ) → List Seated → Option FullTable
+least_full leaders config timestamp disks = fold (λ least disk. lesser least (full_where_written leaders config timestamp disk)) None disks
+
+-- Records of different lengths come first, then the least table that is full on some disk that is written.
 unfoldable pub full_of : (timestamp : ℕ) → Before → Configuration → List Seated → Option FullTable
 full_of timestamp leaders config disks = if lengths_differ disks then Some Records else least_full leaders config timestamp disks

@@ -5,6 +5,7 @@ pub mod Seated
 pub mod Steps
 pub mod Full
 pub mod Refusing
+pub mod Stray
 pub mod Recovery
 pub mod Ready
 pub mod Tried

@@ -18,7 +18,7 @@ use Rattle.ddf_assembly.specs.declared.fault.GroupFault.TheVariants.{Refused, Se
 use Rattle.ddf_assembly.specs.declared.seated.Seated.{Seated}
 use Rattle.ddf_assembly.specs.Group.{GroupValue}
 use Rattle.ddf_assembly.specs.Seated.{seats_in, slots_in}
-use Rattle.ddf_assembly.specs.Steps.{Step, levelled, step_of}
+use Rattle.ddf_assembly.specs.Steps.{Step, in_order, levelled, step_of}
 use Rattle.ddf_assembly.specs.Recovery.{config_recovered, disks_recovered, full_of_recovery, has_stray, loss_spent, recovery_of}
 use Rattle.ddf_assembly.specs.Refusing.{step_refusal}
 
@@ -94,7 +94,7 @@ all_ready ready = option_to_list ready.recovery ++ ready.steps
 
 -- each disk's update lies on its slot, of these sizes
 abbrev pub LiesOnSlots : (sizes : List ℕ) → ReadyStep → Type 0
-LiesOnSlots sizes one = LieOnSlots sizes (slots_in one.step.disks) one.updates
+LiesOnSlots sizes one = LieOnSlots sizes (slots_in (in_order one.step.disks)) one.updates
 
 -- The result is this answer, or memory ran out.
 abbrev pub IsReadied : Result ReadyValue GroupFault → Result (List Step) GroupFault → Type 0

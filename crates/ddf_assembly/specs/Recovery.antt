@@ -1,5 +1,5 @@
 -- What recovery makes of a group of which members are absent or seats lag (profile).
-use Rattle.std.specs.Prelude.{ℕ, Bool, true, false, not, ◌&&◌, ◌||◌, ◌==◌, nat_le, nat_lt, List, [], ◌∷◌, map, filter, fold, Option, Some, None, if◌then◌else◌}
+use Rattle.std.specs.Prelude.{ℕ, Bool, true, false, ◌&&◌, ◌==◌, nat_lt, List, [], ◌∷◌, map, filter, fold, Option, Some, None, if◌then◌else◌}
 use Rattle.std.specs.List.{list_any}
 use Rattle.std.specs.Str.{bytes_eq}
 use Rattle.ddf_copy.specs.declared.copy.DiskCopy.{DiskCopy}
@@ -13,13 +13,16 @@ use Rattle.ddf_plan.specs.declared.change.Change.TheVariants.{Lose}
 use Rattle.ddf_plan.specs.Refusals.{greatest_sequence}
 use Rattle.ddf_view.specs.View.{View, lists_itself, view_of}
 use Rattle.ddf_view.specs.Shows.{shows}
+use Rattle.ddf_view.specs.Reading.{are_noted}
+use Rattle.ddf_group.specs.Shown.{shown_of}
 use Rattle.ddf_rewrite.specs.Before.{Before, before}
 use Rattle.ddf_rewrite.specs.Copies.{recovered_copy}
 use Rattle.ddf_rewrite.specs.Room.{full_after_recovery}
 use Rattle.ddf_assembly.specs.declared.seated.Seated.{Seated}
 use Rattle.ddf_assembly.specs.Group.{GroupValue}
 use Rattle.ddf_assembly.specs.Seated.{seated, views_in}
-use Rattle.ddf_assembly.specs.Steps.{Step, config_after, disks_after, levelled}
+use Rattle.ddf_assembly.specs.Steps.{Step, config_after, disks_after, levelled, mode_of}
+use Rattle.ddf_assembly.specs.Stray.{is_stray}
 use Rattle.ddf_assembly.specs.Full.{full_of, lengths_differ, lesser}
 
 -- ---- the leaders
@@ -67,7 +70,8 @@ mended_copy leaders config timestamp copy = if shows config (view_of copy) then 
 
 -- It is written to both places.
 abbrev pub mended : Before → Configuration → (timestamp : ℕ) → Seated → Seated
-mended leaders config timestamp disk = record disk { copy = written_as (mended_copy leaders config timestamp disk.copy) Primary }
+mended leaders config timestamp disk =
+    record disk { copy = written_as (mended_copy leaders config timestamp disk.copy) Primary; mode = mode_of config disk }
 
 -- the configuration as it is is written to each seat that lags
 abbrev pub mending_step : (timestamp : ℕ) → GroupValue → Step
@@ -132,13 +136,6 @@ loss_spent group = some group.absent && nat_lt greatest_sequence (config_lost gr
 
 -- ---- what can't be recovered
 
--- A disk over whose copy recovery can't write safely. It is of another group, as disks that joined a group may have it: the disk's anchor names
--- that one. Or it is of the configuration's sequence number, or of a later one, and doesn't show the configuration, so that a stop might leave
--- two copies of one sequence number that differ. No controller leaves the latter.
-abbrev pub is_stray : Configuration → Seated → Bool
-is_stray config disk =
-    not (bytes_eq disk.copy.header.guid config.group)
-    || (nat_le config.sequence disk.copy.header.sequence && not (shows config (view_of disk.copy)))
-
+-- Some disk is such that recovery must not write over what it holds.
 abbrev pub has_stray : GroupValue → Bool
-has_stray group = list_any (is_stray group.config) (seated group)
+has_stray group = list_any (is_stray (map shown_of group.newest) group.newest (are_noted (leading_views group)) group.config) (seated group)

@@ -24,7 +24,7 @@ abbrev pub room_refusal : (timestamp : ℕ) → Configuration → List Seated �
 room_refusal timestamp config disks change =
     first_refusal
     (option_map Full (full_of timestamp (before (views_in disks)) (config_after config change) disks)
-    ∷ extents_refusal config change (seats_in disks)
+    ∷ extents_refusal config change (seats_in disks) (seats_in disks)
     ∷ [])
 
 abbrev pub room_if_step : (timestamp : ℕ) → Configuration → List Seated → Change → Option Refusal

@@ -4,14 +4,16 @@ use Rattle.std.specs.Option.{option_and_then}
 use Rattle.ddf_copy.specs.declared.newest_copy.Newest.{Newest}
 use Rattle.ddf_copy.specs.Copies.{standing_copy}
 use Rattle.ddf_copy.specs.Shows.{last_of}
+use Rattle.ddf_update.specs.declared.prepared.Mode.TheVariants.{Change}
 use Rattle.ddf_config.specs.declared.seat.Seat.{Seat}
 use Rattle.ddf_view.specs.View.{View, view_of}
 use Rattle.ddf_assembly.specs.declared.seated.Seated.{Seated}
 use Rattle.ddf_assembly.specs.Group.{GroupValue}
 
--- A seat with the newest copy of its slot, and the one of the two copies that an update writes last.
+-- A seat with the newest copy of its slot, and the one of the two copies that an update writes last. How it is written is told of a new
+-- copy.
 abbrev pub seated_by : Seat → Newest → Option Seated
-seated_by seat newest = option_map (λ copy. record { seat = seat; copy = copy; last = last_of newest }) (standing_copy newest)
+seated_by seat newest = option_map (λ copy. record { seat = seat; copy = copy; last = last_of newest; mode = Change }) (standing_copy newest)
 
 abbrev pub seated_at : List (Option Newest) → Seat → Option Seated
 seated_at newest seat = option_and_then (λ one. option_and_then (seated_by seat) one) (slice_get newest seat.slot)

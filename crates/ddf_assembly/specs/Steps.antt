@@ -1,14 +1,19 @@
 -- What one change of a group makes of its configuration and of the copies of its disks (profile).
-use Rattle.std.specs.Prelude.{ℕ, ◌+◌, Bool, List, map, filter, min}
+use Rattle.std.specs.Prelude.{ℕ, ◌+◌, ◌++◌, Bool, not, List, map, filter, min, if◌then◌else◌}
+use Rattle.std.specs.Str.{bytes_eq}
 use Rattle.ddf_copy.specs.declared.which.Which.TheVariants.{Primary, Secondary}
 use Rattle.ddf_copy.specs.Headers.{written_as}
 use Rattle.ddf_config.specs.Configuration.{Configuration}
 use Rattle.ddf_config.specs.Members.{is_current}
 use Rattle.ddf_plan.specs.declared.change.Change.{Change}
 use Rattle.ddf_plan.specs.Refusals.{greatest_sequence}
-use Rattle.ddf_plan.specs.Changes.{changed_at, steps_of}
+use Rattle.ddf_plan.specs.Causes.{steps_of}
+use Rattle.ddf_plan.specs.Changes.{changed_at}
 use Rattle.ddf_rewrite.specs.Before.{Before, before}
 use Rattle.ddf_rewrite.specs.Copies.{changed_copy}
+use Rattle.ddf_update.specs.declared.prepared.Mode.{Mode}
+use Rattle.ddf_update.specs.declared.prepared.Mode.TheVariants as modes
+use Rattle.ddf_update.specs.Prepared.{writes_anchor}
 use Rattle.ddf_assembly.specs.declared.seated.Seated.{Seated}
 use Rattle.ddf_assembly.specs.Seated.{views_in}
 
@@ -24,9 +29,14 @@ raised sequence steps = min (sequence + steps) (greatest_sequence + 1)
 abbrev pub config_after : Configuration → Change → Configuration
 config_after config change = changed_at config change (raised config.sequence (steps_of change))
 
+-- How a disk gets a copy of a group: as a change of its own group, or as another one.
+abbrev pub mode_of : Configuration → Seated → Mode
+mode_of config disk = if bytes_eq disk.copy.header.guid config.group then modes.Change else modes.Adopt
+
 -- A disk with the copy that a change gives it, as its primary place has it. The leaders are those before the change.
 abbrev pub rewritten : Before → Configuration → (timestamp : ℕ) → Seated → Seated
-rewritten leaders config timestamp disk = record disk { copy = written_as (changed_copy disk.copy leaders config timestamp) Primary }
+rewritten leaders config timestamp disk =
+    record disk { copy = written_as (changed_copy disk.copy leaders config timestamp) Primary; mode = mode_of config disk }
 
 -- its disk is a current member
 abbrev pub stays_in : Configuration → Seated → Bool
@@ -43,4 +53,12 @@ step_of timestamp config disks change =
 
 -- a disk that was written has its copy in both places
 abbrev pub levelled : Seated → Seated
-levelled disk = record disk { last = Secondary }
+levelled disk = record disk { last = Secondary; mode = modes.Change }
+
+-- the disk showed another group
+abbrev pub is_adopted : Seated → Bool
+is_adopted disk = writes_anchor disk.mode
+
+-- The order in which disks are written: those that showed another group come last.
+abbrev pub in_order : List Seated → List Seated
+in_order disks = filter (λ disk. not (is_adopted disk)) disks ++ filter is_adopted disks

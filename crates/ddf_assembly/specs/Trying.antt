@@ -16,7 +16,7 @@ use Rattle.ddf_update.specs.Prepared.{IsPrepared}
 use Rattle.ddf_assembly.specs.declared.seated.Seated.{Seated}
 use Rattle.ddf_assembly.specs.Full.{record_length}
 use Rattle.ddf_assembly.specs.Seated.{seats_in}
-use Rattle.ddf_assembly.specs.Steps.{levelled}
+use Rattle.ddf_assembly.specs.Steps.{in_order, levelled}
 use Rattle.ddf_assembly.specs.Ready.{ReadyStep}
 
 -- The copy of each disk can be written.
@@ -59,10 +59,14 @@ pub record CanBeChanged (config : Configuration) (disks : List Seated) : Type 0 
 abbrev pub StandOn : (slot size : ℕ) → Header → List Seated → Type 0
 StandOn slot size anchor disks = AllByRecursion (λ disk. disk.seat.slot ≡ slot → IsUnder size anchor disk.copy) disks
 
--- An update for each disk, which writes its copy.
+-- So can those that are written over copies of the group.
+abbrev pub StandStill : (slot size : ℕ) → Header → List Seated → Type 0
+StandStill slot size anchor disks = AllByRecursion (λ disk. disk.seat.slot ≡ slot → disk.mode ≡ Change → IsUnder size anchor disk.copy) disks
+
+-- An update for each disk, which writes its copy, over one of the disk's own group or of another.
 pub record ArePrepared (disks : List Seated) (updates : List Prepared) : Type 0 where
   pub counted : length updates ≡ length disks
-  pub each : (place : ℕ) (disk : Seated) (update : Prepared) → slice_get disks place ≡ Some disk → slice_get updates place ≡ Some update → IsPrepared disk.copy disk.last Change update
+  pub each : (place : ℕ) (disk : Seated) (update : Prepared) → slice_get disks place ≡ Some disk → slice_get updates place ≡ Some update → IsPrepared disk.copy disk.last disk.mode update
 
 -- ---- slots
 
@@ -80,14 +84,15 @@ pub record HasPlace (sizes : List ℕ) (disk : Seated) : Type 0 where
 -- ---- a step
 
 -- What holds of the disks of a step, by what holds of those before it: further changes may be tried on them, their copies show the step's
--- configuration, each has its update, they are in the same order, and each copy can stand where the one before it can.
+-- configuration, each has its update, they are in the same order, and each copy can stand where the one before it can; under the same
+-- anchor, where that one is of the group.
 pub record Follows (disks : List Seated) (one : ReadyStep) : Type 0 where
   pub can_be_changed : CanBeChanged one.step.config one.step.disks
   pub show : DoShow one.step.config one.step.disks
-  pub are_prepared : ArePrepared one.step.disks one.updates
+  pub are_prepared : ArePrepared (in_order one.step.disks) one.updates
   pub slots_rise : SlotsRise (seats_in disks) → SlotsRise (seats_in one.step.disks)
   pub have_places : (sizes : List ℕ) → AllByRecursion (HasPlace sizes) disks → AllByRecursion (HasPlace sizes) one.step.disks
-  pub stand_on : (slot size : ℕ) (anchor : Header) → StandOn slot size anchor disks → StandOn slot size anchor one.step.disks
+  pub stand_on : (slot size : ℕ) (anchor : Header) → StandOn slot size anchor disks → StandStill slot size anchor one.step.disks
 
 -- each step follows on the one before it
 abbrev pub AreFollowing : List Seated → List ReadyStep → Type 0

@@ -21,7 +21,7 @@ use ddf_group::{Assembled, Assembly, Shown, assembled, shown_of};
 use std::alloc::Global;
 
 /// What slots with these newest copies show.
-fn shown(alloc: Global, newest: &[Option<Newest>]) -> Result<Vec<Shown<'_>>, NoMemory>
+pub(crate) fn shown(alloc: Global, newest: &[Option<Newest>]) -> Result<Vec<Shown<'_>>, NoMemory>
     ensures { IfOk result (λ shown. shown.items ≡ map shown_of newest.now) }
 {
     let mut all = Vec::with_capacity(alloc, newest.len())?;

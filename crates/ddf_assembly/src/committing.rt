@@ -9,6 +9,7 @@ ghost use Rattle.ddf_update.specs.Prepared.{all_calls, all_sectors};
 ghost use Rattle.ddf_assembly.specs.Ready.{group_after, with_level};
 ghost use Rattle.ddf_assembly.specs.Recovery.{some};
 ghost use Rattle.ddf_assembly.specs.Seated.{slots_in};
+ghost use Rattle.ddf_assembly.specs.Steps.{in_order};
 ghost use Rattle.ddf_assembly.specs.Committed.{AreSettled, HaveSlots, IsNotWritten, LeavesSynced, group_next, group_recovered, left_behind, next_slots, next_updates, recovery_slots, recovery_updates, slots_of, slots_written, synced, updates_written};
 
 use crate::Group;
@@ -23,7 +24,7 @@ use ddf_update::write_disks;
 
 impl Group {
     /// Syncs the disk of each seat, so that nothing that an earlier call wrote is pending there, and then writes the recovery, where there
-    /// is one, disk by disk in the order of their slots. It makes the group what it is then. The recovery is then no longer ready, also
+    /// is one, disk by disk in the order of their slots, those that showed another group last. It makes the group what it is then. The recovery is then no longer ready, also
     /// after an error. It takes no memory.
     ///
     /// # Errors
@@ -172,15 +173,15 @@ fn write_recovery<B: Bay>(bay: &mut B, next: &Option<Step>) -> Result<(), DiskFa
 
 /// Writes the disks of a step.
 fn write_step<B: Bay>(bay: &mut B, step: &Step) -> Result<(), DiskFault>
-    requires { LieOnSlots (B.disks bay.old).sizes (slots_in step.now.step.disks) step.now.updates }
-    ensures any_moment { B.tells → (seat : ℕ → SlotChange) → MayChangeAll (B.disks bay.old) (slots_in step.now.step.disks) seat step.now.updates
-        → StopsLeave (B.disks bay.old) (B.disks bay.new) (IsLeftChangingAll (B.disks bay.old) (slots_in step.now.step.disks) seat step.now.updates) }
-    ensures changed { B.tells → (seat : ℕ → SlotChange) → MayChangeAll (B.disks bay.old) (slots_in step.now.step.disks) seat step.now.updates
-        → OnOk result (AreChanged (B.disks bay.old) (B.disks bay.new) (slots_in step.now.step.disks) seat step.now.updates (length (slots_in step.now.step.disks))) }
+    requires { LieOnSlots (B.disks bay.old).sizes (slots_in (in_order step.now.step.disks)) step.now.updates }
+    ensures any_moment { B.tells → (seat : ℕ → SlotChange) → MayChangeAll (B.disks bay.old) (slots_in (in_order step.now.step.disks)) seat step.now.updates
+        → StopsLeave (B.disks bay.old) (B.disks bay.new) (IsLeftChangingAll (B.disks bay.old) (slots_in (in_order step.now.step.disks)) seat step.now.updates) }
+    ensures changed { B.tells → (seat : ℕ → SlotChange) → MayChangeAll (B.disks bay.old) (slots_in (in_order step.now.step.disks)) seat step.now.updates
+        → OnOk result (AreChanged (B.disks bay.old) (B.disks bay.new) (slots_in (in_order step.now.step.disks)) seat step.now.updates (length (slots_in (in_order step.now.step.disks)))) }
     ensures reads { (B.disks bay.new).failed_reads ≡ (B.disks bay.old).failed_reads }
     ensures spends { SpendsOver (B.disks bay.old) (B.disks bay.new) (all_sectors step.now.updates) (all_calls step.now.updates) }
     ensures ok { OnOk result ((B.disks bay.new).failed_writes ≡ (B.disks bay.old).failed_writes) }
-    ensures failed { IfErr result (λ e. IsOneOf (slots_in step.now.step.disks) e.0 × Rose ((B.disks bay.old).failed_writes e.0) ((B.disks bay.new).failed_writes e.0)) }
+    ensures failed { IfErr result (λ e. IsOneOf (slots_in (in_order step.now.step.disks)) e.0 × Rose ((B.disks bay.old).failed_writes e.0) ((B.disks bay.new).failed_writes e.0)) }
 {
     write_disks(bay, &step.slots, &step.updates)
 }

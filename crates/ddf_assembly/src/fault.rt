@@ -4,7 +4,7 @@ use ddf_bytes::NoMemory;
 use ddf_config::Refusal;
 
 /// Why the changes of a group can't be made.
-#[derive(Clone, Copy, Debug, PartialEq, Eq)]
+#[derive(Clone, Copy, PartialEq, Eq)]
 pub enum GroupFault {
     /// A change is refused.
     Refused(Refusal),

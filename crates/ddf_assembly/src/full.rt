@@ -2,12 +2,12 @@
 ghost use Rattle.std.specs.Prelude.{◌≡◌, ◌==◌, IfOk};
 ghost use Rattle.std.specs.List.{AllByRecursion, list_all};
 ghost use Rattle.ddf_rewrite.specs.Before.{before};
-ghost use Rattle.ddf_assembly.specs.Full.{full_of, full_on, least_full, lengths_differ, lesser, rank, record_length};
+ghost use Rattle.ddf_assembly.specs.Full.{full_of, full_on, full_where_written, least_full, lengths_differ, lesser, rank, record_length};
 ghost use Rattle.ddf_assembly.specs.Trying.{AreCopies, CanBeHeldOn, CanBeLed, CanTry};
 
 use crate::seated::Disk;
 use ddf_bytes::NoMemory;
-use ddf_config::{Config, FullTable};
+use ddf_config::{Config, FullTable, is_current};
 use ddf_rewrite::full_after_change;
 use ddf_view::View;
 use std::alloc::Global;
@@ -76,7 +76,24 @@ fn full_on(
     full_after_change(alloc, disk.copy, leaders, config, timestamp)
 }
 
-/// The least table that is full on some disk.
+/// The first table that is full on a disk, if the change writes it.
+fn full_where_written(
+    alloc: Global,
+    disk: &Disk,
+    leaders: &[View],
+    config: &Config,
+    timestamp: u32,
+) -> Result<Option<FullTable>, NoMemory>
+    requires { CanTry (before leaders.now) config.now disk.now }
+    ensures { IfOk result (λ full. full ≡ full_where_written (before leaders.now) config.now timestamp disk.now) }
+{
+    if is_current(&config.members, disk.seat.reference) {
+        return full_on(alloc, disk, leaders, config, timestamp);
+    }
+    Ok(None)
+}
+
+/// The least table that is full on some disk that is written.
 fn least_full(
     alloc: Global,
     disks: &[Disk],
@@ -89,13 +106,16 @@ fn least_full(
 {
     let mut least = None;
     for disk in disks {
-        least = lesser(least, full_on(alloc, disk, leaders, config, timestamp)?);
+        least = lesser(
+            least,
+            full_where_written(alloc, disk, leaders, config, timestamp)?,
+        );
     }
     Ok(least)
 }
 
 /// The first table that has no room for what a change to this configuration gives the disks: the records, where those of two disks
-/// have different lengths, and else the least one that is full on some disk.
+/// have different lengths, and else the least one that is full on some disk that is written.
 ///
 /// # Errors
 /// Memory ran out.

@@ -4,7 +4,7 @@ use ddf_copy::Newest;
 use std::marker::Model;
 
 /// A group of disks, with its configuration, and the newest copy of each slot of the bay that it was assembled from.
-#[derive(Debug, Drop)]
+#[derive(Drop)]
 pub struct Group {
     pub(crate) config: Config,
     pub(crate) seats: Seq<Seat>,

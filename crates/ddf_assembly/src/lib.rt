@@ -15,6 +15,7 @@ mod recovering;
 mod seated;
 mod seats;
 mod steps;
+mod stray;
 mod trying;
 
 pub use assembling::assemble;

@@ -11,6 +11,7 @@ ghost use Rattle.ddf_assembly.specs.Recovery.{full_mended, lags, mended, mended_
 use crate::full::lesser;
 use crate::group::Group;
 use crate::seated::{Disk, Seated};
+use crate::steps::mode_of;
 use ddf_bytes::NoMemory;
 use ddf_config::{Config, FullTable};
 use ddf_copy::{DiskCopy, Which};
@@ -61,6 +62,7 @@ fn mended(
         seat: disk.seat,
         copy,
         last: disk.last,
+        mode: mode_of(config, disk),
     })
 }
 

@@ -12,10 +12,10 @@ ghost use Rattle.ddf_assembly.specs.Asked.{CanBeAsked};
 
 use crate::fault::GroupFault;
 use crate::group::Group;
-use crate::leading::any_stray;
 use crate::recovering::{any_absent, config_behind, disks_behind, first_step};
 use crate::seated::{Disk, all_levelled, seated_disks};
 use crate::steps::Step;
+use crate::stray::any_stray;
 use crate::trying::next_step;
 use ddf_bytes::NoMemory;
 use ddf_config::{Config, Refusal};
@@ -25,7 +25,7 @@ use std::marker::Model;
 
 /// The recovery of a group, where it needs one, and the steps that are left of its changes, one after another, each with all sectors
 /// that it writes.
-#[derive(Debug, Drop)]
+#[derive(Drop)]
 pub struct Ready {
     pub(crate) recovery: Option<Step>,
     // The next step is the last item.
@@ -174,10 +174,11 @@ impl Group {
     /// change begins with what the one before it gives, and one that alters no more than the sequence number is no step.
     ///
     /// # Errors
-    /// A seat's disk has the copies of another group, or of the configuration's sequence number or a later one that don't show the
-    /// configuration. The first change that is refused: for its own causes first, then for a table that has no room on some disk, of the
-    /// first one also for the recovery, then for an extent that has none. Without a change: the recovery has no room. Where none is
-    /// refused: a sequence number would pass the greatest. Or memory ran out.
+    /// `Unsettled` where recovery must not write over a seat's disk: it is at the configuration's sequence number or later without showing
+    /// the configuration, it shows another group that isn't absorbed, its slot holds the only record of an element, or it is further
+    /// behind than stops leave one. Then the first change that is refused: for its own causes first, then for a table that has no room
+    /// on some disk that is written, of the first one also for the recovery, then for an extent that has none. Without a change: the
+    /// recovery has no room. Where none is refused: a sequence number would pass the greatest. Or memory ran out.
     pub fn ready(
         &self,
         alloc: Global,
@@ -195,7 +196,8 @@ impl Group {
         ensures follows { IfOk result (λ ready. AreFollowing (disks_recovered timestamp self.now) ready.steps) }
     {
         let disks = disks_of(alloc, self)?;
-        if any_stray(self.config(), &disks) {
+        let stray = any_stray(alloc, self, &disks)?;
+        if stray {
             return Err(GroupFault::Refused(Refusal::Unsettled));
         }
         let recovery = first_step(alloc, self, &disks, changes, timestamp)?;

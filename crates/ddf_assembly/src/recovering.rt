@@ -11,7 +11,7 @@ ghost use Rattle.ddf_assembly.specs.Refusing.{most_members};
 ghost use Rattle.ddf_assembly.specs.Seated.{seated, seats_in};
 ghost use Rattle.ddf_assembly.specs.Steps.{stays_in};
 ghost use Rattle.ddf_assembly.specs.Tried.{IsRecovered, behind_written, config_behind, disks_behind};
-ghost use Rattle.ddf_assembly.specs.Trying.{Follows, IsOfGroup};
+ghost use Rattle.ddf_assembly.specs.Trying.{Follows};
 
 use crate::fault::GroupFault;
 use crate::full::{full_of, lengths_differ};
@@ -125,7 +125,6 @@ fn lost_step(
     requires assembled { IsAssembledGroup group.now }
     requires disks { disks.now ≡ seated group.now }
     requires leaders { leaders.now ≡ leading_views group.now }
-    requires of_group { AllByRecursion (IsOfGroup group.now.config) disks.now }
     requires room { full_of timestamp (before leaders.now) (config_lost group.now) disks.now ≡ None }
     ensures step { IfOk result (λ made. made.step ≡ lost_step timestamp group.now) }
     ensures follows { IfOk result (Follows (seated group.now)) }
@@ -146,7 +145,6 @@ fn mending_step(
     requires assembled { IsAssembledGroup group.now }
     requires disks { disks.now ≡ seated group.now }
     requires leaders { leaders.now ≡ leading_views group.now }
-    requires of_group { AllByRecursion (IsOfGroup group.now.config) disks.now }
     requires room { full_of_mending group.now ≡ None }
     ensures step { IfOk result (λ made. made.step ≡ mending_step timestamp group.now) }
     ensures follows { IfOk result (Follows (seated group.now)) }
@@ -172,7 +170,6 @@ pub(crate) fn recovery(
     requires assembled { IsAssembledGroup group.now }
     requires disks { disks.now ≡ seated group.now }
     requires leaders { leaders.now ≡ leading_views group.now }
-    requires of_group { AllByRecursion (IsOfGroup group.now.config) disks.now }
     requires room { full_of_recovery timestamp group.now ≡ None }
     ensures step { IfOk result (λ next. option_map (λ one. one.step) next ≡ recovery_of timestamp group.now) }
     ensures follows { IfOk result (λ next. IfSome next (Follows (seated group.now))) }
@@ -279,7 +276,6 @@ pub(crate) fn first_step(
 ) -> Result<Option<Step>, GroupFault>
     requires assembled { IsAssembledGroup group.now }
     requires disks { disks.now ≡ seated group.now }
-    requires of_group { AllByRecursion (IsOfGroup group.now.config) disks.now }
     ensures recovered { IsRecovered timestamp group.now changes.now result }
     ensures follows { IfOk result (λ next. IfSome next (Follows (seated group.now))) }
 {

@@ -6,12 +6,13 @@ ghost use Rattle.ddf_assembly.specs.Steps.{levelled};
 use ddf_bytes::NoMemory;
 use ddf_config::Seat;
 use ddf_copy::{DiskCopy, Newest, Which};
+use ddf_update::Mode;
 use ddf_view::View;
 use std::alloc::Global;
 use std::marker::Model;
 
 /// A disk of a group with its copy.
-#[derive(Debug, Drop)]
+#[derive(Drop)]
 pub struct Seated {
     /// Its seat.
     pub seat: Seat,
@@ -19,9 +20,23 @@ pub struct Seated {
     pub copy: DiskCopy,
     /// Which of its two copies an update writes last.
     pub last: Which,
+    /// How an update writes them.
+    pub mode: Mode,
 }
 
-/// The same where the copy stands elsewhere.
+impl Seated {
+    ghost use Rattle.std.specs.Prelude.{◌≡◌};
+    ghost use Rattle.ddf_assembly.specs.Steps.{is_adopted};
+
+    /// Whether it showed another group.
+    pub(crate) fn is_adopted(&self) -> bool
+        ensures { result ≡ is_adopted self.now }
+    {
+        matches!(self.mode, Mode::Found | Mode::Adopt)
+    }
+}
+
+/// The same where the copy stands elsewhere, before an update.
 #[derive(Drop)]
 pub(crate) struct Disk<'a> {
     pub(crate) seat: Seat,
@@ -30,6 +45,7 @@ pub(crate) struct Disk<'a> {
 }
 
 impl<'a> Model for Disk<'a> {
+    ghost use Rattle.ddf_update.specs.declared.prepared.Mode.TheVariants.{Change};
     ghost use Rattle.ddf_assembly.specs.declared.seated.Seated.{Seated};
 
     ghost Value = { Seated };
@@ -38,6 +54,7 @@ impl<'a> Model for Disk<'a> {
       seat = disk.seat;
       copy = disk.copy.now;
       last = disk.last;
+      mode = Change;
     } };
 }
 

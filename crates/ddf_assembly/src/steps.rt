@@ -1,12 +1,15 @@
 //! What one change of a group makes of its configuration and of the copies of its disks.
-ghost use Rattle.std.specs.Prelude.{◌≡◌, ℕ, None, IfOk};
+ghost use Rattle.std.specs.Prelude.{◌≡◌, ◌++◌, ◌∷◌, [], ℕ, None, List, filter, IfOk, OnOk};
 ghost use Rattle.std.specs.List.{AllByRecursion};
 ghost use Rattle.ddf_header.specs.declared.reading.Header.{Header};
-ghost use Rattle.ddf_plan.specs.Changes.{HasNewGuid};
+ghost use Rattle.ddf_plan.specs.Arrays.{HasNewGuid};
+ghost use Rattle.ddf_copy.specs.Written.{CanBeCopy};
 ghost use Rattle.ddf_rewrite.specs.Before.{before};
 ghost use Rattle.ddf_assembly.specs.Seated.{seats_in, slots_in};
-ghost use Rattle.ddf_assembly.specs.Steps.{config_after, disks_after, raised, rewritten};
-ghost use Rattle.ddf_assembly.specs.Full.{full_of, full_on};
+ghost use Rattle.ddf_plan.specs.Same.{same_flag};
+ghost use Rattle.ddf_assembly.specs.declared.seated.Seated.{Seated};
+ghost use Rattle.ddf_assembly.specs.Steps.{config_after, disks_after, in_order, is_adopted, mode_of, raised, rewritten};
+ghost use Rattle.ddf_assembly.specs.Full.{full_of, full_on, full_where_written};
 ghost use Rattle.ddf_assembly.specs.Trying.{AreCopies, ArePrepared, CanBeHeldOn, CanTry, StandOn};
 
 use crate::seated::{Disk, Seated};
@@ -21,7 +24,7 @@ use std::alloc::Global;
 use std::marker::Model;
 
 /// The configuration after a change, and each disk that it writes, with the copy that the disk gets and the update that writes it.
-#[derive(Debug, Drop)]
+#[derive(Drop)]
 pub(crate) struct Step {
     pub(crate) config: Config,
     pub(crate) disks: Vec<Seated>,
@@ -34,6 +37,7 @@ impl Model for Step {
     ghost use Rattle.std.specs.Prelude.{◌≡◌};
     ghost use Rattle.ddf_assembly.specs.Ready.{ReadyStep};
     ghost use Rattle.ddf_assembly.specs.Seated.{seats_in, slots_in};
+    ghost use Rattle.ddf_assembly.specs.Steps.{in_order};
 
     ghost Value = { ReadyStep };
 
@@ -42,7 +46,7 @@ impl Model for Step {
       updates = step.updates.items;
     } };
 
-    ghost invariant = { λ step. (step.seats ≡ seats_in step.disks.items) × (step.slots.items ≡ slots_in step.disks.items) };
+    ghost invariant = { λ step. (step.seats ≡ seats_in step.disks.items) × (step.slots.items ≡ slots_in (in_order step.disks.items)) };
 }
 
 /// The sequence number after so many steps. One past the greatest stands at the number behind the greatest.
@@ -66,6 +70,17 @@ pub(crate) fn config_after(
     changed_at(alloc, config, change, sequence)
 }
 
+/// How a disk gets a copy of a configuration's group: as a change of its own group, or as another one.
+pub(crate) fn mode_of(config: &Config, disk: &Disk) -> Mode
+    ensures { result ≡ mode_of config.now disk.now }
+{
+    if disk.copy.header.guid == config.group {
+        Mode::Change
+    } else {
+        Mode::Adopt
+    }
+}
+
 /// A disk with the copy that a change to this configuration gives it.
 fn rewritten(
     alloc: Global,
@@ -84,6 +99,7 @@ fn rewritten(
         seat: disk.seat,
         copy,
         last: disk.last,
+        mode: mode_of(config, disk),
     })
 }
 
@@ -97,7 +113,7 @@ fn disks_after(
     timestamp: u32,
 ) -> Result<Vec<Seated>, NoMemory>
     requires can { AllByRecursion (CanTry (before leaders.now) config.now) disks.now }
-    requires room { AllByRecursion (λ disk. full_on (before leaders.now) config.now timestamp disk ≡ None) disks.now }
+    requires room { AllByRecursion (λ disk. full_where_written (before leaders.now) config.now timestamp disk ≡ None) disks.now }
     ensures { IfOk result (λ after. after.items ≡ disks_after timestamp (before leaders.now) config.now disks.now) }
 {
     let mut after = Vec::new(alloc);
@@ -109,15 +125,56 @@ fn disks_after(
     Ok(after)
 }
 
-/// The update of each disk.
+/// Whether a disk is written among those that are adopted, or among those that aren't.
+fn is_turn(disk: &Seated, adopted: bool) -> bool
+    ensures { result ≡ same_flag adopted (is_adopted disk.now) }
+{
+    adopted == disk.is_adopted()
+}
+
+/// Puts the update of a disk behind others, where the disk is adopted, or where it isn't.
+fn put_update(
+    alloc: Global,
+    disk: &Seated,
+    adopted: bool,
+    updates: &mut Vec<Prepared>,
+) -> Result<(), NoMemory>
+    requires { CanBeCopy disk.now.copy }
+    ensures { OnOk result ((before : List Seated) → ArePrepared before updates.old.items
+        → ArePrepared (before ++ filter (λ one. same_flag adopted (is_adopted one)) (disk.now ∷ [])) updates.new.items) }
+{
+    if is_turn(disk, adopted) {
+        updates.push(prepare(alloc, &disk.copy, disk.last, disk.mode)?)?;
+        return Ok(());
+    }
+    Ok(())
+}
+
+/// Puts the updates of those disks that are adopted, or of those that aren't, behind others.
+fn put_updates(
+    alloc: Global,
+    disks: &[Seated],
+    adopted: bool,
+    updates: &mut Vec<Prepared>,
+) -> Result<(), NoMemory>
+    requires { AreCopies disks.now }
+    ensures { OnOk result ((before : List Seated) → ArePrepared before updates.old.items
+        → ArePrepared (before ++ filter (λ disk. same_flag adopted (is_adopted disk)) disks.now) updates.new.items) }
+{
+    for disk in disks {
+        put_update(alloc, disk, adopted, updates)?;
+    }
+    Ok(())
+}
+
+/// The update of each disk, in the order in which they are written.
 fn updates_of(alloc: Global, disks: &[Seated]) -> Result<Vec<Prepared>, NoMemory>
     requires { AreCopies disks.now }
-    ensures { IfOk result (λ updates. ArePrepared disks.now updates.items) }
+    ensures { IfOk result (λ updates. ArePrepared (in_order disks.now) updates.items) }
 {
     let mut updates = Vec::with_capacity(alloc, disks.len())?;
-    for disk in disks {
-        updates.push(prepare(alloc, &disk.copy, disk.last, Mode::Change)?)?;
-    }
+    put_updates(alloc, disks, false, &mut updates)?;
+    put_updates(alloc, disks, true, &mut updates)?;
     Ok(updates)
 }
 
@@ -131,13 +188,25 @@ fn seats_of(alloc: Global, disks: &[Seated]) -> Result<Vec<Seat>, NoMemory>
     Ok(seats)
 }
 
+/// Puts the slots of those disks that are adopted, or of those that aren't, behind others.
+fn put_slots(disks: &[Seated], adopted: bool, slots: &mut Vec<usize>) -> Result<(), NoMemory>
+    ensures { OnOk result (slots.new.items ≡ slots.old.items ++ slots_in (filter (λ disk. same_flag adopted (is_adopted disk)) disks.now)) }
+{
+    for disk in disks {
+        if disk.is_adopted() == adopted {
+            slots.push(disk.seat.slot)?;
+        }
+    }
+    Ok(())
+}
+
+/// The slots of disks, in the order in which they are written.
 fn slots_of(alloc: Global, disks: &[Seated]) -> Result<Vec<usize>, NoMemory>
-    ensures { IfOk result (λ slots. slots.items ≡ slots_in disks.now) }
+    ensures { IfOk result (λ slots. slots.items ≡ slots_in (in_order disks.now)) }
 {
     let mut slots = Vec::with_capacity(alloc, disks.len())?;
-    for disk in disks {
-        slots.push(disk.seat.slot)?;
-    }
+    put_slots(disks, false, &mut slots)?;
+    put_slots(disks, true, &mut slots)?;
     Ok(slots)
 }
 
@@ -145,7 +214,7 @@ fn slots_of(alloc: Global, disks: &[Seated]) -> Result<Vec<usize>, NoMemory>
 pub(crate) fn step_with(alloc: Global, config: Config, disks: Vec<Seated>) -> Result<Step, NoMemory>
     requires { AreCopies disks.items }
     ensures step { IfOk result (λ made. made.step ≡ record { config = config; disks = disks.items }) }
-    ensures prepared { IfOk result (λ made. ArePrepared made.step.disks made.updates) }
+    ensures prepared { IfOk result (λ made. ArePrepared (in_order made.step.disks) made.updates) }
 {
     let updates = updates_of(alloc, &disks)?;
     let seats = seats_of(alloc, &disks)?;
@@ -168,9 +237,9 @@ pub(crate) fn make_step(
     timestamp: u32,
 ) -> Result<Step, NoMemory>
     requires can { AllByRecursion (CanTry (before leaders.now) config) disks.now }
-    requires room { AllByRecursion (λ disk. full_on (before leaders.now) config timestamp disk ≡ None) disks.now }
+    requires room { AllByRecursion (λ disk. full_where_written (before leaders.now) config timestamp disk ≡ None) disks.now }
     ensures step { IfOk result (λ made. made.step ≡ record { config = config; disks = disks_after timestamp (before leaders.now) config disks.now }) }
-    ensures prepared { IfOk result (λ made. ArePrepared made.step.disks made.updates) }
+    ensures prepared { IfOk result (λ made. ArePrepared (in_order made.step.disks) made.updates) }
 {
     let disks = disks_after(alloc, disks, leaders, &config, timestamp)?;
     step_with(alloc, config, disks)

@@ -13,7 +13,7 @@ use crate::seated::{Disk, seats_in, views_in};
 use crate::steps::{Step, config_after, make_step};
 use ddf_bytes::NoMemory;
 use ddf_config::{Config, Refusal};
-use ddf_plan::{Change, cause, room_on_seats, same_tables};
+use ddf_plan::{Change, cause, extents_refusal, same_tables};
 use ddf_view::View;
 use std::alloc::Global;
 
@@ -50,7 +50,7 @@ fn room_refusal(
         return Ok(Some(Refusal::Full(table)));
     }
     let seats = seats_in(alloc, disks)?;
-    room_on_seats(alloc, config, change, &seats)
+    extents_refusal(alloc, config, change, &seats, &seats)
 }
 
 /// The step that a change is, unless it has no room on the disks.

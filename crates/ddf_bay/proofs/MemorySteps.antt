@@ -1,7 +1,7 @@
 -- What calls that write nothing make of a bay in memory.
 use Rattle.std.proofs.Common.{◌≡◌, ◌≢◌, ℕ, ◌+◌, ◌≤◌, List, Bool, true, false, inl, refl, sym, ◌∙◌, arith}
 use Rattle.std.proofs.lemmas.Bool.{false≢true}
-use Rattle.ddf_bay.specs.declared.record.Record.{Record}
+use Rattle.ddf_bay.specs.declared.logged_write.LoggedWrite.{LoggedWrite}
 use Rattle.ddf_bay.specs.State.{BayState}
 use Rattle.ddf_bay.specs.Moments.{GoesOn, Spends}
 use Rattle.ddf_bay.specs.Memory.{IsHealthy, LeavesNoMore, MayBecome, MemoryState, fails_next}
@@ -13,12 +13,12 @@ healthy_passes bay slot healthy = rw (healthy.plugged slot, healthy.none_listed,
 pub never_fails : (bay : MemoryState) (slot : ℕ) (fails : Bool) → fails ≡ fails_next bay slot → fails ≡ true → IsHealthy bay → ⊥
 never_fails bay slot fails is failed healthy = false≢true (sym (healthy_passes bay slot healthy) ∙ sym is ∙ failed)
 
--- Such a call moves the clock, counts itself and a fault, and may make records sure.
-pub becomes_still : (bay : MemoryState) (clock calls room : ℕ) (reads writes : List ℕ) (records : List Record)
+-- Such a call moves the clock, counts itself and a fault, and may make logged writes sure.
+pub becomes_still : (bay : MemoryState) (clock calls room : ℕ) (reads writes : List ℕ) (logged : List LoggedWrite)
     → room ≡ bay.room → (IsHealthy bay → reads ≡ bay.failed_reads) → (IsHealthy bay → writes ≡ bay.failed_writes)
-    → LeavesNoMore bay (record bay { clock = clock; calls = calls; room = room; failed_reads = reads; failed_writes = writes; records = records })
-    → MayBecome bay (record bay { clock = clock; calls = calls; room = room; failed_reads = reads; failed_writes = writes; records = records })
-becomes_still bay clock calls room reads writes records same_room no_reads no_writes no_more = record {
+    → LeavesNoMore bay (record bay { clock = clock; calls = calls; room = room; failed_reads = reads; failed_writes = writes; logged = logged })
+    → MayBecome bay (record bay { clock = clock; calls = calls; room = room; failed_reads = reads; failed_writes = writes; logged = logged })
+becomes_still bay clock calls room reads writes logged same_room no_reads no_writes no_more = record {
   same_sizes = refl;
   same_failing = refl;
   same_stop = refl;

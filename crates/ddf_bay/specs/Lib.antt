@@ -4,9 +4,9 @@ pub mod Moments
 pub mod ReadsOnly
 pub mod Counting
 pub mod Finding
-pub mod Records
+pub mod Logged
 pub mod Memory
-pub mod RecordLaws
+pub mod LoggedLaws
 pub mod MemoryLaws
 pub mod Files
 pub mod FileBays

@@ -4,14 +4,14 @@ use Rattle.std.specs.List.{list_any}
 use Rattle.ddf_bay.specs.Counting.{one_more, with_one_more}
 use Rattle.ddf_bay.specs.Sectors.{Image}
 use Rattle.ddf_bay.specs.State.{BayState}
-use Rattle.ddf_bay.specs.Records.{held_of, MayHold, LeftSince, is_reached, settled, run_records, survivors}
-use Rattle.ddf_bay.specs.declared.record.Record.{Record}
+use Rattle.ddf_bay.specs.Logged.{held_of, MayHold, LeftSince, is_reached, settled, run_logged, survivors}
+use Rattle.ddf_bay.specs.declared.logged_write.LoggedWrite.{LoggedWrite}
 use Rattle.ddf_bay.specs.declared.memory.MemoryBay.{MemoryBay}
 
 pub record MemoryState : Type 0 where
   -- of each slot, in sectors
   pub sizes : List ℕ
-  pub records : List Record
+  pub logged : List LoggedWrite
   -- the sectors that were written so far, those included that a stop dropped
   pub written : ℕ
   -- the sectors that it was asked to write: those of failed writes too, but for those before the last stop
@@ -33,7 +33,7 @@ pub record MemoryState : Type 0 where
 abbrev pub state_of : MemoryBay → MemoryState
 state_of bay = record {
   sizes = bay.sizes.items;
-  records = bay.log.records.items;
+  logged = bay.log.logged.items;
   written = bay.written;
   asked = bay.asked;
   room = bay.log.room;
@@ -59,9 +59,9 @@ IsShort bay = bay.room + bay.written < bay.asked
 -- A stop leaves nothing else than before, while the clock is below its last value.
 pub record LeavesNoMore (bay next : MemoryState) : Type 0 where
   pub later : bay.clock ≤ next.clock
-  pub left : (s l : ℕ) (bytes : List ℕ) → (next.clock < 2 ^ 64 - 1) × MayHold next.clock next.records s l bytes → (bay.clock < 2 ^ 64 - 1) × MayHold bay.clock bay.records s l bytes
-  pub since : (t : ℕ) (image : Image) → t ≤ bay.clock → (next.clock < 2 ^ 64 - 1) × LeftSince next.clock next.records t image
-      → ((bay.clock < 2 ^ 64 - 1) × LeftSince bay.clock bay.records t image) ⊎ ((s l : ℕ) → (bay.clock < 2 ^ 64 - 1) × MayHold bay.clock bay.records s l (image s l))
+  pub left : (s l : ℕ) (bytes : List ℕ) → (next.clock < 2 ^ 64 - 1) × MayHold next.clock next.logged s l bytes → (bay.clock < 2 ^ 64 - 1) × MayHold bay.clock bay.logged s l bytes
+  pub since : (t : ℕ) (image : Image) → t ≤ bay.clock → (next.clock < 2 ^ 64 - 1) × LeftSince next.clock next.logged t image
+      → ((bay.clock < 2 ^ 64 - 1) × LeftSince bay.clock bay.logged t image) ⊎ ((s l : ℕ) → (bay.clock < 2 ^ 64 - 1) × MayHold bay.clock bay.logged s l (image s l))
 
 -- Calls keep what fails and how many sectors can be written in all, and move the clock on. On a bay in health no call fails while there is
 -- room. Where no sector was asked for a stop leaves nothing else than before.
@@ -82,11 +82,11 @@ pub record MayBecome (bay next : MemoryState) : Type 0 where
 abbrev pub disks_of : MemoryBay → BayState MemoryBay
 disks_of bay = record {
   sizes = bay.sizes.items;
-  held = held_of bay.log.records.items;
+  held = held_of bay.log.logged.items;
   tells_left = bay.clock < 2 ^ 64 - 1;
-  may_hold = λ s l bytes. (bay.clock < 2 ^ 64 - 1) × MayHold bay.clock bay.log.records.items s l bytes;
+  may_hold = λ s l bytes. (bay.clock < 2 ^ 64 - 1) × MayHold bay.clock bay.log.logged.items s l bytes;
   moment = bay.clock;
-  left_since = λ t image. (bay.clock < 2 ^ 64 - 1) × LeftSince bay.clock bay.log.records.items t image;
+  left_since = λ t image. (bay.clock < 2 ^ 64 - 1) × LeftSince bay.clock bay.log.logged.items t image;
   failed_reads = slice_index bay.read_faults;
   failed_writes = slice_index bay.write_faults;
   sectors_written = bay.written;
@@ -99,7 +99,7 @@ disks_of bay = record {
 abbrev pub blank : List ℕ → ℕ → List ℕ → Option ℕ → MemoryState
 blank sizes writes failing stop_after = record {
   sizes = sizes;
-  records = [];
+  logged = [];
   written = 0;
   asked = 0;
   room = writes;
@@ -141,14 +141,14 @@ write_failed bay slot count = record (called bay) { failed_writes = with_one_mor
 abbrev pub run_written : MemoryState → ℕ → ℕ → List (List ℕ) → MemoryState
 run_written bay slot lba sectors = record (called bay) {
   asked = with_asked bay.asked (length sectors);
-  records = bay.records ++ run_records slot lba (one_more bay.clock) sectors;
+  logged = bay.logged ++ run_logged slot lba (one_more bay.clock) sectors;
   written = bay.written + length sectors;
   room = bay.room - length sectors;
 }
 
 -- the slot was synced
 abbrev pub synced : MemoryState → ℕ → MemoryState
-synced bay slot = record (called bay) { records = settled slot (one_more bay.clock) bay.records }
+synced bay slot = record (called bay) { logged = settled slot (one_more bay.clock) bay.logged }
 
 -- the slot was unplugged
 abbrev pub without : MemoryState → ℕ → MemoryState
@@ -157,7 +157,7 @@ without bay slot = record bay { unplugged = slice_set bay.unplugged slot true }
 -- a stop came, and all slots are there again: what was asked for is counted anew from what was written
 abbrev pub stopped : MemoryState → List Bool → List ℕ → Option ℕ → MemoryState
 stopped bay keep failing stop_after = record bay {
-  records = survivors bay.clock keep bay.records;
+  logged = survivors bay.clock keep bay.logged;
   failing = failing;
   stop_after = stop_after;
   unplugged = replicate 64 false;

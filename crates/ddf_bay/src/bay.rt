@@ -8,7 +8,7 @@ ghost use Rattle.ddf_bay.specs.Moments.{StopsLeave, Remembers, SpendsReads, Spen
 use ddf_bytes::Sector;
 
 /// A call on a slot failed. The slot's count of such failures says so too.
-#[derive(Clone, Copy, Debug, PartialEq, Eq)]
+#[derive(Clone, Copy, PartialEq, Eq)]
 pub struct BayFailed;
 
 /// Numbered slots, each a disk of whole sectors. A stop, as by a power cut, hits all slots at one moment. Between two

@@ -1,5 +1,5 @@
 // A bay over files or block devices, of whose content nothing is told.
-ghost use Rattle.std.specs.Prelude.{◌≡◌, ◌≢◌, ◌<◌, ◌≤◌, ◌+◌, ◌^◌, ◌↔◌, [], List, ℕ, true, false, length, IfOk, IsNone, Some, OnOk, OnErr, IsErr, IsTrue, slice_index, nat_le};
+ghost use Rattle.std.specs.Prelude.{◌≡◌, ◌≢◌, ◌<◌, ◌≤◌, ◌+◌, ◌^◌, ◌↔◌, [], List, ℕ, true, false, length, IfOk, IsNone, IsSome, Some, OnOk, OnErr, IsErr, IsTrue, slice_index, nat_le};
 ghost use Rattle.std.specs.List.{list_all};
 ghost use Rattle.ddf_bytes.specs.Counts.{Rose};
 ghost use Rattle.ddf_bay.specs.Moments.{Remembers, SpendsWrites};
@@ -16,7 +16,7 @@ use std::rt::Files;
 use std::{io, slice};
 
 /// A bay over files or block devices, a slot for each path. It tells nothing of what they hold: that they keep the disk
-/// model is trusted. An interrupted call counts as a failure.
+/// model is trusted. A call that the system interrupted is made again.
 #[derive(Drop)]
 pub struct FileBay<R: Files> {
     files: Vec<Result<R::File, io::Error>>,
@@ -98,6 +98,17 @@ impl<R: Files> FileBay<R> {
         match &self.files[slot] {
             Ok(_) => None,
             Err(why) => Some(*why),
+        }
+    }
+
+    /// The slot's file, where its path could be opened.
+    pub fn file(&self, slot: usize) -> Option<&R::File>
+        requires { slot < length (disks_of self.now).sizes }
+        ensures { IsSome result ↔ (has_opened self.now slot ≡ true) }
+    {
+        match &self.files[slot] {
+            Ok(file) => Some(file),
+            Err(_) => None,
         }
     }
 

@@ -1,4 +1,4 @@
-// Where the newest record of each sector stands.
+// Where the newest write of each sector stands.
 ghost use Rattle.std.specs.Prelude.{◌<◌, ◌≤◌, ◌+◌, Some};
 ghost use Rattle.std.specs.HashMap.{hash_map_len, spare, Updates};
 
@@ -11,10 +11,10 @@ pub(crate) struct Place {
     pub lba: u64,
 }
 
-/// For each sector that was written, where its newest record stands.
+/// For each sector that was written, where its newest write stands.
 pub(crate) type Index = HashMap<Place, usize>;
 
-/// Notes where the newest record of a sector stands. It takes no memory while there is room.
+/// Notes where the newest write of a sector stands. It takes no memory while there is room.
 pub(crate) fn note(index: &mut Index, place: Place, at: usize)
     requires { 0 < spare index.old }
     ensures updates { Updates ⟦<Place as PartialEq>⟧.eq index.old index.new place (Some at) }

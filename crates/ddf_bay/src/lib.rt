@@ -8,11 +8,11 @@ mod disk_fault;
 mod file;
 mod index;
 mod log;
+mod logged;
+mod logged_write;
 mod memory;
 mod memory_calls;
 mod opening;
-mod record;
-mod records;
 mod transfer;
 
 pub use bay::{Bay, BayFailed};

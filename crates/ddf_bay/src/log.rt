@@ -2,57 +2,57 @@ ghost use Rattle.std.specs.Prelude.{◌≡◌, ◌<◌, ◌≤◌, ◌+◌, ◌-
 ghost use Rattle.std.specs.List.{list_all};
 ghost use Rattle.std.specs.HashMap.{hash_map_len, spare};
 ghost use Rattle.ddf_bay.specs.Sectors.{IsRead};
-ghost use Rattle.ddf_bay.specs.Records.{are_whole, is_whole, held_of, newest, zeros, settled, run_records, survivors};
+ghost use Rattle.ddf_bay.specs.Logged.{are_whole, is_whole, held_of, newest, zeros, settled, run_logged, survivors};
 ghost use Rattle.ddf_bay.specs.Finding.{noted, Finds, IsWithin};
 
 use crate::index::{Index, Place, note};
-use crate::record::Record;
-use crate::records::{keep_some, settle_all};
+use crate::logged::{keep_some, settle_all};
+use crate::logged_write::LoggedWrite;
 use ddf_bytes::{NoMemory, Sector};
 use std::alloc::Global;
 use std::collections::HashMap;
 
-/// The records of a bay in memory, with room that was reserved for more, and an index by which a read finds a sector's
-/// newest record.
+/// The logged writes of a bay in memory, with room that was reserved for more, and an index by which a read finds a sector's
+/// newest write.
 #[derive(Drop)]
 pub(crate) struct Log {
-    pub records: Vec<Record>,
+    pub logged: Vec<LoggedWrite>,
     pub room: usize,
     index: Index,
-    ghost fits: { vec_len records + room ≤ vec_capacity records },
-    ghost few: { hash_map_len index ≤ vec_len records },
-    ghost spare: { vec_len records + room ≤ hash_map_len index + spare index },
-    ghost finds: { Finds (noted index) records.items },
-    ghost within: { IsWithin (noted index) records.items },
-    ghost whole: { IsTrue (are_whole records.items) },
+    ghost fits: { vec_len logged + room ≤ vec_capacity logged },
+    ghost few: { hash_map_len index ≤ vec_len logged },
+    ghost spare: { vec_len logged + room ≤ hash_map_len index + spare index },
+    ghost finds: { Finds (noted index) logged.items },
+    ghost within: { IsWithin (noted index) logged.items },
+    ghost whole: { IsTrue (are_whole logged.items) },
 }
 
 impl Log {
     pub fn new(alloc: Global, room: usize) -> Result<Log, NoMemory>
-        ensures records { IfOk result (λ log. log.records.items ≡ []) }
+        ensures logged { IfOk result (λ log. log.logged.items ≡ []) }
         ensures room { IfOk result (λ log. log.room ≡ room) }
     {
-        let records = Vec::with_capacity(alloc, room)?;
+        let logged = Vec::with_capacity(alloc, room)?;
         let index = HashMap::with_capacity(alloc, room)?;
         Ok(Log {
-            records,
+            logged,
             room,
             index,
         })
     }
 
     pub fn newest(&self, slot: usize, lba: u64) -> Sector
-        ensures { result ≡ newest self.now.records.items slot lba zeros }
+        ensures { result ≡ newest self.now.logged.items slot lba zeros }
     {
         match self.index.get(&Place { slot, lba }) {
-            Some(at) => self.records[*at].bytes,
+            Some(at) => self.logged[*at].bytes,
             None => blank(),
         }
     }
 
     pub fn read(&self, slot: usize, lba: u64, into: &mut [Sector])
         requires { lba + length into.old ≤ 2 ^ 55 }
-        ensures { IsRead (held_of self.now.records.items slot) lba into.new }
+        ensures { IsRead (held_of self.now.logged.items slot) lba into.new }
     {
         let mut at = lba;
         for sector in into.iter_mut() {
@@ -61,19 +61,19 @@ impl Log {
         }
     }
 
-    #[tactic(auto, using(crate::specs::RecordLaws::whole_added))]
-    fn push_one(&mut self, entry: Record)
+    #[tactic(auto, using(crate::specs::LoggedLaws::whole_added))]
+    fn push_one(&mut self, entry: LoggedWrite)
         requires room { 0 < self.old.room }
         requires whole { IsTrue (is_whole entry.bytes) }
-        ensures records { self.new.records.items ≡ self.old.records.items ++ entry ∷ [] }
+        ensures logged { self.new.logged.items ≡ self.old.logged.items ++ entry ∷ [] }
         ensures room { self.new.room + 1 ≡ self.old.room }
     {
-        let at = self.records.len();
+        let at = self.logged.len();
         let place = Place {
             slot: entry.slot,
             lba: entry.lba,
         };
-        match self.records.push(entry) {
+        match self.logged.push(entry) {
             Ok(()) => (),
             Err(_) => unreachable!(),
         }
@@ -81,17 +81,17 @@ impl Log {
         self.room -= 1;
     }
 
-    /// Adds a record for each sector of a run.
+    /// Adds a write for each sector of a run.
     pub fn push(&mut self, slot: usize, lba: u64, now: u64, sectors: &[Sector])
         requires room { length sectors.now ≤ self.old.room }
         requires last { lba + length sectors.now ≤ 2 ^ 55 }
-        ensures records { self.new.records.items ≡ self.old.records.items ++ run_records slot lba now sectors.now }
+        ensures logged { self.new.logged.items ≡ self.old.logged.items ++ run_logged slot lba now sectors.now }
         ensures room { self.new.room ≡ self.old.room - length sectors.now }
     {
         let mut rest = sectors;
         let mut at = lba;
         while let [first, after @ ..] = rest {
-            self.push_one(Record {
+            self.push_one(LoggedWrite {
                 slot,
                 lba: at,
                 bytes: bytes_of(first),
@@ -103,22 +103,22 @@ impl Log {
         }
     }
 
-    /// What a good sync of a slot makes of the records.
+    /// What a good sync of a slot makes of the logged writes.
     pub fn settle(&mut self, slot: usize, now: u64)
-        ensures records { self.new.records.items ≡ settled slot now self.old.records.items }
+        ensures logged { self.new.logged.items ≡ settled slot now self.old.logged.items }
         ensures room { self.new.room ≡ self.old.room }
     {
-        settle_all(&mut self.records, slot, now);
+        settle_all(&mut self.logged, slot, now);
     }
 
-    /// What a stop makes of the records.
-    #[tactic(auto, using(crate::specs::RecordLaws::whole_stop))]
+    /// What a stop makes of the logged writes.
+    #[tactic(auto, using(crate::specs::LoggedLaws::whole_stop))]
     pub fn stop(&mut self, now: u64, keep: &[bool])
-        ensures records { self.new.records.items ≡ survivors now keep.now self.old.records.items }
+        ensures logged { self.new.logged.items ≡ survivors now keep.now self.old.logged.items }
         ensures room { self.new.room ≡ self.old.room }
     {
-        keep_some(&mut self.records, now, keep);
-        note_all(&mut self.index, self.records.as_slice());
+        keep_some(&mut self.logged, now, keep);
+        note_all(&mut self.index, self.logged.as_slice());
     }
 }
 
@@ -143,16 +143,16 @@ fn blank() -> Sector
     [0; 512]
 }
 
-/// Notes each record anew.
-fn note_all(index: &mut Index, records: &[Record])
-    requires { length records.now ≤ hash_map_len index.old + spare index.old }
-    ensures few { hash_map_len index.new ≤ length records.now }
+/// Notes each write anew.
+fn note_all(index: &mut Index, logged: &[LoggedWrite])
+    requires { length logged.now ≤ hash_map_len index.old + spare index.old }
+    ensures few { hash_map_len index.new ≤ length logged.now }
     ensures room { hash_map_len index.old + spare index.old ≤ hash_map_len index.new + spare index.new }
-    ensures finds { Finds (noted index.new) records.now }
-    ensures within { IsWithin (noted index.new) records.now }
+    ensures finds { Finds (noted index.new) logged.now }
+    ensures within { IsWithin (noted index.new) logged.now }
 {
     index.clear();
-    for (at, entry) in records.iter().enumerate() {
+    for (at, entry) in logged.iter().enumerate() {
         let place = Place {
             slot: entry.slot,
             lba: entry.lba,

@@ -1,10 +1,10 @@
-// A bay in memory: records over zeros, calls that fail by their numbers, and what a stop leaves.
+// A bay in memory: logged writes over zeros, calls that fail by their numbers, and what a stop leaves.
 ghost use Rattle.std.specs.Prelude.{◌≡◌, ◌≢◌, ◌⊎◌, ◌<◌, ◌≤◌, ◌+◌, ◌-◌, ◌^◌, [], ◌∷◌, List, ℕ, length, IfOk, IsTrue, slice_index, nat_le};
 ghost use Rattle.std.specs.List.{list_all};
 ghost use Rattle.ddf_bytes.specs.Counts.{Rose};
 ghost use Rattle.ddf_bay.specs.Sectors.{IsLeft};
 ghost use Rattle.ddf_bay.specs.Moments.{StopsLeave, IsSettled};
-ghost use Rattle.ddf_bay.specs.Records.{are_past, is_reached, zeros};
+ghost use Rattle.ddf_bay.specs.Logged.{are_past, is_reached, zeros};
 
 use crate::Bay;
 use crate::log::Log;
@@ -29,7 +29,7 @@ pub struct MemoryBay {
     pub(crate) made: u64,
     ghost few: { length sizes.items ≤ 64 },
     ghost small: { IsTrue (list_all (λ n. nat_le n (2 ^ 55)) sizes.items) },
-    ghost past: { IsTrue (are_past clock log.records.items) },
+    ghost past: { IsTrue (are_past clock log.logged.items) },
     ghost counted: { written + log.room < 2 ^ 64 },
     ghost wanted: { written ≤ asked },
 }

@@ -13,7 +13,7 @@ impl Bay for MemoryBay {
     ghost use Rattle.ddf_bay.specs.Memory.{state_of, disks_of};
     ghost use Rattle.ddf_bay.specs.Memory.{fails_next, called, read_failed, write_failed, run_written, sync_failed, synced};
     ghost use Rattle.ddf_bay.specs.MemoryLaws.{becomes_start, left_only, left_counts, size_small, told_earlier};
-    ghost use Rattle.ddf_bay.specs.RecordLaws.{held_left, left_whole};
+    ghost use Rattle.ddf_bay.specs.LoggedLaws.{held_left, left_whole};
 
     ghost disks = { disks_of };
 
@@ -23,13 +23,13 @@ impl Bay for MemoryBay {
 
     ghost small = { λ b s. size_small b.sizes.items s b.small };
 
-    ghost only_now = { λ b image left. left_only b.clock b.log.records.items image left };
+    ghost only_now = { λ b image left. left_only b.clock b.log.logged.items image left };
 
-    ghost counts_now = { λ b t image le left. left_counts b.clock b.log.records.items t image le left };
+    ghost counts_now = { λ b t image le left. left_counts b.clock b.log.logged.items t image le left };
 
     ghost told_since = { λ b t image left. left.0 };
 
-    ghost whole = { λ b s l bytes left. left_whole b.clock b.log.records.items s l bytes b.log.whole left.1 };
+    ghost whole = { λ b s l bytes left. left_whole b.clock b.log.logged.items s l bytes b.log.whole left.1 };
 
     ghost leads = { λ b. becomes_start (state_of b) };
 
@@ -37,7 +37,7 @@ impl Bay for MemoryBay {
 
     ghost told_before = { λ b next leads told. told_earlier b.clock next.clock leads.later told };
 
-    ghost held_is_left = { λ b told s l. (told, held_left b.clock b.log.records.items s l b.past) };
+    ghost held_is_left = { λ b told s l. (told, held_left b.clock b.log.logged.items s l b.past) };
 
     fn slots(&self) -> usize {
         self.sizes.len()

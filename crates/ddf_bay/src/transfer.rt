@@ -1,7 +1,7 @@
-// Whole transfers to and from a file. A call that fails, an interrupted one too, isn't tried again.
-ghost use Rattle.std.specs.Prelude.{◌≡◌, ◌*◌, ◌/◌, ◌<◌, ◌^◌, length, IsSome, IfSome, IfOk, IsErr, false, is_ok};
+// Whole transfers to and from a file. A call that the system interrupted is made again, and one that fails isn't.
+ghost use Rattle.std.specs.Prelude.{◌≡◌, ◌*◌, ◌/◌, ◌<◌, ◌^◌, length, IsSome, IfSome, IfOk, IsErr, OnOk, false, is_ok};
 ghost use Rattle.std.specs.Io.Seek.{MovesTo};
-ghost use Rattle.ddf_bay.specs.Files.{allows_writes};
+ghost use Rattle.ddf_bay.specs.Files.{allows_writes, AreBoth, IsReadAt, IsWrittenAt};
 
 use crate::BayFailed;
 use crate::access::Access;
@@ -11,32 +11,6 @@ use std::io::{Read, Seek, SeekFrom, Write};
 
 /// The bytes of a sector.
 const SECTOR_BYTES: u64 = 512;
-
-/// Reads into the whole piece. An end before that is a failure.
-fn fill<F: Read>(file: &mut F, into: &mut [u8]) -> Result<(), BayFailed> {
-    let mut done = 0;
-    while done < into.len() {
-        let count = file.read(&mut into[done..]).map_err(|_| BayFailed)?;
-        if count == 0 {
-            return Err(BayFailed);
-        }
-        done += count;
-    }
-    Ok(())
-}
-
-/// Writes the whole piece. A write that takes nothing is a failure.
-fn put<F: Write>(file: &mut F, from: &[u8]) -> Result<(), BayFailed> {
-    let mut done = 0;
-    while done < from.len() {
-        let count = file.write(&from[done..]).map_err(|_| BayFailed)?;
-        if count == 0 {
-            return Err(BayFailed);
-        }
-        done += count;
-    }
-    Ok(())
-}
 
 fn seek_to<F: Seek>(file: &mut F, lba: u64) -> Result<(), BayFailed>
     requires { lba < 2 ^ 55 }
@@ -57,20 +31,40 @@ pub(crate) fn sectors_of<F: Seek>(file: &mut F) -> io::Result<u64>
     Ok(bytes / SECTOR_BYTES)
 }
 
-/// Reads the bytes of a run, from a file that could be opened.
+/// Reads the bytes of a run.
+fn read_at<F: Read + Seek>(file: &mut F, lba: u64, into: &mut [u8]) -> Result<(), BayFailed>
+    requires { lba < 2 ^ 55 }
+    ensures { OnOk result (IsReadAt F.stream_position F.remaining file.old file.new (lba * 512) into.new) }
+{
+    seek_to(file, lba)?;
+    file.read_exact(into).map_err(|_| BayFailed)?;
+    Ok(())
+}
+
+/// Writes the bytes of a run.
+fn write_at<F: Write + Seek>(file: &mut F, lba: u64, from: &[u8]) -> Result<(), BayFailed>
+    requires { lba < 2 ^ 55 }
+    ensures { OnOk result (IsWrittenAt F.stream_position F.contents file.old file.new (lba * 512) from.now) }
+{
+    seek_to(file, lba)?;
+    file.write_all(from).map_err(|_| BayFailed)?;
+    Ok(())
+}
+
+/// Reads the bytes of a run, from a file that could be opened. An end before the last of them is a failure.
 pub(crate) fn read_bytes<F: Read + Seek>(
     file: &mut Result<F, io::Error>,
     lba: u64,
     into: &mut [u8],
 ) -> Result<(), BayFailed>
     requires { lba < 2 ^ 55 }
-    ensures { is_ok file.new ≡ is_ok file.old }
+    ensures same { is_ok file.new ≡ is_ok file.old }
+    ensures from { OnOk result (AreBoth file.old file.new (λ old new. IsReadAt F.stream_position F.remaining old new (lba * 512) into.new)) }
 {
-    let Ok(file) = file else {
-        return Err(BayFailed);
-    };
-    seek_to(file, lba)?;
-    fill(file, into)
+    match file {
+        Ok(file) => read_at(file, lba, into),
+        Err(_) => Err(BayFailed),
+    }
 }
 
 /// Writes the bytes of a run, to a file that could be opened for it.
@@ -82,17 +76,17 @@ pub(crate) fn write_bytes<F: Write + Seek>(
 ) -> Result<(), BayFailed>
     requires { lba < 2 ^ 55 }
     ensures same { is_ok file.new ≡ is_ok file.old }
+    ensures to { OnOk result (AreBoth file.old file.new (λ old new. IsWrittenAt F.stream_position F.contents old new (lba * 512) from.now)) }
     ensures reads { allows_writes access ≡ false → IsErr result }
     ensures untouched { allows_writes access ≡ false → file.new ≡ file.old }
 {
     if access == Access::Read {
         return Err(BayFailed);
     }
-    let Ok(file) = file else {
-        return Err(BayFailed);
-    };
-    seek_to(file, lba)?;
-    put(file, from)
+    match file {
+        Ok(file) => write_at(file, lba, from),
+        Err(_) => Err(BayFailed),
+    }
 }
 
 /// Makes all that was written sure, of a file that could be opened.

@@ -10,7 +10,7 @@ use std::fmt;
 use std::marker::Model;
 
 /// The name of a group, controller, disk or array: 24 bytes. Contracts see it as the list of its bytes.
-#[derive(Clone, Copy, Debug, PartialEq, Eq, PartialOrd, Ord, Hash)]
+#[derive(Clone, Copy, PartialEq, Eq, PartialOrd, Ord, Hash)]
 pub struct Guid {
     bytes: [u8; 24],
 }
@@ -26,7 +26,7 @@ impl Model for Guid {
 }
 
 /// What a new GUID names.
-#[derive(Clone, Copy, Debug, PartialEq, Eq)]
+#[derive(Clone, Copy, PartialEq, Eq)]
 pub enum GuidKind {
     /// A group of disks.
     Group,

@@ -7,15 +7,15 @@ ghost use Rattle.hex.specs.Hex.{encode_lower};
 use std::fmt;
 
 /// A byte as two lower-case hexadecimal digits.
-#[derive(Clone, Copy, Debug, PartialEq, Eq)]
+#[derive(Clone, Copy, PartialEq, Eq)]
 pub struct Hex8(pub u8);
 
 /// A number of 16 bits as four lower-case hexadecimal digits.
-#[derive(Clone, Copy, Debug, PartialEq, Eq)]
+#[derive(Clone, Copy, PartialEq, Eq)]
 pub struct Hex16(pub u16);
 
 /// A number of 32 bits as eight lower-case hexadecimal digits.
-#[derive(Clone, Copy, Debug, PartialEq, Eq)]
+#[derive(Clone, Copy, PartialEq, Eq)]
 pub struct Hex32(pub u32);
 
 /// Writes the two lower-case hexadecimal digits of each byte.

@@ -31,5 +31,5 @@ pub use std_source::StdSource;
 pub type Sector = [u8; 512];
 
 /// A call on the outside failed. Its count of faults says so too.
-#[derive(Clone, Copy, Debug, PartialEq, Eq)]
+#[derive(Clone, Copy, PartialEq, Eq)]
 pub struct Failed;

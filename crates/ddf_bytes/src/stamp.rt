@@ -5,7 +5,7 @@ ghost use Rattle.ddf_bytes.specs.Stamps.{timestamp_of};
 const SECONDS_TO_1980: u64 = 315_532_800;
 
 /// The moment and the chance from which new names are made.
-#[derive(Clone, Copy, Debug, PartialEq, Eq)]
+#[derive(Clone, Copy, PartialEq, Eq)]
 pub struct Stamp {
     /// Seconds since 1970 began.
     pub seconds: u64,

@@ -23,14 +23,14 @@ use Rattle.ddf_assembly.specs.Recovery.{config_recovered}
 use Rattle.ddf_assembly.specs.Seated.{seated}
 use Rattle.ddf_assembly.specs.Steps.{Step}
 use Rattle.ddf_stops.specs.Kept.{is_slot}
-use Rattle.ddf_command.specs.declared.failure.Failure.{Failure}
-use Rattle.ddf_command.specs.declared.failure.Failure.TheVariants.{Conflict, Disk, Memory, Refused, Split}
-use Rattle.ddf_command.specs.Call.{Work, work_of}
-use Rattle.ddf_command.specs.Change.{HasChanged, IsChanged, IsChangedIn, Request, steps_asked, steps_of}
+use Rattle.ddf_answer.specs.declared.failure.Failure.{Failure}
+use Rattle.ddf_answer.specs.declared.failure.Failure.TheVariants.{Conflict, Disk, Memory, Refused, Split}
+use Rattle.ddf_answer.specs.Call.{Work, work_of}
+use Rattle.ddf_group_commands.specs.Change.{HasChanged, IsChanged, IsChangedIn, Request, steps_asked, steps_of}
 use Rattle.ddf_command.specs.History.{OtherCall}
-use Rattle.ddf_command.specs.Writing.{IsLeftWriting, IsWrittenOn}
-use Rattle.ddf_command.proofs.Changing.{asked_of}
-use Rattle.ddf_command.proofs.LeftWriting.{IsStepsCopy, copy_left}
+use Rattle.ddf_group_commands.specs.Writing.{IsLeftWriting, IsWrittenOn}
+use Rattle.ddf_group_commands.proofs.Outcomes.{asked_of}
+use Rattle.ddf_group_commands.proofs.LeftWriting.{IsStepsCopy, copy_left}
 use Rattle.ddf_command.proofs.SeatsShown.{seat_shown}
 use Rattle.ddf_command.proofs.StepsCopies.{IsKnown, written_known}
 

@@ -13,8 +13,8 @@ use Rattle.ddf_stops.specs.Founding.{AreNamesNew, IsNewGroup, founding_config}
 use Rattle.ddf_stops.specs.Kept.{AreAllKept, is_read}
 use Rattle.ddf_stops.proofs.FoundingCut.{before_founding, cut_kept, cut_read, founded_told, others_new}
 use Rattle.ddf_command.specs.Cut.{AreLabelled, Gives, IsLeftByLabel, IsNewLabel}
-use Rattle.ddf_command.specs.Label.{label_copy, label_slots}
-use Rattle.ddf_command.proofs.Chosen.{chosen_once}
+use Rattle.ddf_disk_commands.specs.Label.{label_copy, label_slots}
+use Rattle.ddf_disk_commands.proofs.Chosen.{chosen_once}
 
 module _ {D : Type 0} (stamp : Stamp) (named : List ℕ) (old new : BayState D)
     (only_now : (image : Image) → old.left_since old.moment image → IsLeft old.may_hold image) (label : IsNewLabel old new stamp named) where

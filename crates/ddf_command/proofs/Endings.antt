@@ -1,74 +1,117 @@
--- How `examine` ends.
-use Rattle.std.proofs.Common.{◌≡◌, ◌⊎◌, inl, inr, ⊎_elim, ℕ, suc, ◌<◌, List, [], ◌∷◌, length, get_or, replicate, Bool, true, false, Option, Result, Ok, Err, refl, sym, arith, if◌then◌else◌}
+-- How a call of the program ends.
+use Rattle.std.proofs.Common.{◌≡◌, ◌⊎◌, inl, inr, ⊎_elim, ℕ, List, [], length, replicate, true, false, Option, Result, Ok, Err, refl, sym, subst, arith}
 use Rattle.std.specs.Prelude.{IsTrue}
 use Rattle.std.proofs.lemmas.Bool.{cases_lt}
 use Rattle.std.proofs.lemmas.List.{append-nil, length-replicate}
 use Rattle.ddf_bytes.specs.declared.stamp.Stamp.{Stamp}
+use Rattle.ddf_bytes.specs.Stamps.{timestamp_of}
+use Rattle.ddf_bytes.specs.Streams.{SinkRose, SinkState}
 use Rattle.ddf_bay.specs.State.{BayState}
-use Rattle.ddf_bay.proofs.Looks.{failed_padded, look_rose, none_failed, reads_start}
+use Rattle.ddf_bay.proofs.Looks.{failed_padded, none_failed, reads_start}
 use Rattle.ddf_bay.proofs.Steps.{stops_start}
 use Rattle.ddf_update.specs.Group.{IsLeftFoundingAll}
-use Rattle.ddf_bytes.specs.Streams.{SinkState}
 use Rattle.ddf_assembly.specs.Group.{group_of}
 use Rattle.ddf_assembly.specs.Slots.{IsLooked, newest_from}
-use Rattle.ddf_command.proofs.LeftOut.{has_no_place}
-use Rattle.ddf_bytes.specs.Stamps.{timestamp_of}
-use Rattle.ddf_command.proofs.ChangeEnds.{assembled_nothing, changed_nothing}
-use Rattle.ddf_command.proofs.ReadBlocks.{memory_in}
-use Rattle.ddf_command.specs.Call.{Answer, Work, answer_of, work_of}
-use Rattle.ddf_command.specs.Examine.{IsExamined, some_failed}
-use Rattle.ddf_command.specs.Read.{NotRead}
-use Rattle.ddf_command.specs.Requests.{create_of, creation_of, delete_of, fail_of, spare_of}
-use Rattle.ddf_command.specs.Run.{IsCommandDone, SomeSlotRose}
-use Rattle.ddf_words.specs.declared.command.Command.{Command}
-use Rattle.ddf_words.specs.declared.command.Command.TheVariants.{Assemble, Create, Delete, Examine, Fail, Label, Read, Spare}
-use Rattle.ddf_command.specs.declared.failure.Failure.TheVariants.{Memory}
-use Rattle.ddf_command.specs.Label.{label_copy, label_slots}
 use Rattle.ddf_words.specs.declared.command.Asked.{Asked}
+use Rattle.ddf_words.specs.declared.command.Command.{Command}
+use Rattle.ddf_words.specs.declared.command.Command.TheVariants.{Assemble, Change, Examine, Label, Read}
+use Rattle.ddf_words.specs.declared.traits.Traits.{Traits}
 use Rattle.ddf_words.specs.declared.words.WordFault.{WordFault}
 use Rattle.ddf_words.specs.declared.words.WordFault.TheVariants as words
 use Rattle.ddf_words.specs.Words.{Word, GoWrongAt}
-use Rattle.ddf_command.specs.Status.{code_of}
-use Rattle.ddf_command.specs.declared.status.Status.{Status}
-use Rattle.ddf_command.specs.declared.status.Status.TheVariants as status
+use Rattle.ddf_answer.specs.Call.{Answer, Work, answer_of, work_of}
+use Rattle.ddf_answer.specs.Ends.{Ends, HasCause, SomeSlotRose}
+use Rattle.ddf_answer.specs.declared.failure.Failure.TheVariants.{Memory}
+use Rattle.ddf_disk_commands.specs.Examine.{IsExamined}
+use Rattle.ddf_disk_commands.specs.Label.{label_copy, label_slots}
+use Rattle.ddf_group_commands.proofs.ChangeEnds.{assembled_nothing, changed_nothing}
+use Rattle.ddf_group_commands.specs.Requests.{request_for}
+use Rattle.ddf_data_commands.proofs.LeftOut.{has_no_place}
+use Rattle.ddf_data_commands.proofs.ReadBlocks.{memory_in}
+use Rattle.ddf_data_commands.specs.Read.{NotRead}
+use Rattle.ddf_command.specs.Run.{IsCommandDone, is_status}
 
--- a slot that failed, where some did
-first_failed : (failed : List Bool) → some_failed failed ≡ true → (s : ℕ) × ((s < length failed) × IsTrue (get_or failed s false))
-first_failed [] some = cc
-first_failed (true ∷ fs) some = (0, (omega arith, refl))
-first_failed (false ∷ fs) some = let later = first_failed fs some in (suc later.0, (omega (arith, later.1.0), later.1.1))
+-- ---- what the cause of a status tells
 
-by_test : {A : Type 0} (b : Bool) → (b ≡ true → A) → (b ≡ false → A) → A
-by_test true on off = on refl
-by_test false on off = off refl
+module _ {D : Type 0} (traits : Traits) (work : Work D) (answer : Answer) where
+  -- it is one of those that a call may end with
+  status_by : HasCause traits work answer → IsTrue (is_status answer.status)
+  status_by (inl zero) = subst (λ (n : ℕ). IsTrue (is_status n)) (sym zero) refl
+  status_by (inr (inl five)) = subst (λ (n : ℕ). IsTrue (is_status n)) (sym five) refl
+  status_by (inr (inr (inl one))) = subst (λ (n : ℕ). IsTrue (is_status n)) (sym one.0) refl
+  status_by (inr (inr (inr (inl four)))) = subst (λ (n : ℕ). IsTrue (is_status n)) (sym four.0) refl
+  status_by (inr (inr (inr (inr (inl three))))) = subst (λ (n : ℕ). IsTrue (is_status n)) (sym three.0) refl
+  status_by (inr (inr (inr (inr (inr six))))) = subst (λ (n : ℕ). IsTrue (is_status n)) (sym six.0) refl
 
-quiet_status : (b : Bool) (status : ℕ) → status ≡ (if b then 3 else 0) → b ≡ false → status ≡ 0
-quiet_status true status e f = cc
-quiet_status false status e f = e
-
-fault_status : (b : Bool) (status : ℕ) → status ≡ 3 → status ≡ (if b then 3 else 0) → b ≡ true
-fault_status true status three e = refl
-fault_status false status three e = absurd (omega (arith, three, e))
-
-module _ {D : Type 0} (work : Work D) (answer : Answer) where
-  slot_rose : (examined : IsExamined work answer) → some_failed examined.failed ≡ true → SomeSlotRose work.old work.new
-  slot_rose examined some =
-      let first = first_failed examined.failed some in
-      record { slot = first.0; there = omega (arith, first.1.0, examined.every_slot); rose = look_rose work.old work.new first.0 (examined.are_failed.rose first.0 first.1.0 first.1.1) }
+  -- the words were good
+  words_by : HasCause traits work answer → answer.status ≡ 2 → ⊥
+  words_by (inl zero) two = omega (arith, two, zero)
+  words_by (inr (inl five)) two = omega (arith, two, five)
+  words_by (inr (inr (inl one))) two = omega (arith, two, one.0)
+  words_by (inr (inr (inr (inl four)))) two = omega (arith, two, four.0)
+  words_by (inr (inr (inr (inr (inl three))))) two = omega (arith, two, three.0)
+  words_by (inr (inr (inr (inr (inr six))))) two = omega (arith, two, six.0)
 
   -- status 3 comes from a slot
-  pub fault_cause : IsExamined work answer → answer.status ≡ 3 → SomeSlotRose work.old work.new
-  fault_cause examined e = ⊎_elim
-      (λ ends. slot_rose examined (fault_status (some_failed examined.failed) answer.status e ends))
-      (λ short. absurd (⊎_elim (λ five. omega (arith, e, five)) (λ six. omega (arith, e, six)) short))
-      examined.ends
+  slot_by : HasCause traits work answer → answer.status ≡ 3 → SomeSlotRose work.old work.new
+  slot_by (inl zero) e = absurd (omega (arith, e, zero))
+  slot_by (inr (inl five)) e = absurd (omega (arith, e, five))
+  slot_by (inr (inr (inl one))) e = absurd (omega (arith, e, one.0))
+  slot_by (inr (inr (inr (inl four)))) e = absurd (omega (arith, e, four.0))
+  slot_by (inr (inr (inr (inr (inl three))))) e = three.1
+  slot_by (inr (inr (inr (inr (inr six))))) e = absurd (omega (arith, e, six.0))
 
-  -- where nothing failed it is done, or memory ran out
-  pub no_fault : IsExamined work answer → (SomeSlotRose work.old work.new → ⊥) → (answer.status ≡ 6 → ⊥) → (answer.status ≡ 0) ⊎ (answer.status ≡ 5)
-  no_fault examined none good = ⊎_elim
-      (λ ends. by_test (some_failed examined.failed) (λ some. absurd (none (slot_rose examined some))) (λ quiet. inl (quiet_status (some_failed examined.failed) answer.status ends quiet)))
-      (λ short. ⊎_elim inr (λ six. absurd (good six)) short)
-      examined.ends
+  -- and status 6 from the output
+  sink_by : HasCause traits work answer → answer.status ≡ 6 → SinkRose answer.old answer.new
+  sink_by (inl zero) e = absurd (omega (arith, e, zero))
+  sink_by (inr (inl five)) e = absurd (omega (arith, e, five))
+  sink_by (inr (inr (inl one))) e = absurd (omega (arith, e, one.0))
+  sink_by (inr (inr (inr (inl four)))) e = absurd (omega (arith, e, four.0))
+  sink_by (inr (inr (inr (inr (inl three))))) e = absurd (omega (arith, e, three.0))
+  sink_by (inr (inr (inr (inr (inr six))))) e = six.1
+
+  -- where nothing failed it is done, or memory ran out, or it is refused, or records contradict each other
+  fault_by : HasCause traits work answer → (SomeSlotRose work.old work.new → ⊥) → (SinkRose answer.old answer.new → ⊥)
+      → (answer.status ≡ 0) ⊎ (answer.status ≡ 5) ⊎ ((answer.status ≡ 1) × (traits.may_refuse ≡ true)) ⊎ ((answer.status ≡ 4) × (traits.takes_group ≡ true))
+  fault_by (inl zero) none good = inl zero
+  fault_by (inr (inl five)) none good = inr (inl five)
+  fault_by (inr (inr (inl one))) none good = inr (inr (inl one))
+  fault_by (inr (inr (inr (inl four)))) none good = inr (inr (inr four))
+  fault_by (inr (inr (inr (inr (inl three))))) none good = absurd (none three.1)
+  fault_by (inr (inr (inr (inr (inr six))))) none good = absurd (good six.1)
+
+module _ {D : Type 0} {traits : Traits} {work : Work D} {answer : Answer} (ends : Ends traits work answer) where
+  pub status_of : IsTrue (is_status answer.status)
+  status_of = status_by traits work answer ends.cause
+
+  pub good_words : answer.status ≡ 2 → ⊥
+  good_words = words_by traits work answer ends.cause
+
+  pub slot_rose : answer.status ≡ 3 → SomeSlotRose work.old work.new
+  slot_rose = slot_by traits work answer ends.cause
+
+  pub sink_rose : answer.status ≡ 6 → SinkRose answer.old answer.new
+  sink_rose = sink_by traits work answer ends.cause
+
+  pub no_fault : (SomeSlotRose work.old work.new → ⊥) → (SinkRose answer.old answer.new → ⊥)
+      → (answer.status ≡ 0) ⊎ (answer.status ≡ 5) ⊎ ((answer.status ≡ 1) × (traits.may_refuse ≡ true)) ⊎ ((answer.status ≡ 4) × (traits.takes_group ≡ true))
+  no_fault = fault_by traits work answer ends.cause
+
+-- ---- words
+
+-- words go wrong at one place
+pub one_place : (accepted : List Word → Type 0) (words : List Word) (p q : ℕ) → GoWrongAt accepted words p → GoWrongAt accepted words q → p ≡ q
+one_place accepted words p q one other = ⊎_elim
+    (λ under. absurd (one.no_longer q under other.within other.good))
+    (λ from. ⊎_elim (λ over. absurd (other.no_longer p over one.within one.good)) (λ upto. omega (arith, from, upto)) (cases_lt q p))
+    (cases_lt p q)
+
+-- words ask for one thing
+pub same_asked : (result : Result Asked WordFault) (one other : Asked) → result ≡ Ok one → (result ≡ Ok other) ⊎ (result ≡ Err words.Memory) → one ≡ other
+same_asked result one other is (inl also) = cc
+same_asked result one other is (inr memory) = cc
+
+-- ---- before anything was done
 
 -- no slot was looked at
 none_looked : {D : Type 0} (old : BayState D) → IsLooked old old
@@ -87,27 +130,6 @@ nothing_done old tells told before = record {
   ends = inr (inl refl);
   tells = λ disks output. record { whole = λ low. absurd (omega (arith, low)); front = record { count = 0; within = omega arith; front = sym (append-nil before.taken) } };
 }
-
--- words go wrong at one place
-pub one_place : (accepted : List Word → Type 0) (words : List Word) (p q : ℕ) → GoWrongAt accepted words p → GoWrongAt accepted words q → p ≡ q
-one_place accepted words p q one other = ⊎_elim
-    (λ under. absurd (one.no_longer q under other.within other.good))
-    (λ from. ⊎_elim (λ over. absurd (other.no_longer p over one.within one.good)) (λ upto. omega (arith, from, upto)) (cases_lt q p))
-    (cases_lt p q)
-
--- words ask for one thing
-pub same_asked : (result : Result Asked WordFault) (one other : Asked) → result ≡ Ok one → (result ≡ Ok other) ⊎ (result ≡ Err words.Memory) → one ≡ other
-same_asked result one other is (inl also) = cc
-same_asked result one other is (inr memory) = cc
-
-pub stream_status : (s : Status) → code_of s ≡ 6 → s ≡ status.Stream
-stream_status status.Ok e = absurd (omega (arith, e))
-stream_status status.Refused e = absurd (omega (arith, e))
-stream_status status.Words e = absurd (omega (arith, e))
-stream_status status.DiskFault e = absurd (omega (arith, e))
-stream_status status.Contradicted e = absurd (omega (arith, e))
-stream_status status.Memory e = absurd (omega (arith, e))
-stream_status status.Stream e = refl
 
 pub done_nothing : {D : Type 0} (old : BayState D) (tells told : Type 0) (before : SinkState) (stamp : Stamp) (group : Option (List ℕ)) (command : Command)
     → IsCommandDone (work_of tells old old) stamp group command (answer_of told before before 5)
@@ -133,8 +155,4 @@ done_nothing old tells told before stamp group (Read name start count) = record 
   };
   ends = (refl, λ told. refl);
 }
-done_nothing old tells told before stamp group (Create name level qualifier code secondary elements) =
-    changed_nothing old tells told before group (timestamp_of stamp) (none_looked old) (create_of (length old.sizes) stamp (creation_of name level qualifier code secondary elements))
-done_nothing old tells told before stamp group (Delete name) = changed_nothing old tells told before group (timestamp_of stamp) (none_looked old) (delete_of name)
-done_nothing old tells told before stamp group (Spare slot word) = changed_nothing old tells told before group (timestamp_of stamp) (none_looked old) (spare_of (length old.sizes) slot word)
-done_nothing old tells told before stamp group (Fail slot) = changed_nothing old tells told before group (timestamp_of stamp) (none_looked old) (fail_of (length old.sizes) slot)
+done_nothing old tells told before stamp group (Change wish) = changed_nothing old tells told before group (timestamp_of stamp) (none_looked old) (request_for (length old.sizes) stamp wish)

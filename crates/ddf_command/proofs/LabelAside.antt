@@ -25,9 +25,9 @@ use Rattle.ddf_stops.proofs.FoundingCut.{beside, beside_left, blank_there, copy_
 use Rattle.ddf_stops.proofs.FoundingRows.{new_view}
 use Rattle.ddf_stops.proofs.Slots.{not_placed, slot_placed}
 use Rattle.ddf_command.specs.History.{OtherCall}
-use Rattle.ddf_command.specs.Label.{label_copy, label_slots}
-use Rattle.ddf_command.specs.Others.{LeavesOthers}
-use Rattle.ddf_command.proofs.Chosen.{chosen_once}
+use Rattle.ddf_disk_commands.specs.Label.{label_copy, label_slots}
+use Rattle.ddf_group_commands.specs.Others.{LeavesOthers}
+use Rattle.ddf_disk_commands.proofs.Chosen.{chosen_once}
 
 module _ {B : Type 0} {tells : Type 0} (told : tells) (disks : B → BayState B) (group : List ℕ)
     (only_now : (bay : B) (image : Image) → (disks bay).left_since (disks bay).moment image → IsLeft (disks bay).may_hold image)

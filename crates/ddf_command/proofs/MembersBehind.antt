@@ -30,9 +30,9 @@ use Rattle.ddf_stops.proofs.Claimed as claims
 use Rattle.ddf_stops.proofs.LastIssued.{over_last, over_length}
 use Rattle.ddf_stops.proofs.SlotsKept.{ends_slots}
 use Rattle.ddf_stops.proofs.StepMembers.{AreMembers}
-use Rattle.ddf_command.specs.Change.{is_done}
+use Rattle.ddf_group_commands.specs.Change.{is_done}
 use Rattle.ddf_command.specs.History.{GroupCall, IsEnd, Leaves, kept_by}
-use Rattle.ddf_command.specs.Writing.{IsWrittenOn}
+use Rattle.ddf_group_commands.specs.Writing.{IsWrittenOn}
 use Rattle.ddf_command.proofs.AllSteps.{AllSteps, readied_all}
 use Rattle.ddf_command.proofs.AnotherGroup.{AreReadied, readied_by}
 use Rattle.ddf_command.proofs.LastStep.{last_change, lost_first, lost_is}
@@ -50,49 +50,49 @@ module _ {B : Type 0} {tells : Type 0} (told : tells) (disks : B → BayState B)
   left = call.changed.left
 
   -- the changes that were asked for
-  asked : AreReadied call.found call.timestamp call.steps
-  asked = readied_by call.found call.timestamp (call.request (config_recovered call.found) call.found.seats) call.steps call.are_asked
+  asked : AreReadied call.group call.timestamp call.steps
+  asked = readied_by call.group call.timestamp (call.request (config_recovered call.group) call.group.seats) call.steps call.are_asked
 
-  members : AreMembers call.found.config (seated call.found)
+  members : AreMembers call.group.config (seated call.group)
   members =
       claims.disk_member group entry left call.changed.newest call.changed.every_slot (call.changed.read told) old.past call.admitted.same_slots call.admitted.is_kept
-      call.admitted.may_read call.admitted.member call.named call.found call.is_found call.same_group
+      call.admitted.may_read call.admitted.member call.named call.group call.is_group call.same_group
 
   -- The slot of a seat was read, and is that of a current member.
-  module _ (place : ℕ) (disk : Seated) (there : slice_get (seated call.found) place ≡ Some disk) where
+  module _ (place : ℕ) (disk : Seated) (there : slice_get (seated call.group) place ≡ Some disk) where
     seat_names : disk_of (view_of disk.copy) ≡ old.past.disk disk.seat.slot
     seat_names =
         claims.disk_names group entry left call.changed.newest call.changed.every_slot (call.changed.read told) old.past call.admitted.same_slots call.admitted.is_kept
-        call.admitted.may_read call.admitted.member call.named call.found call.is_found call.same_group place disk there
+        call.admitted.may_read call.admitted.member call.named call.group call.is_group call.same_group place disk there
 
     seat_read : is_read left disk.seat.slot ≡ true
     seat_read =
         claims.disk_read group entry left call.changed.newest call.changed.every_slot (call.changed.read told) old.past call.admitted.same_slots call.admitted.is_kept
-        call.admitted.may_read call.admitted.member call.named call.found call.is_found call.same_group place disk there
+        call.admitted.may_read call.admitted.member call.named call.group call.is_group call.same_group place disk there
 
-    pub seat_current : (is_read left disk.seat.slot ≡ true) × (has_current call.found.config (old.past.disk disk.seat.slot) ≡ true)
-    seat_current = (seat_read, ap (has_current call.found.config) (sym seat_names) ∙ (members place disk there).is_current)
+    pub seat_current : (is_read left disk.seat.slot ≡ true) × (has_current call.group.config (old.past.disk disk.seat.slot) ≡ true)
+    seat_current = (seat_read, ap (has_current call.group.config) (sym seat_names) ∙ (members place disk there).is_current)
 
   -- So is each slot that the steps are written to.
   pub step_current : (slot : ℕ) (on : IsWrittenOn call.steps slot) → (is_read left slot ≡ true) × (has_current on.step.config (old.past.disk slot) ≡ true)
   step_current slot on =
-      let known = written_known call.found call.timestamp asked.changes call.steps asked.is slot on in
+      let known = written_known call.group call.timestamp asked.changes call.steps asked.is slot on in
       let same : known.before.seat.slot ≡ slot = known.same_slot ∙ on.on_slot in
       let names : disk_of (view_of on.disk.copy) ≡ old.past.disk slot = known.same_disk ∙ seat_names known.place known.before known.is_there ∙ ap old.past.disk same in
-      let is_member = steps_members call.found call.timestamp members asked.changes call.steps asked.is on.number on.step on.is_step on.place on.disk on.is_disk in (
+      let is_member = steps_members call.group call.timestamp members asked.changes call.steps asked.is on.number on.step on.is_step on.place on.disk on.is_disk in (
         subst (λ (n : ℕ). is_read left n ≡ true) same (seat_read known.place known.before known.is_there),
         ap (has_current on.step.config) (sym names) ∙ is_member.is_current,
       )
 
   -- A current member whose slot it didn't read is absent,
-  module _ (slot : ℕ) (current : has_current call.found.config (old.past.disk slot) ≡ true) (out : is_read left slot ≡ false) where
-    among : is_among call.found.absent (old.past.disk slot).reference ≡ true
+  module _ (slot : ℕ) (current : has_current call.group.config (old.past.disk slot) ≡ true) (out : is_read left slot ≡ false) where
+    among : is_among call.group.absent (old.past.disk slot).reference ≡ true
     among =
         claims.left_absent group entry left call.changed.newest call.changed.every_slot (call.changed.read told) old.past call.admitted.same_slots call.admitted.is_kept
-        call.admitted.may_read call.admitted.member call.named call.found call.is_found call.same_group slot current out
+        call.admitted.may_read call.admitted.member call.named call.group call.is_group call.same_group slot current out
 
-    some_absent : some call.found.absent ≡ true
-    some_absent = by call.found.absent among
+    some_absent : some call.group.absent ≡ true
+    some_absent = by call.group.absent among
       where
         by : (absent : List ℕ) → is_among absent (old.past.disk slot).reference ≡ true → some absent ≡ true
         by [] is = absurd (false≢true is)
@@ -102,30 +102,30 @@ module _ {B : Type 0} {tells : Type 0} (told : tells) (disks : B → BayState B)
     abbrev Misses : Configuration → Type 0
     Misses config = has_missing config (old.past.disk slot) ≡ true
 
-    lost_misses : Misses (config_lost call.found)
-    lost_misses = lost_missing call.found.config call.found.absent (config_lost call.found).sequence (old.past.disk slot) current among
+    lost_misses : Misses (config_lost call.group)
+    lost_misses = lost_missing call.group.config call.group.absent (config_lost call.group).sequence (old.past.disk slot) current among
 
-    behind_misses : Misses (config_recovered call.found)
+    behind_misses : Misses (config_recovered call.group)
     unfolding config_recovered
     behind_misses = rw some_absent lost_misses
 
-    recovery_misses : (step : Step) → recovery_of call.timestamp call.found ≡ Some step → Misses step.config
+    recovery_misses : (step : Step) → recovery_of call.timestamp call.group ≡ Some step → Misses step.config
     recovery_misses step is =
-        let lost = lost_is call.found asked.changes call.timestamp call.steps asked.is some_absent in
-        let same : lost_step call.timestamp call.found ≡ step = some_same lost is in
+        let lost = lost_is call.group asked.changes call.timestamp call.steps asked.is some_absent in
+        let same : lost_step call.timestamp call.group ≡ step = some_same lost is in
         subst (λ (one : Step). Misses one.config) same lost_misses
 
     steps_miss : AllSteps (λ step. Misses step.config) call.steps
     steps_miss =
         readied_all (λ step. Misses step.config) (λ config seats. Misses config) call.timestamp
         (λ config seats change from. let next = (change_from config change).stays_missing (old.past.disk slot) from in (next, next))
-        call.found (λ own. recovery_misses) (λ own. behind_misses) asked.changes call.steps asked.is
+        call.group (λ own. recovery_misses) (λ own. behind_misses) asked.changes call.steps asked.is
 
     -- There is a last one.
     last_misses : (number : ℕ) × (step : Step) × (slice_get call.steps number ≡ Some step) × (number + 1 ≡ length call.steps)
     last_misses =
-        let steps = lost_first call.found asked.changes call.timestamp call.steps asked.is some_absent in
-        let rest = behind call.found asked.changes call.timestamp call.steps asked.is in
+        let steps = lost_first call.group asked.changes call.timestamp call.steps asked.is some_absent in
+        let rest = behind call.group asked.changes call.timestamp call.steps asked.is in
         let long : length rest + 1 ≡ length call.steps = let all = ap (λ (one : List Step). length one) steps in omega (arith, all) in
         let there = get_there call.steps (length rest) (omega (arith, long)) in
         (length rest, there.0, there.1, long)
@@ -142,19 +142,19 @@ module _ {B : Type 0} {tells : Type 0} (told : tells) (disks : B → BayState B)
 
   -- what the call issued
   abbrev issued : List Configuration
-  issued = changes_in ended.found ended.steps
+  issued = changes_in ended.group ended.steps
 
-  ends : (now : Past (groups group)) × Ends group old.past readable ended.found issued (is_done ended.outcome) now × AreAllKept group now (disks ended.exit)
+  ends : (now : Past (groups group)) × Ends group old.past readable ended.group issued (is_done ended.outcome) now × AreAllKept group now (disks ended.exit)
   ends = (kept_by told disks group old ended end.kept).ends end.tells_left
 
-  over : IsOver group old.past readable ended.found issued new.past
+  over : IsOver group old.past readable ended.group issued new.past
   unfolding ends
   over =
-      subst (IsOver group old.past readable ended.found issued) (sym end.is_past)
-      (subst (λ (b : Bool). Ends group old.past readable ended.found issued b ends.0) done ends.1)
+      subst (IsOver group old.past readable ended.group issued) (sym end.is_past)
+      (subst (λ (b : Bool). Ends group old.past readable ended.group issued b ends.0) done ends.1)
 
-  slots : KeepsSlots group old.past new.past readable ended.found
-  slots = ends_slots group old.past readable ended.found issued true new.past over
+  slots : KeepsSlots group old.past new.past readable ended.group
+  slots = ends_slots group old.past readable ended.group issued true new.past over
 
   same_disk : (slot : ℕ) → new.past.disk slot ≡ old.past.disk slot
   same_disk slot = ap (λ (disk : ℕ → Disk). disk slot) slots.same_disks
@@ -163,14 +163,14 @@ module _ {B : Type 0} {tells : Type 0} (told : tells) (disks : B → BayState B)
   last_is : (number : ℕ) (step : Step) → slice_get ended.steps number ≡ Some step → number + 1 ≡ length ended.steps → slice_get new.past.changes.issued new.past.changes.acked ≡ Some step.config
   last_is number step at last =
       let from = asked told disks group old ended in
-      over_last group old.past readable ended.found issued new.past over ∙ last_change ended.found from.changes ended.timestamp ended.steps from.is number step at last
+      over_last group old.past readable ended.group issued new.past over ∙ last_change ended.group from.changes ended.timestamp ended.steps from.is number step at last
 
   -- A member that was left out is missing.
-  pub left_missing : (slot : ℕ) → readable slot ≡ false → has_current ended.found.config (old.past.disk slot) ≡ true
+  pub left_missing : (slot : ℕ) → readable slot ≡ false → has_current ended.group.config (old.past.disk slot) ≡ true
       → (number : ℕ) (config : Configuration) → IsSince new.past.changes number config → has_missing config (new.past.disk slot) ≡ true
   left_missing slot out current number config since =
       let last = last_misses told disks group old ended slot current out in
-      let long = over_length group old.past readable ended.found issued new.past over in
+      let long = over_length group old.past readable ended.group issued new.past over in
       let within = get_within new.past.changes.issued number config since.is_there in
       let late = since.late in
       let at_last : number ≡ new.past.changes.acked = omega (arith, long, within, late) in
@@ -198,10 +198,10 @@ module _ {B : Type 0} {tells : Type 0} (told : tells) (disks : B → BayState B)
         read_member slot current.0 on.step.config (last_is on.number on.step on.is_step last) current.1 is
 
     -- and one of a seat where it issued no change.
-    pub seated_member : (place : ℕ) (disk : Seated) → slice_get (seated ended.found) place ≡ Some disk → issued ≡ [] → reads disk.seat.slot ≡ true → HasMember new.past scene reads
+    pub seated_member : (place : ℕ) (disk : Seated) → slice_get (seated ended.group) place ≡ Some disk → issued ≡ [] → reads disk.seat.slot ≡ true → HasMember new.past scene reads
     seated_member place disk there none is =
         let current = seat_current told disks group old ended place disk there in
-        let last : slice_get new.past.changes.issued new.past.changes.acked ≡ Some ended.found.config =
-        over_last group old.past readable ended.found issued new.past over
-        ∙ ap (λ (changes : List Configuration). slice_get (ended.found.config ∷ changes) (length changes)) none in
-        read_member disk.seat.slot current.0 ended.found.config last current.1 is
+        let last : slice_get new.past.changes.issued new.past.changes.acked ≡ Some ended.group.config =
+        over_last group old.past readable ended.group issued new.past over
+        ∙ ap (λ (changes : List Configuration). slice_get (ended.group.config ∷ changes) (length changes)) none in
+        read_member disk.seat.slot current.0 ended.group.config last current.1 is

@@ -11,7 +11,7 @@ use Rattle.ddf_history.specs.Scenes.{scene_of}
 use Rattle.ddf_assembly.specs.Group.{GroupValue, group_of as group_in}
 use Rattle.ddf_assembly.specs.Slots.{newest_from}
 use Rattle.ddf_stops.specs.Founding.{AreFounded, AreNamesNew}
-use Rattle.ddf_command.specs.Label.{label_copy, label_slots}
+use Rattle.ddf_disk_commands.specs.Label.{label_copy, label_slots}
 
 -- A `label`, by what it promises of each moment on its way (`IsLabelled`: `any_moment`). The disks as they read at its entry are one of the
 -- images that a stop might have left then, and the names of the group and of its disks are new: in none of these does a slot show them.
@@ -33,4 +33,4 @@ pub record IsLeftByLabel {D : Type 0} (old new cut : BayState D) (stamp : Stamp)
 
 -- The newest copies of the slots that aren't left out give this configuration of the group.
 abbrev pub Gives : {D : Type 0} → BayState D → (left : List Bool) → (group : List ℕ) → Configuration → Type 0
-Gives disks left group config = (found : GroupValue) × (group_in (newest_from disks 0 left) (Some group) ≡ Ok found) × (found.config ≡ config)
+Gives disks left group config = (given : GroupValue) × (group_in (newest_from disks 0 left) (Some group) ≡ Ok given) × (given.config ≡ config)

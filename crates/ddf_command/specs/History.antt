@@ -15,13 +15,13 @@ use Rattle.ddf_history.specs.Scenes.{scene_of}
 use Rattle.ddf_history.specs.History.{Moment}
 use Rattle.ddf_stops.specs.Kept.{AreAllKept, is_read, is_slot}
 use Rattle.ddf_stops.specs.Going.{Goes, IsAdmitted, KeepsHistory, changes_in}
-use Rattle.ddf_command.specs.declared.failure.Failure.{Failure}
-use Rattle.ddf_command.specs.Call.{work_of}
-use Rattle.ddf_command.specs.Change.{HasChanged, Request, is_done, steps_of}
-use Rattle.ddf_command.specs.Others.{LeavesOthers}
+use Rattle.ddf_answer.specs.declared.failure.Failure.{Failure}
+use Rattle.ddf_answer.specs.Call.{work_of}
+use Rattle.ddf_group_commands.specs.Change.{HasChanged, Request, is_done, steps_of}
+use Rattle.ddf_group_commands.specs.Others.{LeavesOthers}
 
 -- `disks` is what a bay of type B tells, and `told` that it tells what they hold.
-module _ {B : Type 0} {tells : Type 0} (told : tells) (disks : B → BayState B) (group : List ℕ) where
+module _ {B : Type 0} {tells : Type 0} (told : tells) (disks : B → BayState B) (guid : List ℕ) where
   -- what the slots show where a stop leaves one of the images of a bay
   pub record Leaves (bay : B) (scene : Scene View) : Type 0 where
     pub image : Image
@@ -32,48 +32,48 @@ module _ {B : Type 0} {tells : Type 0} (told : tells) (disks : B → BayState B)
 
   -- A call of a command that changes the group, as the program's call promises it: the group that it found is this one, it wasn't refused, and
   -- the history admits it.
-  pub record GroupCall (old : Moment (groups group) B) : Type 0 where
+  pub record GroupCall (old : Moment (groups guid) B) : Type 0 where
     pub exit : B
     pub named : Option (List ℕ)
     pub timestamp : ℕ
     pub request : Request
     pub outcome : Result ℕ Failure
     pub changed : HasChanged (work_of tells (disks old.bay) (disks exit)) named timestamp request outcome
-    pub found : GroupValue
-    pub is_found : group_of changed.newest named ≡ Ok found
-    pub same_group : found.config.group ≡ group
+    pub group : GroupValue
+    pub is_group : group_of changed.newest named ≡ Ok group
+    pub same_group : group.config.group ≡ guid
     pub steps : List Step
-    pub are_asked : steps_of found timestamp request ≡ Ok steps
-    pub admitted : IsAdmitted group old.past (disks old.bay) changed.left found
+    pub are_asked : steps_of group timestamp request ≡ Ok steps
+    pub admitted : IsAdmitted guid old.past (disks old.bay) changed.left group
 
   -- what it promises of the history
-  abbrev pub kept_by : (old : Moment (groups group) B) (call : GroupCall old) → AreAllKept group old.past (disks old.bay)
-      → KeepsHistory group (disks old.bay) (disks call.exit) old.past call.changed.left call.found (changes_in call.found call.steps) (is_done call.outcome)
-  kept_by old call kept = call.changed.keeps told call.found call.is_found call.steps call.are_asked group call.same_group old.past kept call.admitted
+  abbrev pub kept_by : (old : Moment (groups guid) B) (call : GroupCall old) → AreAllKept guid old.past (disks old.bay)
+      → KeepsHistory guid (disks old.bay) (disks call.exit) old.past call.changed.left call.group (changes_in call.group call.steps) (is_done call.outcome)
+  kept_by old call kept = call.changed.keeps told call.group call.is_group call.steps call.are_asked guid call.same_group old.past kept call.admitted
 
   -- The call came to its end, where the bay still tells what a stop may leave.
-  pub record IsEnd (old new : Moment (groups group) B) : Type 0 where
+  pub record IsEnd (old new : Moment (groups guid) B) : Type 0 where
     pub call : GroupCall old
-    pub kept : AreAllKept group old.past (disks old.bay)
+    pub kept : AreAllKept guid old.past (disks old.bay)
     pub tells_left : (disks call.exit).tells_left
     pub is_left : (scene : Scene View) → Leaves new.bay scene → Leaves call.exit scene
     pub is_past : new.past ≡ ((kept_by old call kept).ends tells_left).0
 
   -- how far a call came at a moment: as at its entry, or this far
-  abbrev pub past_at : {A : Type 0} {P Q : Past (groups group) → Type 0} → Past (groups group) → A ⊎ ((now : Past (groups group)) × P now × Q now) → Past (groups group)
+  abbrev pub past_at : {A : Type 0} {P Q : Past (groups guid) → Type 0} → Past (groups guid) → A ⊎ ((now : Past (groups guid)) × P now × Q now) → Past (groups guid)
   past_at past (inl before) = past
   past_at past (inr now) = now.0
 
   -- A stop within the call left this image.
-  pub record IsCut (old new : Moment (groups group) B) : Type 0 where
+  pub record IsCut (old new : Moment (groups guid) B) : Type 0 where
     pub call : GroupCall old
-    pub kept : AreAllKept group old.past (disks old.bay)
+    pub kept : AreAllKept guid old.past (disks old.bay)
     pub image : Image
     pub since : (disks old.bay).moment ≤ (disks old.bay).moment
     pub was_left : (disks call.exit).left_since (disks old.bay).moment image
     pub is_left : (scene : Scene View) → Leaves new.bay scene → scene ≡ scene_of (disks old.bay).sizes image
     pub is_past :
-        new.past ≡ past_at {P = Goes group old.past (is_read call.changed.left) call.found (changes_in call.found call.steps)} {Q = λ now. IsKept now (scene_of (disks old.bay).sizes image)}
+        new.past ≡ past_at {P = Goes guid old.past (is_read call.changed.left) call.group (changes_in call.group call.steps)} {Q = λ now. IsKept now (scene_of (disks old.bay).sizes image)}
         old.past ((kept_by old call kept).any_moment.since (disks old.bay).moment image since was_left)
 
   -- ---- other calls
@@ -82,7 +82,7 @@ module _ {B : Type 0} {tells : Type 0} (told : tells) (disks : B → BayState B)
   -- of that group as before, `label` those that it doesn't label, and a call that only reads, or is refused, leaves all. It belongs to the
   -- history where each of them is as it was, or its disk is no current member since the last acknowledged change and it doesn't show the group
   -- then, nor names such a member.
-  pub record OtherCall (old : Moment (groups group) B) : Type 0 where
+  pub record OtherCall (old : Moment (groups guid) B) : Type 0 where
     pub exit : B
     pub written : List ℕ
     pub leaves_others : LeavesOthers (disks old.bay) (disks exit) written
@@ -91,12 +91,12 @@ module _ {B : Type 0} {tells : Type 0} (told : tells) (disks : B → BayState B)
         → (scene_of (disks old.bay).sizes image slot ≡ scene_of (disks old.bay).sizes (disks old.bay).held slot) ⊎ IsAside old.past slot (scene_of (disks old.bay).sizes image slot)
 
   -- Such a call, at its end or cut by a stop: what may be left is an image that a stop left since its entry.
-  pub record IsOther (old new : Moment (groups group) B) : Type 0 where
+  pub record IsOther (old new : Moment (groups guid) B) : Type 0 where
     pub call : OtherCall old
     pub same_past : new.past ≡ old.past
     pub was_left : (scene : Scene View) → Leaves new.bay scene
         → (image : Image) × (disks call.exit).left_since (disks old.bay).moment image × (scene ≡ scene_of (disks old.bay).sizes image)
 
   -- a call, at its end or within it
-  abbrev pub IsCall : Moment (groups group) B → Moment (groups group) B → Type 0
+  abbrev pub IsCall : Moment (groups guid) B → Moment (groups guid) B → Type 0
   IsCall old new = IsEnd old new ⊎ IsCut old new ⊎ IsOther old new

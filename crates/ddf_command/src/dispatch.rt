@@ -1,32 +1,27 @@
-// The call that the program makes.
+// What a call of the program does, and what it promises.
 ghost use Rattle.std.specs.Prelude.{◌≡◌, ◌⊎◌, ℕ, true, length, IsTrue};
 ghost use Rattle.ddf_bay.specs.Moments.{GoesOn};
 ghost use Rattle.ddf_bay.specs.ReadsOnly.{ReadsOnly};
+ghost use Rattle.ddf_config.specs.declared.refusal.Refusal.{Refusal};
 ghost use Rattle.ddf_words.specs.declared.command.Asked.{Asked};
 ghost use Rattle.ddf_text.specs.Refusal.{refusal_line};
 ghost use Rattle.ddf_bytes.specs.Streams.{SinkRose};
-ghost use Rattle.ddf_command.specs.Call.{answer_of, work_of};
-ghost use Rattle.ddf_command.specs.Run.{IsDone, AsksForNoWrite, SomeSlotRose, is_status, is_unwritten};
-ghost use Rattle.ddf_command.specs.Status.{code_of};
-ghost use Rattle.ddf_command.specs.Tells.{EndsWith};
-ghost use Rattle.ddf_words.specs.Commands.{may_refuse, takes_group};
+ghost use Rattle.ddf_answer.specs.Call.{answer_of, work_of};
+ghost use Rattle.ddf_answer.specs.Ends.{Ends, SomeSlotRose, is_unwritten};
+ghost use Rattle.ddf_answer.specs.Status.{code_of};
+ghost use Rattle.ddf_answer.specs.Tells.{EndsWith};
+ghost use Rattle.ddf_words.specs.Commands.{FitsCommand};
+ghost use Rattle.ddf_words.specs.Traits.{traits_of};
 ghost use Rattle.ddf_words.specs.Words.{words_of, slot_count, GoWrongAt, IsAccepted, IsAsked};
+ghost use Rattle.ddf_command.specs.Run.{AsksForNoWrite, IsCommandDone, IsDone, is_status};
 
-use crate::commands::assemble::assemble_disks;
-use crate::commands::create::create;
-use crate::commands::delete::delete;
-use crate::commands::examine::examine;
-use crate::commands::fail::fail;
-use crate::commands::label::label;
-use crate::commands::read::read;
-use crate::commands::spare::spare;
-use crate::status::Status;
-use crate::tell::tell_line;
+use crate::refusing::refuse_words;
+use ddf_answer::Status;
 use ddf_bay::Bay;
-use ddf_bytes::{Sink, Source, Stamp};
-use ddf_config::Refusal;
-use ddf_request::Creation;
-use ddf_text::RefusalText;
+use ddf_bytes::{Guid, Sink, Source, Stamp};
+use ddf_data_commands::read;
+use ddf_disk_commands::{examine, label};
+use ddf_group_commands::{assemble_disks, change};
 use ddf_words::{Command, WordFault, asked};
 use std::alloc::Global;
 
@@ -64,67 +59,36 @@ pub fn run<B: Bay, S: Source, K: Sink>(
     ensures disk_fault { result ≡ 3 → SomeSlotRose (B.disks bay.old) (B.disks bay.new) }
     ensures stream_fault { result ≡ 6 → SinkRose (K.output sink.old) (K.output sink.new) }
     ensures complete { (asked : Asked) → IsAsked (words_of words.now) asked → (SomeSlotRose (B.disks bay.old) (B.disks bay.new) → ⊥)
-        → (SinkRose (K.output sink.old) (K.output sink.new) → ⊥) → (result ≡ 0) ⊎ (result ≡ 5) ⊎ ((result ≡ 1) × (may_refuse asked.command ≡ true)) ⊎ ((result ≡ 4) × (takes_group asked.command ≡ true)) }
+        → (SinkRose (K.output sink.old) (K.output sink.new) → ⊥)
+        → (result ≡ 0) ⊎ (result ≡ 5) ⊎ ((result ≡ 1) × ((traits_of asked.command).may_refuse ≡ true)) ⊎ ((result ≡ 4) × ((traits_of asked.command).takes_group ≡ true)) }
 {
     match asked(alloc, words) {
-        Ok(asked) => {
-            let group = asked.group;
-            match asked.command {
-                Command::Assemble => assemble_disks(alloc, group, bay, sink, &stamp).code(),
-                Command::Examine => examine(alloc, bay, sink).code(),
-                Command::Label { slots } => label(alloc, slots.items(), bay, sink, &stamp).code(),
-                Command::Read { name, start, count } => {
-                    read(alloc, group, name.items(), start, count, bay, sink).code()
-                }
-                Command::Create {
-                    name,
-                    level,
-                    qualifier,
-                    code,
-                    secondary,
-                    elements,
-                } => {
-                    let creation = Creation {
-                        name: name.items(),
-                        level,
-                        qualifier,
-                        code,
-                        secondary,
-                        elements: elements.items(),
-                    };
-                    create(alloc, group, &creation, bay, sink, &stamp).code()
-                }
-                Command::Delete { name } => {
-                    delete(alloc, group, name.items(), bay, sink, &stamp).code()
-                }
-                Command::Spare { slot, word } => {
-                    spare(alloc, group, slot, &word, bay, sink, &stamp).code()
-                }
-                Command::Fail { slot } => fail(alloc, group, slot, bay, sink, &stamp).code(),
-            }
-        }
+        Ok(asked) => obey(alloc, asked.group, asked.command, bay, sink, &stamp).code(),
         Err(WordFault::Place(place)) => refuse_words(alloc, place, sink),
         Err(WordFault::Memory) => Status::Memory.code(),
     }
 }
 
-/// Refuses words that go wrong at a place, as `run` does, and answers the exit status. So the program needn't open disks for them.
-pub fn refuse_words<K: Sink>(alloc: Global, place: usize, sink: &mut K) -> u8
-    ensures ends { EndsWith 2 (refusal_line (Refusal.Words place)) (answer_of K.tells (K.output sink.old) (K.output sink.new) result) }
-    ensures stream { result ≡ 6 → SinkRose (K.output sink.old) (K.output sink.new) }
+/// Does a command, over the named group or the only one.
+fn obey<B: Bay, K: Sink>(
+    alloc: Global,
+    group: Option<Guid>,
+    command: Command,
+    bay: &mut B,
+    sink: &mut K,
+    stamp: &Stamp,
+) -> Status
+    requires { FitsCommand command }
+    ensures done { IsCommandDone (work_of B.tells (B.disks bay.old) (B.disks bay.new)) stamp.now group command (answer_of K.tells (K.output sink.old) (K.output sink.new) (code_of result)) }
+    ensures ends { Ends (traits_of command) (work_of B.tells (B.disks bay.old) (B.disks bay.new)) (answer_of K.tells (K.output sink.old) (K.output sink.new) (code_of result)) }
 {
-    tell_wrong_words(alloc, place, sink).code()
-}
-
-/// Prints the refusal of words that go wrong at a place.
-fn tell_wrong_words<K: Sink>(alloc: Global, place: usize, sink: &mut K) -> Status
-    ensures ends { EndsWith 2 (refusal_line (Refusal.Words place)) (answer_of K.tells (K.output sink.old) (K.output sink.new) (code_of result)) }
-    ensures stream { result ≡ Status.Stream → SinkRose (K.output sink.old) (K.output sink.new) }
-{
-    tell_line(
-        alloc,
-        &RefusalText(Refusal::Words(place)),
-        Status::Words,
-        sink,
-    )
+    match command {
+        Command::Examine => examine(alloc, bay, sink),
+        Command::Label { slots } => label(alloc, slots.items(), bay, sink, stamp),
+        Command::Assemble => assemble_disks(alloc, group, bay, sink, stamp),
+        Command::Read { name, start, count } => {
+            read(alloc, group, name.items(), start, count, bay, sink)
+        }
+        Command::Change(wish) => change(alloc, group, &wish, bay, sink, stamp),
+    }
 }

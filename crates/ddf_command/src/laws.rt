@@ -17,7 +17,7 @@ ghost use Rattle.ddf_history.specs.Issued.{IsSince, Past};
 ghost use Rattle.ddf_history.specs.Reading.{Each, Scene};
 ghost use Rattle.ddf_history.specs.Scenes.{scene_of};
 ghost use Rattle.ddf_assembly.specs.Committed.{slots_of};
-ghost use Rattle.ddf_assembly.specs.Group.{GroupValue, group_of as group_found};
+ghost use Rattle.ddf_assembly.specs.Group.{GroupValue, group_of as group_in};
 ghost use Rattle.ddf_assembly.specs.Ready.{readied};
 ghost use Rattle.ddf_assembly.specs.Seated.{seated};
 ghost use Rattle.ddf_assembly.specs.Steps.{Step};
@@ -25,15 +25,15 @@ ghost use Rattle.ddf_assembly.specs.declared.seated.Seated.{Seated};
 ghost use Rattle.ddf_stops.specs.Founding.{AreNamesNew, IsNewGroup, founding_config};
 ghost use Rattle.ddf_stops.specs.Going.{Ends, changes_in};
 ghost use Rattle.ddf_stops.specs.Kept.{AreAllKept, is_read, is_slot};
-ghost use Rattle.ddf_command.specs.Call.{work_of};
-ghost use Rattle.ddf_command.specs.Change.{HasChanged, Request, is_done};
+ghost use Rattle.ddf_answer.specs.Call.{work_of};
+ghost use Rattle.ddf_group_commands.specs.Change.{HasChanged, Request, is_done};
 ghost use Rattle.ddf_command.specs.Cut.{AreLabelled, Gives, IsLeftByLabel, IsNewLabel};
 ghost use Rattle.ddf_command.specs.History.{GroupCall, IsCall, IsCut, IsEnd, Leaves, OtherCall};
-ghost use Rattle.ddf_command.specs.Label.{IsTried, label_copy, label_slots};
+ghost use Rattle.ddf_disk_commands.specs.Label.{IsTried, label_copy, label_slots};
 ghost use Rattle.ddf_command.specs.Members.{KeepsMembers};
-ghost use Rattle.ddf_command.specs.Others.{LeavesOthers};
-ghost use Rattle.ddf_command.specs.Writing.{IsWrittenOn};
-ghost use Rattle.ddf_command.specs.declared.failure.Failure.{Failure};
+ghost use Rattle.ddf_group_commands.specs.Others.{LeavesOthers};
+ghost use Rattle.ddf_group_commands.specs.Writing.{IsWrittenOn};
+ghost use Rattle.ddf_answer.specs.declared.failure.Failure.{Failure};
 
 use ddf_bay::Bay;
 
@@ -123,8 +123,8 @@ pub fn a_founded_slot_is_a_current_member<B: Bay>()
 /// that a step is written to, and its disk is a current member of that step's configuration.
 pub fn a_calls_disks_are_current_members<B: Bay>()
     ensures seats { (told : B.tells) (group : List ℕ) (old : Moment (groups group) B) (call : GroupCall told B.disks group old)
-        → (place : ℕ) (disk : Seated) → slice_get (seated call.found) place ≡ Some disk
-        → (is_read call.changed.left disk.seat.slot ≡ true) × (has_current call.found.config (old.past.disk disk.seat.slot) ≡ true) }
+        → (place : ℕ) (disk : Seated) → slice_get (seated call.group) place ≡ Some disk
+        → (is_read call.changed.left disk.seat.slot ≡ true) × (has_current call.group.config (old.past.disk disk.seat.slot) ≡ true) }
     ensures steps { (told : B.tells) (group : List ℕ) (old : Moment (groups group) B) (call : GroupCall told B.disks group old)
         → (slot : ℕ) (on : IsWrittenOn call.steps slot) → (is_read call.changed.left slot ≡ true) × (has_current on.step.config (old.past.disk slot) ≡ true) }
 {}
@@ -137,22 +137,22 @@ pub fn a_call_that_was_done_leaves_current_members<B: Bay>()
         → (slot : ℕ) (on : IsWrittenOn end.call.steps slot) → on.number + 1 ≡ length end.call.steps → readable slot ≡ true → HasMember new.past scene readable }
     ensures seated { (told : B.tells) (group : List ℕ) (old new : Moment (groups group) B) (end : IsEnd told B.disks group old new) → is_done end.call.outcome ≡ true
         → new.past.changes.own_from ≤ new.past.changes.acked → (scene : Scene View) → Leaves told B.disks group new.bay scene → (readable : ℕ → Bool)
-        → (place : ℕ) (disk : Seated) → slice_get (seated end.call.found) place ≡ Some disk → changes_in end.call.found end.call.steps ≡ [] → readable disk.seat.slot ≡ true
+        → (place : ℕ) (disk : Seated) → slice_get (seated end.call.group) place ≡ Some disk → changes_in end.call.group end.call.steps ≡ [] → readable disk.seat.slot ≡ true
         → HasMember new.past scene readable }
 {}
 
 /// Behind a call that was done each current member whose disk it didn't read is missing.
 pub fn a_member_that_was_left_out_is_missing<B: Bay>()
     ensures { (told : B.tells) (group : List ℕ) (old new : Moment (groups group) B) (end : IsEnd told B.disks group old new) → is_done end.call.outcome ≡ true
-        → (slot : ℕ) → is_read end.call.changed.left slot ≡ false → has_current end.call.found.config (old.past.disk slot) ≡ true
+        → (slot : ℕ) → is_read end.call.changed.left slot ≡ false → has_current end.call.group.config (old.past.disk slot) ≡ true
         → (number : ℕ) (config : Configuration) → IsSince new.past.changes number config → has_missing config (new.past.disk slot) ≡ true }
 {}
 
 /// However far a call on a group came, it makes no disk a current member that was none since the last acknowledged configuration, keeps one
 /// that each of its steps has as one, and keeps missing what was missing.
 pub fn a_calls_changes_keep_members()
-    ensures { (group : List ℕ) (past now : Past (groups group)) (readable : ℕ → Bool) (found : GroupValue) (changes : List Change) (timestamp : ℕ) (steps : List Step)
-        → readied found changes timestamp ≡ Ok steps → (done : Bool) → Ends group past readable found (changes_in found steps) done now
+    ensures { (group : List ℕ) (past now : Past (groups group)) (readable : ℕ → Bool) (own : GroupValue) (changes : List Change) (timestamp : ℕ) (steps : List Step)
+        → readied own changes timestamp ≡ Ok steps → (done : Bool) → Ends group past readable own (changes_in own steps) done now
         → KeepsMembers group past now steps }
 {}
 
@@ -178,10 +178,10 @@ pub fn a_call_without_a_write_leaves_all_as_it_was<B: Bay>()
 
 /// Each copy that the steps of a group write is of the group, and names the disk that the copy of its seat named before.
 pub fn a_steps_copies_name_their_group_and_disks()
-    ensures group { (found : GroupValue) (changes : List Change) (timestamp : ℕ) (steps : List Step) → readied found changes timestamp ≡ Ok steps
-        → (slot : ℕ) (on : IsWrittenOn steps slot) → (view_of on.disk.copy).group ≡ found.config.group }
-    ensures disk { (found : GroupValue) (changes : List Change) (timestamp : ℕ) (steps : List Step) → readied found changes timestamp ≡ Ok steps
-        → (slot : ℕ) (on : IsWrittenOn steps slot) → (place : ℕ) × (before : Seated) × (slice_get (seated found) place ≡ Some before)
+    ensures group { (group : GroupValue) (changes : List Change) (timestamp : ℕ) (steps : List Step) → readied group changes timestamp ≡ Ok steps
+        → (slot : ℕ) (on : IsWrittenOn steps slot) → (view_of on.disk.copy).group ≡ group.config.group }
+    ensures disk { (group : GroupValue) (changes : List Change) (timestamp : ℕ) (steps : List Step) → readied group changes timestamp ≡ Ok steps
+        → (slot : ℕ) (on : IsWrittenOn steps slot) → (place : ℕ) × (before : Seated) × (slice_get (seated group) place ≡ Some before)
         × (before.seat.slot ≡ slot) × (disk_of (view_of on.disk.copy) ≡ disk_of (view_of before.copy)) }
 {}
 
@@ -190,9 +190,9 @@ pub fn a_steps_copies_name_their_group_and_disks()
 pub fn a_change_of_another_group_is_aside<B: Bay>()
     ensures { (told : B.tells) (group : List ℕ) (old : Moment (groups group) B) (exit : B) (named : Option (List ℕ)) (timestamp : ℕ) (request : Request) (outcome : Result ℕ Failure)
         → (changed : HasChanged (work_of B.tells (B.disks old.bay) (B.disks exit)) named timestamp request outcome)
-        → (found : GroupValue) → group_found changed.newest named ≡ Ok found → bytes_eq group found.config.group ≡ false
+        → (other : GroupValue) → group_in changed.newest named ≡ Ok other → bytes_eq group other.config.group ≡ false
         → IsLeft (B.disks old.bay).may_hold (B.disks old.bay).held
-        → ((image : Image) → IsLeft (B.disks old.bay).may_hold image → (slot : ℕ) → is_slot (slots_of found.seats) slot ≡ true
+        → ((image : Image) → IsLeft (B.disks old.bay).may_hold image → (slot : ℕ) → is_slot (slots_of other.seats) slot ≡ true
         → IsAside old.past slot (scene_of (B.disks old.bay).sizes image slot))
-        → (call : OtherCall told B.disks group old) × (call.exit ≡ exit) × (call.written ≡ slots_of found.seats) }
+        → (call : OtherCall told B.disks group old) × (call.exit ≡ exit) × (call.written ≡ slots_of other.seats) }
 {}

@@ -1,18 +1,16 @@
-//! The commands of `ddf`, and the call that the program makes.
+//! What the program does with its words: the call that it makes, and the laws of histories of such calls.
 #![tactic(auto)]
 
-mod commands;
-mod disk;
 mod dispatch;
-mod failure;
 mod laws;
-mod named;
-mod status;
-mod tell;
+mod refusing;
+mod serving;
 
 pub use ddf_config::{FullTable, Refusal};
-pub use ddf_words::{Asked, Command, MOST_IMAGES, WordFault, asked, image_paths, slot_paths};
-pub use dispatch::{refuse_words, run};
+pub use ddf_words::{
+    Asked, Command, MOST_IMAGES, Traits, Wish, WordFault, asked, image_paths, slot_paths,
+};
+pub use dispatch::run;
 pub use laws::{
     a_call_is_an_event_of_its_history, a_call_that_was_done_leaves_current_members,
     a_call_without_a_write_leaves_all_as_it_was, a_calls_changes_keep_members,
@@ -22,3 +20,5 @@ pub use laws::{
     a_label_is_aside_of_other_histories, a_member_that_was_left_out_is_missing,
     a_steps_copies_name_their_group_and_disks,
 };
+pub use refusing::refuse_words;
+pub use serving::serve;

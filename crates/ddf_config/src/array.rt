@@ -9,7 +9,7 @@ use ddf_bytes::{NoMemory, Seq};
 use std::alloc::Global;
 
 /// An array of the group: a secondary level over elements.
-#[derive(Debug, Drop)]
+#[derive(Drop)]
 pub struct Array {
     /// The name: 16 bytes, as the array's entry in the virtual disk records has it.
     pub name: [u8; 16],

@@ -8,7 +8,7 @@ use std::alloc::Global;
 use std::marker::Model;
 
 /// The configuration of a group. Contracts see members and arrays as the lists of their entries, in table order.
-#[derive(Debug, Drop)]
+#[derive(Drop)]
 pub struct Config {
     /// The GUID of the group.
     pub group: Guid,

@@ -6,7 +6,7 @@ use std::alloc::Global;
 use std::marker::Model;
 
 /// One place in the member list of an element.
-#[derive(Clone, Copy, Debug, Default, PartialEq, Eq)]
+#[derive(Clone, Copy, Default, PartialEq, Eq)]
 pub struct Position {
     /// The reference of the disk.
     pub reference: u32,
@@ -19,7 +19,7 @@ pub struct Position {
 }
 
 /// One element of an array: a primary level over members. Contracts see the positions as a list.
-#[derive(Debug, Drop)]
+#[derive(Drop)]
 pub struct ElementPlan {
     /// The primary RAID level.
     pub level: u8,

@@ -9,7 +9,7 @@ use indexmap::IndexMap;
 use std::alloc::Global;
 
 /// The sectors of a disk that a position of an array has.
-#[derive(Clone, Copy, Debug, Default, PartialEq, Eq)]
+#[derive(Clone, Copy, Default, PartialEq, Eq)]
 pub struct Extent {
     /// The reference of the disk.
     pub reference: u32,

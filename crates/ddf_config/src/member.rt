@@ -5,7 +5,7 @@ use ddf_bytes::{Guid, NoMemory, Seq};
 use std::alloc::Global;
 
 /// A disk that the group's physical disk records list.
-#[derive(Debug, Drop)]
+#[derive(Drop)]
 pub struct Member {
     /// The GUID of the disk.
     pub guid: Guid,
@@ -18,7 +18,7 @@ pub struct Member {
 }
 
 /// What a spare disk may stand in for.
-#[derive(Debug, Drop)]
+#[derive(Drop)]
 pub enum SpareUse {
     /// The disk is no spare.
     No,

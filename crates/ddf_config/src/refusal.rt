@@ -4,7 +4,7 @@ ghost use Rattle.ddf_config.specs.Refusals.{first_refusal, refuse_if};
 use ddf_bytes::Guid;
 
 /// Why a command isn't done though its words are good, or why its words are none. Each has a number.
-#[derive(Clone, Copy, Debug, PartialEq, Eq)]
+#[derive(Clone, Copy, PartialEq, Eq)]
 pub enum Refusal {
     /// 10: the words are no command's. The place of the first bad word, from 0.
     Words(usize),
@@ -68,7 +68,7 @@ pub enum Refusal {
 }
 
 /// A table of a disk with too little room.
-#[derive(Clone, Copy, Debug, PartialEq, Eq)]
+#[derive(Clone, Copy, PartialEq, Eq)]
 pub enum FullTable {
     /// The physical disk records.
     Disks,

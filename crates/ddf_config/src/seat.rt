@@ -2,7 +2,7 @@ ghost use Rattle.std.specs.Prelude.{◌≡◌};
 ghost use Rattle.ddf_config.specs.Seats.{slot_of, floor_of};
 
 /// The slot of a current member.
-#[derive(Clone, Copy, Debug, Default, PartialEq, Eq)]
+#[derive(Clone, Copy, Default, PartialEq, Eq)]
 pub struct Seat {
     /// The reference of the member.
     pub reference: u32,

@@ -4,7 +4,7 @@ use ddf_bytes::{Guid, Seq};
 use std::marker::Model;
 
 /// A virtual disk configuration record (SNIA DDF 2.0): one element of an array. Contracts see the members as a list.
-#[derive(Debug, Drop)]
+#[derive(Drop)]
 pub struct Element {
     /// The GUID of the array.
     pub array: Guid,

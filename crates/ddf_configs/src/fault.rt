@@ -5,7 +5,7 @@ use ddf_bytes::NoMemory;
 use ddf_seal::SealFault;
 
 /// Why a sealed element record isn't read: the first of these, in this order. The bounds are profile.
-#[derive(Clone, Copy, Debug, PartialEq, Eq)]
+#[derive(Clone, Copy, PartialEq, Eq)]
 pub enum ElementFault {
     /// There is no member, or there are more than the geometry or this project (64) allows.
     Members(u16),
@@ -18,7 +18,7 @@ pub enum ElementFault {
 }
 
 /// Why a section of configuration records isn't read.
-#[derive(Clone, Copy, Debug, PartialEq, Eq)]
+#[derive(Clone, Copy, PartialEq, Eq)]
 pub enum SlotFault {
     /// The first slot that has one of the three known signatures and another CRC than its bytes.
     Seal {

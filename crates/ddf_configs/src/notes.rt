@@ -1,7 +1,7 @@
 use ddf_bytes::{Guid, Seq};
 
 /// The notes that this project keeps on each member, in a vendor's record of its own (profile).
-#[derive(Debug, Drop)]
+#[derive(Drop)]
 pub struct Notes {
     /// The GUID of the group.
     pub group: Guid,
@@ -12,7 +12,7 @@ pub struct Notes {
 }
 
 /// What is noted about a slot (profile).
-#[derive(Debug, Drop)]
+#[derive(Drop)]
 pub struct SlotNote {
     /// Whether the slot is a copy of an element's record, on a disk that isn't a member of the element.
     pub copied: bool,

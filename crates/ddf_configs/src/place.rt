@@ -1,5 +1,5 @@
 /// Where a member of an element lies.
-#[derive(Clone, Copy, Debug, Default, PartialEq, Eq)]
+#[derive(Clone, Copy, Default, PartialEq, Eq)]
 pub struct Place {
     /// The reference of the disk. FFFFFFFF is a position without a disk.
     pub reference: u32,

@@ -5,7 +5,7 @@ use crate::spare::SpareRecord;
 use ddf_bytes::{Guid, Seq};
 
 /// What stands in a slot of the configuration records.
-#[derive(Debug, Drop)]
+#[derive(Drop)]
 pub enum RecordSlot {
     /// An element of an array that this disk is a member of.
     Element(Element),

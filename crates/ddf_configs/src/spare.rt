@@ -1,7 +1,7 @@
 use ddf_bytes::{Guid, Seq};
 
 /// A spare assignment record (SNIA DDF 2.0), on the spare's own disk.
-#[derive(Debug, Drop)]
+#[derive(Drop)]
 pub struct SpareRecord {
     /// Seconds since 1980 began.
     pub timestamp: u32,

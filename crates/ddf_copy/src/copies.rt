@@ -21,7 +21,7 @@ use ddf_header::Header;
 use std::alloc::Global;
 
 /// Both copies of a disk, each whole or not.
-#[derive(Debug, Drop)]
+#[derive(Drop)]
 pub struct Copies {
     /// The primary copy, or why it isn't whole.
     pub primary: Result<DiskCopy, CopyFault>,

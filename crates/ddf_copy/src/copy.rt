@@ -7,7 +7,7 @@ use ddf_tables::{ArrayTable, BadBlockLog, Controller, DiskData, DiskTable};
 use std::alloc::Global;
 
 /// All records of one copy (SNIA DDF 2.0). Diagnostic space and vendor logs are left out: they stay on the disk, unread.
-#[derive(Debug, Drop)]
+#[derive(Drop)]
 pub struct DiskCopy {
     /// The header of the copy.
     pub header: Header,

@@ -3,7 +3,7 @@ use ddf_seal::SealFault;
 use ddf_tables::TableFault;
 
 /// Why a slot has no anchor that can be read.
-#[derive(Clone, Copy, Debug, PartialEq, Eq)]
+#[derive(Clone, Copy, PartialEq, Eq)]
 pub enum AnchorFault {
     /// There is none: the slot has no sector, or its last one doesn't begin with the signature of a header.
     Blank,
@@ -14,7 +14,7 @@ pub enum AnchorFault {
 }
 
 /// The sections of a copy that are read, in the order of the header.
-#[derive(Clone, Copy, Debug, PartialEq, Eq)]
+#[derive(Clone, Copy, PartialEq, Eq)]
 pub enum SectionName {
     /// The controller data.
     Controller,
@@ -32,7 +32,7 @@ pub enum SectionName {
 
 /// Why a copy isn't whole (profile): the first of these in this order, but that a header past the disk's end is `Room(0)`
 /// before all others. Sections count in the order of the header.
-#[derive(Clone, Copy, Debug, PartialEq, Eq)]
+#[derive(Clone, Copy, PartialEq, Eq)]
 pub enum CopyFault {
     /// There is no header of the copy's kind.
     Header(HeaderFault),
@@ -56,7 +56,7 @@ pub enum CopyFault {
 }
 
 /// Why it isn't told what a slot shows.
-#[derive(Clone, Copy, Debug, PartialEq, Eq)]
+#[derive(Clone, Copy, PartialEq, Eq)]
 pub enum ShowFault {
     /// A call on this slot failed.
     Disk(usize),

@@ -7,7 +7,7 @@ use crate::fault::CopyFault;
 use crate::which::Which;
 
 /// The newest copy of a disk (SNIA DDF 2.0, header update rules).
-#[derive(Debug, Drop)]
+#[derive(Drop)]
 pub enum Newest {
     /// The only whole copy, or that of the greater sequence.
     One(Which, DiskCopy),

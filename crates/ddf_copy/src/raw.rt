@@ -13,7 +13,7 @@ use ddf_header::{ARRAYS, BAD_BLOCKS, CONTROLLER, DISK_DATA, DISKS, Geometry, REC
 use std::alloc::Global;
 
 /// The sectors of a copy's sections, as they are read and written.
-#[derive(Debug, Drop)]
+#[derive(Drop)]
 pub struct Raw {
     /// The first sector of the controller data.
     pub controller: Sector,

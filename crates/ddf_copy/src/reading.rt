@@ -26,7 +26,7 @@ use ddf_header::{Header, decode};
 use std::alloc::Global;
 
 /// A whole copy, and the sectors of its sections.
-#[derive(Debug, Drop)]
+#[derive(Drop)]
 pub(crate) struct Whole {
     pub copy: DiskCopy,
     pub raw: Raw,

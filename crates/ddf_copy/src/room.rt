@@ -11,7 +11,7 @@ const PAIRS: usize = 192;
 const PAIR: usize = 8;
 
 /// Where the headers of the two copies stand on a disk, and its last sector.
-#[derive(Clone, Copy, Debug, PartialEq, Eq)]
+#[derive(Clone, Copy, PartialEq, Eq)]
 pub(crate) struct Room {
     pub last: u64,
     pub own: u64,

@@ -12,7 +12,7 @@ use std::alloc::Global;
 use std::slice;
 
 /// A section of a copy as it is written: those of its sectors that are written, one or more.
-#[derive(Debug, Drop)]
+#[derive(Drop)]
 pub struct Run {
     /// How many sectors behind the copy's header it begins.
     pub offset: u32,

@@ -4,7 +4,7 @@ ghost use Rattle.ddf_copy.specs.Which.{kind_of, other_of, place_of};
 use ddf_header::{Header, HeaderKind};
 
 /// One of the two copies of a disk's records.
-#[derive(Clone, Copy, Debug, PartialEq, Eq)]
+#[derive(Clone, Copy, PartialEq, Eq)]
 pub enum Which {
     /// The copy behind the primary header.
     Primary,

@@ -2,6 +2,7 @@
 use Rattle.std.specs.Prelude.{ℕ, Bool, false, not, ◌&&◌, ◌||◌, List, find, Option, Some, None, Result, Ok, Err, if◌then◌else◌}
 use Rattle.std.specs.List.{list_all, list_any}
 use Rattle.std.specs.Option.{option_map_or}
+use Rattle.std.specs.Str.{bytes_eq}
 use Rattle.ddf_group.specs.declared.shown.Shown.{Shown}
 use Rattle.ddf_group.specs.declared.answer.Assembly.{Assembly}
 use Rattle.ddf_group.specs.declared.answer.Assembly.TheVariants.{NoGroup, SeveralGroups}
@@ -27,6 +28,11 @@ absorbs_at slots other slot = option_map_or (λ group. absorbs slots group other
 
 abbrev pub is_absorbed : List Shown → (group : List ℕ) → Bool
 is_absorbed slots group = list_any (absorbs_at slots group) (numbers slots)
+
+-- a slot shows another group than this one, which this one doesn't absorb
+abbrev pub shows_unabsorbed : List Shown → (group : List ℕ) → (slot : ℕ) → Bool
+shows_unabsorbed slots group slot =
+    option_map_or (λ other. not (bytes_eq group other) && not (absorbs slots group other)) (group_shown (slot_at slots slot)) false
 
 -- ---- the group
 

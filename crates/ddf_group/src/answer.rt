@@ -5,7 +5,7 @@ use ddf_config::Config;
 use ddf_view::Difference;
 
 /// In what two records of one group contradict each other.
-#[derive(Clone, Copy, Debug, PartialEq, Eq)]
+#[derive(Clone, Copy, PartialEq, Eq)]
 pub enum Differ {
     /// The two copies of one disk.
     Copies,
@@ -20,7 +20,7 @@ pub enum Differ {
 }
 
 /// Why slots give no group.
-#[derive(Clone, Copy, Debug, PartialEq, Eq)]
+#[derive(Clone, Copy, PartialEq, Eq)]
 pub enum Assembly {
     /// No slot shows a group, or the named one.
     NoGroup,
@@ -59,7 +59,7 @@ impl From<NoMemory> for Assembly {
 }
 
 /// The group that slots give together.
-#[derive(Debug, Drop)]
+#[derive(Drop)]
 pub struct Assembled {
     /// Its configuration.
     pub config: Config,

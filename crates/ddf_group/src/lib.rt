@@ -12,5 +12,7 @@ mod slots;
 mod split;
 
 pub use answer::{Assembled, Assembly, Differ};
+pub use choice::shows_unabsorbed;
 pub use group::assembled;
 pub use shown::{Shown, shown_of};
+pub use slots::Slots;

@@ -14,7 +14,7 @@ use std::marker::Model;
 
 /// What the slots of a bay show. Contracts see the list of what each shows.
 #[derive(Drop)]
-pub(crate) struct Slots<'a, 'b> {
+pub struct Slots<'a, 'b> {
     shown: &'a [Shown<'b>],
     groups: Seq<Option<Guid>>,
 }
@@ -43,7 +43,10 @@ impl<'a, 'b> Slots<'a, 'b> {
     ghost use Rattle.std.specs.List.{list_all, range_with_len};
 
     /// The slots that show this.
-    pub(crate) fn new(alloc: Global, shown: &'a [Shown<'b>]) -> Result<Slots<'a, 'b>, NoMemory>
+    ///
+    /// # Errors
+    /// Memory ran out.
+    pub fn new(alloc: Global, shown: &'a [Shown<'b>]) -> Result<Slots<'a, 'b>, NoMemory>
         ensures { IfOk result (λ slots. slots ≡ shown.now) }
     {
         let groups = groups_of(alloc, shown)?;

@@ -1,7 +1,7 @@
 use ddf_seal::SealFault;
 
 /// Why a sector isn't a header of the kind that was asked for: the first of these, in this order.
-#[derive(Clone, Copy, Debug, PartialEq, Eq)]
+#[derive(Clone, Copy, PartialEq, Eq)]
 pub enum HeaderFault {
     /// The signature or the CRC is wrong.
     Seal(SealFault),

@@ -41,7 +41,7 @@ pub const DIAGNOSTIC: usize = 6;
 pub const VENDOR_LOGS: usize = 7;
 
 /// Where a section lies. One of length 0 is absent, whatever its offset.
-#[derive(Clone, Copy, Debug, PartialEq, Eq)]
+#[derive(Clone, Copy, PartialEq, Eq)]
 pub struct Section {
     /// Sectors from the LBA of the header that names the section.
     pub offset: u32,
@@ -50,7 +50,7 @@ pub struct Section {
 }
 
 /// How a disk is laid out: its workspace, the sizes of the records, and the sections behind a header.
-#[derive(Clone, Copy, Debug, PartialEq, Eq)]
+#[derive(Clone, Copy, PartialEq, Eq)]
 pub struct Geometry {
     /// Sectors of the workspace.
     pub workspace_length: u32,

@@ -2,7 +2,7 @@ ghost use Rattle.std.specs.Prelude.{◌≡◌};
 ghost use Rattle.ddf_header.specs.Layout.{kind_code, revision_text, revision_of};
 
 /// Which of a disk's three headers.
-#[derive(Clone, Copy, Debug, PartialEq, Eq)]
+#[derive(Clone, Copy, PartialEq, Eq)]
 pub enum HeaderKind {
     /// In the disk's last sector.
     Anchor,
@@ -26,7 +26,7 @@ impl HeaderKind {
 }
 
 /// A revision of the standard.
-#[derive(Clone, Copy, Debug, PartialEq, Eq)]
+#[derive(Clone, Copy, PartialEq, Eq)]
 pub enum Revision {
     /// `01.00.00`
     R100,

@@ -10,7 +10,7 @@ use ddf_bytes::{Guid, Sector, be32, be64};
 use ddf_seal::{check, clear, guid_at};
 
 /// A header (SNIA DDF 2.0).
-#[derive(Clone, Copy, Debug, PartialEq, Eq)]
+#[derive(Clone, Copy, PartialEq, Eq)]
 pub struct Header {
     /// Which of the disk's headers it is.
     pub kind: HeaderKind,

@@ -15,10 +15,10 @@ use Rattle.ddf_tables.specs.declared.arrays.ArrayEntry.{ArrayEntry}
 use Rattle.ddf_config.specs.declared.element.Position.{Position}
 use Rattle.ddf_config.specs.ElementValue.{ElementValue as ElementPlan}
 use Rattle.ddf_bytes.proofs.Nones.{none_map}
-use Rattle.ddf_view.specs.View.{View, Held, find_held, is_element}
+use Rattle.ddf_view.specs.View.{View, HeldRecord, find_held, is_element}
 use Rattle.ddf_view.specs.Reading.{plan_of}
 use Rattle.ddf_view.specs.Shows.{same_flag, same_plan, same_position}
-use Rattle.ddf_view.specs.Differ.{array_differs, difference, differing_arrays, differing_disks, differing_elements, disk_differs, element_difference, element_differs, held_differ, key_cmp, key_of, least, placed_array, placed_disk, same_array, same_disk, same_held, same_member_place, same_notes, same_record}
+use Rattle.ddf_view.specs.Differ.{array_differs, difference, differing_arrays, differing_disks, differing_elements, disk_differs, element_difference, element_differs, held_differ, key_cmp, key_of, least, numbered_array, numbered_disk, same_array, same_disk, same_held, same_member_place, same_notes, same_record}
 use Rattle.ddf_view.specs.declared.difference.Difference.TheVariants as differences
 use Rattle.ddf_view.proofs.Finds.{find_has}
 use Rattle.ddf_view.proofs.Tests.{same_bytes, bytes_same}
@@ -91,7 +91,7 @@ plan_turned one other =
     ) refl
 
 -- The fields of two records are.
-record_turned : (one other : Held) → same_record one.element other.element ≡ same_record other.element one.element
+record_turned : (one other : HeldRecord) → same_record one.element other.element ≡ same_record other.element one.element
 unfolding same_record
 record_turned one other =
     rw (
@@ -110,11 +110,11 @@ record_turned one other =
     ) refl
 
 -- What the notes say of two records is.
-notes_turned : (one other : Held) → same_notes one other ≡ same_notes other one
+notes_turned : (one other : HeldRecord) → same_notes one other ≡ same_notes other one
 notes_turned one other = rw (or_turned (is_none one.note) (is_none other.note), plan_turned (plan_of [] one.note one.element) (plan_of [] other.note other.element)) refl
 
 -- Two records that are held are.
-held_turned : (one other : Held) → same_held one other ≡ same_held other one
+held_turned : (one other : HeldRecord) → same_held one other ≡ same_held other one
 held_turned one other = rw (record_turned one other, notes_turned one other) refl
 
 -- ---- lists of which nothing is kept
@@ -194,11 +194,11 @@ no_difference one other not = rw (not.disks, not.arrays, not.elements) refl
 
 -- A disk differs the other way round.
 disk_differs_turned : (one other : List DiskEntry) (reference : ℕ) → disk_differs one other reference ≡ disk_differs other one reference
-disk_differs_turned one other reference = ap not (option_turned same_disk disk_turned (placed_disk reference one) (placed_disk reference other))
+disk_differs_turned one other reference = ap not (option_turned same_disk disk_turned (numbered_disk reference one) (numbered_disk reference other))
 
 -- An array does.
 array_differs_turned : (one other : List ArrayEntry) (guid : List ℕ) → array_differs one other guid ≡ array_differs other one guid
-array_differs_turned one other guid = ap not (option_turned same_array array_turned (placed_array guid one) (placed_array guid other))
+array_differs_turned one other guid = ap not (option_turned same_array array_turned (numbered_array guid one) (numbered_array guid other))
 
 -- A test that can't tell them apart keeps nothing of two lists the other way round.
 both_turned : {X Y : Type 0} (key : X → Y) (test turned : Y → Bool) → ((y : Y) → test y ≡ turned y) → (xs ys : List X) → filter test (map key (xs ++ ys)) ≡ [] → filter turned (map key (ys ++ xs)) ≡ []
@@ -223,23 +223,23 @@ find_passes test (y ∷ ys) x found = go (find_passes test ys x) (test y) refl
     go later false is = later (rw is at found)
 
 -- Where two records that are held don't differ, they don't the other way round.
-held_differ_turned : (o p : Option Held) → held_differ o p ≡ held_differ p o
+held_differ_turned : (o p : Option HeldRecord) → held_differ o p ≡ held_differ p o
 held_differ_turned None None = refl
 held_differ_turned None (Some other) = refl
 held_differ_turned (Some one) None = refl
 held_differ_turned (Some one) (Some other) = ap not (held_turned one other)
 
 -- An element that is held differs in nothing where none of its kind does.
-element_alike : (one other : List Held) → AllByRecursion (λ key. element_differs one other key ≡ false) (map key_of one) → (array : List ℕ) (index : ℕ) → element_differs one other (array, index) ≡ false
+element_alike : (one other : List HeldRecord) → AllByRecursion (λ key. element_differs one other key ≡ false) (map key_of one) → (array : List ℕ) (index : ℕ) → element_differs one other (array, index) ≡ false
 element_alike one other fails array index = go (find_held array index one) refl
   where
-    go : (o : Option Held) → find_held array index one ≡ o → element_differs one other (array, index) ≡ false
+    go : (o : Option HeldRecord) → find_held array index one ≡ o → element_differs one other (array, index) ≡ false
     go None is = rw is refl
     go (Some held) is =
         let passes = and_parts (bytes_eq held.element.array array) (eqb held.element.index index) (find_passes (is_element array index) one held is) in
         let arrays : held.element.array ≡ array = same_bytes held.element.array array passes.0 in
         let indices : held.element.index ≡ index = eqb-true held.element.index index passes.1 in
-        let here : element_differs one other (held.element.array, held.element.index) ≡ false = find_has (λ (one_held : Held). element_differs one other (key_of one_held) ≡ false) (is_element array index) one held (all_from_map key_of (λ key. element_differs one other key ≡ false) one fails) is in
+        let here : element_differs one other (held.element.array, held.element.index) ≡ false = find_has (λ (one_held : HeldRecord). element_differs one other (key_of one_held) ≡ false) (is_element array index) one held (all_from_map key_of (λ key. element_differs one other key ≡ false) one fails) is in
         ap (λ (guid : List ℕ). element_differs one other (guid, index)) (sym arrays) ∙ ap (λ (n : ℕ). element_differs one other (held.element.array, n)) (sym indices) ∙ here
 
 -- Copies that don't differ don't do so the other way round.

@@ -81,6 +81,7 @@ module _ (r : Reading) (sound : IsSound r) (past : Past r) (before after : Scene
     alone = kept.alone;
     gone = kept.gone;
     entered = λ s t here there on joins other. kept.entered s t here there (was_on s on) joins (was_on t other);
+    remain = kept.remain;
     give = λ young none.
         ap r.read (same_leading r (r.sequence kept.last) (seen (λ s. not (is_away past s)) after) (seen (λ s. not (is_away past s)) before) (λ s. same_slot s (is_away past s) refl) past.slots)
         ∙ kept.give young (λ s here on. none s here (now_on s on));

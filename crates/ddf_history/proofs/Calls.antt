@@ -7,7 +7,7 @@ use Rattle.ddf_history.specs.Issued.{Changes, Past, IsSince, is_away, issued, is
 use Rattle.ddf_history.specs.Leaders.{seen}
 use Rattle.ddf_history.specs.Promise.{IsKept, IsNamed, IsOn, IsRight}
 use Rattle.ddf_history.specs.Answer.{IsClaimed}
-use Rattle.ddf_history.specs.Steps.{IsLast, MayFollow, NoneLater}
+use Rattle.ddf_history.specs.Steps.{DoRemain, IsLast, MayFollow, NoneLater}
 use Rattle.ddf_history.specs.Calls.{IsAssembled, AreSure, AreSeated, NoneAbsent}
 use Rattle.ddf_history.proofs.Since.{which, first_is_copy, same_number, same_sequence_same, last_since, on_copy, on_shows}
 use Rattle.ddf_history.proofs.Lists.{get_last, get_within}
@@ -214,10 +214,23 @@ assembled_left_out {r} past held readable c own assembled = record {
   is_read = assembled.is_read;
 }
 
+-- A member that doesn't count as lost was read.
+read_where : {r : Reading} (past : Past r) (readable : ℕ → Bool) (c : r.Config) (s : ℕ) → is_away (leave_out past readable c) s ≡ false → r.has_current c (past.disk s) ≡ true → readable s ≡ true
+read_where {r = r} past readable c s here now = by (readable s) (past.lost s) (past.returned s) (r_now) now here
+  where
+    r_now : Bool
+    r_now = r.has_current c (past.disk s)
+
+    by : (read lost back current : Bool) → current ≡ true → (lost || not read && current || back) ≡ false → read ≡ true
+    by true lost back current is h = refl
+    by false true back current is h = absurd cc
+    by false false back true is h = absurd cc
+    by false false back false is h = absurd cc
+
 -- The loss of absent members is issued behind the change that was assembled.
 pub loss_at : (r : Reading) (sound : IsSound r) (past : Past r) (held scene : Scene r.Copy) (readable : ℕ → Bool) (j : ℕ) (c loss : r.Config) → IsAssembled past held readable c → IsSince past.changes j c → IsKept past scene
-    → AreSure r readable held scene → past.changes.own_from ≤ past.changes.acked → MayFollow r c loss → IsKept (issue (take_off (leave_out past readable c) j) loss) scene
-loss_at r sound past held scene readable j c loss assembled at kept sure own follow =
+    → AreSure r readable held scene → past.changes.own_from ≤ past.changes.acked → MayFollow r c loss → DoRemain r (λ s. readable s ≡ true) past.disk c loss → IsKept (issue (take_off (leave_out past readable c) j) loss) scene
+loss_at r sound past held scene readable j c loss assembled at kept sure own follow remain =
     let left = left_out_kept past scene readable c own kept in
     let cut_left = cut_at r sound (leave_out past readable c) held scene readable j c (assembled_left_out past held readable c own assembled) at left sure (seated_where_left_out past readable c) in
-    issued_kept r sound (take_off (leave_out past readable c) j) scene cut_left loss (follows r (take_off (leave_out past readable c) j) scene cut_left j c loss (last_cut past.changes j c at) follow)
+    issued_kept r sound (take_off (leave_out past readable c) j) scene cut_left loss (follows r (take_off (leave_out past readable c) j) scene cut_left j c loss (last_cut past.changes j c at) follow (inr (λ s here now. remain s (read_where past readable c s here now) now)))

@@ -94,6 +94,7 @@ module _ (r : Reading) (past : Past r) (scene : Scene r.Copy) (kept : IsKept pas
     gone = λ s i d back at. kept.gone s i d back (since_cut past.changes j i d at).0;
     own_next = kept.own_next;
     entered = λ s t here there on joins other. kept.entered s t here there (on_was s on) joins (on_was t other);
+    remain = λ i d joined s at. kept.remain i d joined s (since_cut past.changes j i d at).0;
     give = λ young none. kept.give young (λ s here on. none s here (record {
       number = on.number;
       config = on.config;
@@ -241,6 +242,7 @@ module _ (r : Reading) (sound : IsSound r) (past : Past r) (scene : Scene r.Copy
     own_next = let late = at_last.since.late in let next = kept.own_next in omega arith;
     -- what a slot shows is that change, so none joins later
     entered = λ s t here there on joins. absurd (never s on joins);
+    remain = λ i d joined s at now fresh. let is : r.has_current c joined ≡ true = rw (only i d at) at now in absurd cc;
     give = λ young none.
         let late = at_last.since.late in
         let next = kept.own_next in
@@ -273,6 +275,7 @@ slots_kept {r} past scene lost returned fewer gone old kept = record {
   gone = gone;
   own_next = kept.own_next;
   entered = λ s t here there. kept.entered s t (fewer s here) (fewer t there);
+  remain = λ i d joined s at now fresh here. kept.remain i d joined s at now fresh (fewer s here);
   give = λ young. absurd (omega arith);
 }
   where

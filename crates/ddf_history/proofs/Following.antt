@@ -8,11 +8,10 @@ use Rattle.ddf_config.specs.declared.member.Member.{Member}
 use Rattle.ddf_config.specs.Configuration.{Configuration}
 use Rattle.ddf_config.specs.Entries.{changed_entries}
 use Rattle.ddf_plan.specs.declared.change.Change.{Change}
-use Rattle.ddf_plan.specs.declared.change.Change.TheVariants.{Lose, Create, Delete, Spare, Fail}
-use Rattle.ddf_plan.specs.Changes.{changed_at, member_after, with_spare}
-use Rattle.ddf_plan.specs.Delete.{use_without}
-use Rattle.ddf_plan.specs.Lose.{is_among, lost_member}
-use Rattle.ddf_plan.specs.Spare.{use_in_order}
+use Rattle.ddf_plan.specs.declared.change.Change.TheVariants.{Lose, Fail}
+use Rattle.ddf_plan.specs.Changes.{changed_at}
+use Rattle.ddf_plan.specs.Lose.{is_among}
+use Rattle.ddf_plan.specs.Members.{lost_by, member_after}
 use Rattle.ddf_history.specs.Groups.{Disk, groups, has_current, has_missing}
 use Rattle.ddf_history.specs.Steps.{MayFollow}
 
@@ -23,30 +22,14 @@ record IsSameMember (before after : Member) : Type 0 where
   guid : after.guid ≡ before.guid
   missing : before.missing ≡ true → after.missing ≡ true
 
--- Of two members that are the same as one whichever is chosen is.
-chosen_member : (test : Bool) (one other member : Member) → IsSameMember member one → IsSameMember member other → IsSameMember member (if test then one else other)
-chosen_member true one other member first second = first
-chosen_member false one other member first second = second
-
--- A member is the same as itself.
-unchanged : (member : Member) → IsSameMember member member
-unchanged member = record { guid = refl; missing = λ is. is }
-
--- A member that may be lost is the same.
-lost_is_same : (references : List ℕ) (reference : ℕ) (member : Member) → IsSameMember member (lost_member references reference member)
-lost_is_same references reference member = chosen_member (is_among references reference) (record member { missing = true }) member member (record { guid = refl; missing = λ is. refl }) (unchanged member)
+or_right : (a b : Bool) → b ≡ true → (a || b) ≡ true
+or_right true b is = refl
+or_right false b is = is
 
 -- Each change keeps each member.
-member_kept : (config : Configuration) (change : Change) (reference : ℕ) (member : Member) → (after : Member) × (member_after config change reference member ≡ Some after) × IsSameMember member after
-member_kept config (Lose references) reference member = (lost_member references reference member, refl, lost_is_same references reference member)
-member_kept config (Create guid array) reference member = (member, refl, unchanged member)
-member_kept config (Delete guid) reference member = (with_spare member (use_without guid member.spare), refl, record { guid = refl; missing = λ is. is })
-member_kept config (Spare spare use_as) reference member = (
-  if nat_eq spare reference then with_spare member (use_in_order config.arrays use_as) else member,
-  refl,
-  chosen_member (nat_eq spare reference) (with_spare member (use_in_order config.arrays use_as)) member member (record { guid = refl; missing = λ is. is }) (unchanged member),
-)
-member_kept config (Fail failed) reference member = (lost_member (failed ∷ []) reference member, refl, lost_is_same (failed ∷ []) reference member)
+member_kept : (config : Configuration) (change : Change) (reference : ℕ) (member : Member) → (after : Member) × (Some (member_after config change reference member) ≡ Some after) × IsSameMember member after
+member_kept config change reference member =
+    (member_after config change reference member, refl, record { guid = refl; missing = or_right (is_among (lost_by change) reference) member.missing })
 
 -- ---- all members
 
@@ -96,18 +79,18 @@ module _ (change : ℕ → Member → Option Member) (kept : (reference : ℕ) (
 abbrev is_listed : (Member → Bool) → Disk → List (ℕ × Member) → Bool
 is_listed test disk members = option_map_or (λ (member : Member). bytes_eq member.guid disk.guid && test member) (lookup (λ reference. eqb reference disk.reference) members) false
 
--- A current member whose reference is among those of lost disks is missing then.
-lost_listed : (references : List ℕ) (disk : Disk) → is_among references disk.reference ≡ true → (members : List (ℕ × Member)) → is_listed (λ member. not member.missing) disk members ≡ true
-    → is_listed (λ member. member.missing) disk (changed_entries (λ reference member. Some (lost_member references reference member)) members) ≡ true
-lost_listed references disk among [] is = absurd (false≢true is)
-lost_listed references disk among (entry ∷ members) is = go (lost_listed references disk among members) (eqb entry.0 disk.reference) refl
+-- A current member whose reference is among those that a change loses is missing then.
+lost_listed : (config : Configuration) (change : Change) (disk : Disk) → is_among (lost_by change) disk.reference ≡ true → (members : List (ℕ × Member)) → is_listed (λ member. not member.missing) disk members ≡ true
+    → is_listed (λ member. member.missing) disk (changed_entries (λ reference member. Some (member_after config change reference member)) members) ≡ true
+lost_listed config change disk among [] is = absurd (false≢true is)
+lost_listed config change disk among (entry ∷ members) is = go (lost_listed config change disk among members) (eqb entry.0 disk.reference) refl
   where
     go : (is_listed (λ member. not member.missing) disk members ≡ true
-        → is_listed (λ member. member.missing) disk (changed_entries (λ reference member. Some (lost_member references reference member)) members) ≡ true)
+        → is_listed (λ member. member.missing) disk (changed_entries (λ reference member. Some (member_after config change reference member)) members) ≡ true)
         → (here : Bool) → eqb entry.0 disk.reference ≡ here
-        → is_listed (λ member. member.missing) disk (changed_entries (λ reference member. Some (lost_member references reference member)) (entry ∷ members)) ≡ true
+        → is_listed (λ member. member.missing) disk (changed_entries (λ reference member. Some (member_after config change reference member)) (entry ∷ members)) ≡ true
     go later true here =
-        let own : is_among references entry.0 ≡ true = ap (is_among references) (eqb-true entry.0 disk.reference here) ∙ among in
+        let own : is_among (lost_by change) entry.0 ≡ true = ap (is_among (lost_by change)) (eqb-true entry.0 disk.reference here) ∙ among in
         let parts = and_parts (bytes_eq entry.1.guid disk.guid) (not entry.1.missing) (rw here at is) in
         rw (here, own) (and_from _ _ parts.0 refl)
     go later false here = rw here (later (rw here at is))
@@ -115,19 +98,19 @@ lost_listed references disk among (entry ∷ members) is = go (lost_listed refer
 -- So it is behind the change that loses it,
 pub lost_missing : (config : Configuration) (references : List ℕ) (sequence : ℕ) (disk : Disk) → has_current config disk ≡ true → is_among references disk.reference ≡ true
     → has_missing (changed_at config (Lose references) sequence) disk ≡ true
-lost_missing config references sequence disk current among = lost_listed references disk among config.members current
+lost_missing config references sequence disk current among = lost_listed config (Lose references) disk among config.members current
 
 -- and behind the one that fails it.
 pub failed_missing : (config : Configuration) (failed sequence : ℕ) (disk : Disk) → has_current config disk ≡ true → disk.reference ≡ failed
     → has_missing (changed_at config (Fail failed) sequence) disk ≡ true
 failed_missing config failed sequence disk current same =
     let among : is_among (failed ∷ []) disk.reference ≡ true = rw same (ap (λ (b : Bool). b || false) (eq-eqb failed failed refl)) in
-    lost_listed (failed ∷ []) disk among config.members current
+    lost_listed config (Fail failed) disk among config.members current
 
 -- A change may follow the configuration that it changes, at a greater sequence.
 pub changes_follow : (group : List ℕ) (config : Configuration) (change : Change) (sequence : ℕ) → config.sequence < sequence → MayFollow (groups group) config (changed_at config change sequence)
 changes_follow group config change sequence less = record {
   rises = less;
-  no_more = λ disk is. was_current (member_after config change) (member_kept config change) disk.guid (λ reference. eqb reference disk.reference) config.members is;
-  stays_missing = λ disk is. still_missing (member_after config change) (member_kept config change) disk.guid (λ reference. eqb reference disk.reference) config.members is;
+  no_more = λ disk is. was_current (λ reference member. Some (member_after config change reference member)) (member_kept config change) disk.guid (λ reference. eqb reference disk.reference) config.members is;
+  stays_missing = λ disk is. still_missing (λ reference member. Some (member_after config change reference member)) (member_kept config change) disk.guid (λ reference. eqb reference disk.reference) config.members is;
 }

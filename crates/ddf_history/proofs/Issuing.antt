@@ -1,10 +1,10 @@
 -- A change is issued.
 use Rattle.std.proofs.Common.{◌≡◌, ◌≢◌, ◌⊎◌, ℕ, ◌<◌, ◌≤◌, ◌∷◌, [], true, false, length, Some, slice_get, refl, sym, ap, ◌∙◌, inl, inr, ⊎_elim, arith}
-use Rattle.std.proofs.lemmas.Bool.{and_from}
+use Rattle.std.proofs.lemmas.Bool.{and_from, true≢false}
 use Rattle.ddf_history.specs.Reading.{Reading, Scene, Shown, ShowsGroup, IsCopyOf, IsSound}
 use Rattle.ddf_history.specs.Issued.{Changes, Past, IsSince, IsChain, is_away, issued, issue}
 use Rattle.ddf_history.specs.Promise.{IsKept, IsNamed, IsOn, IsOutside, IsLagging, IsStanding}
-use Rattle.ddf_history.specs.Steps.{IsLast, MayFollow, MayJoin}
+use Rattle.ddf_history.specs.Steps.{DoRemain, IsLast, MayFollow, MayJoin}
 use Rattle.ddf_history.proofs.Since.{some_is, in_order, same_number, last_since, on_shows}
 use Rattle.ddf_history.proofs.Lists.{get_more, get_kept, get_within}
 
@@ -22,6 +22,8 @@ pub record MayIssue {r : Reading} (past : Past r) (scene : Scene r.Copy) (c : r.
   pub named : (s : ℕ) (copy : r.Copy) → IsCopyOf (scene s) copy → r.has_current c (r.disk_of copy) ≡ true → r.disk_of copy ≡ past.disk s
   pub alone : (s t : ℕ) → r.has_current c (past.disk s) ≡ true → past.disk s ≡ past.disk t → s ≡ t
   pub gone : (s : ℕ) → past.returned s ≡ true → r.has_missing c (past.disk s) ≡ true
+  pub remain : (last : r.Config) (joined : r.Disk) (s : ℕ) → slice_get past.changes.issued past.changes.acked ≡ Some last → r.has_current c joined ≡ true → r.has_current last joined ≡ false
+      → is_away past s ≡ false → r.has_current last (past.disk s) ≡ true → r.has_current c (past.disk s) ≡ true
 
 module _ {r : Reading} (changes : Changes r) (c : r.Config) where
   -- a change since the last acknowledged one was issued before, or is the new one
@@ -206,12 +208,17 @@ module _ (r : Reading) (sound : IsSound r) (past : Past r) (scene : Scene r.Copy
     entered = λ s t here there on joins other native.
         let was = on_was t there other in
         let lt = kept.entered s t here there (on_was s here on).0 joins was.0 native in omega (arith, was.1);
+    remain = λ i d joined s at now fresh here native. ⊎_elim
+        (λ was. kept.remain i d joined s was now fresh here native)
+        (λ last. rw last.1 (may.remain kept.last joined s kept.is_last (rw last.1 at now) fresh here native))
+        (since_more past.changes c i d at);
     give = λ young none. kept.give young (λ s here on. none s here (on_next (past.disk s) (scene s) on));
   }
 
 -- A change that makes no member current may be issued.
-pub follows : (r : Reading) (past : Past r) (scene : Scene r.Copy) → IsKept past scene → (j : ℕ) (last c : r.Config) → IsLast past.changes j last → MayFollow r last c → MayIssue past scene c
-follows r past scene kept j last c at may = record {
+pub follows : (r : Reading) (past : Past r) (scene : Scene r.Copy) → IsKept past scene → (j : ℕ) (last c : r.Config) → IsLast past.changes j last → MayFollow r last c
+    → (j ≡ past.changes.acked) ⊎ DoRemain r (λ s. is_away past s ≡ false) past.disk last c → MayIssue past scene c
+follows r past scene kept j last c at may remains = record {
   rises = λ i d was. let le = in_order kept.chain i j d last was at.since (at.none_later i d was) in let less = may.rises in omega arith;
   stays_missing = λ i d disk was gone now. kept.chain.stays_missing i j d last disk was at.since (at.none_later i d was) gone (may.no_more disk now);
   stays_gone = λ i l d e disk was mid le first then. kept.chain.stays_gone i l j d e last disk was mid at.since le (at.none_later l e mid) first (may.no_more disk then);
@@ -227,6 +234,15 @@ follows r past scene kept j last c at may = record {
   named = λ s copy is now. kept.named s copy is (inr (j, last, at.since, may.no_more (r.disk_of copy) now));
   alone = λ s t now same. kept.alone s t j last at.since (may.no_more (past.disk s) now) same;
   gone = λ s back. may.stays_missing (past.disk s) (kept.gone s j last back at.since);
+  remain = λ first joined s is_first now fresh here native. ⊎_elim
+      (λ acked.
+      let same : last ≡ first = some_is last first (sym at.since.is_there ∙ ap (slice_get past.changes.issued) acked ∙ is_first) in
+      let was : r.has_current last joined ≡ true = may.no_more joined now in
+      absurd (true≢false (sym was ∙ ap (λ (x : r.Config). r.has_current x joined) same ∙ fresh)))
+      (λ stays.
+      let same : kept.last ≡ first = some_is kept.last first (sym kept.is_last ∙ is_first) in
+      stays s here (kept.remain j last joined s at.since (may.no_more joined now) (ap (λ (x : r.Config). r.has_current x joined) same ∙ fresh) here (ap (λ (x : r.Config). r.has_current x (past.disk s)) same ∙ native)))
+      remains;
 }
 
 -- A change that takes in members may be issued where all before it are acknowledged.
@@ -244,6 +260,7 @@ joins r past scene kept last c at may = record {
   named = may.named;
   alone = may.alone;
   gone = may.gone;
+  remain = λ first joined s is_first now fresh here native. may.keeps (past.disk s) (rw (some_is first last (sym is_first ∙ at.since.is_there)) at native);
 }
   where
     only : (i : ℕ) (d : r.Config) → IsSince past.changes i d → d ≡ last

@@ -3,6 +3,7 @@ pub mod Lists
 pub mod Leading
 pub mod Assembling
 pub mod Writing
+pub mod Turns
 pub mod Issuing
 pub mod Cutting
 pub mod Calls

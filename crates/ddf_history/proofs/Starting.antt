@@ -103,6 +103,7 @@ module _ (r : Reading) (sound : IsSound r) (past : Past r) (scene : Scene r.Copy
       alone = first_alone;
       gone = none_gone;
       entered = none_enters;
+      remain = λ i d joined s at now fresh. let is : r.has_current c joined ≡ true = rw (only i d at).1 at now in absurd cc;
       give = λ young. absurd (omega (arith, founded.own));
     }
 
@@ -254,6 +255,7 @@ module _ (r : Reading) (sound : IsSound r) (past : Past r) (scene : Scene r.Copy
       alone = first_alone;
       gone = none_gone;
       entered = none_enters;
+      remain = λ i d joined s at now fresh. let is : r.has_current c joined ≡ true = rw (only i d at).1 at now in absurd cc;
       give = λ young none.
           ap r.read (same_leading r (r.sequence c) (seen (λ s. not (is_away past s)) scene) scene (λ s. ap (leading_copy r (r.sequence c)) (all_here s)) past.slots)
           ∙ ap (λ (n : ℕ). r.read (leading_copies r n scene past.slots)) (sym leading_is) ∙ found.is_read.is_read;

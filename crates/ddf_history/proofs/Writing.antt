@@ -11,7 +11,7 @@ use Rattle.ddf_history.proofs.Since.{in_order, same_number, same_sequence_same, 
 use Rattle.ddf_history.proofs.Leading.{none_leading, same_leading}
 
 -- A single copy is one thing.
-one_is : {A : Type 0} (x y : A) → One x ≡ One y → x ≡ y
+pub one_is : {A : Type 0} (x y : A) → One x ≡ One y → x ≡ y
 one_is x y e = cc
 
 -- what a slot shows of two copies is one of them
@@ -264,5 +264,6 @@ module _ (r : Reading) (sound : IsSound r) (past : Past r) (before after : Scene
       alone = kept.alone;
       gone = kept.gone;
       entered = entered_after;
+      remain = kept.remain;
       give = give_after;
     }

@@ -81,6 +81,10 @@ module _ {reading : Reading} where
     -- Where a disk that joins shows such a configuration, each member of the last acknowledged one shows a later one than that.
     pub entered : (s t : ℕ) → is_away past s ≡ false → is_away past t ≡ false → IsOn past.changes (past.disk s) (scene s) → reading.has_current last (past.disk s) ≡ false
         → (on : IsOn past.changes (past.disk t) (scene t)) → reading.has_current last (past.disk t) ≡ true → past.changes.acked < on.number
+    -- Where a later configuration has a member that the last acknowledged one hasn't, each slot's disk that is a member of that one, and isn't
+    -- away, is still a member.
+    pub remain : (number : ℕ) (config : reading.Config) (joined : reading.Disk) (slot : ℕ) → IsSince past.changes number config → reading.has_current config joined ≡ true → reading.has_current last joined ≡ false
+        → is_away past slot ≡ false → reading.has_current last (past.disk slot) ≡ true → reading.has_current config (past.disk slot) ≡ true
     -- Where the first configuration is from elsewhere, and no slot shows a later one, the slots that show it give it together.
     pub give : past.changes.acked < past.changes.own_from
         → ((slot : ℕ) → is_away past slot ≡ false → (on : IsOn past.changes (past.disk slot) (scene slot)) → on.number ≡ past.changes.acked)

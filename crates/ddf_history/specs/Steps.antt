@@ -32,7 +32,27 @@ pub record IsShown (reading : Reading) (disk : reading.Disk) (own : Type 0) (sho
   pub shows : reading.Shows copy config
   pub is_full : own → reading.ShowsFully copy config
 
+-- Each slot's disk that is a member before a change, and isn't away, is one behind it.
+abbrev pub DoRemain : (reading : Reading) → (is_here : ℕ → Type 0) → (disk : ℕ → reading.Disk) → (last next : reading.Config) → Type 0
+DoRemain reading is_here disk last next = (slot : ℕ) → is_here slot → reading.has_current last (disk slot) ≡ true → reading.has_current next (disk slot) ≡ true
+
+-- Slots that show nothing of this group are written last: where one shows its new copy, so does each written one that showed a copy of the
+-- group alone.
+abbrev pub OthersLast : (reading : Reading) → (seats : ℕ → Bool) → (new : ℕ → reading.Copy) → (before after : Scene reading.Copy) → Type 0
+OthersLast reading seats new before after = (s t : ℕ) (copy : reading.Copy) → seats s ≡ true → ((other : reading.Copy) → IsCopyOf (before s) other → reading.is_ours other ≡ true → ⊥) → after s ≡ One (new s)
+    → seats t ≡ true → before t ≡ One copy → reading.is_ours copy ≡ true → after t ≡ One (new t)
+
+-- A slot shows a copy that shows the configuration.
+pub record HasShown (reading : Reading) (shown : Shown reading.Copy) (config : reading.Config) : Type 0 where
+  pub copy : reading.Copy
+  pub is_copy : IsCopyOf shown copy
+  pub shows : reading.Shows copy config
+
 module _ {reading : Reading} where
+  -- Each current member that isn't written shows the configuration.
+  abbrev pub OthersShow : Past reading → Scene reading.Copy → reading.Config → (seats : ℕ → Bool) → Type 0
+  OthersShow past scene config seats = (slot : ℕ) → is_away past slot ≡ false → seats slot ≡ false → reading.has_current config (past.disk slot) ≡ true → HasShown reading (scene slot) config
+
   -- The last of the issued changes.
   pub record IsLast (changes : Changes reading) (number : ℕ) (config : reading.Config) : Type 0 where
     pub since : IsSince changes number config
@@ -64,6 +84,8 @@ module _ {reading : Reading} where
   -- A change that takes in the members of another group, each in a slot of its own that shows nothing of this group.
   pub record MayJoin (past : Past reading) (scene : Scene reading.Copy) (last next : reading.Config) : Type 0 where
     pub rises : reading.sequence last < reading.sequence next
+    -- Each member stays one.
+    pub keeps : (disk : reading.Disk) → reading.has_current last disk ≡ true → reading.has_current next disk ≡ true
     pub not_again : (disk : reading.Disk) → reading.has_missing last disk ≡ true → reading.has_current next disk ≡ true → ⊥
     -- The reference of a member that joins is not that of another one, nor of a disk that shows this group.
     pub is_new : (one other : reading.Disk) → reading.has_current last one ≡ true → reading.has_current next other ≡ true → reading.reference one ≡ reading.reference other → one ≡ other

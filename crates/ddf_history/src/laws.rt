@@ -1,5 +1,5 @@
 // Laws of histories: functions that do nothing, whose contracts are the laws.
-ghost use Rattle.std.specs.Prelude.{◌≡◌, ◌<◌, ◌≤◌, ℕ, Bool, true, false, List, None, Some, slice_get};
+ghost use Rattle.std.specs.Prelude.{◌≡◌, ◌⊎◌, ◌<◌, ◌≤◌, ℕ, Bool, true, false, List, None, Some, slice_get};
 ghost use Rattle.std.specs.Str.{bytes_eq};
 ghost use Rattle.ddf_copy.specs.declared.copy.DiskCopy.{DiskCopy};
 ghost use Rattle.ddf_copy.specs.Written.{CanBeCopy};
@@ -16,11 +16,11 @@ ghost use Rattle.ddf_rewrite.specs.Copies.{changed_copy};
 ghost use Rattle.ddf_rewrite.specs.Readable.{AreRebuilt, HasOwnNames};
 ghost use Rattle.ddf_history.specs.Reading.{IsCopyOf, Scene, stands};
 ghost use Rattle.ddf_history.specs.Groups.{Disk, Shows, ShowsFully, disk_of, groups, has_current, has_missing};
-ghost use Rattle.ddf_history.specs.Issued.{Past, IsSince, acknowledge, issue, leave_out, take_off};
+ghost use Rattle.ddf_history.specs.Issued.{Past, IsSince, acknowledge, is_away, issue, leave_out, take_off};
 ghost use Rattle.ddf_history.specs.Leaders.{seen};
 ghost use Rattle.ddf_history.specs.Promise.{IsKept};
 ghost use Rattle.ddf_history.specs.Answer.{Answer, IsAnswer, IsReadable, HasMember, IsPromised};
-ghost use Rattle.ddf_history.specs.Steps.{AllShow, AreWritten, GivesAfter, IsLast, JoinLast, MayFollow, MayJoin, MayWrite};
+ghost use Rattle.ddf_history.specs.Steps.{AllShow, AreWritten, DoRemain, GivesAfter, IsLast, JoinLast, MayFollow, MayJoin, MayWrite, OthersLast, OthersShow};
 ghost use Rattle.ddf_history.specs.Calls.{AreAside, AreSure, IsAssembled, IsFound, IsFounded, IsStart, NoneAbsent};
 
 /// With a current member read, assembly gives the last acknowledged configuration or a later
@@ -51,6 +51,14 @@ pub fn a_disk_write_keeps_what_each_slot_shows()
         → JoinLast past seats new after → GivesAfter past number config after → IsKept past after }
 {}
 
+/// Where slots that show nothing of the group are written last, and each member that isn't written shows the configuration, disks that
+/// join do so last.
+pub fn disks_of_other_groups_that_are_written_last_join_last()
+    ensures { (group : List ℕ) (past : Past (groups group)) (before after : Scene View) (number : ℕ) (config : Configuration) (seats : ℕ → Bool) (new : ℕ → View)
+        → IsKept past before → MayWrite past before number config seats new → AreWritten seats new before after
+        → OthersLast (groups group) seats new before after → OthersShow past before config seats → JoinLast past seats new after }
+{}
+
 /// The copies that a change gives its seats are what is asked of copies that are written: each names its disk and the
 /// group, and shows the configuration, fully; and any two agree.
 pub fn changed_copies_may_be_written()
@@ -75,13 +83,15 @@ pub fn a_call_goes_on_from_what_it_assembled()
     ensures absent { (group : List ℕ) (past : Past (groups group)) (held scene : Scene View) (readable : ℕ → Bool) (number : ℕ) (config loss : Configuration)
         → IsAssembled past held readable config → IsSince past.changes number config → IsKept past scene
         → AreSure (groups group) readable held scene → past.changes.own_from ≤ past.changes.acked → MayFollow (groups group) config loss
-        → IsKept (issue (take_off (leave_out past readable config) number) loss) scene }
+        → DoRemain (groups group) (λ slot. readable slot ≡ true) past.disk config loss → IsKept (issue (take_off (leave_out past readable config) number) loss) scene }
 {}
 
-/// A change may follow the last one; it may take in other disks once all before it is acknowledged.
+/// A change may follow the last one, where all before it is acknowledged, or each member that isn't away remains one; it may take in other
+/// disks once all before it is acknowledged.
 pub fn a_change_is_issued_behind_the_last()
     ensures follows { (group : List ℕ) (past : Past (groups group)) (scene : Scene View) (number : ℕ) (last next : Configuration)
-        → IsKept past scene → IsLast past.changes number last → MayFollow (groups group) last next → IsKept (issue past next) scene }
+        → IsKept past scene → IsLast past.changes number last → MayFollow (groups group) last next
+        → (number ≡ past.changes.acked) ⊎ DoRemain (groups group) (λ slot. is_away past slot ≡ false) past.disk last next → IsKept (issue past next) scene }
     ensures joins { (group : List ℕ) (past : Past (groups group)) (scene : Scene View) (last next : Configuration)
         → IsKept past scene → IsLast past.changes past.changes.acked last → MayJoin past scene last next → IsKept (issue past next) scene }
 {}

@@ -12,9 +12,11 @@ use Rattle.ddf_config.specs.Configuration.{Configuration}
 use Rattle.ddf_config.specs.ElementValue.{ElementValue}
 use Rattle.ddf_config.specs.Extents.{extent, part_extents, extents, extents_on, ranges}
 use Rattle.ddf_config.specs.Room.{is_free, multiples, least_start_of, start_on}
+use Rattle.ddf_config.specs.Unusable.{passes_floor}
 use Rattle.ddf_config.specs.Refusals.{first_refusal, part_refusal}
-use Rattle.ddf_plan.specs.Create.{element_strip, placed_position, placed_element, lies_clear}
-use Rattle.ddf_plan.specs.CreateRefusal.{lacks_room, no_extent, room_refusal}
+use Rattle.ddf_plan.specs.Create.{element_strip, laid_position, laid_element, lies_clear}
+use Rattle.ddf_plan.specs.CreateRefusal.{no_extent}
+use Rattle.ddf_plan.specs.Floors.{extent_refusal, lacks_extent}
 
 both : (a b : Bool) → a ≡ true → b ≡ true → (a && b) ≡ true
 both a b p q = ap (λ x. x && b) p ∙ q
@@ -40,42 +42,50 @@ module _ (members : List (ℕ × Member)) (all : List Extent) (strip blocks : �
       by None h = absurd (cc)
       by (Some member) h = least_is_free (ranges (extents_on reference all)) member.size strip blocks start h
 
-  position_is_clear : (position : Position) → is_none (start_on members all strip blocks position.reference) ≡ false → lies_clear members all (extent blocks (placed_position members all strip blocks position)) ≡ true
+  position_is_clear : (position : Position) → is_none (start_on members all strip blocks position.reference) ≡ false → lies_clear members all (extent blocks (laid_position members all strip blocks position)) ≡ true
   position_is_clear position e = by (start_on members all strip blocks position.reference) refl e
     where
       by : (r : Option ℕ) → start_on members all strip blocks position.reference ≡ r → is_none r ≡ false → lies_clear members all (extent blocks (record position { start = unwrap_or r position.start })) ≡ true
       by None at h = absurd (cc)
       by (Some start) at h = start_is_clear position.reference start at
 
-module _ (config : Configuration) (strip blocks : ℕ) where
-  positions_are_clear : (positions : List Position) → find (lacks_room config strip blocks) positions ≡ None → list_all (lies_clear config.members (extents config.arrays)) (map (extent blocks) (map (placed_position config.members (extents config.arrays) strip blocks) positions)) ≡ true
-  positions_are_clear [] e = refl
-  positions_are_clear (position ∷ positions) e = by (lacks_room config strip blocks position) refl (positions_are_clear positions) e
+module _ (config : Configuration) (floors : List Seat) (strip blocks : ℕ) where
+  -- a position with room has a start
+  has_start : (position : Position) → lacks_extent config floors strip blocks position ≡ false → is_none (start_on config.members (extents config.arrays) strip blocks position.reference) ≡ false
+  has_start position h = by (start_on config.members (extents config.arrays) strip blocks position.reference) h
     where
-      by : (b : Bool) → lacks_room config strip blocks position ≡ b → (find (lacks_room config strip blocks) positions ≡ None → list_all (lies_clear config.members (extents config.arrays)) (map (extent blocks) (map (placed_position config.members (extents config.arrays) strip blocks) positions)) ≡ true) → cond b (Some position) (find (lacks_room config strip blocks) positions) ≡ None → list_all (lies_clear config.members (extents config.arrays)) (map (extent blocks) (map (placed_position config.members (extents config.arrays) strip blocks) (position ∷ positions))) ≡ true
+      by : (found : Option ℕ) → (elim found [ None ↦ true | Some start ↦ passes_floor floors (extent blocks (record position { start = start })) ]) ≡ false → is_none found ≡ false
+      by None at = at
+      by (Some start) at = refl
+
+  positions_are_clear : (positions : List Position) → find (lacks_extent config floors strip blocks) positions ≡ None → list_all (lies_clear config.members (extents config.arrays)) (map (extent blocks) (map (laid_position config.members (extents config.arrays) strip blocks) positions)) ≡ true
+  positions_are_clear [] e = refl
+  positions_are_clear (position ∷ positions) e = by (lacks_extent config floors strip blocks position) refl (positions_are_clear positions) e
+    where
+      by : (b : Bool) → lacks_extent config floors strip blocks position ≡ b → (find (lacks_extent config floors strip blocks) positions ≡ None → list_all (lies_clear config.members (extents config.arrays)) (map (extent blocks) (map (laid_position config.members (extents config.arrays) strip blocks) positions)) ≡ true) → cond b (Some position) (find (lacks_extent config floors strip blocks) positions) ≡ None → list_all (lies_clear config.members (extents config.arrays)) (map (extent blocks) (map (laid_position config.members (extents config.arrays) strip blocks) (position ∷ positions))) ≡ true
       by true at rest h = absurd (cc)
       by false at rest h =
-          both _ _ (position_is_clear config.members (extents config.arrays) strip blocks position at) (rest h)
+          both _ _ (position_is_clear config.members (extents config.arrays) strip blocks position (has_start position at)) (rest h)
 
-module _ (config : Configuration) (seats : List Seat) (elements : ℕ) where
-  part_is_clear : (part : Option ElementValue) → room_refusal config seats elements part ≡ None → list_all (lies_clear config.members (extents config.arrays)) (part_extents (option_map (placed_element config.members (extents config.arrays) elements) part)) ≡ true
+module _ (config : Configuration) (floors seats : List Seat) (elements : ℕ) where
+  part_is_clear : (part : Option ElementValue) → extent_refusal config floors seats elements part ≡ None → list_all (lies_clear config.members (extents config.arrays)) (part_extents (option_map (laid_element config.members (extents config.arrays) elements) part)) ≡ true
   part_is_clear None e = refl
   part_is_clear (Some element) e =
-      positions_are_clear config (element_strip elements element) element.blocks element.positions
-      (by (find (lacks_room config (element_strip elements element) element.blocks) element.positions) e)
+      positions_are_clear config floors (element_strip elements element) element.blocks element.positions
+      (by (find (lacks_extent config floors (element_strip elements element) element.blocks) element.positions) e)
     where
       by : (first : Option Position) → no_extent seats first ≡ None → first ≡ None
       by None h = refl
       by (Some position) h = absurd (cc)
 
-  pub parts_are_clear : (parts : List (Option ElementValue)) → part_refusal (room_refusal config seats elements) parts ≡ None → list_all (lies_clear config.members (extents config.arrays)) (flat_map part_extents (map (option_map (placed_element config.members (extents config.arrays) elements)) parts)) ≡ true
+  pub parts_are_clear : (parts : List (Option ElementValue)) → part_refusal (extent_refusal config floors seats elements) parts ≡ None → list_all (lies_clear config.members (extents config.arrays)) (flat_map part_extents (map (option_map (laid_element config.members (extents config.arrays) elements)) parts)) ≡ true
   parts_are_clear [] e = refl
-  parts_are_clear (part ∷ parts) e = by (room_refusal config seats elements part) refl (parts_are_clear parts) e
+  parts_are_clear (part ∷ parts) e = by (extent_refusal config floors seats elements part) refl (parts_are_clear parts) e
     where
-      by : (r : Option Refusal) → room_refusal config seats elements part ≡ r → (part_refusal (room_refusal config seats elements) parts ≡ None → list_all (lies_clear config.members (extents config.arrays)) (flat_map part_extents (map (option_map (placed_element config.members (extents config.arrays) elements)) parts)) ≡ true) → ◌≡◌ {A = Option Refusal} (elim r [ None ↦ first_refusal (map (room_refusal config seats elements) parts) | Some refusal ↦ Some refusal ]) None → list_all (lies_clear config.members (extents config.arrays)) (flat_map part_extents (map (option_map (placed_element config.members (extents config.arrays) elements)) (part ∷ parts))) ≡ true
+      by : (r : Option Refusal) → extent_refusal config floors seats elements part ≡ r → (part_refusal (extent_refusal config floors seats elements) parts ≡ None → list_all (lies_clear config.members (extents config.arrays)) (flat_map part_extents (map (option_map (laid_element config.members (extents config.arrays) elements)) parts)) ≡ true) → ◌≡◌ {A = Option Refusal} (elim r [ None ↦ first_refusal (map (extent_refusal config floors seats elements) parts) | Some refusal ↦ Some refusal ]) None → list_all (lies_clear config.members (extents config.arrays)) (flat_map part_extents (map (option_map (laid_element config.members (extents config.arrays) elements)) (part ∷ parts))) ≡ true
       by None at rest h =
           list_all-append (lies_clear config.members (extents config.arrays))
-          (part_extents (option_map (placed_element config.members (extents config.arrays) elements) part))
-          (flat_map part_extents (map (option_map (placed_element config.members (extents config.arrays) elements)) parts))
+          (part_extents (option_map (laid_element config.members (extents config.arrays) elements) part))
+          (flat_map part_extents (map (option_map (laid_element config.members (extents config.arrays) elements)) parts))
           ∙ both _ _ (part_is_clear part at) (rest h)
       by (Some refusal) at rest h = absurd (cc)

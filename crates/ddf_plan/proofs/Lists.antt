@@ -1,5 +1,5 @@
 -- Causes in order, of which the last ones stand apart.
-use Rattle.std.proofs.Common.{◌≡◌, List, [], ◌∷◌, ◌++◌, Option, Some, None, refl, ap}
+use Rattle.std.proofs.Common.{◌≡◌, List, [], ◌∷◌, ◌++◌, Option, Some, None, refl}
 use Rattle.ddf_config.specs.declared.refusal.Refusal.{Refusal}
 use Rattle.ddf_config.specs.Refusals.{first_refusal}
 

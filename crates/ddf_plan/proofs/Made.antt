@@ -25,9 +25,13 @@ use Rattle.ddf_config.proofs.Entries.{absent_changed}
 use Rattle.ddf_config.proofs.Firsts.{all_pass}
 use Rattle.ddf_plan.specs.declared.change.Change.TheVariants.{Create}
 use Rattle.ddf_plan.specs.Refusals.{not_current, refuse_first, spent}
-use Rattle.ddf_plan.specs.Create.{element_strip, placed_position, placed_element, created, lies_clear}
-use Rattle.ddf_plan.specs.CreateRefusal.{references, has_named, names_twice, is_no_shape, is_spare_disk, room_refusal}
-use Rattle.ddf_plan.specs.Changes.{refusal_of, after, members_after, array_after, kept_and_added, changed}
+use Rattle.ddf_plan.specs.Create.{element_strip, laid_position, laid_element, created, lies_clear}
+use Rattle.ddf_plan.specs.Floors.{extents_refusal}
+use Rattle.ddf_plan.specs.CreateRefusal.{references, has_named, names_twice, is_no_shape, is_spare_disk}
+use Rattle.ddf_plan.specs.Members.{members_after}
+use Rattle.ddf_plan.specs.Arrays.{kept_array, kept_and_added}
+use Rattle.ddf_plan.specs.Causes.{refusal_of}
+use Rattle.ddf_plan.specs.Changes.{after, changed}
 use Rattle.ddf_plan.proofs.Afters.{is_changed, new_guid}
 use Rattle.ddf_plan.proofs.Clear.{parts_are_clear}
 
@@ -50,18 +54,18 @@ not_refused false refusal h = refl
 
 -- a position keeps its disk
 module _ (members : List (ℕ × Member)) (all : List Extent) where
-  positions_kept : (strip blocks : ℕ) (positions : List Position) → map (λ (one : Extent). one.reference) (map (extent blocks) (map (placed_position members all strip blocks) positions)) ≡ map (λ (one : Extent). one.reference) (map (extent blocks) positions)
+  positions_kept : (strip blocks : ℕ) (positions : List Position) → map (λ (one : Extent). one.reference) (map (extent blocks) (map (laid_position members all strip blocks) positions)) ≡ map (λ (one : Extent). one.reference) (map (extent blocks) positions)
   positions_kept strip blocks [] = refl
   positions_kept strip blocks (position ∷ positions) = ap (λ l. position.reference ∷ l) (positions_kept strip blocks positions)
 
-  references_kept : (elements : ℕ) (parts : List (Option ElementValue)) → map (λ (one : Extent). one.reference) (flat_map part_extents (map (option_map (placed_element members all elements)) parts)) ≡ map (λ (one : Extent). one.reference) (flat_map part_extents parts)
+  references_kept : (elements : ℕ) (parts : List (Option ElementValue)) → map (λ (one : Extent). one.reference) (flat_map part_extents (map (option_map (laid_element members all elements)) parts)) ≡ map (λ (one : Extent). one.reference) (flat_map part_extents parts)
   references_kept elements [] = refl
   references_kept elements (None ∷ parts) = references_kept elements parts
   references_kept elements (Some element ∷ parts) =
       map-append (λ (one : Extent). one.reference)
-      (map (extent element.blocks) (map (placed_position members all (element_strip elements element) element.blocks) element.positions))
-      (flat_map part_extents (map (option_map (placed_element members all elements)) parts))
-      ∙ ap (λ l. l ++ map (λ (one : Extent). one.reference) (flat_map part_extents (map (option_map (placed_element members all elements)) parts)))
+      (map (extent element.blocks) (map (laid_position members all (element_strip elements element) element.blocks) element.positions))
+      (flat_map part_extents (map (option_map (laid_element members all elements)) parts))
+      ∙ ap (λ l. l ++ map (λ (one : Extent). one.reference) (flat_map part_extents (map (option_map (laid_element members all elements)) parts)))
       (positions_kept (element_strip elements element) element.blocks element.positions)
       ∙ ap (λ l. map (λ (one : Extent). one.reference) (map (extent element.blocks) element.positions) ++ l) (references_kept elements parts)
       ∙ sym (map-append (λ (one : Extent). one.reference) (map (extent element.blocks) element.positions) (flat_map part_extents parts))
@@ -74,9 +78,9 @@ module _ (config next : Configuration) (guid : List ℕ) (array made : Array) (s
   in_table : lookup (same_guid guid) (changed config (Create guid array)).arrays ≡ Some (low (created config.members (extents config.arrays) array))
   in_table =
       found_last (λ key value. low value) (same_guid guid)
-      (changed_entries (array_after (members_after config (Create guid array)) (Create guid array)) config.arrays) guid
+      (changed_entries (kept_array (members_after config (Create guid array)) (Create guid array)) config.arrays) guid
       (created config.members (extents config.arrays) array)
-      (absent_changed (array_after (members_after config (Create guid array)) (Create guid array)) (same_guid guid) config.arrays
+      (absent_changed (kept_array (members_after config (Create guid array)) (Create guid array)) (same_guid guid) config.arrays
       (new_guid config (Create guid array) seats (is_changed config next (Create guid array) seats e).0))
       (nat_list_eq_equiv.refl guid)
 
@@ -89,9 +93,10 @@ module _ (config next : Configuration) (guid : List ℕ) (array made : Array) (s
   no_refusal = (is_changed config next (Create guid array) seats e).0
 
   pub made_is_clear : list_all (lies_clear config.members (extents config.arrays)) (array_extents made) ≡ true
+  unfolding extents_refusal
   made_is_clear =
       ap (λ (a : Array). list_all (lies_clear config.members (extents config.arrays)) (array_extents a)) is_created
-      ∙ parts_are_clear config seats (length array.elements) array.elements
+      ∙ parts_are_clear config [] seats (length array.elements) array.elements
       (all_pass
       (not_current config seats (references array)
       ∷ refuse_if (has_named config array.name) NameTaken
@@ -100,7 +105,7 @@ module _ (config next : Configuration) (guid : List ℕ) (array made : Array) (s
       ∷ refuse_if (is_some (lookup (same_guid guid) config.arrays)) (Clash guid)
       ∷ refuse_first seats (is_spare_disk config) InUse (references array)
       ∷ [])
-      (part_refusal (room_refusal config seats (length array.elements)) array.elements)
+      (extents_refusal config (Create guid array) [] seats)
       (spent config.sequence 1 ∷ []) no_refusal)
 
   pub made_names_none_twice : names_twice (references made) ≡ false
@@ -117,7 +122,7 @@ module _ (config next : Configuration) (guid : List ℕ) (array made : Array) (s
       (refuse_if (is_no_shape array) Shape)
       (refuse_if (is_some (lookup (same_guid guid) config.arrays)) (Clash guid)
       ∷ refuse_first seats (is_spare_disk config) InUse (references array)
-      ∷ part_refusal (room_refusal config seats (length array.elements)) array.elements
+      ∷ extents_refusal config (Create guid array) [] seats
       ∷ spent config.sequence 1
       ∷ [])
       no_refusal))

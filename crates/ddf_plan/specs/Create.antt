@@ -10,24 +10,25 @@ use Rattle.ddf_config.specs.Within.{is_redundant}
 use Rattle.ddf_config.specs.Extents.{extents_on, ranges}
 use Rattle.ddf_config.specs.Room.{is_free, start_on}
 use Rattle.ddf_config.specs.Shapes.{strip_sectors}
+use Rattle.ddf_plan.specs.Mark.{mark}
 
 -- the sectors of a strip; an element without a strip is refused before this matters
 abbrev pub element_strip : ℕ → ElementValue → ℕ
 element_strip elements element = unwrap_or (strip_sectors elements element) 1
 
 -- a position at its start; one without room stays, and the change is refused
-abbrev pub placed_position : List (ℕ × Member) → List Extent → ℕ → ℕ → Position → Position
-placed_position members all strip blocks position =
+abbrev pub laid_position : List (ℕ × Member) → List Extent → ℕ → ℕ → Position → Position
+laid_position members all strip blocks position =
     record position { start = unwrap_or (start_on members all strip blocks position.reference) position.start }
 
-abbrev pub placed_element : List (ℕ × Member) → List Extent → ℕ → ElementValue → ElementValue
-placed_element members all elements element =
+abbrev pub laid_element : List (ℕ × Member) → List Extent → ℕ → ElementValue → ElementValue
+laid_element members all elements element =
     with_positions element
-    (map (placed_position members all (element_strip elements element) element.blocks) element.positions)
+    (map (laid_position members all (element_strip elements element) element.blocks) element.positions)
 
-abbrev pub placed_parts : List (ℕ × Member) → List Extent → Array → List (Option ElementValue)
-placed_parts members all array =
-    map (option_map (placed_element members all (length array.elements))) array.elements
+abbrev pub laid_parts : List (ℕ × Member) → List Extent → Array → List (Option ElementValue)
+laid_parts members all array =
+    map (option_map (laid_element members all (length array.elements))) array.elements
 
 -- that an extent ends within the configured size of its member's disk, and has no sector of these others
 abbrev pub lies_clear : List (ℕ × Member) → List Extent → Extent → Bool
@@ -37,10 +38,6 @@ lies_clear members all one =
       | Some member ↦ is_free (ranges (extents_on one.reference all)) member.size one.blocks one.start
     ]
 
--- the mark, not consistent: bit 4
-abbrev pub mark : ℕ
-mark = 0x10
-
 -- a new array is marked where it is redundant, since nothing made its disks agree; every other bit is 0,
 -- its low state aside
 abbrev pub created_state : Array → ℕ
@@ -48,4 +45,4 @@ created_state array = if is_redundant array then mark else 0x00
 
 abbrev pub created : List (ℕ × Member) → List Extent → Array → Array
 created members all array =
-    record array { elements = placed_parts members all array; state = created_state array }
+    record array { elements = laid_parts members all array; state = created_state array }

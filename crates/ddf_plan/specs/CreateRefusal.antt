@@ -1,5 +1,5 @@
 -- Why an array can't be created.
-use Rattle.std.specs.Prelude.{ℕ, Bool, false, not, ◌||◌, List, [], ◌∷◌, ◌++◌, Option, Some, None, map, find, length, is_some, is_none, nat_eq, nat_lt, option_map}
+use Rattle.std.specs.Prelude.{ℕ, Bool, false, not, ◌||◌, List, [], ◌∷◌, Option, Some, None, map, find, length, is_some, nat_eq, nat_lt, option_map}
 use Rattle.std.specs.Map.{lookup}
 use Rattle.std.specs.List.{list_any}
 use Rattle.std.specs.Cmp.Lexicographic.{pointwise}
@@ -13,13 +13,11 @@ use Rattle.ddf_config.specs.ElementValue.{ElementValue}
 use Rattle.ddf_config.specs.Configuration.{Configuration}
 use Rattle.ddf_config.specs.Members.{same_guid, is_spare}
 use Rattle.ddf_config.specs.Seats.{slot_of}
-use Rattle.ddf_config.specs.Extents.{extents, array_extents}
-use Rattle.ddf_config.specs.Room.{start_on}
+use Rattle.ddf_config.specs.Extents.{array_extents}
 use Rattle.ddf_config.specs.Shapes.{has_shapes, has_tiers}
 use Rattle.ddf_config.specs.Levels.{unserved_level}
-use Rattle.ddf_config.specs.Refusals.{first_refusal, refuse_if, part_refusal}
-use Rattle.ddf_plan.specs.Refusals.{not_current, refuse_first, spent}
-use Rattle.ddf_plan.specs.Create.{element_strip}
+use Rattle.ddf_config.specs.Refusals.{refuse_if}
+use Rattle.ddf_plan.specs.Refusals.{not_current, refuse_first}
 
 -- the references of an array's positions, by element and position
 abbrev pub references : Array → List ℕ
@@ -54,25 +52,9 @@ abbrev pub is_spare_disk : Configuration → ℕ → Bool
 is_spare_disk config reference =
     elim (lookup (nat_eq reference) config.members) [ None ↦ false | Some member ↦ is_spare member.spare ]
 
--- a position for which there is no start
-abbrev pub lacks_room : Configuration → ℕ → ℕ → Position → Bool
-lacks_room config strip blocks position =
-    is_none (start_on config.members (extents config.arrays) strip blocks position.reference)
-
+-- the first position without room
 abbrev pub no_extent : List Seat → Option Position → Option Refusal
 no_extent seats first = option_map (λ (position : Position). NoExtent (slot_of seats position.reference)) first
-
-abbrev pub room_refusal : Configuration → List Seat → ℕ → Option ElementValue → Option Refusal
-room_refusal config seats elements part =
-    elim part [
-      | None ↦ None
-      | Some element ↦
-          no_extent seats (find (lacks_room config (element_strip elements element) element.blocks) element.positions)
-    ]
-
--- that of the array: the first position without room
-abbrev pub create_room : Configuration → List Seat → Array → Option Refusal
-create_room config seats array = part_refusal (room_refusal config seats (length array.elements)) array.elements
 
 -- in order: each disk is a current member, the name is new, each level is served, the numbers make an array whose elements
 -- have no more members than the bound, the GUID is new, and no disk is a spare
@@ -85,8 +67,3 @@ create_causes most config seats guid array =
     ∷ refuse_if (is_some (lookup (same_guid guid) config.arrays)) (Clash guid)
     ∷ refuse_first seats (is_spare_disk config) InUse (references array)
     ∷ []
-
--- behind these: each disk has room, and the sequence number has a step left
-abbrev pub create_refusal : Configuration → List Seat → List ℕ → Array → Option Refusal
-create_refusal config seats guid array =
-    first_refusal (create_causes None config seats guid array ++ create_room config seats array ∷ spent config.sequence 1 ∷ [])

@@ -1,14 +1,11 @@
 -- What is left of spares without an array, and why an array can't be deleted.
-use Rattle.std.specs.Prelude.{ℕ, not, List, [], ◌∷◌, ◌++◌, Option, filter, is_none}
-use Rattle.std.specs.Map.{lookup}
+use Rattle.std.specs.Prelude.{ℕ, not, List, [], ◌∷◌, Option, filter}
 use Rattle.ddf_config.specs.declared.member.SpareUse.{SpareUse}
 use Rattle.ddf_config.specs.declared.member.SpareUse.TheVariants.{No, Global, Dedicated}
 use Rattle.ddf_config.specs.declared.refusal.Refusal.{Refusal}
-use Rattle.ddf_config.specs.declared.refusal.Refusal.TheVariants.{NoArray}
 use Rattle.ddf_config.specs.Configuration.{Configuration}
 use Rattle.ddf_config.specs.Members.{same_guid}
-use Rattle.ddf_config.specs.Refusals.{first_refusal, refuse_if}
-use Rattle.ddf_plan.specs.Refusals.{spent}
+use Rattle.ddf_plan.specs.Refusals.{no_array}
 
 -- a spare for no array is none
 abbrev pub dedicated : List (List ℕ) → SpareUse
@@ -21,13 +18,6 @@ use_without guid No = No
 use_without guid Global = Global
 use_without guid (Dedicated guids) = dedicated (filter (λ other. not (same_guid guid other)) guids)
 
--- an array that isn't there
-abbrev pub no_array : Configuration → List ℕ → Option Refusal
-no_array config guid = refuse_if (is_none (lookup (same_guid guid) config.arrays)) NoArray
-
+-- the array is there
 abbrev pub delete_causes : Configuration → List ℕ → List (Option Refusal)
 delete_causes config guid = no_array config guid ∷ []
-
--- in order: the array is there, and the sequence number has a step left
-abbrev pub delete_refusal : Configuration → List ℕ → Option Refusal
-delete_refusal config guid = first_refusal (delete_causes config guid ++ spent config.sequence 1 ∷ [])

@@ -1,5 +1,5 @@
 -- Why a disk can't be counted as failed. What the failure makes of the configuration is what a loss makes of it.
-use Rattle.std.specs.Prelude.{ℕ, Bool, not, ◌&&◌, List, [], ◌∷◌, ◌++◌, Option, count_by, nat_le}
+use Rattle.std.specs.Prelude.{ℕ, Bool, not, ◌&&◌, List, [], ◌∷◌, Option, count_by, nat_le}
 use Rattle.std.specs.List.{list_any}
 use Rattle.ddf_config.specs.declared.member.Member.{Member}
 use Rattle.ddf_config.specs.declared.array.Array.{Array}
@@ -9,8 +9,8 @@ use Rattle.ddf_config.specs.declared.refusal.Refusal.TheVariants.{InUse, Lost}
 use Rattle.ddf_config.specs.Configuration.{Configuration}
 use Rattle.ddf_config.specs.Seats.{slot_of}
 use Rattle.ddf_config.specs.Within.{is_available, is_within}
-use Rattle.ddf_config.specs.Refusals.{first_refusal, refuse_if}
-use Rattle.ddf_plan.specs.Refusals.{not_current, spent}
+use Rattle.ddf_config.specs.Refusals.{refuse_if}
+use Rattle.ddf_plan.specs.Refusals.{not_current}
 
 -- that no more than one member is current
 abbrev pub is_last : Configuration → Bool
@@ -32,8 +32,3 @@ fail_causes config members_after seats reference =
     ∷ refuse_if (is_last config) (InUse (slot_of seats reference))
     ∷ refuse_if (any_would_be_lost config members_after) Lost
     ∷ []
-
--- behind these: the sequence number has two steps left
-abbrev pub fail_refusal : Configuration → List (ℕ × Member) → List Seat → ℕ → Option Refusal
-fail_refusal config members_after seats reference =
-    first_refusal (fail_causes config members_after seats reference ++ spent config.sequence 2 ∷ [])

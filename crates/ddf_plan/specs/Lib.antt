@@ -1,11 +1,15 @@
 pub mod Refusals
 pub mod Lose
+pub mod Mark
 pub mod Create
 pub mod CreateRefusal
 pub mod Delete
 pub mod Spare
 pub mod Fail
-pub mod Changes
-pub mod Causes
+pub mod Rebuild
+pub mod Members
+pub mod Arrays
 pub mod Floors
+pub mod Causes
+pub mod Changes
 pub mod Same

@@ -1,5 +1,5 @@
--- What the loss of disks makes of members and arrays, and why disks can't be lost.
-use Rattle.std.specs.Prelude.{ℕ, Bool, true, false, ◌&&◌, List, [], ◌∷◌, ◌++◌, Option, map, option_map, nat_eq, if◌then◌else◌}
+-- What the loss of disks makes of arrays, and why disks can't be lost.
+use Rattle.std.specs.Prelude.{ℕ, Bool, false, ◌&&◌, List, [], ◌∷◌, Option, map, option_map, nat_eq, if◌then◌else◌}
 use Rattle.std.specs.List.{list_any}
 use Rattle.ddf_config.specs.declared.member.Member.{Member}
 use Rattle.ddf_config.specs.declared.element.Position.{Position}
@@ -9,16 +9,10 @@ use Rattle.ddf_config.specs.declared.refusal.Refusal.{Refusal}
 use Rattle.ddf_config.specs.Configuration.{Configuration}
 use Rattle.ddf_config.specs.ElementValue.{ElementValue, with_positions}
 use Rattle.ddf_config.specs.Within.{is_available, is_part_within, is_mirrored}
-use Rattle.ddf_config.specs.Refusals.{first_refusal}
-use Rattle.ddf_plan.specs.Refusals.{not_current, spent}
+use Rattle.ddf_plan.specs.Refusals.{not_current}
 
 abbrev pub is_among : List ℕ → ℕ → Bool
 is_among references reference = list_any (nat_eq reference) references
-
--- a lost member stays in the table as missing, with its use as a spare
-abbrev pub lost_member : List ℕ → ℕ → Member → Member
-lost_member references reference member =
-    if is_among references reference then record member { missing = true } else member
 
 -- out of sync, with no row rebuilt
 abbrev pub out_of_sync : Position → Position
@@ -55,10 +49,6 @@ abbrev pub lost_array : List (ℕ × Member) → List ℕ → Array → Array
 lost_array members references array =
     record array { elements = mirrored_parts members array (lost_parts references array) }
 
+-- each is a current member
 abbrev pub lose_causes : Configuration → List Seat → List ℕ → List (Option Refusal)
 lose_causes config seats references = not_current config seats references ∷ []
-
--- in order: each is a current member, and the sequence number has two steps left
-abbrev pub lose_refusal : Configuration → List Seat → List ℕ → Option Refusal
-lose_refusal config seats references =
-    first_refusal (lose_causes config seats references ++ spent config.sequence 2 ∷ [])

@@ -1,10 +1,11 @@
 -- Causes that several changes share.
-use Rattle.std.specs.Prelude.{ℕ, ◌+◌, Bool, not, List, Option, find, nat_le, option_map}
+use Rattle.std.specs.Prelude.{ℕ, ◌+◌, Bool, not, List, Option, find, is_none, nat_le, option_map}
+use Rattle.std.specs.Map.{lookup}
 use Rattle.ddf_config.specs.declared.seat.Seat.{Seat}
 use Rattle.ddf_config.specs.declared.refusal.Refusal.{Refusal}
-use Rattle.ddf_config.specs.declared.refusal.Refusal.TheVariants.{NotMember, SequenceSpent}
+use Rattle.ddf_config.specs.declared.refusal.Refusal.TheVariants.{NoArray, NotMember, SequenceSpent}
 use Rattle.ddf_config.specs.Configuration.{Configuration}
-use Rattle.ddf_config.specs.Members.{is_current}
+use Rattle.ddf_config.specs.Members.{is_current, same_guid}
 use Rattle.ddf_config.specs.Seats.{slot_of}
 use Rattle.ddf_config.specs.Refusals.{refuse_if}
 
@@ -25,3 +26,7 @@ refuse_first seats test refusal references =
 abbrev pub not_current : Configuration → List Seat → List ℕ → Option Refusal
 not_current config seats references =
     refuse_first seats (λ reference. not (is_current config.members reference)) NotMember references
+
+-- an array that isn't there
+abbrev pub no_array : Configuration → List ℕ → Option Refusal
+no_array config guid = refuse_if (is_none (lookup (same_guid guid) config.arrays)) NoArray

@@ -1,5 +1,5 @@
 -- The use of a disk as a spare, and why it can't have it.
-use Rattle.std.specs.Prelude.{ℕ, Bool, false, not, List, [], ◌∷◌, ◌++◌, Option, Some, None, filter, is_some, nat_eq}
+use Rattle.std.specs.Prelude.{ℕ, Bool, false, not, List, [], ◌∷◌, Option, Some, None, filter, is_some, nat_eq}
 use Rattle.std.specs.Map.{lookup, keys_of}
 use Rattle.std.specs.List.{list_any, list_all}
 use Rattle.ddf_config.specs.declared.member.SpareUse.{SpareUse}
@@ -13,8 +13,8 @@ use Rattle.ddf_config.specs.Configuration.{Configuration}
 use Rattle.ddf_config.specs.ElementValue.{ElementValue}
 use Rattle.ddf_config.specs.Members.{same_guid}
 use Rattle.ddf_config.specs.Seats.{slot_of}
-use Rattle.ddf_config.specs.Refusals.{first_refusal, refuse_if}
-use Rattle.ddf_plan.specs.Refusals.{not_current, spent}
+use Rattle.ddf_config.specs.Refusals.{refuse_if}
+use Rattle.ddf_plan.specs.Refusals.{not_current}
 
 -- the use with its arrays in table order
 abbrev pub use_in_order : List (List ℕ × Array) → SpareUse → SpareUse
@@ -56,8 +56,3 @@ spare_causes config seats reference use_as =
     ∷ refuse_if (lacks_array config use_as) NoArray
     ∷ refuse_if (holds_extent config reference) (InUse (slot_of seats reference))
     ∷ []
-
--- behind these: the sequence number has a step left
-abbrev pub spare_refusal : Configuration → List Seat → ℕ → SpareUse → Option Refusal
-spare_refusal config seats reference use_as =
-    first_refusal (spare_causes config seats reference use_as ++ spent config.sequence 1 ∷ [])

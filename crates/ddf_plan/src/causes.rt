@@ -1,16 +1,21 @@
-//! Why a change is refused, the room for extents and the sequence number aside.
-ghost use Rattle.std.specs.Prelude.{◌≡◌, IfOk};
-ghost use Rattle.ddf_plan.specs.Causes.{causes};
+//! Why a change is refused.
+ghost use Rattle.std.specs.Prelude.{◌≡◌, [], ◌∷◌, ◌++◌, IfOk};
+ghost use Rattle.ddf_config.specs.Refusals.{first_refusal};
+ghost use Rattle.ddf_plan.specs.Refusals.{not_current, spent};
+ghost use Rattle.ddf_plan.specs.Rebuild.{position_causes};
+ghost use Rattle.ddf_plan.specs.Causes.{causes, causes_of, steps_of, refusal_of};
 ghost use Rattle.ddf_plan.specs.declared.change.Change.TheVariants.{Fail};
 
-use crate::applying::members_after;
 use crate::create_refusal::create_cause;
-use crate::delete::no_array;
 use crate::fail::fail_cause;
-use crate::refuse::not_current;
+use crate::floors::extents_refusal;
+use crate::members::members_after;
+use crate::rebuild::{no_holder, no_position};
+use crate::refuse::{no_array, not_current, spent};
 use crate::spare::spare_cause;
 use crate::{Change, Config, Refusal, Seat};
-use ddf_bytes::NoMemory;
+use ddf_bytes::{Guid, NoMemory};
+use ddf_config::first_refusal;
 use std::alloc::Global;
 
 /// Why a disk can't count as failed, the sequence number aside.
@@ -30,6 +35,23 @@ fn failing_cause(
     Ok(fail_cause(config, &members, seats, failed))
 }
 
+/// Why a rebuild onto a disk can't begin.
+fn begin_cause(
+    config: &Config,
+    seats: &[Seat],
+    array: Guid,
+    element: u8,
+    position: u16,
+    reference: u32,
+) -> Option<Refusal>
+    ensures { result ≡ first_refusal (position_causes config.now array element position ++ not_current config.now seats.now (reference ∷ []) ∷ []) }
+{
+    if let Some(refusal) = no_position(config, array, element, position) {
+        return Some(refusal);
+    }
+    not_current(config, seats, &[reference])
+}
+
 /// Why a change is refused, by the configuration and the bound alone: the first of its refusals, of which `NoExtent` and
 /// `SequenceSpent` don't count. None where no other holds. A refusal that names a slot names that of the member's seat, 64
 /// where it has none.
@@ -39,6 +61,8 @@ fn failing_cause(
 /// - `Delete`: `NoArray`
 /// - `Spare`: `NotMember`, `NoArray`, `InUse`
 /// - `Fail`: `NotMember`, `InUse`, `Lost`
+/// - `Mark`, `Unmark`: `NoArray`
+/// - `Begin`, `Progress`, `Finish`: `NoArray`, `Shape`, `NotMember`
 ///
 /// `Shape` holds also where an element of a new array has more members than `most`, the greatest number that a record of
 /// the group's disks has room for. With no bound that isn't asked.
@@ -61,5 +85,63 @@ pub fn cause(
         Change::Delete(guid) => Ok(no_array(config, *guid)),
         Change::Spare(spare, use_as) => Ok(spare_cause(config, seats, *spare, use_as)),
         Change::Fail(failed) => failing_cause(alloc, config, change, seats, *failed, most),
+        Change::Mark(guid) => Ok(no_array(config, *guid)),
+        Change::Unmark(guid, _) => Ok(no_array(config, *guid)),
+        Change::Begin {
+            array,
+            element,
+            position,
+            reference,
+            ..
+        } => Ok(begin_cause(config, seats, *array, *element, *position, *reference)),
+        Change::Progress {
+            array,
+            element,
+            position,
+            ..
+        } => Ok(no_holder(config, seats, *array, *element, *position)),
+        Change::Finish {
+            array,
+            element,
+            position,
+        } => Ok(no_holder(config, seats, *array, *element, *position)),
     }
+}
+
+/// By how much a change raises the sequence number: 2 where disks are lost or fail, 1 otherwise.
+pub fn steps_of(change: &Change) -> u32
+    ensures { result ≡ steps_of change.now }
+{
+    match change {
+        Change::Lose(_) | Change::Fail(_) => 2,
+        Change::Create(_, _)
+        | Change::Delete(_)
+        | Change::Spare(_, _)
+        | Change::Mark(_)
+        | Change::Unmark(_, _)
+        | Change::Begin { .. }
+        | Change::Progress { .. }
+        | Change::Finish { .. } => 1,
+    }
+}
+
+/// That the sequence number has the steps of a change left.
+fn spent_by(config: &Config, change: &Change) -> Option<Refusal>
+    ensures { result ≡ spent config.now.sequence (steps_of change.now) }
+{
+    spent(config.sequence, steps_of(change))
+}
+
+/// Why there is no configuration after a change.
+pub(crate) fn refusal_of(
+    alloc: Global,
+    config: &Config,
+    change: &Change,
+    seats: &[Seat],
+) -> Result<Option<Refusal>, NoMemory>
+    ensures { IfOk result (λ refusal. refusal ≡ refusal_of config.now change.now seats.now) }
+{
+    let cause = cause(alloc, config, change, seats, None)?;
+    let room = extents_refusal(alloc, config, change, &[], seats)?;
+    Ok(first_refusal(&[cause, room, spent_by(config, change)]))
 }

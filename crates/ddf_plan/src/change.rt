@@ -5,7 +5,7 @@ use ddf_config::{Array, SpareUse};
 use std::alloc::Global;
 
 /// A change of a configuration.
-#[derive(Debug, Drop)]
+#[derive(Drop)]
 pub enum Change {
     /// The disks with these references are gone.
     Lose(Seq<u32>),
@@ -17,6 +17,43 @@ pub enum Change {
     Spare(u32, SpareUse),
     /// The member with this reference counts as failed.
     Fail(u32),
+    /// The array is marked as not consistent.
+    Mark(Guid),
+    /// The mark of the array is cleared. The low two bits tell how far it is initialized.
+    Unmark(Guid, u8),
+    /// A position of the array gets another disk, from this start on, and is to be rebuilt.
+    Begin {
+        /// The GUID of the array.
+        array: Guid,
+        /// The place of the element in the array.
+        element: u8,
+        /// The place of the position in the element.
+        position: u16,
+        /// The reference of the disk, a spare.
+        reference: u32,
+        /// The LBA of the extent's first sector on it.
+        start: u64,
+    },
+    /// The rebuild of a position has set so many rows.
+    Progress {
+        /// The GUID of the array.
+        array: Guid,
+        /// The place of the element in the array.
+        element: u8,
+        /// The place of the position in the element.
+        position: u16,
+        /// The rows from row 0 on.
+        row: u64,
+    },
+    /// The rebuild of a position is done.
+    Finish {
+        /// The GUID of the array.
+        array: Guid,
+        /// The place of the element in the array.
+        element: u8,
+        /// The place of the position in the element.
+        position: u16,
+    },
 }
 
 impl Change {
@@ -42,6 +79,41 @@ impl Change {
                 Ok(Change::Spare(*reference, use_as))
             }
             Change::Fail(reference) => Ok(Change::Fail(*reference)),
+            Change::Mark(guid) => Ok(Change::Mark(*guid)),
+            Change::Unmark(guid, init) => Ok(Change::Unmark(*guid, *init)),
+            Change::Begin {
+                array,
+                element,
+                position,
+                reference,
+                start,
+            } => Ok(Change::Begin {
+                array: *array,
+                element: *element,
+                position: *position,
+                reference: *reference,
+                start: *start,
+            }),
+            Change::Progress {
+                array,
+                element,
+                position,
+                row,
+            } => Ok(Change::Progress {
+                array: *array,
+                element: *element,
+                position: *position,
+                row: *row,
+            }),
+            Change::Finish {
+                array,
+                element,
+                position,
+            } => Ok(Change::Finish {
+                array: *array,
+                element: *element,
+                position: *position,
+            }),
         }
     }
 }

@@ -1,18 +1,16 @@
 //! A new array: where its extents lie, and its state.
 ghost use Rattle.std.specs.Prelude.{◌≡◌, ◌≤◌, length, map, option_map, IfOk};
-ghost use Rattle.ddf_plan.specs.Create.{element_strip, placed_position, placed_element, placed_parts, created_state, created};
+ghost use Rattle.ddf_plan.specs.Create.{element_strip, laid_position, laid_element, laid_parts, created_state, created};
 
+use crate::mark::MARK;
 use arrayvec::ArrayVec;
 use ddf_bytes::{NoMemory, Seq};
 use ddf_config::{Array, ElementPlan, Extent, Member, Position, start_on, strip_sectors};
 use indexmap::IndexMap;
 use std::alloc::Global;
 
-/// The mark of an array that isn't consistent.
-const MARK: u8 = 0x10;
-
 /// The sectors of a strip of an element of an array with so many elements.
-pub(crate) fn element_strip(elements: usize, element: &ElementPlan) -> u64
+pub fn element_strip(elements: usize, element: &ElementPlan) -> u64
     ensures value { result ≡ element_strip elements element.now }
     ensures some { 1 ≤ result }
 {
@@ -22,7 +20,7 @@ pub(crate) fn element_strip(elements: usize, element: &ElementPlan) -> u64
     }
 }
 
-fn placed_position(
+fn laid_position(
     alloc: Global,
     members: &IndexMap<u32, Member>,
     all: &[Extent],
@@ -31,7 +29,7 @@ fn placed_position(
     position: Position,
 ) -> Result<Position, NoMemory>
     requires { 1 ≤ strip }
-    ensures { IfOk result (λ placed. placed ≡ placed_position members.now.entries all.now strip blocks position) }
+    ensures { IfOk result (λ placed. placed ≡ laid_position members.now.entries all.now strip blocks position) }
 {
     let start = start_on(alloc, members, all, strip, blocks, position.reference)?;
     Ok(Position {
@@ -40,7 +38,7 @@ fn placed_position(
     })
 }
 
-fn placed_positions(
+fn laid_positions(
     alloc: Global,
     members: &IndexMap<u32, Member>,
     all: &[Extent],
@@ -50,28 +48,28 @@ fn placed_positions(
 ) -> Result<ArrayVec<Position, 64>, NoMemory>
     requires strip { 1 ≤ strip }
     requires few { length positions.now ≤ 64 }
-    ensures { IfOk result (λ placed. placed.items ≡ map (placed_position members.now.entries all.now strip blocks) positions.now) }
+    ensures { IfOk result (λ placed. placed.items ≡ map (laid_position members.now.entries all.now strip blocks) positions.now) }
 {
     let mut placed = ArrayVec::new();
     for position in positions {
-        placed.push(placed_position(alloc, members, all, strip, blocks, *position)?);
+        placed.push(laid_position(alloc, members, all, strip, blocks, *position)?);
     }
     Ok(placed)
 }
 
-fn placed_part(
+fn laid_part(
     alloc: Global,
     members: &IndexMap<u32, Member>,
     all: &[Extent],
     elements: usize,
     part: &Option<ElementPlan>,
 ) -> Result<Option<ElementPlan>, NoMemory>
-    ensures { IfOk result (λ placed. placed ≡ option_map (placed_element members.now.entries all.now elements) part.now) }
+    ensures { IfOk result (λ placed. placed ≡ option_map (laid_element members.now.entries all.now elements) part.now) }
 {
     match part {
         Some(element) => {
             let strip = element_strip(elements, element);
-            let positions = placed_positions(
+            let positions = laid_positions(
                 alloc,
                 members,
                 all,
@@ -85,18 +83,18 @@ fn placed_part(
     }
 }
 
-fn placed_parts(
+fn laid_parts(
     alloc: Global,
     members: &IndexMap<u32, Member>,
     all: &[Extent],
     array: &Array,
 ) -> Result<Vec<Option<ElementPlan>>, NoMemory>
-    ensures { IfOk result (λ placed. placed.items ≡ placed_parts members.now.entries all.now array.now) }
+    ensures { IfOk result (λ placed. placed.items ≡ laid_parts members.now.entries all.now array.now) }
 {
     let parts = array.elements.items();
     let mut placed = Vec::with_capacity(alloc, parts.len())?;
     for part in parts {
-        let next = placed_part(alloc, members, all, parts.len(), part)?;
+        let next = laid_part(alloc, members, all, parts.len(), part)?;
         placed.push(next)?;
     }
     Ok(placed)
@@ -117,7 +115,7 @@ pub(crate) fn created(
 ) -> Result<Array, NoMemory>
     ensures { IfOk result (λ new. new ≡ created members.now.entries all.now array.now) }
 {
-    let parts = placed_parts(alloc, members, all, array)?;
+    let parts = laid_parts(alloc, members, all, array)?;
     Ok(Array {
         name: array.name,
         number: array.number,

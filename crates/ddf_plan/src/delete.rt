@@ -1,33 +1,11 @@
-//! An array that is no more.
+//! What is left of spares where an array is no more.
 ghost use Rattle.std.specs.Prelude.{◌≡◌, IfOk, not, filter};
 ghost use Rattle.ddf_config.specs.Members.{same_guid};
-ghost use Rattle.ddf_plan.specs.Delete.{dedicated, use_without, no_array, delete_refusal};
+ghost use Rattle.ddf_plan.specs.Delete.{dedicated, use_without};
 
-use crate::refuse::spent;
 use ddf_bytes::{Guid, NoMemory, Seq};
-use ddf_config::{Config, Refusal, SpareUse};
+use ddf_config::SpareUse;
 use std::alloc::Global;
-
-/// An array that isn't there.
-pub(crate) fn no_array(config: &Config, guid: Guid) -> Option<Refusal>
-    ensures { result ≡ no_array config.now guid }
-{
-    if config.arrays.contains_key(&guid) {
-        None
-    } else {
-        Some(Refusal::NoArray)
-    }
-}
-
-/// Why an array can't be deleted.
-pub(crate) fn delete_refusal(config: &Config, guid: Guid) -> Option<Refusal>
-    ensures { result ≡ delete_refusal config.now guid }
-{
-    if let Some(refusal) = no_array(config, guid) {
-        return Some(refusal);
-    }
-    spent(config.sequence, 1)
-}
 
 /// A spare for no array is none.
 fn dedicated(guids: Vec<Guid>) -> SpareUse

@@ -1,10 +1,10 @@
 //! A disk that counts as failed. What it makes of the configuration is what a loss makes of it.
 ghost use Rattle.std.specs.Prelude.{◌≡◌};
-ghost use Rattle.ddf_plan.specs.Fail.{is_last, would_be_lost, any_would_be_lost, fail_causes, fail_refusal};
+ghost use Rattle.ddf_plan.specs.Fail.{is_last, would_be_lost, any_would_be_lost, fail_causes};
 ghost use Rattle.ddf_config.specs.Refusals.{first_refusal};
 
-use crate::refuse::{not_current, spent};
-use ddf_config::{Array, Config, Member, Refusal, Seat, first_refusal, is_within, slot_of};
+use crate::refuse::not_current;
+use ddf_config::{Array, Config, Member, Refusal, Seat, is_within, slot_of};
 use indexmap::IndexMap;
 
 /// Whether no more than one member is current.
@@ -55,19 +55,4 @@ pub(crate) fn fail_cause(
         return Some(Refusal::Lost);
     }
     None
-}
-
-/// Why a disk can't count as failed. The members are those after the failure.
-pub(crate) fn fail_refusal(
-    config: &Config,
-    members_after: &IndexMap<u32, Member>,
-    seats: &[Seat],
-    reference: u32,
-) -> Option<Refusal>
-    ensures { result ≡ fail_refusal config.now members_after.now.entries seats.now reference }
-{
-    first_refusal(&[
-        fail_cause(config, members_after, seats, reference),
-        spent(config.sequence, 2),
-    ])
 }

@@ -4,7 +4,7 @@ use ddf_bytes::NoMemory;
 use ddf_config::Refusal;
 
 /// Why `apply` gives no configuration.
-#[derive(Clone, Copy, Debug, PartialEq, Eq)]
+#[derive(Clone, Copy, PartialEq, Eq)]
 pub enum PlanFault {
     /// The change is refused.
     Refused(Refusal),

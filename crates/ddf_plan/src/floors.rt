@@ -1,4 +1,4 @@
-//! Whether the extents of a new array have room below the floors of their seats.
+//! Whether the extents of a new array have room.
 ghost use Rattle.std.specs.Prelude.{◌≡◌, ◌≤◌, find, length, IfOk};
 ghost use Rattle.ddf_config.specs.Extents.{extents};
 ghost use Rattle.ddf_config.specs.Refusals.{part_refusal};
@@ -16,14 +16,14 @@ fn lacks_extent(
     alloc: Global,
     config: &Config,
     all: &[Extent],
-    seats: &[Seat],
+    floors: &[Seat],
     strip: u64,
     blocks: u64,
     position: &Position,
 ) -> Result<bool, NoMemory>
     requires some { 1 ≤ strip }
     requires all { all.now ≡ extents config.now.arrays }
-    ensures { IfOk result (λ lacks. lacks ≡ lacks_extent config.now seats.now strip blocks position.now) }
+    ensures { IfOk result (λ lacks. lacks ≡ lacks_extent config.now floors.now strip blocks position.now) }
 {
     let reference = position.reference;
     match start_on(alloc, &config.members, all, strip, blocks, reference)? {
@@ -33,7 +33,7 @@ fn lacks_extent(
                 start,
                 blocks,
             };
-            Ok(passes_floor(seats, &extent))
+            Ok(passes_floor(floors, &extent))
         }
         None => Ok(true),
     }
@@ -43,17 +43,17 @@ fn first_without_extent(
     alloc: Global,
     config: &Config,
     all: &[Extent],
-    seats: &[Seat],
+    floors: &[Seat],
     strip: u64,
     blocks: u64,
     positions: &[Position],
 ) -> Result<Option<Position>, NoMemory>
     requires some { 1 ≤ strip }
     requires all { all.now ≡ extents config.now.arrays }
-    ensures { IfOk result (λ first. first ≡ find (lacks_extent config.now seats.now strip blocks) positions.now) }
+    ensures { IfOk result (λ first. first ≡ find (lacks_extent config.now floors.now strip blocks) positions.now) }
 {
     for position in positions {
-        let lacks = lacks_extent(alloc, config, all, seats, strip, blocks, position)?;
+        let lacks = lacks_extent(alloc, config, all, floors, strip, blocks, position)?;
         if lacks {
             return Ok(Some(*position));
         }
@@ -65,12 +65,13 @@ fn extent_refusal(
     alloc: Global,
     config: &Config,
     all: &[Extent],
+    floors: &[Seat],
     seats: &[Seat],
     elements: usize,
     part: &Option<ElementPlan>,
 ) -> Result<Option<Refusal>, NoMemory>
     requires { all.now ≡ extents config.now.arrays }
-    ensures { IfOk result (λ refusal. refusal ≡ extent_refusal config.now seats.now elements part.now) }
+    ensures { IfOk result (λ refusal. refusal ≡ extent_refusal config.now floors.now seats.now elements part.now) }
 {
     match part {
         Some(element) => {
@@ -80,7 +81,7 @@ fn extent_refusal(
                 alloc,
                 config,
                 all,
-                seats,
+                floors,
                 strip,
                 element.blocks,
                 positions,
@@ -95,14 +96,23 @@ fn parts_refusal(
     alloc: Global,
     config: &Config,
     all: &[Extent],
+    floors: &[Seat],
     seats: &[Seat],
     parts: &[Option<ElementPlan>],
 ) -> Result<Option<Refusal>, NoMemory>
     requires { all.now ≡ extents config.now.arrays }
-    ensures { IfOk result (λ refusal. refusal ≡ part_refusal (extent_refusal config.now seats.now (length parts.now)) parts.now) }
+    ensures { IfOk result (λ refusal. refusal ≡ part_refusal (extent_refusal config.now floors.now seats.now (length parts.now)) parts.now) }
 {
     for part in parts {
-        if let Some(refusal) = extent_refusal(alloc, config, all, seats, parts.len(), part)? {
+        if let Some(refusal) = extent_refusal(
+            alloc,
+            config,
+            all,
+            floors,
+            seats,
+            parts.len(),
+            part,
+        )? {
             return Ok(Some(refusal));
         }
     }
@@ -112,32 +122,50 @@ fn parts_refusal(
 fn array_refusal(
     alloc: Global,
     config: &Config,
+    floors: &[Seat],
     seats: &[Seat],
     array: &Array,
 ) -> Result<Option<Refusal>, NoMemory>
-    ensures { IfOk result (λ refusal. refusal ≡ part_refusal (extent_refusal config.now seats.now (length array.now.elements)) array.now.elements) }
+    ensures { IfOk result (λ refusal. refusal ≡ part_refusal (extent_refusal config.now floors.now seats.now (length array.now.elements)) array.now.elements) }
 {
     let all = extents(alloc, &config.arrays)?;
-    parts_refusal(alloc, config, all.as_slice(), seats, array.elements.items())
+    parts_refusal(
+        alloc,
+        config,
+        all.as_slice(),
+        floors,
+        seats,
+        array.elements.items(),
+    )
 }
 
 /// Why the extents of a change's new array have no room: `NoExtent` with the slot of the first position, by element and
 /// position, whose disk has no free start for it within its configured size, or whose extent would end past the floor of its
-/// seat there. None where each has room, and for every other change. A member without a seat has no floor.
+/// disk's seat among `floors`. None where each has room, and for every other change. A member without a seat among `floors` has
+/// no floor. `seats` name the slot: 64 for a member without one.
 ///
 /// # Errors
 /// Memory ran out.
 #[tactic(auto, unfolding(crate::specs::Floors::extents_refusal))]
-pub fn room_on_seats(
+pub fn extents_refusal(
     alloc: Global,
     config: &Config,
     change: &Change,
+    floors: &[Seat],
     seats: &[Seat],
 ) -> Result<Option<Refusal>, NoMemory>
-    ensures { IfOk result (λ refusal. refusal ≡ extents_refusal config.now change.now seats.now) }
+    ensures { IfOk result (λ refusal. refusal ≡ extents_refusal config.now change.now floors.now seats.now) }
 {
     match change {
-        Change::Create(_, array) => array_refusal(alloc, config, seats, array),
-        Change::Lose(_) | Change::Delete(_) | Change::Spare(_, _) | Change::Fail(_) => Ok(None),
+        Change::Create(_, array) => array_refusal(alloc, config, floors, seats, array),
+        Change::Lose(_)
+        | Change::Delete(_)
+        | Change::Spare(_, _)
+        | Change::Fail(_)
+        | Change::Mark(_)
+        | Change::Unmark(_, _)
+        | Change::Begin { .. }
+        | Change::Progress { .. }
+        | Change::Finish { .. } => Ok(None),
     }
 }

@@ -1,46 +1,18 @@
-//! The loss of disks.
+//! What the loss of disks makes of arrays.
 ghost use Rattle.std.specs.Prelude.{◌≡◌, ◌≤◌, length, map, option_map, IfOk};
-ghost use Rattle.ddf_plan.specs.Lose.{is_among, lost_member, out_of_sync, lost_position, lost_element, lost_parts, wholly_out, out_beyond, mirrored_parts, lost_array, lose_refusal};
+ghost use Rattle.ddf_plan.specs.Lose.{is_among, out_of_sync, lost_position, lost_element, lost_parts, wholly_out, out_beyond, mirrored_parts, lost_array};
 
-use crate::refuse::{not_current, spent};
 use arrayvec::ArrayVec;
 use ddf_bytes::{NoMemory, Seq};
-use ddf_config::{
-    Array, Config, ElementPlan, Member, Position, Refusal, Seat, has_part_within, is_part_within,
-};
+use ddf_config::{Array, ElementPlan, Member, Position, has_part_within, is_part_within};
 use indexmap::IndexMap;
 use std::alloc::Global;
 
-/// Why disks can't be lost.
-pub(crate) fn lose_refusal(config: &Config, seats: &[Seat], references: &[u32]) -> Option<Refusal>
-    ensures { result ≡ lose_refusal config.now seats.now references.now }
-{
-    if let Some(refusal) = not_current(config, seats, references) {
-        return Some(refusal);
-    }
-    spent(config.sequence, 2)
-}
-
-fn is_among(references: &[u32], reference: u32) -> bool
+/// Whether a reference is one of these.
+pub fn is_among(references: &[u32], reference: u32) -> bool
     ensures { result ≡ is_among references.now reference }
 {
     references.iter().any(|other| reference == *other)
-}
-
-/// The member after the loss of these disks.
-pub(crate) fn lost_member(
-    alloc: Global,
-    references: &[u32],
-    reference: u32,
-    member: &Member,
-) -> Result<Member, NoMemory>
-    ensures { IfOk result (λ lost. lost ≡ lost_member references.now reference member.now) }
-{
-    let mut lost = member.duplicate(alloc)?;
-    if is_among(references, reference) {
-        lost.missing = true;
-    }
-    Ok(lost)
 }
 
 fn out_of_sync(position: Position) -> Position

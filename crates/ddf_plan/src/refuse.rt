@@ -1,8 +1,9 @@
 //! Causes that several changes share.
 ghost use Rattle.std.specs.Prelude.{◌≡◌, not, find};
 ghost use Rattle.ddf_config.specs.Members.{is_current};
-ghost use Rattle.ddf_plan.specs.Refusals.{spent, not_current};
+ghost use Rattle.ddf_plan.specs.Refusals.{spent, not_current, no_array};
 
+use ddf_bytes::Guid;
 use ddf_config::{Config, Member, Refusal, Seat, is_current, slot_of};
 use indexmap::IndexMap;
 
@@ -39,5 +40,16 @@ pub(crate) fn not_current(config: &Config, seats: &[Seat], references: &[u32]) -
     match first_not_current(&config.members, references) {
         Some(reference) => Some(Refusal::NotMember(slot_of(seats, reference))),
         None => None,
+    }
+}
+
+/// An array that isn't there.
+pub(crate) fn no_array(config: &Config, guid: Guid) -> Option<Refusal>
+    ensures { result ≡ no_array config.now guid }
+{
+    if config.arrays.contains_key(&guid) {
+        None
+    } else {
+        Some(Refusal::NoArray)
     }
 }

@@ -3,14 +3,12 @@ ghost use Rattle.std.specs.Prelude.{◌≡◌, IfOk, filter, is_some};
 ghost use Rattle.std.specs.List.{list_any, list_all};
 ghost use Rattle.std.specs.Map.{keys_of};
 ghost use Rattle.ddf_config.specs.Members.{same_guid};
-ghost use Rattle.ddf_plan.specs.Spare.{use_in_order, can_have_spare, lacks_array, position_refers, part_refers, array_refers, holds_extent, spare_causes, spare_refusal};
+ghost use Rattle.ddf_plan.specs.Spare.{use_in_order, can_have_spare, lacks_array, position_refers, part_refers, array_refers, holds_extent, spare_causes};
 ghost use Rattle.ddf_config.specs.Refusals.{first_refusal};
 
-use crate::refuse::{not_current, spent};
+use crate::refuse::not_current;
 use ddf_bytes::{Guid, NoMemory, Seq};
-use ddf_config::{
-    Array, Config, ElementPlan, Position, Refusal, Seat, SpareUse, first_refusal, slot_of,
-};
+use ddf_config::{Array, Config, ElementPlan, Position, Refusal, Seat, SpareUse, slot_of};
 use indexmap::IndexMap;
 use std::alloc::Global;
 
@@ -113,7 +111,7 @@ fn array_refers(array: &Array, reference: u32) -> bool
 }
 
 /// Whether a position of some array is on the disk.
-fn holds_extent(config: &Config, reference: u32) -> bool
+pub fn holds_extent(config: &Config, reference: u32) -> bool
     ensures { result ≡ holds_extent config.now reference }
 {
     config
@@ -141,19 +139,4 @@ pub(crate) fn spare_cause(
         return Some(Refusal::InUse(slot_of(seats, reference)));
     }
     None
-}
-
-/// Why a disk can't get this use as a spare.
-pub(crate) fn spare_refusal(
-    config: &Config,
-    seats: &[Seat],
-    reference: u32,
-    use_as: &SpareUse,
-) -> Option<Refusal>
-    ensures { result ≡ spare_refusal config.now seats.now reference use_as.now }
-{
-    first_refusal(&[
-        spare_cause(config, seats, reference, use_as),
-        spent(config.sequence, 1),
-    ])
 }

@@ -1,5 +1,5 @@
 /// A place on one member of an element.
-#[derive(Clone, Copy, Debug, PartialEq, Eq)]
+#[derive(Clone, Copy, PartialEq, Eq)]
 pub struct Cell {
     /// The member's place in the element's member list, from 0.
     pub member: u16,

@@ -1,5 +1,5 @@
 /// Why numbers make no shape. Where several of these hold, the first in this order is told.
-#[derive(Clone, Copy, Debug, PartialEq, Eq)]
+#[derive(Clone, Copy, PartialEq, Eq)]
 pub enum ShapeFault {
     /// The primary level is not served.
     Level(u8),

@@ -4,7 +4,7 @@ ghost use Rattle.ddf_primary.specs.Levels.{served_layout, takes_members, takes_b
 use crate::{ParityLayout, ShapeFault};
 
 /// How an element lays its blocks over its members: a primary level, with what its qualifier says.
-#[derive(Clone, Copy, Debug, PartialEq, Eq)]
+#[derive(Clone, Copy, PartialEq, Eq)]
 pub enum Layout {
     /// RAID 0: strips over all members.
     Raid0,

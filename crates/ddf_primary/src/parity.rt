@@ -2,7 +2,7 @@ ghost use Rattle.std.specs.Prelude.{◌≡◌, ◌≢◌, ◌<◌, ◌≤◌, �
 ghost use Rattle.ddf_primary.specs.Cells.{parity_on, data_around};
 
 /// Which member of a row holds the parity, and in which order the others hold the data.
-#[derive(Clone, Copy, Debug, PartialEq, Eq)]
+#[derive(Clone, Copy, PartialEq, Eq)]
 pub enum ParityLayout {
     /// RAID 4 with the parity in the first extent.
     Raid4First,

@@ -6,7 +6,7 @@ use crate::{Cell, Layout, ParityLayout, ShapeFault};
 use std::marker::Model;
 
 /// One element: a primary level over members, which says where each of its blocks lies.
-#[derive(Clone, Copy, Debug, PartialEq, Eq)]
+#[derive(Clone, Copy, PartialEq, Eq)]
 pub struct Shape {
     layout: Layout,
     members: u16,

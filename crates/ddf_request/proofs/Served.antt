@@ -2,7 +2,7 @@
 use Rattle.std.proofs.Common.{◌≡◌, ◌∙◌, ℕ, ◌+◌, ◌<◌, List, [], ◌∷◌, ◌++◌, Option, Some, None, length, get_or, take, drop, refl, sym, ap}
 use Rattle.std.proofs.lemmas.List.{take_more, take-append-drop}
 use Rattle.ddf_config.specs.declared.array.Array.{Array}
-use Rattle.ddf_request.specs.Request.{served_guid, served_guids, with_guid}
+use Rattle.ddf_request.specs.Spare.{served_guid, served_guids, with_guid}
 
 -- those of words and of more words
 joined : Option (List (List ℕ)) → Option (List (List ℕ)) → Option (List (List ℕ))

@@ -5,7 +5,7 @@ use Rattle.std.specs.Option.{option_and_then}
 use Rattle.std.specs.Str.{bytes_eq}
 use Rattle.ddf_config.specs.declared.array.Array.{Array}
 use Rattle.ddf_config.specs.Members.{same_guid}
-use Rattle.ddf_text.specs.Records.{name_text}
+use Rattle.ddf_name.specs.Names.{name_text}
 
 -- the GUID of the first array of the table whose name prints as this word
 abbrev pub has_printed_name : (word : List ℕ) → (List ℕ × Array) → Bool

@@ -1,5 +1,5 @@
 -- The array that `create` asks for.
-use Rattle.std.specs.Prelude.{ℕ, ◌+◌, ◌≤◌, Bool, true, not, ◌==◌, nat_lt, List, [], ◌∷◌, ◌++◌, find, length, map, min, replicate, take, Option, Some, None, unwrap_or, if◌then◌else◌}
+use Rattle.std.specs.Prelude.{ℕ, ◌+◌, ◌≤◌, Bool, true, not, ◌==◌, nat_lt, List, ◌++◌, find, length, map, min, replicate, take, Option, Some, None, unwrap_or, if◌then◌else◌}
 use Rattle.std.specs.List.{AllByRecursion, list_any, flat_map, range_with_len}
 use Rattle.ddf_bytes.specs.declared.stamp.Stamp.{Stamp}
 use Rattle.ddf_bytes.specs.declared.guid.GuidKind.TheVariants as kinds
@@ -8,24 +8,15 @@ use Rattle.ddf_config.specs.declared.element.Position.{Position}
 use Rattle.ddf_config.specs.declared.array.Array.{Array}
 use Rattle.ddf_config.specs.declared.seat.Seat.{Seat}
 use Rattle.ddf_config.specs.declared.refusal.Refusal.{Refusal}
-use Rattle.ddf_config.specs.declared.refusal.Refusal.TheVariants.{NameTaken, Shape}
+use Rattle.ddf_config.specs.declared.refusal.Refusal.TheVariants.{Level, NameTaken, NotMember, Shape}
 use Rattle.ddf_config.specs.Configuration.{Configuration}
 use Rattle.ddf_config.specs.ElementValue.{ElementValue}
-use Rattle.ddf_config.specs.Levels.{unserved_level}
-use Rattle.ddf_config.specs.Refusals.{first_refusal, refuse_if}
-use Rattle.ddf_plan.specs.CreateRefusal.{has_named}
+use Rattle.ddf_plan.specs.declared.change.Change.{Change}
+use Rattle.ddf_plan.specs.Causes.{causes}
 use Rattle.ddf_plan.specs.Refusals.{greatest_sequence}
 use Rattle.ddf_words.specs.declared.command.CreateElement.{CreateElement}
+use Rattle.ddf_words.specs.declared.command.Creation.{Creation}
 use Rattle.ddf_request.specs.Slots.{reference_on}
-
--- The words for it.
-pub record Creation : Type 0 where
-  pub name : List ℕ
-  pub level : ℕ
-  pub qualifier : ℕ
-  pub code : ℕ
-  pub secondary : Option ℕ
-  pub elements : List CreateElement
 
 -- A name has at most 16 bytes, and an element at most 64 members.
 pub record IsCreation (creation : Creation) : Type 0 where
@@ -96,6 +87,14 @@ slots_of elements = flat_map (λ (element : CreateElement). element.slots) eleme
 abbrev pub is_misfit : Creation → Bool
 is_misfit creation = elim creation.secondary [ None ↦ not (length creation.elements == 1) | Some code ↦ not (nat_lt 1 (length creation.elements)) ]
 
--- Where the word doesn't fit, in order: the name is new; each level is served; the word doesn't fit.
-abbrev pub misfit_refusal : Configuration → Array → Option Refusal
-misfit_refusal config array = first_refusal (refuse_if (has_named config array.name) NameTaken ∷ unserved_level array ∷ Some Shape ∷ [])
+-- A refusal of the plan that comes before that of the shape: a disk is no current member, the name is taken, or a level isn't served. Behind
+-- these the word doesn't fit.
+abbrev pub before_shape : Option Refusal → Refusal
+before_shape (Some (NotMember slot)) = NotMember slot
+before_shape (Some NameTaken) = NameTaken
+before_shape (Some (Level code)) = Level code
+before_shape other = Shape
+
+-- what an array is refused for of which the word doesn't fit
+abbrev pub misfit_refusal : Configuration → List Seat → Change → Refusal
+misfit_refusal config seats change = before_shape (causes None config change seats)

@@ -4,7 +4,7 @@ ghost use Rattle.ddf_request.specs.Named.{named_array, named_guid};
 
 use ddf_bytes::Guid;
 use ddf_config::Array;
-use ddf_text::prints_as;
+use ddf_name::prints_as;
 use indexmap::IndexMap;
 
 /// The GUID of the first array of the table whose name prints as this word.

@@ -1,51 +1,16 @@
 // The array that `create` asks for.
 ghost use Rattle.std.specs.Prelude.{◌≡◌, ◌≤◌, IfOk, length, map, Some};
 ghost use Rattle.std.specs.List.{list_any};
-ghost use Rattle.ddf_request.specs.NewArray.{IsCreation, has_number, is_free_number, is_misfit, least_number, misfit_refusal, new_array, new_array_guid, new_element, new_position, next_sequence, padded, qualifier_of, slots_of};
+ghost use Rattle.ddf_request.specs.NewArray.{IsCreation, has_number, is_free_number, least_number, new_array, new_array_guid, new_element, new_position, next_sequence, padded, qualifier_of, slots_of};
 
 use crate::slots::reference_on;
 use arrayvec::ArrayVec;
 use ddf_bytes::{Guid, GuidKind, NoMemory, Seq, Stamp, new_guid};
-use ddf_config::{
-    Array, Config, ElementPlan, Position, Refusal, Seat, first_refusal, refuse_if, unserved_level,
-};
-use ddf_plan::{GREATEST_SEQUENCE, has_named};
-use ddf_words::CreateElement;
+use ddf_config::{Array, Config, ElementPlan, Position, Seat};
+use ddf_plan::GREATEST_SEQUENCE;
+use ddf_words::{CreateElement, Creation};
 use indexmap::IndexMap;
 use std::alloc::Global;
-use std::marker::Model;
-
-/// The words for a new array. Contracts see it without the references.
-#[derive(Debug, Drop)]
-pub struct Creation<'a> {
-    /// The name, at most 16 bytes.
-    pub name: &'a [u8],
-    /// The code of the primary level.
-    pub level: u8,
-    /// The qualifier of the level.
-    pub qualifier: u8,
-    /// The stripe size code n, for strips of 2^n sectors.
-    pub code: u8,
-    /// The code of the secondary level, none where the words say `single`.
-    pub secondary: Option<u8>,
-    /// The elements in their order, each of at most 64 slots.
-    pub elements: &'a [CreateElement],
-}
-
-impl<'a> Model for Creation<'a> {
-    ghost use Rattle.ddf_request.specs.NewArray as words;
-
-    ghost Value = { words.Creation };
-
-    ghost view = { λ creation. record {
-      name = creation.name.now;
-      level = creation.level;
-      qualifier = creation.qualifier;
-      code = creation.code;
-      secondary = creation.secondary;
-      elements = creation.elements.now;
-    } };
-}
 
 // ---- its GUID and its name
 
@@ -159,8 +124,9 @@ fn new_elements(
     requires { IsCreation creation.now }
     ensures { IfOk result (λ parts. parts.items ≡ map (λ element. Some (new_element seats.now creation.now element)) creation.now.elements) }
 {
-    let mut parts = Vec::with_capacity(alloc, creation.elements.len())?;
-    for element in creation.elements {
+    let elements = creation.elements.items();
+    let mut parts = Vec::with_capacity(alloc, elements.len())?;
+    for element in elements {
         parts.push(Some(new_element(seats, creation, element)))?;
     }
     Ok(parts)
@@ -178,7 +144,7 @@ pub(crate) fn new_array(
 {
     let elements = new_elements(alloc, seats, creation)?;
     Ok(Array {
-        name: padded(creation.name),
+        name: padded(creation.name.items()),
         number: least_number(&config.arrays),
         secondary: creation.secondary.unwrap_or(0x00),
         elements: Seq::new(elements),
@@ -196,28 +162,4 @@ pub(crate) fn slots_of(alloc: Global, elements: &[CreateElement]) -> Result<Vec<
         slots.extend_from_slice(element.slots.items())?;
     }
     Ok(slots)
-}
-
-// ---- the word for its secondary level
-
-/// Whether the words say `single` of several elements, or another secondary level of one.
-pub(crate) fn is_misfit(creation: &Creation) -> bool
-    ensures { result ≡ is_misfit creation.now }
-{
-    let count = creation.elements.len();
-    match creation.secondary {
-        None => count != 1,
-        Some(_) => count <= 1,
-    }
-}
-
-/// Why an array of which the word for the secondary level doesn't fit is refused.
-pub(crate) fn misfit_refusal(config: &Config, array: &Array) -> Option<Refusal>
-    ensures { result ≡ misfit_refusal config.now array.now }
-{
-    first_refusal(&[
-        refuse_if(has_named(config, &array.name), Refusal::NameTaken),
-        unserved_level(array),
-        Some(Refusal::Shape),
-    ])
 }

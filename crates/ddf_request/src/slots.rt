@@ -1,5 +1,5 @@
 // Which members lie on slots, and why one doesn't.
-ghost use Rattle.std.specs.Prelude.{◌≡◌, [], ◌∷◌, find, nat_le};
+ghost use Rattle.std.specs.Prelude.{◌≡◌, find, nat_le};
 ghost use Rattle.std.specs.List.{list_any};
 ghost use Rattle.std.specs.Option.{option_copied};
 ghost use Rattle.ddf_config.specs.Refusals.{first_refusal};
@@ -45,7 +45,7 @@ fn slot_without_seat(seats: &[Seat], slots: &[u8]) -> Option<u8>
 }
 
 /// The refusal of the first slot that isn't among so many.
-pub(crate) fn first_beyond(count: usize, slots: &[u8]) -> Option<Refusal>
+fn first_beyond(count: usize, slots: &[u8]) -> Option<Refusal>
     ensures { result ≡ first_beyond count slots.now }
 {
     match slot_beyond(count, slots) {
@@ -55,7 +55,7 @@ pub(crate) fn first_beyond(count: usize, slots: &[u8]) -> Option<Refusal>
 }
 
 /// The refusal of the first slot whose disk is no current member.
-pub(crate) fn first_without_seat(seats: &[Seat], slots: &[u8]) -> Option<Refusal>
+fn first_without_seat(seats: &[Seat], slots: &[u8]) -> Option<Refusal>
     ensures { result ≡ first_without_seat seats.now slots.now }
 {
     match slot_without_seat(seats, slots) {
@@ -64,14 +64,11 @@ pub(crate) fn first_without_seat(seats: &[Seat], slots: &[u8]) -> Option<Refusal
     }
 }
 
-/// Why a slot, of so many, has no current member.
-pub(crate) fn slot_refusal(count: usize, seats: &[Seat], slot: u8) -> Option<Refusal>
-    ensures { result ≡ first_refusal (slot_refusals count seats.now (slot ∷ [])) }
+/// Why slots, of so many, haven't all a current member.
+pub(crate) fn slots_refusal(count: usize, seats: &[Seat], slots: &[u8]) -> Option<Refusal>
+    ensures { result ≡ first_refusal (slot_refusals count seats.now slots.now) }
 {
-    first_refusal(&[
-        first_beyond(count, &[slot]),
-        first_without_seat(seats, &[slot]),
-    ])
+    first_refusal(&[first_beyond(count, slots), first_without_seat(seats, slots)])
 }
 
 /// The reference of the member on a slot, 0 where there is none.

@@ -3,12 +3,12 @@ ghost use Rattle.std.specs.Prelude.{◌≡◌, IfOk, is_some, option_map};
 ghost use Rattle.std.specs.List.{list_any};
 ghost use Rattle.std.specs.Option.{ok_or};
 ghost use Rattle.ddf_config.specs.declared.refusal.Refusal.TheVariants.{NoArray};
-ghost use Rattle.ddf_request.specs.Request.{IsRequested, has_element, served_guid, served_guids, spare_request, use_of};
+ghost use Rattle.ddf_request.specs.Request.{IsRequested, spare_change};
+ghost use Rattle.ddf_request.specs.Spare.{has_element, served_guid, served_guids, use_of};
 
 use crate::named::named_array;
-use crate::slots::{reference_on, slot_refusal};
 use ddf_bytes::{Guid, NoMemory, Seq};
-use ddf_config::{Array, Config, Refusal, Seat, SpareUse};
+use ddf_config::{Array, Config, Refusal, SpareUse};
 use ddf_plan::{Change, PlanFault};
 use ddf_words::SpareWord;
 use indexmap::IndexMap;
@@ -63,26 +63,17 @@ fn use_of(alloc: Global, config: &Config, word: &SpareWord) -> Result<Option<Spa
     }
 }
 
-/// The change that lets the disk of a slot, of so many, stand in for what the words say.
-///
-/// # Errors
-/// `Refused` with the first of these: `NoSlot` where there is no such slot, `NotMember` where its disk is no current member,
-/// `NoArray` where a word names no array, or one of which the disks tell no element. `Memory` where memory ran out.
-pub fn spare_request(
+/// The change that lets a disk stand in for what the words say.
+pub(crate) fn spare_change(
     alloc: Global,
-    slots: usize,
     config: &Config,
-    seats: &[Seat],
-    slot: u8,
+    reference: u32,
     word: &SpareWord,
 ) -> Result<Change, PlanFault>
-    ensures { IsRequested (spare_request slots config.now seats.now slot word.now) result }
+    ensures { IsRequested (spare_change reference (use_of config.now word.now)) result }
 {
-    if let Some(refusal) = slot_refusal(slots, seats, slot) {
-        return Err(PlanFault::Refused(refusal));
-    }
     match use_of(alloc, config, word)? {
-        Some(use_as) => Ok(Change::Spare(reference_on(seats, slot), use_as)),
+        Some(use_as) => Ok(Change::Spare(reference, use_as)),
         None => Err(PlanFault::Refused(Refusal::NoArray)),
     }
 }

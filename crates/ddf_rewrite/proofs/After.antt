@@ -25,7 +25,7 @@ use Rattle.ddf_rewrite.specs.Notes.{Holding, find_holding, no_note, note_for, no
 use Rattle.ddf_rewrite.specs.Placement.{is_slot_of, item_at}
 use Rattle.ddf_rewrite.specs.declared.item.Item.TheVariants as kinds
 use Rattle.ddf_rewrite.specs.declared.item.Item.{Item}
-use Rattle.ddf_rewrite.specs.declared.item.Placed.{Placed}
+use Rattle.ddf_rewrite.specs.declared.item.Slotted.{Slotted}
 use Rattle.ddf_rewrite.proofs.InPlace.{AreInPlace}
 use Rattle.ddf_rewrite.proofs.Lists.{get_map, map_get, get_enumerated, get_range, found_place}
 
@@ -78,10 +78,10 @@ none_first_of f (x ∷ xs) h = ap (λ o. option_or o (first_of (map f xs))) (h 0
 -- ---- what stands in the slots
 
 -- what is placed, and what was there
-abbrev pub made_slots : Geometry → List Holding → Notes → SpareRecord → List Placed → List RecordSlot → List RecordSlot
+abbrev pub made_slots : Geometry → List Holding → Notes → SpareRecord → List Slotted → List RecordSlot → List RecordSlot
 made_slots geometry holdings notes spare placed all = map (slot_after geometry holdings notes spare placed) (enumerate_from 0 all)
 
-placed_slot : (geometry : Geometry) (holdings : List Holding) (notes : Notes) (spare : SpareRecord) (placed : List Placed) (all : List RecordSlot) (k : ℕ) → k < length all
+placed_slot : (geometry : Geometry) (holdings : List Holding) (notes : Notes) (spare : SpareRecord) (placed : List Slotted) (all : List RecordSlot) (k : ℕ) → k < length all
     → (slot : RecordSlot) × (slice_get (made_slots geometry holdings notes spare placed all) k ≡ Some (option_map_or (record_of geometry holdings notes spare) (item_at placed k) (left_slot geometry slot)))
 placed_slot geometry holdings notes spare placed all k lt =
     let there = place_there all k lt in
@@ -92,7 +92,7 @@ placed_slot geometry holdings notes spare placed all k lt =
           ∙ ap (λ (n : ℕ). Some (option_map_or (record_of geometry holdings notes spare) (item_at placed n) (left_slot geometry there.0))) here,
     )
 
-pub slot_placed : (geometry : Geometry) (holdings : List Holding) (notes : Notes) (spare : SpareRecord) (placed : List Placed) (all : List RecordSlot) (k : ℕ) (slot : RecordSlot) → slice_get (made_slots geometry holdings notes spare placed all) k ≡ Some slot
+pub slot_placed : (geometry : Geometry) (holdings : List Holding) (notes : Notes) (spare : SpareRecord) (placed : List Slotted) (all : List RecordSlot) (k : ℕ) (slot : RecordSlot) → slice_get (made_slots geometry holdings notes spare placed all) k ≡ Some slot
     → (old : RecordSlot) × (slot ≡ option_map_or (record_of geometry holdings notes spare) (item_at placed k) (left_slot geometry old))
 slot_placed geometry holdings notes spare placed all k slot h =
     let from = map_get (slot_after geometry holdings notes spare placed) (enumerate_from 0 all) k slot h in
@@ -187,7 +187,7 @@ placed_notes geometry holdings notes spare old group sequence (Some (kinds.Eleme
 
 -- ---- the notes
 
-pub note_is : (config : Configuration) (holdings : List Holding) (placed : List Placed) (count k : ℕ) → k < count → slice_get (notes_after config holdings placed count).slots k ≡ Some (note_for holdings (item_at placed k))
+pub note_is : (config : Configuration) (holdings : List Holding) (placed : List Slotted) (count k : ℕ) → k < count → slice_get (notes_after config holdings placed count).slots k ≡ Some (note_for holdings (item_at placed k))
 unfolding notes_after
 note_is config holdings placed count k lt =
     let at = get_range 0 count k lt in
@@ -217,14 +217,14 @@ abbrev pub note_if : (noted : Bool) → Holding → Option SlotNote
 note_if true holding = Some (note_of holding.copied holding.wanted.plan)
 note_if false holding = None
 
-holding_note : (noted : Bool) (config : Configuration) (holdings : List Holding) (placed : List Placed) (count k : ℕ) (holding : Holding) → k < count → item_at placed k ≡ Some (item_for holding)
+holding_note : (noted : Bool) (config : Configuration) (holdings : List Holding) (placed : List Slotted) (count k : ℕ) (holding : Holding) → k < count → item_at placed k ≡ Some (item_for holding)
     → find_holding holding.wanted.guid holding.wanted.index holdings ≡ Some holding → note_at (notes_if noted (notes_after config holdings placed count)) k ≡ note_if noted holding
 holding_note false config holdings placed count k holding lt at found = refl
 holding_note true config holdings placed count k holding lt at found =
     note_is config holdings placed count k lt ∙ ap (λ o. Some (note_for holdings o)) at ∙ ap (λ o. Some (option_map_or (λ (one : Holding). note_of one.copied one.wanted.plan) o no_note)) found
 
 -- each holding is found, with its note where there are notes
-pub held_after : (geometry : Geometry) (config : Configuration) (holdings : List Holding) (spare : SpareRecord) (use_as : SpareUse) (noted : Bool) (all : List RecordSlot) (placed : List Placed)
+pub held_after : (geometry : Geometry) (config : Configuration) (holdings : List Holding) (spare : SpareRecord) (use_as : SpareUse) (noted : Bool) (all : List RecordSlot) (placed : List Slotted)
     → AreInPlace all (items_of noted use_as holdings) placed → AreOwn holdings → (n : ℕ) (holding : Holding) → slice_get holdings n ≡ Some holding
     → find_held holding.wanted.guid holding.wanted.index
     (held_from (notes_if noted (notes_after config holdings placed (length all))) 0 (made_slots geometry holdings (notes_after config holdings placed (length all)) spare placed all))
@@ -256,7 +256,7 @@ held_after geometry config holdings spare use_as noted all placed in_place own n
     ∙ ap (λ o. Some (record { element = holding.element; note = o })) note
 
 -- of another element no record is found
-pub none_after : (geometry : Geometry) (config : Configuration) (holdings : List Holding) (notes : Notes) (given : Option Notes) (spare : SpareRecord) (use_as : SpareUse) (noted : Bool) (all : List RecordSlot) (placed : List Placed)
+pub none_after : (geometry : Geometry) (config : Configuration) (holdings : List Holding) (notes : Notes) (given : Option Notes) (spare : SpareRecord) (use_as : SpareUse) (noted : Bool) (all : List RecordSlot) (placed : List Slotted)
     → AreInPlace all (items_of noted use_as holdings) placed → AreOwn holdings → (array : List ℕ) (index : ℕ) → ((i : ℕ) → slice_get (items_of noted use_as holdings) i ≢ Some (kinds.Element array index))
     → find_held array index (held_from given 0 (made_slots geometry holdings notes spare placed all)) ≡ None
 none_after geometry config holdings notes given spare use_as noted all placed in_place own array index away =
@@ -268,7 +268,7 @@ none_after geometry config holdings notes given spare use_as noted all placed in
     away there.0 there.1))
 
 -- the notes are valid
-pub notes_valid : (geometry : Geometry) (config : Configuration) (holdings : List Holding) (spare : SpareRecord) (use_as : SpareUse) (all : List RecordSlot) (placed : List Placed)
+pub notes_valid : (geometry : Geometry) (config : Configuration) (holdings : List Holding) (spare : SpareRecord) (use_as : SpareUse) (all : List RecordSlot) (placed : List Slotted)
     → AreInPlace all (items_of true use_as holdings) placed
     → valid_notes config.group config.sequence (made_slots geometry holdings (notes_after config holdings placed (length all)) spare placed all) ≡ Some (notes_after config holdings placed (length all))
 unfolding notes_after
@@ -307,11 +307,11 @@ no_notes use_as holdings i h = go (is_spare use_as) i h
     go true (suc i) h = elements holdings i h
     go false i h = elements holdings i h
 
-pub never_notes : (use_as : SpareUse) (holdings : List Holding) (placed : List Placed) (all : List RecordSlot) → AreInPlace all (items_of false use_as holdings) placed → (k : ℕ) → item_at placed k ≡ Some kinds.Notes → ⊥
+pub never_notes : (use_as : SpareUse) (holdings : List Holding) (placed : List Slotted) (all : List RecordSlot) → AreInPlace all (items_of false use_as holdings) placed → (k : ℕ) → item_at placed k ≡ Some kinds.Notes → ⊥
 never_notes use_as holdings placed all in_place k h = let there = in_place.among k kinds.Notes h in no_notes use_as holdings there.0 there.1
 
 -- no notes are valid
-pub notes_none : (geometry : Geometry) (config : Configuration) (holdings : List Holding) (notes : Notes) (spare : SpareRecord) (use_as : SpareUse) (all : List RecordSlot) (placed : List Placed)
+pub notes_none : (geometry : Geometry) (config : Configuration) (holdings : List Holding) (notes : Notes) (spare : SpareRecord) (use_as : SpareUse) (all : List RecordSlot) (placed : List Slotted)
     → AreInPlace all (items_of false use_as holdings) placed → valid_notes config.group config.sequence (made_slots geometry holdings notes spare placed all) ≡ None
 notes_none geometry config holdings notes spare use_as all placed in_place =
     none_first_of (valid_of config.group config.sequence) (made_slots geometry holdings notes spare placed all) (λ j slot h.
@@ -319,7 +319,7 @@ notes_none geometry config holdings notes spare use_as all placed in_place =
     ap (valid_of config.group config.sequence) from.1 ∙ placed_notes geometry holdings notes spare from.0 config.group config.sequence (item_at placed j) (never_notes use_as holdings placed all in_place j))
 
 -- the notes that count
-pub notes_given : (noted : Bool) (geometry : Geometry) (config : Configuration) (holdings : List Holding) (spare : SpareRecord) (use_as : SpareUse) (all : List RecordSlot) (placed : List Placed)
+pub notes_given : (noted : Bool) (geometry : Geometry) (config : Configuration) (holdings : List Holding) (spare : SpareRecord) (use_as : SpareUse) (all : List RecordSlot) (placed : List Slotted)
     → AreInPlace all (items_of noted use_as holdings) placed
     → valid_notes config.group config.sequence (made_slots geometry holdings (notes_after config holdings placed (length all)) spare placed all) ≡ notes_if noted (notes_after config holdings placed (length all))
 notes_given true geometry config holdings spare use_as all placed in_place = notes_valid geometry config holdings spare use_as all placed in_place

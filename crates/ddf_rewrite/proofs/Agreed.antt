@@ -10,9 +10,9 @@ use Rattle.ddf_tables.specs.declared.arrays.ArrayEntry.{ArrayEntry}
 use Rattle.ddf_configs.specs.ElementValue.{ElementValue}
 use Rattle.ddf_copy.specs.declared.copy.DiskCopy.{DiskCopy}
 use Rattle.ddf_config.specs.Configuration.{Configuration}
-use Rattle.ddf_view.specs.Differ.{difference, element_differs, held_differ, placed_array, placed_disk, same_array, same_disk, same_held, same_record}
+use Rattle.ddf_view.specs.Differ.{difference, element_differs, held_differ, numbered_array, numbered_disk, same_array, same_disk, same_held, same_record}
 use Rattle.ddf_view.specs.Reading.{disks_in, read}
-use Rattle.ddf_view.specs.View.{Held, View, find_held, view_of}
+use Rattle.ddf_view.specs.View.{HeldRecord, View, find_held, view_of}
 use Rattle.ddf_rewrite.specs.Arrays.{arrays_after}
 use Rattle.ddf_rewrite.specs.Before.{before}
 use Rattle.ddf_rewrite.specs.Copies.{own_record, recovered_copy, recovered_holding}
@@ -51,7 +51,7 @@ module _ (old other : DiskCopy) (group : List ℕ) (sequence : ℕ) (views : Lis
           let first : AreSame led.leader.element one.element = subst (λ (x : ElementValue). AreSame led.leader.element x) (sym led.element_is) (led_same old.header.geometry (own_record old wanted) led.leader.element) in
           let second : AreSame other_led.leader.element two.element = subst (λ (x : ElementValue). AreSame other_led.leader.element x) (sym other_led.element_is) (led_same other.header.geometry (own_record other wanted) other_led.leader.element) in
           let leader : led.leader ≡ other_led.leader = some_same led.leads other_led.leads in
-          same_again one.element two.element (same_on (same_back first) (subst (λ (x : Held). AreSame x.element two.element) (sym leader) second))
+          same_again one.element two.element (same_on (same_back first) (subst (λ (x : HeldRecord). AreSame x.element two.element) (sym leader) second))
 
       go : (noted : Bool) → same_held (held_as noted one) (held_as noted two) ≡ true
       go false = and_from (same_record one.element two.element) true same refl
@@ -84,7 +84,7 @@ module _ (old other : DiskCopy) (group : List ℕ) (sequence : ℕ) (views : Lis
           ∙ ap not (made_alike n wanted one two at e f)
 
   -- the entries of both are the leader's
-  disks_led : (reference : ℕ) → not (option_eq same_disk (placed_disk reference (recovered_disks (disks_in views) (view_of old).disks)) (placed_disk reference (recovered_disks (disks_in views) (view_of other).disks))) ≡ false
+  disks_led : (reference : ℕ) → not (option_eq same_disk (numbered_disk reference (recovered_disks (disks_in views) (view_of old).disks)) (numbered_disk reference (recovered_disks (disks_in views) (view_of other).disks))) ≡ false
   unfolding recovered_disks
   disks_led reference =
       ap not (find_alike (λ pair. eqb pair.1.reference reference) same_disk (λ disk. disk_on (view_of old).disks (number_at w16 disk.rest 58) disk) (λ disk. disk_on (view_of other).disks (number_at w16 disk.rest 58) disk)
@@ -97,12 +97,12 @@ module _ (old other : DiskCopy) (group : List ℕ) (sequence : ℕ) (views : Lis
   pub recovered_agree : difference view other_view ≡ None
   recovered_agree = no_difference view other_view (record {
     disks = λ reference.
-        ap (λ (list : List DiskEntry). not (option_eq same_disk (placed_disk reference list) (placed_disk reference other_view.disks))) (recovered_disks_are old group sequence views timestamp can)
-        ∙ ap (λ (list : List DiskEntry). not (option_eq same_disk (placed_disk reference (recovered_disks (disks_in views) (view_of old).disks)) (placed_disk reference list))) (recovered_disks_are other group sequence views timestamp other_can)
+        ap (λ (list : List DiskEntry). not (option_eq same_disk (numbered_disk reference list) (numbered_disk reference other_view.disks))) (recovered_disks_are old group sequence views timestamp can)
+        ∙ ap (λ (list : List DiskEntry). not (option_eq same_disk (numbered_disk reference (recovered_disks (disks_in views) (view_of old).disks)) (numbered_disk reference list))) (recovered_disks_are other group sequence views timestamp other_can)
         ∙ disks_led reference;
     arrays = λ guid.
-        ap (λ (list : List ArrayEntry). not (option_eq same_array (placed_array guid list) (placed_array guid other_view.arrays))) (recovered_arrays old group sequence views timestamp can)
-        ∙ ap (λ (list : List ArrayEntry). not (option_eq same_array (placed_array guid (arrays_after config (view_of old).arrays)) (placed_array guid list))) (recovered_arrays other group sequence views timestamp other_can)
+        ap (λ (list : List ArrayEntry). not (option_eq same_array (numbered_array guid list) (numbered_array guid other_view.arrays))) (recovered_arrays old group sequence views timestamp can)
+        ∙ ap (λ (list : List ArrayEntry). not (option_eq same_array (numbered_array guid (arrays_after config (view_of old).arrays)) (numbered_array guid list))) (recovered_arrays other group sequence views timestamp other_can)
         ∙ ap not (arrays_alike config (view_of old).arrays (view_of other).arrays guid);
     elements = elements_alike config view.elements other_view.elements holdings_alike (recovered_away old group sequence views timestamp can);
   })

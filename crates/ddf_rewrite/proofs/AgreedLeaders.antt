@@ -18,10 +18,10 @@ use Rattle.ddf_copy.specs.Written.{CanBeCopy}
 use Rattle.ddf_config.specs.Configuration.{Configuration}
 use Rattle.ddf_config.specs.ElementValue.{ElementValue as ElementPlan}
 use Rattle.ddf_config.specs.declared.element.Position.{Position}
-use Rattle.ddf_view.specs.Differ.{difference, element_differs, held_differ, placed_array, placed_disk, same_array, same_disk, same_held, same_notes, same_record}
+use Rattle.ddf_view.specs.Differ.{difference, element_differs, held_differ, numbered_array, numbered_disk, same_array, same_disk, same_held, same_notes, same_record}
 use Rattle.ddf_view.specs.Reading.{array_in, arrays_in, disks_in, elements_in, plan_of, position_of, read}
 use Rattle.ddf_view.specs.Shows.{same_plan, same_position}
-use Rattle.ddf_view.specs.View.{Held, View, find_held, find_note, view_of}
+use Rattle.ddf_view.specs.View.{HeldRecord, View, find_held, find_note, view_of}
 use Rattle.ddf_view.proofs.Shown.{plan_same}
 use Rattle.ddf_rewrite.specs.Arrays.{array_on, arrays_after}
 use Rattle.ddf_rewrite.specs.Before.{before}
@@ -104,7 +104,7 @@ unfolding plan_of
 plan_anywhere disks given element = refl
 
 -- what two records say that are the same and have notes
-plans_same : (one other : Held) (first second : SlotNote) → same_held one other ≡ true → one.note ≡ Some first → other.note ≡ Some second → plan_of [] (Some first) one.element ≡ plan_of [] (Some second) other.element
+plans_same : (one other : HeldRecord) (first second : SlotNote) → same_held one other ≡ true → one.note ≡ Some first → other.note ≡ Some second → plan_of [] (Some first) one.element ≡ plan_of [] (Some second) other.element
 plans_same one other first second same has also =
     let parts = and_parts (same_record one.element other.element) (same_notes one other) same in
     let alike : plans_alike (Some first) (Some second) (plan_of [] (Some first) one.element) (plan_of [] (Some second) other.element) ≡ true =
@@ -122,13 +122,13 @@ module _ (old : DiskCopy) (group : List ℕ) (sequence : ℕ) (views : List View
   view = view_of (recovered_copy old (before views) config timestamp)
 
   -- records of one element in two leaders are the same
-  leaders_same : (m : ℕ) (one : View) (array : List ℕ) (index : ℕ) (held mine : Held) → slice_get views m ≡ Some one → find_held array index one.elements ≡ Some held → find_held array index leader.elements ≡ Some mine → same_held held mine ≡ true
+  leaders_same : (m : ℕ) (one : View) (array : List ℕ) (index : ℕ) (held mine : HeldRecord) → slice_get views m ≡ Some one → find_held array index one.elements ≡ Some held → find_held array index leader.elements ≡ Some mine → same_held held mine ≡ true
   leaders_same m one array index held mine at found also =
       let alike = (all_agree views agreed m k one leader at leads).elements (array, index) in
       not_false (same_held held mine) (sym (ap (λ o. held_differ o (find_held array index leader.elements)) found ∙ ap (held_differ (Some held)) also) ∙ alike)
 
   -- What is made of an element has the plan that a leader notes.
-  plan_led : (n : ℕ) (wanted : Wanted) (mine : Held) (given : SlotNote) → slice_get (all_wanted config) n ≡ Some wanted → find_held wanted.guid wanted.index leader.elements ≡ Some mine → mine.note ≡ Some given
+  plan_led : (n : ℕ) (wanted : Wanted) (mine : HeldRecord) (given : SlotNote) → slice_get (all_wanted config) n ≡ Some wanted → find_held wanted.guid wanted.index leader.elements ≡ Some mine → mine.note ≡ Some given
       → wanted.plan ≡ plan_of [] (Some given) mine.element
   plan_led n wanted mine given at found has =
       let is = is_read group sequence views n wanted at in
@@ -148,7 +148,7 @@ module _ (old : DiskCopy) (group : List ℕ) (sequence : ℕ) (views : List View
       ∙ plans_same from.held mine first.0 given (leaders_same from.m from.view wanted.guid wanted.index from.held mine from.at from.found found) from.has has
 
   -- what is made of an element is as the leader's record
-  holding_led : (n : ℕ) (wanted : Wanted) (holding : Holding) (mine : Held) → slice_get (all_wanted config) n ≡ Some wanted → recovered_holding old (before views) wanted ≡ Some holding → find_held wanted.guid wanted.index leader.elements ≡ Some mine
+  holding_led : (n : ℕ) (wanted : Wanted) (holding : Holding) (mine : HeldRecord) → slice_get (all_wanted config) n ≡ Some wanted → recovered_holding old (before views) wanted ≡ Some holding → find_held wanted.guid wanted.index leader.elements ≡ Some mine
       → same_held (held_as (before views).noted holding) mine ≡ true
   holding_led n wanted holding mine at made found = and_from (same_record holding.element mine.element) (same_notes (held_as (before views).noted holding) mine) records (noted (before views).noted mine.note refl)
     where
@@ -179,7 +179,7 @@ module _ (old : DiskCopy) (group : List ℕ) (sequence : ℕ) (views : List View
       ap (λ o. held_differ o (find_held wanted.guid wanted.index leader.elements)) (recovered_found old group sequence views timestamp can n wanted at)
       ∙ go (recovered_holding old (before views) wanted) refl (find_held wanted.guid wanted.index leader.elements) refl
     where
-      go : (o : Option Holding) → recovered_holding old (before views) wanted ≡ o → (p : Option Held) → find_held wanted.guid wanted.index leader.elements ≡ p
+      go : (o : Option Holding) → recovered_holding old (before views) wanted ≡ o → (p : Option HeldRecord) → find_held wanted.guid wanted.index leader.elements ≡ p
           → held_differ (option_map (held_as (before views).noted) (recovered_holding old (before views) wanted)) (find_held wanted.guid wanted.index leader.elements) ≡ false
       go None e p f = ap (λ o. held_differ (option_map (held_as (before views).noted) o) (find_held wanted.guid wanted.index leader.elements)) e
       go (Some holding) e None f =
@@ -189,34 +189,34 @@ module _ (old : DiskCopy) (group : List ℕ) (sequence : ℕ) (views : List View
           ∙ ap not (holding_led n wanted holding mine at e f)
 
   -- the entries of the disks are those of the first leader
-  disk_led : (reference : ℕ) → not (option_eq same_disk (placed_disk reference (recovered_disks (disks_in views) (view_of old).disks)) (placed_disk reference leader.disks)) ≡ false
+  disk_led : (reference : ℕ) → not (option_eq same_disk (numbered_disk reference (recovered_disks (disks_in views) (view_of old).disks)) (numbered_disk reference leader.disks)) ≡ false
   unfolding recovered_disks
   disk_led reference =
       let first = first_in views k leader leads in
-      ap not (find_made (λ pair. eqb pair.1.reference reference) same_disk (λ disk. disk_on (view_of old).disks (number_at w16 disk.rest 58) disk) (λ n disk. refl) (λ n disk other. refl) 0 (disks_in views) (placed_disk reference leader.disks))
-      ∙ ap (λ (disks : List DiskEntry). not (option_eq same_disk (placed_disk reference disks) (placed_disk reference leader.disks))) first.2
+      ap not (find_made (λ pair. eqb pair.1.reference reference) same_disk (λ disk. disk_on (view_of old).disks (number_at w16 disk.rest 58) disk) (λ n disk. refl) (λ n disk other. refl) 0 (disks_in views) (numbered_disk reference leader.disks))
+      ∙ ap (λ (disks : List DiskEntry). not (option_eq same_disk (numbered_disk reference disks) (numbered_disk reference leader.disks))) first.2
       ∙ (all_agree views agreed 0 k first.0 leader first.1 leads).disks reference
 
   -- and those of the arrays too
-  array_led : (guid : List ℕ) → not (option_eq same_array (placed_array guid (arrays_after config (view_of old).arrays)) (placed_array guid leader.arrays)) ≡ false
+  array_led : (guid : List ℕ) → not (option_eq same_array (numbered_array guid (arrays_after config (view_of old).arrays)) (numbered_array guid leader.arrays)) ≡ false
   unfolding arrays_after read array_in
   array_led guid =
       let first = first_in views k leader leads in
       let own = (view_of old).arrays in
       let make_row = λ (row : ArrayEntry). array_on own (row.guid, array_in (disks_in views) (elements_in views) row) in
-      ap (λ (rows : List ArrayEntry). not (option_eq same_array (placed_array guid rows) (placed_array guid leader.arrays)))
+      ap (λ (rows : List ArrayEntry). not (option_eq same_array (numbered_array guid rows) (numbered_array guid leader.arrays)))
       (map-map (array_on own) (λ (row : ArrayEntry). (row.guid, array_in (disks_in views) (elements_in views) row)) (arrays_in views))
-      ∙ ap not (find_made (λ pair. bytes_eq pair.1.guid guid) same_array make_row (λ n row. refl) (λ n row other. refl) 0 (arrays_in views) (placed_array guid leader.arrays))
-      ∙ ap (λ (rows : List ArrayEntry). not (option_eq same_array (placed_array guid rows) (placed_array guid leader.arrays))) first.3
+      ∙ ap not (find_made (λ pair. bytes_eq pair.1.guid guid) same_array make_row (λ n row. refl) (λ n row other. refl) 0 (arrays_in views) (numbered_array guid leader.arrays))
+      ∙ ap (λ (rows : List ArrayEntry). not (option_eq same_array (numbered_array guid rows) (numbered_array guid leader.arrays))) first.3
       ∙ (all_agree views agreed 0 k first.0 leader first.1 leads).arrays guid
 
   -- The copy that a recovery gives a disk agrees with each leader.
   pub recovered_agrees : Agrees view leader
   recovered_agrees = record {
     disks = λ reference.
-        ap (λ (list : List DiskEntry). not (option_eq same_disk (placed_disk reference list) (placed_disk reference leader.disks))) (recovered_disks_are old group sequence views timestamp can) ∙ disk_led reference;
+        ap (λ (list : List DiskEntry). not (option_eq same_disk (numbered_disk reference list) (numbered_disk reference leader.disks))) (recovered_disks_are old group sequence views timestamp can) ∙ disk_led reference;
     arrays = λ guid.
-        ap (λ (list : List ArrayEntry). not (option_eq same_array (placed_array guid list) (placed_array guid leader.arrays))) (recovered_arrays old group sequence views timestamp can) ∙ array_led guid;
+        ap (λ (list : List ArrayEntry). not (option_eq same_array (numbered_array guid list) (numbered_array guid leader.arrays))) (recovered_arrays old group sequence views timestamp can) ∙ array_led guid;
     elements = elements_alike config view.elements leader.elements element_led (recovered_away old group sequence views timestamp can);
   }
 

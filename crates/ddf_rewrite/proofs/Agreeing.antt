@@ -14,7 +14,7 @@ use Rattle.ddf_config.specs.Configuration.{Configuration}
 use Rattle.ddf_config.specs.ElementValue.{ElementValue as ElementPlan}
 use Rattle.ddf_config.specs.declared.array.Array.{Array}
 use Rattle.ddf_config.specs.declared.member.Member.{Member}
-use Rattle.ddf_view.specs.Differ.{difference, element_differs, placed_array, placed_disk, same_array, same_disk, same_held, same_record}
+use Rattle.ddf_view.specs.Differ.{difference, element_differs, numbered_array, numbered_disk, same_array, same_disk, same_held, same_record}
 use Rattle.ddf_view.specs.Reading.{plan_of}
 use Rattle.ddf_view.specs.Shows.{same_plan, same_position}
 use Rattle.ddf_view.specs.View.{view_of}
@@ -121,11 +121,11 @@ copies_agree old other leaders config timestamp names rebuilt room other_room =
     let other_arrays = arrays_are other leaders config timestamp other_room in
     no_difference one two (record {
       disks = λ reference.
-          ap (λ (list : List DiskEntry). not (option_eq same_disk (find (λ pair. eqb pair.1.reference reference) (enumerate_from 0 list)) (placed_disk reference two.disks))) disks
+          ap (λ (list : List DiskEntry). not (option_eq same_disk (find (λ pair. eqb pair.1.reference reference) (enumerate_from 0 list)) (numbered_disk reference two.disks))) disks
           ∙ ap (λ (list : List DiskEntry). not (option_eq same_disk (find (λ pair. eqb pair.1.reference reference) (enumerate_from 0 (changed_disks config leaders.disks old.header.revision (view_of old).disks))) (find (λ pair. eqb pair.1.reference reference) (enumerate_from 0 list)))) other_disks
           ∙ ap not (disks_alike config leaders.disks (view_of old).disks (view_of other).disks old.header.revision other.header.revision reference);
       arrays = λ guid.
-          ap (λ (list : List ArrayEntry). not (option_eq same_array (find (λ pair. bytes_eq pair.1.guid guid) (enumerate_from 0 list)) (placed_array guid two.arrays))) arrays
+          ap (λ (list : List ArrayEntry). not (option_eq same_array (find (λ pair. bytes_eq pair.1.guid guid) (enumerate_from 0 list)) (numbered_array guid two.arrays))) arrays
           ∙ ap (λ (list : List ArrayEntry). not (option_eq same_array (find (λ pair. bytes_eq pair.1.guid guid) (enumerate_from 0 (arrays_after config (view_of old).arrays))) (find (λ pair. bytes_eq pair.1.guid guid) (enumerate_from 0 list)))) other_arrays
           ∙ ap not (arrays_alike config (view_of old).arrays (view_of other).arrays guid);
       elements = elements_alike config one.elements two.elements (changed_alike old other leaders config timestamp names rebuilt room other_room) (none_found old leaders config timestamp names room);

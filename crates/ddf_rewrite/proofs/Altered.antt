@@ -6,7 +6,7 @@ use Rattle.ddf_configs.specs.ElementValue.{ElementValue}
 use Rattle.ddf_configs.specs.Building.{element_over}
 use Rattle.ddf_config.specs.Configuration.{Configuration}
 use Rattle.ddf_view.specs.Differ.{same_record}
-use Rattle.ddf_view.specs.View.{Held}
+use Rattle.ddf_view.specs.View.{HeldRecord}
 use Rattle.ddf_rewrite.specs.Elements.{altered, changed_over, place_in, planned}
 use Rattle.ddf_rewrite.specs.Wanted.{Wanted}
 
@@ -48,7 +48,7 @@ altered_few most config timestamp wanted leader before few = go (same_record lea
 pub element_named : (geometry : Geometry) (bytes element : ElementValue) → element_over geometry bytes (named element) ≡ element_over geometry bytes element
 element_named geometry bytes element = refl
 
-pub over_named : (geometry : Geometry) (own : Option Held) (leader element : ElementValue) → changed_over geometry own leader (named element) ≡ changed_over geometry own leader element
+pub over_named : (geometry : Geometry) (own : Option HeldRecord) (leader element : ElementValue) → changed_over geometry own leader (named element) ≡ changed_over geometry own leader element
 unfolding same_record
 over_named geometry None leader element = refl
 over_named geometry (Some own) leader element = go (same_record own.element leader)

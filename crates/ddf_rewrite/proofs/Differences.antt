@@ -17,7 +17,7 @@ use Rattle.ddf_config.specs.ElementValue.{ElementValue as ElementPlan}
 use Rattle.ddf_view.specs.Differ.{array_differs, difference, differing_arrays, differing_disks, differing_elements, disk_differs, element_difference, element_differs, held_differ, key_cmp, key_of, least, same_array, same_disk, same_held, same_notes, same_record}
 use Rattle.ddf_view.specs.Reading.{plan_of}
 use Rattle.ddf_view.specs.Shows.{same_plan, same_position}
-use Rattle.ddf_view.specs.View.{Held, View, find_held, is_element}
+use Rattle.ddf_view.specs.View.{HeldRecord, View, find_held, is_element}
 use Rattle.ddf_view.specs.declared.difference.Difference.TheVariants as differences
 use Rattle.ddf_view.proofs.Finds.{when_false, when_true}
 use Rattle.ddf_view.proofs.Shown.{plan_same}
@@ -95,14 +95,14 @@ each_alike {K = K} {X = X} same name eq is one other all key = go (named_at name
     go None e None f = rw (e, f) refl
 
 -- the same test, by the parts of the key
-abbrev differ_in : List Held → List Held → List ℕ → ℕ → Bool
+abbrev differ_in : List HeldRecord → List HeldRecord → List ℕ → ℕ → Bool
 differ_in one other guid index = element_differs one other (guid, index)
 
 -- Records that are alike for each element that the first holds are alike for every one.
-each_held : (one other : List Held) → AllByRecursion (λ key. element_differs one other key ≡ false) (map key_of one) → (key : List ℕ × ℕ) → element_differs one other key ≡ false
+each_held : (one other : List HeldRecord) → AllByRecursion (λ key. element_differs one other key ≡ false) (map key_of one) → (key : List ℕ × ℕ) → element_differs one other key ≡ false
 each_held one other all key = go (find_held key.0 key.1 one) refl
   where
-    go : (o : Option Held) → find_held key.0 key.1 one ≡ o → element_differs one other key ≡ false
+    go : (o : Option HeldRecord) → find_held key.0 key.1 one ≡ o → element_differs one other key ≡ false
     go None e = rw e refl
     go (Some held) e =
         let found = found_place (is_element key.0 key.1) one held e in
@@ -188,25 +188,25 @@ plans_self None one = refl
 plans_self (Some noted) one = plan_again one
 
 -- records that are the same, the other way round
-held_back : (one other : Held) → same_held one other ≡ true → same_held other one ≡ true
+held_back : (one other : HeldRecord) → same_held one other ≡ true → same_held other one ≡ true
 held_back one other h =
     let parts = and_parts (same_record one.element other.element) (same_notes one other) h in
     and_from (same_record other.element one.element) (same_notes other one) (same_again other.element one.element (same_back (are_same one.element other.element parts.0)))
     (plans_back one.note other.note (plan_of [] one.note one.element) (plan_of [] other.note other.element) parts.1)
 
 -- a record and itself
-held_self : (one : Held) → same_held one one ≡ true
+held_self : (one : HeldRecord) → same_held one one ≡ true
 held_self one = and_from (same_record one.element one.element) (same_notes one one) (same_again one.element one.element (same_self one.element)) (plans_self one.note (plan_of [] one.note one.element))
 
 -- records that don't differ, the other way round
-differ_back : (o p : Option Held) → held_differ o p ≡ false → held_differ p o ≡ false
+differ_back : (o p : Option HeldRecord) → held_differ o p ≡ false → held_differ p o ≡ false
 differ_back None None h = refl
 differ_back None (Some other) h = refl
 differ_back (Some one) None h = refl
 differ_back (Some one) (Some other) h = ap not (held_back one other (not_false (same_held one other) h))
 
 -- a record doesn't differ from itself
-differ_self : (o : Option Held) → held_differ o o ≡ false
+differ_self : (o : Option HeldRecord) → held_differ o o ≡ false
 differ_self None = refl
 differ_self (Some one) = ap not (held_self one)
 
@@ -263,7 +263,7 @@ some_or_none t (x ∷ all) = go (some_or_none t all) (t x) refl
     go (inr none) false e = inr (after none e)
 
 -- Where what is held of each element of a configuration is alike, and one view holds no others, each element is alike.
-pub elements_alike : (config : Configuration) (one other : List Held) → ((n : ℕ) (wanted : Wanted) → slice_get (all_wanted config) n ≡ Some wanted → element_differs one other (wanted.guid, wanted.index) ≡ false)
+pub elements_alike : (config : Configuration) (one other : List HeldRecord) → ((n : ℕ) (wanted : Wanted) → slice_get (all_wanted config) n ≡ Some wanted → element_differs one other (wanted.guid, wanted.index) ≡ false)
     → ((guid : List ℕ) (index : ℕ) → ((n : ℕ) (wanted : Wanted) → slice_get (all_wanted config) n ≡ Some wanted → wanted.guid ≡ guid → wanted.index ≡ index → ⊥) → find_held guid index one ≡ None)
     → (key : List ℕ × ℕ) → element_differs one other key ≡ false
 elements_alike config one other alike away key =

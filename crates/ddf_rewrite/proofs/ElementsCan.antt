@@ -28,7 +28,7 @@ use Rattle.ddf_config.specs.declared.element.Position.{Position}
 use Rattle.ddf_config.specs.declared.member.Member.{Member}
 use Rattle.ddf_view.specs.Differ.{same_record}
 use Rattle.ddf_view.specs.Readable.{AreReadable, IsReadable}
-use Rattle.ddf_view.specs.View.{Held}
+use Rattle.ddf_view.specs.View.{HeldRecord}
 use Rattle.ddf_view.proofs.Finds.{place_within}
 use Rattle.ddf_rewrite.specs.Disks.{block_size_of}
 use Rattle.ddf_rewrite.specs.Elements.{add_spare, altered, changed_record, contains, created, is_spare_for, keeping, kept_spare, no_reference, place_in, planned, recovered_record, spares_after, spares_of, with_spare}
@@ -375,12 +375,12 @@ keeping_fit most own leader element mine fit = go (same_record own leader) (same
     go false c = fit
 
 -- the disk's own record and the leader's can be written
-abbrev pub CanBeHeld : Geometry → Option Held → Type 0
+abbrev pub CanBeHeld : Geometry → Option HeldRecord → Type 0
 CanBeHeld geometry None = Unit {0}
 CanBeHeld geometry (Some held) = CanBeElement geometry held.element
 
 -- The record of an element after a change can be written.
-pub changed_can : (config : Configuration) (timestamp : ℕ) (geometry : Geometry) (revision : Revision) (own leader : Option Held) (wanted : Wanted) → HasRoom geometry → IsGiven geometry.max_members config wanted
+pub changed_can : (config : Configuration) (timestamp : ℕ) (geometry : Geometry) (revision : Revision) (own leader : Option HeldRecord) (wanted : Wanted) → HasRoom geometry → IsGiven geometry.max_members config wanted
     → timestamp < 2 ^ 32 → (leader ≡ None → array_capacity wanted.array < 2 ^ 64) → CanBeHeld geometry own → CanBeHeld geometry leader → CanBeElement geometry (changed_record config timestamp geometry revision own leader wanted)
 unfolding changed_record
 changed_can config timestamp geometry revision None None wanted room is time size mine theirs =
@@ -398,7 +398,7 @@ changed_can config timestamp geometry revision (Some own) (Some leader) wanted r
     can_be_over geometry (element_bytes geometry own.element) (keeping own.element leader.element (altered config timestamp wanted leader.element)) room (bytes_long geometry own.element room mine) fit.has fit.is
 
 -- and after a recovery
-pub recovered_can : (geometry : Geometry) (own : Option Held) (leader : ElementValue) → HasRoom geometry → CanBeHeld geometry own → CanBeElement geometry leader → CanBeElement geometry (recovered_record geometry own leader)
+pub recovered_can : (geometry : Geometry) (own : Option HeldRecord) (leader : ElementValue) → HasRoom geometry → CanBeHeld geometry own → CanBeElement geometry leader → CanBeElement geometry (recovered_record geometry own leader)
 unfolding recovered_record
 recovered_can geometry None leader room mine theirs =
     let fit = fit_from geometry leader theirs in

@@ -17,7 +17,7 @@ use Rattle.ddf_config.specs.declared.member.SpareUse.{SpareUse}
 use Rattle.ddf_view.specs.Readable.{HasNotes, IsReadable}
 use Rattle.ddf_view.specs.Reading.{dedicated_or_not, elements_in, is_associated, is_dedicated, read, spare_in}
 use Rattle.ddf_view.specs.Shows.{gives_elements, gives_spare, holds_all, same_spare, shows, shows_fully}
-use Rattle.ddf_view.specs.View.{Held, View, find_held, has_bit, view_of}
+use Rattle.ddf_view.specs.View.{HeldRecord, View, find_held, has_bit, view_of}
 use Rattle.ddf_view.proofs.Agreement.{Gives, Holds, records_read, dedicated_noted, shown_from, read_together}
 use Rattle.ddf_view.proofs.Finds.{place_there, place_within}
 use Rattle.ddf_view.proofs.Tests.{bytes_same}
@@ -72,12 +72,12 @@ associated old leaders config timestamp can a k entry member at there =
     let gives : Gives entry view = list_all_get (gives_elements view.elements) config.arrays a entry (shown_from config view (changed_shows old leaders config timestamp can.names can.rebuilt can.room)).elements at in
     let has : Holds entry view = list_all_get (holds_all view.elements) config.arrays a entry (changed_holds old leaders config timestamp can.names can.room) at in
     let records = records_read entry view [] (all_at (λ (one : List ℕ × Array). IsReadable one.1) config.arrays a entry can.readable at) gives has tt in
-    ap (λ (list : List Held). list_any (λ held. contains held.element.spares member.0) list) records ∙ go (is_spare_for entry.0 member.1.spare) refl
+    ap (λ (list : List HeldRecord). list_any (λ held. contains held.element.spares member.0) list) records ∙ go (is_spare_for entry.0 member.1.spare) refl
   where
     V : View
     V = view_of (changed_copy old leaders config timestamp)
 
-    tells : (i : ℕ) (held : Held) → i < length entry.1.elements → find_held entry.0 i V.elements ≡ Some held → contains held.element.spares member.0 ≡ is_spare_for entry.0 member.1.spare
+    tells : (i : ℕ) (held : HeldRecord) → i < length entry.1.elements → find_held entry.0 i V.elements ≡ Some held → contains held.element.spares member.0 ≡ is_spare_for entry.0 member.1.spare
     tells i held lt found = by_plan (place_there entry.1.elements i lt)
       where
         by_plan : (plan : Option ElementPlan) × (slice_get entry.1.elements i ≡ Some plan) → contains held.element.spares member.0 ≡ is_spare_for entry.0 member.1.spare
@@ -91,7 +91,7 @@ associated old leaders config timestamp can a k entry member at there =
             let record_is = record_found old leaders config timestamp can.names can.room place.0 wanted place.1 in
             let same = some_same found record_is in
             let spares : held.element.spares ≡ spares_after config entry.0 (base_spares (leading_record leaders wanted.guid wanted.index)) =
-            ap (λ (h : Held). h.element.spares) same ∙ record_spares config timestamp old.header.geometry old.header.revision (own_record old wanted) (leading_record leaders wanted.guid wanted.index) wanted in
+            ap (λ (h : HeldRecord). h.element.spares) same ∙ record_spares config timestamp old.header.geometry old.header.revision (own_record old wanted) (leading_record leaders wanted.guid wanted.index) wanted in
             let places : has_places config entry.0 (base_spares (leading_record leaders wanted.guid wanted.index)) ≡ true =
             list_all_get (λ one. has_places config one.guid (base_spares (leading_record leaders one.guid one.index))) (all_wanted config) place.0 wanted (not_false (list_all (λ one. has_places config one.guid (base_spares (leading_record leaders one.guid one.index))) (all_wanted config)) can.places) place.1 in
             ap (λ (list : List ℕ). contains list member.0) spares ∙ spares_tell config entry.0 (base_spares (leading_record leaders wanted.guid wanted.index)) k member can.spares there places

@@ -13,7 +13,7 @@ use Rattle.ddf_config.specs.declared.array.Array.{Array}
 use Rattle.ddf_config.specs.declared.element.Position.{Position}
 use Rattle.ddf_view.specs.Reading.{naming_record, plan_of}
 use Rattle.ddf_view.specs.Shows.{gives_element, gives_elements, gives_if_held, gives_numbers, holds, holds_all, least_element, names_numbers, same_flag, same_plan, same_position}
-use Rattle.ddf_view.specs.View.{Held, find_held}
+use Rattle.ddf_view.specs.View.{HeldRecord, find_held}
 use Rattle.ddf_view.proofs.Finds.{least_from, place_within}
 use Rattle.ddf_rewrite.specs.Notes.{note_of}
 use Rattle.ddf_rewrite.specs.Readable.{AreRebuilt, HasOwnNames}
@@ -52,22 +52,22 @@ plan_again p =
 
 -- Each record that it holds of a complete element gives it, of no other element it holds one, and the record of the least element of an
 -- array names how many there are.
-pub record GivesAll (config : Configuration) (elements : List Held) : Type 0 where
+pub record GivesAll (config : Configuration) (elements : List HeldRecord) : Type 0 where
   pub given : (n : ℕ) (wanted : Wanted) → slice_get (all_wanted config) n ≡ Some wanted → option_map_or (λ held. gives_element held (Some wanted.plan)) (find_held wanted.guid wanted.index elements) true ≡ true
   pub none : (guid : List ℕ) (index : ℕ) → ((n : ℕ) (wanted : Wanted) → slice_get (all_wanted config) n ≡ Some wanted → wanted.guid ≡ guid → wanted.index ≡ index → ⊥) → find_held guid index elements ≡ None
   pub numbers : (a : ℕ) (entry : List ℕ × Array) (pair : ℕ × Option ElementPlan) → slice_get config.arrays a ≡ Some entry → least_element entry.1.elements ≡ Some pair → names_numbers elements entry pair ≡ true
 
 -- Of each complete element it holds a record with its note, and of no other one.
-pub record HasAll (config : Configuration) (elements : List Held) : Type 0 where
+pub record HasAll (config : Configuration) (elements : List HeldRecord) : Type 0 where
   pub found : (n : ℕ) (wanted : Wanted) → slice_get (all_wanted config) n ≡ Some wanted
       → (copied : Bool) × (element : ElementValue) × (find_held wanted.guid wanted.index elements ≡ Some (record { element = element; note = Some (note_of copied wanted.plan) })) × IsPlanned wanted element
   pub none : (guid : List ℕ) (index : ℕ) → ((n : ℕ) (wanted : Wanted) → slice_get (all_wanted config) n ≡ Some wanted → wanted.guid ≡ guid → wanted.index ≡ index → ⊥) → find_held guid index elements ≡ None
 
 -- It holds a record of each complete element.
-abbrev pub HoldsEach : Configuration → List Held → Type 0
+abbrev pub HoldsEach : Configuration → List HeldRecord → Type 0
 HoldsEach config elements = (n : ℕ) (wanted : Wanted) → slice_get (all_wanted config) n ≡ Some wanted → is_some (find_held wanted.guid wanted.index elements) ≡ true
 
-pub all_held : (config : Configuration) (elements : List Held) → HasAll config elements → HoldsEach config elements
+pub all_held : (config : Configuration) (elements : List HeldRecord) → HasAll config elements → HoldsEach config elements
 all_held config elements has n wanted at = ap (λ o. is_some o) (has.found n wanted at).2
 
 -- an element that is None isn't wanted
@@ -82,16 +82,16 @@ not_wanted config a i entry names at none n wanted h guid index =
 
 -- ---- the elements of an array
 
-given_element : (config : Configuration) (elements : List Held) (a i : ℕ) (entry : List ℕ × Array) (plan : Option ElementPlan) → HasOwnNames config → GivesAll config elements
+given_element : (config : Configuration) (elements : List HeldRecord) (a i : ℕ) (entry : List ℕ × Array) (plan : Option ElementPlan) → HasOwnNames config → GivesAll config elements
     → slice_get config.arrays a ≡ Some entry → slice_get entry.1.elements i ≡ Some plan → gives_if_held elements entry.0 (i, plan) ≡ true
 given_element config elements a i entry None names gives at there =
     let none = gives.none entry.0 i (not_wanted config a i entry names at (inl there)) in
-    ap (λ o. option_map_or (λ (held : Held). gives_element held None) o true) none
+    ap (λ o. option_map_or (λ (held : HeldRecord). gives_element held None) o true) none
 given_element config elements a i entry (Some plan) names gives at there =
     let wanted = is_wanted config a i entry plan at there in
     gives.given wanted.0 (record { guid = entry.0; array = entry.1; index = i; plan = plan }) wanted.1
 
-held_element : (config : Configuration) (elements : List Held) (a i : ℕ) (entry : List ℕ × Array) (plan : Option ElementPlan) → HoldsEach config elements → slice_get config.arrays a ≡ Some entry → slice_get entry.1.elements i ≡ Some plan
+held_element : (config : Configuration) (elements : List HeldRecord) (a i : ℕ) (entry : List ℕ × Array) (plan : Option ElementPlan) → HoldsEach config elements → slice_get config.arrays a ≡ Some entry → slice_get entry.1.elements i ≡ Some plan
     → holds elements entry.0 (i, plan) ≡ true
 held_element config elements a i entry None each at there = refl
 held_element config elements a i entry (Some plan) each at there =
@@ -104,7 +104,7 @@ no_element (None ∷ plans) n h zero plan at = let same : None ≡ plan = cc in 
 no_element (None ∷ plans) n h (suc i) plan at = no_element plans (n + 1) h i plan at
 no_element (Some first ∷ plans) n h i plan at = absurd cc
 
-given_numbers : (config : Configuration) (elements : List Held) (a : ℕ) (entry : List ℕ × Array) → HasOwnNames config → GivesAll config elements → slice_get config.arrays a ≡ Some entry → gives_numbers elements entry ≡ true
+given_numbers : (config : Configuration) (elements : List HeldRecord) (a : ℕ) (entry : List ℕ × Array) → HasOwnNames config → GivesAll config elements → slice_get config.arrays a ≡ Some entry → gives_numbers elements entry ≡ true
 unfolding naming_record
 given_numbers config elements a entry names gives at = go (least_element entry.1.elements) refl
   where
@@ -120,12 +120,12 @@ given_numbers config elements a entry names gives at = go (least_element entry.1
     go (Some pair) e = let is = gives.numbers a entry pair at e in rw e is
 
 -- what is held of each complete element, with its note, gives it
-pub all_given : (config : Configuration) (elements : List Held) → AreRebuilt config → HasAll config elements → GivesAll config elements
+pub all_given : (config : Configuration) (elements : List HeldRecord) → AreRebuilt config → HasAll config elements → GivesAll config elements
 all_given config elements rebuilt has = record {
   given = λ n wanted at.
       let found = has.found n wanted at in
       let same : plan_of [] (Some (note_of found.0 wanted.plan)) found.1 ≡ wanted.plan = plan_noted found.0 wanted.plan found.1 (rebuilt n wanted at) (has_plan wanted found.1 found.3) in
-      ap (λ o. option_map_or (λ (held : Held). gives_element held (Some wanted.plan)) o true) found.2
+      ap (λ o. option_map_or (λ (held : HeldRecord). gives_element held (Some wanted.plan)) o true) found.2
       ∙ ap (λ (p : ElementPlan). same_plan same_position p wanted.plan) same ∙ plan_again wanted.plan;
   none = has.none;
   numbers = λ a entry pair at e.
@@ -140,14 +140,14 @@ all_given config elements rebuilt has = record {
         let found = has.found wanted.0 (record { guid = entry.0; array = entry.1; index = j; plan = plan }) wanted.1 in
         let count : eqb found.1.elements (length entry.1.elements) ≡ true = eq-eqb found.1.elements (length entry.1.elements) found.3.count in
         let level : eqb found.1.secondary entry.1.secondary ≡ true = eq-eqb found.1.secondary entry.1.secondary found.3.secondary in
-        ap (λ o. option_map_or (λ (held : Held). eqb held.element.elements (length entry.1.elements) && eqb held.element.secondary entry.1.secondary) o true) found.2 ∙ rw (count, level) refl
+        ap (λ o. option_map_or (λ (held : HeldRecord). eqb held.element.elements (length entry.1.elements) && eqb held.element.secondary entry.1.secondary) o true) found.2 ∙ rw (count, level) refl
 
     pair_numbers : (a : ℕ) (entry : List ℕ × Array) → slice_get config.arrays a ≡ Some entry → (pair : ℕ × Option ElementPlan) (j : ℕ) → pair.0 ≡ j → slice_get entry.1.elements j ≡ Some pair.1 → is_some pair.1 ≡ true
         → names_numbers elements entry pair ≡ true
     pair_numbers a entry at (place, None) j is there some = absurd (false≢true some)
     pair_numbers a entry at (place, Some plan) j is there some = ap (λ (n : ℕ). names_numbers elements entry (n, Some plan)) is ∙ numbers a entry at j plan there
 
-pub elements_given : (config : Configuration) (elements : List Held) → HasOwnNames config → GivesAll config elements → list_all (gives_elements elements) config.arrays ≡ true
+pub elements_given : (config : Configuration) (elements : List HeldRecord) → HasOwnNames config → GivesAll config elements → list_all (gives_elements elements) config.arrays ≡ true
 elements_given config elements names gives = all_from (gives_elements elements) config.arrays (λ a entry at.
     let numbers = given_numbers config elements a entry names gives at in
     let each : list_all (gives_if_held elements entry.0) (enumerate_from 0 entry.1.elements) ≡ true = all_enumerated (gives_if_held elements entry.0) 0 entry.1.elements (λ i plan there.
@@ -155,7 +155,7 @@ elements_given config elements names gives = all_from (gives_elements elements) 
     subst (λ (n : ℕ). gives_if_held elements entry.0 (n, plan) ≡ true) (sym here) (given_element config elements a i entry plan names gives at there)) in
     rw (numbers, each) refl)
 
-pub elements_held : (config : Configuration) (elements : List Held) → HoldsEach config elements → list_all (holds_all elements) config.arrays ≡ true
+pub elements_held : (config : Configuration) (elements : List HeldRecord) → HoldsEach config elements → list_all (holds_all elements) config.arrays ≡ true
 elements_held config elements each = all_from (holds_all elements) config.arrays (λ a entry at.
     all_enumerated (holds elements entry.0) 0 entry.1.elements (λ i plan there.
     let here : 0 + i ≡ i = omega arith in

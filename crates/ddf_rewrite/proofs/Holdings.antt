@@ -10,7 +10,7 @@ use Rattle.std.specs.Cmp.Lexicographic.{pointwise}
 use Rattle.ddf_configs.specs.Building.{element_over}
 use Rattle.ddf_config.specs.Configuration.{Configuration}
 use Rattle.ddf_view.specs.Differ.{same_member_place, same_record}
-use Rattle.ddf_view.specs.View.{Held}
+use Rattle.ddf_view.specs.View.{HeldRecord}
 use Rattle.ddf_view.proofs.Tests.{same_bytes, bytes_same, match_same}
 use Rattle.ddf_rewrite.specs.Elements.{altered, changed_record, created, keeping, place_in, planned}
 use Rattle.ddf_rewrite.specs.Wanted.{Wanted}
@@ -188,7 +188,7 @@ keeping_is wanted own leader element is = go (same_record own leader)
 over_is : (geometry : Geometry) (bytes : ElementValue) (wanted : Wanted) (element : ElementValue) → IsPlanned wanted element → IsPlanned wanted (element_over geometry bytes element)
 over_is geometry bytes wanted element is = record { array = is.array; index = is.index; count = is.count; secondary = is.secondary; level = is.level; qualifier = is.qualifier; strip = is.strip; blocks = is.blocks; members = is.members }
 
-pub record_planned : (config : Configuration) (timestamp : ℕ) (geometry : Geometry) (revision : Revision) (own leader : Option Held) (wanted : Wanted)
+pub record_planned : (config : Configuration) (timestamp : ℕ) (geometry : Geometry) (revision : Revision) (own leader : Option HeldRecord) (wanted : Wanted)
     → IsPlanned wanted (changed_record config timestamp geometry revision own leader wanted)
 unfolding changed_record
 record_planned config timestamp geometry revision None None wanted = record { array = refl; index = refl; count = refl; secondary = refl; level = refl; qualifier = refl; strip = refl; blocks = refl; members = refl }
@@ -209,11 +209,11 @@ keeping_same own leader element = go (same_record own leader)
     go false = record { array = refl; sequence = refl; strip = refl; level = refl; qualifier = refl; count = refl; index = refl; secondary = refl; blocks = refl; size = refl; spares = refl; members = refl }
 
 -- what a change makes of the leader's record, whatever disk it is for
-plain : Configuration → (timestamp : ℕ) → Revision → Option Held → Wanted → ElementValue
+plain : Configuration → (timestamp : ℕ) → Revision → Option HeldRecord → Wanted → ElementValue
 plain config timestamp revision None wanted = created config timestamp revision wanted
 plain config timestamp revision (Some leader) wanted = altered config timestamp wanted leader.element
 
-record_plain : (config : Configuration) (timestamp : ℕ) (geometry : Geometry) (revision : Revision) (own leader : Option Held) (wanted : Wanted)
+record_plain : (config : Configuration) (timestamp : ℕ) (geometry : Geometry) (revision : Revision) (own leader : Option HeldRecord) (wanted : Wanted)
     → AreSame (plain config timestamp revision leader wanted) (changed_record config timestamp geometry revision own leader wanted)
 unfolding changed_record plain
 record_plain config timestamp geometry revision None None wanted =
@@ -226,7 +226,7 @@ record_plain config timestamp geometry revision (Some own) (Some leader) wanted 
     let is = keeping_same own.element leader.element (altered config timestamp wanted leader.element) in
     record { array = is.array; sequence = is.sequence; strip = is.strip; level = is.level; qualifier = is.qualifier; count = is.count; index = is.index; secondary = is.secondary; blocks = is.blocks; size = is.size; spares = is.spares; members = is.members }
 
-plain_same : (config : Configuration) (timestamp : ℕ) (one other : Revision) (leader : Option Held) (wanted : Wanted)
+plain_same : (config : Configuration) (timestamp : ℕ) (one other : Revision) (leader : Option HeldRecord) (wanted : Wanted)
     → AreSame (plain config timestamp one leader wanted) (plain config timestamp other leader wanted)
 unfolding plain
 plain_same config timestamp one other None wanted =
@@ -235,7 +235,7 @@ plain_same config timestamp one other (Some leader) wanted =
     record { array = refl; sequence = refl; strip = refl; level = refl; qualifier = refl; count = refl; index = refl; secondary = refl; blocks = refl; size = refl; spares = refl; members = refl }
 
 -- The records of one element that a change gives two disks are the same in all named fields but timestamp and block size.
-pub records_agree : (config : Configuration) (timestamp : ℕ) (geometry other_geometry : Geometry) (revision other_revision : Revision) (own other_own leader : Option Held) (wanted : Wanted)
+pub records_agree : (config : Configuration) (timestamp : ℕ) (geometry other_geometry : Geometry) (revision other_revision : Revision) (own other_own leader : Option HeldRecord) (wanted : Wanted)
     → same_record (changed_record config timestamp geometry revision own leader wanted) (changed_record config timestamp other_geometry other_revision other_own leader wanted) ≡ true
 records_agree config timestamp geometry other_geometry revision other_revision own other_own leader wanted =
     same_again (changed_record config timestamp geometry revision own leader wanted) (changed_record config timestamp other_geometry other_revision other_own leader wanted)

@@ -6,10 +6,10 @@ use Rattle.std.specs.Option.{option_map_or}
 use Rattle.std.specs.List.{AllByRecursion, IsDistinct, enumerate_from, list_any, cons_option}
 use Rattle.ddf_configs.specs.declared.slot.RecordSlot.{RecordSlot}
 use Rattle.ddf_view.proofs.Finds.{place_within}
-use Rattle.ddf_rewrite.specs.Placement.{free_slots, is_item, is_others, item_at, placed_items, slot_of, stays_in, take_slots}
+use Rattle.ddf_rewrite.specs.Placement.{free_slots, is_item, is_others, item_at, slotted_items, slot_of, stays_in, take_slots}
 use Rattle.ddf_rewrite.specs.declared.item.Item.TheVariants as kinds
 use Rattle.ddf_rewrite.specs.declared.item.Item.{Item}
-use Rattle.ddf_rewrite.specs.declared.item.Placed.{Placed}
+use Rattle.ddf_rewrite.specs.declared.item.Slotted.{Slotted}
 use Rattle.ddf_rewrite.proofs.Placing.{same_item, slots_in, StandIn, Differs, taken, distinct, all_items, slot_found, stands_in, own_slots}
 use Rattle.ddf_rewrite.proofs.Lists.{some_same, get_map, map_get, found_place, one_place}
 
@@ -54,21 +54,21 @@ not_listed item (one ∷ items) slot stands h =
 -- ---- all of it
 
 -- each item has a slot, where it is found, and no other
-pub record AreInPlace (all : List RecordSlot) (items : List Item) (placed : List Placed) : Type 0 where
+pub record AreInPlace (all : List RecordSlot) (items : List Item) (placed : List Slotted) : Type 0 where
   pub each : (i : ℕ) (item : Item) → slice_get items i ≡ Some item → (slot : ℕ) × (slot < length all) × (item_at placed slot ≡ Some item)
   pub among : (slot : ℕ) (item : Item) → item_at placed slot ≡ Some item → (i : ℕ) × (slice_get items i ≡ Some item)
   pub one : (slot other : ℕ) (item : Item) → item_at placed slot ≡ Some item → item_at placed other ≡ Some item → slot ≡ other
 
-item_of : (placed : List Placed) (slot : ℕ) (item : Item) → item_at placed slot ≡ Some item → (one : Placed) × (find (λ other. eqb other.slot slot) placed ≡ Some one) × (one.item ≡ item)
+item_of : (placed : List Slotted) (slot : ℕ) (item : Item) → item_at placed slot ≡ Some item → (one : Slotted) × (find (λ other. eqb other.slot slot) placed ≡ Some one) × (one.item ≡ item)
 item_of placed slot item h = go (find (λ other. eqb other.slot slot) placed) refl h
   where
-    go : (o : Option Placed) → find (λ other. eqb other.slot slot) placed ≡ o → option_map (λ one. one.item) o ≡ Some item → (one : Placed) × (find (λ other. eqb other.slot slot) placed ≡ Some one) × (one.item ≡ item)
+    go : (o : Option Slotted) → find (λ other. eqb other.slot slot) placed ≡ o → option_map (λ one. one.item) o ≡ Some item → (one : Slotted) × (find (λ other. eqb other.slot slot) placed ≡ Some one) × (one.item ≡ item)
     go None e h = absurd cc
     go (Some one) e h = let same : one.item ≡ item = cc in (one, e, same)
 
-pub in_place : (group : List ℕ) (sequence : ℕ) (all : List RecordSlot) (items : List Item) → IsDistinct is_item items → length items ≤ length (placed_items group sequence all items)
-    → AreInPlace all items (placed_items group sequence all items)
-unfolding placed_items
+pub in_place : (group : List ℕ) (sequence : ℕ) (all : List RecordSlot) (items : List Item) → IsDistinct is_item items → length items ≤ length (slotted_items group sequence all items)
+    → AreInPlace all items (slotted_items group sequence all items)
+unfolding slotted_items
 in_place group sequence all items differ enough =
     let stands = slot_of group sequence all in
     let free = free_slots group sequence all items in
@@ -85,7 +85,7 @@ in_place group sequence all items differ enough =
       each = λ i item at.
           let there = map_get (λ one. one.item) placed i item (ap (λ (list : List Item). slice_get list i) same ∙ at) in
           let found = slot_found placed apart i there.0 there.1 in
-          (there.0.slot, all_at (λ slot. slot < length all) placed within i there.0 there.1, ap (λ o. option_map (λ (one : Placed). one.item) o) found ∙ ap (λ (x : Item). Some x) there.2);
+          (there.0.slot, all_at (λ slot. slot < length all) placed within i there.0 there.1, ap (λ o. option_map (λ (one : Slotted). one.item) o) found ∙ ap (λ (x : Item). Some x) there.2);
       among = λ slot item at.
           let there = item_of placed slot item at in
           let place = found_place (λ other. eqb other.slot slot) placed there.0 there.1 in
@@ -101,14 +101,14 @@ in_place group sequence all items differ enough =
           let ones : first.0 ≡ second.0 = some_same (ap (λ (i : ℕ). slice_get placed i) (sym index) ∙ here.1) there.1 in
           let slot_is = eqb-true first.0.slot slot here.2 in
           let other_is = eqb-true second.0.slot other there.2 in
-          sym slot_is ∙ ap (λ (p : Placed). p.slot) ones ∙ other_is;
+          sym slot_is ∙ ap (λ (p : Slotted). p.slot) ones ∙ other_is;
     }
   where
     each_stands : (some : List Item) → StandIn (slot_of group sequence all) (λ slot. slot < length all) some
     each_stands [] = tt
     each_stands (item ∷ some) = (λ slot at. let is = stands_in group sequence all item slot at in place_within all slot is.record_there is.at, each_stands some)
 
-    all_at : (P : ℕ → Type 0) (placed : List Placed) → AllByRecursion P (slots_in placed) → (i : ℕ) (one : Placed) → slice_get placed i ≡ Some one → P one.slot
+    all_at : (P : ℕ → Type 0) (placed : List Slotted) → AllByRecursion P (slots_in placed) → (i : ℕ) (one : Slotted) → slice_get placed i ≡ Some one → P one.slot
     all_at P [] all i one h = absurd cc
-    all_at P (p ∷ placed) all zero one h = let same : p ≡ one = cc in subst (λ (q : Placed). P q.slot) same all.0
+    all_at P (p ∷ placed) all zero one h = let same : p ≡ one = cc in subst (λ (q : Slotted). P q.slot) same all.0
     all_at P (p ∷ placed) all (suc i) one h = all_at P placed all.1 i one h

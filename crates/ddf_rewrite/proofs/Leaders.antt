@@ -14,7 +14,7 @@ use Rattle.ddf_configs.specs.Elements.{element_fields, element_fault, CanBeEleme
 use Rattle.ddf_copy.specs.declared.copy.DiskCopy.{DiskCopy}
 use Rattle.ddf_copy.specs.Written.{CanBeCopy}
 use Rattle.ddf_view.specs.Reading.{elements_in}
-use Rattle.ddf_view.specs.View.{Held, View, disk_of, notes_of, view_of}
+use Rattle.ddf_view.specs.View.{HeldRecord, View, disk_of, notes_of, view_of}
 use Rattle.ddf_rewrite.specs.Before.{before}
 use Rattle.ddf_rewrite.specs.Hold.{AreDisks, AreHeld, IsLeader}
 use Rattle.ddf_rewrite.proofs.RowsCan.{own_disks_good, references_of}
@@ -54,7 +54,7 @@ element_moved one other element members size can = record {
   is_record = subst (λ (m : ℕ). IsRecord (element_fields m element) element.rest) members can.is_record;
 }
 
-all_moved : (one other : Geometry) (elements : List Held) → one.max_members ≡ other.max_members → one.record_length ≡ other.record_length → AllByRecursion (λ held. CanBeElement one held.element) elements → AllByRecursion (λ held. CanBeElement other held.element) elements
+all_moved : (one other : Geometry) (elements : List HeldRecord) → one.max_members ≡ other.max_members → one.record_length ≡ other.record_length → AllByRecursion (λ held. CanBeElement one held.element) elements → AllByRecursion (λ held. CanBeElement other held.element) elements
 all_moved one other [] members size all = tt
 all_moved one other (held ∷ elements) members size all = (element_moved one other held.element members size all.0, all_moved one other elements members size all.1)
 

@@ -8,7 +8,7 @@ use Rattle.ddf_header.specs.declared.geometry.Geometry.{Geometry}
 use Rattle.ddf_configs.specs.ElementValue.{ElementValue}
 use Rattle.ddf_copy.specs.declared.copy.DiskCopy.{DiskCopy}
 use Rattle.ddf_config.specs.Configuration.{Configuration}
-use Rattle.ddf_view.specs.View.{Held, find_held, is_element}
+use Rattle.ddf_view.specs.View.{HeldRecord, find_held, is_element}
 use Rattle.ddf_view.proofs.Tests.{same_bytes}
 use Rattle.ddf_rewrite.specs.Before.{Before, leading_record}
 use Rattle.ddf_rewrite.specs.Copies.{element_item, is_copied_on, own_record, recovered_holding, recovered_holdings}
@@ -29,7 +29,7 @@ use Rattle.ddf_rewrite.proofs.ReadCan.{found_named}
 -- ---- a record
 
 -- It says what the leader's says.
-pub led_same : (geometry : Geometry) (own : Option Held) (leader : ElementValue) → AreSame leader (recovered_record geometry own leader)
+pub led_same : (geometry : Geometry) (own : Option HeldRecord) (leader : ElementValue) → AreSame leader (recovered_record geometry own leader)
 unfolding recovered_record
 led_same geometry None leader =
     record { array = refl; sequence = refl; strip = refl; level = refl; qualifier = refl; count = refl; index = refl; secondary = refl; blocks = refl; size = refl; spares = refl; members = refl }
@@ -40,7 +40,7 @@ led_same geometry (Some own) leader =
 
 -- a holding is of its element, with the leader's record
 pub record IsLed (old : DiskCopy) (leaders : Before) (wanted : Wanted) (holding : Holding) : Type 0 where
-  pub leader : Held
+  pub leader : HeldRecord
   pub leads : leading_record leaders wanted.guid wanted.index ≡ Some leader
   pub found : find_held wanted.guid wanted.index leaders.elements ≡ Some leader
   pub wanted_is : holding.wanted ≡ wanted
@@ -51,13 +51,13 @@ pub record IsLed (old : DiskCopy) (leaders : Before) (wanted : Wanted) (holding 
 pub is_led : (old : DiskCopy) (leaders : Before) (wanted : Wanted) (holding : Holding) → recovered_holding old leaders wanted ≡ Some holding → IsLed old leaders wanted holding
 is_led old leaders wanted holding h = go (leading_record leaders wanted.guid wanted.index) refl leaders.noted refl (is_copied_on old.disk_data.reference wanted) refl h
   where
-    make : Held → Bool → Holding
+    make : HeldRecord → Bool → Holding
     make leader copied = record { wanted = wanted; copied = copied; element = recovered_record old.header.geometry (own_record old wanted) leader.element }
 
-    some : (leader : Held) (copied : Bool) → Some (make leader copied) ≡ Some holding → make leader copied ≡ holding
+    some : (leader : HeldRecord) (copied : Bool) → Some (make leader copied) ≡ Some holding → make leader copied ≡ holding
     some leader copied h = cc
 
-    parts : (leader : Held) (noted copied : Bool) → leaders.noted ≡ noted → (noted ≡ false → copied ≡ false) → leading_record leaders wanted.guid wanted.index ≡ Some leader → make leader copied ≡ holding → IsLed old leaders wanted holding
+    parts : (leader : HeldRecord) (noted copied : Bool) → leaders.noted ≡ noted → (noted ≡ false → copied ≡ false) → leading_record leaders wanted.guid wanted.index ≡ Some leader → make leader copied ≡ holding → IsLed old leaders wanted holding
     parts leader noted copied n c at same = record {
       leader = leader;
       leads = at;
@@ -67,7 +67,7 @@ is_led old leaders wanted holding h = go (leading_record leaders wanted.guid wan
       own_only = λ no. sym (ap (λ (x : Holding). x.copied) same) ∙ c (sym n ∙ no);
     }
 
-    go : (o : Option Held) → leading_record leaders wanted.guid wanted.index ≡ o → (noted : Bool) → leaders.noted ≡ noted → (copied : Bool) → is_copied_on old.disk_data.reference wanted ≡ copied → recovered_holding old leaders wanted ≡ Some holding
+    go : (o : Option HeldRecord) → leading_record leaders wanted.guid wanted.index ≡ o → (noted : Bool) → leaders.noted ≡ noted → (copied : Bool) → is_copied_on old.disk_data.reference wanted ≡ copied → recovered_holding old leaders wanted ≡ Some holding
         → IsLed old leaders wanted holding
     go None e true n copied c h = absurd (let none : None ≡ Some holding = rw (e, n) at h in cc)
     go None e false n true c h = absurd (let none : None ≡ Some holding = rw (e, n, c) at h in cc)
@@ -77,7 +77,7 @@ is_led old leaders wanted holding h = go (leading_record leaders wanted.guid wan
     go (Some leader) e false n false c h = parts leader false false n (λ no. refl) e (some leader false (rw (e, n, c) at h))
 
 -- Where there are notes an element that a leader holds is held.
-pub led_noted : (old : DiskCopy) (leaders : Before) (wanted : Wanted) (leader : Held) → leaders.noted ≡ true → leading_record leaders wanted.guid wanted.index ≡ Some leader
+pub led_noted : (old : DiskCopy) (leaders : Before) (wanted : Wanted) (leader : HeldRecord) → leaders.noted ≡ true → leading_record leaders wanted.guid wanted.index ≡ Some leader
     → (holding : Holding) × (recovered_holding old leaders wanted ≡ Some holding)
 led_noted old leaders wanted leader noted at =
     (record { wanted = wanted; copied = is_copied_on old.disk_data.reference wanted; element = recovered_record old.header.geometry (own_record old wanted) leader.element }, rw (noted, at) refl)
@@ -110,7 +110,7 @@ left_differ f is (wanted ∷ rest) differ = go (left_differ f is rest differ.1) 
         (subst (λ (w : Wanted). AllByRecursion (λ y. is_item (kinds.Element w.guid w.index) y ≡ false) (map element_item (filter_map f rest))) (sym (is wanted holding e)) first, later)
 
 -- the array of what is found
-found_array : (array : List ℕ) (index : ℕ) (elements : List Held) (held : Held) → find_held array index elements ≡ Some held → held.element.array ≡ array
+found_array : (array : List ℕ) (index : ℕ) (elements : List HeldRecord) (held : HeldRecord) → find_held array index elements ≡ Some held → held.element.array ≡ array
 found_array array index elements held h = same_bytes held.element.array array (and_parts (bytes_eq held.element.array array) (nat_eq held.element.index index) (found_place (is_element array index) elements held h).2).0
 
 -- No two holdings are of one element.

@@ -6,7 +6,7 @@ use Rattle.std.specs.Str.{bytes_eq}
 use Rattle.ddf_tables.specs.declared.arrays.ArrayEntry.{ArrayEntry}
 use Rattle.ddf_config.specs.declared.array.Array.{Array}
 use Rattle.ddf_view.specs.Reading.{array_in, arrays_in, disks_in, elements_in, read}
-use Rattle.ddf_view.specs.View.{Held, View, find_held}
+use Rattle.ddf_view.specs.View.{HeldRecord, View, find_held}
 use Rattle.ddf_view.proofs.Tests.{bytes_same}
 use Rattle.ddf_rewrite.specs.Before.{Before, before, is_listed, leading_record}
 use Rattle.ddf_rewrite.specs.Wanted.{Wanted, all_wanted}
@@ -14,7 +14,7 @@ use Rattle.ddf_rewrite.proofs.AllWanted.{wanted_place}
 use Rattle.ddf_rewrite.proofs.Lists.{map_get, or_true}
 
 -- what is recorded of an element is held
-pub leading_held : (leaders : Before) (array : List ℕ) (index : ℕ) (held : Held) → leading_record leaders array index ≡ Some held → find_held array index leaders.elements ≡ Some held
+pub leading_held : (leaders : Before) (array : List ℕ) (index : ℕ) (held : HeldRecord) → leading_record leaders array index ≡ Some held → find_held array index leaders.elements ≡ Some held
 leading_held leaders array index held h = go (is_listed leaders array) h
   where
     go : (b : Bool) → cond b (find_held array index leaders.elements) None ≡ Some held → find_held array index leaders.elements ≡ Some held

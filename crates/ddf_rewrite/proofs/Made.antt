@@ -13,16 +13,16 @@ use Rattle.ddf_config.specs.Configuration.{Configuration}
 use Rattle.ddf_config.specs.Members.{is_spare}
 use Rattle.ddf_config.specs.declared.member.SpareUse.{SpareUse}
 use Rattle.ddf_view.specs.Readable.{HasNotes}
-use Rattle.ddf_view.specs.View.{Held, element_of, find_held, held_from, notes_of, view_of}
+use Rattle.ddf_view.specs.View.{HeldRecord, element_of, find_held, held_from, notes_of, view_of}
 use Rattle.ddf_view.proofs.Finds.{place_there}
 use Rattle.ddf_rewrite.specs.declared.item.Item.TheVariants as kinds
 use Rattle.ddf_rewrite.specs.declared.item.Item.{Item}
-use Rattle.ddf_rewrite.specs.declared.item.Placed.{Placed}
+use Rattle.ddf_rewrite.specs.declared.item.Slotted.{Slotted}
 use Rattle.ddf_rewrite.specs.Placement.{is_item, item_at}
 use Rattle.ddf_rewrite.specs.Notes.{Holding, note_for, notes_after}
 use Rattle.ddf_rewrite.specs.Spares.{spare_use}
 use Rattle.ddf_rewrite.specs.Wanted.{Wanted, all_wanted}
-use Rattle.ddf_rewrite.specs.Copies.{copy_after, element_item, items_of, one_if, placed_on, slots_after, spare_on}
+use Rattle.ddf_rewrite.specs.Copies.{copy_after, element_item, items_of, one_if, slotted_on, slots_after, spare_on}
 use Rattle.ddf_rewrite.specs.Readable.{HasOwnNames}
 use Rattle.ddf_rewrite.proofs.Lists.{map_get}
 use Rattle.ddf_rewrite.proofs.InPlace.{AreInPlace, in_place}
@@ -70,7 +70,7 @@ pub record AreApart (holdings : List Holding) : Type 0 where
 
 -- there is a slot for each
 abbrev pub HasSlots : DiskCopy → (noted : Bool) → Configuration → List Holding → Type 0
-HasSlots old noted config holdings = length (items_of noted (spare_use config old.disk_data.reference) holdings) ≤ length (placed_on old noted config holdings)
+HasSlots old noted config holdings = length (items_of noted (spare_use config old.disk_data.reference) holdings) ≤ length (slotted_on old noted config holdings)
 
 abbrev array_named : Item → List ℕ
 array_named kinds.Notes = []
@@ -101,7 +101,7 @@ slots_long : (old : DiskCopy) (noted : Bool) (config : Configuration) (timestamp
 unfolding slots_after
 slots_long old noted config timestamp holdings = length-map (enumerate_from 0 old.slots) _ ∙ length-enumerate_from 0 old.slots
 
-notes_long : (config : Configuration) (holdings : List Holding) (placed : List Placed) (count : ℕ) → length (notes_after config holdings placed count).slots ≡ count
+notes_long : (config : Configuration) (holdings : List Holding) (placed : List Slotted) (count : ℕ) → length (notes_after config holdings placed count).slots ≡ count
 unfolding notes_after
 notes_long config holdings placed count = length-map-range_with_len (λ slot. note_for holdings (item_at placed slot)) 0 count
 
@@ -109,8 +109,8 @@ module _ (old : DiskCopy) (noted : Bool) (config : Configuration) (timestamp : �
   abbrev use_as : SpareUse
   use_as = spare_use config old.disk_data.reference
 
-  abbrev placed : List Placed
-  placed = placed_on old noted config holdings
+  abbrev placed : List Slotted
+  placed = slotted_on old noted config holdings
 
   abbrev notes : Notes
   notes = notes_after config holdings placed (length old.slots)
@@ -143,7 +143,7 @@ module _ (old : DiskCopy) (noted : Bool) (config : Configuration) (timestamp : �
       → find_held holding.wanted.guid holding.wanted.index (view_of (copy_after old noted config timestamp disks holdings)).elements ≡ Some (record { element = holding.element; note = note_if noted holding })
   unfolding slots_after
   made_found n holding at =
-      ap (λ (elements : List Held). find_held holding.wanted.guid holding.wanted.index elements) made_elements
+      ap (λ (elements : List HeldRecord). find_held holding.wanted.guid holding.wanted.index elements) made_elements
       ∙ held_after old.header.geometry config holdings (spare_on old config timestamp) use_as noted old.slots placed made_in_place own n holding at
 
   -- and of no other element there is one
@@ -151,7 +151,7 @@ module _ (old : DiskCopy) (noted : Bool) (config : Configuration) (timestamp : �
       → find_held guid index (view_of (copy_after old noted config timestamp disks holdings)).elements ≡ None
   unfolding slots_after
   made_none guid index away =
-      ap (λ (elements : List Held). find_held guid index elements) made_elements
+      ap (λ (elements : List HeldRecord). find_held guid index elements) made_elements
       ∙ none_after old.header.geometry config holdings notes (notes_if noted notes) (spare_on old config timestamp) use_as noted old.slots placed made_in_place own guid index (λ i h.
       let item = item_is noted use_as holdings guid index i h in
       let from = map_get element_item holdings item.0 (kinds.Element guid index) item.1 in
@@ -163,7 +163,7 @@ module _ (old : DiskCopy) (noted : Bool) (config : Configuration) (timestamp : �
       let slots = slots_long old noted config timestamp holdings in
       let long = notes_long config holdings placed (length old.slots) in
       let each = notes_each notes 0 (slots_after old noted config timestamp holdings) (omega (arith, slots, long)) in
-      subst (λ (elements : List Held). AllByRecursion (λ held. is_some held.note ≡ true) elements)
+      subst (λ (elements : List HeldRecord). AllByRecursion (λ held. is_some held.note ≡ true) elements)
       (sym (made_elements ∙ ap (λ (b : Bool). held_from (notes_if b notes) 0 (slots_after old noted config timestamp holdings)) is)) each
 
 -- ---- holdings that are made of all elements

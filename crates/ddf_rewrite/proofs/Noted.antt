@@ -12,7 +12,7 @@ use Rattle.ddf_configs.specs.declared.slot.RecordSlot.{RecordSlot}
 use Rattle.ddf_copy.specs.declared.copy.DiskCopy.{DiskCopy}
 use Rattle.ddf_copy.specs.Written.{CanBeCopy}
 use Rattle.ddf_view.specs.Reading.{elements_in}
-use Rattle.ddf_view.specs.View.{Held, View, element_of, find_held, find_note, held_from, is_element, note_of, notes_of, view_of}
+use Rattle.ddf_view.specs.View.{HeldRecord, View, element_of, find_held, find_note, held_from, is_element, note_of, notes_of, view_of}
 use Rattle.ddf_rewrite.proofs.Made.{notes_each}
 use Rattle.ddf_rewrite.proofs.ReadCan.{copy_notes}
 
@@ -23,7 +23,7 @@ abbrev pub NotesFirst : View → Type 0
 NotesFirst view = (array : List ℕ) (index : ℕ) → find_note array index view.elements ≡ option_and_then (λ held. held.note) (find_held array index view.elements)
 
 -- where each record has a note
-all_noted : (array : List ℕ) (index : ℕ) (elements : List Held) → AllByRecursion (λ held. is_some held.note ≡ true) elements → find_note array index elements ≡ option_and_then (λ held. held.note) (find_held array index elements)
+all_noted : (array : List ℕ) (index : ℕ) (elements : List HeldRecord) → AllByRecursion (λ held. is_some held.note ≡ true) elements → find_note array index elements ≡ option_and_then (λ held. held.note) (find_held array index elements)
 all_noted array index [] all = refl
 all_noted array index (held ∷ elements) all = go (all_noted array index elements all.1) (is_element array index held) refl held.note refl all.0
   where
@@ -34,7 +34,7 @@ all_noted array index (held ∷ elements) all = go (all_noted array index elemen
     go later false e o f some = rw e later
 
 -- where none has
-none_noted : (array : List ℕ) (index : ℕ) (elements : List Held) → AllByRecursion (λ held. held.note ≡ None) elements → (find_note array index elements ≡ None) × (option_and_then (λ held. held.note) (find_held array index elements) ≡ None)
+none_noted : (array : List ℕ) (index : ℕ) (elements : List HeldRecord) → AllByRecursion (λ held. held.note ≡ None) elements → (find_note array index elements ≡ None) × (option_and_then (λ held. held.note) (find_held array index elements) ≡ None)
 none_noted array index [] all = (refl, refl)
 none_noted array index (held ∷ elements) all = go (none_noted array index elements all.1) (is_element array index held) refl
   where
@@ -61,10 +61,10 @@ notes_first copy is array index = go (notes_of copy) refl
     go : (o : Option Notes) → notes_of copy ≡ o → find_note array index (held_from (notes_of copy) 0 copy.slots) ≡ option_and_then (λ held. held.note) (find_held array index (held_from (notes_of copy) 0 copy.slots))
     go None e =
         let none = none_noted array index (held_from None 0 copy.slots) (no_notes 0 copy.slots) in
-        subst (λ (o : Option Notes). find_note array index (held_from o 0 copy.slots) ≡ option_and_then (λ (held : Held). held.note) (find_held array index (held_from o 0 copy.slots))) (sym e) (none.0 ∙ sym none.1)
+        subst (λ (o : Option Notes). find_note array index (held_from o 0 copy.slots) ≡ option_and_then (λ (held : HeldRecord). held.note) (find_held array index (held_from o 0 copy.slots))) (sym e) (none.0 ∙ sym none.1)
     go (Some notes) e =
         let count = copy_notes (λ (m : Notes). length m.slots ≡ length copy.slots) copy notes is (λ m can. can.counted) e in
-        subst (λ (o : Option Notes). find_note array index (held_from o 0 copy.slots) ≡ option_and_then (λ (held : Held). held.note) (find_held array index (held_from o 0 copy.slots))) (sym e)
+        subst (λ (o : Option Notes). find_note array index (held_from o 0 copy.slots) ≡ option_and_then (λ (held : HeldRecord). held.note) (find_held array index (held_from o 0 copy.slots))) (sym e)
         (all_noted array index (held_from (Some notes) 0 copy.slots) (notes_each notes 0 copy.slots (omega (arith, count))))
 
 -- so it is in each view
@@ -75,19 +75,19 @@ all_notes_first (copy ∷ copies) all = (notes_first copy all.0, all_notes_first
 -- ---- several views
 
 -- what is found among all is found in one
-pub found_in : (array : List ℕ) (index : ℕ) (views : List View) (held : Held) → find_held array index (elements_in views) ≡ Some held
+pub found_in : (array : List ℕ) (index : ℕ) (views : List View) (held : HeldRecord) → find_held array index (elements_in views) ≡ Some held
     → (m : ℕ) × (view : View) × (slice_get views m ≡ Some view) × (find_held array index view.elements ≡ Some held)
 found_in array index [] held h = absurd cc
 found_in array index (view ∷ views) held h = go (found_in array index views held) (find_held array index view.elements) refl (sym (find-append (is_element array index) view.elements (elements_in views)) ∙ h)
   where
-    go : (find_held array index (elements_in views) ≡ Some held → (m : ℕ) × (one : View) × (slice_get views m ≡ Some one) × (find_held array index one.elements ≡ Some held)) → (o : Option Held) → find_held array index view.elements ≡ o
+    go : (find_held array index (elements_in views) ≡ Some held → (m : ℕ) × (one : View) × (slice_get views m ≡ Some one) × (find_held array index one.elements ≡ Some held)) → (o : Option HeldRecord) → find_held array index view.elements ≡ o
         → option_or (find_held array index view.elements) (find_held array index (elements_in views)) ≡ Some held
         → (m : ℕ) × (one : View) × (slice_get (view ∷ views) m ≡ Some one) × (find_held array index one.elements ≡ Some held)
     go later None e h = let rest = later (rw e at h) in (suc rest.0, rest.1, rest.2, rest.3)
     go later (Some found) e h = let got : Some found ≡ Some held = rw e at h in (0, view, refl, e ∙ got)
 
 -- the first note in two lists
-note_append : (array : List ℕ) (index : ℕ) (xs ys : List Held) → find_note array index (xs ++ ys) ≡ option_or (find_note array index xs) (find_note array index ys)
+note_append : (array : List ℕ) (index : ℕ) (xs ys : List HeldRecord) → find_note array index (xs ++ ys) ≡ option_or (find_note array index xs) (find_note array index ys)
 note_append array index [] ys = refl
 note_append array index (held ∷ xs) ys = go (note_of array index held) (note_append array index xs ys)
   where
@@ -100,12 +100,12 @@ pub record HasNote (array : List ℕ) (index : ℕ) (views : List View) (given :
   pub m : ℕ
   pub view : View
   pub at : slice_get views m ≡ Some view
-  pub held : Held
+  pub held : HeldRecord
   pub found : find_held array index view.elements ≡ Some held
   pub has : held.note ≡ Some given
 
 -- a record that gives a note
-with_note : (o : Option Held) (given : SlotNote) → option_and_then (λ held. held.note) o ≡ Some given → (held : Held) × (o ≡ Some held) × (held.note ≡ Some given)
+with_note : (o : Option HeldRecord) (given : SlotNote) → option_and_then (λ held. held.note) o ≡ Some given → (held : HeldRecord) × (o ≡ Some held) × (held.note ≡ Some given)
 with_note None given h = absurd cc
 with_note (Some held) given h = (held, refl, h)
 
@@ -123,13 +123,13 @@ noted_in array index (view ∷ views) given all h = go (noted_in array index vie
         record { m = 0; view = view; at = refl; held = from.0; found = from.1; has = from.2 }
 
 -- Where a view has a note of an element one is found.
-pub some_noted : (array : List ℕ) (index : ℕ) (views : List View) (k : ℕ) (one : View) (held : Held) (given : SlotNote) → AllByRecursion NotesFirst views → slice_get views k ≡ Some one → find_held array index one.elements ≡ Some held
+pub some_noted : (array : List ℕ) (index : ℕ) (views : List View) (k : ℕ) (one : View) (held : HeldRecord) (given : SlotNote) → AllByRecursion NotesFirst views → slice_get views k ≡ Some one → find_held array index one.elements ≡ Some held
     → held.note ≡ Some given → (first : SlotNote) × (find_note array index (elements_in views) ≡ Some first)
 some_noted array index [] k one held given all at found has = absurd cc
 some_noted array index (view ∷ views) zero one held given all at found has =
     let same : view ≡ one = cc in
     let here : find_note array index view.elements ≡ Some given =
-    all.0 array index ∙ ap (λ (v : View). option_and_then (λ (x : Held). x.note) (find_held array index v.elements)) same ∙ ap (option_and_then (λ (x : Held). x.note)) found ∙ has in
+    all.0 array index ∙ ap (λ (v : View). option_and_then (λ (x : HeldRecord). x.note) (find_held array index v.elements)) same ∙ ap (option_and_then (λ (x : HeldRecord). x.note)) found ∙ has in
     (given, note_append array index view.elements (elements_in views) ∙ ap (λ o. option_or o (find_note array index (elements_in views))) here)
 some_noted array index (view ∷ views) (suc k) one held given all at found has = go (find_note array index view.elements) refl (some_noted array index views k one held given all.1 at found has)
   where

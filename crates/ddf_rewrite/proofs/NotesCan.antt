@@ -26,7 +26,7 @@ use Rattle.ddf_rewrite.specs.Notes.{Holding, find_holding, no_note, note_for, no
 use Rattle.ddf_rewrite.specs.Placement.{item_at}
 use Rattle.ddf_rewrite.specs.declared.item.Item.TheVariants as kinds
 use Rattle.ddf_rewrite.specs.declared.item.Item.{Item}
-use Rattle.ddf_rewrite.specs.declared.item.Placed.{Placed}
+use Rattle.ddf_rewrite.specs.declared.item.Slotted.{Slotted}
 use Rattle.ddf_rewrite.proofs.Plans.{places_from, later_places}
 
 -- ---- geometry
@@ -119,7 +119,7 @@ note_for_is most holdings (Some (kinds.Element array index)) all = go (find_hold
         let fits = find_has (HasPlan most) (λ one. bytes_eq one.wanted.guid array && eqb one.wanted.index index) holdings holding all e in
         note_is most holding.copied holding.wanted.plan fits.allowed fits.few fits.positions
 
-all_notes : (most from count : ℕ) (holdings : List Holding) (placed : List Placed) → AllByRecursion (HasPlan most) holdings → AllByRecursion (IsNote most) (map (λ slot. note_for holdings (item_at placed slot)) (range_with_len from count))
+all_notes : (most from count : ℕ) (holdings : List Holding) (placed : List Slotted) → AllByRecursion (HasPlan most) holdings → AllByRecursion (IsNote most) (map (λ slot. note_for holdings (item_at placed slot)) (range_with_len from count))
 all_notes most from zero holdings placed all = tt
 all_notes most from (suc count) holdings placed all = (note_for_is most holdings (item_at placed from) all, all_notes most (from + 1) count holdings placed all)
 
@@ -141,7 +141,7 @@ rising most [] all = tt
 rising most (note ∷ notes) all = (all.0.rises, rising most notes all.1)
 
 -- The notes can be written.
-pub notes_can : (geometry : Geometry) (config : Configuration) (holdings : List Holding) (placed : List Placed) (count : ℕ) → IsSound geometry → note_place geometry.max_members count ≤ record_size geometry → length config.group ≡ 24 → config.sequence < 2 ^ 32
+pub notes_can : (geometry : Geometry) (config : Configuration) (holdings : List Holding) (placed : List Slotted) (count : ℕ) → IsSound geometry → note_place geometry.max_members count ≤ record_size geometry → length config.group ≡ 24 → config.sequence < 2 ^ 32
     → AllByRecursion (HasPlan geometry.max_members) holdings → CanBeNotes geometry count (notes_after config holdings placed count)
 unfolding notes_after
 notes_can geometry config holdings placed count sound room group sequence fit =

@@ -16,7 +16,7 @@ use Rattle.ddf_view.proofs.Tests.{same_bytes, bytes_same, all_map}
 use Rattle.ddf_rewrite.specs.Placement.{is_item, is_notes_slot, is_slot_of, slot_of, take_one, take_slots}
 use Rattle.ddf_rewrite.specs.declared.item.Item.TheVariants as kinds
 use Rattle.ddf_rewrite.specs.declared.item.Item.{Item}
-use Rattle.ddf_rewrite.specs.declared.item.Placed.{Placed}
+use Rattle.ddf_rewrite.specs.declared.item.Slotted.{Slotted}
 use Rattle.ddf_rewrite.proofs.Lists.{found_place}
 
 -- ---- items
@@ -45,7 +45,7 @@ same_item (kinds.Element array index) =
 
 -- ---- what holds of each slot that is taken
 
-abbrev pub slots_in : List Placed → List ℕ
+abbrev pub slots_in : List Slotted → List ℕ
 slots_in placed = map (λ one. one.slot) placed
 
 -- each item stands where P holds
@@ -116,20 +116,20 @@ all_items stands (item ∷ items) free enough = go (λ rest. all_items stands it
 -- ---- the slot of an item
 
 -- a slot that is taken is found
-pub slot_found : (placed : List Placed) → IsDistinct eqb (slots_in placed) → (i : ℕ) (one : Placed) → slice_get placed i ≡ Some one → find (λ other. eqb other.slot one.slot) placed ≡ Some one
+pub slot_found : (placed : List Slotted) → IsDistinct eqb (slots_in placed) → (i : ℕ) (one : Slotted) → slice_get placed i ≡ Some one → find (λ other. eqb other.slot one.slot) placed ≡ Some one
 unfolding IsDistinct
 slot_found [] apart i one at = absurd cc
 slot_found (first ∷ placed) apart zero one at =
     let same : first ≡ one = cc in
-    let yes : eqb first.slot one.slot ≡ true = eq-eqb first.slot one.slot (ap (λ (p : Placed). p.slot) same) in
-    when_true (eqb first.slot one.slot) (Some first) (find (λ other. eqb other.slot one.slot) placed) yes ∙ ap (λ (p : Placed). Some p) same
+    let yes : eqb first.slot one.slot ≡ true = eq-eqb first.slot one.slot (ap (λ (p : Slotted). p.slot) same) in
+    when_true (eqb first.slot one.slot) (Some first) (find (λ other. eqb other.slot one.slot) placed) yes ∙ ap (λ (p : Slotted). Some p) same
 slot_found (first ∷ placed) apart (suc i) one at =
     let no = differs placed apart.0 i one at in
     when_false (eqb first.slot one.slot) (Some first) (find (λ other. eqb other.slot one.slot) placed) no ∙ slot_found placed apart.1 i one at
   where
-    differs : (rest : List Placed) → AllByRecursion (λ k. eqb first.slot k ≡ false) (slots_in rest) → (i : ℕ) (one : Placed) → slice_get rest i ≡ Some one → eqb first.slot one.slot ≡ false
+    differs : (rest : List Slotted) → AllByRecursion (λ k. eqb first.slot k ≡ false) (slots_in rest) → (i : ℕ) (one : Slotted) → slice_get rest i ≡ Some one → eqb first.slot one.slot ≡ false
     differs [] all i one at = absurd cc
-    differs (next ∷ rest) all zero one at = let same : next ≡ one = cc in subst (λ (p : Placed). eqb first.slot p.slot ≡ false) same all.0
+    differs (next ∷ rest) all zero one at = let same : next ≡ one = cc in subst (λ (p : Slotted). eqb first.slot p.slot ≡ false) same all.0
     differs (next ∷ rest) all (suc i) one at = differs rest all.1 i one at
 
 -- ---- the slots that items stand in

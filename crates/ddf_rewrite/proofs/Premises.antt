@@ -15,7 +15,7 @@ use Rattle.ddf_configs.proofs.Sound.{room_from_sound}
 use Rattle.ddf_config.specs.Configuration.{Configuration}
 use Rattle.ddf_copy.specs.declared.copy.DiskCopy.{DiskCopy}
 use Rattle.ddf_copy.specs.Written.{CanBeCopy}
-use Rattle.ddf_view.specs.View.{Held, find_held, first_spare, is_element, notes_of, view_of}
+use Rattle.ddf_view.specs.View.{HeldRecord, find_held, first_spare, is_element, notes_of, view_of}
 use Rattle.ddf_view.proofs.Finds.{find_has}
 use Rattle.ddf_rewrite.specs.Before.{Before, leading_record}
 use Rattle.ddf_rewrite.specs.Hold.{AreHeld, IsHoldable}
@@ -35,14 +35,14 @@ pub has_room : (old : DiskCopy) → CanBeCopy old → HasRoom old.header.geometr
 has_room old is = room_from_sound old.header.geometry (is_sound old is)
 
 -- a disk's own record
-pub own_can : (old : DiskCopy) (array : List ℕ) (index : ℕ) (held : Held) → CanBeCopy old → find_held array index (view_of old).elements ≡ Some held → CanBeElement old.header.geometry held.element
+pub own_can : (old : DiskCopy) (array : List ℕ) (index : ℕ) (held : HeldRecord) → CanBeCopy old → find_held array index (view_of old).elements ≡ Some held → CanBeElement old.header.geometry held.element
 unfolding view_of
 own_can old array index held is at =
     find_has (λ one. CanBeElement old.header.geometry one.element) (is_element array index) (view_of old).elements held
     (elements_can old.header.geometry old.header.guid old.header.sequence (notes_of old) old.slots is.slots_can) at
 
 -- a leader's record
-pub leader_can : (geometry : Geometry) (leaders : Before) (array : List ℕ) (index : ℕ) (held : Held) → AreHeld geometry leaders → leading_record leaders array index ≡ Some held → CanBeElement geometry held.element
+pub leader_can : (geometry : Geometry) (leaders : Before) (array : List ℕ) (index : ℕ) (held : HeldRecord) → AreHeld geometry leaders → leading_record leaders array index ≡ Some held → CanBeElement geometry held.element
 leader_can geometry leaders array index held are at =
     find_has (λ one. CanBeElement geometry one.element) (is_element array index) leaders.elements held are (leading_held leaders array index held at)
 

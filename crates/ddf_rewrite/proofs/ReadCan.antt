@@ -28,7 +28,7 @@ use Rattle.ddf_copy.specs.Written.{CanBeCopy}
 use Rattle.ddf_config.specs.ElementValue.{ElementValue as ElementPlan}
 use Rattle.ddf_config.specs.declared.array.Array.{Array}
 use Rattle.ddf_view.specs.Reading.{array_in, arrays_in, count_in, disks_in, element_in, elements_in, member_in, naming_record, plan_of, position_of, read, row_of, secondary_in}
-use Rattle.ddf_view.specs.View.{Held, View, element_of, find_held, find_note, held_from, is_element, note_at, notes_of, view_of}
+use Rattle.ddf_view.specs.View.{HeldRecord, View, element_of, find_held, find_note, held_from, is_element, note_at, notes_of, view_of}
 use Rattle.ddf_view.proofs.Finds.{find_has}
 use Rattle.ddf_rewrite.specs.Hold.{CanHold, FitsArray, FitsMember, FitsPlan, FitsPosition, IsLeader}
 use Rattle.ddf_rewrite.specs.Wanted.{Wanted, all_wanted}
@@ -104,7 +104,7 @@ note_fits (Some n) at fit = go (slice_get n.slots at) refl
     go None e = tt
     go (Some note) e = all_at (λ one. one.row < 2 ^ 64) n.slots at note fit e
 
-abbrev make_held : ElementValue → Option SlotNote → Held
+abbrev make_held : ElementValue → Option SlotNote → HeldRecord
 make_held element note = record { element = element; note = note }
 
 held_notes : (notes : Option Notes) (at : ℕ) (all : List RecordSlot) → RowsFit notes → AllByRecursion (λ held. NoteFits held.note) (held_from notes at all)
@@ -124,7 +124,7 @@ leaders_noted : (geometry : Geometry) (copies : List DiskCopy) → AllByRecursio
 leaders_noted geometry [] all = tt
 leaders_noted geometry (copy ∷ copies) all = all_append (λ held. NoteFits held.note) (view_of copy).elements (elements_in (map view_of copies)) (view_notes copy all.0.is_copy) (leaders_noted geometry copies all.1)
 
-find_note_fits : (array : List ℕ) (index : ℕ) (elements : List Held) → AllByRecursion (λ held. NoteFits held.note) elements → NoteFits (find_note array index elements)
+find_note_fits : (array : List ℕ) (index : ℕ) (elements : List HeldRecord) → AllByRecursion (λ held. NoteFits held.note) elements → NoteFits (find_note array index elements)
 find_note_fits array index [] all = tt
 find_note_fits array index (held ∷ elements) all = go (find_note_fits array index elements all.1) (is_element array index held) refl held.note refl all.0
   where
@@ -157,14 +157,14 @@ range_get from (suc count) zero j h = let same : from ≡ j = cc in (sym same �
 range_get from (suc count) (suc k) j h = let rest = range_get (from + 1) count k j h in (rest.0 ∙ omega arith, omega (arith, rest.1))
 
 -- what is found has its name
-pub found_named : (array : List ℕ) (index : ℕ) (elements : List Held) (held : Held) → find_held array index elements ≡ Some held → held.element.index ≡ index
+pub found_named : (array : List ℕ) (index : ℕ) (elements : List HeldRecord) (held : HeldRecord) → find_held array index elements ≡ Some held → held.element.index ≡ index
 found_named array index elements held h = eqb-true held.element.index index (and_parts (bytes_eq held.element.array array) (eqb held.element.index index) (passes elements h)).1
   where
-    passes : (xs : List Held) → find_held array index xs ≡ Some held → is_element array index held ≡ true
+    passes : (xs : List HeldRecord) → find_held array index xs ≡ Some held → is_element array index held ≡ true
     passes xs h = (found_place (is_element array index) xs held h).2
 
 -- the record of element 0 names the array
-pub first_names : (elements : List Held) (array : List ℕ) (held : Held) → find_held array 0 elements ≡ Some held → naming_record elements array ≡ Some held
+pub first_names : (elements : List HeldRecord) (array : List ℕ) (held : HeldRecord) → find_held array 0 elements ≡ Some held → naming_record elements array ≡ Some held
 unfolding naming_record
 first_names elements array held h = ap (λ o. option_or o (first_of (map (λ index. find_held array index elements) (range_with_len 1 15)))) h
 
@@ -178,14 +178,14 @@ pub index_below : (most : ℕ) (element : ElementValue) → IsFit most element �
 index_below most element fit = leb-false element.elements element.index (or_three (eqb element.elements 0) (ltb 16 element.elements) (leb element.elements element.index) fit.is.secondary)
 
 -- an element's strip counts under the number of the naming record
-strip_counts : (most : ℕ) (elements : List Held) (array : List ℕ) (index : ℕ) (held : Held) → AllByRecursion (λ one. IsFit most one.element) elements → find_held array index elements ≡ Some held → index < count_in elements array
+strip_counts : (most : ℕ) (elements : List HeldRecord) (array : List ℕ) (index : ℕ) (held : HeldRecord) → AllByRecursion (λ one. IsFit most one.element) elements → find_held array index elements ≡ Some held → index < count_in elements array
     → (nat_lt 31 held.element.strip && not (has_no_strip held.element.level (count_in elements array))) ≡ false
 strip_counts most elements array index held all at within =
     let fit = find_has (λ one. IsFit most one.element) (is_element array index) elements held all at in
     elim (cases_eq index 0) [
       | inl zero_is ↦
           let there : find_held array 0 elements ≡ Some held = subst (λ (i : ℕ). find_held array i elements ≡ Some held) zero_is at in
-          let count : count_in elements array ≡ held.element.elements = ap (λ o. option_map_or (λ (one : Held). one.element.elements) o 1) (first_names elements array held there) in
+          let count : count_in elements array ≡ held.element.elements = ap (λ o. option_map_or (λ (one : HeldRecord). one.element.elements) o 1) (first_names elements array held there) in
           subst (λ (n : ℕ). (nat_lt 31 held.element.strip && not (has_no_strip held.element.level n)) ≡ false) (sym count) fit.is.strip
       | inr other ↦
           let own = found_named array index elements held at in
@@ -200,8 +200,8 @@ strip_counts most elements array index held all at within =
 
 -- ---- an element that is read
 
-read_plan : (most : ℕ) (disks : List DiskEntry) (elements : List Held) (entry : ArrayEntry) (wanted : Wanted) → AllByRecursion (λ one. IsFit most one.element) elements → AllByRecursion (λ held. NoteFits held.note) elements
-    → (held : Held) → find_held entry.guid wanted.index elements ≡ Some held → wanted.plan ≡ plan_of disks (find_note entry.guid wanted.index elements) held.element → length wanted.array.elements ≡ count_in elements entry.guid → wanted.index < count_in elements entry.guid
+read_plan : (most : ℕ) (disks : List DiskEntry) (elements : List HeldRecord) (entry : ArrayEntry) (wanted : Wanted) → AllByRecursion (λ one. IsFit most one.element) elements → AllByRecursion (λ held. NoteFits held.note) elements
+    → (held : HeldRecord) → find_held entry.guid wanted.index elements ≡ Some held → wanted.plan ≡ plan_of disks (find_note entry.guid wanted.index elements) held.element → length wanted.array.elements ≡ count_in elements entry.guid → wanted.index < count_in elements entry.guid
     → FitsPlan most wanted
 unfolding plan_of
 read_plan most disks elements entry wanted all notes held at plan count within =
@@ -227,17 +227,17 @@ read_plan most disks elements entry wanted all notes held at plan count within =
           (positions_fit disks (find_note entry.guid wanted.index elements) 0 members note fit.has.references fit.has.starts);
     }
 
-make_plan : List DiskEntry → Option SlotNote → Held → ElementPlan
+make_plan : List DiskEntry → Option SlotNote → HeldRecord → ElementPlan
 make_plan disks note held = plan_of disks note held.element
 
-pub plan_found : (disks : List DiskEntry) (noted : Option SlotNote) (o : Option Held) (plan : ElementPlan) → option_map (λ (held : Held). plan_of disks noted held.element) o ≡ Some plan → (held : Held) × (o ≡ Some held) × (plan ≡ plan_of disks noted held.element)
+pub plan_found : (disks : List DiskEntry) (noted : Option SlotNote) (o : Option HeldRecord) (plan : ElementPlan) → option_map (λ (held : HeldRecord). plan_of disks noted held.element) o ≡ Some plan → (held : HeldRecord) × (o ≡ Some held) × (plan ≡ plan_of disks noted held.element)
 unfolding make_plan
 plan_found disks noted None plan h = absurd cc
 plan_found disks noted (Some held) plan h = let same : make_plan disks noted held ≡ plan = cc in (held, refl, sym same)
 
 -- ---- the whole
 
-pub fits_all : (geometry : Geometry) (elements : List Held) → AllByRecursion (λ held. CanBeElement geometry held.element) elements → AllByRecursion (λ held. IsFit geometry.max_members held.element) elements
+pub fits_all : (geometry : Geometry) (elements : List HeldRecord) → AllByRecursion (λ held. CanBeElement geometry held.element) elements → AllByRecursion (λ held. IsFit geometry.max_members held.element) elements
 fits_all geometry [] all = tt
 fits_all geometry (held ∷ elements) all = (fit_from geometry held.element all.0, fits_all geometry elements all.1)
 
@@ -247,16 +247,16 @@ members_fit views (disk ∷ disks) all =
     let fit = all.0.0.fields_fit in
     (record { guid = fit.0; used = all.0.2; reference = fit.1.0; size = fit.1.1.1.1.0 }, members_fit views disks all.1)
 
-secondary_fits : (most : ℕ) (elements : List Held) (array : List ℕ) → AllByRecursion (λ one. IsFit most one.element) elements → secondary_in elements array < 2 ^ 8
+secondary_fits : (most : ℕ) (elements : List HeldRecord) (array : List ℕ) → AllByRecursion (λ one. IsFit most one.element) elements → secondary_in elements array < 2 ^ 8
 unfolding naming_record
 secondary_fits most elements array all = go (naming_record elements array) refl
   where
-    go : (o : Option Held) → naming_record elements array ≡ o → option_map_or (λ (held : Held). held.element.secondary) o 0 < 2 ^ 8
+    go : (o : Option HeldRecord) → naming_record elements array ≡ o → option_map_or (λ (held : HeldRecord). held.element.secondary) o 0 < 2 ^ 8
     go None e = omega arith
-    go (Some held) e = first_has (λ (one : Held). one.element.secondary < 2 ^ 8) (λ index. find_held array index elements) (range_with_len 0 16) held
-        (λ i index one at found. (find_has (λ (x : Held). IsFit most x.element) (is_element array index) elements one all found).has.secondary) e
+    go (Some held) e = first_has (λ (one : HeldRecord). one.element.secondary < 2 ^ 8) (λ index. find_held array index elements) (range_with_len 0 16) held
+        (λ i index one at found. (find_has (λ (x : HeldRecord). IsFit most x.element) (is_element array index) elements one all found).has.secondary) e
 
-arrays_fit : (most : ℕ) (disks : List DiskEntry) (elements : List Held) (arrays : List ArrayEntry) → AllByRecursion (λ one. IsFit most one.element) elements → AllByRecursion IsArrayEntry arrays → AllByRecursion FitsArray (map (λ entry. (entry.guid, array_in disks elements entry)) arrays)
+arrays_fit : (most : ℕ) (disks : List DiskEntry) (elements : List HeldRecord) (arrays : List ArrayEntry) → AllByRecursion (λ one. IsFit most one.element) elements → AllByRecursion IsArrayEntry arrays → AllByRecursion FitsArray (map (λ entry. (entry.guid, array_in disks elements entry)) arrays)
 unfolding array_in
 arrays_fit most disks elements [] fit all = tt
 arrays_fit most disks elements (entry ∷ arrays) fit all =
@@ -282,10 +282,10 @@ unfolding view_of
 view_arrays copy is = own_arrays_good copy.arrays.rows is.arrays_can.rows_good
 
 -- a wanted element of a configuration that is read: its record, in its array
-pub record IsRead (disks : List DiskEntry) (elements : List Held) (wanted : Wanted) : Type 0 where
+pub record IsRead (disks : List DiskEntry) (elements : List HeldRecord) (wanted : Wanted) : Type 0 where
   pub entry : ArrayEntry
   pub guid : wanted.guid ≡ entry.guid
-  pub held : Held
+  pub held : HeldRecord
   pub found : find_held entry.guid wanted.index elements ≡ Some held
   pub plan : wanted.plan ≡ plan_of disks (find_note entry.guid wanted.index elements) held.element
   pub count : length wanted.array.elements ≡ count_in elements entry.guid

@@ -21,7 +21,7 @@ use Rattle.ddf_config.specs.declared.member.SpareUse.{SpareUse}
 use Rattle.ddf_view.specs.Readable.{AreReadable, IsReadable}
 use Rattle.ddf_view.specs.Reading.{are_noted, array_in, arrays_in, count_in, dedicated_or_not, disks_in, element_in, elements_in, is_associated, is_dedicated, member_in, names_array, naming_record, plan_of, position_of, read, records_of, row_of, secondary_in, spare_in}
 use Rattle.ddf_view.specs.Shows.{least_element}
-use Rattle.ddf_view.specs.View.{Held, View, find_held, find_note, has_bit, is_element}
+use Rattle.ddf_view.specs.View.{HeldRecord, View, find_held, find_note, has_bit, is_element}
 use Rattle.ddf_view.proofs.Finds.{find_has, filter_same}
 use Rattle.ddf_view.proofs.Tests.{same_bytes, bytes_same}
 use Rattle.ddf_rewrite.specs.Elements.{is_spare_for, no_reference}
@@ -65,7 +65,7 @@ read_rebuilt group sequence views i wanted at =
 
 -- ---- an array that is read
 
-abbrev pub AllFit : ℕ → List Held → Type 0
+abbrev pub AllFit : ℕ → List HeldRecord → Type 0
 AllFit most elements = AllByRecursion (λ held. IsFit most held.element) elements
 
 or_middle : (a b c : Bool) → (a || b || c) ≡ false → b ≡ false
@@ -82,52 +82,52 @@ first_some {X = X} {Y = Y} f (x ∷ xs) y h = go (first_some f xs y) (f x) refl 
     go later (Some z) e h = (0, x, refl, e ∙ h)
 
 -- the naming record is that of an element
-naming_at : (elements : List Held) (array : List ℕ) (held : Held) → naming_record elements array ≡ Some held → (index : ℕ) × (find_held array index elements ≡ Some held)
+naming_at : (elements : List HeldRecord) (array : List ℕ) (held : HeldRecord) → naming_record elements array ≡ Some held → (index : ℕ) × (find_held array index elements ≡ Some held)
 unfolding naming_record
 naming_at elements array held h = let is = first_some (λ index. find_held array index elements) (range_with_len 0 16) held h in (is.1, is.3)
 
 -- an element that is held is there
-element_there : (disks : List DiskEntry) (elements : List Held) (array : List ℕ) (index : ℕ) (held : Held) → find_held array index elements ≡ Some held → index < count_in elements array
+element_there : (disks : List DiskEntry) (elements : List HeldRecord) (array : List ℕ) (index : ℕ) (held : HeldRecord) → find_held array index elements ≡ Some held → index < count_in elements array
     → (plan : ElementPlan) × (slice_get (map (element_in disks elements array) (range_with_len 0 (count_in elements array))) index ≡ Some (Some plan))
 element_there disks elements array index held at lt =
     let place = get_range 0 (count_in elements array) index lt in
     let here : place.0 ≡ index = place.1 ∙ omega arith in
-    let is : element_in disks elements array index ≡ Some (plan_of disks (find_note array index elements) held.element) = ap (λ o. option_map (λ (one : Held). plan_of disks (find_note array index elements) one.element) o) at in (
+    let is : element_in disks elements array index ≡ Some (plan_of disks (find_note array index elements) held.element) = ap (λ o. option_map (λ (one : HeldRecord). plan_of disks (find_note array index elements) one.element) o) at in (
       plan_of disks (find_note array index elements) held.element,
       get_map (element_in disks elements array) (range_with_len 0 (count_in elements array)) index place.0 place.2 ∙ ap (λ (n : ℕ). Some (element_in disks elements array n)) here ∙ ap (λ (o : Option ElementPlan). Some o) is,
     )
 
 -- the naming record's element is there
-naming_there : (most : ℕ) (disks : List DiskEntry) (elements : List Held) (array : List ℕ) (held : Held) → AllFit most elements → naming_record elements array ≡ Some held
+naming_there : (most : ℕ) (disks : List DiskEntry) (elements : List HeldRecord) (array : List ℕ) (held : HeldRecord) → AllFit most elements → naming_record elements array ≡ Some held
     → (e : ℕ) × (plan : ElementPlan) × (slice_get (map (element_in disks elements array) (range_with_len 0 (count_in elements array))) e ≡ Some (Some plan))
 naming_there most disks elements array held all h =
     let at = naming_at elements array held h in
     let fit = find_has (λ one. IsFit most one.element) (is_element array at.0) elements held all at.1 in
     let own = found_named array at.0 elements held at.1 in
     let below = index_below most held.element fit in
-    let count : count_in elements array ≡ held.element.elements = ap (λ o. option_map_or (λ (one : Held). one.element.elements) o 1) h in
+    let count : count_in elements array ≡ held.element.elements = ap (λ o. option_map_or (λ (one : HeldRecord). one.element.elements) o 1) h in
     let there = element_there disks elements array at.0 held at.1 (omega (arith, own, below, count)) in
     (at.0, there.0, there.1)
 
-pub count_few : (most : ℕ) (elements : List Held) (array : List ℕ) → AllFit most elements → count_in elements array ≤ 16
+pub count_few : (most : ℕ) (elements : List HeldRecord) (array : List ℕ) → AllFit most elements → count_in elements array ≤ 16
 count_few most elements array all = go (naming_record elements array) refl
   where
-    go : (o : Option Held) → naming_record elements array ≡ o → option_map_or (λ (held : Held). held.element.elements) o 1 ≤ 16
+    go : (o : Option HeldRecord) → naming_record elements array ≡ o → option_map_or (λ (held : HeldRecord). held.element.elements) o 1 ≤ 16
     go None e = omega arith
     go (Some held) e =
         let at = naming_at elements array held e in
         let fit = find_has (λ one. IsFit most one.element) (is_element array at.0) elements held all at.1 in
         ltb-false 16 held.element.elements (or_middle (eqb held.element.elements 0) (ltb 16 held.element.elements) (leb held.element.elements held.element.index) fit.is.secondary)
 
-none_first : (elements : List Held) (array : List ℕ) → naming_record elements array ≡ None → find_held array 0 elements ≡ None
+none_first : (elements : List HeldRecord) (array : List ℕ) → naming_record elements array ≡ None → find_held array 0 elements ≡ None
 unfolding naming_record
 none_first elements array h = go (find_held array 0 elements) refl h
   where
-    go : (o : Option Held) → find_held array 0 elements ≡ o → option_or o (first_of (map (λ index. find_held array index elements) (range_with_len 1 15))) ≡ None → o ≡ None
+    go : (o : Option HeldRecord) → find_held array 0 elements ≡ o → option_or o (first_of (map (λ index. find_held array index elements) (range_with_len 1 15))) ≡ None → o ≡ None
     go None e h = refl
     go (Some held) e h = absurd cc
 
-read_array : (most : ℕ) (disks : List DiskEntry) (elements : List Held) (entry : ArrayEntry) → AllFit most elements → IsReadable (array_in disks elements entry)
+read_array : (most : ℕ) (disks : List DiskEntry) (elements : List HeldRecord) (entry : ArrayEntry) → AllFit most elements → IsReadable (array_in disks elements entry)
 unfolding array_in
 read_array most disks elements entry all = record {
   few = let count = length-map-range_with_len (element_in disks elements entry.guid) 0 (count_in elements entry.guid) in let few = count_few most elements entry.guid all in omega (arith, count, few);
@@ -135,25 +135,25 @@ read_array most disks elements entry all = record {
   plain = plain (naming_record elements entry.guid) refl;
 }
   where
-    some_there : (held : Held) → naming_record elements entry.guid ≡ Some held → least_element (map (element_in disks elements entry.guid) (range_with_len 0 (count_in elements entry.guid))) ≡ None → ⊥
+    some_there : (held : HeldRecord) → naming_record elements entry.guid ≡ Some held → least_element (map (element_in disks elements entry.guid) (range_with_len 0 (count_in elements entry.guid))) ≡ None → ⊥
     some_there held e none =
         let there = naming_there most disks elements entry.guid held all e in
         let gone = no_element (map (element_in disks elements entry.guid) (range_with_len 0 (count_in elements entry.guid))) 0 none there.0 (Some there.1) there.2 in
         absurd cc
 
-    alone : (o : Option Held) → naming_record elements entry.guid ≡ o → least_element (map (element_in disks elements entry.guid) (range_with_len 0 (count_in elements entry.guid))) ≡ None
+    alone : (o : Option HeldRecord) → naming_record elements entry.guid ≡ o → least_element (map (element_in disks elements entry.guid) (range_with_len 0 (count_in elements entry.guid))) ≡ None
         → map (element_in disks elements entry.guid) (range_with_len 0 (count_in elements entry.guid)) ≡ None ∷ []
     alone None e none =
-        let count : count_in elements entry.guid ≡ 1 = ap (λ o. option_map_or (λ (one : Held). one.element.elements) o 1) e in
-        let first : element_in disks elements entry.guid 0 ≡ None = ap (λ o. option_map (λ (one : Held). plan_of disks (find_note entry.guid 0 elements) one.element) o) (none_first elements entry.guid e) in
+        let count : count_in elements entry.guid ≡ 1 = ap (λ o. option_map_or (λ (one : HeldRecord). one.element.elements) o 1) e in
+        let first : element_in disks elements entry.guid 0 ≡ None = ap (λ o. option_map (λ (one : HeldRecord). plan_of disks (find_note entry.guid 0 elements) one.element) o) (none_first elements entry.guid e) in
         ap (λ (n : ℕ). map (element_in disks elements entry.guid) (range_with_len 0 n)) count ∙ ap (λ (o : Option ElementPlan). o ∷ []) first
     alone (Some held) e none = absurd (some_there held e none)
 
-    plain : (o : Option Held) → naming_record elements entry.guid ≡ o → least_element (map (element_in disks elements entry.guid) (range_with_len 0 (count_in elements entry.guid))) ≡ None → secondary_in elements entry.guid ≡ 0
-    plain None e none = ap (λ o. option_map_or (λ (one : Held). one.element.secondary) o 0) e
+    plain : (o : Option HeldRecord) → naming_record elements entry.guid ≡ o → least_element (map (element_in disks elements entry.guid) (range_with_len 0 (count_in elements entry.guid))) ≡ None → secondary_in elements entry.guid ≡ 0
+    plain None e none = ap (λ o. option_map_or (λ (one : HeldRecord). one.element.secondary) o 0) e
     plain (Some held) e none = absurd (some_there held e none)
 
-read_arrays : (most : ℕ) (disks : List DiskEntry) (elements : List Held) (arrays : List ArrayEntry) → AllFit most elements → AllByRecursion (λ (entry : List ℕ × Array). IsReadable entry.1) (map (λ (entry : ArrayEntry). (entry.guid, array_in disks elements entry)) arrays)
+read_arrays : (most : ℕ) (disks : List DiskEntry) (elements : List HeldRecord) (arrays : List ArrayEntry) → AllFit most elements → AllByRecursion (λ (entry : List ℕ × Array). IsReadable entry.1) (map (λ (entry : ArrayEntry). (entry.guid, array_in disks elements entry)) arrays)
 read_arrays most disks elements [] all = tt
 read_arrays most disks elements (entry ∷ arrays) all = (read_array most disks elements entry all, read_arrays most disks elements arrays all)
 
@@ -253,7 +253,7 @@ dedicated_there most disks views reference entry all h = go (is_associated (elem
     There : Type 0
     There = (e : ℕ) × (plan : ElementPlan) × (slice_get (map (element_in disks (elements_in views) entry.guid) (range_with_len 0 (count_in (elements_in views) entry.guid))) e ≡ Some (Some plan))
 
-    by_name : (o : Option Held) → naming_record (elements_in views) entry.guid ≡ o → is_some o ≡ true → There
+    by_name : (o : Option HeldRecord) → naming_record (elements_in views) entry.guid ≡ o → is_some o ≡ true → There
     by_name None e some = absurd (false≢true some)
     by_name (Some held) e some = naming_there most disks (elements_in views) entry.guid held all e
 
@@ -278,11 +278,11 @@ is_for array (uses.Dedicated arrays) h = (arrays, refl, h)
 abbrev make_member : List View → DiskEntry → ℕ × Member
 make_member views disk = (disk.reference, member_in views disk)
 
-abbrev make_array : List DiskEntry → List Held → ArrayEntry → List ℕ × Array
+abbrev make_array : List DiskEntry → List HeldRecord → ArrayEntry → List ℕ × Array
 make_array disks elements entry = (entry.guid, array_in disks elements entry)
 
 -- an array of one GUID has the same elements
-there_again : (disks : List DiskEntry) (elements : List Held) (array : ArrayEntry) (entry : List ℕ × Array) (guid : List ℕ) → make_array disks elements array ≡ entry → guid ≡ array.guid
+there_again : (disks : List DiskEntry) (elements : List HeldRecord) (array : ArrayEntry) (entry : List ℕ × Array) (guid : List ℕ) → make_array disks elements array ≡ entry → guid ≡ array.guid
     → (e : ℕ) (plan : ElementPlan) → slice_get (map (element_in disks elements guid) (range_with_len 0 (count_in elements guid))) e ≡ Some (Some plan) → slice_get entry.1.elements e ≡ Some (Some plan)
 unfolding array_in
 there_again disks elements array entry guid is same e plan there =

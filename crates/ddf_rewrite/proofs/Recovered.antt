@@ -24,7 +24,7 @@ use Rattle.ddf_config.specs.declared.element.Position.{Position}
 use Rattle.ddf_config.specs.declared.member.SpareUse.TheVariants as uses
 use Rattle.ddf_view.specs.Reading.{are_noted, array_in, arrays_in, count_in, dedicated_or_not, disks_in, element_in, elements_in, is_associated, is_dedicated, member_entry_in, naming_record, plan_of, position_of, read, spare_in}
 use Rattle.ddf_view.specs.Shows.{gives_element, gives_elements, gives_member, gives_spare, holds_all, least_element, names_numbers, same_place, same_plan, same_position, same_spare, shows, shows_fully}
-use Rattle.ddf_view.specs.View.{Held, View, find_held, find_note, has_bit, is_missing, view_of}
+use Rattle.ddf_view.specs.View.{HeldRecord, View, find_held, find_note, has_bit, is_missing, view_of}
 use Rattle.ddf_view.specs.Readable.{HasNotes, IsReadable}
 use Rattle.ddf_view.proofs.Agreement.{Gives, Holds, dedicated_noted, records_read}
 use Rattle.ddf_view.proofs.Finds.{least_from}
@@ -97,7 +97,7 @@ plan_placed plan element has =
     rw (level, qualifier, strip, blocks, places) refl
 
 -- what a copy holds of a holding
-abbrev pub held_as : (noted : Bool) → Holding → Held
+abbrev pub held_as : (noted : Bool) → Holding → HeldRecord
 held_as noted holding = record { element = holding.element; note = note_if noted holding }
 
 -- what is held gives the plan of its element
@@ -109,8 +109,8 @@ holding_gives false holding one has = plan_placed holding.wanted.plan holding.el
 -- ---- the least element of an array that is read
 
 -- It is held, and its record names the numbers.
-pub record IsNaming (elements : List Held) (guid : List ℕ) (array : Array) (pair : ℕ × Option ElementPlan) : Type 0 where
-  pub held : Held
+pub record IsNaming (elements : List HeldRecord) (guid : List ℕ) (array : Array) (pair : ℕ × Option ElementPlan) : Type 0 where
+  pub held : HeldRecord
   pub found : find_held guid pair.0 elements ≡ Some held
   pub plan : ElementPlan
   pub there : slice_get array.elements pair.0 ≡ Some (Some plan)
@@ -118,7 +118,7 @@ pub record IsNaming (elements : List Held) (guid : List ℕ) (array : Array) (pa
   pub level : held.element.secondary ≡ array.secondary
 
 -- an element that is None isn't held
-not_there : (disks : List DiskEntry) (given : Option SlotNote) (o : Option Held) → option_map (λ (held : Held). plan_of disks given held.element) o ≡ None → o ≡ None
+not_there : (disks : List DiskEntry) (given : Option SlotNote) (o : Option HeldRecord) → option_map (λ (held : HeldRecord). plan_of disks given held.element) o ≡ None → o ≡ None
 not_there disks given None h = refl
 not_there disks given (Some held) h = absurd cc
 
@@ -128,7 +128,7 @@ some_plan None h = absurd (false≢true h)
 some_plan (Some plan) h = (plan, refl)
 
 -- an element of an array that is read is what is held of it
-element_read : (disks : List DiskEntry) (elements : List Held) (guid : List ℕ) (count i : ℕ) (plan : Option ElementPlan) → slice_get (map (element_in disks elements guid) (range_with_len 0 count)) i ≡ Some plan
+element_read : (disks : List DiskEntry) (elements : List HeldRecord) (guid : List ℕ) (count i : ℕ) (plan : Option ElementPlan) → slice_get (map (element_in disks elements guid) (range_with_len 0 count)) i ≡ Some plan
     → (element_in disks elements guid i ≡ plan) × (i < count)
 element_read disks elements guid count i plan at =
     let from = map_get (element_in disks elements guid) (range_with_len 0 count) i plan at in
@@ -137,7 +137,7 @@ element_read disks elements guid count i plan at =
     (ap (element_in disks elements guid) (sym here) ∙ from.2, ranged.1)
 
 -- The least element of an array that is read names its numbers.
-pub naming_is : (most : ℕ) (disks : List DiskEntry) (elements : List Held) (row : ArrayEntry) (pair : ℕ × Option ElementPlan) → AllFit most elements → least_element (array_in disks elements row).elements ≡ Some pair
+pub naming_is : (most : ℕ) (disks : List DiskEntry) (elements : List HeldRecord) (row : ArrayEntry) (pair : ℕ × Option ElementPlan) → AllFit most elements → least_element (array_in disks elements row).elements ≡ Some pair
     → IsNaming elements row.guid (array_in disks elements row) pair
 unfolding array_in naming_record
 naming_is most disks elements row pair fit e =
@@ -161,8 +161,8 @@ naming_is most disks elements row pair fit e =
       found = ap (λ (i : ℕ). find_held guid i elements) place ∙ found.1;
       plan = some.0;
       there = ap (slice_get plans) place ∙ least.1.at ∙ ap (λ (o : Option ElementPlan). Some o) some.1;
-      count = sym (length-map-range_with_len (element_in disks elements guid) 0 count ∙ ap (λ o. option_map_or (λ (held : Held). held.element.elements) o 1) named);
-      level = sym (ap (λ o. option_map_or (λ (held : Held). held.element.secondary) o 0) named);
+      count = sym (length-map-range_with_len (element_in disks elements guid) 0 count ∙ ap (λ o. option_map_or (λ (held : HeldRecord). held.element.elements) o 1) named);
+      level = sym (ap (λ o. option_map_or (λ (held : HeldRecord). held.element.secondary) o 0) named);
     }
 
 -- ---- the members
@@ -187,19 +187,19 @@ unfolding recovered_disks read
 members_led group sequence views own = both_made gives_member (λ disk. disk_on own (number_at w16 disk.rest 58) disk) (member_entry_in views) (member_led views own) (disks_in views)
 
 -- what is told of each record of an array, where its spares are the same
-any_alike : (test : List ℕ → Bool) (f g : ℕ → Option Held) (k n : ℕ) → ((i : ℕ) → i < n → option_map (λ held. held.element.spares) (f (k + i)) ≡ option_map (λ held. held.element.spares) (g (k + i)))
+any_alike : (test : List ℕ → Bool) (f g : ℕ → Option HeldRecord) (k n : ℕ) → ((i : ℕ) → i < n → option_map (λ held. held.element.spares) (f (k + i)) ≡ option_map (λ held. held.element.spares) (g (k + i)))
     → list_any (λ held. test held.element.spares) (filter_map f (range_with_len k n)) ≡ list_any (λ held. test held.element.spares) (filter_map g (range_with_len k n))
 any_alike test f g k zero h = refl
 any_alike test f g k (suc n) h =
     let here : k + 0 ≡ k = omega arith in
     go (any_alike test f g (k + 1) n (λ i lt. let there : k + 1 + i ≡ k + suc i = omega arith in
-    subst (λ (m : ℕ). option_map (λ (held : Held). held.element.spares) (f m) ≡ option_map (λ (held : Held). held.element.spares) (g m)) (sym there) (h (suc i) (omega (arith, lt)))))
-    (f k) (g k) (subst (λ (m : ℕ). option_map (λ (held : Held). held.element.spares) (f m) ≡ option_map (λ (held : Held). held.element.spares) (g m)) here (h 0 (omega arith)))
+    subst (λ (m : ℕ). option_map (λ (held : HeldRecord). held.element.spares) (f m) ≡ option_map (λ (held : HeldRecord). held.element.spares) (g m)) (sym there) (h (suc i) (omega (arith, lt)))))
+    (f k) (g k) (subst (λ (m : ℕ). option_map (λ (held : HeldRecord). held.element.spares) (f m) ≡ option_map (λ (held : HeldRecord). held.element.spares) (g m)) here (h 0 (omega arith)))
   where
-    any : List Held → Bool
+    any : List HeldRecord → Bool
     any list = list_any (λ held. test held.element.spares) list
 
-    go : any (filter_map f (range_with_len (k + 1) n)) ≡ any (filter_map g (range_with_len (k + 1) n)) → (o p : Option Held) → option_map (λ (held : Held). held.element.spares) o ≡ option_map (λ (held : Held). held.element.spares) p
+    go : any (filter_map f (range_with_len (k + 1) n)) ≡ any (filter_map g (range_with_len (k + 1) n)) → (o p : Option HeldRecord) → option_map (λ (held : HeldRecord). held.element.spares) o ≡ option_map (λ (held : HeldRecord). held.element.spares) p
         → any (cons_option o (filter_map f (range_with_len (k + 1) n))) ≡ any (cons_option p (filter_map g (range_with_len (k + 1) n)))
     go rest None None e = rest
     go rest None (Some other) e = absurd cc
@@ -224,7 +224,7 @@ module _ (old : DiskCopy) (group : List ℕ) (sequence : ℕ) (views : List View
   abbrev config : Configuration
   config = read group sequence views
 
-  abbrev elements : List Held
+  abbrev elements : List HeldRecord
   elements = elements_in views
 
   -- what a recovery makes of an element that the configuration has
@@ -242,7 +242,7 @@ module _ (old : DiskCopy) (group : List ℕ) (sequence : ℕ) (views : List View
   recovered_fit = fits_all old.header.geometry elements can.leaders_can
 
   -- the leader's record of an element
-  pub recovered_leads : (n : ℕ) (wanted : Wanted) → slice_get (all_wanted config) n ≡ Some wanted → (leader : Held) × (leading_record (before views) wanted.guid wanted.index ≡ Some leader) × HasPlan leader.element wanted.plan
+  pub recovered_leads : (n : ℕ) (wanted : Wanted) → slice_get (all_wanted config) n ≡ Some wanted → (leader : HeldRecord) × (leading_record (before views) wanted.guid wanted.index ≡ Some leader) × HasPlan leader.element wanted.plan
   recovered_leads n wanted at =
       let is = is_read group sequence views n wanted at in (
         is.held,
@@ -291,19 +291,19 @@ module _ (old : DiskCopy) (group : List ℕ) (sequence : ℕ) (views : List View
       let leader : led.leader ≡ read.0 = some_same led.leads read.1 in
       subst (λ (x : ElementValue). HasPlan x wanted.plan) (sym led.element_is)
       (has_same led.leader.element (recovered_record old.header.geometry (own_record old wanted) led.leader.element) wanted.plan (led_same old.header.geometry (own_record old wanted) led.leader.element)
-      (subst (λ (x : Held). HasPlan x.element wanted.plan) (sym leader) read.2))
+      (subst (λ (x : HeldRecord). HasPlan x.element wanted.plan) (sym leader) read.2))
 
   -- a record that is held gives its element
   recovered_given : (n : ℕ) (wanted : Wanted) → slice_get (all_wanted config) n ≡ Some wanted → option_map_or (λ held. gives_element held (Some wanted.plan)) (find_held wanted.guid wanted.index view.elements) true ≡ true
-  recovered_given n wanted at = ap (λ o. option_map_or (λ (held : Held). gives_element held (Some wanted.plan)) o true) (recovered_found n wanted at) ∙ go (make wanted) refl
+  recovered_given n wanted at = ap (λ o. option_map_or (λ (held : HeldRecord). gives_element held (Some wanted.plan)) o true) (recovered_found n wanted at) ∙ go (make wanted) refl
     where
-      go : (o : Option Holding) → make wanted ≡ o → option_map_or (λ (held : Held). gives_element held (Some wanted.plan)) (option_map (held_as (before views).noted) (make wanted)) true ≡ true
-      go None e = ap (λ o. option_map_or (λ (held : Held). gives_element held (Some wanted.plan)) (option_map (held_as (before views).noted) o) true) e
+      go : (o : Option Holding) → make wanted ≡ o → option_map_or (λ (held : HeldRecord). gives_element held (Some wanted.plan)) (option_map (held_as (before views).noted) (make wanted)) true ≡ true
+      go None e = ap (λ o. option_map_or (λ (held : HeldRecord). gives_element held (Some wanted.plan)) (option_map (held_as (before views).noted) o) true) e
       go (Some holding) e =
           let led = is_led old (before views) wanted holding e in
           let has : HasPlan holding.element holding.wanted.plan = subst (λ (w : Wanted). HasPlan holding.element w.plan) (sym led.wanted_is) (made_plan n wanted holding at e) in
           let one : OneRebuilt holding.wanted.plan = subst (λ (w : Wanted). OneRebuilt w.plan) (sym led.wanted_is) (read_rebuilt group sequence views n wanted at) in
-          ap (λ o. option_map_or (λ (held : Held). gives_element held (Some wanted.plan)) (option_map (held_as (before views).noted) o) true) e
+          ap (λ o. option_map_or (λ (held : HeldRecord). gives_element held (Some wanted.plan)) (option_map (held_as (before views).noted) o) true) e
           ∙ subst (λ (w : Wanted). gives_element (held_as (before views).noted holding) (Some w.plan) ≡ true) led.wanted_is (holding_gives (before views).noted holding one has)
 
   -- the record of an array's least element names its numbers
@@ -324,7 +324,7 @@ module _ (old : DiskCopy) (group : List ℕ) (sequence : ℕ) (views : List View
           place : (n : ℕ) × (slice_get (all_wanted config) n ≡ Some wanted)
           place = is_wanted config a pair.0 entry is.plan at is.there
 
-          names : Held → Bool
+          names : HeldRecord → Bool
           names held = eqb held.element.elements (length entry.1.elements) && eqb held.element.secondary entry.1.secondary
 
           go : (o : Option Holding) → make wanted ≡ o → option_map_or names (option_map (held_as (before views).noted) (make wanted)) true ≡ true
@@ -333,8 +333,8 @@ module _ (old : DiskCopy) (group : List ℕ) (sequence : ℕ) (views : List View
               let led = is_led old (before views) wanted holding e in
               let same = led_same old.header.geometry (own_record old wanted) led.leader.element in
               let leader : led.leader ≡ is.held = some_same led.found is.found in
-              let count : holding.element.elements ≡ length entry.1.elements = ap (λ (x : ElementValue). x.elements) led.element_is ∙ sym same.count ∙ ap (λ (x : Held). x.element.elements) leader ∙ is.count in
-              let level : holding.element.secondary ≡ entry.1.secondary = ap (λ (x : ElementValue). x.secondary) led.element_is ∙ sym same.secondary ∙ ap (λ (x : Held). x.element.secondary) leader ∙ is.level in
+              let count : holding.element.elements ≡ length entry.1.elements = ap (λ (x : ElementValue). x.elements) led.element_is ∙ sym same.count ∙ ap (λ (x : HeldRecord). x.element.elements) leader ∙ is.count in
+              let level : holding.element.secondary ≡ entry.1.secondary = ap (λ (x : ElementValue). x.secondary) led.element_is ∙ sym same.secondary ∙ ap (λ (x : HeldRecord). x.element.secondary) leader ∙ is.level in
               let one : eqb holding.element.elements (length entry.1.elements) ≡ true = eq-eqb holding.element.elements (length entry.1.elements) count in
               let two : eqb holding.element.secondary entry.1.secondary ≡ true = eq-eqb holding.element.secondary entry.1.secondary level in
               ap (λ o. option_map_or names (option_map (held_as (before views).noted) o) true) e ∙ rw (one, two) refl
@@ -369,11 +369,11 @@ module _ (old : DiskCopy) (group : List ℕ) (sequence : ℕ) (views : List View
       let led = is_led old (before views) wanted holds.0 holds.1 in
       let leader : led.leader ≡ read.0 = some_same led.leads read.1 in
       let is : f holds.0.element ≡ f read.0.element = ap f led.element_is ∙ same led.leader.element (recovered_record old.header.geometry (own_record old wanted) led.leader.element) (led_same old.header.geometry (own_record old wanted) led.leader.element)
-      ∙ ap (λ (held : Held). f held.element) leader in
-      ap (option_map (λ (held : Held). f held.element)) (recovered_found n wanted at)
-      ∙ ap (λ o. option_map (λ (held : Held). f held.element) (option_map (held_as (before views).noted) o)) holds.1
+      ∙ ap (λ (held : HeldRecord). f held.element) leader in
+      ap (option_map (λ (held : HeldRecord). f held.element)) (recovered_found n wanted at)
+      ∙ ap (λ o. option_map (λ (held : HeldRecord). f held.element) (option_map (held_as (before views).noted) o)) holds.1
       ∙ ap (λ (x : X). Some x) is
-      ∙ sym (ap (option_map (λ (held : Held). f held.element)) (leading_held (before views) wanted.guid wanted.index read.0 read.1))
+      ∙ sym (ap (option_map (λ (held : HeldRecord). f held.element)) (leading_held (before views) wanted.guid wanted.index read.0 read.1))
 
   -- each element is held
   recovered_holds : (before views).noted ≡ true → HoldsEach config view.elements
@@ -404,7 +404,7 @@ module _ (old : DiskCopy) (group : List ℕ) (sequence : ℕ) (views : List View
       go None e =
           let none = not_there (disks_in views) (find_note row.guid i elements) (find_held row.guid i elements) e in
           let gone = recovered_away row.guid i (not_wanted config a i entry can.names there (inl (element ∙ ap (λ (o : Option ElementPlan). Some o) e))) in
-          ap (option_map (λ (held : Held). held.element.spares)) gone ∙ sym (ap (option_map (λ (held : Held). held.element.spares)) none)
+          ap (option_map (λ (held : HeldRecord). held.element.spares)) gone ∙ sym (ap (option_map (λ (held : HeldRecord). held.element.spares)) none)
       go (Some plan) e =
           let wanted = is_wanted config a i entry plan there (element ∙ ap (λ (o : Option ElementPlan). Some o) e) in
           recovered_field (λ (x : ElementValue). x.spares) (λ leader other same. sym same.spares) noted wanted.0 (record { guid = row.guid; array = entry.1; index = i; plan = plan }) wanted.1
@@ -419,10 +419,10 @@ module _ (old : DiskCopy) (group : List ℕ) (sequence : ℕ) (views : List View
       let has : Holds entry view = list_all_get (holds_all view.elements) config.arrays a entry (elements_held config view.elements (recovered_holds noted)) there in
       let readable = all_at (λ (one : List ℕ × Array). IsReadable one.1) config.arrays a entry (read_readable old.header.geometry.max_members group sequence views recovered_fit) there in
       let count : length entry.1.elements ≡ count_in elements row.guid = length-map-range_with_len (element_in (disks_in views) elements row.guid) 0 (count_in elements row.guid) in
-      ap (λ (list : List Held). list_any (λ held. contains held.element.spares reference) list) (records_read entry view [] readable gives has tt)
+      ap (λ (list : List HeldRecord). list_any (λ held. contains held.element.spares reference) list) (records_read entry view [] readable gives has tt)
       ∙ ap (λ (n : ℕ). list_any (λ held. contains held.element.spares reference) (filter_map (λ i. find_held row.guid i view.elements) (range_with_len 0 n))) count
       ∙ any_alike (λ spares. contains spares reference) (λ i. find_held row.guid i view.elements) (λ i. find_held row.guid i elements) 0 (count_in elements row.guid)
-      (λ i lt. let here : 0 + i ≡ i = omega arith in subst (λ (n : ℕ). option_map (λ (held : Held). held.element.spares) (find_held row.guid n view.elements) ≡ option_map (λ (held : Held). held.element.spares) (find_held row.guid n elements)) (sym here)
+      (λ i lt. let here : 0 + i ≡ i = omega arith in subst (λ (n : ℕ). option_map (λ (held : HeldRecord). held.element.spares) (find_held row.guid n view.elements) ≡ option_map (λ (held : HeldRecord). held.element.spares) (find_held row.guid n elements)) (sym here)
       (recovered_spares noted a row at i lt))
 
   -- the entries of the arrays

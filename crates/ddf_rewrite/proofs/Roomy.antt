@@ -11,7 +11,7 @@ use Rattle.ddf_copy.specs.declared.copy.DiskCopy.{DiskCopy}
 use Rattle.ddf_copy.specs.Written.{CanBeCopy}
 use Rattle.ddf_rewrite.specs.Before.{Before, leading_record}
 use Rattle.ddf_rewrite.specs.Changing.{CanChange}
-use Rattle.ddf_rewrite.specs.Copies.{changed_copy, changed_holdings, items_of, placed_on, recovered_holdings}
+use Rattle.ddf_rewrite.specs.Copies.{changed_copy, changed_holdings, items_of, slotted_on, recovered_holdings}
 use Rattle.ddf_rewrite.specs.Hold.{AreDisks, AreHeld, CanBeRecovered, CanWrite, IsHoldable}
 use Rattle.ddf_rewrite.specs.Notes.{Holding}
 use Rattle.ddf_rewrite.specs.Room.{full_after_change, full_after_recovery, full_with, lacks_entries, lacks_notes, lacks_places, lacks_slots}
@@ -24,7 +24,7 @@ use Rattle.ddf_rewrite.proofs.Writable.{changed_copy_can}
 pub record HasAllRoom (old : DiskCopy) (noted : Bool) (config : Configuration) (holdings : List Holding) (lacks : Bool) : Type 0 where
   pub disks : length config.members ≤ length old.disks.rows
   pub arrays : length config.arrays ≤ length old.arrays.rows
-  pub records : length (items_of noted (spare_use config old.disk_data.reference) holdings) ≤ length (placed_on old noted config holdings)
+  pub records : length (items_of noted (spare_use config old.disk_data.reference) holdings) ≤ length (slotted_on old noted config holdings)
   pub entries : lacks_entries old config ≡ false
   pub notes_room : lacks_notes old noted ≡ false
   pub places : lacks ≡ false
@@ -48,7 +48,7 @@ all_room old noted config holdings lacks is none =
     record {
       disks = omega (arith, few_disks, disk_rows);
       arrays = omega (arith, few_arrays, array_rows);
-      records = ltb-false (length (placed_on old noted config holdings)) (length (items_of noted use_as holdings)) slots.0;
+      records = ltb-false (length (slotted_on old noted config holdings)) (length (items_of noted use_as holdings)) slots.0;
       entries = slots.1;
       notes_room = none_when (lacks_notes old noted) tables.Notes all.1.1.1.0;
       places = none_when lacks tables.Spares all.1.1.1.1.0;

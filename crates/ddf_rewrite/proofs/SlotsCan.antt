@@ -20,14 +20,14 @@ use Rattle.ddf_configs.specs.NoteRecords.{CanBeNotes}
 use Rattle.ddf_configs.specs.Slots.{is_known, is_copied, lists, valid_notes, IsUnused, CanBeSlot, CanBeSlots}
 use Rattle.ddf_config.specs.Configuration.{Configuration}
 use Rattle.ddf_config.specs.declared.member.SpareUse.{SpareUse}
-use Rattle.ddf_view.specs.View.{Held, first_spare, held_from, held_of}
+use Rattle.ddf_view.specs.View.{HeldRecord, first_spare, held_from, held_of}
 use Rattle.ddf_view.proofs.Finds.{find_has, place_within}
 use Rattle.ddf_rewrite.specs.Copies.{element_slot, items_of, left_slot, record_of, slot_after, unused_slot}
 use Rattle.ddf_rewrite.specs.Notes.{Holding, find_holding, no_note, note_for, note_of, notes_after}
 use Rattle.ddf_rewrite.specs.Placement.{item_at}
 use Rattle.ddf_rewrite.specs.declared.item.Item.TheVariants as kinds
 use Rattle.ddf_rewrite.specs.declared.item.Item.{Item}
-use Rattle.ddf_rewrite.specs.declared.item.Placed.{Placed}
+use Rattle.ddf_rewrite.specs.declared.item.Slotted.{Slotted}
 use Rattle.ddf_rewrite.proofs.After.{made_slots, note_is, notes_none, notes_valid}
 use Rattle.ddf_rewrite.proofs.InPlace.{AreInPlace}
 use Rattle.ddf_rewrite.proofs.SparesCan.{CanBeOwn}
@@ -90,17 +90,17 @@ placed_can geometry count listed holdings notes spare old room can elements (Som
 
 -- ---- all slots
 
-count_after : (geometry : Geometry) (holdings : List Holding) (notes : Notes) (spare : SpareRecord) (placed : List Placed) (all : List RecordSlot) → length (made_slots geometry holdings notes spare placed all) ≡ length all
+count_after : (geometry : Geometry) (holdings : List Holding) (notes : Notes) (spare : SpareRecord) (placed : List Slotted) (all : List RecordSlot) → length (made_slots geometry holdings notes spare placed all) ≡ length all
 count_after geometry holdings notes spare placed all = length-map (enumerate_from 0 all) (slot_after geometry holdings notes spare placed) ∙ length-enumerate_from 0 all
 
 -- what the slots are made of
-pub record AreMade (geometry : Geometry) (config : Configuration) (holdings : List Holding) (notes : Notes) (spare : SpareRecord) (placed : List Placed) (all : List RecordSlot) : Type 0 where
+pub record AreMade (geometry : Geometry) (config : Configuration) (holdings : List Holding) (notes : Notes) (spare : SpareRecord) (placed : List Slotted) (all : List RecordSlot) : Type 0 where
   pub elements : AllByRecursion (HasElement geometry) holdings
   pub noted : (k : ℕ) → item_at placed k ≡ Some kinds.Notes → CanBeNotes geometry (length all) notes
   pub spared : (k : ℕ) → item_at placed k ≡ Some kinds.Spare → CanBeSpare geometry spare
   pub listed : (k : ℕ) → k < length all → lists (valid_notes config.group config.sequence (made_slots geometry holdings notes spare placed all)) k ≡ (note_for holdings (item_at placed k)).copied
 
-pub slots_can : (geometry : Geometry) (config : Configuration) (holdings : List Holding) (notes : Notes) (spare : SpareRecord) (placed : List Placed) (all : List RecordSlot) (group : List ℕ) (sequence : ℕ) → HasRoom geometry → CanBeSlots geometry group sequence all
+pub slots_can : (geometry : Geometry) (config : Configuration) (holdings : List Holding) (notes : Notes) (spare : SpareRecord) (placed : List Slotted) (all : List RecordSlot) (group : List ℕ) (sequence : ℕ) → HasRoom geometry → CanBeSlots geometry group sequence all
     → AreMade geometry config holdings notes spare placed all → CanBeSlots geometry config.group config.sequence (made_slots geometry holdings notes spare placed all)
 slots_can geometry config holdings notes spare placed all group sequence room can made = record {
   each = λ k slot at.
@@ -121,13 +121,13 @@ slots_can geometry config holdings notes spare placed all group sequence room ca
     within : (xs : List RecordSlot) (i : ℕ) (x : RecordSlot) → slice_get xs i ≡ Some x → i < length xs
     within xs i x h = place_within xs i x h
 
-pub slots_count_after : (geometry : Geometry) (holdings : List Holding) (notes : Notes) (spare : SpareRecord) (placed : List Placed) (all : List RecordSlot) → length (made_slots geometry holdings notes spare placed all) ≡ length all
+pub slots_count_after : (geometry : Geometry) (holdings : List Holding) (notes : Notes) (spare : SpareRecord) (placed : List Slotted) (all : List RecordSlot) → length (made_slots geometry holdings notes spare placed all) ≡ length all
 slots_count_after geometry holdings notes spare placed all = count_after geometry holdings notes spare placed all
 
 -- ---- which slots the notes list
 
 -- with notes among the items
-pub listed_noted : (geometry : Geometry) (config : Configuration) (holdings : List Holding) (spare : SpareRecord) (use_as : SpareUse) (placed : List Placed) (all : List RecordSlot) → AreInPlace all (items_of true use_as holdings) placed
+pub listed_noted : (geometry : Geometry) (config : Configuration) (holdings : List Holding) (spare : SpareRecord) (use_as : SpareUse) (placed : List Slotted) (all : List RecordSlot) → AreInPlace all (items_of true use_as holdings) placed
     → (k : ℕ) → k < length all
     → lists (valid_notes config.group config.sequence (made_slots geometry holdings (notes_after config holdings placed (length all)) spare placed all)) k ≡ (note_for holdings (item_at placed k)).copied
 listed_noted geometry config holdings spare use_as placed all in_place k lt =
@@ -145,7 +145,7 @@ none_copied holdings all (Some (kinds.Element array index)) = go (find_holding a
     go (Some holding) e = find_has (λ one. one.copied ≡ false) (λ one. bytes_eq one.wanted.guid array && eqb one.wanted.index index) holdings holding all e
 
 -- without notes among the items
-pub listed_none : (geometry : Geometry) (config : Configuration) (holdings : List Holding) (notes : Notes) (spare : SpareRecord) (use_as : SpareUse) (placed : List Placed) (all : List RecordSlot) → AreInPlace all (items_of false use_as holdings) placed
+pub listed_none : (geometry : Geometry) (config : Configuration) (holdings : List Holding) (notes : Notes) (spare : SpareRecord) (use_as : SpareUse) (placed : List Slotted) (all : List RecordSlot) → AreInPlace all (items_of false use_as holdings) placed
     → AllByRecursion (λ holding. holding.copied ≡ false) holdings → (k : ℕ) → k < length all
     → lists (valid_notes config.group config.sequence (made_slots geometry holdings notes spare placed all)) k ≡ (note_for holdings (item_at placed k)).copied
 listed_none geometry config holdings notes spare use_as placed all in_place none k lt =
@@ -153,7 +153,7 @@ listed_none geometry config holdings notes spare use_as placed all in_place none
 
 -- ---- what an old copy holds
 
-held_can : (geometry : Geometry) (count : ℕ) (listed : Bool) (notes : Option Notes) (at : ℕ) (slot : RecordSlot) (rest : List Held) → CanBeSlot geometry count listed slot → AllByRecursion (λ held. CanBeElement geometry held.element) rest
+held_can : (geometry : Geometry) (count : ℕ) (listed : Bool) (notes : Option Notes) (at : ℕ) (slot : RecordSlot) (rest : List HeldRecord) → CanBeSlot geometry count listed slot → AllByRecursion (λ held. CanBeElement geometry held.element) rest
     → AllByRecursion (λ held. CanBeElement geometry held.element) (cons_option (held_of notes at slot) rest)
 unfolding CanBeSlot
 held_can geometry count listed notes at (slots.Element element) rest can all = (can, all)

@@ -11,7 +11,7 @@ use Rattle.std.specs.Map.{lookup}
 use Rattle.ddf_config.specs.Configuration.{Configuration}
 use Rattle.ddf_config.specs.declared.member.Member.{Member}
 use Rattle.ddf_view.specs.Differ.{same_record}
-use Rattle.ddf_view.specs.View.{Held}
+use Rattle.ddf_view.specs.View.{HeldRecord}
 use Rattle.ddf_view.proofs.Finds.{when_true}
 use Rattle.ddf_rewrite.specs.Elements.{add_spare, altered, changed_record, contains, has_places, is_spare_for, keeping, kept_spare, no_reference, planned, spares_after, spares_of, with_spare}
 use Rattle.ddf_rewrite.specs.Readable.{HasSpares}
@@ -132,7 +132,7 @@ spares_tell config array spares i entry has at room = go (is_spare_for array ent
 
 -- ---- the associated spares of a record
 
-abbrev pub base_spares : Option Held → List ℕ
+abbrev pub base_spares : Option HeldRecord → List ℕ
 base_spares leader = option_map_or (λ held. held.element.spares) leader (replicate 8 no_reference)
 
 altered_spares : (config : Configuration) (timestamp : ℕ) (wanted : Wanted) (element : ElementValue) → (altered config timestamp wanted element).spares ≡ spares_after config wanted.guid element.spares
@@ -150,7 +150,7 @@ keeping_spares own leader element = go (same_record own leader)
     go true = refl
     go false = refl
 
-pub record_spares : (config : Configuration) (timestamp : ℕ) (geometry : Geometry) (revision : Revision) (own leader : Option Held) (wanted : Wanted)
+pub record_spares : (config : Configuration) (timestamp : ℕ) (geometry : Geometry) (revision : Revision) (own leader : Option HeldRecord) (wanted : Wanted)
     → (changed_record config timestamp geometry revision own leader wanted).spares ≡ spares_after config wanted.guid (base_spares leader)
 unfolding changed_record
 record_spares config timestamp geometry revision None None wanted = refl

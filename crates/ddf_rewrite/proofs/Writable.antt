@@ -21,12 +21,12 @@ use Rattle.ddf_copy.specs.Written.{CanBeCopy}
 use Rattle.ddf_configs.specs.Building.{spare_entries}
 use Rattle.ddf_config.specs.Configuration.{Configuration}
 use Rattle.ddf_config.specs.declared.member.Member.{Member}
-use Rattle.ddf_view.specs.View.{Held, find_held, first_spare, is_element, notes_of, view_of}
+use Rattle.ddf_view.specs.View.{HeldRecord, find_held, first_spare, is_element, notes_of, view_of}
 use Rattle.ddf_view.proofs.Finds.{find_has}
 use Rattle.ddf_rewrite.specs.Arrays.{array_rows_after, arrays_after}
 use Rattle.ddf_rewrite.specs.Before.{Before, is_listed, leading_record}
 use Rattle.ddf_rewrite.specs.Changing.{CanChange}
-use Rattle.ddf_rewrite.specs.Copies.{changed_copy, changed_holding, changed_holdings, copy_after, items_of, own_record, placed_on, recovered_copy, recovered_holding, recovered_holdings, slots_after}
+use Rattle.ddf_rewrite.specs.Copies.{changed_copy, changed_holding, changed_holdings, copy_after, items_of, own_record, slotted_on, recovered_copy, recovered_holding, recovered_holdings, slots_after}
 use Rattle.ddf_rewrite.specs.Disks.{changed_disks, disk_rows_after, recovered_disks}
 use Rattle.ddf_rewrite.specs.Hold.{AreHeld, CanBeRecovered, CanHold, CanWrite, FitsPlan}
 use Rattle.ddf_rewrite.specs.Notes.{Holding, notes_after}
@@ -57,7 +57,7 @@ room_of copy is = room_from_sound copy.header.geometry (sound_of copy is)
 count_of : (old : DiskCopy) (noted : Bool) (config : Configuration) (timestamp : ℕ) (holdings : List Holding) → length (slots_after old noted config timestamp holdings) ≡ length old.slots
 unfolding slots_after
 count_of old noted config timestamp holdings =
-    let placed = placed_on old noted config holdings in
+    let placed = slotted_on old noted config holdings in
     slots_count_after old.header.geometry holdings (notes_after config holdings placed (length old.slots)) (spare_after old.header.geometry timestamp (spare_use config old.disk_data.reference) (first_spare old.slots)) placed old.slots
 
 -- The header, the controller, the disk data and the log stay but for the group and the sequence.
@@ -90,10 +90,10 @@ copy_can old noted config timestamp disks holdings is group sequence disks_can a
 
 -- ---- the slots
 
-held_can : (geometry : Geometry) (wanted : Wanted) (elements : List Held) → AllByRecursion (λ held. CanBeElement geometry held.element) elements → CanBeHeld geometry (find_held wanted.guid wanted.index elements)
+held_can : (geometry : Geometry) (wanted : Wanted) (elements : List HeldRecord) → AllByRecursion (λ held. CanBeElement geometry held.element) elements → CanBeHeld geometry (find_held wanted.guid wanted.index elements)
 held_can geometry wanted elements all = go (find_held wanted.guid wanted.index elements) refl
   where
-    go : (o : Option Held) → find_held wanted.guid wanted.index elements ≡ o → CanBeHeld geometry o
+    go : (o : Option HeldRecord) → find_held wanted.guid wanted.index elements ≡ o → CanBeHeld geometry o
     go None e = tt
     go (Some held) e = find_has (λ one. CanBeElement geometry one.element) (is_element wanted.guid wanted.index) elements held all e
 
@@ -119,13 +119,13 @@ spare_record_can old config timestamp is spares can time fit =
 after_slots : (old : DiskCopy) (noted : Bool) (config : Configuration) (timestamp : ℕ) (holdings : List Holding) → CanBeCopy old → HasSpares config → CanHold old.header.geometry.max_members config → timestamp < 2 ^ 32
     → lacks_entries old config ≡ false → lacks_notes old noted ≡ false → AllByRecursion (HasElement old.header.geometry) holdings → AllByRecursion (HasPlan old.header.geometry.max_members) holdings
     → (noted ≡ false → AllByRecursion (λ holding. holding.copied ≡ false) holdings)
-    → AreInPlace old.slots (items_of noted (spare_use config old.disk_data.reference) holdings) (placed_on old noted config holdings)
+    → AreInPlace old.slots (items_of noted (spare_use config old.disk_data.reference) holdings) (slotted_on old noted config holdings)
     → CanBeSlots old.header.geometry config.group config.sequence (slots_after old noted config timestamp holdings)
 unfolding slots_after
 after_slots old true config timestamp holdings is spares can time entries notes elements plans copies placing =
     let geometry = old.header.geometry in
     let use_as = spare_use config old.disk_data.reference in
-    let placed = placed_on old true config holdings in
+    let placed = slotted_on old true config holdings in
     let spare = spare_after geometry timestamp use_as (first_spare old.slots) in
     let new_notes = notes_after config holdings placed (length old.slots) in
     let fits : note_place geometry.max_members (length old.slots) ≤ record_size geometry = ltb-false (record_size geometry) (note_place geometry.max_members (length old.slots)) notes in
@@ -138,7 +138,7 @@ after_slots old true config timestamp holdings is spares can time entries notes 
 after_slots old false config timestamp holdings is spares can time entries notes elements plans copies placing =
     let geometry = old.header.geometry in
     let use_as = spare_use config old.disk_data.reference in
-    let placed = placed_on old false config holdings in
+    let placed = slotted_on old false config holdings in
     let spare = spare_after geometry timestamp use_as (first_spare old.slots) in
     let new_notes = notes_after config holdings placed (length old.slots) in
     slots_can geometry config holdings new_notes spare placed old.slots old.header.guid old.header.sequence (room_of old is) is.slots_can (record {

@@ -17,16 +17,16 @@ use Rattle.ddf_config.specs.declared.member.SpareUse.{SpareUse}
 use Rattle.ddf_config.specs.Members.{is_spare}
 use Rattle.ddf_config.specs.Configuration.{Configuration}
 use Rattle.ddf_copy.specs.declared.copy.DiskCopy.{DiskCopy}
-use Rattle.ddf_view.specs.View.{Held, view_of, find_held, first_spare}
+use Rattle.ddf_view.specs.View.{HeldRecord, view_of, find_held, first_spare}
 use Rattle.ddf_rewrite.specs.declared.item.Item.{Item}
 use Rattle.ddf_rewrite.specs.declared.item.Item.TheVariants as items
-use Rattle.ddf_rewrite.specs.declared.item.Placed.{Placed}
+use Rattle.ddf_rewrite.specs.declared.item.Slotted.{Slotted}
 use Rattle.ddf_rewrite.specs.Before.{Before, leading_record}
 use Rattle.ddf_rewrite.specs.Wanted.{Wanted, all_wanted, refers_to}
 use Rattle.ddf_rewrite.specs.Disks.{changed_disks, recovered_disks, disk_rows_after}
 use Rattle.ddf_rewrite.specs.Arrays.{arrays_after, array_rows_after}
 use Rattle.ddf_rewrite.specs.Elements.{changed_record, recovered_record}
-use Rattle.ddf_rewrite.specs.Placement.{placed_items, item_at}
+use Rattle.ddf_rewrite.specs.Placement.{slotted_items, item_at}
 use Rattle.ddf_rewrite.specs.Notes.{Holding, find_holding, notes_after}
 use Rattle.ddf_rewrite.specs.Spares.{spare_use, spare_after}
 
@@ -36,7 +36,7 @@ use Rattle.ddf_rewrite.specs.Spares.{spare_use, spare_after}
 abbrev pub is_copied_on : (reference : ℕ) → Wanted → Bool
 is_copied_on reference wanted = not (refers_to wanted.plan reference)
 
-abbrev pub own_record : DiskCopy → Wanted → Option Held
+abbrev pub own_record : DiskCopy → Wanted → Option HeldRecord
 own_record old wanted = find_held wanted.guid wanted.index (view_of old).elements
 
 -- the record of an element after a change
@@ -52,7 +52,7 @@ unfoldable pub changed_holdings : DiskCopy → Before → Configuration → (tim
 changed_holdings old leaders config timestamp = map (changed_holding old leaders config timestamp) (all_wanted config)
 
 -- the record of an element after a recovery, as the leader's says
-abbrev pub led_holding : DiskCopy → Wanted → Held → Holding
+abbrev pub led_holding : DiskCopy → Wanted → HeldRecord → Holding
 led_holding old wanted leader = record {
   wanted = wanted;
   copied = is_copied_on old.disk_data.reference wanted;
@@ -103,25 +103,25 @@ left_slot geometry (slots.Copied element) = unused_slot geometry
 left_slot geometry (slots.Spare spare) = unused_slot geometry
 left_slot geometry (slots.Notes notes) = unused_slot geometry
 
-abbrev pub slot_after : Geometry → List Holding → Notes → SpareRecord → List Placed → (ℕ × RecordSlot) → RecordSlot
+abbrev pub slot_after : Geometry → List Holding → Notes → SpareRecord → List Slotted → (ℕ × RecordSlot) → RecordSlot
 slot_after geometry holdings notes spare placed pair = option_map_or (record_of geometry holdings notes spare) (item_at placed pair.0) (left_slot geometry pair.1)
 
 -- where each item stands
-abbrev pub placed_on : DiskCopy → (noted : Bool) → Configuration → List Holding → List Placed
-placed_on old noted config holdings =
-    placed_items old.header.guid old.header.sequence old.slots (items_of noted (spare_use config old.disk_data.reference) holdings)
+abbrev pub slotted_on : DiskCopy → (noted : Bool) → Configuration → List Holding → List Slotted
+slotted_on old noted config holdings =
+    slotted_items old.header.guid old.header.sequence old.slots (items_of noted (spare_use config old.disk_data.reference) holdings)
 
 -- the disk's spare record
 abbrev pub spare_on : DiskCopy → Configuration → (timestamp : ℕ) → SpareRecord
 spare_on old config timestamp = spare_after old.header.geometry timestamp (spare_use config old.disk_data.reference) (first_spare old.slots)
 
-abbrev pub slots_with : DiskCopy → List Holding → SpareRecord → List Placed → Notes → List RecordSlot
+abbrev pub slots_with : DiskCopy → List Holding → SpareRecord → List Slotted → Notes → List RecordSlot
 slots_with old holdings spare placed notes = map (slot_after old.header.geometry holdings notes spare placed) (enumerate_from 0 old.slots)
 
 unfoldable pub slots_after : DiskCopy → (noted : Bool) → Configuration → (timestamp : ℕ) → List Holding → List RecordSlot
 slots_after old noted config timestamp holdings =
-    slots_with old holdings (spare_on old config timestamp) (placed_on old noted config holdings)
-    (notes_after config holdings (placed_on old noted config holdings) (length old.slots))
+    slots_with old holdings (spare_on old config timestamp) (slotted_on old noted config holdings)
+    (notes_after config holdings (slotted_on old noted config holdings) (length old.slots))
 
 -- ---- the copy
 

@@ -13,7 +13,7 @@ use Rattle.ddf_config.specs.declared.member.SpareUse.TheVariants as uses
 use Rattle.ddf_config.specs.declared.element.Position.{Position}
 use Rattle.ddf_config.specs.Configuration.{Configuration}
 use Rattle.ddf_config.specs.Shapes.{array_capacity}
-use Rattle.ddf_view.specs.View.{Held}
+use Rattle.ddf_view.specs.View.{HeldRecord}
 use Rattle.ddf_view.specs.Differ.{same_record}
 use Rattle.ddf_rewrite.specs.Disks.{block_size_of}
 use Rattle.ddf_rewrite.specs.Wanted.{Wanted}
@@ -113,18 +113,18 @@ keeping own leader element =
     else element
 
 -- over the disk's own record, where it has one, and else over the leader's
-abbrev pub changed_over : Geometry → (own : Option Held) → (leader : ElementValue) → ElementValue → ElementValue
+abbrev pub changed_over : Geometry → (own : Option HeldRecord) → (leader : ElementValue) → ElementValue → ElementValue
 changed_over geometry None leader element = element_over geometry leader element
 changed_over geometry (Some own) leader element = element_over geometry own.element (keeping own.element leader element)
 
 -- over the disk's own record, where it has one, and else over a new one
-abbrev pub created_over : Geometry → (own : Option Held) → ElementValue → ElementValue
+abbrev pub created_over : Geometry → (own : Option HeldRecord) → ElementValue → ElementValue
 created_over geometry None element = fresh_element geometry element
 created_over geometry (Some own) element = element_over geometry own.element element
 
 -- The record of an element on a disk, by its own record and by what the leaders record of it. Where they record nothing all named
 -- fields are those of a new record.
-unfoldable pub changed_record : Configuration → (timestamp : ℕ) → Geometry → Revision → (own leader : Option Held) → Wanted → ElementValue
+unfoldable pub changed_record : Configuration → (timestamp : ℕ) → Geometry → Revision → (own leader : Option HeldRecord) → Wanted → ElementValue
 changed_record config timestamp geometry revision own None wanted = created_over geometry own (created config timestamp revision wanted)
 changed_record config timestamp geometry revision own (Some leader) wanted =
     changed_over geometry own leader.element (altered config timestamp wanted leader.element)
@@ -132,6 +132,6 @@ changed_record config timestamp geometry revision own (Some leader) wanted =
 -- ---- after a recovery
 
 -- each named field, the timestamp and the block size are the leader's
-unfoldable pub recovered_record : Geometry → (own : Option Held) → (leader : ElementValue) → ElementValue
+unfoldable pub recovered_record : Geometry → (own : Option HeldRecord) → (leader : ElementValue) → ElementValue
 recovered_record geometry None leader = element_over geometry leader leader
 recovered_record geometry (Some own) leader = element_over geometry own.element leader

@@ -22,7 +22,7 @@ use Rattle.ddf_view.specs.View.{View}
 use Rattle.ddf_rewrite.specs.Before.{Before, leading_record}
 use Rattle.ddf_rewrite.specs.Wanted.{Wanted, all_wanted}
 use Rattle.ddf_rewrite.specs.Spares.{spare_use}
-use Rattle.ddf_rewrite.specs.Copies.{recovered_holdings, items_of, placed_on}
+use Rattle.ddf_rewrite.specs.Copies.{recovered_holdings, items_of, slotted_on}
 use Rattle.ddf_rewrite.specs.Room.{lacks_entries, lacks_notes}
 use Rattle.ddf_rewrite.specs.Readable.{HasOwnNames, AreRebuilt, HasSpares}
 
@@ -112,7 +112,7 @@ pub record CanBeRecovered (old : DiskCopy) (leaders : Before) (config : Configur
   pub disks_fit : length leaders.disks ≤ length old.disks.rows
   pub arrays_fit : length config.arrays ≤ length old.arrays.rows
   pub records_fit : length (items_of leaders.noted (spare_use config old.disk_data.reference) (recovered_holdings old leaders config))
-      ≤ length (placed_on old leaders.noted config (recovered_holdings old leaders config))
+      ≤ length (slotted_on old leaders.noted config (recovered_holdings old leaders config))
   pub notes_fit : lacks_notes old leaders.noted ≡ false
   pub entries_fit : lacks_entries old config ≡ false
 

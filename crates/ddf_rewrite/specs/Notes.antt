@@ -11,7 +11,7 @@ use Rattle.ddf_config.specs.ElementValue.{ElementValue as ElementPlan}
 use Rattle.ddf_config.specs.Configuration.{Configuration}
 use Rattle.ddf_rewrite.specs.declared.item.Item.{Item}
 use Rattle.ddf_rewrite.specs.declared.item.Item.TheVariants as items
-use Rattle.ddf_rewrite.specs.declared.item.Placed.{Placed}
+use Rattle.ddf_rewrite.specs.declared.item.Slotted.{Slotted}
 use Rattle.ddf_rewrite.specs.Wanted.{Wanted}
 use Rattle.ddf_rewrite.specs.Placement.{item_at}
 
@@ -57,7 +57,7 @@ note_for holdings (Some (items.Element array index)) = option_map_or (λ holding
 
 -- ---- all of them
 
-unfoldable pub notes_after : Configuration → List Holding → List Placed → (count : ℕ) → Notes
+unfoldable pub notes_after : Configuration → List Holding → List Slotted → (count : ℕ) → Notes
 notes_after config holdings placed count = record {
   group = config.group;
   sequence = config.sequence;

@@ -10,7 +10,7 @@ use Rattle.ddf_configs.specs.Slots.{valid_of}
 use Rattle.ddf_view.specs.View.{element_of, spare_of}
 use Rattle.ddf_rewrite.specs.declared.item.Item.{Item}
 use Rattle.ddf_rewrite.specs.declared.item.Item.TheVariants as items
-use Rattle.ddf_rewrite.specs.declared.item.Placed.{Placed}
+use Rattle.ddf_rewrite.specs.declared.item.Slotted.{Slotted}
 
 -- ---- what is to have a slot
 
@@ -68,18 +68,18 @@ abbrev pub free_slots : (group : List ℕ) → (sequence : ℕ) → List RecordS
 free_slots group sequence all items = filter_map (free_slot group sequence all items) (enumerate_from 0 all)
 
 -- an item in the slot where it stands, or else in the first free one, and then the others
-abbrev pub take_one : Item → Option ℕ → (List ℕ → List Placed) → List ℕ → List Placed
+abbrev pub take_one : Item → Option ℕ → (List ℕ → List Slotted) → List ℕ → List Slotted
 take_one item (Some slot) others free = record { item = item; slot = slot } ∷ others free
 take_one item None others [] = others []
 take_one item None others (slot ∷ free) = record { item = item; slot = slot } ∷ others free
 
-abbrev pub take_slots : (Item → Option ℕ) → List Item → List ℕ → List Placed
+abbrev pub take_slots : (Item → Option ℕ) → List Item → List ℕ → List Slotted
 take_slots stands [] free = []
 take_slots stands (item ∷ items) free = take_one item (stands item) (take_slots stands items) free
 
 -- The items with their slots, without those for which there is none.
-unfoldable pub placed_items : (group : List ℕ) → (sequence : ℕ) → List RecordSlot → List Item → List Placed
-placed_items group sequence all items = take_slots (slot_of group sequence all) items (free_slots group sequence all items)
+unfoldable pub slotted_items : (group : List ℕ) → (sequence : ℕ) → List RecordSlot → List Item → List Slotted
+slotted_items group sequence all items = take_slots (slot_of group sequence all) items (free_slots group sequence all items)
 
-abbrev pub item_at : List Placed → (slot : ℕ) → Option Item
+abbrev pub item_at : List Slotted → (slot : ℕ) → Option Item
 item_at placed slot = option_map (λ one. one.item) (find (λ one. one.slot == slot) placed)

@@ -17,12 +17,12 @@ use Rattle.ddf_rewrite.specs.Wanted.{Wanted, all_wanted}
 use Rattle.ddf_rewrite.specs.Elements.{has_places, no_reference}
 use Rattle.ddf_rewrite.specs.Notes.{Holding}
 use Rattle.ddf_rewrite.specs.Spares.{spare_use, arrays_of_spare}
-use Rattle.ddf_rewrite.specs.Copies.{changed_holdings, recovered_holdings, items_of, placed_on}
+use Rattle.ddf_rewrite.specs.Copies.{changed_holdings, recovered_holdings, items_of, slotted_on}
 
 -- some item has no slot
 abbrev pub lacks_slots : DiskCopy → (noted : Bool) → Configuration → List Holding → Bool
 lacks_slots old noted config holdings =
-    nat_lt (length (placed_on old noted config holdings)) (length (items_of noted (spare_use config old.disk_data.reference) holdings))
+    nat_lt (length (slotted_on old noted config holdings)) (length (items_of noted (spare_use config old.disk_data.reference) holdings))
 
 -- the disk is a spare for more arrays than its record has entries
 abbrev pub lacks_entries : DiskCopy → Configuration → Bool

@@ -16,10 +16,10 @@ ghost use Rattle.ddf_rewrite.specs.Changing.{CanChange};
 ghost use Rattle.ddf_rewrite.specs.Room.{CanHoldSpare, full_after_change, full_after_recovery};
 
 use crate::arrays::arrays_after;
-use crate::change::Change;
 use crate::disks::{Sources, changed_disks, recovered_disks};
 use crate::elements::changed_record;
 use crate::holding::{Holding, holding_on};
+use crate::issue::Issue;
 use crate::leading::leading_record;
 use crate::recovery::{are_noted, recovered_holdings};
 use crate::rows::{array_rows_after, disk_rows_after};
@@ -38,7 +38,7 @@ fn changed_holding<'a>(
     alloc: Global,
     old: &DiskCopy,
     leaders: &[View],
-    change: &Change,
+    issue: &Issue,
     wanted: &Wanted<'a>,
 ) -> Result<Holding<'a>, NoMemory>
     requires old { CanBeCopy old.now }
@@ -46,14 +46,14 @@ fn changed_holding<'a>(
     requires fits { FitsPlan old.now.header.geometry.max_members wanted.now }
     requires elements { length wanted.now.array.elements ≤ 16 }
     requires index { wanted.now.index < 2 ^ 8 }
-    ensures exact { IfOk result (λ holding. holding ≡ changed_holding old.now (before leaders.now) change.now.config.now change.now.timestamp wanted.now) }
+    ensures exact { IfOk result (λ holding. holding ≡ changed_holding old.now (before leaders.now) issue.now.config.now issue.now.timestamp wanted.now) }
     ensures size { IfOk result (λ holding. leading_record (before leaders.now) wanted.now.guid wanted.now.index ≡ None → array_capacity wanted.now.array < 2 ^ 64) }
 {
     let own = View::new(old).find_held(&wanted.guid, wanted.index);
     let leader = leading_record(leaders, &wanted.guid, wanted.index);
     let element = changed_record(
         alloc,
-        change,
+        issue,
         wanted,
         &old.header,
         own.as_ref(),
@@ -68,20 +68,20 @@ pub(crate) fn changed_holdings<'a>(
     alloc: Global,
     old: &DiskCopy,
     leaders: &[View],
-    change: &Change,
+    issue: &Issue,
     all: &[Wanted<'a>],
 ) -> Result<Vec<Holding<'a>>, NoMemory>
     requires old { CanBeCopy old.now }
     requires leaders { AreHeld old.now.header.geometry (before leaders.now) }
-    requires all { all.now ≡ all_wanted change.now.config.now }
-    requires holdable { IsHoldable old.now.header.geometry.max_members change.now.config.now }
-    ensures exact { IfOk result (λ holdings. holdings.items ≡ changed_holdings old.now (before leaders.now) change.now.config.now change.now.timestamp) }
-    ensures sizes { IfOk result (λ holdings. (n : ℕ) (one : Wanted) → slice_get (all_wanted change.now.config.now) n ≡ Some one
+    requires all { all.now ≡ all_wanted issue.now.config.now }
+    requires holdable { IsHoldable old.now.header.geometry.max_members issue.now.config.now }
+    ensures exact { IfOk result (λ holdings. holdings.items ≡ changed_holdings old.now (before leaders.now) issue.now.config.now issue.now.timestamp) }
+    ensures sizes { IfOk result (λ holdings. (n : ℕ) (one : Wanted) → slice_get (all_wanted issue.now.config.now) n ≡ Some one
         → leading_record (before leaders.now) one.guid one.index ≡ None → array_capacity one.array < 2 ^ 64) }
 {
     let mut holdings = Vec::new(alloc);
     for wanted in all {
-        holdings.push(changed_holding(alloc, old, leaders, change, wanted)?)?;
+        holdings.push(changed_holding(alloc, old, leaders, issue, wanted)?)?;
     }
     Ok(holdings)
 }
@@ -140,17 +140,17 @@ fn copy_after(
     alloc: Global,
     old: &DiskCopy,
     noted: bool,
-    change: &Change,
+    issue: &Issue,
     entries: Vec<DiskEntry>,
     holdings: &[Holding],
 ) -> Result<DiskCopy, NoMemory>
-    requires { CanHoldSpare old.now change.now.config.now }
-    ensures { IfOk result (λ copy. copy ≡ copy_after old.now noted change.now.config.now change.now.timestamp entries.items holdings.now) }
+    requires { CanHoldSpare old.now issue.now.config.now }
+    ensures { IfOk result (λ copy. copy ≡ copy_after old.now noted issue.now.config.now issue.now.timestamp entries.items holdings.now) }
 {
-    let config = change.config;
+    let config = issue.config;
     let disks = disk_table_after(alloc, &old.disks, entries)?;
     let arrays = array_table_after(alloc, &old.arrays, config)?;
-    let slots = slots_after(alloc, old, noted, change, holdings)?;
+    let slots = slots_after(alloc, old, noted, issue, holdings)?;
     let bad = second_log(alloc, &old.bad)?;
     Ok(DiskCopy {
         header: header_after(&old.header, config),
@@ -179,9 +179,9 @@ fn changed_copy_over(
     ensures numbers { IfOk result (λ copy. CanWrite old.now (before leaders.now) config.now timestamp) }
     ensures writable { IfOk result CanBeCopy }
 {
-    let change = Change { config, timestamp };
+    let issue = Issue { config, timestamp };
     let all = all_wanted(alloc, config)?;
-    let holdings = changed_holdings(alloc, old, leaders, &change, &all)?;
+    let holdings = changed_holdings(alloc, old, leaders, &issue, &all)?;
     let sources = Sources {
         all: &all,
         leading: disk_rows(leaders),
@@ -189,7 +189,7 @@ fn changed_copy_over(
         revision: old.header.revision,
     };
     let entries = changed_disks(alloc, config, &sources)?;
-    copy_after(alloc, old, true, &change, entries, &holdings)
+    copy_after(alloc, old, true, &issue, entries, &holdings)
 }
 
 /// The copy of a disk after a change of its group (SNIA DDF 2.0; what is kept is profile), by the copy that it has and those of the
@@ -232,11 +232,11 @@ fn recovered_copy_over(
     requires fits { CanBeRecovered old.now (before leaders.now) config.now timestamp }
     ensures { IfOk result (λ copy. copy ≡ recovered_copy old.now (before leaders.now) config.now timestamp) }
 {
-    let change = Change { config, timestamp };
+    let issue = Issue { config, timestamp };
     let all = all_wanted(alloc, config)?;
     let holdings = recovered_holdings(alloc, old, leaders, &all)?;
     let entries = recovered_disks(alloc, disk_rows(leaders), old.disks.rows())?;
-    copy_after(alloc, old, are_noted(leaders), &change, entries, &holdings)
+    copy_after(alloc, old, are_noted(leaders), &issue, entries, &holdings)
 }
 
 /// The copy of a disk that was behind, after a recovery of its group in which nothing is lost (SNIA DDF 2.0; what is kept is profile),

@@ -7,15 +7,15 @@ ghost use Rattle.ddf_config.specs.Shapes.{array_capacity};
 ghost use Rattle.ddf_rewrite.specs.Elements.{altered, changed_over, changed_record, created, created_over, keeping, place_in, planned, recovered_record, spares_of};
 
 use crate::associated::{NO_REFERENCE, spares_after, spares_of};
-use crate::change::Change;
 use crate::disks::block_size_of;
+use crate::issue::Issue;
 use crate::wanted::Wanted;
 use arrayvec::ArrayVec;
 use ddf_bytes::{NoMemory, Seq};
 use ddf_config::{Config, Position, array_capacity};
 use ddf_configs::{Element, Place};
 use ddf_header::{Geometry, Header, Revision};
-use ddf_view::{Held, same_record};
+use ddf_view::{HeldRecord, same_record};
 use std::alloc::Global;
 
 /// The members of a record, where its element has these positions.
@@ -104,12 +104,12 @@ fn planned(config: &Config, wanted: &Wanted, dedicated: &[u32], element: Element
 }
 
 /// A record with the timestamp and the sequence of a change.
-fn stamped(change: &Change, element: Element) -> Element
-    ensures { result ≡ record element { timestamp = change.now.timestamp; sequence = change.now.config.now.sequence } }
+fn stamped(issue: &Issue, element: Element) -> Element
+    ensures { result ≡ record element { timestamp = issue.now.timestamp; sequence = issue.now.config.now.sequence } }
 {
-    let config = change.config;
+    let config = issue.config;
     Element {
-        timestamp: change.timestamp,
+        timestamp: issue.timestamp,
         sequence: config.sequence,
         ..element
     }
@@ -118,43 +118,43 @@ fn stamped(change: &Change, element: Element) -> Element
 /// The leader's record as the configuration has it now. Where that alters it, it has the timestamp and the sequence of the change.
 fn altered(
     alloc: Global,
-    change: &Change,
+    issue: &Issue,
     wanted: &Wanted,
     dedicated: &[u32],
     leader: &Element,
 ) -> Element
-    requires spares { dedicated.now ≡ spares_of change.now.config.now wanted.now.guid }
+    requires spares { dedicated.now ≡ spares_of issue.now.config.now wanted.now.guid }
     requires elements { length wanted.now.array.elements ≤ 16 }
     requires index { wanted.now.index < 2 ^ 8 }
-    ensures { result ≡ record (altered change.now.config.now change.now.timestamp wanted.now leader.now) { rest = [] } }
+    ensures { result ≡ record (altered issue.now.config.now issue.now.timestamp wanted.now leader.now) { rest = [] } }
 {
-    let next = planned(change.config, wanted, dedicated, fields_of(alloc, leader));
+    let next = planned(issue.config, wanted, dedicated, fields_of(alloc, leader));
     if same_record(leader, &next) {
         fields_of(alloc, leader)
     } else {
-        stamped(change, next)
+        stamped(issue, next)
     }
 }
 
 /// The fields of a new record.
 fn created(
     alloc: Global,
-    change: &Change,
+    issue: &Issue,
     wanted: &Wanted,
     dedicated: &[u32],
     revision: Revision,
 ) -> Result<Element, NoMemory>
-    requires spares { dedicated.now ≡ spares_of change.now.config.now wanted.now.guid }
+    requires spares { dedicated.now ≡ spares_of issue.now.config.now wanted.now.guid }
     requires elements { length wanted.now.array.elements ≤ 16 }
     requires index { wanted.now.index < 2 ^ 8 }
-    ensures exact { IfOk result (λ element. element ≡ created change.now.config.now change.now.timestamp revision wanted.now) }
+    ensures exact { IfOk result (λ element. element ≡ created issue.now.config.now issue.now.timestamp revision wanted.now) }
     ensures size { IfOk result (λ element. array_capacity wanted.now.array < 2 ^ 64) }
 {
-    let config = change.config;
+    let config = issue.config;
     let size = array_capacity(alloc, wanted.array)?;
     let blank = Element {
         array: wanted.guid,
-        timestamp: change.timestamp,
+        timestamp: issue.timestamp,
         sequence: config.sequence,
         strip: 0,
         level: 0,
@@ -211,7 +211,7 @@ fn over_own(
 fn changed_over(
     alloc: Global,
     geometry: &Geometry,
-    own: Option<&Held>,
+    own: Option<&HeldRecord>,
     leader: &Element,
     element: Element,
 ) -> Result<Element, NoMemory>
@@ -231,7 +231,7 @@ fn changed_over(
 fn created_over(
     alloc: Global,
     geometry: &Geometry,
-    own: Option<&Held>,
+    own: Option<&HeldRecord>,
     element: Element,
 ) -> Result<Element, NoMemory>
     requires room { HasRoom geometry.now }
@@ -250,11 +250,11 @@ fn created_over(
 #[tactic(auto, unfolding(crate::specs::Elements::changed_record))]
 pub(crate) fn changed_record(
     alloc: Global,
-    change: &Change,
+    issue: &Issue,
     wanted: &Wanted,
     header: &Header,
-    own: Option<&Held>,
-    leader: Option<&Held>,
+    own: Option<&HeldRecord>,
+    leader: Option<&HeldRecord>,
 ) -> Result<Element, NoMemory>
     requires room { HasRoom header.now.geometry }
     requires elements { length wanted.now.array.elements ≤ 16 }
@@ -263,18 +263,18 @@ pub(crate) fn changed_record(
     requires own { ForSome (option_copied own) (λ held. CanBeElement header.now.geometry held.element) }
     requires leader { ForSome (option_copied leader) (λ held. CanBeElement header.now.geometry held.element) }
     ensures exact { IfOk result (λ element. element
-        ≡ changed_record change.now.config.now change.now.timestamp header.now.geometry header.now.revision (option_copied own.entry) (option_copied leader.entry) wanted.now) }
+        ≡ changed_record issue.now.config.now issue.now.timestamp header.now.geometry header.now.revision (option_copied own.entry) (option_copied leader.entry) wanted.now) }
     ensures size { IfOk result (λ element. option_copied leader.entry ≡ None → array_capacity wanted.now.array < 2 ^ 64) }
 {
     let geometry = &header.geometry;
-    let dedicated = spares_of(alloc, change.config, &wanted.guid)?;
+    let dedicated = spares_of(alloc, issue.config, &wanted.guid)?;
     match leader {
         Some(held) => {
-            let element = altered(alloc, change, wanted, &dedicated, held.element);
+            let element = altered(alloc, issue, wanted, &dedicated, held.element);
             changed_over(alloc, geometry, own, held.element, element)
         }
         None => {
-            let element = created(alloc, change, wanted, &dedicated, header.revision)?;
+            let element = created(alloc, issue, wanted, &dedicated, header.revision)?;
             created_over(alloc, geometry, own, element)
         }
     }
@@ -285,7 +285,7 @@ pub(crate) fn changed_record(
 pub(crate) fn recovered_record(
     alloc: Global,
     geometry: &Geometry,
-    own: Option<&Held>,
+    own: Option<&HeldRecord>,
     leader: &Element,
 ) -> Result<Element, NoMemory>
     requires room { HasRoom geometry.now }

@@ -13,7 +13,7 @@ use std::alloc::Global;
 use std::marker::Model;
 
 /// An element that a disk is to hold. Contracts see it without the references.
-#[derive(Debug, Drop)]
+#[derive(Drop)]
 pub(crate) struct Holding<'a> {
     /// What it is.
     pub wanted: Wanted<'a>,

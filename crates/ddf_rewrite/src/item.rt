@@ -1,7 +1,7 @@
 use ddf_bytes::Guid;
 
 /// What has a slot among the configuration records of a disk (profile).
-#[derive(Clone, Copy, Debug, PartialEq, Eq)]
+#[derive(Clone, Copy, PartialEq, Eq)]
 pub enum Item {
     /// This project's notes.
     Notes,
@@ -12,8 +12,8 @@ pub enum Item {
 }
 
 /// An item and the slot that it has.
-#[derive(Clone, Copy, Debug, PartialEq, Eq)]
-pub struct Placed {
+#[derive(Clone, Copy, PartialEq, Eq)]
+pub struct Slotted {
     /// What has the slot.
     pub item: Item,
     /// The number of the slot.

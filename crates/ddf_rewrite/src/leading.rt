@@ -7,7 +7,7 @@ ghost use Rattle.ddf_rewrite.specs.Before.{before, is_listed, leading_record};
 
 use ddf_bytes::Guid;
 use ddf_tables::ArrayRow;
-use ddf_view::{Held, View, array_of, find_held};
+use ddf_view::{HeldRecord, View, array_of, find_held};
 
 /// Whether these rows list an array.
 fn lists(rows: &[ArrayRow], array: &Guid) -> bool
@@ -34,7 +34,7 @@ pub(crate) fn leading_record<'a>(
     leaders: &[View<'a>],
     array: &Guid,
     index: usize,
-) -> Option<Held<'a>>
+) -> Option<HeldRecord<'a>>
     ensures { result ≡ leading_record (before leaders.now) array.now index }
 {
     if is_listed(leaders, array) {

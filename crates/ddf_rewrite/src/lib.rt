@@ -4,11 +4,11 @@
 
 mod arrays;
 mod associated;
-mod change;
 mod copies;
 mod disks;
 mod elements;
 mod holding;
+mod issue;
 mod item;
 mod laws;
 mod leading;
@@ -22,7 +22,7 @@ mod spares;
 mod wanted;
 
 pub use copies::{changed_copy, recovered_copy};
-pub use item::{Item, Placed};
+pub use item::{Item, Slotted};
 pub use laws::{
     a_change_that_has_room_can_be_written, a_changed_copy_can_be_written,
     a_changed_copy_can_be_written_in_both_places, a_changed_copy_shows_the_configuration_fully,

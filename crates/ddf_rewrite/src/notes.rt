@@ -6,7 +6,7 @@ ghost use Rattle.ddf_rewrite.specs.Placement.{item_at};
 ghost use Rattle.ddf_rewrite.specs.Notes.{no_note, note_for, note_of, notes_after};
 
 use crate::holding::{Holding, find_holding};
-use crate::item::{Item, Placed};
+use crate::item::{Item, Slotted};
 use crate::placement::item_at;
 use ddf_bytes::{Guid, NoMemory, Seq};
 use ddf_config::{Config, ElementPlan, Position};
@@ -111,7 +111,7 @@ fn note_for(alloc: Global, holdings: &[Holding], item: Option<Item>) -> Result<S
 fn notes_of_slots(
     alloc: Global,
     holdings: &[Holding],
-    placed: &[Placed],
+    placed: &[Slotted],
     count: usize,
 ) -> Result<Vec<SlotNote>, NoMemory>
     ensures { IfOk result (λ notes. notes.items ≡ map (λ slot. note_for holdings.now (item_at placed.now slot)) (range_with_len 0 count)) }
@@ -129,7 +129,7 @@ pub(crate) fn notes_after(
     alloc: Global,
     config: &Config,
     holdings: &[Holding],
-    placed: &[Placed],
+    placed: &[Slotted],
     count: usize,
 ) -> Result<Notes, NoMemory>
     ensures { IfOk result (λ notes. notes ≡ notes_after config.now holdings.now placed.now count) }

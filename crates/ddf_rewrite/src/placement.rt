@@ -4,12 +4,12 @@ ghost use Rattle.std.specs.List.{enumerate_from, list_any};
 ghost use Rattle.std.specs.Option.{option_map_or};
 ghost use Rattle.ddf_configs.specs.declared.slot.RecordSlot.{RecordSlot};
 ghost use Rattle.ddf_rewrite.specs.declared.item.Item.{Item};
-ghost use Rattle.ddf_rewrite.specs.declared.item.Placed.{Placed};
+ghost use Rattle.ddf_rewrite.specs.declared.item.Slotted.{Slotted};
 ghost use Rattle.ddf_rewrite.specs.declared.item.Item.TheVariants as items;
 ghost use Rattle.ddf_view.specs.View.{spare_of};
-ghost use Rattle.ddf_rewrite.specs.Placement.{free_slot, free_slots, is_notes_slot, is_others, is_slot_of, item_at, placed_items, slot_of, stays_in, take_one, take_slots};
+ghost use Rattle.ddf_rewrite.specs.Placement.{free_slot, free_slots, is_notes_slot, is_others, is_slot_of, item_at, slotted_items, slot_of, stays_in, take_one, take_slots};
 
-use crate::item::{Item, Placed};
+use crate::item::{Item, Slotted};
 use ddf_bytes::{Guid, NoMemory};
 use ddf_configs::{RecordSlot, valid_notes_slot};
 use ddf_view::{element_of, spare_of};
@@ -140,21 +140,21 @@ fn free_slots(
 
 /// Gives an item the slot where it stands, or else the first free one, if there is one. Answers the free ones that are left.
 fn take_slot<'a>(
-    placed: &mut Vec<Placed>,
+    placed: &mut Vec<Slotted>,
     item: Item,
     place: Option<usize>,
     free: &'a [usize],
 ) -> Result<&'a [usize], NoMemory>
-    ensures { IfOk result (λ left. (others : List ℕ → List Placed)
+    ensures { IfOk result (λ left. (others : List ℕ → List Slotted)
         → placed.new.items ++ others left.now ≡ placed.old.items ++ take_one item place others free.now) }
 {
     match (place, free) {
         (Some(slot), _) => {
-            placed.push(Placed { item, slot })?;
+            placed.push(Slotted { item, slot })?;
             Ok(free)
         }
         (None, [slot, left @ ..]) => {
-            placed.push(Placed { item, slot: *slot })?;
+            placed.push(Slotted { item, slot: *slot })?;
             Ok(left)
         }
         (None, []) => Ok(free),
@@ -168,7 +168,7 @@ fn take_slots(
     items: &[Item],
     standing: &[Option<usize>],
     free: &[usize],
-) -> Result<Vec<Placed>, NoMemory>
+) -> Result<Vec<Slotted>, NoMemory>
     ensures { (stands : Item → Option ℕ) → standing.now ≡ map stands items.now
         → IfOk result (λ placed. placed.items ≡ take_slots stands items.now free.now) }
 {
@@ -182,15 +182,15 @@ fn take_slots(
 
 /// The items with their slots, without those for which there is none: each stands where it stood, and each new one takes the lowest
 /// free slot.
-#[tactic(auto, unfolding(crate::specs::Placement::placed_items))]
-pub(crate) fn placed_items(
+#[tactic(auto, unfolding(crate::specs::Placement::slotted_items))]
+pub(crate) fn slotted_items(
     alloc: Global,
     slots: &[RecordSlot],
     group: &Guid,
     sequence: u32,
     items: &[Item],
-) -> Result<Vec<Placed>, NoMemory>
-    ensures { IfOk result (λ placed. placed.items ≡ placed_items group.now sequence slots.now items.now) }
+) -> Result<Vec<Slotted>, NoMemory>
+    ensures { IfOk result (λ placed. placed.items ≡ slotted_items group.now sequence slots.now items.now) }
 {
     let standing = standing(alloc, slots, group, sequence, items)?;
     let free = free_slots(alloc, slots, &standing)?;
@@ -198,7 +198,7 @@ pub(crate) fn placed_items(
 }
 
 /// What is placed in a slot.
-pub(crate) fn item_at(placed: &[Placed], slot: usize) -> Option<Item>
+pub(crate) fn item_at(placed: &[Slotted], slot: usize) -> Option<Item>
     ensures { result ≡ item_at placed.now slot }
 {
     placed

@@ -3,7 +3,7 @@ ghost use Rattle.std.specs.Prelude.{◌≡◌, IfOk};
 ghost use Rattle.ddf_configs.specs.Elements.{CanBeElement};
 ghost use Rattle.ddf_config.specs.Configuration.{Configuration};
 ghost use Rattle.ddf_copy.specs.Written.{CanBeCopy};
-ghost use Rattle.ddf_view.specs.View.{Held};
+ghost use Rattle.ddf_view.specs.View.{HeldRecord};
 ghost use Rattle.ddf_view.specs.Reading.{are_noted};
 ghost use Rattle.ddf_rewrite.specs.Before.{before};
 ghost use Rattle.ddf_rewrite.specs.Wanted.{all_wanted};
@@ -36,7 +36,7 @@ fn led_holding<'a>(
 ) -> Result<Holding<'a>, NoMemory>
     requires old { CanBeCopy old.now }
     requires leader { CanBeElement old.now.header.geometry leader.now }
-    ensures { (held : Held) → held.element ≡ leader.now → IfOk result (λ holding. holding ≡ led_holding old.now wanted.now held) }
+    ensures { (held : HeldRecord) → held.element ≡ leader.now → IfOk result (λ holding. holding ≡ led_holding old.now wanted.now held) }
 {
     let own = View::new(old).find_held(&wanted.guid, wanted.index);
     let element = recovered_record(alloc, &old.header.geometry, own.as_ref(), leader)?;

@@ -11,12 +11,12 @@ ghost use Rattle.ddf_rewrite.specs.Room as room;
 ghost use Rattle.ddf_rewrite.specs.Room.{full_after_change, full_after_recovery, full_with, lacks_entries, lacks_notes, lacks_places, lacks_slots, spares_before};
 
 use crate::associated::{NO_REFERENCE, has_places, spares_of};
-use crate::change::Change;
 use crate::copies::changed_holdings;
 use crate::holding::Holding;
+use crate::issue::Issue;
 use crate::leading::leading_record;
 use crate::recovery::{are_noted, recovered_holdings};
-use crate::slots::{items_of, placed_on};
+use crate::slots::{items_of, slotted_on};
 use crate::spares::spare_use;
 use crate::wanted::{Wanted, all_wanted};
 use ddf_bytes::NoMemory;
@@ -48,7 +48,7 @@ fn lacks_records(
 {
     let use_as = spare_use(alloc, config, old.disk_data.reference)?;
     let items = items_of(alloc, noted, &use_as, holdings)?;
-    let placed = placed_on(alloc, old, noted, config, holdings)?;
+    let placed = slotted_on(alloc, old, noted, config, holdings)?;
     let entries = spare_entries(&old.header.geometry);
     Ok(placed.len() < items.len() || entries < entries_needed(&use_as))
 }
@@ -153,8 +153,8 @@ pub fn full_after_change(
     ensures { IfOk result (λ full. full ≡ full_after_change old.now (before leaders.now) config.now timestamp) }
 {
     let all = all_wanted(alloc, config)?;
-    let change = Change { config, timestamp };
-    let holdings = changed_holdings(alloc, old, leaders, &change, &all)?;
+    let issue = Issue { config, timestamp };
+    let holdings = changed_holdings(alloc, old, leaders, &issue, &all)?;
     let records = lacks_records(alloc, old, true, config, &holdings)?;
     let places = lacks_places(alloc, leaders, config, &all)?;
     Ok(full_with(old, config, records, lacks_notes(old, true), places))

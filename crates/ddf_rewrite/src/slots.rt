@@ -7,13 +7,13 @@ ghost use Rattle.ddf_configs.specs.declared.slot.RecordSlot.TheVariants as slots
 ghost use Rattle.ddf_configs.specs.Elements.{record_size};
 ghost use Rattle.ddf_rewrite.specs.declared.item.Item.TheVariants as items;
 ghost use Rattle.ddf_rewrite.specs.Room.{CanHoldSpare};
-ghost use Rattle.ddf_rewrite.specs.Copies.{element_item, items_of, left_slot, placed_on, record_of, slot_after, slots_after, slots_with, spare_on, unused_slot};
+ghost use Rattle.ddf_rewrite.specs.Copies.{element_item, items_of, left_slot, slotted_on, record_of, slot_after, slots_after, slots_with, spare_on, unused_slot};
 
-use crate::change::Change;
 use crate::holding::{Holding, element_slot, find_holding};
-use crate::item::{Item, Placed};
+use crate::issue::Issue;
+use crate::item::{Item, Slotted};
 use crate::notes::notes_after;
-use crate::placement::{item_at, placed_items};
+use crate::placement::{item_at, slotted_items};
 use crate::spares::{spare_after, spare_use};
 use ddf_bytes::{Guid, NoMemory, Seq};
 use ddf_config::{Config, SpareUse};
@@ -112,7 +112,7 @@ fn slots_with(
     alloc: Global,
     old: &DiskCopy,
     records: &Records,
-    placed: &[Placed],
+    placed: &[Slotted],
 ) -> Result<Vec<RecordSlot>, NoMemory>
     ensures { (notes : Notes) (spare : SpareRecord) → records.now.notes ≡ slots.Notes notes → records.now.spare ≡ slots.Spare spare
         → IfOk result (λ after. after.items ≡ slots_with old.now records.now.holdings.now spare placed.now notes) }
@@ -129,33 +129,33 @@ fn slots_with(
 }
 
 /// The spare record of a disk.
-fn spare_on(alloc: Global, old: &DiskCopy, change: &Change) -> Result<SpareRecord, NoMemory>
-    requires { CanHoldSpare old.now change.now.config.now }
-    ensures { IfOk result (λ spare. spare ≡ spare_on old.now change.now.config.now change.now.timestamp) }
+fn spare_on(alloc: Global, old: &DiskCopy, issue: &Issue) -> Result<SpareRecord, NoMemory>
+    requires { CanHoldSpare old.now issue.now.config.now }
+    ensures { IfOk result (λ spare. spare ≡ spare_on old.now issue.now.config.now issue.now.timestamp) }
 {
-    let use_as = spare_use(alloc, change.config, old.disk_data.reference)?;
+    let use_as = spare_use(alloc, issue.config, old.disk_data.reference)?;
     spare_after(
         alloc,
         &old.header.geometry,
-        change.timestamp,
+        issue.timestamp,
         &use_as,
         first_spare(old.slots.items()),
     )
 }
 
 /// Where each item stands on a disk.
-pub(crate) fn placed_on(
+pub(crate) fn slotted_on(
     alloc: Global,
     old: &DiskCopy,
     noted: bool,
     config: &Config,
     holdings: &[Holding],
-) -> Result<Vec<Placed>, NoMemory>
-    ensures { IfOk result (λ placed. placed.items ≡ placed_on old.now noted config.now holdings.now) }
+) -> Result<Vec<Slotted>, NoMemory>
+    ensures { IfOk result (λ placed. placed.items ≡ slotted_on old.now noted config.now holdings.now) }
 {
     let use_as = spare_use(alloc, config, old.disk_data.reference)?;
     let items = items_of(alloc, noted, &use_as, holdings)?;
-    placed_items(
+    slotted_items(
         alloc,
         old.slots.items(),
         &old.header.guid,
@@ -170,16 +170,16 @@ pub(crate) fn slots_after(
     alloc: Global,
     old: &DiskCopy,
     noted: bool,
-    change: &Change,
+    issue: &Issue,
     holdings: &[Holding],
 ) -> Result<Vec<RecordSlot>, NoMemory>
-    requires { CanHoldSpare old.now change.now.config.now }
-    ensures { IfOk result (λ after. after.items ≡ slots_after old.now noted change.now.config.now change.now.timestamp holdings.now) }
+    requires { CanHoldSpare old.now issue.now.config.now }
+    ensures { IfOk result (λ after. after.items ≡ slots_after old.now noted issue.now.config.now issue.now.timestamp holdings.now) }
 {
-    let config = change.config;
-    let placed = placed_on(alloc, old, noted, config, holdings)?;
+    let config = issue.config;
+    let placed = slotted_on(alloc, old, noted, config, holdings)?;
     let notes = notes_after(alloc, config, holdings, &placed, old.slots.items().len())?;
-    let spare = spare_on(alloc, old, change)?;
+    let spare = spare_on(alloc, old, issue)?;
     let records = Records {
         holdings,
         notes: RecordSlot::Notes(notes),

@@ -10,7 +10,7 @@ use std::alloc::Global;
 use std::marker::Model;
 
 /// An element of an array of the group that is known. Contracts see it without the references.
-#[derive(Debug, Drop)]
+#[derive(Drop)]
 pub(crate) struct Wanted<'a> {
     /// The GUID of its array.
     pub guid: Guid,

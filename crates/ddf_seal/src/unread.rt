@@ -6,7 +6,7 @@ ghost use Rattle.ddf_seal.specs.Unread.{AreBytes, Field, Stands, cleared, cleare
 use ddf_bytes::Guid;
 
 /// The place of a field.
-#[derive(Clone, Copy, Debug, PartialEq, Eq)]
+#[derive(Clone, Copy, PartialEq, Eq)]
 pub struct Span {
     /// The offset within the record.
     pub at: usize,

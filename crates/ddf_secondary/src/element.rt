@@ -1,5 +1,5 @@
 /// What an element gives to an array.
-#[derive(Clone, Copy, Debug, PartialEq, Eq)]
+#[derive(Clone, Copy, PartialEq, Eq)]
 pub struct ElementSize {
     /// The blocks that the element holds.
     pub capacity: u64,

@@ -1,5 +1,5 @@
 /// Why a level and sizes make no tiers. Where several of these hold, the first is told.
-#[derive(Clone, Copy, Debug, PartialEq, Eq)]
+#[derive(Clone, Copy, PartialEq, Eq)]
 pub enum TiersFault {
     /// The secondary level is not served.
     Level(u8),

@@ -2,7 +2,7 @@ ghost use Rattle.std.specs.Prelude.{◌≡◌, Bool, true, false};
 ghost use Rattle.ddf_secondary.specs.Arrangement.{served_level, goes_by_rows};
 
 /// How an array lays its blocks over its elements: the secondary level.
-#[derive(Clone, Copy, Debug, PartialEq, Eq)]
+#[derive(Clone, Copy, PartialEq, Eq)]
 pub enum SecondaryLevel {
     /// 00: a unit of each element in turn, in as many rows as the least element has.
     Striped,

@@ -1,5 +1,5 @@
 /// A place in an array: a block of one of its elements.
-#[derive(Clone, Copy, Debug, PartialEq, Eq)]
+#[derive(Clone, Copy, PartialEq, Eq)]
 pub struct Spot {
     /// The element's number in the array, from 0.
     pub element: u8,

@@ -8,7 +8,7 @@ use std::marker::Model;
 const MOST_ELEMENTS: usize = 16;
 
 /// The elements of one array, and the secondary level that says which of them holds each block.
-#[derive(Debug, Drop)]
+#[derive(Drop)]
 pub struct Tiers {
     level: SecondaryLevel,
     count: usize,

@@ -1,5 +1,5 @@
 -- What a change writes may be written, and leaves each slot showing what it should.
-use Rattle.std.proofs.Common.{◌≡◌, ℕ, ◌<◌, Bool, true, false, List, length}
+use Rattle.std.proofs.Common.{◌≡◌, ◌⊎◌, ℕ, ◌<◌, Bool, true, false, List, length}
 use Rattle.ddf_config.specs.Configuration.{Configuration}
 use Rattle.ddf_copy.specs.declared.copy.DiskCopy.{DiskCopy}
 use Rattle.ddf_copy.specs.Written.{CanBeCopy}
@@ -14,11 +14,11 @@ use Rattle.ddf_history.specs.Reading.Shown.{One}
 use Rattle.ddf_history.specs.Groups.{groups, disk_of, has_current}
 use Rattle.ddf_history.specs.Issued.{Past, is_away, issue, acknowledge}
 use Rattle.ddf_history.specs.Promise.{IsKept}
-use Rattle.ddf_history.specs.Steps.{IsLast, MayFollow, MayWrite, AreWritten, JoinLast, GivesAfter, AllShow}
+use Rattle.ddf_history.specs.Steps.{DoRemain, IsLast, MayFollow, MayWrite, AreWritten, JoinLast, GivesAfter, AllShow, OthersLast}
 use Rattle.ddf_history.proofs.Following.{changes_follow}
 use Rattle.ddf_history.proofs.Sound.{groups_are_sound}
 use Rattle.ddf_stops.proofs.TheoryLast.{last_acknowledged, last_next}
-use Rattle.ddf_stops.proofs.TheoryChange.{AreNew, next_acknowledged, next_gives, next_issued, next_joins_last, next_kept, next_may_write, next_shown}
+use Rattle.ddf_stops.proofs.TheoryChange.{AreNew, next_acknowledged, next_gives, next_issued, next_joins_last, next_kept, next_may_write, next_shown, next_turned_last}
 use Rattle.ddf_stops.proofs.ChangingCopies.{changed_are_new, changed_views, old_are_ours}
 
 -- A change may follow the last configuration.
@@ -27,10 +27,11 @@ pub follows : (group : List ℕ) (last : Configuration) (change : Change) (seque
 follows group last change sequence rises = changes_follow group last change sequence rises
 
 module _ (group : List ℕ) (past : Past (groups group)) (scene : Scene View) (kept : IsKept past scene) (n : ℕ) (last next : Configuration)
-    (at_last : IsLast past.changes n last) (follow : MayFollow (groups group) last next) where
+    (at_last : IsLast past.changes n last) (follow : MayFollow (groups group) last next)
+    (remains : (n ≡ past.changes.acked) ⊎ DoRemain (groups group) (λ s. is_away past s ≡ false) past.disk last next) where
   -- A configuration that may follow may be issued.
   pub issued_kept : IsKept (issue past next) scene
-  issued_kept = next_issued (groups group) (groups_are_sound group) past scene kept n last next at_last follow
+  issued_kept = next_issued (groups group) (groups_are_sound group) past scene kept n last next at_last follow remains
 
   -- It is the last one.
   pub change_last : IsLast (issue past next).changes (length past.changes.issued) next
@@ -57,35 +58,36 @@ module _ (group : List ℕ) (past : Past (groups group)) (scene : Scene View) (k
 
     -- They may be written.
     pub change_may_write : MayWrite (issue past next) scene (length past.changes.issued) next seats new
-    change_may_write = next_may_write (groups group) (groups_are_sound group) past scene kept n last next at_last follow seats new are_new
+    change_may_write = next_may_write (groups group) (groups_are_sound group) past scene kept n last next at_last follow remains seats new are_new
 
     module _ (after : Scene View) (written : AreWritten seats new scene after) where
       -- No disk joins by it: a seat whose disk joined before shows a copy of the group, so it shows such a configuration already.
       pub change_joins_last : (ours : (slot : ℕ) → seats slot ≡ true → (old slot).header.guid ≡ group) → JoinLast (issue past next) seats new after
       change_joins_last ours =
-          next_joins_last (groups group) (groups_are_sound group) past scene kept n last next at_last follow seats new are_new after written
+          next_joins_last (groups group) (groups_are_sound group) past scene kept n last next at_last follow remains seats new are_new after written
           (old_are_ours group seats old scene shown ours)
+
+      -- So it is where slots that show nothing of the group are written last, and each member's is written.
+      pub change_turned_last : OthersLast (groups group) seats new scene after → ((slot : ℕ) → is_away past slot ≡ false → has_current next (past.disk slot) ≡ true → seats slot ≡ true)
+          → JoinLast (issue past next) seats new after
+      change_turned_last = next_turned_last (groups group) (groups_are_sound group) past scene kept n last next at_last follow remains seats new are_new after written
 
       -- The change is this engine's.
       pub change_gives : GivesAfter (issue past next) (length past.changes.issued) next after
-      change_gives = next_gives (groups group) (groups_are_sound group) past scene kept n last next at_last follow seats new are_new after written
+      change_gives = next_gives (groups group) (groups_are_sound group) past scene kept n last next at_last follow remains seats new are_new after written
 
       -- Each slot shows what it should, whichever seats are written.
-      pub change_kept : (ours : (slot : ℕ) → seats slot ≡ true → (old slot).header.guid ≡ group) → IsKept (issue past next) after
-      change_kept ours =
-          next_kept (groups group) (groups_are_sound group) past scene kept n last next at_last follow seats new are_new after written
-          (old_are_ours group seats old scene shown ours)
+      pub change_kept : JoinLast (issue past next) seats new after → IsKept (issue past next) after
+      change_kept = next_kept (groups group) (groups_are_sound group) past scene kept n last next at_last follow remains seats new are_new after written
 
       -- Each member that isn't away has its new copy.
       module _
           (all : (slot : ℕ) → is_away past slot ≡ false → has_current next (past.disk slot) ≡ true → (seats slot ≡ true) × (after slot ≡ One (new slot))) where
         -- All its members show it.
         pub change_shown : AllShow (issue past next) after (length past.changes.issued) next
-        change_shown = next_shown (groups group) (groups_are_sound group) past scene kept n last next at_last follow seats new are_new after written all
+        change_shown = next_shown (groups group) (groups_are_sound group) past scene kept n last next at_last follow remains seats new are_new after written all
 
         -- It may be acknowledged.
-        pub change_acknowledged : (ours : (slot : ℕ) → seats slot ≡ true → (old slot).header.guid ≡ group)
-            → IsKept (acknowledge (issue past next) (length past.changes.issued)) after
-        change_acknowledged ours =
-            next_acknowledged (groups group) (groups_are_sound group) past scene kept n last next at_last follow seats new are_new after written all
-            (old_are_ours group seats old scene shown ours)
+        pub change_acknowledged : JoinLast (issue past next) seats new after → IsKept (acknowledge (issue past next) (length past.changes.issued)) after
+        change_acknowledged =
+            next_acknowledged (groups group) (groups_are_sound group) past scene kept n last next at_last follow remains seats new are_new after written all

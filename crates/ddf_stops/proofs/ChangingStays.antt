@@ -8,7 +8,8 @@ use Rattle.ddf_config.specs.declared.member.Member.{Member}
 use Rattle.ddf_config.specs.Configuration.{Configuration}
 use Rattle.ddf_config.specs.Members.{is_current}
 use Rattle.ddf_plan.specs.declared.change.Change.{Change}
-use Rattle.ddf_plan.specs.Changes.{changed_at, members_after}
+use Rattle.ddf_plan.specs.Members.{members_after}
+use Rattle.ddf_plan.specs.Changes.{changed_at}
 use Rattle.ddf_history.specs.Groups.{Disk, has_current}
 use Rattle.ddf_assembly.proofs.MembersAfter.{are_after}
 

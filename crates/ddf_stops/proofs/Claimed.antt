@@ -1,9 +1,9 @@
 -- What histories tell of the seats of an assembled group.
-use Rattle.std.proofs.Common.{◌≡◌, ◌⊎◌, ℕ, zero, suc, Bool, true, false, not, ◌&&◌, eqb, nat_eq, List, [], ◌∷◌, length, map, Option, Some, Ok, if◌then◌else◌, refl, ap, sym, ◌∙◌, inl, inr, arith, subst}
+use Rattle.std.proofs.Common.{◌≡◌, ◌⊎◌, ℕ, zero, suc, Bool, true, false, not, ◌&&◌, ◌||◌, eqb, nat_eq, List, [], ◌∷◌, length, map, Option, Some, Ok, if◌then◌else◌, refl, ap, sym, ◌∙◌, inl, inr, arith, subst, zero-add}
 use Rattle.std.proofs.lemmas.Bool.{and_parts, eq-eqb, eqb-true, false≢true, or_left, or_right}
 use Rattle.std.specs.Prelude.{filter, option_map, slice_get}
 use Rattle.std.specs.List.{list_any}
-use Rattle.std.specs.Option.{option_and_then}
+use Rattle.std.specs.Option.{option_and_then, option_map_or}
 use Rattle.std.specs.Map.{lookup}
 use Rattle.std.specs.Str.{bytes_eq}
 use Rattle.ddf_bay.specs.State.{BayState}
@@ -32,7 +32,7 @@ use Rattle.ddf_history.proofs.AnsweredSlots.{claimed_by, claimed_claims, copy_wi
 use Rattle.ddf_history.proofs.Assembling.{read_as}
 use Rattle.ddf_history.proofs.Calls.{seen_copy, seen_read}
 use Rattle.ddf_history.proofs.Listed.{value_there}
-use Rattle.ddf_history.proofs.Since.{first_is_copy, on_shows, same_number, some_is}
+use Rattle.ddf_history.proofs.Since.{first_is_copy, on_shows, same_number, some_is, which}
 use Rattle.ddf_history.proofs.Sound.{groups_are_sound}
 use Rattle.ddf_assembly.specs.declared.seated.Seated.{Seated}
 use Rattle.ddf_assembly.specs.Committed.{slots_of}
@@ -42,12 +42,12 @@ use Rattle.ddf_assembly.specs.Slots.{newest_from}
 use Rattle.ddf_assembly.proofs.CommittedSeats.{seated_is}
 use Rattle.ddf_assembly.proofs.LeftBefore.{kept_at}
 use Rattle.ddf_rewrite.proofs.AllWanted.{filter_map_get}
-use Rattle.ddf_rewrite.proofs.Lists.{get_map}
+use Rattle.ddf_rewrite.proofs.Lists.{get_map, get_range}
 use Rattle.ddf_stops.specs.AtEnd.{IsMember}
 use Rattle.ddf_stops.specs.Kept.{is_read, is_slot}
 use Rattle.ddf_stops.proofs.Begun.{IsMadeOf, assembled_kept, assembled_since, found_named}
 use Rattle.ddf_stops.proofs.Told.{one_group, scene_is}
-use Rattle.ddf_stops.proofs.Filtered.{any_kept}
+use Rattle.ddf_stops.proofs.Filtered.{any_kept, passes_kept}
 use Rattle.ddf_stops.proofs.Seats.{absent_are, claims_seat, copy_there, seat_claims, view_at}
 use Rattle.ddf_stops.proofs.Slots.{slot_is}
 
@@ -100,6 +100,35 @@ listed_among (one ∷ references) zero reference at =
     or_left (nat_eq reference one) (list_any (nat_eq reference) references) (eq-eqb reference one (sym same))
 listed_among (one ∷ references) (suc place) reference at =
     or_right (nat_eq reference one) (list_any (nat_eq reference) references) (listed_among references place reference at)
+
+-- Where an item passes a test, some does.
+any_there : {X : Type 0} (test : X → Bool) (xs : List X) (place : ℕ) (x : X) → slice_get xs place ≡ Some x → test x ≡ true → list_any test xs ≡ true
+any_there test [] place x at is = absurd cc
+any_there test (first ∷ xs) zero x at is = let same : first ≡ x = cc in or_left (test first) (list_any test xs) (ap test same ∙ is)
+any_there test (first ∷ xs) (suc place) x at is = or_right (test first) (list_any test xs) (any_there test xs place x at is)
+
+-- No seat has a reference that is absent.
+absent_none : (slots : List GroupShown) (seats : List ℕ) (reference : ℕ) (members : List (ℕ × Member)) → is_among (absent slots seats members) reference ≡ true
+    → list_any (has_reference slots reference) seats ≡ false
+absent_none slots seats reference [] among = absurd (false≢true among)
+absent_none slots seats reference (entry ∷ members) among = go (absent_none slots seats reference members) (is_absent slots seats entry) refl among
+  where
+    by_key : (is_among (absent slots seats members) reference ≡ true → list_any (has_reference slots reference) seats ≡ false) → (b : Bool) → nat_eq reference entry.0 ≡ b
+        → is_absent slots seats entry ≡ true → (b || is_among (absent slots seats members) reference) ≡ true → list_any (has_reference slots reference) seats ≡ false
+    by_key later true same passes either =
+        let none = (and_parts (not entry.1.missing) (not (list_any (has_reference slots entry.0) seats)) passes).1 in
+        ap (λ (key : ℕ). list_any (has_reference slots key) seats) (eqb-true reference entry.0 same) ∙ not_so (list_any (has_reference slots entry.0) seats) none
+      where
+        not_so : (x : Bool) → not x ≡ true → x ≡ false
+        not_so true e = absurd (false≢true e)
+        not_so false e = refl
+    by_key later false same passes either = later either
+
+    go : (is_among (absent slots seats members) reference ≡ true → list_any (has_reference slots reference) seats ≡ false) → (b : Bool) → is_absent slots seats entry ≡ b
+        → is_among (map (λ (one : ℕ × Member). one.0) (if b then entry ∷ filter (is_absent slots seats) members else filter (is_absent slots seats) members)) reference ≡ true
+        → list_any (has_reference slots reference) seats ≡ false
+    go later true passes found = by_key later (nat_eq reference entry.0) refl passes found
+    go later false passes found = later found
 
 -- ---- the seats
 
@@ -196,6 +225,25 @@ module _ (group : List ℕ) {D : Type 0} (state : BayState D) (left : List Bool)
       let copy = copy_there newest slot view (first_is_view (slot_at slots slot) view found.is_first) in
       let seat = claims_seat newest group g made slot copy.0 below (claimed_claims group slots alike slot view found) copy.1 in
       slot_is (slots_of g.seats) seat.0 slot seat.1
+
+  -- Its reference isn't absent.
+  pub claimed_not_absent : (slot : ℕ) (view : View) → IsClaimed (groups group) scene slot view → is_among g.absent view.reference ≡ false
+  claimed_not_absent slot view is_claimed =
+      let found = subst (λ (one : Scene View). IsClaimed (groups group) one slot view) (sym same_scene) is_claimed in
+      let below = copy_within slots slot view (first_is_copy (scene_in slots slot) view found.is_first) in
+      let number : slice_get (numbers slots) slot ≡ Some slot = (let at = get_range 0 (length slots) slot below in at.2 ∙ ap Some (at.1 ∙ zero-add slot)) in
+      let kept_there = passes_kept (claims slots group) (numbers slots) slot slot number (claimed_claims group slots alike slot view found) in
+      let has : has_reference slots view.reference slot ≡ true =
+      ap (λ (one : Option View). option_map_or (λ (reference : ℕ). eqb reference view.reference) (option_map (λ (shown : View). shown.reference) one) false)
+      (first_is_view (slot_at slots slot) view found.is_first)
+      ∙ eq-eqb view.reference view.reference refl in
+      let any = any_there (has_reference slots view.reference) (filter (claims slots group) (numbers slots)) kept_there.0 slot kept_there.1 has in
+      elim (which (is_among g.absent view.reference)) [
+        | inr free ↦ free
+        | inl among ↦
+            let here = subst (λ (all : List ℕ). is_among all view.reference ≡ true) (absent_are newest group g made) among in
+            absurd (false≢true (sym (absent_none slots (filter (claims slots group) (numbers slots)) view.reference g.config.members here) ∙ any))
+      ]
 
   -- The disk of a claimed slot is a current member.
   pub claimed_is_current : (slot : ℕ) (view : View) → IsClaimed (groups group) scene slot view → has_current g.config (disk_of view) ≡ true

@@ -1,6 +1,6 @@
 -- The first step of a group that stands at the end of its history: at every moment whatever a stop leaves shows what it should, and behind it the
 -- group stands at the end again.
-use Rattle.std.proofs.Common.{◌≡◌, ℕ, ◌<◌, ◌^◌, true, List, ◌∷◌, length, Option, Some, None, ap, sym, ◌∙◌, subst}
+use Rattle.std.proofs.Common.{◌≡◌, ℕ, ◌<◌, ◌^◌, true, List, ◌∷◌, length, Option, Some, None, refl, ap, sym, ◌∙◌, inl, subst}
 use Rattle.std.specs.Prelude.{slice_get}
 use Rattle.ddf_bay.specs.Sectors.{Image, IsLeft}
 use Rattle.ddf_bay.specs.State.{BayState}
@@ -8,7 +8,7 @@ use Rattle.ddf_config.specs.Configuration.{Configuration}
 use Rattle.ddf_plan.specs.declared.change.Change.{Change}
 use Rattle.ddf_plan.specs.Same.{is_step}
 use Rattle.ddf_update.specs.declared.prepared.Prepared.{Prepared}
-use Rattle.ddf_update.specs.Changes.{AreChanged, IsLeftChangingAll}
+use Rattle.ddf_update.specs.Changes.{AreChanged, IsLeftChangingAll, MayChangeAll}
 use Rattle.ddf_update.specs.Group.{LieOnSlots}
 use Rattle.ddf_view.specs.View.{View, view_of}
 use Rattle.ddf_rewrite.specs.Before.{Before, before}
@@ -25,7 +25,7 @@ use Rattle.ddf_assembly.specs.Reading.{HaveAnchors}
 use Rattle.ddf_assembly.specs.Ready.{ReadyStep, ReadyValue, group_after}
 use Rattle.ddf_assembly.specs.Refusing.{step_refusal}
 use Rattle.ddf_assembly.specs.Seated.{seated, slots_in, views_in}
-use Rattle.ddf_assembly.specs.Steps.{Step, config_after, levelled, step_of}
+use Rattle.ddf_assembly.specs.Steps.{Step, config_after, in_order, levelled, step_of}
 use Rattle.ddf_assembly.specs.Trying.{SlotsRise}
 use Rattle.ddf_assembly.proofs.Committed.{next_lies}
 use Rattle.ddf_assembly.proofs.CommittedAfter.{after_is, committed_anchored, committed_holds, left_ready}
@@ -35,7 +35,7 @@ use Rattle.ddf_stops.proofs.Changing.{acknowledged_last, follows}
 use Rattle.ddf_stops.proofs.ChangingCopies.{changed_views}
 use Rattle.ddf_stops.proofs.CommittingScenes.{all_say, changed_written, written_shows}
 use Rattle.ddf_stops.proofs.CommittingSeats.{copy_in, written_at}
-use Rattle.ddf_stops.proofs.CommittingStep.{all_written, new_at, new_member, slots_seated, step_acknowledged, step_issued, step_kept}
+use Rattle.ddf_stops.proofs.CommittingStep.{all_written, in_place, new_at, new_member, slots_seated, step_acknowledged, step_issued, step_kept}
 use Rattle.ddf_stops.proofs.Stops.{changed_left, stop_writes, unwritten_left}
 
 -- a step with its updates, and what is left with it
@@ -75,15 +75,22 @@ module _ (group : List ℕ) {D : Type 0} (past : Past (groups group)) (disks : B
     rises : found.config.sequence < next.sequence
     rises = is_ready.rises.0
 
+    -- Each disk is written in its place.
+    place_is : in_order step.disks ≡ step.disks
+    place_is = in_place group past disks found end timestamp time change asked not_refused is_change rises
+
     -- Its updates lie on their slots.
     lies : LieOnSlots disks.sizes slots updates
-    lies = next_lies disks.sizes found end.under ready is_ready
+    lies = subst (λ (all : List Seated). LieOnSlots disks.sizes (slots_in all) updates) place_is (next_lies disks.sizes found end.under ready is_ready)
+
+    may_change : MayChangeAll disks slots may.seat updates
+    may_change = subst (λ (all : List Seated). MayChangeAll disks (slots_in all) may.seat updates) place_is may.may_change
 
     news : (place slot : ℕ) → slice_get slots place ≡ Some slot → new slot ≡ view_of (may.seat place).new
     news place slot at =
         let made = written_at (seated found) led next timestamp place slot at in
         new_at group past disks found end timestamp time change asked not_refused is_change rises place slot made.0 made.1 made.2
-        ∙ sym (ap view_of (may.news place made.0 made.1))
+        ∙ sym (ap view_of (may.news place made.0 (ap (λ (all : List Seated). slice_get all place) place_is ∙ made.1)))
 
     -- Before it is written the change may be issued.
     issued : (image : Image) → IsLeft disks.may_hold image → IsKept issued_past (scene_of disks.sizes image)
@@ -94,7 +101,7 @@ module _ (group : List ℕ) {D : Type 0} (past : Past (groups group)) (disks : B
     kept image left =
         let start = unwritten_left disks slots may.seat updates image (λ s l here. end.is_left s l) left in
         step_kept group past disks found end timestamp time change asked not_refused is_change rises image start (scene_of disks.sizes image)
-        (stop_writes disks slots may.seat updates image lies.are_slots lies.counted may.may_change (λ place slot at. end.says_one slot) left new news)
+        (stop_writes disks slots may.seat updates image lies.are_slots lies.counted may_change (λ place slot at. end.says_one slot) left new news)
 
     -- ---- behind it
 
@@ -123,9 +130,10 @@ module _ (group : List ℕ) {D : Type 0} (past : Past (groups group)) (disks : B
       done left = record {
         all_kept = all_kept;
         is_last = acknowledged_last group past (scene_of disks.sizes disks.held) (end.all_kept disks.held end.is_left) past.changes.acked found.config next
-            end.is_last (follows group found.config change next.sequence rises);
+            end.is_last (follows group found.config change next.sequence rises) (inl refl);
         is_settled = (left_ready found ready is_ready).is_settled;
-        holds = committed_holds disks now same_sizes found ready end.holds is_ready may changed;
+        holds = committed_holds disks now same_sizes found ready end.holds is_ready may
+            (subst (λ (all : List Seated). AreChanged disks now (slots_in all) may.seat updates (length (slots_in all))) (sym place_is) changed);
         under = subst (λ (sizes : List ℕ). HaveAnchors sizes (group_after found step).newest) (sym same_sizes)
             (committed_anchored disks.sizes found ready is_ready end.under);
         same_slots = end.same_slots ∙ ap length (sym same_sizes);
@@ -137,6 +145,15 @@ module _ (group : List ℕ) {D : Type 0} (past : Past (groups group)) (disks : B
         says_one = all_say disks now slots may.seat updates lies.are_slots lies.counted same_sizes changed now.held left new news end.says_one;
         is_left = left;
       }
+
+    -- So it is with its disks in the order in which they are written.
+    pub order_kept : (image : Image) → IsLeftChangingAll disks (next_slots ready) may.seat updates image → IsKept issued_past (scene_of disks.sizes image)
+    order_kept image left = kept image (subst (λ (all : List Seated). IsLeftChangingAll disks (slots_in all) may.seat updates image) place_is left)
+
+    pub order_done : (now : BayState D) → now.sizes ≡ disks.sizes → AreChanged disks now (next_slots ready) may.seat updates (length (next_slots ready))
+        → IsLeft now.may_hold now.held → IsAtEnd group (acknowledge issued_past number) now (group_after found step)
+    order_done now same_sizes changed left =
+        done now same_sizes (subst (λ (all : List Seated). AreChanged disks now (slots_in all) may.seat updates (length (slots_in all))) place_is changed) left
 
 -- ---- the first step of what was readied
 
@@ -179,7 +196,7 @@ module _ (group : List ℕ) {D : Type 0} (past : Past (groups group)) (disks : B
       (sym step_is)
       (by_first
       (λ r is can. IsLeftChangingAll disks (next_slots r) can.seat (next_updates r) image → IsKept (issue past by_change.config) (scene_of disks.sizes image))
-      (λ is can. kept group past disks found end timestamp time change asked not_refused is_change ready.recovery one.updates others is can image))
+      (λ is can. order_kept group past disks found end timestamp time change asked not_refused is_change ready.recovery one.updates others is can image))
 
   -- Once it is written, the group stands at the end of its history, of which the change is the last and acknowledged.
   pub change_done : (now : BayState D) → now.sizes ≡ disks.sizes → IsLeft now.may_hold now.held
@@ -194,4 +211,4 @@ module _ (group : List ℕ) {D : Type 0} (past : Past (groups group)) (disks : B
       (λ r is can. AreChanged disks now (next_slots r) can.seat (next_updates r) (length (next_slots r))
       → IsAtEnd group (acknowledge (issue past by_change.config) (length past.changes.issued)) now (group_next found r))
       (λ is can changed.
-      done group past disks found end timestamp time change asked not_refused is_change ready.recovery one.updates others is can now same_sizes changed left))
+      order_done group past disks found end timestamp time change asked not_refused is_change ready.recovery one.updates others is can now same_sizes changed left))

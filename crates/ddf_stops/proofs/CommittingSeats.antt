@@ -16,7 +16,7 @@ use Rattle.ddf_rewrite.proofs.Roomy.{change_can, roomy_change_can}
 use Rattle.ddf_update.specs.NewCopies.{new_copy}
 use Rattle.ddf_assembly.specs.declared.seated.Seated.{Seated}
 use Rattle.ddf_assembly.specs.Asked.{CanBeAsked}
-use Rattle.ddf_assembly.specs.Full.{full_on}
+use Rattle.ddf_assembly.specs.Full.{full_where_written}
 use Rattle.ddf_assembly.specs.Group.{GroupValue, copy_at}
 use Rattle.ddf_assembly.specs.Refusing.{step_refusal}
 use Rattle.ddf_assembly.specs.Seated.{seated, slots_in, views_in}
@@ -26,7 +26,7 @@ use Rattle.ddf_assembly.specs.Trying.{AreCopies, CanBeHeldOn, CanTry}
 use Rattle.ddf_assembly.proofs.Following.{copies_are, next_held, room_for}
 use Rattle.ddf_assembly.proofs.LeftBefore.{all_pass, kept_at}
 use Rattle.ddf_assembly.proofs.LeftStep.{from_kept}
-use Rattle.ddf_assembly.proofs.OneLength.{HasRoom, can_try_all, led_by_all}
+use Rattle.ddf_assembly.proofs.OneLength.{HasRoom, can_try_all, led_by_all, room_on}
 use Rattle.ddf_assembly.proofs.Rewritten.{capacities}
 use Rattle.ddf_assembly.proofs.StepConfig.{has_room, no_cause}
 use Rattle.ddf_stops.specs.Kept.{is_slot}
@@ -128,17 +128,17 @@ module _ (found : GroupValue) (settled : IsSettledGroup found) (timestamp : ℕ)
   tries : AllByRecursion (CanTry led next) disks
   tries = can_try_all led next disks copies room.same (led_by_all disks copies) held
 
-  -- Each disk can have its new copy.
-  pub can_change : (place : ℕ) (disk : Seated) → slice_get disks place ≡ Some disk → CanChange disk.copy led next timestamp
-  can_change place disk at =
+  -- Each disk that stays can have its new copy.
+  pub can_change : (place : ℕ) (disk : Seated) → slice_get disks place ≡ Some disk → stays_in next disk ≡ true → CanChange disk.copy led next timestamp
+  can_change place disk at stays =
       let try = all_at (CanTry led next) disks place disk tries at in
       change_can disk.copy led next timestamp try.is_copy try.holdable
-      (all_at (λ (one : Seated). full_on led next timestamp one ≡ None) disks place disk room.none at)
+      (room_on led next timestamp disk stays (all_at (λ (one : Seated). full_where_written led next timestamp one ≡ None) disks place disk room.none at))
 
   -- This can be written.
-  pub new_is_copy : (place : ℕ) (disk : Seated) → slice_get disks place ≡ Some disk → CanBeCopy (changed_copy disk.copy led next timestamp)
-  new_is_copy place disk at =
+  pub new_is_copy : (place : ℕ) (disk : Seated) → slice_get disks place ≡ Some disk → stays_in next disk ≡ true → CanBeCopy (changed_copy disk.copy led next timestamp)
+  new_is_copy place disk at stays =
       let try = all_at (CanTry led next) disks place disk tries at in
       roomy_change_can disk.copy led next timestamp try.is_copy try.holdable try.leaders_held time
       (λ n wanted there none. capacities disk.copy.header.geometry.max_members next try.holdable n wanted there)
-      (all_at (λ (one : Seated). full_on led next timestamp one ≡ None) disks place disk room.none at)
+      (room_on led next timestamp disk stays (all_at (λ (one : Seated). full_where_written led next timestamp one ≡ None) disks place disk room.none at))

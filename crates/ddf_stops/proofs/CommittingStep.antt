@@ -1,5 +1,5 @@
 -- A change of a group that stands at the end of its history: whatever a stop leaves shows what it should, and behind it the change is acknowledged.
-use Rattle.std.proofs.Common.{◌≡◌, ℕ, ◌<◌, ◌^◌, Bool, true, false, not, ◌&&◌, nat_eq, eqb, List, [], ◌∷◌, length, Some, None, refl, ap, sym, ◌∙◌, inr, subst}
+use Rattle.std.proofs.Common.{◌≡◌, ℕ, ◌<◌, ◌^◌, Bool, true, false, not, ◌&&◌, nat_eq, eqb, List, [], ◌∷◌, length, Some, None, refl, ap, sym, ◌∙◌, inl, inr, subst, if◌then◌else◌}
 use Rattle.std.proofs.lemmas.Bool.{and_parts, eq-eqb, eqb-true, false≢true}
 use Rattle.std.proofs.Math.Path.{fun_ext}
 use Rattle.std.specs.Prelude.{slice_get}
@@ -14,7 +14,10 @@ use Rattle.ddf_copy.specs.declared.copy.DiskCopy.{DiskCopy}
 use Rattle.ddf_copy.specs.Written.{CanBeCopy}
 use Rattle.ddf_plan.specs.declared.change.Change.{Change}
 use Rattle.ddf_plan.specs.Same.{is_step}
+use Rattle.ddf_update.specs.declared.prepared.Mode.TheVariants as modes
+use Rattle.ddf_update.specs.Prepared.{writes_anchor}
 use Rattle.ddf_view.specs.View.{View, view_of}
+use Rattle.ddf_view.proofs.Tests.{bytes_same}
 use Rattle.ddf_rewrite.specs.Before.{Before, before}
 use Rattle.ddf_rewrite.specs.Changing.{CanChange}
 use Rattle.ddf_rewrite.specs.Copies.{changed_copy}
@@ -25,7 +28,7 @@ use Rattle.ddf_history.specs.Groups.{Disk, groups, disk_of, has_current}
 use Rattle.ddf_history.specs.Issued.{Past, acknowledge, is_away, issue}
 use Rattle.ddf_history.specs.Promise.{IsKept}
 use Rattle.ddf_history.specs.Scenes.{scene_of}
-use Rattle.ddf_history.specs.Steps.{AreWritten, MayFollow}
+use Rattle.ddf_history.specs.Steps.{AreWritten, JoinLast, MayFollow}
 use Rattle.ddf_history.proofs.Listed.{value_there}
 use Rattle.ddf_assembly.specs.declared.seated.Seated.{Seated}
 use Rattle.ddf_assembly.specs.Asked.{CanBeAsked}
@@ -33,12 +36,13 @@ use Rattle.ddf_assembly.specs.Committed.{slots_of}
 use Rattle.ddf_assembly.specs.Group.{GroupValue}
 use Rattle.ddf_assembly.specs.Refusing.{step_refusal}
 use Rattle.ddf_assembly.specs.Seated.{seated, seats_in, slots_in, views_in}
-use Rattle.ddf_assembly.specs.Steps.{config_after, disks_after, stays_in}
+use Rattle.ddf_assembly.specs.Steps.{config_after, disks_after, in_order, is_adopted, stays_in}
 use Rattle.ddf_assembly.specs.Trying.{IsOfGroup}
 use Rattle.ddf_assembly.proofs.LeftStep.{same_view}
+use Rattle.ddf_assembly.proofs.Ordered.{order_own}
 use Rattle.ddf_stops.specs.Kept.{is_slot, unwritten}
 use Rattle.ddf_stops.specs.AtEnd.{IsAtEnd}
-use Rattle.ddf_stops.proofs.Changing.{change_acknowledged, change_kept, follows, issued_kept}
+use Rattle.ddf_stops.proofs.Changing.{change_acknowledged, change_joins_last, change_kept, follows, issued_kept}
 use Rattle.ddf_stops.proofs.ChangingCopies.{changed_views}
 use Rattle.ddf_stops.proofs.CommittingScenes.{seat_shows}
 use Rattle.ddf_stops.proofs.CommittingSeats.{IsWritten, can_change, copy_in, copy_is, is_written, new_is_copy, renewed, stays_written}
@@ -104,7 +108,7 @@ module _ (group : List ℕ) {D : Type 0} (past : Past (groups group)) (state : B
   -- The change may be issued.
   pub step_issued : (image : Image) → IsLeft state.may_hold image → IsKept (issue past next) (scene_of state.sizes image)
   step_issued image left =
-      issued_kept group past (scene_of state.sizes image) (end.all_kept image left) past.changes.acked found.config next end.is_last follow
+      issued_kept group past (scene_of state.sizes image) (end.all_kept image left) past.changes.acked found.config next end.is_last follow (inl refl)
 
   -- ---- the slots that are written
 
@@ -138,18 +142,26 @@ module _ (group : List ℕ) {D : Type 0} (past : Past (groups group)) (state : B
   can : (slot : ℕ) → is_slot slots slot ≡ true → CanChange (old slot) led next timestamp
   can =
       by_disk (λ copy. CanChange copy led next timestamp)
-      (λ place disk at stays. can_change found end.is_settled timestamp time change asked not_refused is_change place disk at)
+      (λ place disk at stays. can_change found end.is_settled timestamp time change asked not_refused is_change place disk at stays)
 
   are_copies : (slot : ℕ) → is_slot slots slot ≡ true → CanBeCopy (changed_copy (old slot) led next timestamp)
   are_copies =
       by_disk (λ copy. CanBeCopy (changed_copy copy led next timestamp))
-      (λ place disk at stays. new_is_copy found end.is_settled timestamp time change asked not_refused is_change place disk at)
+      (λ place disk at stays. new_is_copy found end.is_settled timestamp time change asked not_refused is_change place disk at stays)
 
   ours : (slot : ℕ) → is_slot slots slot ≡ true → (old slot).header.guid ≡ group
   ours =
       by_disk (λ copy. copy.header.guid ≡ group)
       (λ place disk at stays.
       (all_at (IsOfGroup found.config) (seated found) place disk end.is_settled.can_be_changed.of_group at).same_group ∙ end.same_group)
+
+  -- No disk is adopted: each is written in its place.
+  pub in_place : in_order new_disks ≡ new_disks
+  in_place = order_own new_disks (λ k made at.
+      let own = renewed (seated found) led next timestamp k made at in
+      let same = (all_at (IsOfGroup found.config) (seated found) own.place own.disk end.is_settled.can_be_changed.of_group own.at).same_group in
+      let alike : bytes_eq own.disk.copy.header.guid next.group ≡ true = ap (λ (guid : List ℕ). bytes_eq guid next.group) same ∙ bytes_same found.config.group in
+      sym (ap is_adopted own.is_made) ∙ ap (λ (b : Bool). writes_anchor (if b then modes.Change else modes.Adopt)) alike)
 
   -- A seat's copy names its slot's disk.
   member_names : (place : ℕ) (disk : Seated) → slice_get (seated found) place ≡ Some disk → disk_of (view_of disk.copy) ≡ past.disk disk.seat.slot
@@ -207,15 +219,21 @@ module _ (group : List ℕ) {D : Type 0} (past : Past (groups group)) (state : B
         let there : start slot ≡ One (view_of (old slot)) = ap start (sym own.slot_is) ∙ is ∙ copies in
         rw there refl
 
+    -- No disk joins by it.
+    joins : (after : Scene View) → AreWritten (is_slot slots) new start after → JoinLast (issue past next) (is_slot slots) new after
+    joins after wrote =
+        change_joins_last group past start kept past.changes.acked found.config next end.is_last follow (inl refl) end.same_group timestamp led (is_slot slots) old shown
+        claimed stays can are_copies after wrote ours
+
     -- Whichever have their new copies, each shows what it should.
     pub step_kept : (after : Scene View) → AreWritten (is_slot slots) new start after → IsKept (issue past next) after
     step_kept after wrote =
-        change_kept group past start kept past.changes.acked found.config next end.is_last follow end.same_group timestamp led (is_slot slots) old shown claimed
-        stays can are_copies after wrote ours
+        change_kept group past start kept past.changes.acked found.config next end.is_last follow (inl refl) end.same_group timestamp led (is_slot slots) old shown claimed
+        stays can are_copies after wrote (joins after wrote)
 
     -- Where all have their new copies, the change is acknowledged.
     pub step_acknowledged : (after : Scene View) → AreWritten (is_slot slots) new start after
         → ((slot : ℕ) → is_slot slots slot ≡ true → after slot ≡ One (new slot)) → IsKept (acknowledge (issue past next) number) after
     step_acknowledged after wrote shows =
-        change_acknowledged group past start kept past.changes.acked found.config next end.is_last follow end.same_group timestamp led (is_slot slots) old shown
-        claimed stays can are_copies after wrote (λ slot here current. let is = all_written slot here current in (is, shows slot is)) ours
+        change_acknowledged group past start kept past.changes.acked found.config next end.is_last follow (inl refl) end.same_group timestamp led (is_slot slots) old shown
+        claimed stays can are_copies after wrote (λ slot here current. let is = all_written slot here current in (is, shows slot is)) (joins after wrote)

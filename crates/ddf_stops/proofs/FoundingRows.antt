@@ -15,7 +15,7 @@ use Rattle.ddf_configs.specs.declared.slot.RecordSlot.{RecordSlot}
 use Rattle.ddf_configs.specs.declared.slot.RecordSlot.TheVariants as slots
 use Rattle.ddf_configs.specs.Slots.{valid_notes}
 use Rattle.ddf_update.specs.NewCopies.{disk_guid, entries_from, group_of, new_arrays, new_copy, new_notes, new_slots, reference_at, unused_slot}
-use Rattle.ddf_view.specs.View.{View, Held, disk_of, first_spare, held_from, is_missing, lists_current, view_of}
+use Rattle.ddf_view.specs.View.{View, HeldRecord, disk_of, first_spare, held_from, is_missing, lists_current, view_of}
 use Rattle.ddf_view.proofs.Tests.{bytes_same}
 use Rattle.ddf_history.proofs.Since.{which}
 use Rattle.ddf_stops.proofs.FoundingViews.{plain_view}
@@ -137,7 +137,7 @@ no_spare : (stamp : Stamp) → first_spare (new_slots stamp) ≡ None
 no_spare stamp = ap (λ slot. first_spare (replicate 15 slot)) unused_is ∙ none_spare 15 (replicate 1024 255)
 
 -- a view of this table by what its slots tell
-view_by : Stamp → List ℕ → (place : ℕ) → List Held → (noted : Bool) → Option SpareRecord → View
+view_by : Stamp → List ℕ → (place : ℕ) → List HeldRecord → (noted : Bool) → Option SpareRecord → View
 view_by stamp sizes place elements noted spare = record {
   group = group_of stamp;
   sequence = 1;
@@ -156,7 +156,7 @@ pub new_view : (stamp : Stamp) (sizes : List ℕ) (place : ℕ)
 unfolding view_of view_by new_arrays
 new_view stamp sizes place =
     let notes = valid_notes (group_of stamp) 1 (new_slots stamp) in
-    ap (λ (elements : List Held). view_by stamp sizes place elements (is_some notes) (first_spare (new_slots stamp))) (no_elements stamp notes)
+    ap (λ (elements : List HeldRecord). view_by stamp sizes place elements (is_some notes) (first_spare (new_slots stamp))) (no_elements stamp notes)
     ∙ ap (λ (noted : Bool). view_by stamp sizes place [] noted (first_spare (new_slots stamp)))
     (first_noted (group_of stamp) (new_notes stamp).slots (replicate 15 unused_slot))
     ∙ ap (λ (spare : Option SpareRecord). view_by stamp sizes place [] true spare) (no_spare stamp)

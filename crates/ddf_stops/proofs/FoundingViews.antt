@@ -10,7 +10,7 @@ use Rattle.ddf_config.specs.Configuration.{Configuration}
 use Rattle.ddf_view.specs.View.{View, has_bit, is_missing}
 use Rattle.ddf_view.specs.Reading.{member_entry_in, read, spare_in}
 use Rattle.ddf_view.specs.Shows.{gives_member, gives_spare, same_flag, same_spare, shows, shows_fully}
-use Rattle.ddf_view.specs.Differ.{difference, differing_disks, disk_differs, placed_disk, same_disk}
+use Rattle.ddf_view.specs.Differ.{difference, differing_disks, disk_differs, numbered_disk, same_disk}
 use Rattle.ddf_view.proofs.Tests.{bytes_same}
 use Rattle.ddf_history.specs.Groups.{ShowsFully}
 
@@ -118,7 +118,7 @@ none_passes test none (x ∷ xs) = let rest = none_passes test none xs in rw (no
 
 -- A table doesn't differ from itself.
 none_differs : (disks : List DiskEntry) → differing_disks disks disks ≡ []
-none_differs disks = none_passes (disk_differs disks disks) (λ reference. ap not (found_itself (placed_disk reference disks))) _
+none_differs disks = none_passes (disk_differs disks disks) (λ reference. ap not (found_itself (numbered_disk reference disks))) _
 
 -- Two such views of one table agree.
 pub plain_agree : (group one_guid other_guid : List ℕ) (one other : ℕ) (disks : List DiskEntry)

@@ -1,6 +1,6 @@
 -- What recovery gives seats that lag may be written, as histories ask it: the configuration that a call assembled, with its
 -- sequence number as it is, where no member is absent.
-use Rattle.std.proofs.Common.{◌≡◌, ℕ, Bool, true, false, not, List, [], ◌∷◌, map, Some, slice_get, refl, sym, ap, ◌∙◌, inl, inr, ⊎_elim, subst}
+use Rattle.std.proofs.Common.{◌≡◌, ℕ, Bool, true, false, not, List, [], ◌∷◌, map, Some, slice_get, sym, ap, ◌∙◌, inl, inr, ⊎_elim, subst}
 use Rattle.std.proofs.lemmas.Bool.{false≢true}
 use Rattle.std.specs.List.{AllByRecursion}
 use Rattle.std.specs.Str.{bytes_eq}
@@ -16,16 +16,15 @@ use Rattle.ddf_rewrite.specs.Before.{before}
 use Rattle.ddf_rewrite.specs.Copies.{recovered_copy}
 use Rattle.ddf_rewrite.specs.Hold.{CanBeRecovered}
 use Rattle.ddf_rewrite.proofs.Writable.{recovered_copy_can}
-use Rattle.ddf_history.specs.Reading.{Scene, Shown, IsCopyOf, IsFirstOf}
+use Rattle.ddf_history.specs.Reading.{Scene, Shown, IsFirstOf}
 use Rattle.ddf_history.specs.Reading.Shown.{One}
 use Rattle.ddf_history.specs.Groups.{groups, has_current, read_leaders}
 use Rattle.ddf_history.specs.Issued.{Past, IsSince, acknowledge, is_away, take_off}
 use Rattle.ddf_history.specs.Leaders.{leading_copy, seen, leading_copies}
 use Rattle.ddf_history.specs.Promise.{IsKept}
 use Rattle.ddf_history.specs.Answer.{IsClaimed}
-use Rattle.ddf_history.specs.Steps.{AllShow, AreWritten, GivesAfter, IsLast, JoinLast, MayWrite}
+use Rattle.ddf_history.specs.Steps.{AllShow, AreWritten, GivesAfter, IsLast, JoinLast, MayWrite, OthersLast}
 use Rattle.ddf_history.specs.Calls.{IsAssembled, AreSure, NoneAbsent}
-use Rattle.ddf_history.proofs.Since.{first_is_copy}
 use Rattle.ddf_history.proofs.Sound.{groups_are_sound}
 use Rattle.ddf_stops.proofs.MendingPlaces.{place_get, place_of}
 use Rattle.ddf_stops.proofs.MendingLeaders.{IsShowing, cut_kept, cut_last}
@@ -34,11 +33,6 @@ use Rattle.ddf_stops.proofs.MendingSeats as seated
 use Rattle.ddf_stops.proofs.MendingWritten as writing
 use Rattle.ddf_stops.proofs.MendingGrown as growing
 use Rattle.ddf_stops.proofs.MendingGives.{AreGrown, IsRecovered, grown_gives}
-
--- The group by which a disk's view is known is its header's.
-view_group : (copy : DiskCopy) → (view_of copy).group ≡ copy.header.guid
-unfolding view_of
-view_group copy = refl
 
 module _ {group : List ℕ} (past : Past (groups group)) (held scene : Scene View) (readable : ℕ → Bool) (j : ℕ) (config : Configuration)
     (assembled : IsAssembled past held readable config) (since : IsSince past.changes j config) (kept : IsKept past scene)
@@ -50,8 +44,8 @@ module _ {group : List ℕ} (past : Past (groups group)) (held scene : Scene Vie
     (claimed : (slot : ℕ) → seats slot ≡ true → IsClaimed (groups group) (seen readable held) slot (view_of (old slot)))
     (can : (slot : ℕ) → seats slot ≡ true → shows config (view_of (old slot)) ≡ false → CanBeRecovered (old slot) (before (map view_of leaders)) config timestamp)
     (old_can : (slot : ℕ) → seats slot ≡ true → CanBeCopy (old slot))
-    -- the copy of a seat is of the group
-    (ours : (slot : ℕ) → seats slot ≡ true → (old slot).header.guid ≡ group) where
+    -- the members that aren't written show the configuration
+    (others : (slot : ℕ) → seats slot ≡ false → is_away past slot ≡ false → has_current config (past.disk slot) ≡ true → (view : View) × (scene slot ≡ One view) × (shows config view ≡ true)) where
   abbrev views : List View
   views = map view_of leaders
 
@@ -79,13 +73,16 @@ module _ {group : List ℕ} (past : Past (groups group)) (held scene : Scene Vie
   pub mending_may_write : MayWrite begun scene j config seats new
   mending_may_write = seated.mending_may_write past held scene readable j config assembled since kept sure none_absent same_group leaders are_leaders leaders_can is_read timestamp seats old claimed can old_can
 
-  -- A seat shows a copy of the group already.
-  shows_ours : (slot : ℕ) → seats slot ≡ true → (view : View) × IsCopyOf (scene slot) view × (bytes_eq group view.group ≡ true)
-  shows_ours slot seat =
-      let is = is_seat past held scene readable j config assembled since kept sure none_absent same_group leaders are_leaders leaders_can is_read timestamp seats old claimed can old_can slot seat in (
-        view_of (old slot),
-        subst (λ (shown : Shown View). IsCopyOf shown (view_of (old slot))) (sym is.is_sure) (first_is_copy (held slot) (view_of (old slot)) is.is_first),
-        ap (bytes_eq group) (view_group (old slot) ∙ ours slot seat) ∙ bytes_same group,
+  -- What the others show.
+  others_show : (slot : ℕ) → seats slot ≡ false → is_away past slot ≡ false → has_current config (past.disk slot) ≡ true
+      → (view : View) × (scene slot ≡ One view) × ((groups group).is_ours view ≡ true) × (groups group).Shows view config
+  others_show slot rest here now =
+      let other = others slot rest here now in
+      let leads = lowest past held scene readable j config assembled since kept sure none_absent same_group leaders are_leaders leaders_can is_read timestamp seats old claimed can old_can in (
+        other.0,
+        other.1,
+        ap (bytes_eq group) ((shown_from config other.0 other.2).group ∙ same_group) ∙ bytes_same group,
+        names_alike config assembled.is_read.leading other.0 leads.shows other.2,
       )
 
   -- ---- what the leaders give then
@@ -176,33 +173,20 @@ module _ {group : List ℕ} (past : Past (groups group)) (held scene : Scene Vie
     -- ---- what the slots show then
 
     -- Disks that join are written last.
-    pub mending_joins_last : JoinLast begun seats new after
-    mending_joins_last = writing.join_last (groups group) (groups_are_sound group) past held scene readable j config assembled since kept sure none_absent seats new mending_may_write shows_ours after written
+    pub mending_joins_last : OthersLast (groups group) seats new scene after → JoinLast begun seats new after
+    mending_joins_last last = writing.join_last (groups group) (groups_are_sound group) past held scene readable j config assembled since kept sure none_absent seats new mending_may_write others_show after written last
 
     -- Each slot shows what it should after.
-    pub mending_kept : IsKept begun after
-    mending_kept = writing.mended_kept (groups group) (groups_are_sound group) past held scene readable j config assembled since kept sure none_absent seats new mending_may_write shows_ours after written mended_gives
+    pub mending_kept : OthersLast (groups group) seats new scene after → IsKept begun after
+    mending_kept last = writing.mended_kept (groups group) (groups_are_sound group) past held scene readable j config assembled since kept sure none_absent seats new mending_may_write others_show after written last mended_gives
 
     -- ---- at the end
 
-    module _ (done : (slot : ℕ) → seats slot ≡ true → after slot ≡ One (new slot))
-        (others : (slot : ℕ) → seats slot ≡ false → is_away past slot ≡ false → has_current config (past.disk slot) ≡ true → (view : View) × (scene slot ≡ One view) × (shows config view ≡ true)) where
-      -- What the others show.
-      others_show : (slot : ℕ) → seats slot ≡ false → is_away past slot ≡ false → has_current config (past.disk slot) ≡ true
-          → (view : View) × (scene slot ≡ One view) × ((groups group).is_ours view ≡ true) × (groups group).Shows view config
-      others_show slot rest here now =
-          let other = others slot rest here now in
-          let leads = lowest past held scene readable j config assembled since kept sure none_absent same_group leaders are_leaders leaders_can is_read timestamp seats old claimed can old_can in (
-            other.0,
-            other.1,
-            ap (bytes_eq group) ((shown_from config other.0 other.2).group ∙ same_group) ∙ bytes_same group,
-            names_alike config assembled.is_read.leading other.0 leads.shows other.2,
-          )
-
+    module _ (done : (slot : ℕ) → seats slot ≡ true → after slot ≡ One (new slot)) where
       -- Each member that is here shows the configuration.
       pub mending_shown : AllShow begun after j config
-      mending_shown = writing.mended_show (groups group) (groups_are_sound group) past held scene readable j config assembled since kept sure none_absent seats new mending_may_write shows_ours after written mended_gives done others_show
+      mending_shown = writing.mended_show (groups group) (groups_are_sound group) past held scene readable j config assembled since kept sure none_absent seats new mending_may_write others_show after written mended_gives done
 
       -- It may be acknowledged, and is the last then.
       pub mending_acknowledged : IsKept (acknowledge begun j) after × IsLast (acknowledge begun j).changes j config
-      mending_acknowledged = writing.mended_acknowledged (groups group) (groups_are_sound group) past held scene readable j config assembled since kept sure none_absent seats new mending_may_write shows_ours after written mended_gives done others_show
+      mending_acknowledged = writing.mended_acknowledged (groups group) (groups_are_sound group) past held scene readable j config assembled since kept sure none_absent seats new mending_may_write others_show after written mended_gives done

@@ -18,7 +18,7 @@ use Rattle.ddf_copy.specs.Written.{CanBeCopy}
 use Rattle.ddf_view.specs.Differ.{difference, held_differ, same_held, same_notes, same_record}
 use Rattle.ddf_view.specs.Reading.{are_noted, array_entry_in, array_in, arrays_in, count_in, disks_in, element_in, elements_in, is_associated, is_dedicated, names_array, naming_record, plan_of, read}
 use Rattle.ddf_view.specs.Shows.{shows}
-use Rattle.ddf_view.specs.View.{Held, View, find_held, find_note, is_element, view_of}
+use Rattle.ddf_view.specs.View.{HeldRecord, View, find_held, find_note, is_element, view_of}
 use Rattle.ddf_rewrite.specs.Arrays.{array_on, arrays_after}
 use Rattle.ddf_rewrite.specs.Before.{before}
 use Rattle.ddf_rewrite.specs.Copies.{recovered_copy}
@@ -39,7 +39,7 @@ use Rattle.ddf_stops.proofs.MendingSpares.{recovered_dedicated, recovered_noted}
 -- ---- the records of several views
 
 -- Neither is there where none of both is.
-none_of_both : (o p : Option Held) → option_or o p ≡ None → (o ≡ None) × (p ≡ None)
+none_of_both : (o p : Option HeldRecord) → option_or o p ≡ None → (o ≡ None) × (p ≡ None)
 none_of_both None p h = (refl, h)
 none_of_both (Some x) p h = absurd cc
 
@@ -146,10 +146,10 @@ module _ (group : List ℕ) (sequence timestamp : ℕ) (leaders : List DiskCopy)
       agrees view one (subst (λ (v : View). difference v one ≡ None) fresh.is_view (subst (λ (v : View). difference (view_of (recovered_copy fresh.old (before views) config timestamp)) v ≡ None) from.2 none))
 
   -- A record that a copy holds is as the one that a leader holds of its element.
-  held_same : (guid : List ℕ) (i : ℕ) (view one : View) → ((m : ℕ) × (slice_get views m ≡ Some view)) ⊎ Recovered view → (k : ℕ) → slice_get views k ≡ Some one → (x y : Held) → find_held guid i view.elements ≡ Some x → find_held guid i one.elements ≡ Some y → AreSame x.element y.element
+  held_same : (guid : List ℕ) (i : ℕ) (view one : View) → ((m : ℕ) × (slice_get views m ≡ Some view)) ⊎ Recovered view → (k : ℕ) → slice_get views k ≡ Some one → (x y : HeldRecord) → find_held guid i view.elements ≡ Some x → find_held guid i one.elements ≡ Some y → AreSame x.element y.element
   held_same guid i view one is k at x y found other =
       let alike = (view_agrees view one is k at).elements (guid, i) in
-      let same : same_held x y ≡ true = not_false (same_held x y) (sym (ap (λ (o : Option Held). held_differ o (find_held guid i one.elements)) found ∙ ap (held_differ (Some x)) other) ∙ alike) in
+      let same : same_held x y ≡ true = not_false (same_held x y) (sym (ap (λ (o : Option HeldRecord). held_differ o (find_held guid i one.elements)) found ∙ ap (held_differ (Some x)) other) ∙ alike) in
       are_same x.element y.element (and_parts (same_record x.element y.element) (same_notes x y) same).0
 
   -- A recovered copy holds no element that no leader holds.
@@ -167,13 +167,13 @@ module _ (group : List ℕ) (sequence timestamp : ℕ) (leaders : List DiskCopy)
       Alike : Type 0
       Alike = AreAlike (find_held guid i (elements_in grown)) (find_held guid i (elements_in views))
 
-      put : (o p : Option Held) → find_held guid i (elements_in views) ≡ o → find_held guid i (elements_in grown) ≡ p → AreAlike p o → Alike
-      put o p e f alike = subst (λ (x : Option Held). AreAlike x (find_held guid i (elements_in views))) (sym f) (subst (AreAlike p) (sym e) alike)
+      put : (o p : Option HeldRecord) → find_held guid i (elements_in views) ≡ o → find_held guid i (elements_in grown) ≡ p → AreAlike p o → Alike
+      put o p e f alike = subst (λ (x : Option HeldRecord). AreAlike x (find_held guid i (elements_in views))) (sym f) (subst (AreAlike p) (sym e) alike)
 
-      absent : (held : Held) (o : Option Held) → o ≡ Some held → o ≡ None → ⊥
+      absent : (held : HeldRecord) (o : Option HeldRecord) → o ≡ Some held → o ≡ None → ⊥
       absent held o some none = let got : Some held ≡ None = sym some ∙ none in absurd cc
 
-      go : (o : Option Held) → find_held guid i (elements_in views) ≡ o → (p : Option Held) → find_held guid i (elements_in grown) ≡ p → Alike
+      go : (o : Option HeldRecord) → find_held guid i (elements_in views) ≡ o → (p : Option HeldRecord) → find_held guid i (elements_in grown) ≡ p → Alike
       go None e None f = put None None e f tt
       go None e (Some x) f =
           let from = found_in guid i grown x f in
@@ -224,7 +224,7 @@ module _ (group : List ℕ) (sequence timestamp : ℕ) (leaders : List DiskCopy)
   plans : (a : ℕ) (row : ArrayEntry) → slice_get (arrays_in views) a ≡ Some row → (i : ℕ) → i < count_in (elements_in views) row.guid → element_in (disks_in grown) (elements_in grown) row.guid i ≡ element_in (disks_in views) (elements_in views) row.guid i
   plans a row at i lt = go (find_held row.guid i (elements_in views)) refl (find_held row.guid i (elements_in grown)) refl (records row.guid i)
     where
-      one_plan : (x y : Held) → find_held row.guid i (elements_in views) ≡ Some y → find_held row.guid i (elements_in grown) ≡ Some x → AreSame x.element y.element
+      one_plan : (x y : HeldRecord) → find_held row.guid i (elements_in views) ≡ Some y → find_held row.guid i (elements_in grown) ≡ Some x → AreSame x.element y.element
           → plan_of (disks_in grown) (find_note row.guid i (elements_in grown)) x.element ≡ plan_of (disks_in views) (find_note row.guid i (elements_in views)) y.element
       one_plan x y e f same = by_note (find_note row.guid i (elements_in grown)) refl
         where
@@ -240,28 +240,28 @@ module _ (group : List ℕ) (sequence timestamp : ℕ) (leaders : List DiskCopy)
               let other = found_in row.guid i views y e in
               let alike = held_same row.guid i from.view other.1 (are.each from.m from.view from.at) other.0 other.2 from.held y from.found other.3 in
               let element : element_in (disks_in views) (elements_in views) row.guid i ≡ Some (plan_of (disks_in views) (find_note row.guid i (elements_in views)) y.element) =
-              ap (option_map (λ (held : Held). plan_of (disks_in views) (find_note row.guid i (elements_in views)) held.element)) e in
+              ap (option_map (λ (held : HeldRecord). plan_of (disks_in views) (find_note row.guid i (elements_in views)) held.element)) e in
               let there = element_at (disks_in views) (elements_in views) row i lt ∙ ap (λ (o : Option ElementPlan). Some o) element in
               ap (λ (o : Option SlotNote). plan_of (disks_in grown) o x.element) some
               ∙ plan_anywhere (disks_in grown) given x.element
               ∙ plan_alike [] (Some given) x.element from.held.element (same_on same (same_back alike))
               ∙ noted_gives group sequence views from.view (grown_shows from.m from.view from.at) a row at i (plan_of (disks_in views) (find_note row.guid i (elements_in views)) y.element) there from.held given from.found from.has
 
-      go : (o : Option Held) → find_held row.guid i (elements_in views) ≡ o → (p : Option Held) → find_held row.guid i (elements_in grown) ≡ p → AreAlike (find_held row.guid i (elements_in grown)) (find_held row.guid i (elements_in views))
+      go : (o : Option HeldRecord) → find_held row.guid i (elements_in views) ≡ o → (p : Option HeldRecord) → find_held row.guid i (elements_in grown) ≡ p → AreAlike (find_held row.guid i (elements_in grown)) (find_held row.guid i (elements_in views))
           → element_in (disks_in grown) (elements_in grown) row.guid i ≡ element_in (disks_in views) (elements_in views) row.guid i
-      go o e p f alike = by_records o e p f (subst (AreAlike p) e (subst (λ (x : Option Held). AreAlike x (find_held row.guid i (elements_in views))) f alike))
+      go o e p f alike = by_records o e p f (subst (AreAlike p) e (subst (λ (x : Option HeldRecord). AreAlike x (find_held row.guid i (elements_in views))) f alike))
         where
-          by_records : (o : Option Held) → find_held row.guid i (elements_in views) ≡ o → (p : Option Held) → find_held row.guid i (elements_in grown) ≡ p → AreAlike p o
+          by_records : (o : Option HeldRecord) → find_held row.guid i (elements_in views) ≡ o → (p : Option HeldRecord) → find_held row.guid i (elements_in grown) ≡ p → AreAlike p o
               → element_in (disks_in grown) (elements_in grown) row.guid i ≡ element_in (disks_in views) (elements_in views) row.guid i
           by_records None e None f alike =
-              ap (option_map (λ (held : Held). plan_of (disks_in grown) (find_note row.guid i (elements_in grown)) held.element)) f
-              ∙ sym (ap (option_map (λ (held : Held). plan_of (disks_in views) (find_note row.guid i (elements_in views)) held.element)) e)
+              ap (option_map (λ (held : HeldRecord). plan_of (disks_in grown) (find_note row.guid i (elements_in grown)) held.element)) f
+              ∙ sym (ap (option_map (λ (held : HeldRecord). plan_of (disks_in views) (find_note row.guid i (elements_in views)) held.element)) e)
           by_records None e (Some x) f alike = absurd alike
           by_records (Some y) e None f alike = absurd alike
           by_records (Some y) e (Some x) f alike =
-              ap (option_map (λ (held : Held). plan_of (disks_in grown) (find_note row.guid i (elements_in grown)) held.element)) f
+              ap (option_map (λ (held : HeldRecord). plan_of (disks_in grown) (find_note row.guid i (elements_in grown)) held.element)) f
               ∙ ap (λ (plan : ElementPlan). Some plan) (one_plan x y e f alike)
-              ∙ sym (ap (option_map (λ (held : Held). plan_of (disks_in views) (find_note row.guid i (elements_in views)) held.element)) e)
+              ∙ sym (ap (option_map (λ (held : HeldRecord). plan_of (disks_in views) (find_note row.guid i (elements_in views)) held.element)) e)
 
   -- ---- the spares
 

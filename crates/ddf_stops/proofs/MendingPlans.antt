@@ -13,7 +13,7 @@ use Rattle.ddf_config.specs.ElementValue.{ElementValue as ElementPlan}
 use Rattle.ddf_config.specs.declared.element.Position.{Position}
 use Rattle.ddf_view.specs.Reading.{array_entry_in, array_in, arrays_in, count_in, disks_in, element_in, elements_in, is_good, plan_of, position_of, read}
 use Rattle.ddf_view.specs.Shows.{gives_element, gives_elements, gives_if_held, gives_numbers, same_if_noted, same_plan, same_position, shows}
-use Rattle.ddf_view.specs.View.{Held, View, find_disk, find_held, has_bit}
+use Rattle.ddf_view.specs.View.{HeldRecord, View, find_disk, find_held, has_bit}
 use Rattle.ddf_view.proofs.Agreement.{shown_from}
 use Rattle.ddf_view.proofs.Finds.{list_all_at}
 use Rattle.ddf_view.proofs.Shown.{plan_same}
@@ -88,7 +88,7 @@ plan_made made keeps disks element =
 
 -- The plan of a record with a note is the configuration's.
 pub noted_gives : (group : List ℕ) (sequence : ℕ) (views : List View) (view : View) → shows (read group sequence views) view ≡ true → (a : ℕ) (row : ArrayEntry) → slice_get (arrays_in views) a ≡ Some row → (i : ℕ) (plan : ElementPlan)
-    → slice_get (array_in (disks_in views) (elements_in views) row).elements i ≡ Some (Some plan) → (held : Held) (given : SlotNote) → find_held row.guid i view.elements ≡ Some held → held.note ≡ Some given → plan_of [] (Some given) held.element ≡ plan
+    → slice_get (array_in (disks_in views) (elements_in views) row).elements i ≡ Some (Some plan) → (held : HeldRecord) (given : SlotNote) → find_held row.guid i view.elements ≡ Some held → held.note ≡ Some given → plan_of [] (Some given) held.element ≡ plan
 unfolding read
 noted_gives group sequence views view h a row at i plan there held given found has =
     let entry = array_entry_in views row in
@@ -96,12 +96,12 @@ noted_gives group sequence views view h a row at i plan there held given found h
     let each = (and_parts (gives_numbers view.elements entry) (list_all (gives_if_held view.elements entry.0) (enumerate_from 0 entry.1.elements)) all).1 in
     let here : 0 + i ≡ i = omega arith in
     let one : gives_if_held view.elements row.guid (i, Some plan) ≡ true = subst (λ (n : ℕ). gives_if_held view.elements row.guid (n, Some plan) ≡ true) here (list_all_at (gives_if_held view.elements row.guid) 0 entry.1.elements i (Some plan) each there) in
-    let gives : gives_element held (Some plan) ≡ true = sym (ap (λ (o : Option Held). option_map_or (λ (x : Held). gives_element x (Some plan)) o true) found) ∙ one in
+    let gives : gives_element held (Some plan) ≡ true = sym (ap (λ (o : Option HeldRecord). option_map_or (λ (x : HeldRecord). gives_element x (Some plan)) o true) found) ∙ one in
     let noted : same_plan same_position (plan_of [] (Some given) held.element) plan ≡ true = sym (ap (λ (o : Option SlotNote). same_plan (same_if_noted o) (plan_of [] o held.element) plan) has) ∙ gives in
     plan_same (plan_of [] (Some given) held.element) plan noted
 
 -- An element of an array that is read, by its place.
-pub element_at : (disks : List DiskEntry) (elements : List Held) (row : ArrayEntry) (i : ℕ) → i < count_in elements row.guid → slice_get (array_in disks elements row).elements i ≡ Some (element_in disks elements row.guid i)
+pub element_at : (disks : List DiskEntry) (elements : List HeldRecord) (row : ArrayEntry) (i : ℕ) → i < count_in elements row.guid → slice_get (array_in disks elements row).elements i ≡ Some (element_in disks elements row.guid i)
 unfolding array_in
 element_at disks elements row i lt =
     let place = get_range 0 (count_in elements row.guid) i lt in

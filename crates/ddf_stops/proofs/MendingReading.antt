@@ -14,78 +14,78 @@ use Rattle.ddf_config.specs.declared.member.Member.{Member}
 use Rattle.ddf_config.specs.declared.member.SpareUse.{SpareUse}
 use Rattle.ddf_config.specs.declared.member.SpareUse.TheVariants as uses
 use Rattle.ddf_view.specs.Reading.{array_entry_in, array_in, arrays_in, count_in, dedicated_or_not, disks_in, element_in, elements_in, is_associated, is_dedicated, member_entry_in, naming_record, read, secondary_in, spare_in}
-use Rattle.ddf_view.specs.View.{Held, View, find_held, has_bit, is_missing}
+use Rattle.ddf_view.specs.View.{HeldRecord, View, find_held, has_bit, is_missing}
 use Rattle.ddf_rewrite.proofs.Holdings.{AreSame}
 use Rattle.ddf_rewrite.proofs.ReadCan.{range_get}
 
 -- ---- records that say the same
 
 -- Both hold an element, with the same named fields, or none does.
-abbrev pub AreAlike : Option Held → Option Held → Type 0
+abbrev pub AreAlike : Option HeldRecord → Option HeldRecord → Type 0
 AreAlike None None = Unit {0}
 AreAlike None (Some other) = ⊥
 AreAlike (Some one) None = ⊥
 AreAlike (Some one) (Some other) = AreSame one.element other.element
 
 -- The first records of alike ones are alike.
-first_alike : (one other : ℕ → Option Held) → ((i : ℕ) → AreAlike (one i) (other i)) → (xs : List ℕ) → AreAlike (first_of (map one xs)) (first_of (map other xs))
+first_alike : (one other : ℕ → Option HeldRecord) → ((i : ℕ) → AreAlike (one i) (other i)) → (xs : List ℕ) → AreAlike (first_of (map one xs)) (first_of (map other xs))
 first_alike one other alike [] = tt
 first_alike one other alike (x ∷ xs) = go (one x) (other x) (alike x) (first_alike one other alike xs)
   where
-    go : (o p : Option Held) → AreAlike o p → AreAlike (first_of (map one xs)) (first_of (map other xs)) → AreAlike (option_or o (first_of (map one xs))) (option_or p (first_of (map other xs)))
+    go : (o p : Option HeldRecord) → AreAlike o p → AreAlike (first_of (map one xs)) (first_of (map other xs)) → AreAlike (option_or o (first_of (map one xs))) (option_or p (first_of (map other xs)))
     go None None here rest = rest
     go None (Some y) here rest = absurd here
     go (Some x) None here rest = absurd here
     go (Some x) (Some y) here rest = here
 
 -- They name the same numbers.
-count_alike : (o p : Option Held) → AreAlike o p → option_map_or (λ (held : Held). held.element.elements) o 1 ≡ option_map_or (λ (held : Held). held.element.elements) p 1
+count_alike : (o p : Option HeldRecord) → AreAlike o p → option_map_or (λ (held : HeldRecord). held.element.elements) o 1 ≡ option_map_or (λ (held : HeldRecord). held.element.elements) p 1
 count_alike None None alike = refl
 count_alike None (Some y) alike = absurd alike
 count_alike (Some x) None alike = absurd alike
 count_alike (Some x) (Some y) alike = alike.count
 
 -- So do they the secondary level.
-secondary_alike : (o p : Option Held) → AreAlike o p → option_map_or (λ (held : Held). held.element.secondary) o 0 ≡ option_map_or (λ (held : Held). held.element.secondary) p 0
+secondary_alike : (o p : Option HeldRecord) → AreAlike o p → option_map_or (λ (held : HeldRecord). held.element.secondary) o 0 ≡ option_map_or (λ (held : HeldRecord). held.element.secondary) p 0
 secondary_alike None None alike = refl
 secondary_alike None (Some y) alike = absurd alike
 secondary_alike (Some x) None alike = absurd alike
 secondary_alike (Some x) (Some y) alike = alike.secondary
 
 -- One is there where the other is.
-some_alike : (o p : Option Held) → AreAlike o p → is_some o ≡ is_some p
+some_alike : (o p : Option HeldRecord) → AreAlike o p → is_some o ≡ is_some p
 some_alike None None alike = refl
 some_alike None (Some y) alike = absurd alike
 some_alike (Some x) None alike = absurd alike
 some_alike (Some x) (Some y) alike = refl
 
 -- Alike records have the same spares.
-any_alike : (test : List ℕ → Bool) (one other : ℕ → Option Held) → ((i : ℕ) → AreAlike (one i) (other i)) → (xs : List ℕ)
+any_alike : (test : List ℕ → Bool) (one other : ℕ → Option HeldRecord) → ((i : ℕ) → AreAlike (one i) (other i)) → (xs : List ℕ)
     → list_any (λ held. test held.element.spares) (filter_map one xs) ≡ list_any (λ held. test held.element.spares) (filter_map other xs)
 any_alike test one other alike [] = refl
 any_alike test one other alike (x ∷ xs) = go (one x) (other x) (alike x) (any_alike test one other alike xs)
   where
-    any : List Held → Bool
+    any : List HeldRecord → Bool
     any list = list_any (λ held. test held.element.spares) list
 
-    go : (o p : Option Held) → AreAlike o p → any (filter_map one xs) ≡ any (filter_map other xs) → any (cons_option o (filter_map one xs)) ≡ any (cons_option p (filter_map other xs))
+    go : (o p : Option HeldRecord) → AreAlike o p → any (filter_map one xs) ≡ any (filter_map other xs) → any (cons_option o (filter_map one xs)) ≡ any (cons_option p (filter_map other xs))
     go None None here rest = rest
     go None (Some y) here rest = absurd here
     go (Some x) None here rest = absurd here
     go (Some x) (Some y) here rest = ap (λ (list : List ℕ). test list || any (filter_map one xs)) here.spares ∙ ap (λ (b : Bool). test y.element.spares || b) rest
 
 -- records of which each is alike
-abbrev pub RecordsAlike : (one other : List Held) → Type 0
+abbrev pub RecordsAlike : (one other : List HeldRecord) → Type 0
 RecordsAlike one other = (guid : List ℕ) (i : ℕ) → AreAlike (find_held guid i one) (find_held guid i other)
 
 -- what alike records name
-pub record NamesAlike (one other : List Held) (guid : List ℕ) : Type 0 where
+pub record NamesAlike (one other : List HeldRecord) (guid : List ℕ) : Type 0 where
   pub count : count_in one guid ≡ count_in other guid
   pub secondary : secondary_in one guid ≡ secondary_in other guid
   pub some : is_some (naming_record one guid) ≡ is_some (naming_record other guid)
 
 -- They name it.
-pub numbers_alike : (one other : List Held) (guid : List ℕ) → RecordsAlike one other → NamesAlike one other guid
+pub numbers_alike : (one other : List HeldRecord) (guid : List ℕ) → RecordsAlike one other → NamesAlike one other guid
 unfolding naming_record
 numbers_alike one other guid alike =
     let first = first_alike (λ i. find_held guid i one) (λ i. find_held guid i other) (alike guid) (range_with_len 0 16) in
@@ -94,9 +94,9 @@ numbers_alike one other guid alike =
     record { count = count_alike o p first; secondary = secondary_alike o p first; some = some_alike o p first }
 
 -- A disk is associated with an array as alike records say.
-pub associated_alike : (one other : List Held) (reference : ℕ) (guid : List ℕ) → RecordsAlike one other → is_associated one reference guid ≡ is_associated other reference guid
+pub associated_alike : (one other : List HeldRecord) (reference : ℕ) (guid : List ℕ) → RecordsAlike one other → is_associated one reference guid ≡ is_associated other reference guid
 associated_alike one other reference guid alike =
-    ap (λ (n : ℕ). list_any (λ (held : Held). list_any (λ spare. nat_eq spare reference) held.element.spares) (filter_map (λ i. find_held guid i one) (range_with_len 0 n))) (numbers_alike one other guid alike).count
+    ap (λ (n : ℕ). list_any (λ (held : HeldRecord). list_any (λ spare. nat_eq spare reference) held.element.spares) (filter_map (λ i. find_held guid i one) (range_with_len 0 n))) (numbers_alike one other guid alike).count
     ∙ any_alike (λ spares. list_any (λ spare. nat_eq spare reference) spares) (λ i. find_held guid i one) (λ i. find_held guid i other) (alike guid) (range_with_len 0 (count_in other guid))
 
 -- ---- entries that are made of others

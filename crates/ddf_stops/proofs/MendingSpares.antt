@@ -23,7 +23,7 @@ use Rattle.ddf_view.specs.View.{View, first_spare, has_bit, spare_of, view_of}
 use Rattle.ddf_view.proofs.Tests.{same_bytes}
 use Rattle.ddf_rewrite.specs.declared.item.Item.{Item}
 use Rattle.ddf_rewrite.specs.declared.item.Item.TheVariants as items
-use Rattle.ddf_rewrite.specs.declared.item.Placed.{Placed}
+use Rattle.ddf_rewrite.specs.declared.item.Slotted.{Slotted}
 use Rattle.ddf_rewrite.specs.Before.{before}
 use Rattle.ddf_rewrite.specs.Copies.{element_slot, left_slot, record_of, recovered_copy, recovered_holdings, slot_after, slots_after, spare_on, unused_slot}
 use Rattle.ddf_rewrite.specs.Disks.{recovered_disks}
@@ -80,7 +80,7 @@ module _ (geometry : Geometry) (holdings : List Holding) (notes : Notes) (spare 
   item_spare (items.Element array index) = inl (element_none (find_holding array index holdings))
 
   -- So is each slot's.
-  slot_spare : (placed : List Placed) (pair : ℕ × RecordSlot) → IsNoneOr spare (spare_of (slot_after geometry holdings notes spare placed pair))
+  slot_spare : (placed : List Slotted) (pair : ℕ × RecordSlot) → IsNoneOr spare (spare_of (slot_after geometry holdings notes spare placed pair))
   slot_spare placed pair = go (item_at placed pair.0)
     where
       go : (o : Option Item) → IsNoneOr spare (spare_of (option_map_or (record_of geometry holdings notes spare) o (left_slot geometry pair.1)))
@@ -88,7 +88,7 @@ module _ (geometry : Geometry) (holdings : List Holding) (notes : Notes) (spare 
       go (Some item) = item_spare item
 
   -- So is the first of all.
-  first_is : (placed : List Placed) (pairs : List (ℕ × RecordSlot)) → IsNoneOr spare (first_spare (map (slot_after geometry holdings notes spare placed) pairs))
+  first_is : (placed : List Slotted) (pairs : List (ℕ × RecordSlot)) → IsNoneOr spare (first_spare (map (slot_after geometry holdings notes spare placed) pairs))
   first_is placed [] = inl refl
   first_is placed (pair ∷ pairs) = none_or_first spare (spare_of (slot_after geometry holdings notes spare placed pair)) (first_spare (map (slot_after geometry holdings notes spare placed) pairs)) (slot_spare placed pair) (first_is placed pairs)
 

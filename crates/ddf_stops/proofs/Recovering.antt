@@ -32,7 +32,7 @@ use Rattle.ddf_stops.proofs.RecoveringLoss.{lost_past, lost_rises}
 use Rattle.ddf_stops.proofs.RecoveringLossEnd.{lost_run}
 use Rattle.ddf_stops.proofs.RecoveringMendingEnd.{mended_run}
 use Rattle.ddf_stops.proofs.RecoveringRun.{IsRun}
-use Rattle.ddf_stops.proofs.RecoveringStops.{before, done_left, done_says, done_shown, done_written, stop_left, stop_written}
+use Rattle.ddf_stops.proofs.RecoveringStops.{before, done_left, done_says, done_shown, done_written, stop_left, stop_turns, stop_written}
 
 -- ---- the changes that a recovery issues
 
@@ -156,6 +156,7 @@ module _ {group : List ℕ} {D : Type 0} (past : Past (groups group)) (state : B
       run.goes (before group past state left named found taken changes timestamp ready was may image)
       (stop_left group past state left named found taken changes timestamp ready was may image leaves) (scene_of state.sizes image)
       (stop_written group past state left named found taken changes timestamp ready was may image leaves run.new run.news)
+      (stop_turns group past state left named found taken changes timestamp ready was may image leaves run.new run.news)
 
   -- ---- once it was written
 

@@ -7,6 +7,7 @@ use Rattle.ddf_bay.specs.State.{BayState}
 use Rattle.ddf_config.specs.declared.seat.Seat.{Seat}
 use Rattle.ddf_copy.specs.declared.copy.DiskCopy.{DiskCopy}
 use Rattle.ddf_copy.specs.declared.newest_copy.Newest.{Newest}
+use Rattle.ddf_plan.specs.Lose.{is_among}
 use Rattle.ddf_view.specs.View.{View, view_of}
 use Rattle.ddf_rewrite.proofs.Lists.{get_map, map_get}
 use Rattle.ddf_history.specs.Reading.{Scene}
@@ -108,6 +109,12 @@ module _ (group : List ℕ) {D : Type 0} (past : Past (groups group)) (state : B
       let is = read_as (groups group) (groups_are_sound group) past held kept_held (is_read left) taken.admitted.may_read taken.admitted.member found.config
       assembled.is_read in
       members_claimed (groups group) (groups_are_sound group) past held (is_read left) found.config assembled is.0 is.1 is.3 is.4 is.5 slot here read now
+
+  -- Its reference isn't absent.
+  pub not_absent : (slot : ℕ) (view : View) → IsClaimed (groups group) (seen (is_read left) held) slot view → is_among found.absent view.reference ≡ false
+  not_absent =
+      claims.claimed_not_absent group state left newest taken.every_slot refl past taken.admitted.same_slots kept_held taken.admitted.may_read taken.admitted.member named
+      found taken.is_found taken.same_group
 
   -- ---- the seats
 

@@ -1,5 +1,5 @@
 -- The end of the loss of absent members: each member that isn't away has its new copy.
-use Rattle.std.proofs.Common.{◌≡◌, ℕ, ◌+◌, ◌&&◌, ◌||◌, not, Bool, true, false, List, [], ◌∷◌, map, Option, if◌then◌else◌, refl, ap, sym, ◌∙◌, inr, subst}
+use Rattle.std.proofs.Common.{◌≡◌, ℕ, ◌+◌, ◌&&◌, ◌||◌, not, Bool, true, false, List, [], ◌∷◌, map, Option, Some, if◌then◌else◌, refl, ap, sym, ◌∙◌, inr, subst}
 use Rattle.std.proofs.lemmas.Bool.{or_from, or_parts}
 use Rattle.std.specs.Prelude.{slice_get}
 use Rattle.ddf_bay.specs.State.{BayState}
@@ -8,7 +8,7 @@ use Rattle.ddf_config.specs.Members.{is_current}
 use Rattle.ddf_plan.specs.declared.change.Change.{Change}
 use Rattle.ddf_plan.specs.declared.change.Change.TheVariants.{Lose}
 use Rattle.ddf_view.specs.View.{View, view_of}
-use Rattle.ddf_rewrite.proofs.Lists.{map_get}
+use Rattle.ddf_rewrite.proofs.Lists.{get_map, map_get}
 use Rattle.ddf_history.specs.Reading.{Scene}
 use Rattle.ddf_history.specs.Issued.{Past, acknowledge, is_away}
 use Rattle.ddf_history.specs.Leaders.{seen}
@@ -25,7 +25,8 @@ use Rattle.ddf_assembly.specs.Group.{GroupValue}
 use Rattle.ddf_assembly.specs.Ready.{ReadyStep, ReadyValue}
 use Rattle.ddf_assembly.specs.Recovery.{config_lost, config_recovered, disks_recovered, leading, lost_step, mended_or_kept, some}
 use Rattle.ddf_assembly.specs.Seated.{seated, seats_in, slots_in}
-use Rattle.ddf_assembly.specs.Steps.{disks_after, levelled, rewritten, stays_in}
+use Rattle.ddf_assembly.specs.Steps.{disks_after, in_order, levelled, rewritten, stays_in}
+use Rattle.ddf_assembly.proofs.Ordered.{order_from}
 use Rattle.ddf_assembly.proofs.RecoveredGroup.{is_recovered}
 use Rattle.ddf_stops.specs.Kept.{is_read, is_slot}
 use Rattle.ddf_stops.specs.AtEnd.{IsMember}
@@ -34,9 +35,18 @@ use Rattle.ddf_stops.proofs.RecoveringEntry.{IsTaken, assembled, claimed_is_curr
 use Rattle.ddf_stops.proofs.RecoveringLoss.{listed_current, lost_acknowledged, lost_disks, lost_issued, lost_kept, lost_last, lost_one, lost_past, lost_rises, lost_views, new}
 use Rattle.ddf_stops.proofs.RecoveringPlaces.{passes_written}
 use Rattle.ddf_stops.proofs.RecoveringRun.{IsRun}
+use Rattle.ddf_stops.proofs.Slots.{slot_is, slot_placed}
 use Rattle.ddf_stops.proofs.StepMembers.{AreMembers, after_members, levelled_member}
 use Rattle.ddf_stops.proofs.TheoryClaimed.{claimed_held}
 use Rattle.ddf_stops.proofs.TheoryLoss.{left_from}
+
+-- A slot of disks in the order in which they are written is that of one of them.
+ordered_slot : (disks : List Seated) (slot : ℕ) → is_slot (slots_in (in_order disks)) slot ≡ true → is_slot (slots_in disks) slot ≡ true
+ordered_slot disks slot is =
+    let at = slot_placed (slots_in (in_order disks)) slot is in
+    let one = map_get (λ (disk : Seated). disk.seat.slot) (in_order disks) at.0 slot at.1 in
+    let from = order_from disks at.0 one.0 one.1 in
+    slot_is (slots_in disks) from.0 slot (get_map (λ (disk : Seated). disk.seat.slot) disks from.0 one.0 from.1 ∙ ap Some one.2)
 
 -- The slots of disks' seats are those of the disks.
 slots_same : (disks : List Seated) → slots_of (seats_in disks) ≡ slots_in disks
@@ -108,13 +118,16 @@ module _ (group : List ℕ) {D : Type 0} (past : Past (groups group)) (state : B
   unfolding config_recovered
   config_is = (is_recovered found changes timestamp ready was).config_is ∙ ap (λ (b : Bool). if b then config_lost found else found.config) absent
 
-  seats_are : slots_of after.seats ≡ slots
-  seats_are =
+  -- Each slot that is written is that of a seat.
+  seat_there : (slot : ℕ) → is_slot slots slot ≡ true → is_slot (slots_of after.seats) slot ≡ true
+  seat_there slot is =
       let one = lost_one group past state left named found taken changes timestamp ready was may absent in
+      let seats : slots_of after.seats ≡ slots_in one.0.step.disks =
       ap (λ (next : Option ReadyStep). slots_of (group_recovered found next).seats) one.1
       ∙ ap (λ (b : Bool). slots_of (if b then seats_in one.0.step.disks else found.seats)) absent
-      ∙ slots_same one.0.step.disks
-      ∙ sym (ap slots_written one.1)
+      ∙ slots_same one.0.step.disks in
+      let there : is_slot (slots_in (in_order one.0.step.disks)) slot ≡ true = sym (ap (λ (next : Option ReadyStep). is_slot (slots_written next) slot) one.1) ∙ is in
+      ap (λ (all : List ℕ). is_slot all slot) seats ∙ ordered_slot one.0.step.disks slot there
 
   disks_are : seated after ≡ map levelled (disks_after timestamp (leading found) lost (seated found))
   unfolding disks_recovered
@@ -140,16 +153,17 @@ module _ (group : List ℕ) {D : Type 0} (past : Past (groups group)) (state : B
     new = new group past state left named found taken changes timestamp ready was may absent;
     news = lost_views group past state left named found taken changes timestamp ready was may absent;
     begins = lost_issued group past state left named found taken changes timestamp ready was may absent;
-    goes = lost_kept group past state left named found taken changes timestamp ready was may absent;
+    goes = λ image leaves shown written turns.
+        lost_kept group past state left named found taken changes timestamp ready was may absent image leaves shown written member_written turns;
     ends = λ image leaves shown written done.
         lost_acknowledged group past state left named found taken changes timestamp ready was may absent image leaves shown written
-        (λ slot here current. let is = member_written slot here current in (is, done slot is));
+        (λ slot here current. let is = member_written slot here current in (is, done slot is)) done;
     is_last = subst (λ (config : Configuration). IsLast (acknowledge during (number + 1)).changes (number + 1) config) (sym config_is)
         (lost_last group past state left named found taken changes timestamp ready was may absent);
     same_slots = taken.admitted.same_slots;
     same_group = ap (λ (config : Configuration). config.group) config_is ∙ taken.same_group;
     are_seated = λ slot here current.
-        ap (λ (all : List ℕ). is_slot all slot) seats_are
-        ∙ member_written slot here (ap (λ (config : Configuration). has_current config (past.disk slot)) (sym config_is) ∙ current);
+        seat_there slot
+        (member_written slot here (ap (λ (config : Configuration). has_current config (past.disk slot)) (sym config_is) ∙ current));
     are_members = are_members;
   }

@@ -1,8 +1,11 @@
 -- What recovery writes where no member is absent: the leaders' configuration, to the seats that lag.
-use Rattle.std.proofs.Common.{◌≡◌, ℕ, Bool, true, false, eqb, List, [], ◌∷◌, map, Option, Some, None, if◌then◌else◌, refl, ap, sym, ◌∙◌, subst}
+use Rattle.std.proofs.Common.{◌≡◌, ℕ, Bool, true, false, not, eqb, List, [], ◌∷◌, map, Option, Some, None, if◌then◌else◌, refl, ap, sym, ◌∙◌, subst}
 use Rattle.std.proofs.lemmas.Bool.{false≢true}
 use Rattle.std.specs.Prelude.{filter, option_map, slice_get, slice_index}
 use Rattle.std.specs.List.{AllByRecursion, list_any}
+use Rattle.std.specs.Str.{bytes_eq}
+use Rattle.ddf_update.specs.declared.prepared.Mode.TheVariants as modes
+use Rattle.ddf_update.specs.Prepared.{writes_anchor}
 use Rattle.ddf_bay.specs.Sectors.{Image, IsLeft}
 use Rattle.ddf_bay.specs.State.{BayState}
 use Rattle.ddf_copy.specs.declared.copy.DiskCopy.{DiskCopy}
@@ -18,16 +21,18 @@ use Rattle.ddf_group.specs.Shown.{shown_of}
 use Rattle.ddf_rewrite.specs.Before.{before}
 use Rattle.ddf_rewrite.specs.Hold.{CanBeRecovered}
 use Rattle.ddf_rewrite.proofs.Lists.{all_at, all_mapped}
-use Rattle.ddf_history.specs.Reading.{Scene}
+use Rattle.ddf_history.specs.Reading.{Scene, IsCopyOf}
 use Rattle.ddf_history.specs.Reading.Shown.{One}
-use Rattle.ddf_history.specs.Issued.{Past, IsSince, acknowledge, take_off}
+use Rattle.ddf_history.specs.Issued.{Past, IsSince, acknowledge, is_away, take_off}
 use Rattle.ddf_history.specs.Leaders.{leading_copies, seen}
 use Rattle.ddf_history.specs.Answer.{IsClaimed}
 use Rattle.ddf_history.specs.Calls.{AreSure, IsAssembled, NoneAbsent}
 use Rattle.ddf_history.specs.Groups.{groups, has_current}
 use Rattle.ddf_history.specs.Promise.{IsKept}
 use Rattle.ddf_history.specs.Scenes.{scene_of}
-use Rattle.ddf_history.specs.Steps.{AreWritten}
+use Rattle.ddf_history.specs.Steps.{AreWritten, MayWrite}
+use Rattle.ddf_history.proofs.Since.{first_is_copy}
+use Rattle.ddf_history.proofs.Sound.{groups_are_sound}
 use Rattle.ddf_history.proofs.AnsweredLists.{map_some}
 use Rattle.ddf_assembly.specs.declared.seated.Seated.{Seated}
 use Rattle.ddf_assembly.specs.Assembled.{IsAsGroup}
@@ -38,23 +43,22 @@ use Rattle.ddf_assembly.specs.Mending.{CanMend}
 use Rattle.ddf_assembly.specs.Ready.{ReadyStep, ReadyValue}
 use Rattle.ddf_assembly.specs.Recovery.{config_lost, full_mended, full_of_mending, full_of_recovery, lags, leading, leading_disks, leading_views, leads, lost_step, mended, mended_copy as mended_by, mending_step, recovery_of, some}
 use Rattle.ddf_assembly.specs.Seated.{seated}
-use Rattle.ddf_assembly.specs.Steps.{Step}
-use Rattle.ddf_assembly.specs.Trying.{IsOfGroup}
+use Rattle.ddf_assembly.specs.Steps.{Step, in_order, is_adopted}
 use Rattle.ddf_assembly.proofs.Leaders.{filter_have}
 use Rattle.ddf_assembly.proofs.Mended.{HasMendingRoom, can_mend_all, mending_room, recovers, where_kept}
 use Rattle.ddf_assembly.proofs.OneLength.{views_are}
-use Rattle.ddf_assembly.proofs.ReadiedParts.{has_room, none_stray, own as own_disks}
-use Rattle.ddf_assembly.proofs.Recovered.{IsOwn, of_own}
+use Rattle.ddf_assembly.proofs.ReadiedParts.{has_room}
 use Rattle.ddf_assembly.proofs.Rewritten.{closed_view}
 use Rattle.ddf_assembly.proofs.SettledLists.{none_kept}
 use Rattle.ddf_stops.specs.Kept.{is_read, is_slot}
-use Rattle.ddf_stops.proofs.Mending.{begun_kept, mending_acknowledged, mending_kept}
+use Rattle.ddf_stops.proofs.Mending.{begun_kept, mending_acknowledged, mending_kept, mending_may_write}
 use Rattle.ddf_stops.proofs.MendingSeats.{mended_copy}
 use Rattle.ddf_stops.proofs.RecoveringEntry.{IsTaken, are_sure, assembled, current_seated, issued, none_absent, old, seat_claimed, seat_on, seat_sure, sure_kept, sure_state}
 use Rattle.ddf_stops.proofs.RecoveringLeaders.{leaders_are}
-use Rattle.ddf_stops.proofs.RecoveringPlaces.{IsWrittenOn, new_views, passes_written, written_on, written_seated}
+use Rattle.ddf_stops.proofs.RecoveringPlaces.{IsWrittenOn, new_views, others_last, passes_written, written_on, written_seated}
 use Rattle.ddf_stops.proofs.ShownCopies.{shows_newest, told}
-use Rattle.ddf_stops.proofs.Stops.{same_scene, scene_at}
+use Rattle.ddf_stops.proofs.Stops.{AreInTurn, same_scene, scene_at}
+use Rattle.ddf_stops.proofs.TheoryClaimed.{claimed_held}
 
 -- A list that has none is empty.
 none_some : {X : Type 0} (xs : List X) → some xs ≡ false → xs ≡ []
@@ -110,21 +114,21 @@ module _ (group : List ℕ) {D : Type 0} (past : Past (groups group)) (state : B
       ap (λ (b : Bool). if b then Some (lost_step timestamp found) else if some found.lagging then Some (mending_step timestamp found) else None) present
 
   -- The disks that lag are written; where none does, nothing is.
-  pub mended_disks : disks_written ready.recovery ≡ map (mended (leading found) found.config timestamp) (filter (lags found) (seated found))
+  pub mended_disks : disks_written ready.recovery ≡ in_order (map (mended (leading found) found.config timestamp) (filter (lags found) (seated found)))
   mended_disks = by (some found.lagging) refl
     where
-      by : (b : Bool) → some found.lagging ≡ b → disks_written ready.recovery ≡ map (mended (leading found) found.config timestamp) (filter (lags found) (seated found))
+      by : (b : Bool) → some found.lagging ≡ b → disks_written ready.recovery ≡ in_order (map (mended (leading found) found.config timestamp) (filter (lags found) (seated found)))
       by true is =
           let step : recovery_of timestamp found ≡ Some (mending_step timestamp found) =
           recovery_is ∙ ap (λ (b : Bool). if b then Some (mending_step timestamp found) else None) is in
           let one = map_some (λ (one : ReadyStep). one.step) ready.recovery (mending_step timestamp found) (was.is_recovery ∙ step) in
-          ap disks_written one.1 ∙ ap (λ (made : Step). made.disks) one.2
+          ap disks_written one.1 ∙ ap (λ (made : Step). in_order made.disks) one.2
       by false is =
           let step : recovery_of timestamp found ≡ None = recovery_is ∙ ap (λ (b : Bool). if b then Some (mending_step timestamp found) else None) is in
           let nothing = nothing_made (λ (one : ReadyStep). one.step) ready.recovery (was.is_recovery ∙ step) in
           let no_lag = none_some found.lagging is in
           let kept = none_kept (lags found) (seated found) (λ disk. none_lags disk no_lag) in
-          ap disks_written nothing ∙ sym (ap (λ (disks : List Seated). map (mended (leading found) found.config timestamp) disks) kept)
+          ap disks_written nothing ∙ sym (ap (λ (disks : List Seated). in_order (map (mended (leading found) found.config timestamp) disks)) kept)
 
   -- ---- the leaders
 
@@ -186,12 +190,10 @@ module _ (group : List ℕ) {D : Type 0} (past : Past (groups group)) (state : B
     mended_can behind =
         let is = on slot seat in
         let has = room is.disk is.passes in
-        let own = all_at (IsOfGroup found.config) (seated found) is.k is.disk
-        (of_own found.config (seated found) taken.assembled.are_copies (none_stray found changes timestamp ready was)) is.is_there in
         let fits = all_at (CanMend (leading found) found.config) (seated found) is.k is.disk (can_mend_all found taken.assembled has.same) is.is_there in
         let free = all_at (λ (disk : Seated). lags found disk ≡ true → full_mended (leading found) found.config disk ≡ None) (seated found) is.k is.disk
         (where_kept (λ (disk : Seated). full_mended (leading found) found.config disk ≡ None) (lags found) (seated found) has.none) is.is_there is.passes in
-        let can = recovers (leading found) found.config timestamp was.time is.disk (record { of_group = own; can = fits; room = free })
+        let can = recovers (leading found) found.config timestamp was.time is.disk (record { can = fits; room = free })
         (ap (λ (copy : DiskCopy). shows found.config (view_of copy)) (sym is.is_old) ∙ behind) in
         subst (λ (said : List View). CanBeRecovered (old_on slot) (before said) found.config timestamp) (sym views)
         (subst (λ (copy : DiskCopy). CanBeRecovered copy (leading found) found.config timestamp) (sym is.is_old) can)
@@ -202,12 +204,13 @@ module _ (group : List ℕ) {D : Type 0} (past : Past (groups group)) (state : B
         let is = on slot seat in
         subst CanBeCopy (sym is.is_old) (all_at (λ (disk : Seated). CanBeCopy disk.copy) (seated found) is.k is.disk taken.assembled.are_copies is.is_there)
 
-    -- It is of the group.
-    pub old_ours : (old_on slot).header.guid ≡ group
-    old_ours =
-        let is = on slot seat in
-        ap (λ (copy : DiskCopy). copy.header.guid) is.is_old
-        ∙ (all_at (IsOwn found.config) (seated found) is.k is.disk (own_disks found changes timestamp ready was) is.is_there).same_group ∙ taken.same_group
+  -- A disk whose copy is of another group is adopted.
+  adopts : (disk : Seated) → is_adopted (mended (leading found) found.config timestamp disk) ≡ not (bytes_eq disk.copy.header.guid group)
+  adopts disk = ap (λ (name : List ℕ). writes_anchor (if bytes_eq disk.copy.header.guid name then modes.Change else modes.Adopt)) taken.same_group ∙ by (bytes_eq disk.copy.header.guid group)
+    where
+      by : (b : Bool) → writes_anchor (if b then modes.Change else modes.Adopt) ≡ not b
+      by true = refl
+      by false = refl
 
   -- ---- what the slots show
 
@@ -235,9 +238,9 @@ module _ (group : List ℕ) {D : Type 0} (past : Past (groups group)) (state : B
 
   -- A member whose slot isn't written shows the configuration.
   pub others_show : (image : Image) → IsLeft (sure_state group past state left named found taken).may_hold image
-      → (slot : ℕ) → is_slot slots slot ≡ false → has_current found.config (past.disk slot) ≡ true
+      → (slot : ℕ) → is_slot slots slot ≡ false → is_away past slot ≡ false → has_current found.config (past.disk slot) ≡ true
       → (view : View) × (scene_of state.sizes image slot ≡ One view) × (shows found.config view ≡ true)
-  others_show image leaves slot rest now =
+  others_show image leaves slot rest here now =
       let seat = current_seated group past state left named found taken none slot now in
       let one = seat_on group past state left named found taken slot seat in
       let own = all_at (λ (disk : Seated). lags found disk ≡ false → IsAsGroup found disk) (seated found) one.place one.disk taken.assembled.unless_lags one.is_there
@@ -266,22 +269,37 @@ module _ (group : List ℕ) {D : Type 0} (past : Past (groups group)) (state : B
     is_sure : AreSure (groups group) (is_read left) held scene
     is_sure = are_sure group past state left named found taken image leaves
 
+    -- A slot that is written shows its old copy.
+    shows_old : (slot : ℕ) → is_slot slots slot ≡ true → IsCopyOf (scene slot) (view_of (old_on slot))
+    shows_old slot seat =
+        let claimed = mended_claimed slot seat in
+        let first = (claimed_held (groups group) (groups_are_sound group) past held (is_read left) found.config all_assembled slot (view_of (old_on slot)) claimed).1 in
+        subst (λ (it : _). IsCopyOf it (view_of (old_on slot))) (sym (is_sure slot (view_of (old_on slot)) claimed))
+        (first_is_copy (held slot) (view_of (old_on slot)) first)
+
+    -- Its new copy is of the group.
+    may_write : MayWrite (take_off past number) scene number found.config (is_slot slots) new
+    may_write =
+        mending_may_write past held scene (is_read left) number found.config all_assembled since is_kept is_sure all_present taken.same_group leaders leaders_told
+        leaders_can leaders_read timestamp (is_slot slots) old_on mended_claimed mended_can old_can (others_show image leaves)
+
     -- The configuration that was assembled is the last.
     pub mended_begins : IsKept (take_off past number) scene
     mended_begins =
         begun_kept past held scene (is_read left) number found.config all_assembled since is_kept is_sure all_present taken.same_group leaders leaders_told
-        leaders_can leaders_read timestamp (is_slot slots) old_on mended_claimed mended_can old_can old_ours
+        leaders_can leaders_read timestamp (is_slot slots) old_on mended_claimed mended_can old_can (others_show image leaves)
 
     module _ (shown : Scene View) (written : AreWritten (is_slot slots) new scene shown) where
       -- Each slot shows what it should, whichever seats are written.
-      pub mended_goes : IsKept (take_off past number) shown
-      mended_goes =
+      pub mended_goes : AreInTurn slots new scene shown → IsKept (take_off past number) shown
+      mended_goes turns =
           mending_kept past held scene (is_read left) number found.config all_assembled since is_kept is_sure all_present taken.same_group leaders leaders_told
-          leaders_can leaders_read timestamp (is_slot slots) old_on mended_claimed mended_can old_can old_ours shown written
+          leaders_can leaders_read timestamp (is_slot slots) old_on mended_claimed mended_can old_can (others_show image leaves) shown written
+          (others_last group past state left named found taken ready may (lags found) (mended (leading found) found.config timestamp) (λ disk. refl) mended_disks
+          adopts new scene shown shows_old may_write.are_ours turns)
 
       -- Once all were, the configuration may be acknowledged.
       pub mended_ends : ((slot : ℕ) → is_slot slots slot ≡ true → shown slot ≡ One (new slot)) → IsKept (acknowledge (take_off past number) number) shown
       mended_ends done =
           (mending_acknowledged past held scene (is_read left) number found.config all_assembled since is_kept is_sure all_present taken.same_group leaders
-          leaders_told leaders_can leaders_read timestamp (is_slot slots) old_on mended_claimed mended_can old_can old_ours shown written done
-          (λ slot rest here now. others_show image leaves slot rest now)).0
+          leaders_told leaders_can leaders_read timestamp (is_slot slots) old_on mended_claimed mended_can old_can (others_show image leaves) shown written done).0

@@ -18,6 +18,7 @@ use Rattle.ddf_assembly.specs.Ready.{ReadyValue}
 use Rattle.ddf_assembly.specs.Seated.{seated}
 use Rattle.ddf_stops.specs.Kept.{is_slot}
 use Rattle.ddf_stops.specs.AtEnd.{IsMember}
+use Rattle.ddf_stops.proofs.Stops.{AreInTurn}
 
 -- With this list of changes, and with its last one acknowledged, each slot shows what it should: whatever the sure slots leave, while new copies are written over it,
 -- and once all of them were.
@@ -28,7 +29,8 @@ pub record IsRun (group : List ℕ) {D : Type 0} (state : BayState D) (found : G
   pub news : (place slot : ℕ) → slice_get (recovery_slots ready) place ≡ Some slot → new slot ≡ view_of (may.seat place).new
   pub begins : (image : Image) → IsLeft (synced state (slots_of found.seats)).may_hold image → IsKept during (scene_of state.sizes image)
   pub goes : (image : Image) → IsLeft (synced state (slots_of found.seats)).may_hold image
-      → (after : Scene View) → AreWritten (is_slot (recovery_slots ready)) new (scene_of state.sizes image) after → IsKept during after
+      → (after : Scene View) → AreWritten (is_slot (recovery_slots ready)) new (scene_of state.sizes image) after
+      → AreInTurn (recovery_slots ready) new (scene_of state.sizes image) after → IsKept during after
   pub ends : (image : Image) → IsLeft (synced state (slots_of found.seats)).may_hold image
       → (after : Scene View) → AreWritten (is_slot (recovery_slots ready)) new (scene_of state.sizes image) after
       → ((slot : ℕ) → is_slot (recovery_slots ready) slot ≡ true → after slot ≡ One (new slot)) → IsKept (acknowledge during last) after

@@ -22,7 +22,7 @@ use Rattle.ddf_stops.specs.Kept.{SaysOne, is_slot, unwritten}
 use Rattle.ddf_stops.proofs.Again.{bytes_say_one}
 use Rattle.ddf_stops.proofs.RecoveringEntry.{IsTaken, sure_state}
 use Rattle.ddf_stops.proofs.Slots.{not_placed, slot_placed}
-use Rattle.ddf_stops.proofs.Stops.{changed_left, changed_says, changed_shows, same_scene, stop_writes, unwritten_else, unwritten_left}
+use Rattle.ddf_stops.proofs.Stops.{AreInTurn, changed_left, changed_says, changed_shows, same_scene, stop_in_turn, stop_writes, unwritten_else, unwritten_left}
 
 module _ (group : List ℕ) {D : Type 0} (past : Past (groups group)) (state : BayState D) (left : List Bool) (named : Option (List ℕ)) (found : GroupValue)
     (taken : IsTaken group past state left named found) (changes : List Change) (timestamp : ℕ) (ready : ReadyValue) (was : WasReadied found changes timestamp ready)
@@ -61,6 +61,12 @@ module _ (group : List ℕ) {D : Type 0} (past : Past (groups group)) (state : B
         → AreWritten (is_slot slots) new (scene_of state.sizes (before image)) (scene_of state.sizes image)
     stop_written new news =
         stop_writes sure slots may.seat (recovery_updates ready) image lies.are_slots lies.counted may.may_change (λ place slot at. entry_says slot) leaves new news
+
+    -- One after another.
+    pub stop_turns : (new : ℕ → View) → ((place slot : ℕ) → slice_get slots place ≡ Some slot → new slot ≡ view_of (may.seat place).new)
+        → AreInTurn slots new (scene_of state.sizes (before image)) (scene_of state.sizes image)
+    stop_turns new news =
+        stop_in_turn sure slots may.seat (recovery_updates ready) image lies.are_slots lies.counted may.may_change (λ place slot at. entry_says slot) leaves new news
 
   -- ---- once it was
 

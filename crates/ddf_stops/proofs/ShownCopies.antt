@@ -1,5 +1,5 @@
 -- What a disk shows while it gets a new copy: what it showed, of two copies that differ perhaps one alone, or the new one.
-use Rattle.std.proofs.Common.{◌≡◌, ◌⊎◌, ℕ, Bool, true, false, List, Some, Result, Ok, Err, if◌then◌else◌, refl, ap, sym, ◌∙◌, inl, inr, ⊎_elim, arith}
+use Rattle.std.proofs.Common.{◌≡◌, ◌⊎◌, ℕ, Bool, true, false, List, Option, Some, subst, Result, Ok, Err, if◌then◌else◌, refl, ap, sym, ◌∙◌, inl, inr, ⊎_elim, arith}
 use Rattle.std.proofs.lemmas.Bool.{cases_lt, lt-ltb, le-ltb}
 use Rattle.ddf_header.specs.declared.reading.Header.{Header}
 use Rattle.ddf_copy.specs.declared.copy.DiskCopy.{DiskCopy}
@@ -18,7 +18,7 @@ use Rattle.ddf_copy.specs.Which.{other_of}
 use Rattle.ddf_copy.specs.Written.{is_level}
 use Rattle.ddf_copy.proofs.LevelCopies.{level_from, level_is, written_same}
 use Rattle.ddf_copy.proofs.Newests.{newest_of_one, newest_same}
-use Rattle.ddf_update.specs.Update.{AreBoth, AreReadPartly, IsReadPartly}
+use Rattle.ddf_update.specs.Update.{AreBoth, AreReadPartly, IsReadAdopting, IsReadPartly}
 use Rattle.ddf_view.specs.View.{View, view_of}
 use Rattle.ddf_group.specs.Shown.{shown_of}
 use Rattle.ddf_history.specs.Reading.{Shown, IsCopyOf}
@@ -240,3 +240,32 @@ module _ (size : ℕ) (before now : ℕ → List ℕ) (anchor : Header) (last : 
   -- So does the disk.
   pub changing_shows : anchor_at size now ≡ Ok anchor → AreReadPartly size before now anchor last new → IsWrittenAs (shows_at size before) (shows_at size now) (view_of new)
   changing_shows is parts = rw (shows_newest size before anchor anchored, shows_newest size now anchor is) (changing_told parts)
+
+-- ---- a disk that is adopted
+
+module _ (size : ℕ) (before now : ℕ → List ℕ) (anchor : Header) (last : Which) (old new : DiskCopy) (says : SaysOne size before)
+    (anchored : anchor_at size before ≡ Ok anchor) (last_is : copy_of size before anchor last ≡ Ok old) (is_newest : IsNewest (newest_of size before anchor) old) where
+  -- what is told of a newest copy that a disk has
+  at_told : (newest : Newest) (copy : DiskCopy) → newest_at size now ≡ Some newest → told newest ≡ One (view_of copy) → shows_at size now ≡ One (view_of copy)
+  at_told newest copy at is = ap (λ (found : Option Newest). told_of (shown_of found)) at ∙ is
+
+  old_before : IsCopyOf (shows_at size before) (view_of old)
+  old_before =
+      subst (λ (shown : Shown View). IsCopyOf shown (view_of old)) (sym (shows_newest size before anchor anchored)) (old_shown size before anchor anchored old is_newest says last last_is)
+
+  -- It shows what it showed, the former group's copy alone, or the new one.
+  pub adopting_shows : IsReadAdopting size before now last old new → IsWrittenAs (shows_at size before) (shows_at size now) (view_of new)
+  adopting_shows read = elim read [
+    | inl same ↦ inl (ap (λ (found : Option Newest). told_of (shown_of found)) same)
+    | inr other ↦ elim other [
+      | inl former ↦ inr (inl (record { copy = view_of old; is_copy = old_before; is_only = at_told (newests.One last old) old former (one_told (newests.One last old) last old refl) }))
+      | inr renewed ↦ elim renewed [
+        | inl one ↦ inr (inr (
+            at_told (newests.One (other_of last) (written_as new (other_of last))) (written_as new (other_of last)) one (one_told (newests.One (other_of last) (written_as new (other_of last))) (other_of last) (written_as new (other_of last)) refl)
+            ∙ ap (λ (view : View). One view) (written_view new (other_of last))))
+        | inr level ↦ inr (inr (
+            at_told (newests.Level (written_as new Primary)) (written_as new Primary) level (level_told (newests.Level (written_as new Primary)) (written_as new Primary) refl)
+            ∙ ap (λ (view : View). One view) (written_view new Primary)))
+      ]
+    ]
+  ]

@@ -5,7 +5,7 @@ use Rattle.ddf_config.specs.Configuration.{Configuration}
 use Rattle.ddf_config.specs.Members.{is_current}
 use Rattle.ddf_copy.specs.declared.copy.DiskCopy.{DiskCopy}
 use Rattle.ddf_plan.specs.declared.change.Change.{Change}
-use Rattle.ddf_plan.specs.Changes.{members_after}
+use Rattle.ddf_plan.specs.Members.{members_after}
 use Rattle.ddf_view.specs.Shows.{shows}
 use Rattle.ddf_view.specs.View.{view_of}
 use Rattle.ddf_rewrite.specs.Before.{Before}

@@ -6,17 +6,21 @@ use Rattle.std.specs.Prelude.{nat_lt, slice_get, slice_index}
 use Rattle.ddf_bay.specs.Sectors.{Image, IsLeft}
 use Rattle.ddf_bay.specs.State.{BayState, size_of}
 use Rattle.ddf_update.specs.declared.prepared.Prepared.{Prepared}
-use Rattle.ddf_update.specs.Changes.{AreChanged, IsLeftChangingAll, MayChangeAll, SlotChange}
+use Rattle.ddf_update.specs.declared.prepared.Mode.{Mode}
+use Rattle.ddf_update.specs.declared.prepared.Mode.TheVariants as modes
+use Rattle.ddf_update.specs.Changes.{AreChanged, IsGetting, IsLeftChangingAll, MayChangeAll, MayGet, SlotChange, anchor_after}
+use Rattle.ddf_update.specs.Prepared.{IsPrepared, writes_anchor}
 use Rattle.ddf_update.specs.Group.{AreSlots}
-use Rattle.ddf_update.specs.Update.{IsChanging, IsInEither}
+use Rattle.ddf_update.specs.Update.{IsWritten}
 use Rattle.ddf_view.specs.View.{View, view_of}
 use Rattle.ddf_view.proofs.Finds.{place_there, place_within}
+use Rattle.ddf_history.specs.Reading.{Scene}
 use Rattle.ddf_history.specs.Reading.Shown.{Nothing, One}
 use Rattle.ddf_history.specs.Scenes.{scene_of}
 use Rattle.ddf_history.specs.Steps.{AreWritten}
 use Rattle.ddf_history.proofs.Since.{which}
 use Rattle.ddf_stops.specs.Kept.{SaysOne, is_slot, unwritten}
-use Rattle.ddf_stops.proofs.ShownCopies.{IsWrittenAs, both_say, both_show, changing_shows, shows_at}
+use Rattle.ddf_stops.proofs.ShownCopies.{IsWrittenAs, adopting_shows, both_say, both_show, changing_shows, shows_at}
 use Rattle.ddf_stops.proofs.Slots.{not_placed, slot_is, slot_placed}
 
 -- ---- one slot
@@ -47,7 +51,29 @@ left_unwritten start slots image held others s l = elim (which (is_slot slots s)
   | inr none ↦ subst (λ (sector : ℕ → List ℕ). start.may_hold s l (sector l)) (sym (unwritten_else start slots image s none)) (others s l none)
 ]
 
+-- What a slot shows that gets a new copy, of its own group or of another one.
+getting_shows : {D : Type 0} (start : BayState D) (slot : ℕ) (now : ℕ → List ℕ) (update : Prepared) (seat : SlotChange) → SaysOne (size_of start slot) (start.held slot) → (mode : Mode)
+    → MayGet mode start slot seat → IsGetting mode (size_of start slot) (start.held slot) now update seat
+    → IsWrittenAs (shows_at (size_of start slot) (start.held slot)) (shows_at (size_of start slot) now) (view_of seat.new)
+getting_shows start slot now update seat says modes.Change can is =
+    changing_shows (size_of start slot) (start.held slot) now seat.anchor seat.last seat.old seat.new says can.is_anchored can.last_is can.is_newest can.is_newer is.is_anchored is.copies
+getting_shows start slot now update seat says modes.Found can is = absurd can
+getting_shows start slot now update seat says modes.Adopt can is =
+    adopting_shows (size_of start slot) (start.held slot) now seat.anchor seat.last seat.old seat.new says can.1.is_anchored can.1.last_is can.1.is_newest is.newest
+
+-- Outside what is written it is as it was.
+getting_outside : (mode : Mode) (size : ℕ) (before now : ℕ → List ℕ) (update : Prepared) (seat : SlotChange) → IsPrepared seat.new seat.last mode update → IsGetting mode size before now update seat
+    → (l : ℕ) → (now l ≡ before l) ⊎ IsWritten size update l
+getting_outside modes.Change size before now update seat is getting l = ⊎_elim inl (λ there. inr (inl there)) (getting.outside l)
+getting_outside modes.Found size before now update seat is getting l = absurd getting
+getting_outside modes.Adopt size before now update seat is getting l =
+    ⊎_elim inl (λ there. inr (⊎_elim inl (λ at. inr (ap writes_anchor is.mode_is, at)) there)) (getting.outside l)
+
 -- ---- a stop
+
+-- Slots get their new copies one after another: where one shows its new copy, and didn't before, so does each earlier one.
+abbrev pub AreInTurn : (slots : List ℕ) → (new : ℕ → View) → (before after : Scene View) → Type 0
+AreInTurn slots new before after = (p q s t : ℕ) → slice_get slots p ≡ Some s → slice_get slots q ≡ Some t → q < p → after s ≡ One (new s) → (before s ≡ One (new s) → ⊥) → after t ≡ One (new t)
 
 -- While slots get new copies a stop leaves an image that is left with what they held.
 pub unwritten_left : {D : Type 0} (start : BayState D) (slots : List ℕ) (seat : ℕ → SlotChange) (updates : List Prepared) (image : Image)
@@ -77,7 +103,7 @@ module _ {D : Type 0} (start : BayState D) (slots : List ℕ) (seat : ℕ → Sl
       → IsLeftAs slot (view_of (seat place).new)
   earlier_shows place slot update lt at there =
       let is = left.earlier place slot update lt at there in
-      left_as place slot (view_of (seat place).new) at (inr (inr (both_show (size_of start slot) (image slot) (seat place).anchor (seat place).new is.are_both)))
+      left_as place slot (view_of (seat place).new) at (inr (inr (both_show (size_of start slot) (image slot) (anchor_after (seat place)) (seat place).new is.are_both)))
 
   -- One whose turn has not come shows what it showed.
   later_shows : (place slot : ℕ) → left.turn < place → slice_get slots place ≡ Some slot → IsLeftAs slot (view_of (seat place).new)
@@ -92,10 +118,8 @@ module _ {D : Type 0} (start : BayState D) (slots : List ℕ) (seat : ℕ → Sl
       let is = left.here slot update (ap (slice_get slots) (sym turn) ∙ at) (ap (slice_get updates) (sym turn) ∙ there) in
       let can = may.may_change place slot at in
       let says_one = says place slot at in
-      let turned = subst (λ (n : ℕ). IsChanging (size_of start slot) (start.held slot) (image slot) update (seat n).anchor (seat n).last (seat n).old (seat n).new) (sym turn) is in
-      left_as place slot (view_of (seat place).new) at
-      (changing_shows (size_of start slot) (start.held slot) (image slot) (seat place).anchor (seat place).last (seat place).old (seat place).new
-      says_one can.is_anchored can.last_is can.is_newest can.is_newer turned.is_anchored turned.copies)
+      let turned = subst (λ (n : ℕ). IsGetting (seat n).mode (size_of start slot) (start.held slot) (image slot) update (seat n)) (sym turn) is in
+      left_as place slot (view_of (seat place).new) at (getting_shows start slot (image slot) update (seat place) says_one (seat place).mode can turned)
 
   -- So does each of the slots.
   pub each_shows : (place slot : ℕ) → slice_get slots place ≡ Some slot → IsLeftAs slot (view_of (seat place).new)
@@ -116,14 +140,15 @@ module _ {D : Type 0} (start : BayState D) (slots : List ℕ) (seat : ℕ → Sl
 
   -- Outside the places of the new copies a slot is as it was.
   pub each_outside : (place slot : ℕ) (update : Prepared) → slice_get slots place ≡ Some slot → slice_get updates place ≡ Some update
-      → (l : ℕ) → (image slot l ≡ start.held slot l) ⊎ IsInEither update l
+      → (l : ℕ) → (image slot l ≡ start.held slot l) ⊎ IsWritten (size_of start slot) update l
   each_outside place slot update at there l = elim (cases_lt place left.turn) [
     | inl earlier ↦ (left.earlier place slot update earlier at there).outside l
     | inr more ↦ elim (cases_lt left.turn place) [
       | inl later ↦ inl (left.later place slot l later at)
       | inr also ↦
           let turn : left.turn ≡ place = omega arith in
-          (left.here slot update (ap (slice_get slots) turn ∙ at) (ap (slice_get updates) turn ∙ there)).outside l
+          getting_outside (seat left.turn).mode (size_of start slot) (start.held slot) (image slot) update (seat left.turn)
+          (may.are_prepared left.turn update (ap (slice_get updates) turn ∙ there)) (left.here slot update (ap (slice_get slots) turn ∙ at) (ap (slice_get updates) turn ∙ there)) l
     ]
   ]
 
@@ -136,6 +161,26 @@ module _ {D : Type 0} (start : BayState D) (slots : List ℕ) (seat : ℕ → Sl
         let shown = subst (IsLeftAs slot) (sym (news place.0 slot place.1)) (each_shows place.0 slot place.1) in
         ⊎_elim inl (λ written. inr (here, written)) shown
     | inr none ↦ inl (other_shows slot none)
+  ]
+
+  -- One whose turn has not come shows what it showed.
+  later_still : (place slot : ℕ) → left.turn < place → slice_get slots place ≡ Some slot → scene_of start.sizes image slot ≡ scene_of start.sizes (unwritten start slots image) slot
+  later_still place slot lt at =
+      let same : image slot ≡ start.held slot = fun_ext (λ l. left.later place slot l lt at) in
+      same_scene start.sizes image (unwritten start slots image) slot (same ∙ sym (unwritten_here start slots image slot (slot_is slots place slot at)))
+
+  -- They get their copies in turn.
+  pub stop_in_turn : (new : ℕ → View) → ((place slot : ℕ) → slice_get slots place ≡ Some slot → new slot ≡ view_of (seat place).new)
+      → AreInTurn slots new (scene_of start.sizes (unwritten start slots image)) (scene_of start.sizes image)
+  stop_in_turn new news p q s t at also less shown was_not = elim (cases_lt left.turn p) [
+    | inl later ↦ absurd (was_not (sym (later_still p s later at) ∙ shown))
+    | inr turn ↦
+        let within = place_within slots q t also in
+        let update = place_there updates q (omega arith) in
+        let is = left.earlier q t update.0 (omega arith) also update.1 in
+        scene_at start.sizes image t (are.there q t also)
+        ∙ both_show (size_of start t) (image t) (anchor_after (seat q)) (seat q).new is.are_both
+        ∙ ap (λ (view : View). One view) (sym (news q t also))
   ]
 
 -- ---- once all slots have their new copies
@@ -158,7 +203,7 @@ module _ {D : Type 0} (old now : BayState D) (slots : List ℕ) (seat : ℕ → 
       ap (λ (sizes : List ℕ). scene_of sizes image slot) same_sizes
       ∙ scene_at old.sizes image slot below
       ∙ ap (shows_at (size_of old slot)) (changed_holds place slot at)
-      ∙ both_show (size_of old slot) (now.held slot) (seat place).anchor (seat place).new is.are_both
+      ∙ both_show (size_of old slot) (now.held slot) (anchor_after (seat place)) (seat place).new is.are_both
       ∙ ap (λ (view : View). One view) (sym (news place slot at))
 
   -- Each says one thing by both of its copies.
@@ -168,7 +213,7 @@ module _ {D : Type 0} (old now : BayState D) (slots : List ℕ) (seat : ℕ → 
       let update = place_there updates place (omega arith) in
       let is = changed.have_changed place slot update.0 within at update.1 in
       subst (λ (sizes : List ℕ). SaysOne (slice_index sizes slot) (now.held slot)) (sym same_sizes)
-      (both_say (size_of old slot) (now.held slot) (seat place).anchor (seat place).new is.are_both)
+      (both_say (size_of old slot) (now.held slot) (anchor_after (seat place)) (seat place).new is.are_both)
 
   -- Every other slot is as it was left before.
   pub changed_left : ((s l : ℕ) → is_slot slots s ≡ true → old.may_hold s l (old.held s l)) → IsLeft old.may_hold (unwritten old slots image)

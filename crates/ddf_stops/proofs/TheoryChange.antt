@@ -1,13 +1,14 @@
 -- A change is issued behind the last one, and its new copies are written to its seats.
-use Rattle.std.proofs.Common.{◌≡◌, ℕ, Bool, true, false, length, sym, ◌∙◌, ⊎_elim, arith}
+use Rattle.std.proofs.Common.{◌≡◌, ◌⊎◌, ℕ, Bool, true, false, length, sym, ◌∙◌, ⊎_elim, arith}
 use Rattle.std.proofs.lemmas.Bool.{true≢false}
 use Rattle.ddf_history.specs.Reading.{Reading, Scene, IsCopyOf, IsSound}
 use Rattle.ddf_history.specs.Reading.Shown.{One}
 use Rattle.ddf_history.specs.Issued.{Past, is_away, issue, acknowledge}
 use Rattle.ddf_history.specs.Promise.{IsKept, IsStanding}
-use Rattle.ddf_history.specs.Steps.{IsLast, MayFollow, MayWrite, AreWritten, JoinLast, GivesAfter, AllShow}
+use Rattle.ddf_history.specs.Steps.{DoRemain, IsLast, MayFollow, MayWrite, AreWritten, JoinLast, GivesAfter, AllShow, OthersLast}
 use Rattle.ddf_history.proofs.Since.{some_is, in_order, last_since, on_shows}
 use Rattle.ddf_history.proofs.Issuing.{issued_kept, follows}
+use Rattle.ddf_history.proofs.Turns.{join_last}
 use Rattle.ddf_history.proofs.Writing.{on_either, written_kept}
 use Rattle.ddf_history.proofs.Cutting.{acknowledged_kept}
 use Rattle.ddf_stops.proofs.TheoryLast.{last_next, number_next}
@@ -26,10 +27,12 @@ abbrev pub AreOurs : (r : Reading) → Scene r.Copy → (seats : ℕ → Bool) �
 AreOurs r scene seats = (slot : ℕ) → seats slot ≡ true → (copy : r.Copy) × IsCopyOf (scene slot) copy × (r.is_ours copy ≡ true)
 
 module _ (r : Reading) (sound : IsSound r) (past : Past r) (scene : Scene r.Copy) (kept : IsKept past scene) (n : ℕ) (last next : r.Config)
-    (at_last : IsLast past.changes n last) (follow : MayFollow r last next) where
+    (at_last : IsLast past.changes n last) (follow : MayFollow r last next)
+    -- all before it is acknowledged, or each member that isn't away remains one
+    (remains : (n ≡ past.changes.acked) ⊎ DoRemain r (λ s. is_away past s ≡ false) past.disk last next) where
   -- It may be issued.
   pub next_issued : IsKept (issue past next) scene
-  next_issued = issued_kept r sound past scene kept next (follows r past scene kept n last next at_last follow)
+  next_issued = issued_kept r sound past scene kept next (follows r past scene kept n last next at_last follow remains)
 
   -- no slot shows it yet
   not_yet : (s : ℕ) (copy : r.Copy) → IsStanding (issue past next) scene s copy → r.Shows copy next → ⊥
@@ -87,6 +90,13 @@ module _ (r : Reading) (sound : IsSound r) (past : Past r) (scene : Scene r.Copy
           t_native : r.has_current next_issued.last (past.disk t) ≡ true
           t_native = rw first_is at native
 
+      -- So it is where slots that show nothing of the group are written last, and each member's is written.
+      pub next_turned_last : OthersLast r seats new scene after → ((slot : ℕ) → is_away past slot ≡ false → r.has_current next (past.disk slot) ≡ true → seats slot ≡ true)
+          → JoinLast (issue past next) seats new after
+      next_turned_last last all =
+          join_last r sound (issue past next) scene after next_issued (length past.changes.issued) next seats new next_may_write written last
+          (λ slot here rest now. absurd (true≢false (sym (all slot here now) ∙ rest)))
+
       -- The change is this engine's.
       pub next_gives : GivesAfter (issue past next) (length past.changes.issued) next after
       next_gives young =
@@ -95,10 +105,10 @@ module _ (r : Reading) (sound : IsSound r) (past : Past r) (scene : Scene r.Copy
           absurd (omega arith)
 
       -- Each slot shows what it should.
-      pub next_kept : AreOurs r scene seats → IsKept (issue past next) after
-      next_kept ours =
+      pub next_kept : JoinLast (issue past next) seats new after → IsKept (issue past next) after
+      next_kept joins =
           written_kept r sound (issue past next) scene after next_issued (length past.changes.issued) next seats new next_may_write written
-          (next_joins_last ours) next_gives
+          joins next_gives
 
       module _
           (all : (slot : ℕ) → is_away past slot ≡ false → r.has_current next (past.disk slot) ≡ true → (seats slot ≡ true) × (after slot ≡ One (new slot))) where
@@ -116,7 +126,7 @@ module _ (r : Reading) (sound : IsSound r) (past : Past r) (scene : Scene r.Copy
             }
 
         -- It may be acknowledged.
-        pub next_acknowledged : AreOurs r scene seats → IsKept (acknowledge (issue past next) (length past.changes.issued)) after
-        next_acknowledged ours =
-            acknowledged_kept r sound (issue past next) after (next_kept ours) (length past.changes.issued) next
+        pub next_acknowledged : JoinLast (issue past next) seats new after → IsKept (acknowledge (issue past next) (length past.changes.issued)) after
+        next_acknowledged joins =
+            acknowledged_kept r sound (issue past next) after (next_kept joins) (length past.changes.issued) next
             (last_next past.changes n last next at_last) next_shown

@@ -10,7 +10,7 @@ use std::alloc::Global;
 use std::collections::BTreeSet;
 
 /// A used entry of the virtual disk records (SNIA DDF 2.0).
-#[derive(Clone, Copy, Debug, PartialEq, Eq)]
+#[derive(Clone, Copy, PartialEq, Eq)]
 pub struct ArrayEntry {
     /// The GUID of the array.
     pub guid: Guid,
@@ -27,7 +27,7 @@ pub struct ArrayEntry {
 }
 
 /// A row of the virtual disk records.
-#[derive(Clone, Copy, Debug, PartialEq, Eq)]
+#[derive(Clone, Copy, PartialEq, Eq)]
 pub enum ArrayRow {
     /// An array.
     Entry(ArrayEntry),

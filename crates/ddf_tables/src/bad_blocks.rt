@@ -23,7 +23,7 @@ use std::alloc::Global;
 use std::marker::Model;
 
 /// An entry of the bad block log: sectors that are bad (SNIA DDF 2.0).
-#[derive(Clone, Copy, Debug, PartialEq, Eq)]
+#[derive(Clone, Copy, PartialEq, Eq)]
 pub struct BadBlock {
     /// The LBA of the first bad sector.
     pub start: u64,
@@ -35,7 +35,7 @@ pub struct BadBlock {
 
 /// The bad block log (SNIA DDF 2.0): its entries in order, the count and the first LBA of its spare blocks, and the section's
 /// other bytes.
-#[derive(Debug, Drop)]
+#[derive(Drop)]
 pub struct BadBlockLog {
     entries: Vec<BadBlock>,
     spare_count: u32,

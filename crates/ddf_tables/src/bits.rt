@@ -4,7 +4,7 @@ ghost use Rattle.ddf_tables.specs.DiskFlags.{state_flags, type_flags};
 use bitflags::{Flag, Flags, bitflag_items};
 
 /// The type of a disk as 16 bits (SNIA DDF 2.0). All of them are kept, named or not.
-#[derive(Clone, Copy, Debug, PartialEq, Eq)]
+#[derive(Clone, Copy, PartialEq, Eq)]
 pub struct DiskType(pub u16);
 
 bitflag_items! {
@@ -49,7 +49,7 @@ impl Flags for DiskType {
 }
 
 /// The state of a disk as 16 bits (SNIA DDF 2.0). All of them are kept, named or not.
-#[derive(Clone, Copy, Debug, PartialEq, Eq)]
+#[derive(Clone, Copy, PartialEq, Eq)]
 pub struct DiskState(pub u16);
 
 bitflag_items! {

@@ -13,7 +13,7 @@ use ddf_bytes::{Guid, Sector};
 use ddf_seal::{SEAL, SealFault, Span, check, clear, guid_at, place, seal};
 
 /// The controller data (SNIA DDF 2.0).
-#[derive(Clone, Copy, Debug, PartialEq, Eq)]
+#[derive(Clone, Copy, PartialEq, Eq)]
 pub struct Controller {
     /// The GUID of the controller.
     pub guid: Guid,

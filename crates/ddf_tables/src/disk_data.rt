@@ -13,7 +13,7 @@ use ddf_bytes::{Guid, Sector, be32, put32};
 use ddf_seal::{SEAL, SealFault, Span, check, clear, guid_at, place, seal};
 
 /// The physical disk data: what a disk says of itself (SNIA DDF 2.0).
-#[derive(Clone, Copy, Debug, PartialEq, Eq)]
+#[derive(Clone, Copy, PartialEq, Eq)]
 pub struct DiskData {
     /// The GUID of the disk.
     pub guid: Guid,

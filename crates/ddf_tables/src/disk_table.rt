@@ -23,7 +23,7 @@ use std::marker::Model;
 
 /// The physical disk records (SNIA DDF 2.0): the rows in order, the populated count as it is stored, and the section's other
 /// bytes. Contracts see these three, and zeros in the places of the seal, the counts and the rows.
-#[derive(Debug, Drop)]
+#[derive(Drop)]
 pub struct DiskTable {
     table: Table<DiskRow>,
 }

@@ -11,7 +11,7 @@ use std::alloc::Global;
 use std::collections::BTreeSet;
 
 /// A used entry of the physical disk records (SNIA DDF 2.0).
-#[derive(Clone, Copy, Debug, PartialEq, Eq)]
+#[derive(Clone, Copy, PartialEq, Eq)]
 pub struct DiskEntry {
     /// The GUID of the disk.
     pub guid: Guid,
@@ -28,7 +28,7 @@ pub struct DiskEntry {
 }
 
 /// A row of the physical disk records.
-#[derive(Clone, Copy, Debug, PartialEq, Eq)]
+#[derive(Clone, Copy, PartialEq, Eq)]
 pub enum DiskRow {
     /// A disk.
     Entry(DiskEntry),

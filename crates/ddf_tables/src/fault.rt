@@ -2,7 +2,7 @@ use ddf_bytes::Guid;
 use ddf_seal::SealFault;
 
 /// Why a section isn't the table that was asked for: the first of these, in this order.
-#[derive(Clone, Copy, Debug, PartialEq, Eq)]
+#[derive(Clone, Copy, PartialEq, Eq)]
 pub enum TableFault {
     /// The signature or the CRC is wrong.
     Seal(SealFault),

@@ -9,7 +9,6 @@ mod bits;
 mod controller;
 mod disk_building;
 mod disk_data;
-mod disk_flags;
 mod disk_table;
 mod disks;
 mod fault;

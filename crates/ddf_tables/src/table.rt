@@ -29,7 +29,7 @@ const ROWS: usize = 64;
 const ROW: usize = 64;
 
 /// The rows of a table in order, its populated count as it is stored, and the section with zeros in their places.
-#[derive(Debug, Drop)]
+#[derive(Drop)]
 pub(crate) struct Table<R> {
     populated: u16,
     rows: Vec<R>,

@@ -18,7 +18,7 @@ use Rattle.ddf_config.specs.Shapes.{array_capacity}
 use Rattle.ddf_config.specs.States.{is_marked, low_state}
 use Rattle.ddf_config.specs.Unusable.{unusable}
 use Rattle.ddf_text.specs.Hexes.{hex32}
-use Rattle.ddf_text.specs.Records.{name_text}
+use Rattle.ddf_name.specs.Names.{name_text}
 
 abbrev pub group_line : List ℕ → ℕ → List ℕ
 group_line group sequence = codes "group " ++ encode_lower group ++ codes " sequence " ++ decimal sequence ++ codes "\n"

@@ -1,6 +1,6 @@
 -- The lines that `examine` prints of the records of a copy.
-use Rattle.std.specs.Prelude.{ℕ, suc, Bool, ◌&&◌, ◌||◌, not, ◌==◌, nat_le, List, [], ◌∷◌, ◌++◌, length, drop, take, Option, Some, None, codes, if◌then◌else◌}
-use Rattle.std.specs.List.{flat_map, list_all, prefix_len}
+use Rattle.std.specs.Prelude.{ℕ, suc, List, [], ◌∷◌, ◌++◌, length, Option, Some, None, codes}
+use Rattle.std.specs.List.{flat_map}
 use Rattle.std.specs.Fmt.{decimal}
 use Rattle.hex.specs.Hex.{encode_lower}
 use Rattle.ddf_tables.specs.declared.disks.DiskRow.{DiskRow}
@@ -14,32 +14,8 @@ use Rattle.ddf_configs.specs.declared.slot.RecordSlot.{RecordSlot}
 use Rattle.ddf_configs.specs.declared.slot.RecordSlot.TheVariants as slots
 use Rattle.ddf_configs.specs.declared.spare.SpareRecord.{SpareRecord}
 use Rattle.ddf_copy.specs.declared.copy.DiskCopy.{DiskCopy}
+use Rattle.ddf_name.specs.Names.{name_text}
 use Rattle.ddf_text.specs.Hexes.{hex8, hex16, hex32}
-
--- ---- names
-
--- a character that isn't a space and prints
-abbrev pub is_plain : ℕ → Bool
-is_plain byte = nat_le 0x21 byte && nat_le byte 0x7E
-
--- how many of these stand in front of the padding
-abbrev pub plain_len : List ℕ → ℕ
-plain_len name = prefix_len is_plain name
-
-abbrev pub are_all : ℕ → List ℕ → Bool
-are_all value bytes = list_all (λ byte. byte == value) bytes
-
--- one such character or more, and behind them spaces alone or zeros alone
-abbrev pub is_plain_name : List ℕ → Bool
-is_plain_name name =
-    let padding = drop (plain_len name) name in
-    not (plain_len name == 0) && (are_all 0x20 padding || are_all 0 padding)
-
--- a name as it prints
-abbrev pub name_text : List ℕ → List ℕ
-name_text name = if is_plain_name name then take (plain_len name) name else codes "hex:" ++ encode_lower name
-
--- ---- lines
 
 abbrev pub disk_line : DiskRow → List ℕ
 disk_line (disk_rows.Entry disk) =

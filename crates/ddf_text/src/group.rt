@@ -5,12 +5,12 @@ ghost use Rattle.ddf_config.specs.Extents.{extents};
 ghost use Rattle.ddf_text.specs.GroupText.{array_line, array_lines, group_text, mark_text, member_lines, spare_text, state_word, unusable_line, unusable_number, usable_line};
 
 use crate::listing::push;
-use crate::name::NameText;
 use ddf_bytes::{Guid, Hex32, NoMemory};
 use ddf_config::{
     Array, Config, Extent, Member, Refusal, Seat, SpareUse, array_capacity, extents, low_state,
     slot_of, unusable,
 };
+use ddf_name::NameText;
 use indexmap::IndexMap;
 use std::alloc::Global;
 use std::fmt;

@@ -3,7 +3,7 @@ use ddf_copy::Copies;
 use ddf_header::{Header, HeaderFault};
 
 /// What stands where the anchor says that a header is.
-#[derive(Clone, Copy, Debug, PartialEq, Eq)]
+#[derive(Clone, Copy, PartialEq, Eq)]
 pub enum HeaderView {
     /// A header of the kind.
     Header(Header),
@@ -14,7 +14,7 @@ pub enum HeaderView {
 }
 
 /// The three headers of a disk, and its copies.
-#[derive(Debug, Drop)]
+#[derive(Drop)]
 pub struct Headers {
     pub anchor: Header,
     pub primary: HeaderView,
@@ -23,7 +23,7 @@ pub struct Headers {
 }
 
 /// What a slot shows of itself.
-#[derive(Debug, Drop)]
+#[derive(Drop)]
 pub enum DiskView {
     /// It has no anchor: it has no sector, or its last one has another signature.
     Blank,

@@ -10,7 +10,8 @@ use Rattle.ddf_bay.proofs.Steps.{stops_then}
 use Rattle.ddf_update.specs.declared.prepared.Prepared.{Prepared}
 use Rattle.ddf_update.specs.Changes.{AreChanged, HasChanged, IsLeftChangingAll, MayChangeAll, SlotChange}
 use Rattle.ddf_update.specs.Group.{AreSlots}
-use Rattle.ddf_update.specs.Update.{IsChanged, IsOldOrNew, MayChange}
+use Rattle.ddf_update.specs.Changes.{MayGet, anchor_after}
+use Rattle.ddf_update.proofs.Getting.{HasGot, IsLeftGetting, get_again, has_old}
 use Rattle.ddf_update.proofs.GroupSteps.{later_differs, some_place}
 
 some_is : (x y : ℕ) → some_place x ≡ some_place y → x ≡ y
@@ -32,7 +33,7 @@ module _ {D : Type 0} (old : BayState D) (slots : List ℕ) (seat : ℕ → Slot
   -- and of one whose turn has not come
   left_later : (image : Image) (place slot l : ℕ) → count ≤ place → slice_get slots place ≡ Some slot → now.may_hold slot l (image slot l) → image slot l ≡ old.held slot l
   left_later image place slot l later at left =
-      (may.may_change place slot at).is_settled l (image slot l) (so_far.others_left slot l (image slot l) (later_differs old.sizes slots are count place slot later at) left)
+      (has_old old slot (seat place) (may.may_change place slot at)).is_settled l (image slot l) (so_far.others_left slot l (image slot l) (later_differs old.sizes slots are count place slot later at) left)
 
   module _ (slot : ℕ) (update : Prepared) (at : slice_get slots count ≡ Some slot) (there : slice_get updates count ≡ Some update) where
     other_slot : (place other : ℕ) → slice_get slots place ≡ Some other → place ≢ count → other ≢ slot
@@ -42,21 +43,14 @@ module _ {D : Type 0} (old : BayState D) (slots : List ℕ) (seat : ℕ → Slot
     same_update other here = let both = sym here ∙ there in cc
 
     -- the slot's turn: it is as at the start
-    pub may_now : MayChange now slot (seat count).anchor (seat count).last (seat count).old (seat count).new
+    pub may_now : MayGet (seat count).mode now slot (seat count)
     may_now =
-        let can = may.may_change count slot at in
-        let held = held_later count slot (omega arith) at in
-        record {
-          is_settled = λ l bytes left. can.is_settled l bytes (so_far.others_left slot l bytes (later_differs old.sizes slots are count count slot (omega arith) at) left) ∙ ap (λ (sector : ℕ → List ℕ). sector l) (sym held);
-          is_anchored = rw (same_sizes, held) can.is_anchored;
-          last_is = rw (same_sizes, held) can.last_is;
-          is_newest = rw (same_sizes, held) can.is_newest;
-          is_under = rw same_sizes can.is_under;
-          is_newer = can.is_newer;
-        }
+        get_again (seat count).mode old now slot (seat count) same_sizes (held_later count slot (omega arith) at)
+        (λ l bytes left. so_far.others_left slot l bytes (later_differs old.sizes slots are count count slot (omega arith) at) left)
+        (may.may_change count slot at)
 
     -- a stop while it is written
-    image_within : (image : Image) → IsOldOrNew now slot update (seat count).anchor (seat count).last (seat count).old (seat count).new image → IsLeftChangingAll old slots seat updates image
+    image_within : (image : Image) → IsLeftGetting (seat count).mode now slot update (seat count) image → IsLeftChangingAll old slots seat updates image
     image_within image left = record {
       turn = count;
       earlier = λ place other one earlier here own. left_earlier image place other one earlier here own
@@ -70,11 +64,11 @@ module _ {D : Type 0} (old : BayState D) (slots : List ℕ) (seat : ℕ → Slot
     }
 
     pub change_stops : (next : BayState D) → StopsLeave old now (IsLeftChangingAll old slots seat updates)
-        → StopsLeave now next (IsOldOrNew now slot update (seat count).anchor (seat count).last (seat count).old (seat count).new)
+        → StopsLeave now next (IsLeftGetting (seat count).mode now slot update (seat count))
         → StopsLeave old next (IsLeftChangingAll old slots seat updates)
     change_stops next before step = stops_then before step image_within
 
-    pub change_done : (next : BayState D) → IsChanged now next slot (seat count).anchor update (seat count).new → AreChanged old next slots seat updates (count + 1)
+    pub change_done : (next : BayState D) → HasGot (anchor_after (seat count)) now next slot update (seat count) → AreChanged old next slots seat updates (count + 1)
     change_done next one =
         let held = held_later count slot (omega arith) at in
         record {
@@ -83,7 +77,7 @@ module _ {D : Type 0} (old : BayState D) (slots : List ℕ) (seat : ℕ → Slot
                 let slot_is : other ≡ slot = some_is other slot (sym here ∙ ap (slice_get slots) same ∙ at) in
                 let update_is = same_update own (sym (ap (slice_get updates) same) ∙ its) in
                 let is_changed : HasChanged (size_of old slot) (old.held slot) (next.held slot) update (seat count) =
-                record { are_both = rw same_sizes at one.are_both; outside = rw held at one.outside } in
+                record { are_both = rw same_sizes at one.are_both; outside = rw (same_sizes, held) at one.outside } in
                 rw (same, slot_is, update_is) is_changed
             | inr differ ↦
                 let held_is : next.held other ≡ now.held other = fun_ext (λ l. one.other_slots other l (other_slot place other here differ)) in

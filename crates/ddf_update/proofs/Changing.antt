@@ -32,7 +32,7 @@ use Rattle.ddf_update.specs.Gate.{AreBothApart, AreBothWritten, IsLeftUpdating, 
 use Rattle.ddf_update.specs.Prepared.{IsGateOf, IsPrepared}
 use Rattle.ddf_update.specs.Update.{AreBoth, AreReadPartly, IsChanged, IsChanging, IsInEither, IsOldOrNew, IsReadPartly, MayChange}
 
-other_other : (which : Which) → other_of (other_of which) ≡ which
+pub other_other : (which : Which) → other_of (other_of which) ≡ which
 other_other Primary = refl
 other_other Secondary = refl
 
@@ -45,7 +45,7 @@ level_then one other third first second =
 -- ---- one copy
 
 module _ (size : ℕ) (anchor : Header) (copy : DiskCopy) (runs : List Run) (under : IsUnder size anchor copy) (are : AreRunsOf copy runs) where
-  shared_with : (which : Which) (gate : Gate) → IsGateOf copy which gate → first_difference (header_bytes anchor) gate.closed ≡ None
+  pub shared_with : (which : Which) (gate : Gate) → IsGateOf copy which gate → first_difference (header_bytes anchor) gate.closed ≡ None
   shared_with which gate is =
       let found = gate_from size anchor which (closed_header copy which) (header_bytes (closed_header copy which)) (under.has_gate which) in
       rw (encoded_again (kind_of which) (closed_header copy which) gate.closed is.closed_is) at found.is_shared

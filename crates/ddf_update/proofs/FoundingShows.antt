@@ -26,7 +26,7 @@ use Rattle.ddf_update.specs.Update.{AreBoth, IsBlankOrNew, HasFirstCopy, MayFoun
 use Rattle.ddf_update.proofs.Changing.{are_apart, both_are_apart, both_stand, not_last, same_anchor}
 
 -- an anchor that stands in the last sector is read there
-anchor_stands : (size : ℕ) (sector : ℕ → List ℕ) (anchor : Header) (bytes : List ℕ) → 0 < size → IsHeaderOf Anchor anchor bytes → sector (size - 1) ≡ bytes → anchor_at size sector ≡ Ok anchor
+pub anchor_stands : (size : ℕ) (sector : ℕ → List ℕ) (anchor : Header) (bytes : List ℕ) → 0 < size → IsHeaderOf Anchor anchor bytes → sector (size - 1) ≡ bytes → anchor_at size sector ≡ Ok anchor
 unfolding anchor_at anchor_in
 anchor_stands size sector anchor bytes some is here =
     let signature = signature_is header_signature bytes (omega arith) is.is_record.is_sealed in

@@ -11,6 +11,7 @@ pub mod Lies
 pub mod Before
 pub mod Costs
 pub mod GroupSteps
+pub mod Getting
 pub mod ChangeSteps
 pub mod NewBytes
 pub mod NewRoom
@@ -18,3 +19,5 @@ pub mod NewRows
 pub mod NewSlots
 pub mod NewUnder
 pub mod FirstCopies
+pub mod AdoptingSteps
+pub mod AdoptingShows

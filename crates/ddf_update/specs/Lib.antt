@@ -5,3 +5,4 @@ pub mod Prepared
 pub mod Stage
 pub mod Update
 pub mod NewCopies
+pub mod Adopting

@@ -1,5 +1,5 @@
 -- What an update of one slot promises.
-use Rattle.std.specs.Prelude.{◌≡◌, ◌≢◌, ◌⊎◌, ℕ, ◌-◌, true, Ok, Err, List}
+use Rattle.std.specs.Prelude.{◌≡◌, ◌≢◌, ◌⊎◌, ℕ, ◌-◌, true, Some, Ok, Err, List}
 use Rattle.ddf_copy.specs.declared.fault.CopyFault.TheVariants.{Opened}
 use Rattle.ddf_bay.specs.State.{BayState, size_of}
 use Rattle.ddf_bay.specs.Sectors.{Image}
@@ -9,25 +9,25 @@ use Rattle.ddf_copy.specs.declared.copy.DiskCopy.{DiskCopy}
 use Rattle.ddf_copy.specs.declared.which.Which.{Which}
 use Rattle.ddf_copy.specs.declared.which.Which.TheVariants.{Primary, Secondary}
 use Rattle.ddf_copy.specs.declared.fault.AnchorFault.TheVariants.{Blank}
-use Rattle.ddf_copy.specs.declared.newest_copy.Newest.TheVariants.{Level, TwoDiffer}
+use Rattle.ddf_copy.specs.declared.newest_copy.Newest.TheVariants.{Level, One, TwoDiffer}
 use Rattle.ddf_copy.specs.Anchor.{anchor_at}
-use Rattle.ddf_copy.specs.Copies.{copy_of, newest_of}
+use Rattle.ddf_copy.specs.Copies.{copy_of, newest_at, newest_of}
 use Rattle.ddf_copy.specs.Headers.{IsUnder, anchor_header, written_as}
 use Rattle.ddf_copy.specs.Runs.{IsInCopy}
 use Rattle.ddf_copy.specs.Shows.{IsNewest, Shows}
-use Rattle.ddf_copy.specs.Which.{other_of}
+use Rattle.ddf_copy.specs.Which.{other_of, place_of}
 use Rattle.ddf_copy.specs.Written.{is_level}
 use Rattle.ddf_update.specs.declared.prepared.Prepared.{Prepared}
-use Rattle.ddf_update.specs.declared.prepared.Mode.TheVariants.{Found}
 use Rattle.ddf_update.specs.Gate.{StopsLeaveSince}
+use Rattle.ddf_update.specs.Prepared.{writes_anchor}
 
 -- a sector of one of the two copies
 abbrev pub IsInEither : Prepared → ℕ → Type 0
 IsInEither prepared l = IsInCopy prepared.first.lba prepared.runs l ⊎ IsInCopy prepared.second.lba prepared.runs l
 
--- a sector that an update writes: one of a copy, or the last one of a founding
+-- a sector that an update writes: one of a copy, or the last one where the anchor is written
 abbrev pub IsWritten : (size : ℕ) → Prepared → ℕ → Type 0
-IsWritten size prepared l = IsInEither prepared l ⊎ ((prepared.mode ≡ Found) × (l ≡ size - 1))
+IsWritten size prepared l = IsInEither prepared l ⊎ ((writes_anchor prepared.mode ≡ true) × (l ≡ size - 1))
 
 -- Both copies are the new one, and level, under this anchor.
 pub record AreBoth (size : ℕ) (sector : ℕ → List ℕ) (anchor : Header) (copy : DiskCopy) : Type 0 where
@@ -103,6 +103,48 @@ pub record HasFirstCopy {D : Type 0} (old new : BayState D) (slot : ℕ) (prepar
   pub are_both : AreBoth (size_of old slot) (new.held slot) (anchor_header copy) copy
   pub is_settled : IsSettled new.may_hold new.held slot
   pub since : StopsLeaveSince old new (IsBlankOrNew old slot prepared copy)
+  pub outside : (l : ℕ) → (new.held slot l ≡ old.held slot l) ⊎ IsInEither prepared l ⊎ (l ≡ size_of old slot - 1)
+  pub other_slots : (s l : ℕ) → s ≢ slot → new.held s l ≡ old.held s l
+  pub others_left : (s l : ℕ) (bytes : List ℕ) → s ≢ slot → new.may_hold s l bytes → old.may_hold s l bytes
+
+-- ---- an adoption
+
+-- A slot may get a copy of another group than the one that it shows: it shows its copy `last`, and the new copy has the same places and
+-- sections, and can be written there under an anchor of its own.
+pub record MayAdopt {D : Type 0} (disks : BayState D) (slot : ℕ) (anchor : Header) (last : Which) (old new : DiskCopy) : Type 0 where
+  pub is_anchored : anchor_at (size_of disks slot) (disks.held slot) ≡ Ok anchor
+  pub last_is : copy_of (size_of disks slot) (disks.held slot) anchor last ≡ Ok old
+  pub is_newest : IsNewest (newest_of (size_of disks slot) (disks.held slot) anchor) old
+  pub is_under : IsUnder (size_of disks slot) (anchor_header new) new
+  pub same_places : (which : Which) → place_of which new.header ≡ place_of which anchor
+  pub same_sections : new.header.geometry ≡ old.header.geometry
+  pub other_group : new.header.guid ≢ old.header.guid
+
+-- The newest copy of a slot that is adopted: as it was, or the former group's alone, or the new one, alone or in both places.
+abbrev pub IsReadAdopting : (size : ℕ) (before now : ℕ → List ℕ) → (last : Which) → (old new : DiskCopy) → Type 0
+IsReadAdopting size before now last old new =
+    (newest_at size now ≡ newest_at size before)
+    ⊎ (newest_at size now ≡ Some (One last old))
+    ⊎ (newest_at size now ≡ Some (One (other_of last) (written_as new (other_of last))))
+    ⊎ (newest_at size now ≡ Some (Level (written_as new Primary)))
+
+-- What a stop leaves of the sectors of a slot that is adopted: it shows the former group's copy or the new one, and all outside the two
+-- copies and the anchor is as it was.
+pub record IsAdopting (size : ℕ) (before now : ℕ → List ℕ) (prepared : Prepared) (last : Which) (old new : DiskCopy) : Type 0 where
+  pub shows : Shows size now old ⊎ Shows size now new
+  pub newest : IsReadAdopting size before now last old new
+  pub outside : (l : ℕ) → (now l ≡ before l) ⊎ IsInEither prepared l ⊎ (l ≡ size - 1)
+
+-- A stop leaves a slot that shows the former group's copy or the new one, and other slots as they might be left before.
+pub record IsFormerOrNew {D : Type 0} (before : BayState D) (slot : ℕ) (prepared : Prepared) (last : Which) (old new : DiskCopy) (image : Image) : Type 0 where
+  pub here : IsAdopting (size_of before slot) (before.held slot) (image slot) prepared last old new
+  pub other_slots : (s l : ℕ) → s ≢ slot → before.may_hold s l (image s l)
+
+-- The slot has its new anchor and the new copy in both places, and nothing is pending there.
+pub record IsAdopted {D : Type 0} (old new : BayState D) (slot : ℕ) (prepared : Prepared) (last : Which) (former copy : DiskCopy) : Type 0 where
+  pub are_both : AreBoth (size_of old slot) (new.held slot) (anchor_header copy) copy
+  pub is_settled : IsSettled new.may_hold new.held slot
+  pub since : StopsLeaveSince old new (IsFormerOrNew old slot prepared last former copy)
   pub outside : (l : ℕ) → (new.held slot l ≡ old.held slot l) ⊎ IsInEither prepared l ⊎ (l ≡ size_of old slot - 1)
   pub other_slots : (s l : ℕ) → s ≢ slot → new.held s l ≡ old.held s l
   pub others_left : (s l : ℕ) (bytes : List ℕ) → s ≢ slot → new.may_hold s l bytes → old.may_hold s l bytes

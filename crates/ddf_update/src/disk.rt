@@ -10,15 +10,17 @@ ghost use Rattle.ddf_copy.specs.Runs.{sector_count};
 ghost use Rattle.ddf_update.specs.declared.prepared.Mode.{Mode};
 ghost use Rattle.ddf_update.specs.Gate.{KeepsOutside, StaysOutside, StopsLeaveSince};
 ghost use Rattle.ddf_update.specs.Prepared.{IsPrepared, LiesOn};
-ghost use Rattle.ddf_update.specs.Update.{IsBlankOrNew, IsChanged, IsInEither, HasFirstCopy, IsOldOrNew, IsWritten, MayChange, MayFound};
+ghost use Rattle.ddf_update.specs.Update.{IsAdopted, IsBlankOrNew, IsChanged, IsFormerOrNew, IsInEither, HasFirstCopy, IsOldOrNew, IsWritten, MayAdopt, MayChange, MayFound};
 
+use crate::adopting::write_adoption;
 use crate::both::write_both;
 use crate::founding::write_founding;
 use crate::prepared::{Mode, Prepared};
 use ddf_bay::{Bay, DiskFault};
 
 /// Writes an update of a disk: each copy with its header open, then its sections, then its header closed, each made sure
-/// before the next. A founding is made sure of the slot first, and writes the anchor last. It takes no memory.
+/// before the next. A founding is made sure of the slot first, and writes the anchor last. So is an adoption, which writes the anchor
+/// between the copies. It takes no memory.
 pub fn write_disk<B: Bay>(bay: &mut B, slot: usize, prepared: &Prepared) -> Result<(), DiskFault>
     requires slot { slot < length (B.disks bay.old).sizes }
     requires on_slot { LiesOn (slice_index (B.disks bay.old).sizes slot) prepared.now }
@@ -40,6 +42,15 @@ pub fn write_disk<B: Bay>(bay: &mut B, slot: usize, prepared: &Prepared) -> Resu
         → MayFound (B.disks bay.old) slot copy
         → OnOk result (HasFirstCopy (B.disks bay.old) (B.disks bay.new) slot prepared.now copy) }
 
+    // Until the first good sync of an adoption nothing changes. From then on a stop leaves the former group's copy or the new one.
+    ensures adopt { B.tells → (anchor : Header) (last : Which) (old copy : DiskCopy) → IsPrepared copy last Mode.Adopt prepared.now
+        → MayAdopt (B.disks bay.old) slot anchor last old copy
+        → StopsLeave (B.disks bay.old) (B.disks bay.new) (IsLeft (B.disks bay.old).may_hold)
+        ⊎ StopsLeaveSince (B.disks bay.old) (B.disks bay.new) (IsFormerOrNew (B.disks bay.old) slot prepared.now last old copy) }
+    ensures adopted { B.tells → (anchor : Header) (last : Which) (old copy : DiskCopy) → IsPrepared copy last Mode.Adopt prepared.now
+        → MayAdopt (B.disks bay.old) slot anchor last old copy
+        → OnOk result (IsAdopted (B.disks bay.old) (B.disks bay.new) slot prepared.now last old copy) }
+
     // All else stays, and a stop leaves of it what it might have left.
     ensures held { B.tells → StaysOutside (B.disks bay.old).held (B.disks bay.new).held slot (IsWritten (slice_index (B.disks bay.old).sizes slot) prepared.now) }
     ensures left { KeepsOutside (B.disks bay.old).may_hold (B.disks bay.new).may_hold slot (IsWritten (slice_index (B.disks bay.old).sizes slot) prepared.now) }
@@ -53,6 +64,7 @@ pub fn write_disk<B: Bay>(bay: &mut B, slot: usize, prepared: &Prepared) -> Resu
     match prepared.mode {
         Mode::Change => change(bay, slot, prepared),
         Mode::Found => found(bay, slot, prepared),
+        Mode::Adopt => adopt(bay, slot, prepared),
     }
 }
 
@@ -95,6 +107,34 @@ fn found<B: Bay>(bay: &mut B, slot: usize, prepared: &Prepared) -> Result<(), Di
 {
     let runs = prepared.runs.items();
     write_founding(
+        bay,
+        slot,
+        &prepared.first,
+        &prepared.second,
+        runs,
+        &prepared.anchor,
+    )
+}
+
+/// Writes both copies of a disk that shows another group, and its anchor between them.
+fn adopt<B: Bay>(bay: &mut B, slot: usize, prepared: &Prepared) -> Result<(), DiskFault>
+    requires slot { slot < length (B.disks bay.old).sizes }
+    requires on_slot { LiesOn (slice_index (B.disks bay.old).sizes slot) prepared.now }
+    ensures adopt { B.tells → (anchor : Header) (last : Which) (old copy : DiskCopy) → IsPrepared copy last Mode.Adopt prepared.now
+        → MayAdopt (B.disks bay.old) slot anchor last old copy
+        → StopsLeave (B.disks bay.old) (B.disks bay.new) (IsLeft (B.disks bay.old).may_hold)
+        ⊎ StopsLeaveSince (B.disks bay.old) (B.disks bay.new) (IsFormerOrNew (B.disks bay.old) slot prepared.now last old copy) }
+    ensures adopted { B.tells → (anchor : Header) (last : Which) (old copy : DiskCopy) → IsPrepared copy last Mode.Adopt prepared.now
+        → MayAdopt (B.disks bay.old) slot anchor last old copy
+        → OnOk result (IsAdopted (B.disks bay.old) (B.disks bay.new) slot prepared.now last old copy) }
+    ensures held { B.tells → StaysOutside (B.disks bay.old).held (B.disks bay.new).held slot (λ l. IsInEither prepared.now l ⊎ (l ≡ slice_index (B.disks bay.old).sizes slot - 1)) }
+    ensures left { KeepsOutside (B.disks bay.old).may_hold (B.disks bay.new).may_hold slot (λ l. IsInEither prepared.now l ⊎ (l ≡ slice_index (B.disks bay.old).sizes slot - 1)) }
+    ensures spends { SpendsWrites (B.disks bay.old) (B.disks bay.new) slot (2 * (sector_count prepared.now.runs + 2) + 1) (2 * (length prepared.now.runs + 5) + 3) }
+    ensures ok { OnOk result ((B.disks bay.new).failed_writes ≡ (B.disks bay.old).failed_writes) }
+    ensures failed { IfErr result (λ e. (e.0 ≡ slot) × Rose ((B.disks bay.old).failed_writes slot) ((B.disks bay.new).failed_writes slot)) }
+{
+    let runs = prepared.runs.items();
+    write_adoption(
         bay,
         slot,
         &prepared.first,

@@ -1,7 +1,7 @@
 use ddf_bytes::Sector;
 
 /// Where a copy is written, and its header before and after.
-#[derive(Debug, Drop)]
+#[derive(Drop)]
 pub struct Gate {
     /// The LBA of the header.
     pub lba: u64,

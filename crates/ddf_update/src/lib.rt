@@ -2,6 +2,7 @@
 //! its header open, or whole.
 #![tactic(auto)]
 
+mod adopting;
 mod both;
 mod changes;
 mod copy;

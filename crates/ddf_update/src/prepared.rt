@@ -9,16 +9,18 @@ use ddf_header::encode;
 use std::alloc::Global;
 
 /// How the copies of a disk are written.
-#[derive(Clone, Copy, Debug, PartialEq, Eq)]
+#[derive(Clone, Copy, PartialEq, Eq)]
 pub enum Mode {
     /// Those of a disk that shows a copy: the one that isn't the newest, and then the other.
     Change,
     /// Those of a disk without an anchor: both, and then the anchor.
     Found,
+    /// Those of a disk that shows another group: the one that isn't the newest, then the anchor, and then the other.
+    Adopt,
 }
 
 /// Every sector of one disk's update, and where it is written.
-#[derive(Debug, Drop)]
+#[derive(Drop)]
 pub struct Prepared {
     /// How the copies are written.
     pub mode: Mode,
@@ -28,7 +30,7 @@ pub struct Prepared {
     pub second: Gate,
     /// The sections of both.
     pub runs: Seq<Run>,
-    /// The anchor, which only a founding writes.
+    /// The anchor, which a change doesn't write.
     pub anchor: Sector,
 }
 
@@ -58,7 +60,7 @@ fn written_first(mode: Mode, last: Which) -> Which
     ensures { result ≡ written_first mode last }
 {
     match mode {
-        Mode::Change => last.other(),
+        Mode::Change | Mode::Adopt => last.other(),
         Mode::Found => Which::Primary,
     }
 }

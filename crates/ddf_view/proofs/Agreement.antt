@@ -18,7 +18,7 @@ use Rattle.ddf_config.specs.declared.array.Array.{Array}
 use Rattle.ddf_config.specs.Configuration.{Configuration}
 use Rattle.ddf_config.specs.declared.member.SpareUse.TheVariants as spares
 use Rattle.std.specs.Cmp.Lexicographic.{pointwise}
-use Rattle.ddf_view.specs.View.{View, Held, is_element, is_missing, find_held, find_note, has_bit}
+use Rattle.ddf_view.specs.View.{View, HeldRecord, is_element, is_missing, find_held, find_note, has_bit}
 use Rattle.ddf_view.specs.Reading.{elements_in, are_noted, plan_of, element_in, naming_record, count_in, secondary_in, array_in, records_of, is_associated, is_dedicated, dedicated_or_not, spare_in, member_in, read}
 use Rattle.ddf_view.specs.Shows.{same_flag, same_position, same_plan, gives_member, gives_array, gives_element, gives_if_held, least_element, names_numbers, gives_numbers, gives_elements, shows, holds, holds_all, gives_spare, shows_fully}
 use Rattle.ddf_view.specs.Readable.{IsReadable, AreReadable, HasNotes}
@@ -33,7 +33,7 @@ none_of None h = refl
 none_of (Some x) h = absurd (false≢true h)
 
 -- a record isn't held of an element that is None
-none_held : (o : Option Held) → option_map_or (λ held. gives_element held None) o true ≡ true → o ≡ None
+none_held : (o : Option HeldRecord) → option_map_or (λ held. gives_element held None) o true ≡ true → o ≡ None
 none_held None h = refl
 none_held (Some held) h = absurd (false≢true h)
 
@@ -63,10 +63,10 @@ held_at entry view i plan has at =
     subst (λ (n : ℕ). holds view.elements entry.0 (n, plan) ≡ true) here
     (list_all_at (holds view.elements entry.0) 0 entry.1.elements i plan has at)
 
-append_first : (array : List ℕ) (i : ℕ) (xs ys : List Held) (held : Held) → find_held array i xs ≡ Some held → find_held array i (xs ++ ys) ≡ Some held
+append_first : (array : List ℕ) (i : ℕ) (xs ys : List HeldRecord) (held : HeldRecord) → find_held array i xs ≡ Some held → find_held array i (xs ++ ys) ≡ Some held
 append_first array i xs ys held h = find-append (is_element array i) xs ys ∙ ap (λ o. option_or o (find_held array i ys)) h
 
-append_second : (array : List ℕ) (i : ℕ) (xs ys : List Held) → find_held array i xs ≡ None → find_held array i ys ≡ None → find_held array i (xs ++ ys) ≡ None
+append_second : (array : List ℕ) (i : ℕ) (xs ys : List HeldRecord) → find_held array i xs ≡ None → find_held array i ys ≡ None → find_held array i (xs ++ ys) ≡ None
 append_second array i xs ys h k = find-append (is_element array i) xs ys ∙ ap (λ o. option_or o (find_held array i ys)) h ∙ k
 
 -- the same record is found in all views as in the first
@@ -74,7 +74,7 @@ same_held : (entry : List ℕ × Array) (view : View) (views : List View) → Gi
     → (i : ℕ) (plan : Option ElementPlan) → slice_get entry.1.elements i ≡ Some plan → find_held entry.0 i (elements_in (view ∷ views)) ≡ find_held entry.0 i view.elements
 same_held entry view views gives has others i plan at = go (find_held entry.0 i view.elements) refl plan at
   where
-    go : (o : Option Held) → find_held entry.0 i view.elements ≡ o → (plan : Option ElementPlan) → slice_get entry.1.elements i ≡ Some plan → find_held entry.0 i (elements_in (view ∷ views)) ≡ find_held entry.0 i view.elements
+    go : (o : Option HeldRecord) → find_held entry.0 i view.elements ≡ o → (plan : Option ElementPlan) → slice_get entry.1.elements i ≡ Some plan → find_held entry.0 i (elements_in (view ∷ views)) ≡ find_held entry.0 i view.elements
     go (Some held) e plan at = append_first entry.0 i view.elements (elements_in views) held e ∙ sym e
     go None e None at =
         let all = all_map (Gives entry) (λ one. find_held entry.0 i one.elements ≡ None) (λ one given. none_at entry one i given at) views others in
@@ -86,20 +86,20 @@ same_held entry view views gives has others i plan at = go (find_held entry.0 i 
 -- ---- how many elements there are
 
 -- the record that names the numbers, in all views as in the first
-pub record IsNamed (entry : List ℕ × Array) (elements : List Held) : Type 0 where
+pub record IsNamed (entry : List ℕ × Array) (elements : List HeldRecord) : Type 0 where
   pub count : count_in elements entry.0 ≡ length entry.1.elements
   pub level : secondary_in elements entry.0 ≡ entry.1.secondary
 
-named_by : (entry : List ℕ × Array) (elements : List Held) (held : Held) → naming_record elements entry.0 ≡ Some held → held.element.elements ≡ length entry.1.elements → held.element.secondary ≡ entry.1.secondary → IsNamed entry elements
+named_by : (entry : List ℕ × Array) (elements : List HeldRecord) (held : HeldRecord) → naming_record elements entry.0 ≡ Some held → held.element.elements ≡ length entry.1.elements → held.element.secondary ≡ entry.1.secondary → IsNamed entry elements
 named_by entry elements held h count level = record {
-  count = ap (λ o. option_map_or (λ (one : Held). one.element.elements) o 1) h ∙ count;
-  level = ap (λ o. option_map_or (λ (one : Held). one.element.secondary) o 0) h ∙ level;
+  count = ap (λ o. option_map_or (λ (one : HeldRecord). one.element.elements) o 1) h ∙ count;
+  level = ap (λ o. option_map_or (λ (one : HeldRecord). one.element.secondary) o 0) h ∙ level;
 }
 
-named_by_none : (entry : List ℕ × Array) (elements : List Held) → naming_record elements entry.0 ≡ None → entry.1.elements ≡ None ∷ [] → entry.1.secondary ≡ 0 → IsNamed entry elements
+named_by_none : (entry : List ℕ × Array) (elements : List HeldRecord) → naming_record elements entry.0 ≡ None → entry.1.elements ≡ None ∷ [] → entry.1.secondary ≡ 0 → IsNamed entry elements
 named_by_none entry elements h alone plain = record {
-  count = ap (λ o. option_map_or (λ (one : Held). one.element.elements) o 1) h ∙ sym (ap (λ (plans : List (Option ElementPlan)). length plans) alone);
-  level = ap (λ o. option_map_or (λ (one : Held). one.element.secondary) o 0) h ∙ sym plain;
+  count = ap (λ o. option_map_or (λ (one : HeldRecord). one.element.elements) o 1) h ∙ sym (ap (λ (plans : List (Option ElementPlan)). length plans) alone);
+  level = ap (λ o. option_map_or (λ (one : HeldRecord). one.element.secondary) o 0) h ∙ sym plain;
 }
 
 numbers_of : (entry : List ℕ × Array) (view : View) (pair : ℕ × Option ElementPlan) → Gives entry view → least_element entry.1.elements ≡ Some pair → names_numbers view.elements entry pair ≡ true
@@ -113,11 +113,11 @@ no_records entry view gives least =
     let none : is_none (naming_record view.elements entry.0) ≡ true = rw least at parts.0 in
     none_of (naming_record view.elements entry.0) none
 
-record_is : (elements : List Held) (array : List ℕ) → naming_record elements array ≡ first_of (map (λ index. find_held array index elements) (range_with_len 0 16))
+record_is : (elements : List HeldRecord) (array : List ℕ) → naming_record elements array ≡ first_of (map (λ index. find_held array index elements) (range_with_len 0 16))
 unfolding naming_record
 record_is elements array = refl
 
-some_there : (o : Option Held) → is_some o ≡ true → (held : Held) × (o ≡ Some held)
+some_there : (o : Option HeldRecord) → is_some o ≡ true → (held : HeldRecord) × (o ≡ Some held)
 some_there None h = absurd (false≢true h)
 some_there (Some held) h = (held, refl)
 
@@ -172,7 +172,7 @@ note_there None h = absurd (false≢true h)
 note_there (Some note) h = (note, refl)
 
 -- with a note the states of the disks don't count
-plan_noted : (disks : List DiskEntry) (note : SlotNote) (held : Held) → held.note ≡ Some note → (plan : ElementPlan) → gives_element held (Some plan) ≡ true → plan_of disks (Some note) held.element ≡ plan
+plan_noted : (disks : List DiskEntry) (note : SlotNote) (held : HeldRecord) → held.note ≡ Some note → (plan : ElementPlan) → gives_element held (Some plan) ≡ true → plan_of disks (Some note) held.element ≡ plan
 unfolding plan_of
 plan_noted disks note held has plan gives =
     let same : same_plan same_position (plan_of [] (Some note) held.element) plan ≡ true = rw has at gives in
@@ -192,7 +192,7 @@ element_read disks entry view views noted gives has others i (Some plan) at =
     let noted_is : find_note entry.0 i all ≡ Some note.0 = note_found entry.0 i view.elements (elements_in views) held note.0 there.1 note.1 in
     let given : gives_element held (Some plan) ≡ true = rw there.1 at (given_at entry view i (Some plan) gives at) in
     let is : plan_of disks (Some note.0) held.element ≡ plan = plan_noted disks note.0 held note.1 plan given in
-    ap (λ o. option_map (λ (one : Held). plan_of disks (find_note entry.0 i all) one.element) o) found
+    ap (λ o. option_map (λ (one : HeldRecord). plan_of disks (find_note entry.0 i all) one.element) o) found
     ∙ ap (λ o. Some (plan_of disks o held.element)) noted_is
     ∙ ap (λ (p : ElementPlan). Some p) is
 
@@ -260,7 +260,7 @@ dedicated_same entry view views reference row noted can gives has others is =
     ap (λ (g : List ℕ). records_of (elements_in (view ∷ views)) g) guid ∙ records_same entry view views can gives has others
     ∙ sym (ap (λ (g : List ℕ). records_of (elements_in (view ∷ [])) g) guid) in
     dedicated_noted (view ∷ views) reference row some_noted
-    ∙ ap (λ (held : List Held). list_any (λ one. list_any (λ spare. eqb spare reference) one.element.spares) held || false) records
+    ∙ ap (λ (held : List HeldRecord). list_any (λ one. list_any (λ spare. eqb spare reference) one.element.spares) held || false) records
     ∙ sym (dedicated_noted (view ∷ []) reference row one_noted)
 
 each_first : {X Y : Type 0} (m : X → Y → Bool) (P : Y → Type 0) (Q : X → Type 0) → ((x : X) (y : Y) → m x y ≡ true → P y → Q x) → (xs : List X) (ys : List Y) → pointwise m xs ys ≡ true → AllByRecursion P ys → AllByRecursion Q xs

@@ -7,7 +7,7 @@ use Rattle.std.specs.Option.{option_or}
 use Rattle.std.specs.List.{AllByRecursion, enumerate_from, list_all, range_with_len}
 use Rattle.ddf_configs.specs.declared.notes.SlotNote.{SlotNote}
 use Rattle.ddf_config.specs.ElementValue.{ElementValue as ElementPlan}
-use Rattle.ddf_view.specs.View.{View, Held, is_element, find_held, find_note}
+use Rattle.ddf_view.specs.View.{View, HeldRecord, is_element, find_held, find_note}
 use Rattle.ddf_view.specs.Reading.{elements_in}
 
 pub when_true : {X : Type 0} (b : Bool) (x y : X) → b ≡ true → cond b x y ≡ x
@@ -26,7 +26,7 @@ find_has P t (y ∷ ys) x all h = go (find_has P t ys x all.1) (t y) refl
     go later false e = later (sym (when_false (t y) (Some y) (find t ys) e) ∙ h)
 
 -- the note of the first record is the first note
-pub note_found : (array : List ℕ) (index : ℕ) (xs ys : List Held) (held : Held) (note : SlotNote) → find_held array index xs ≡ Some held → held.note ≡ Some note
+pub note_found : (array : List ℕ) (index : ℕ) (xs ys : List HeldRecord) (held : HeldRecord) (note : SlotNote) → find_held array index xs ≡ Some held → held.note ≡ Some note
     → find_note array index (xs ++ ys) ≡ Some note
 note_found array index [] ys held note h n = absurd cc
 note_found array index (x ∷ xs) ys held note h n = go (λ found. note_found array index xs ys held note found n) (is_element array index x) refl
@@ -35,7 +35,7 @@ note_found array index (x ∷ xs) ys held note h n = go (λ found. note_found ar
     go later true e =
         let got : Some x ≡ Some held = sym (when_true (is_element array index x) (Some x) (find_held array index xs) e) ∙ h in
         let same : x ≡ held = cc in
-        let has : x.note ≡ Some note = ap (λ (one : Held). one.note) same ∙ n in
+        let has : x.note ≡ Some note = ap (λ (one : HeldRecord). one.note) same ∙ n in
         rw (e, has) refl
     go later false e =
         let rest = later (sym (when_false (is_element array index x) (Some x) (find_held array index xs) e) ∙ h) in

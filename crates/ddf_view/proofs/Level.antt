@@ -25,7 +25,7 @@ use Rattle.ddf_copy.specs.declared.copy.DiskCopy.{DiskCopy}
 use Rattle.ddf_copy.specs.Shows.{IsSame}
 use Rattle.ddf_copy.specs.Written.{counted, slot_counted, disks_written, arrays_written, disk_data_written}
 use Rattle.ddf_copy.proofs.LevelCopies.{level_from}
-use Rattle.ddf_view.specs.View.{View, Held, view_of, disk_of, array_of, element_of, spare_of, held_of, held_from, first_spare, note_at, notes_of}
+use Rattle.ddf_view.specs.View.{View, HeldRecord, view_of, disk_of, array_of, element_of, spare_of, held_of, held_from, first_spare, note_at, notes_of}
 use Rattle.ddf_view.specs.Readings.{IsAsRead}
 
 -- ---- lists of which each item is counted alike
@@ -174,7 +174,7 @@ says_alike f none geometry count listed a b room first second same =
 ok_same : {T E : Type 0} (a b : T) (r : Result T E) → r ≡ Ok a → r ≡ Ok b → a ≡ b
 ok_same {T = T} {E = E} a b r h k = let one : Result T E = Ok a in let got : one ≡ Ok b = sym h ∙ k in cc
 
-make_view : (group : List ℕ) (sequence : ℕ) (data_ : DiskData) (disks : TableValue DiskRow) (arrays : TableValue ArrayRow) (elements : List Held) (notes : Option Notes) (spare : Option SpareRecord) → View
+make_view : (group : List ℕ) (sequence : ℕ) (data_ : DiskData) (disks : TableValue DiskRow) (arrays : TableValue ArrayRow) (elements : List HeldRecord) (notes : Option Notes) (spare : Option SpareRecord) → View
 make_view group sequence data_ disks arrays elements notes spare = record {
   group = group;
   sequence = sequence;
@@ -229,7 +229,7 @@ level_views one other read also geometry same =
     ∙ ap (λ (x : DiskData). make_view other.header.guid other.header.sequence x one.disks one.arrays (held_from (notes_of one) 0 one.slots) (notes_of one) (first_spare one.slots)) data_
     ∙ ap (λ (x : TableValue DiskRow). make_view other.header.guid other.header.sequence other.disk_data x one.arrays (held_from (notes_of one) 0 one.slots) (notes_of one) (first_spare one.slots)) disks
     ∙ ap (λ (x : TableValue ArrayRow). make_view other.header.guid other.header.sequence other.disk_data other.disks x (held_from (notes_of one) 0 one.slots) (notes_of one) (first_spare one.slots)) arrays
-    ∙ ap (λ (x : List Held). make_view other.header.guid other.header.sequence other.disk_data other.disks other.arrays x (notes_of one) (first_spare one.slots)) elements
+    ∙ ap (λ (x : List HeldRecord). make_view other.header.guid other.header.sequence other.disk_data other.disks other.arrays x (notes_of one) (first_spare one.slots)) elements
     ∙ ap (λ (x : Option Notes). make_view other.header.guid other.header.sequence other.disk_data other.disks other.arrays (held_from (notes_of other) 0 other.slots) x (first_spare one.slots)) notes
     ∙ ap (λ (x : Option SpareRecord). make_view other.header.guid other.header.sequence other.disk_data other.disks other.arrays (held_from (notes_of other) 0 other.slots) (notes_of other) x) spare in
     made

@@ -4,7 +4,7 @@ use Rattle.std.specs.List.{cons_option, range_with_len}
 use Rattle.std.proofs.lemmas.List.Folds.{find-append}
 use Rattle.std.specs.Option.{option_or}
 use Rattle.ddf_bytes.specs.Choices.{first_of}
-use Rattle.ddf_view.specs.View.{View, Held, element_of, held_from, key_of_slot, note_at, is_element, find_held, find_note, note_of}
+use Rattle.ddf_view.specs.View.{View, HeldRecord, element_of, held_from, key_of_slot, note_at, is_element, find_held, find_note, note_of}
 use Rattle.ddf_view.specs.Differ.{key_of}
 use Rattle.ddf_configs.specs.ElementValue.{ElementValue}
 use Rattle.ddf_configs.specs.declared.notes.Notes.{Notes}
@@ -19,7 +19,7 @@ or_or : {X : Type 0} (a b c : Option X) → option_or a (option_or b c) ≡ opti
 or_or None b c = refl
 or_or (Some x) b c = refl
 
-note-append : (array : List ℕ) (index : ℕ) (xs ys : List Held) → find_note array index (xs ++ ys) ≡ option_or (find_note array index xs) (find_note array index ys)
+note-append : (array : List ℕ) (index : ℕ) (xs ys : List HeldRecord) → find_note array index (xs ++ ys) ≡ option_or (find_note array index xs) (find_note array index ys)
 note-append array index [] ys = refl
 note-append array index (x ∷ xs) ys =
     ap (λ o. option_or (note_of array index x) o) (note-append array index xs ys)

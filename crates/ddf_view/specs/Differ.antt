@@ -11,7 +11,7 @@ use Rattle.ddf_tables.specs.declared.disks.DiskEntry.{DiskEntry}
 use Rattle.ddf_tables.specs.declared.arrays.ArrayEntry.{ArrayEntry}
 use Rattle.ddf_configs.specs.declared.place.Place.{Place}
 use Rattle.ddf_configs.specs.ElementValue.{ElementValue}
-use Rattle.ddf_view.specs.View.{View, Held, find_held}
+use Rattle.ddf_view.specs.View.{View, HeldRecord, find_held}
 use Rattle.ddf_view.specs.Reading.{plan_of}
 use Rattle.ddf_view.specs.Shows.{same_position, same_plan}
 use Rattle.ddf_view.specs.declared.difference.Difference.{Difference}
@@ -29,11 +29,11 @@ same_disk one other =
     && one.1.size == other.1.size
 
 -- a disk with its place among the used entries
-abbrev pub placed_disk : (reference : ℕ) → List DiskEntry → Option (ℕ × DiskEntry)
-placed_disk reference disks = find (λ pair. pair.1.reference == reference) (enumerate_from 0 disks)
+abbrev pub numbered_disk : (reference : ℕ) → List DiskEntry → Option (ℕ × DiskEntry)
+numbered_disk reference disks = find (λ pair. pair.1.reference == reference) (enumerate_from 0 disks)
 
 abbrev pub disk_differs : (one other : List DiskEntry) → (reference : ℕ) → Bool
-disk_differs one other reference = not (option_eq same_disk (placed_disk reference one) (placed_disk reference other))
+disk_differs one other reference = not (option_eq same_disk (numbered_disk reference one) (numbered_disk reference other))
 
 abbrev pub differing_disks : (one other : List DiskEntry) → List ℕ
 differing_disks one other = filter (disk_differs one other) (map (λ disk. disk.reference) (one ++ other))
@@ -45,11 +45,11 @@ same_array one other =
     one.0 == other.0 && one.1.number == other.1.number && one.1.state == other.1.state && one.1.init == other.1.init
     && bytes_eq one.1.name other.1.name
 
-abbrev pub placed_array : (guid : List ℕ) → List ArrayEntry → Option (ℕ × ArrayEntry)
-placed_array guid arrays = find (λ pair. bytes_eq pair.1.guid guid) (enumerate_from 0 arrays)
+abbrev pub numbered_array : (guid : List ℕ) → List ArrayEntry → Option (ℕ × ArrayEntry)
+numbered_array guid arrays = find (λ pair. bytes_eq pair.1.guid guid) (enumerate_from 0 arrays)
 
 abbrev pub array_differs : (one other : List ArrayEntry) → (guid : List ℕ) → Bool
-array_differs one other guid = not (option_eq same_array (placed_array guid one) (placed_array guid other))
+array_differs one other guid = not (option_eq same_array (numbered_array guid one) (numbered_array guid other))
 
 abbrev pub differing_arrays : (one other : List ArrayEntry) → List (List ℕ)
 differing_arrays one other = filter (array_differs one other) (map (λ entry. entry.guid) (one ++ other))
@@ -67,29 +67,29 @@ same_record one other =
     && one.blocks == other.blocks && one.size == other.size && bytes_eq one.spares other.spares && pointwise same_member_place one.members other.members
 
 -- Where both have valid notes, the positions in sync and the rebuild rows are compared too.
-abbrev pub same_notes : Held → Held → Bool
+abbrev pub same_notes : HeldRecord → HeldRecord → Bool
 same_notes one other = is_none one.note || is_none other.note || same_plan same_position (plan_of [] one.note one.element) (plan_of [] other.note other.element)
 
-abbrev pub same_held : Held → Held → Bool
+abbrev pub same_held : HeldRecord → HeldRecord → Bool
 same_held one other = same_record one.element other.element && same_notes one other
 
-abbrev pub held_differ : Option Held → Option Held → Bool
+abbrev pub held_differ : Option HeldRecord → Option HeldRecord → Bool
 held_differ None other = false
 held_differ (Some one) None = false
 held_differ (Some one) (Some other) = not (same_held one other)
 
 -- both hold an element, and differ in it
-abbrev pub element_differs : (one other : List Held) → (List ℕ × ℕ) → Bool
+abbrev pub element_differs : (one other : List HeldRecord) → (List ℕ × ℕ) → Bool
 element_differs one other key = held_differ (find_held key.0 key.1 one) (find_held key.0 key.1 other)
 
-abbrev pub key_of : Held → List ℕ × ℕ
+abbrev pub key_of : HeldRecord → List ℕ × ℕ
 key_of held = (held.element.array, held.element.index)
 
 -- by the bytes of the GUID, then by the place among the elements
 abbrev pub key_cmp : (List ℕ × ℕ) → (List ℕ × ℕ) → Ordering
 key_cmp one other = ordering_then (slice_cmp nat_cmp one.0 other.0) (nat_cmp one.1 other.1)
 
-abbrev pub differing_elements : (one other : List Held) → List (List ℕ × ℕ)
+abbrev pub differing_elements : (one other : List HeldRecord) → List (List ℕ × ℕ)
 differing_elements one other = filter (element_differs one other) (map key_of one)
 
 -- ---- all

@@ -17,7 +17,7 @@ use Rattle.ddf_config.specs.declared.element.Position.{Position}
 use Rattle.ddf_config.specs.declared.array.Array.{Array}
 use Rattle.ddf_config.specs.ElementValue.{ElementValue as ElementPlan}
 use Rattle.ddf_config.specs.Configuration.{Configuration}
-use Rattle.ddf_view.specs.View.{View, Held, has_bit, is_missing, find_disk, find_held, find_note}
+use Rattle.ddf_view.specs.View.{View, HeldRecord, has_bit, is_missing, find_disk, find_held, find_note}
 
 -- ---- what is there to read
 
@@ -31,7 +31,7 @@ arrays_in [] = []
 arrays_in (view ∷ views) = view.arrays
 
 -- the records that count are those of all views
-abbrev pub elements_in : List View → List Held
+abbrev pub elements_in : List View → List HeldRecord
 elements_in views = flat_map (λ view. view.elements) views
 
 abbrev pub are_noted : List View → Bool
@@ -69,23 +69,23 @@ plan_of disks note element = record {
   positions = map (λ pair. position_of disks note pair.0 pair.1) (enumerate_from 0 element.members);
 }
 
-abbrev pub element_in : List DiskEntry → List Held → (array : List ℕ) → (index : ℕ) → Option ElementPlan
+abbrev pub element_in : List DiskEntry → List HeldRecord → (array : List ℕ) → (index : ℕ) → Option ElementPlan
 element_in disks elements array index = option_map (λ held. plan_of disks (find_note array index elements) held.element) (find_held array index elements)
 
 -- ---- an array
 
 -- The record of the least element that is held: it names how many there are, and the secondary level. There are at most 16 (profile).
-unfoldable pub naming_record : List Held → (array : List ℕ) → Option Held
+unfoldable pub naming_record : List HeldRecord → (array : List ℕ) → Option HeldRecord
 naming_record elements array = first_of (map (λ index. find_held array index elements) (range_with_len 0 16))
 
 -- How many elements the array has. Where none is held it has one, of which no disk tells.
-abbrev pub count_in : List Held → (array : List ℕ) → ℕ
+abbrev pub count_in : List HeldRecord → (array : List ℕ) → ℕ
 count_in elements array = option_map_or (λ held. held.element.elements) (naming_record elements array) 1
 
-abbrev pub secondary_in : List Held → (array : List ℕ) → ℕ
+abbrev pub secondary_in : List HeldRecord → (array : List ℕ) → ℕ
 secondary_in elements array = option_map_or (λ held. held.element.secondary) (naming_record elements array) 0
 
-unfoldable pub array_in : List DiskEntry → List Held → ArrayEntry → Array
+unfoldable pub array_in : List DiskEntry → List HeldRecord → ArrayEntry → Array
 array_in disks elements entry = record {
   name = entry.name;
   number = entry.number;
@@ -98,11 +98,11 @@ array_in disks elements entry = record {
 -- ---- spares
 
 -- the records of an array's elements, without those past their number
-abbrev pub records_of : List Held → (array : List ℕ) → List Held
+abbrev pub records_of : List HeldRecord → (array : List ℕ) → List HeldRecord
 records_of elements array = filter_map (λ index. find_held array index elements) (range_with_len 0 (count_in elements array))
 
 -- an element of the array lists the disk among its associated spares
-abbrev pub is_associated : List Held → (reference : ℕ) → (array : List ℕ) → Bool
+abbrev pub is_associated : List HeldRecord → (reference : ℕ) → (array : List ℕ) → Bool
 is_associated elements reference array = list_any (λ held. list_any (λ spare. spare == reference) held.element.spares) (records_of elements array)
 
 -- A view is that of the disk, and its spare record names the array.

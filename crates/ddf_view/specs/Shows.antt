@@ -15,7 +15,7 @@ use Rattle.ddf_config.specs.declared.element.Position.{Position}
 use Rattle.ddf_config.specs.declared.array.Array.{Array}
 use Rattle.ddf_config.specs.ElementValue.{ElementValue as ElementPlan}
 use Rattle.ddf_config.specs.Configuration.{Configuration}
-use Rattle.ddf_view.specs.View.{View, Held, is_missing, find_held}
+use Rattle.ddf_view.specs.View.{View, HeldRecord, is_missing, find_held}
 use Rattle.ddf_view.specs.Reading.{plan_of, naming_record, spare_in}
 
 -- ---- the same, field by field
@@ -66,11 +66,11 @@ same_if_noted None = same_place
 same_if_noted (Some note) = same_position
 
 -- A record gives an element.
-abbrev pub gives_element : Held → Option ElementPlan → Bool
+abbrev pub gives_element : HeldRecord → Option ElementPlan → Bool
 gives_element held None = false
 gives_element held (Some plan) = same_plan (same_if_noted held.note) (plan_of [] held.note held.element) plan
 
-abbrev pub gives_if_held : List Held → (array : List ℕ) → (ℕ × Option ElementPlan) → Bool
+abbrev pub gives_if_held : List HeldRecord → (array : List ℕ) → (ℕ × Option ElementPlan) → Bool
 gives_if_held elements array pair = option_map_or (λ held. gives_element held pair.1) (find_held array pair.0 elements) true
 
 -- the least element that isn't None
@@ -78,19 +78,19 @@ abbrev pub least_element : List (Option ElementPlan) → Option (ℕ × Option E
 least_element plans = find (λ pair. is_some pair.1) (enumerate_from 0 plans)
 
 -- The record of an array's least element, where it is held, names how many there are and the secondary level.
-abbrev pub names_numbers : List Held → (List ℕ × Array) → (ℕ × Option ElementPlan) → Bool
+abbrev pub names_numbers : List HeldRecord → (List ℕ × Array) → (ℕ × Option ElementPlan) → Bool
 names_numbers elements entry pair = option_map_or (λ held. held.element.elements == length entry.1.elements && held.element.secondary == entry.1.secondary)
     (find_held entry.0 pair.0 elements) true
 
 -- Of an array without any element no record is held, of whatever element.
-abbrev pub gives_numbers_of : List Held → (List ℕ × Array) → Option (ℕ × Option ElementPlan) → Bool
+abbrev pub gives_numbers_of : List HeldRecord → (List ℕ × Array) → Option (ℕ × Option ElementPlan) → Bool
 gives_numbers_of elements entry None = is_none (naming_record elements entry.0)
 gives_numbers_of elements entry (Some pair) = names_numbers elements entry pair
 
-abbrev pub gives_numbers : List Held → (List ℕ × Array) → Bool
+abbrev pub gives_numbers : List HeldRecord → (List ℕ × Array) → Bool
 gives_numbers elements entry = gives_numbers_of elements entry (least_element entry.1.elements)
 
-abbrev pub gives_elements : List Held → (List ℕ × Array) → Bool
+abbrev pub gives_elements : List HeldRecord → (List ℕ × Array) → Bool
 gives_elements elements entry = gives_numbers elements entry && list_all (gives_if_held elements entry.0) (enumerate_from 0 entry.1.elements)
 
 -- The view shows the configuration.
@@ -103,11 +103,11 @@ shows config view =
 
 -- ---- fully
 
-abbrev pub holds : List Held → (array : List ℕ) → (ℕ × Option ElementPlan) → Bool
+abbrev pub holds : List HeldRecord → (array : List ℕ) → (ℕ × Option ElementPlan) → Bool
 holds elements array pair = is_none pair.1 || is_some (find_held array pair.0 elements)
 
 -- it holds every complete element
-abbrev pub holds_all : List Held → (List ℕ × Array) → Bool
+abbrev pub holds_all : List HeldRecord → (List ℕ × Array) → Bool
 holds_all elements entry = list_all (holds elements entry.0) (enumerate_from 0 entry.1.elements)
 
 abbrev pub gives_spare : View → DiskEntry → (ℕ × Member) → Bool

@@ -26,7 +26,7 @@ has_bit bits place = bit_at bits place == 1
 
 -- ---- a record that counts, with its note where there are valid notes
 
-pub record Held : Type 0 where
+pub record HeldRecord : Type 0 where
   pub element : ElementValue
   pub note : Option SlotNote
 
@@ -47,11 +47,11 @@ element_of (slots.Unused bytes) = None
 abbrev pub key_of_slot : RecordSlot → Option (List ℕ × ℕ)
 key_of_slot slot = option_map (λ element. (element.array, element.index)) (element_of slot)
 
-abbrev pub held_of : Option Notes → (slot : ℕ) → RecordSlot → Option Held
+abbrev pub held_of : Option Notes → (slot : ℕ) → RecordSlot → Option HeldRecord
 held_of notes at slot = option_map (λ element. record { element = element; note = note_at notes at }) (element_of slot)
 
 -- those of the slots from a place on
-abbrev pub held_from : Option Notes → (slot : ℕ) → List RecordSlot → List Held
+abbrev pub held_from : Option Notes → (slot : ℕ) → List RecordSlot → List HeldRecord
 held_from notes at [] = []
 held_from notes at (slot ∷ slots) = cons_option (held_of notes at slot) (held_from notes (at + 1) slots)
 
@@ -65,7 +65,7 @@ pub record View : Type 0 where
   pub reference : ℕ
   pub disks : List DiskEntry
   pub arrays : List ArrayEntry
-  pub elements : List Held
+  pub elements : List HeldRecord
   pub noted : Bool
   pub spare : Option (List (List ℕ))
 
@@ -102,7 +102,7 @@ disks_of copy = filter_map disk_of copy.disks.rows
 abbrev pub arrays_of : DiskCopy → List ArrayEntry
 arrays_of copy = filter_map array_of copy.arrays.rows
 
-abbrev pub elements_of : DiskCopy → List Held
+abbrev pub elements_of : DiskCopy → List HeldRecord
 elements_of copy = held_from (notes_of copy) 0 copy.slots
 
 unfoldable pub view_of : DiskCopy → View
@@ -145,21 +145,21 @@ lists_itself view = lists_current view view.guid view.reference
 
 -- ---- records in views
 
-abbrev pub is_element : (array : List ℕ) → (index : ℕ) → Held → Bool
+abbrev pub is_element : (array : List ℕ) → (index : ℕ) → HeldRecord → Bool
 is_element array index held = bytes_eq held.element.array array && held.element.index == index
 
 -- Of two records of one element the one of the lower slot counts, and of several disks that of the first.
-abbrev pub find_held : (array : List ℕ) → (index : ℕ) → List Held → Option Held
+abbrev pub find_held : (array : List ℕ) → (index : ℕ) → List HeldRecord → Option HeldRecord
 find_held array index elements = find (is_element array index) elements
 
 -- the record of a slot, where it counts and is that of an element
-abbrev pub held_at : Option Notes → (array : List ℕ) → (index slot : ℕ) → RecordSlot → Option Held
+abbrev pub held_at : Option Notes → (array : List ℕ) → (index slot : ℕ) → RecordSlot → Option HeldRecord
 held_at notes array index at slot = option_and_then (λ held. when (is_element array index held) held) (held_of notes at slot)
 
 -- the note of a record, where it is that of an element
-abbrev pub note_of : (array : List ℕ) → (index : ℕ) → Held → Option SlotNote
+abbrev pub note_of : (array : List ℕ) → (index : ℕ) → HeldRecord → Option SlotNote
 note_of array index held = option_and_then (λ one. one.note) (when (is_element array index held) held)
 
 -- the first note that is held of an element
-abbrev pub find_note : (array : List ℕ) → (index : ℕ) → List Held → Option SlotNote
+abbrev pub find_note : (array : List ℕ) → (index : ℕ) → List HeldRecord → Option SlotNote
 find_note array index elements = first_of (map (note_of array index) elements)

@@ -4,7 +4,7 @@ ghost use Rattle.std.specs.Ordering.{nat_cmp};
 ghost use Rattle.std.specs.Cmp.Lexicographic.{slice_cmp};
 ghost use Rattle.std.specs.Str.{bytes_eq};
 ghost use Rattle.ddf_view.specs.View.{array_of};
-ghost use Rattle.ddf_view.specs.Differ.{array_differs, differing_arrays, least, placed_array, same_array};
+ghost use Rattle.ddf_view.specs.Differ.{array_differs, differing_arrays, least, numbered_array, same_array};
 
 use ddf_bytes::Guid;
 use ddf_tables::{ArrayEntry, ArrayRow};
@@ -20,8 +20,8 @@ pub fn array_of(row: &ArrayRow) -> Option<ArrayEntry>
 }
 
 /// An array with its place among the used entries.
-fn placed_array(rows: &[ArrayRow], guid: &Guid) -> Option<(usize, ArrayEntry)>
-    ensures { result ≡ placed_array guid.now (filter_map array_of rows.now) }
+fn numbered_array(rows: &[ArrayRow], guid: &Guid) -> Option<(usize, ArrayEntry)>
+    ensures { result ≡ numbered_array guid.now (filter_map array_of rows.now) }
 {
     rows.iter()
         .filter_map(array_of)
@@ -43,7 +43,7 @@ fn same_array(one: &(usize, ArrayEntry), other: &(usize, ArrayEntry)) -> bool
 fn array_differs(one: &[ArrayRow], other: &[ArrayRow], guid: &Guid) -> bool
     ensures { result ≡ array_differs (filter_map array_of one.now) (filter_map array_of other.now) guid.now }
 {
-    match (placed_array(one, guid), placed_array(other, guid)) {
+    match (numbered_array(one, guid), numbered_array(other, guid)) {
         (Some(first), Some(second)) => !same_array(&first, &second),
         (None, None) => false,
         (Some(_), None) | (None, Some(_)) => true,

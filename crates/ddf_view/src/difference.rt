@@ -1,7 +1,7 @@
 use ddf_bytes::Guid;
 
 /// The least thing in which the copies of two disks of one group differ: disks come first, then arrays, then elements.
-#[derive(Clone, Copy, Debug, PartialEq, Eq)]
+#[derive(Clone, Copy, PartialEq, Eq)]
 pub enum Difference {
     /// The disk with this reference: in its GUID, type, state, size or place, or only one copy lists it.
     Disk(u32),

@@ -3,7 +3,7 @@ ghost use Rattle.std.specs.Prelude.{◌≡◌, ◌==◌, ◌&&◌, find, filter_
 ghost use Rattle.std.specs.Str.{bytes_eq};
 ghost use Rattle.std.specs.Ordering.{nat_cmp};
 ghost use Rattle.ddf_view.specs.View.{find_disk, disk_of};
-ghost use Rattle.ddf_view.specs.Differ.{placed_disk, same_disk, disk_differs, least, differing_disks};
+ghost use Rattle.ddf_view.specs.Differ.{numbered_disk, same_disk, disk_differs, least, differing_disks};
 
 use ddf_bytes::Guid;
 use ddf_tables::{DiskEntry, DiskRow};
@@ -37,8 +37,8 @@ pub(crate) fn find_entry(rows: &[DiskRow], guid: &Guid, reference: u32) -> Optio
 }
 
 /// A disk with its place among the used entries.
-pub(crate) fn placed_disk(rows: &[DiskRow], reference: u32) -> Option<(usize, DiskEntry)>
-    ensures { result ≡ placed_disk reference (filter_map disk_of rows.now) }
+pub(crate) fn numbered_disk(rows: &[DiskRow], reference: u32) -> Option<(usize, DiskEntry)>
+    ensures { result ≡ numbered_disk reference (filter_map disk_of rows.now) }
 {
     rows.iter()
         .filter_map(disk_of)
@@ -60,7 +60,10 @@ fn same_disk(one: &(usize, DiskEntry), other: &(usize, DiskEntry)) -> bool
 fn disk_differs(one: &[DiskRow], other: &[DiskRow], reference: u32) -> bool
     ensures { result ≡ disk_differs (filter_map disk_of one.now) (filter_map disk_of other.now) reference }
 {
-    match (placed_disk(one, reference), placed_disk(other, reference)) {
+    match (
+        numbered_disk(one, reference),
+        numbered_disk(other, reference),
+    ) {
         (Some(first), Some(second)) => !same_disk(&first, &second),
         (None, None) => false,
         (Some(_), None) | (None, Some(_)) => true,

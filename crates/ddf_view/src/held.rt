@@ -8,19 +8,19 @@ use ddf_configs::{Element, Notes, RecordSlot, SlotNote};
 use std::marker::Model;
 
 /// A record that counts, with its note where there are valid notes. Contracts see both without the references.
-#[derive(Debug, Drop)]
-pub struct Held<'a> {
+#[derive(Drop)]
+pub struct HeldRecord<'a> {
     /// The record.
     pub element: &'a Element,
     /// What is noted about it.
     pub note: Option<&'a SlotNote>,
 }
 
-impl<'a> Model for Held<'a> {
+impl<'a> Model for HeldRecord<'a> {
     ghost use Rattle.std.specs.Option.{option_copied};
     ghost use Rattle.ddf_view.specs.View as views;
 
-    ghost Value = { views.Held };
+    ghost Value = { views.HeldRecord };
 
     ghost view = { λ held. record { element = held.element.now; note = option_copied held.note } };
 }
@@ -66,12 +66,12 @@ fn held_at<'a>(
     slot: &'a RecordSlot,
     array: &Guid,
     index: usize,
-) -> Option<Held<'a>>
+) -> Option<HeldRecord<'a>>
     ensures { result ≡ held_at (option_copied notes.entry) array.now index place slot.now }
 {
     let element = element_of(slot)?;
     if element.array == *array && usize::from(element.index) == index {
-        Some(Held {
+        Some(HeldRecord {
             element,
             note: note_at(notes, place),
         })
@@ -102,7 +102,7 @@ pub(crate) fn find_held<'a>(
     slots: &'a [RecordSlot],
     array: &Guid,
     index: usize,
-) -> Option<Held<'a>>
+) -> Option<HeldRecord<'a>>
     ensures { result ≡ find_held array.now index (held_from (option_copied notes.entry) 0 slots.now) }
 {
     for (place, slot) in slots.iter().enumerate() {

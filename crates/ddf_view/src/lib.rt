@@ -22,7 +22,7 @@ pub use arrays::array_of;
 pub use difference::Difference;
 pub use differing::first_difference;
 pub use disks::find_disk;
-pub use held::{Held, element_of};
+pub use held::{HeldRecord, element_of};
 pub use laws::{level_copies_have_one_view, names_differ, views_give_what_they_show};
 pub use reading::read;
 pub use same::same_record;

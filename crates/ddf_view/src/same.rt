@@ -6,7 +6,7 @@ ghost use Rattle.std.specs.Option.{option_copied};
 ghost use Rattle.ddf_view.specs.Shows.{same_if_noted, same_place, same_plan, same_position};
 ghost use Rattle.ddf_view.specs.Differ.{same_held, same_notes, same_record};
 
-use crate::Held;
+use crate::HeldRecord;
 use crate::element_reading::plan_of;
 use ddf_config::{ElementPlan, Position};
 use ddf_configs::{Element, SlotNote};
@@ -95,7 +95,7 @@ pub fn same_record(one: &Element, other: &Element) -> bool
 }
 
 /// Whether two notes tell the same of the positions of their records, or one of them is missing.
-fn same_notes(one: &Held, other: &Held) -> bool
+fn same_notes(one: &HeldRecord, other: &HeldRecord) -> bool
     ensures { result ≡ same_notes one.now other.now }
 {
     one.note.is_none()
@@ -108,7 +108,7 @@ fn same_notes(one: &Held, other: &Held) -> bool
 }
 
 /// Whether two records of one element, with their notes, are the same.
-pub(crate) fn same_held(one: &Held, other: &Held) -> bool
+pub(crate) fn same_held(one: &HeldRecord, other: &HeldRecord) -> bool
     ensures { result ≡ same_held one.now other.now }
 {
     same_record(one.element, other.element) && same_notes(one, other)

@@ -23,7 +23,7 @@ use crate::element_reading::plan_of;
 use crate::flags::is_missing;
 use crate::same::same_plan;
 use crate::together::naming_record;
-use crate::{Held, View};
+use crate::{HeldRecord, View};
 use ddf_bytes::Guid;
 use ddf_config::{Array, Config, ElementPlan, Member};
 use ddf_tables::{ArrayEntry, ArrayRow, DiskEntry, DiskRow};
@@ -136,7 +136,7 @@ fn give_arrays(rows: &[ArrayRow], arrays: &IndexMap<Guid, Array>) -> bool
 }
 
 /// Whether a record gives an element.
-fn gives_element(held: &Held, part: &Option<ElementPlan>) -> bool
+fn gives_element(held: &HeldRecord, part: &Option<ElementPlan>) -> bool
     ensures { result ≡ gives_element held.now part.now }
 {
     match part {

@@ -4,7 +4,7 @@ ghost use Rattle.std.specs.Option.{option_copied};
 ghost use Rattle.ddf_view.specs.View.{array_of, disk_of, find_held, find_note};
 ghost use Rattle.ddf_view.specs.Reading.{are_noted, arrays_in, count_in, disks_in, elements_in, naming_record, secondary_in};
 
-use crate::{Held, View};
+use crate::{HeldRecord, View};
 use ddf_bytes::Guid;
 use ddf_configs::SlotNote;
 use ddf_tables::{ArrayRow, DiskRow};
@@ -40,7 +40,7 @@ pub(crate) fn are_noted(views: &[View]) -> bool
 }
 
 /// The record of an element, of the first view that holds it.
-pub fn find_held<'a>(views: &[View<'a>], array: &Guid, index: usize) -> Option<Held<'a>>
+pub fn find_held<'a>(views: &[View<'a>], array: &Guid, index: usize) -> Option<HeldRecord<'a>>
     ensures { result ≡ find_held array.now index (elements_in views.now) }
 {
     for view in views {
@@ -65,7 +65,7 @@ pub(crate) fn find_note<'a>(views: &[View<'a>], array: &Guid, index: usize) -> O
 
 /// The record of the least element that a view holds.
 #[tactic(auto, unfolding(crate::specs::Reading::naming_record))]
-pub(crate) fn naming_record<'a>(views: &[View<'a>], array: &Guid) -> Option<Held<'a>>
+pub(crate) fn naming_record<'a>(views: &[View<'a>], array: &Guid) -> Option<HeldRecord<'a>>
     ensures { result ≡ naming_record (elements_in views.now) array.now }
 {
     for index in 0..MOST_ELEMENTS {

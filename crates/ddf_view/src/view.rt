@@ -2,7 +2,7 @@
 ghost use Rattle.std.specs.Prelude.{◌≡◌, filter_map, map};
 ghost use Rattle.std.specs.Option.{option_copied};
 
-use crate::Held;
+use crate::HeldRecord;
 use crate::disks::find_entry;
 use crate::flags::is_missing;
 use crate::held::{find_held, find_note};
@@ -150,7 +150,7 @@ impl<'a> View<'a> {
     }
 
     /// The record that counts of an element of an array, with its note.
-    pub fn find_held(&self, array: &Guid, index: usize) -> Option<Held<'a>>
+    pub fn find_held(&self, array: &Guid, index: usize) -> Option<HeldRecord<'a>>
         ensures { result ≡ find_held array.now index self.now.elements }
     {
         find_held(self.notes, self.copy.slots.items(), array, index)

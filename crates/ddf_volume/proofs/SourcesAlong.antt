@@ -29,7 +29,7 @@ found_further : (found : Option Place) (x k : ℕ) → option_and_then (λ place
 found_further None x k = refl
 found_further (Some place) x k = lies_further place.synced place.slot place.start x k
 
-site_further : (places : List Place) (position x k : ℕ) → site_at places position (x + k) ≡ option_map (further k) (site_at places position x)
+pub site_further : (places : List Place) (position x k : ℕ) → site_at places position (x + k) ≡ option_map (further k) (site_at places position x)
 site_further places position x k = found_further (slice_get places position) x k
 
 -- ---- a row

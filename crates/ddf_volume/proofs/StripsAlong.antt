@@ -1,8 +1,9 @@
 -- The blocks of an array that are left of a strip lie side by side.
-use Rattle.std.proofs.Common.{◌≡◌, ◌∙◌, ◌⊎◌, ⊎_elim, ℕ, ◌+◌, ◌%◌, ◌<◌, ◌≤◌, List, [], ◌∷◌, false, Option, Some, None, length, slice_get, get_or, map, refl, sym, ap, subst, arith}
-use Rattle.std.specs.Prelude.{if◌then◌else◌}
+use Rattle.std.proofs.Common.{◌≡◌, ◌∙◌, ◌⊎◌, ⊎_elim, ℕ, ◌+◌, ◌%◌, ◌<◌, ◌≤◌, Bool, true, List, [], ◌∷◌, false, Option, Some, None, length, slice_get, get_or, map, refl, sym, ap, subst, arith}
+use Rattle.std.specs.Prelude.{◌==◌, ◌||◌, if◌then◌else◌}
 use Rattle.std.specs.List.{range_with_len, flat_map}
 use Rattle.std.specs.Option.{option_map}
+use Rattle.std.proofs.lemmas.Bool.{eqb-true}
 use Rattle.std.proofs.lemmas.Option.{slice_get-get_or, slice_get-map, slice_get_cases, get_or_from_slice_get}
 use Rattle.ddf_primary.specs.Cells.{cells, unit_of}
 use Rattle.ddf_secondary.specs.declared.element.ElementSize.{ElementSize}
@@ -90,14 +91,34 @@ module _ (v : Volume) (known : IsVolume v) (block : ℕ) (spot : Spot) (there : 
         (subst (AllMove v.parts of_element (g k) spot.block k) (sym (ap (λ b. if b then range_with_len 0 (length v.parts) else spot.element ∷ []) one))
         (by_found k below spot.element (slice_get v.parts spot.element) refl along, tt))
 
+  same_spot : (other : Spot) → slice_get (spots v.tiers) block ≡ Some other → spot ≡ other
+  same_spot other at = some_is (sym there ∙ at)
+    where
+      some_is : {a b : Spot} → Some a ≡ Some b → a ≡ b
+      some_is e = cc
+
+  spots_later : IsAlongAt v spot.element spot.block count → (k : ℕ) (other : Spot) → k < count → slice_get (spots v.tiers) block ≡ Some other → slice_get (spots v.tiers) (block + k) ≡ Some (spot_on other k)
+  spots_later along k other below at = subst (λ (s : Spot). slice_get (spots v.tiers) (block + k) ≡ Some (spot_on s k)) (same_spot other at) (later k below along)
+
+  of_one : (element : ℕ) (other : Spot) (every : Bool) → every ≡ false → slice_get (spots v.tiers) block ≡ Some other → (every || other.element == element) ≡ true
+      → IsAlongAt v spot.element spot.block count → IsAlongAt v element other.block count
+  of_one element other true is at like along = absurd (cc)
+  of_one element other false is at like along =
+      subst (λ (e : ℕ). IsAlongAt v e other.block count) (eqb-true other.element element like)
+      (subst (λ (s : Spot). IsAlongAt v s.element s.block count) (same_spot other at) along)
+
   pub every_along : ((element : ℕ) → IsAlongAt v element spot.block count) → LieAlong v block count
   every_along along = record {
+    spots_are = spots_later (along spot.element);
+    cells_are = λ element other at like. subst (λ (s : Spot). IsAlongAt v element s.block count) (same_spot other at) (along element);
     copies_are = λ k below. in_every element_copies further copies_further k below along;
     rows_are = λ k below. in_every element_rows (λ n. map (further n)) rows_further k below along;
   }
 
   pub one_along : is_in_every v.tiers.level ≡ false → IsAlongAt v spot.element spot.block count → LieAlong v block count
   one_along one along = record {
+    spots_are = spots_later along;
+    cells_are = λ element other at like. of_one element other (is_in_every v.tiers.level) one at like along;
     copies_are = λ k below. in_one element_copies further copies_further k below one along;
     rows_are = λ k below. in_one element_rows (λ n. map (further n)) rows_further k below one along;
   }

@@ -5,7 +5,7 @@ use Rattle.ddf_array.specs.Volume.{Volume, capacity}
 use Rattle.ddf_array.specs.Within.{is_within}
 use Rattle.ddf_array.specs.Sources.{first_copy}
 use Rattle.ddf_volume.specs.declared.fault.VolumeFault.{VolumeFault}
-use Rattle.ddf_volume.specs.declared.fault.VolumeFault.TheVariants.{Range, Lost, Unsure, Disk}
+use Rattle.ddf_volume.specs.declared.fault.VolumeFault.TheVariants.{Range, Lost, Unsure, Degraded, Disk}
 use Rattle.ddf_volume.specs.Given.{NoneLeftIn}
 
 -- a block has no available cell
@@ -29,5 +29,6 @@ abbrev pub IsReadFault : (failed : ℕ → Type 0) → Volume → (start count :
 IsReadFault failed volume start count (Range most) = read_refusal volume start count ≡ Some (Range most)
 IsReadFault failed volume start count Lost = read_refusal volume start count ≡ Some Lost
 IsReadFault failed volume start count Unsure = read_refusal volume start count ≡ Some Unsure
+IsReadFault failed volume start count Degraded = ⊥
 IsReadFault failed volume start count (Disk slot) =
     (read_refusal volume start count ≡ None) × NoneLeftIn failed volume start count slot

@@ -1,5 +1,5 @@
-/// Why blocks can't be read.
-#[derive(Clone, Copy, Debug, PartialEq, Eq)]
+/// Why blocks of an array can't be read or written.
+#[derive(Clone, Copy, PartialEq, Eq)]
 pub enum VolumeFault {
     /// The range passes the capacity, which is this.
     Range(u64),
@@ -7,6 +7,9 @@ pub enum VolumeFault {
     Lost,
     /// Only parity has a block, and the array is marked as not consistent.
     Unsure,
-    /// No source of a block is left: each has a slot of which a read failed, and this is such a slot of the first.
+    /// An element that keeps parity lacks a position, so what is written has no parity.
+    Degraded,
+    /// No source of a block is left: each has a slot of which a read failed, and this is such a slot of the first. Or a
+    /// write or sync of this slot failed.
     Disk(usize),
 }

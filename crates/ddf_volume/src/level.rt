@@ -5,14 +5,14 @@ ghost use Rattle.ddf_array.specs.Levels.{is_on_every, keeps_parity};
 use ddf_primary::Layout;
 
 /// The level that holds each block on every position.
-pub(crate) fn is_on_every(layout: Layout) -> bool
+pub fn is_on_every(layout: Layout) -> bool
     ensures { result ≡ is_on_every layout }
 {
     matches!(layout, Layout::Raid1)
 }
 
 /// The levels that keep parity of each row.
-pub(crate) fn keeps_parity(layout: Layout) -> bool
+pub fn keeps_parity(layout: Layout) -> bool
     ensures { result ≡ keeps_parity layout }
 {
     matches!(layout, Layout::Parity(_))

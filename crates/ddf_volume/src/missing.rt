@@ -12,12 +12,15 @@ use ddf_array::{Part, View};
 
 /// A cell that the other cells of its row give.
 #[derive(Clone, Copy)]
-pub(crate) struct MissingCell {
-    pub(crate) element: usize,
-    pub(crate) position: usize,
-    pub(crate) sector: u64,
+pub struct MissingCell {
+    /// The number of the element.
+    pub element: usize,
+    /// The number of the position in it.
+    pub position: usize,
+    /// The sector of the position's extent.
+    pub sector: u64,
     /// How many sectors from it on are left of its strip.
-    pub(crate) left: u64,
+    pub left: u64,
 }
 
 /// The cell of a block of an element, if its row gives it.
@@ -69,7 +72,7 @@ fn missing_at_each(view: &View, block: u64) -> Option<MissingCell>
 }
 
 /// The first cell of a block that its row gives. None where the block has no row.
-pub(crate) fn first_missing(view: &View, block: u64) -> Option<MissingCell>
+pub fn first_missing(view: &View, block: u64) -> Option<MissingCell>
     requires { block < capacity view.now }
     ensures { MatchOption result (slice_get (rows view.now block) 0 ≡ None) (IsMissingAt view.now (slice_get (rows view.now block) 0)) }
 {

@@ -26,14 +26,14 @@ fn other_site(part: &Part, position: usize, sector: u64, other: usize) -> Option
 }
 
 /// A sector of zeros.
-fn blank() -> Sector
+pub fn blank() -> Sector
     ensures { result ≡ zeros }
 {
     [0; 512]
 }
 
 /// Makes each sector zeros.
-fn clear(into: &mut [Sector])
+pub fn clear(into: &mut [Sector])
     ensures { (k : ℕ) → k < length into.old → slice_index_or into.new k [] ≡ zeros }
 {
     for at in 0..into.len() {
@@ -42,7 +42,7 @@ fn clear(into: &mut [Sector])
 }
 
 /// Adds each sector to the one beside it.
-fn add_each(into: &mut [Sector], from: &[Sector])
+pub fn add_each(into: &mut [Sector], from: &[Sector])
     requires { length into.old ≡ length from.now }
     ensures { (k : ℕ) → k < length into.old → slice_index_or into.new k [] ≡ xor (slice_index_or into.old k []) (slice_index_or from.now k []) }
 {
@@ -80,7 +80,7 @@ fn add_from<B: Bay>(
 
 /// Reads the sums of the other cells of neighbouring rows from a sector on, position by position. After a failure, the
 /// slot that failed.
-pub(crate) fn sum_rows<B: Bay>(
+pub fn sum_rows<B: Bay>(
     bay: &mut B,
     part: &Part,
     position: usize,
@@ -110,7 +110,7 @@ pub(crate) fn sum_rows<B: Bay>(
 }
 
 /// Reads the sum of the other cells of a row, if all are available. After a failure, the slot that failed.
-pub(crate) fn read_row<B: Bay>(
+pub fn read_row<B: Bay>(
     bay: &mut B,
     part: &Part,
     position: usize,

@@ -24,7 +24,7 @@ pub(crate) fn read_site<B: Bay>(bay: &mut B, site: Site, into: &mut Sector) -> R
 }
 
 /// Reads neighbouring sectors of a slot in one call, from the first on. After a failure, their slot.
-pub(crate) fn read_from<B: Bay>(bay: &mut B, first: Site, into: &mut [Sector]) -> Result<(), usize>
+pub fn read_from<B: Bay>(bay: &mut B, first: Site, into: &mut [Sector]) -> Result<(), usize>
     requires some { 0 < length into.old }
     requires slot { first.slot < length (B.disks bay.old).sizes }
     requires sectors { first.lba + length into.old ≤ slice_index (B.disks bay.old).sizes first.slot }
@@ -41,7 +41,7 @@ pub(crate) fn read_from<B: Bay>(bay: &mut B, first: Site, into: &mut [Sector]) -
 }
 
 /// Reads a sector, if it is there. After a failure, its slot.
-pub(crate) fn try_site<B: Bay>(
+pub fn try_site<B: Bay>(
     bay: &mut B,
     site: Option<Site>,
     into: &mut Sector,

@@ -9,7 +9,7 @@ use crate::strip::left_in_strip;
 use ddf_array::{Site, View};
 
 /// Whether a sector lies so many behind another one, on its slot.
-fn lies_behind(found: Option<Site>, first: Site, ahead: u64) -> bool
+pub fn lies_behind(found: Option<Site>, first: Site, ahead: u64) -> bool
     ensures yes { result ≡ true → found ≡ Some (site_on first.slot (first.lba + ahead)) }
     ensures no { result ≡ false → found ≢ Some (site_on first.slot (first.lba + ahead)) }
 {

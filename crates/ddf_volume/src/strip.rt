@@ -9,7 +9,7 @@ use ddf_array::{Part, View};
 use ddf_primary::Layout;
 
 /// The sectors of a strip.
-fn strip_of(part: &Part) -> u64
+pub fn strip_of(part: &Part) -> u64
     requires { IsPart part.now }
     ensures { result ≡ part.now.shape.strip }
 {
@@ -89,7 +89,7 @@ fn left_of_strip(view: &View, block: u64) -> u64
 }
 
 /// How many of so many blocks from one on are left of its strip: their sources lie side by side.
-pub(crate) fn left_in_strip(view: &View, block: u64, most: usize) -> usize
+pub fn left_in_strip(view: &View, block: u64, most: usize) -> usize
     requires some { 0 < most }
     requires blocks { block + most ≤ capacity view.now }
     ensures some { 0 < result }

@@ -1,14 +1,16 @@
 -- Where the words of commands over a whole array go wrong.
 use Rattle.std.proofs.Common.{◌≡◌, ◌+◌, ◌<◌, ℕ, List, [], ◌∷◌, None, codes, length, drop, refl, ap, arith}
 use Rattle.std.specs.Fmt.{decimal}
-use Rattle.ddf_words.proofs.Commands.{create, create_names, delete, delete_names}
+use Rattle.ddf_words.proofs.Commands.{create_names, delete_names}
 use Rattle.ddf_words.proofs.Elements.{elements_met}
 use Rattle.ddf_words.proofs.Fields.{Fields, Ends, IsMet, ends_met, field_met, lacks_field, behind_field, more_words}
 use Rattle.ddf_words.proofs.Names.{a_name, a_plain_name}
 use Rattle.ddf_words.proofs.Numbers.{zero_number}
 use Rattle.ddf_words.proofs.Places.{wrong_behind}
+use Rattle.ddf_words.proofs.Wishes.{create, delete}
 use Rattle.ddf_words.specs.Words.{Word, AreElements, GoWrongAt, IsGroupCommand, IsLevel, IsName, IsNumber, IsPlainName, IsSecondary, LacksAt, StandsAt}
-use Rattle.ddf_words.specs.declared.command.Command.TheVariants.{Create, Delete}
+use Rattle.ddf_words.specs.declared.command.Command.TheVariants.{Change}
+use Rattle.ddf_words.specs.declared.command.Wish.TheVariants.{Create, Delete}
 
 -- ---- `delete`
 
@@ -20,7 +22,7 @@ are_delete : (words : List Word) → AreName words → IsGroupCommand (delete �
 are_delete [] are = absurd are
 are_delete (name ∷ others) are =
     let ends : others ≡ [] = are.1 in
-    record { command = Delete name; takes_one = refl; spells = record { parts = rw ends refl; is_name = are.0 } }
+    record { command = Change (Delete name); takes_one = refl; spells = record { parts = rw ends refl; is_name = are.0 } }
 
 delete_are : (words : List Word) → IsGroupCommand (delete ∷ words) → AreName words
 delete_are words is =
@@ -67,7 +69,14 @@ are_create (name ∷ level ∷ code ∷ secondary ∷ others) are =
     let is_secondary = are.1.1.1.0 in
     let are_elements = are.1.1.1.1 in
     record {
-      command = Create name is_level.level.0 is_level.level.1 is_code.number is_secondary.secondary are_elements.elements;
+      command = Change (Create (record {
+        name = name;
+        level = is_level.level.0;
+        qualifier = is_level.level.1;
+        code = is_code.number;
+        secondary = is_secondary.secondary;
+        elements = are_elements.elements;
+      }));
       takes_one = refl;
       spells = record {
         level_word = level;
@@ -85,15 +94,16 @@ are_create (name ∷ level ∷ code ∷ secondary ∷ others) are =
 create_are : (words : List Word) → IsGroupCommand (create ∷ words) → AreArray words
 create_are words is =
     let named = create_names words is.command is.spells in
-    let spells = named.spells in
-    let parts : words ≡ named.name ∷ spells.level_word ∷ decimal named.code ∷ spells.secondary_word ∷ spells.rest = ap (drop 1) spells.parts in
+    let creation = named.0 in
+    let spells = named.1 in
+    let parts : words ≡ creation.name ∷ spells.level_word ∷ decimal creation.code ∷ spells.secondary_word ∷ spells.rest = ap (drop 1) spells.parts in
     rw parts (
       spells.is_name,
       (
-        record { level = (named.level, named.qualifier); says = spells.is_level },
+        record { level = (creation.level, creation.qualifier); says = spells.is_level },
         (
-          record { number = named.code; spells = record { spelled = refl; within = spells.code_within } },
-          (record { secondary = named.secondary; says = spells.is_secondary }, record { elements = named.elements; spell = spells.are_elements }),
+          record { number = creation.code; spells = record { spelled = refl; within = spells.code_within } },
+          (record { secondary = creation.secondary; says = spells.is_secondary }, record { elements = creation.elements; spell = spells.are_elements }),
         ),
       ),
     )

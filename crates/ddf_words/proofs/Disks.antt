@@ -1,14 +1,16 @@
 -- Where the words of commands over the disk of a slot go wrong.
 use Rattle.std.proofs.Common.{◌≡◌, ◌≢◌, ◌+◌, ◌<◌, ℕ, List, [], ◌∷◌, codes, length, drop, refl, ap, arith}
 use Rattle.std.specs.Fmt.{decimal}
-use Rattle.ddf_words.proofs.Commands.{fail, fail_names, spare, spare_begins, spare_name, spare_names, unlike}
+use Rattle.ddf_words.proofs.Commands.{fail_names, spare_names}
 use Rattle.ddf_words.proofs.Fields.{Fields, Ends, ends_met, field_met, lacks_field, behind_field, more_words}
 use Rattle.ddf_words.proofs.Numbers.{zero_number}
 use Rattle.ddf_words.proofs.Places.{wanting_words, wrong_behind, wrong_word}
+use Rattle.ddf_words.proofs.Wishes.{fail, spare, spare_begins, spare_name, unlike}
 use Rattle.ddf_words.specs.Words.{Word, AreNames, AreSpareWords, Begins, GoWrongAt, IsGroupCommand, IsNumber, LacksAt, SpellsSpare, StandsAt}
-use Rattle.ddf_words.specs.declared.command.Command.TheVariants.{Fail, Spare}
+use Rattle.ddf_words.specs.declared.command.Command.TheVariants.{Change}
 use Rattle.ddf_words.specs.declared.command.SpareWord.{SpareWord}
 use Rattle.ddf_words.specs.declared.command.SpareWord.TheVariants as spares
+use Rattle.ddf_words.specs.declared.command.Wish.TheVariants.{Fail, Spare}
 
 abbrev IsSlot : Word → Type 0
 IsSlot word = IsNumber 63 word
@@ -24,7 +26,7 @@ are_fail [] are = absurd are
 are_fail (slot ∷ others) are =
     let ends : others ≡ [] = are.1 in
     record {
-      command = Fail are.0.number;
+      command = Change (Fail are.0.number);
       takes_one = refl;
       spells = record { parts = rw (are.0.spells.spelled, ends) refl; slot_within = are.0.spells.within };
     }
@@ -109,7 +111,7 @@ AreSlotAndUse words = Fields (IsSlot ∷ []) AreSpareWords words
 are_spare : (words : List Word) → AreSlotAndUse words → IsGroupCommand (spare ∷ words)
 are_spare [] are = absurd are
 are_spare (slot ∷ others) are = record {
-  command = Spare are.0.number are.1.word;
+  command = Change (Spare are.0.number are.1.word);
   takes_one = refl;
   spells = record { rest = others; parts = rw are.0.spells.spelled refl; slot_within = are.0.spells.within; spells = are.1.spells };
 }

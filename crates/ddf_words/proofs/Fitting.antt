@@ -1,13 +1,15 @@
 -- How large the parts of a command are that words spell.
 use Rattle.std.proofs.Common.{ℕ, ◌≤◌, List, [], ◌∷◌, length, Option, Some, None, arith}
 use Rattle.std.specs.List.{AllByRecursion}
-use Rattle.ddf_words.specs.Commands.{FitsCommand, FitsElement, FitsSpare}
-use Rattle.ddf_words.specs.Words.{Word, SpellElements, Spells, SpellsAsked, SpellsSpare}
+use Rattle.ddf_words.specs.Commands.{FitsCommand, FitsElement, FitsSpare, FitsWish}
+use Rattle.ddf_words.specs.Words.{Word, SpellElements, Spells, SpellsAsked, SpellsSpare, SpellsWish}
 use Rattle.ddf_words.specs.declared.command.Command.{Command}
-use Rattle.ddf_words.specs.declared.command.Command.TheVariants.{Examine, Label, Assemble, Read, Create, Delete, Spare, Fail}
+use Rattle.ddf_words.specs.declared.command.Command.TheVariants.{Examine, Label, Assemble, Read, Change}
 use Rattle.ddf_words.specs.declared.command.CreateElement.{CreateElement}
 use Rattle.ddf_words.specs.declared.command.SpareWord.{SpareWord}
 use Rattle.ddf_words.specs.declared.command.SpareWord.TheVariants as spares
+use Rattle.ddf_words.specs.declared.command.Wish.{Wish}
+use Rattle.ddf_words.specs.declared.command.Wish.TheVariants.{Create, Spare}
 
 fit_elements : (elements : List CreateElement) (words : List Word) → SpellElements elements words → AllByRecursion FitsElement elements
 fit_elements [] words spell = tt
@@ -32,22 +34,24 @@ fits_spare spares.Global words spells = tt
 fits_spare spares.Off words spells = tt
 fits_spare (spares.For names) words spells = spells.are_names.some
 
+fits_wish : (wish : Wish) (words : List Word) → SpellsWish wish words → FitsWish wish
+fits_wish (Create creation) words spells =
+    let few = few_elements creation.elements spells.rest spells.are_elements.spell in
+    record {
+      short = spells.is_name.few;
+      small = spells.code_within;
+      few = omega (arith, few, spells.are_elements.few);
+      each = fit_elements creation.elements spells.rest spells.are_elements.spell;
+    }
+fits_wish (Spare slot word) words spells = fits_spare word spells.rest spells.spells
+fits_wish other words spells = tt
+
 fits : (command : Command) (words : List Word) → Spells command words → FitsCommand command
 fits Examine words spells = tt
 fits (Label slots) words spells = tt
 fits Assemble words spells = tt
 fits (Read name start count) words spells = tt
-fits (Create name level qualifier code secondary elements) words spells =
-    let few = few_elements elements spells.rest spells.are_elements.spell in
-    record {
-      short = spells.is_name.few;
-      small = spells.code_within;
-      few = omega (arith, few, spells.are_elements.few);
-      each = fit_elements elements spells.rest spells.are_elements.spell;
-    }
-fits (Delete name) words spells = tt
-fits (Spare slot word) words spells = fits_spare word spells.rest spells.spells
-fits (Fail slot) words spells = tt
+fits (Change wish) words spells = fits_wish wish words spells
 
 -- the command that is asked for keeps within
 pub fits_command : (group : Option (List ℕ)) (command : Command) (words : List Word) → SpellsAsked group command words → FitsCommand command

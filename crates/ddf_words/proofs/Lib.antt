@@ -15,3 +15,4 @@ mod Grammar
 mod Names
 mod Numbers
 pub mod Finds
+mod Wishes

@@ -2,9 +2,10 @@
 use Rattle.std.proofs.Common.{◌≡◌, ◌≢◌, ℕ, ◌+◌, List, [], ◌∷◌, get_or, take, drop, refl, sym, ap, ◌∙◌, Option, Some, None, true, arith}
 use Rattle.hex.specs.Hex.{decode_of, encode_lower}
 use Rattle.hex.proofs.HexLemmas.{decode_of-encode_lower, decode_of-same}
-use Rattle.ddf_words.proofs.Commands.{examine, label, assemble, first_word, name_of, begins_with, not_at, no_words, examine_alone, label_names, assemble_alone, same_command, over_group}
+use Rattle.ddf_words.proofs.Commands.{examine, label, assemble, name_of, begins_with, not_at, no_words, examine_alone, label_names, assemble_alone, same_command, over_group}
+use Rattle.ddf_words.proofs.Wishes.{first_word}
 use Rattle.ddf_words.proofs.Places.{begins_itself, wrong_word, wanting_words, wrong_among, wrong_behind}
-use Rattle.ddf_words.specs.Commands.{takes_group}
+use Rattle.ddf_words.specs.Traits.{traits_of}
 use Rattle.ddf_words.specs.Words.{Word, NameSlots, Spells, NamesGroup, SpellOverGroup, SpellsAsked, IsCommand, IsGroupCommand, IsRequest, Begins, GoWrongAt}
 use Rattle.ddf_words.specs.declared.command.Command.{Command}
 use Rattle.ddf_words.specs.declared.command.Command.TheVariants.{Examine, Label, Assemble}
@@ -43,7 +44,7 @@ assemble_begins place = begins_itself IsGroupCommand (assemble ∷ []) place (re
 pub no_group_command : (words : List Word) → words ≡ [] → GoWrongAt IsGroupCommand words 0
 no_group_command words e = rw e (wanting_words IsGroupCommand [] (assemble_begins 0) (λ is. no_words is.command is.spells))
 
-pub other_group_command : (words rest : List Word) (name : Word) → words ≡ name ∷ rest → ((command : Command) → takes_group command ≡ true → name ≢ name_of command)
+pub other_group_command : (words rest : List Word) (name : Word) → words ≡ name ∷ rest → ((command : Command) → (traits_of command).takes_group ≡ true → name ≢ name_of command)
     → GoWrongAt IsGroupCommand words 0
 other_group_command words rest name e other = rw e (wrong_word IsGroupCommand (name ∷ rest) 0 (omega arith) (assemble_begins 0)
     (λ begun. other begun.goes_on.command begun.goes_on.takes_one (begins_with (name ∷ begun.more) begun.goes_on.command begun.goes_on.spells)))

@@ -1,2 +1,3 @@
+pub mod Traits
 pub mod Commands
 pub mod Words

@@ -9,11 +9,14 @@ use Rattle.hex.specs.Hex.{encode_lower}
 use Rattle.ddf_bytes.specs.Guids.{IsGuid}
 use Rattle.ddf_words.specs.declared.command.Asked.{Asked}
 use Rattle.ddf_words.specs.declared.command.Command.{Command}
-use Rattle.ddf_words.specs.declared.command.Command.TheVariants.{Examine, Label, Assemble, Read, Create, Delete, Spare, Fail}
+use Rattle.ddf_words.specs.declared.command.Command.TheVariants.{Examine, Label, Assemble, Read, Change}
 use Rattle.ddf_words.specs.declared.command.CreateElement.{CreateElement}
+use Rattle.ddf_words.specs.declared.command.Creation.{Creation}
 use Rattle.ddf_words.specs.declared.command.SpareWord.{SpareWord}
 use Rattle.ddf_words.specs.declared.command.SpareWord.TheVariants as spares
-use Rattle.ddf_words.specs.Commands.{takes_group}
+use Rattle.ddf_words.specs.declared.command.Wish.{Wish}
+use Rattle.ddf_words.specs.declared.command.Wish.TheVariants.{Create, Delete, Spare, Fail}
+use Rattle.ddf_words.specs.Traits.{traits_of}
 
 -- a word is its bytes
 abbrev pub Word : Type 0
@@ -161,16 +164,16 @@ pub record AreElementWords (elements : List CreateElement) (words : List Word) :
   pub spell : SpellElements elements words
 
 -- The words are `create`, a plain name, the words of the levels with the stripe size code between them, and elements.
-pub record SpellCreate (name : Word) (level qualifier code : ℕ) (secondary : Option ℕ) (elements : List CreateElement) (words : List Word) : Type 0 where
+pub record SpellCreate (creation : Creation) (words : List Word) : Type 0 where
   pub level_word : Word
   pub secondary_word : Word
   pub rest : List Word
-  pub parts : words ≡ codes "create" ∷ name ∷ level_word ∷ decimal code ∷ secondary_word ∷ rest
-  pub is_name : IsPlainName name
-  pub is_level : said_by level_rows level_word ≡ Some (level, qualifier)
-  pub code_within : code ≤ 15
-  pub is_secondary : said_by secondary_rows secondary_word ≡ Some secondary
-  pub are_elements : AreElementWords elements rest
+  pub parts : words ≡ codes "create" ∷ creation.name ∷ level_word ∷ decimal creation.code ∷ secondary_word ∷ rest
+  pub is_name : IsPlainName creation.name
+  pub is_level : said_by level_rows level_word ≡ Some (creation.level, creation.qualifier)
+  pub code_within : creation.code ≤ 15
+  pub is_secondary : said_by secondary_rows secondary_word ≡ Some creation.secondary
+  pub are_elements : AreElementWords creation.elements rest
 
 -- The words are `delete` and the name of an array.
 pub record SpellDelete (name : Word) (words : List Word) : Type 0 where
@@ -206,16 +209,20 @@ pub record SpellFail (slot : ℕ) (words : List Word) : Type 0 where
   pub parts : words ≡ codes "fail" ∷ decimal slot ∷ []
   pub slot_within : slot ≤ 63
 
--- the words of each command
+-- the words of each wish
+abbrev pub SpellsWish : Wish → List Word → Type 0
+SpellsWish (Create creation) words = SpellCreate creation words
+SpellsWish (Delete name) words = SpellDelete name words
+SpellsWish (Spare slot word) words = SpellSpare slot word words
+SpellsWish (Fail slot) words = SpellFail slot words
+
+-- and of each command
 abbrev pub Spells : Command → List Word → Type 0
 Spells Examine words = words ≡ codes "examine" ∷ []
 Spells (Label slots) words = SpellLabel slots words
 Spells Assemble words = words ≡ codes "assemble" ∷ []
 Spells (Read name start count) words = SpellRead name start count words
-Spells (Create name level qualifier code secondary elements) words = SpellCreate name level qualifier code secondary elements words
-Spells (Delete name) words = SpellDelete name words
-Spells (Spare slot word) words = SpellSpare slot word words
-Spells (Fail slot) words = SpellFail slot words
+Spells (Change wish) words = SpellsWish wish words
 
 -- The word is `@` and the 48 lower-case hexadecimal digits of the group's GUID.
 pub record NamesGroup (group : List ℕ) (word : Word) : Type 0 where
@@ -228,7 +235,7 @@ pub record SpellOverGroup (group : List ℕ) (command : Command) (words : List W
   pub others : List Word
   pub parts : words ≡ word ∷ others
   pub names_group : NamesGroup group word
-  pub takes_one : takes_group command ≡ true
+  pub takes_one : (traits_of command).takes_group ≡ true
   pub spells : Spells command others
 
 -- what stands behind the images and the dashes: the words of a command, and before them the group's where one is named
@@ -257,7 +264,7 @@ pub record IsCommand (words : List Word) : Type 0 where
 -- some command that takes a group is spelled so
 pub record IsGroupCommand (words : List Word) : Type 0 where
   pub command : Command
-  pub takes_one : takes_group command ≡ true
+  pub takes_one : (traits_of command).takes_group ≡ true
   pub spells : Spells command words
 
 -- some command is asked for so, behind the images and the dashes

@@ -1,9 +1,9 @@
 // The commands over a whole array.
 ghost use Rattle.std.specs.Prelude.{◌≡◌, ◌∷◌, ℕ, true, codes, drop, IfOk};
-ghost use Rattle.ddf_words.specs.Commands.{takes_group};
+ghost use Rattle.ddf_words.specs.Traits.{traits_of};
 ghost use Rattle.ddf_words.specs.Words.{words_of, Spells, IsGroupCommand, GoWrongAt};
 
-use crate::command::Command;
+use crate::command::{Command, Creation, Wish};
 use crate::element_words::elements_of;
 use crate::ends::ends_at;
 use crate::level_words::{level_at, secondary_at};
@@ -17,7 +17,7 @@ const MOST_CODE: u8 = 15;
 
 /// The command of words of which the first is `create`, or where they go wrong.
 pub(crate) fn create_of(alloc: Global, words: &[String]) -> Result<Command, WordFault>
-    ensures takes { IfOk result (λ command. takes_group command ≡ true) }
+    ensures takes { IfOk result (λ command. (traits_of command).takes_group ≡ true) }
     ensures found { IfOk result (λ command. Spells command (codes "create" ∷ drop 1 (words_of words.now))) }
     ensures place { (place : ℕ) → result ≡ Err (WordFault.Place place) → GoWrongAt IsGroupCommand (codes "create" ∷ drop 1 (words_of words.now)) place }
 {
@@ -26,14 +26,14 @@ pub(crate) fn create_of(alloc: Global, words: &[String]) -> Result<Command, Word
     let code = byte_at(words, 3, MOST_CODE)?;
     let secondary = secondary_at(words, 4)?;
     match elements_of(alloc, &words[5..]) {
-        Ok(elements) => Ok(Command::Create {
+        Ok(elements) => Ok(Command::Change(Wish::Create(Creation {
             name,
             level,
             qualifier,
             code,
             secondary,
             elements,
-        }),
+        }))),
         Err(WordFault::Place(place)) => Err(WordFault::Place(5 + place)),
         Err(WordFault::Memory) => Err(WordFault::Memory),
     }
@@ -41,11 +41,11 @@ pub(crate) fn create_of(alloc: Global, words: &[String]) -> Result<Command, Word
 
 /// The command of words of which the first is `delete`, or where they go wrong.
 pub(crate) fn delete_of(alloc: Global, words: &[String]) -> Result<Command, WordFault>
-    ensures takes { IfOk result (λ command. takes_group command ≡ true) }
+    ensures takes { IfOk result (λ command. (traits_of command).takes_group ≡ true) }
     ensures found { IfOk result (λ command. Spells command (codes "delete" ∷ drop 1 (words_of words.now))) }
     ensures place { (place : ℕ) → result ≡ Err (WordFault.Place place) → GoWrongAt IsGroupCommand (codes "delete" ∷ drop 1 (words_of words.now)) place }
 {
     let name = name_at(alloc, words, 1)?;
     ends_at(words, 2)?;
-    Ok(Command::Delete { name })
+    Ok(Command::Change(Wish::Delete { name }))
 }

@@ -1,6 +1,6 @@
 // The commands over the blocks of an array.
 ghost use Rattle.std.specs.Prelude.{◌≡◌, ◌∷◌, ℕ, true, codes, drop, IfOk};
-ghost use Rattle.ddf_words.specs.Commands.{takes_group};
+ghost use Rattle.ddf_words.specs.Traits.{traits_of};
 ghost use Rattle.ddf_words.specs.Words.{words_of, Spells, IsGroupCommand, GoWrongAt};
 
 use crate::command::Command;
@@ -12,7 +12,7 @@ use std::alloc::Global;
 
 /// The command of words of which the first is `read`, or where they go wrong.
 pub(crate) fn read_of(alloc: Global, words: &[String]) -> Result<Command, WordFault>
-    ensures takes { IfOk result (λ command. takes_group command ≡ true) }
+    ensures takes { IfOk result (λ command. (traits_of command).takes_group ≡ true) }
     ensures found { IfOk result (λ command. Spells command (codes "read" ∷ drop 1 (words_of words.now))) }
     ensures place { (place : ℕ) → result ≡ Err (WordFault.Place place) → GoWrongAt IsGroupCommand (codes "read" ∷ drop 1 (words_of words.now)) place }
 {

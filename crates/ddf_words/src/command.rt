@@ -3,7 +3,7 @@ ghost use Rattle.std.specs.Prelude.{◌≡◌};
 use ddf_bytes::{Guid, Seq};
 
 /// What the words ask for.
-#[derive(Debug, Drop)]
+#[derive(Drop)]
 pub struct Asked {
     /// The group that the command is to take, where the words name one.
     pub group: Option<Guid>,
@@ -12,7 +12,7 @@ pub struct Asked {
 }
 
 /// A command of the program.
-#[derive(Debug, Drop)]
+#[derive(Drop)]
 pub enum Command {
     /// Shows what the disks hold.
     Examine,
@@ -32,21 +32,15 @@ pub enum Command {
         /// How many blocks, at most 2^60.
         count: u64,
     },
+    /// Changes a group.
+    Change(Wish),
+}
+
+/// What a change of a group is asked for.
+#[derive(Drop)]
+pub enum Wish {
     /// Creates an array.
-    Create {
-        /// The name of the array: 1 to 16 bytes of 21 to 7E.
-        name: Seq<u8>,
-        /// The code of its primary level.
-        level: u8,
-        /// The qualifier of the level, 00 where the word of the level tells none.
-        qualifier: u8,
-        /// The stripe size code n, at most 15: strips of 2^n sectors.
-        code: u8,
-        /// The code of its secondary level, none where the words say `single`.
-        secondary: Option<u8>,
-        /// Its elements in their order, 1 to 16.
-        elements: Seq<CreateElement>,
-    },
+    Create(Creation),
     /// Deletes an array.
     Delete {
         /// The name of the array, as the words give it.
@@ -66,8 +60,25 @@ pub enum Command {
     },
 }
 
+/// An array that is to be created.
+#[derive(Drop)]
+pub struct Creation {
+    /// Its name: 1 to 16 bytes of 21 to 7E.
+    pub name: Seq<u8>,
+    /// The code of its primary level.
+    pub level: u8,
+    /// The qualifier of the level, 00 where the word of the level tells none.
+    pub qualifier: u8,
+    /// The stripe size code n, at most 15: strips of 2^n sectors.
+    pub code: u8,
+    /// The code of its secondary level, none where the words say `single`.
+    pub secondary: Option<u8>,
+    /// Its elements in their order, 1 to 16.
+    pub elements: Seq<CreateElement>,
+}
+
 /// What a disk is to be a spare for.
-#[derive(Debug, Drop)]
+#[derive(Drop)]
 pub enum SpareWord {
     /// All arrays of the group.
     Global,
@@ -78,59 +89,10 @@ pub enum SpareWord {
 }
 
 /// An element of an array that is to be created.
-#[derive(Debug, Drop)]
+#[derive(Drop)]
 pub struct CreateElement {
     /// The slots of its members in their order, 1 to 64 of them, each from 0 to 63. A slot may stand there twice.
     pub slots: Seq<u8>,
     /// How many blocks each member gives, 1 to 2^48.
     pub blocks: u64,
-}
-
-impl Command {
-    ghost use Rattle.ddf_words.specs.Commands.{makes_names, may_write, takes_group};
-
-    /// Whether it is done to one group, which the words may name.
-    pub fn takes_group(&self) -> bool
-        ensures { result ≡ takes_group self.now }
-    {
-        match self {
-            Command::Examine | Command::Label { .. } => false,
-            Command::Assemble
-            | Command::Read { .. }
-            | Command::Create { .. }
-            | Command::Delete { .. }
-            | Command::Spare { .. }
-            | Command::Fail { .. } => true,
-        }
-    }
-
-    /// Whether it may write to the disks.
-    pub fn may_write(&self) -> bool
-        ensures { result ≡ may_write self.now }
-    {
-        match self {
-            Command::Examine | Command::Read { .. } => false,
-            Command::Label { .. }
-            | Command::Assemble
-            | Command::Create { .. }
-            | Command::Delete { .. }
-            | Command::Spare { .. }
-            | Command::Fail { .. } => true,
-        }
-    }
-
-    /// Whether it makes new GUIDs, which takes chance.
-    pub fn makes_names(&self) -> bool
-        ensures { result ≡ makes_names self.now }
-    {
-        match self {
-            Command::Examine
-            | Command::Assemble
-            | Command::Read { .. }
-            | Command::Delete { .. }
-            | Command::Spare { .. }
-            | Command::Fail { .. } => false,
-            Command::Label { .. } | Command::Create { .. } => true,
-        }
-    }
 }

@@ -1,9 +1,9 @@
 // The commands over the disk of a slot.
 ghost use Rattle.std.specs.Prelude.{◌≡◌, ◌∷◌, ℕ, true, codes, drop, IfOk};
-ghost use Rattle.ddf_words.specs.Commands.{takes_group};
+ghost use Rattle.ddf_words.specs.Traits.{traits_of};
 ghost use Rattle.ddf_words.specs.Words.{words_of, Spells, SpellsSpare, AreSpareWords, IsGroupCommand, GoWrongAt};
 
-use crate::command::{Command, SpareWord};
+use crate::command::{Command, SpareWord, Wish};
 use crate::ends::ends_at;
 use crate::name_words::names_of;
 use crate::number_words::byte_at;
@@ -13,13 +13,13 @@ use std::alloc::Global;
 
 /// The command of words of which the first is `fail`, or where they go wrong.
 pub(crate) fn fail_of(words: &[String]) -> Result<Command, WordFault>
-    ensures takes { IfOk result (λ command. takes_group command ≡ true) }
+    ensures takes { IfOk result (λ command. (traits_of command).takes_group ≡ true) }
     ensures found { IfOk result (λ command. Spells command (codes "fail" ∷ drop 1 (words_of words.now))) }
     ensures place { (place : ℕ) → result ≡ Err (WordFault.Place place) → GoWrongAt IsGroupCommand (codes "fail" ∷ drop 1 (words_of words.now)) place }
 {
     let slot = byte_at(words, 1, LAST_SLOT)?;
     ends_at(words, 2)?;
-    Ok(Command::Fail { slot })
+    Ok(Command::Change(Wish::Fail { slot }))
 }
 
 /// What the words say that a disk is to be a spare for, or where they go wrong.
@@ -50,13 +50,13 @@ fn spare_word_of(alloc: Global, words: &[String]) -> Result<SpareWord, WordFault
 
 /// The command of words of which the first is `spare`, or where they go wrong.
 pub(crate) fn spare_of(alloc: Global, words: &[String]) -> Result<Command, WordFault>
-    ensures takes { IfOk result (λ command. takes_group command ≡ true) }
+    ensures takes { IfOk result (λ command. (traits_of command).takes_group ≡ true) }
     ensures found { IfOk result (λ command. Spells command (codes "spare" ∷ drop 1 (words_of words.now))) }
     ensures place { (place : ℕ) → result ≡ Err (WordFault.Place place) → GoWrongAt IsGroupCommand (codes "spare" ∷ drop 1 (words_of words.now)) place }
 {
     let slot = byte_at(words, 1, LAST_SLOT)?;
     match spare_word_of(alloc, &words[2..]) {
-        Ok(word) => Ok(Command::Spare { slot, word }),
+        Ok(word) => Ok(Command::Change(Wish::Spare { slot, word })),
         Err(WordFault::Place(place)) => Err(WordFault::Place(2 + place)),
         Err(WordFault::Memory) => Err(WordFault::Memory),
     }

@@ -12,7 +12,9 @@ mod name_words;
 mod number_words;
 mod request;
 mod slot_words;
+mod traits;
 mod words;
 
-pub use command::{Asked, Command, CreateElement, SpareWord};
+pub use command::{Asked, Command, CreateElement, Creation, SpareWord, Wish};
+pub use traits::Traits;
 pub use words::{MOST_IMAGES, WordFault, asked, image_paths, slot_paths};

@@ -1,6 +1,6 @@
 // The words behind the dashes: the name of a group where one is meant, and a command.
 ghost use Rattle.std.specs.Prelude.{◌≡◌, ℕ, List, true, string_bytes, IfOk, IfSome};
-ghost use Rattle.ddf_words.specs.Commands.{takes_group};
+ghost use Rattle.ddf_words.specs.Traits.{traits_of};
 ghost use Rattle.ddf_words.specs.Words.{words_of, NamesGroup, Spells, SpellsAsked, IsCommand, IsGroupCommand, IsRequest, GoWrongAt};
 
 use crate::array_words::{create_of, delete_of};
@@ -25,7 +25,7 @@ fn group_of(word: &String) -> Option<Guid>
 
 /// The command over a group that the words spell, or where they go wrong.
 fn group_command_of(alloc: Global, words: &[String]) -> Result<Command, WordFault>
-    ensures takes { IfOk result (λ command. takes_group command ≡ true) }
+    ensures takes { IfOk result (λ command. (traits_of command).takes_group ≡ true) }
     ensures found { IfOk result (λ command. Spells command (words_of words.now)) }
     ensures place { (place : ℕ) → result ≡ Err (WordFault.Place place) → GoWrongAt IsGroupCommand (words_of words.now) place }
 {

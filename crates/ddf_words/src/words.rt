@@ -11,7 +11,7 @@ use std::alloc::Global;
 pub const MOST_IMAGES: usize = 64;
 
 /// Why words are no command's.
-#[derive(Clone, Copy, Debug, PartialEq, Eq)]
+#[derive(Clone, Copy, PartialEq, Eq)]
 pub enum WordFault {
     /// The words go wrong at this place: so many of them are the most with which a good list of words begins.
     Place(usize),

@@ -1,8 +1,7 @@
-use Rattle.std.proofs.Common.{ap, sym}
-use Rattle.ddf_config.specs.Configuration.{Configuration}
+use Rattle.std.proofs.Common.{sym}
 use Rattle.ddf_rewrite.specs.Before.{before}
-use Rattle.ddf_assembly.specs.Trying.{CanBeHeldOn, CanBeLed}
-use Rattle.ddf_assembly.proofs.Following.{copies_are, step_follows}
+use Rattle.ddf_assembly.specs.Trying.{AreCopies, CanBeHeldOn, CanBeLed}
+use Rattle.ddf_assembly.proofs.Following.{step_follows}
 use Rattle.ddf_assembly.proofs.Leaders.{led_on}
 use Rattle.ddf_assembly.proofs.Lost.{lost_held}
 use Rattle.ddf_assembly.proofs.OneLength.{HasRoom, can_try_all, has_room}
@@ -14,7 +13,8 @@ make_step-requires-clause-can c =
     let room = has_room c.args.timestamp (before c.args.leaders.now) _ c.args.disks.now c.requires.room in
     let led : CanBeLed (before c.args.leaders.now) c.args.disks.now = rw (c.requires.leaders, c.requires.disks) (led_on group c.requires.assembled) in
     let held : CanBeHeldOn c.in_ok-next.next c.args.disks.now = rw (c.in_ok-next.ensures, c.requires.disks) (lost_held group c.requires.assembled) in
-    can_try_all (before c.args.leaders.now) c.in_ok-next.next c.args.disks.now (copies_are group.config c.args.disks.now c.requires.of_group) room.same led held
+    let are : AreCopies c.args.disks.now = rw c.requires.disks c.requires.assembled.are_copies in
+    can_try_all (before c.args.leaders.now) c.in_ok-next.next c.args.disks.now are room.same led held
 
 pub make_step-requires-clause-room : goal.make_step-requires-clause-room
 make_step-requires-clause-room c = rw c.in_ok-next.ensures (has_room c.args.timestamp (before c.args.leaders.now) _ c.args.disks.now c.requires.room).none
@@ -28,6 +28,6 @@ returns-clause-follows c =
     let room : HasRoom c.args.timestamp (before c.args.leaders.now) c.in_ok-next.next c.args.disks.now = rw c.in_ok-next.ensures (has_room c.args.timestamp (before c.args.leaders.now) _ c.args.disks.now c.requires.room) in
     let led : CanBeLed (before c.args.leaders.now) c.args.disks.now = rw (c.requires.leaders, c.requires.disks) (led_on group c.requires.assembled) in
     let held : CanBeHeldOn c.in_ok-next.next c.args.disks.now = rw (c.in_ok-next.ensures, c.requires.disks) (lost_held group c.requires.assembled) in
+    let are : AreCopies c.args.disks.now = rw c.requires.disks c.requires.assembled.are_copies in
     rw (sym c.requires.disks)
-    (step_follows c.args.timestamp c.ranges.timestamp.fits (before c.args.leaders.now) group.config c.in_ok-next.next c.args.disks.now
-    (ap (λ (config : Configuration). config.group) c.in_ok-next.ensures) c.requires.of_group led held room c.in_ok-step.step c.in_ok-step.ensures.step c.in_ok-step.ensures.prepared)
+    (step_follows c.args.timestamp c.ranges.timestamp.fits (before c.args.leaders.now) c.in_ok-next.next c.args.disks.now are led held room c.in_ok-step.step c.in_ok-step.ensures.step c.in_ok-step.ensures.prepared)

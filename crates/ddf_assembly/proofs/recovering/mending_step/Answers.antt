@@ -1,9 +1,7 @@
 use Rattle.std.proofs.Common.{◌≡◌, None}
-use Rattle.std.specs.List.{AllByRecursion}
 use Rattle.ddf_assembly.specs.declared.seated.Seated.{Seated}
 use Rattle.ddf_assembly.specs.Recovery.{full_mended, lags, leading}
 use Rattle.ddf_assembly.specs.Seated.{seated}
-use Rattle.ddf_assembly.specs.Trying.{IsOfGroup}
 use Rattle.ddf_assembly.proofs.Mended.{can_mend_all, made_copies, mending_follows, mending_room, where_kept}
 use Rattle.ddf_assembly.proofs.recovering.mending_step.Goals as goal
 
@@ -21,9 +19,8 @@ mended_disks-requires-clause-room c =
 pub step_with-requires : goal.step_with-requires
 step_with-requires c =
     let group = c.args.group.now in
-    let of_group : AllByRecursion (IsOfGroup group.config) (seated group) = rw c.requires.disks at c.requires.of_group in
     rw (c.in_ok-after.ensures, c.in_ok-config.ensures, c.config.ensures, c.requires.leaders, c.requires.disks)
-    (made_copies c.args.timestamp c.ranges.timestamp.fits group c.requires.assembled of_group c.requires.room)
+    (made_copies c.args.timestamp c.ranges.timestamp.fits group c.requires.assembled c.requires.room)
 
 pub returns-clause-step : goal.returns-clause-step
 returns-clause-step c = rw (c.in_ok-after.ensures, c.in_ok-config.ensures, c.config.ensures, c.requires.leaders, c.requires.disks) at c.in_ok-step.ensures.step
@@ -31,6 +28,5 @@ returns-clause-step c = rw (c.in_ok-after.ensures, c.in_ok-config.ensures, c.con
 pub returns-clause-follows : goal.returns-clause-follows
 returns-clause-follows c =
     let group = c.args.group.now in
-    let of_group : AllByRecursion (IsOfGroup group.config) (seated group) = rw c.requires.disks at c.requires.of_group in
-    mending_follows c.args.timestamp c.ranges.timestamp.fits group c.requires.assembled of_group c.requires.room c.in_ok-step.step
+    mending_follows c.args.timestamp c.ranges.timestamp.fits group c.requires.assembled c.requires.room c.in_ok-step.step
     (rw (c.in_ok-after.ensures, c.in_ok-config.ensures, c.config.ensures, c.requires.leaders, c.requires.disks) at c.in_ok-step.ensures.step) c.in_ok-step.ensures.prepared

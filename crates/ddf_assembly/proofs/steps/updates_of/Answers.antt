@@ -1,12 +1,12 @@
-use Rattle.std.proofs.Common.{List, sym, subst, take, ◌+◌}
+use Rattle.std.proofs.Common.{not, List, [], filter, sym, subst}
 use Rattle.ddf_update.specs.declared.prepared.Prepared.{Prepared}
+use Rattle.ddf_assembly.specs.declared.seated.Seated.{Seated}
+use Rattle.ddf_assembly.specs.Steps.{is_adopted}
 use Rattle.ddf_assembly.specs.Trying.{ArePrepared}
-use Rattle.ddf_assembly.proofs.Updates.{prepared_next}
+use Rattle.ddf_assembly.proofs.Updates.{none_prepared}
 use Rattle.ddf_assembly.proofs.steps.updates_of.Goals as goal
 
-pub loop-disk-preserved : goal.loop-disk-preserved
-loop-disk-preserved c =
-    let i = c.loop-disk.disk-index in
-    subst (λ (l : List Prepared). ArePrepared (take (i + 1) c.args.disks.now) l) (sym c.in_ok-push.ensures.items)
-    (prepared_next c.args.disks.now c.loop-disk.updates.items i c.disk-item.result c.in_ok-prepare.field-0 c.loop-disk-test.true c.disk-item.is
-    c.loop-disk.invariant c.in_ok-prepare.ensures)
+pub returns : goal.returns
+returns c =
+    let own = filter (λ (disk : Seated). not (is_adopted disk)) c.args.disks.now in
+    c.in_ok-put_updates-2.ensures own (c.in_ok-put_updates.ensures [] (subst (λ (l : List Prepared). ArePrepared [] l) (sym c.in_ok-updates.ensures.items) none_prepared))

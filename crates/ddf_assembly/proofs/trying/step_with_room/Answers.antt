@@ -1,10 +1,9 @@
 use Rattle.std.proofs.Common.{◌≡◌, List, None, sym, ap, subst, ◌∙◌}
 use Rattle.std.specs.List.{AllByRecursion}
-use Rattle.ddf_config.specs.Configuration.{Configuration}
 use Rattle.ddf_view.specs.View.{View}
 use Rattle.ddf_rewrite.specs.Before.{before}
 use Rattle.ddf_assembly.specs.declared.seated.Seated.{Seated}
-use Rattle.ddf_assembly.specs.Full.{full_on}
+use Rattle.ddf_assembly.specs.Full.{full_where_written}
 use Rattle.ddf_assembly.specs.Seated.{views_in}
 use Rattle.ddf_assembly.specs.Steps.{disks_after}
 use Rattle.ddf_assembly.specs.Trying.{CanTry}
@@ -25,7 +24,7 @@ make_step-requires-clause-can c =
 pub make_step-requires-clause-room : goal.make_step-requires-clause-room
 make_step-requires-clause-room c =
     let room = room_for c.args.timestamp c.args.config.now c.args.next c.args.disks.now c.args.change.now c.requires.next (sym c.in_ok-refusal.ensures ∙ c.in_default.is) in
-    subst (λ (views : List View). AllByRecursion (λ (disk : Seated). full_on (before views) c.args.next c.args.timestamp disk ≡ None) c.args.disks.now) (sym (c.deref-2.ensures.value ∙ c.in_ok-leaders.ensures)) room.none
+    subst (λ (views : List View). AllByRecursion (λ (disk : Seated). full_where_written (before views) c.args.next c.args.timestamp disk ≡ None) c.args.disks.now) (sym (c.deref-2.ensures.value ∙ c.in_ok-leaders.ensures)) room.none
 
 pub returns-clause-follows : goal.returns-clause-follows
 returns-clause-follows c =
@@ -33,6 +32,6 @@ returns-clause-follows c =
     let leaders = before (views_in c.args.disks.now) in
     let views = c.deref-2.ensures.value ∙ c.in_ok-leaders.ensures in
     let is = c.in_ok-step.ensures.step ∙ ap (λ (some : List View). record { config = c.args.next; disks = disks_after c.args.timestamp (before some) c.args.next c.args.disks.now }) views in
-    step_follows c.args.timestamp c.ranges.timestamp.fits leaders c.args.config.now c.args.next c.args.disks.now (ap (λ (config : Configuration). config.group) c.requires.next)
-    c.requires.changed.of_group (led_by_all c.args.disks.now (copies_are c.args.config.now c.args.disks.now c.requires.changed.of_group)) c.requires.held room
+    step_follows c.args.timestamp c.ranges.timestamp.fits leaders c.args.next c.args.disks.now
+    (copies_are c.args.config.now c.args.disks.now c.requires.changed.of_group) (led_by_all c.args.disks.now (copies_are c.args.config.now c.args.disks.now c.requires.changed.of_group)) c.requires.held room
     c.in_ok-step.step is c.in_ok-step.ensures.prepared

@@ -1,5 +1,5 @@
 use Rattle.std.proofs.Common.{arith}
-use Rattle.ddf_bay.specs.RecordLaws.{all_bytes_true}
+use Rattle.ddf_bay.specs.LoggedLaws.{all_bytes_true}
 use Rattle.ddf_bay.proofs.log.are_bytes.Goals as goal
 
 pub returns : goal.returns

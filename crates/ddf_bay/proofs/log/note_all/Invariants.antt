@@ -7,6 +7,6 @@ abbrev pub invariant-loop-at : goal.invariant-loop-at
 invariant-loop-at l = record {
   few : hash_map_len l.index ≤ l.at;
   room : hash_map_len l.initial.index + spare l.initial.index ≤ hash_map_len l.index + spare l.index;
-  finds : Finds (noted l.index) (take l.at l.records);
-  within : IsWithin (noted l.index) (take l.at l.records);
+  finds : Finds (noted l.index) (take l.at l.logged);
+  within : IsWithin (noted l.index) (take l.at l.logged);
 }

@@ -1,6 +1,6 @@
 use Rattle.ddf_stops.proofs.Founding.{founded_since}
-use Rattle.ddf_command.specs.Label.{label_slots}
-use Rattle.ddf_command.proofs.Chosen.{chosen_once}
+use Rattle.ddf_disk_commands.specs.Label.{label_slots}
+use Rattle.ddf_disk_commands.proofs.Chosen.{chosen_once}
 use Rattle.ddf_command.proofs.laws.a_label_begins_a_history.Goals as goal
 
 pub returns : goal.returns

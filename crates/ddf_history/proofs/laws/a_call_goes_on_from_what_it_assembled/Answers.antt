@@ -7,4 +7,4 @@ pub returns-clause-none_absent : goal.returns-clause-none_absent
 returns-clause-none_absent c = λ group past held scene readable number config assembled at kept sure none. cut_none_absent (groups group) (groups_are_sound group) past held scene readable number config assembled at kept sure none
 
 pub returns-clause-absent : goal.returns-clause-absent
-returns-clause-absent c = λ group past held scene readable number config loss assembled at kept sure own follow. loss_at (groups group) (groups_are_sound group) past held scene readable number config loss assembled at kept sure own follow
+returns-clause-absent c = λ group past held scene readable number config loss assembled at kept sure own follow remain. loss_at (groups group) (groups_are_sound group) past held scene readable number config loss assembled at kept sure own follow remain

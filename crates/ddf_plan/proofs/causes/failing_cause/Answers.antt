@@ -1,7 +1,6 @@
-use Rattle.std.proofs.Common.{◌≡◌, ◌∙◌, sym, ap}
+use Rattle.std.proofs.Common.{◌∙◌, sym, ap}
 use Rattle.ddf_config.specs.Refusals.{first_refusal}
-use Rattle.ddf_plan.specs.declared.change.Change.TheVariants.{Fail}
-use Rattle.ddf_plan.specs.Changes.{members_after}
+use Rattle.ddf_plan.specs.Members.{members_after}
 use Rattle.ddf_plan.specs.Causes.{causes}
 use Rattle.ddf_plan.specs.Fail.{fail_causes}
 use Rattle.ddf_plan.proofs.causes.failing_cause.Goals as goal

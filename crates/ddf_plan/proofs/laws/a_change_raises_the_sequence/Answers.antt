@@ -1,7 +1,7 @@
 use Rattle.std.proofs.Common.{◌≡◌, ◌+◌, ◌≤◌, ap, arith}
 use Rattle.ddf_config.specs.Configuration.{Configuration}
 use Rattle.ddf_plan.specs.Refusals.{greatest_sequence}
-use Rattle.ddf_plan.specs.Changes.{steps_of}
+use Rattle.ddf_plan.specs.Causes.{steps_of}
 use Rattle.ddf_plan.proofs.Afters.{is_changed, in_range, steps_taken}
 use Rattle.ddf_plan.proofs.laws.a_change_raises_the_sequence.Goals as goal
 

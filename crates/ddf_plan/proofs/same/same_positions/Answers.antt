@@ -1,6 +1,5 @@
 use Rattle.std.proofs.Common.{◌∙◌}
-use Rattle.std.specs.Option.{option_eq}
-use Rattle.ddf_plan.specs.Same.{same_position, same_element}
+use Rattle.ddf_plan.specs.Same.{same_position}
 use Rattle.ddf_plan.proofs.Zips.{zip_matches}
 use Rattle.ddf_plan.proofs.same.same_positions.Goals as goal
 

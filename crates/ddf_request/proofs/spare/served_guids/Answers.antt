@@ -1,5 +1,5 @@
 use Rattle.std.proofs.Common.{◌∙◌, Some, sym, ap}
-use Rattle.ddf_request.specs.Request.{served_guid}
+use Rattle.ddf_request.specs.Spare.{served_guid}
 use Rattle.ddf_request.proofs.Served.{served_more, served_none}
 use Rattle.ddf_request.proofs.spare.served_guids.Goals as goal
 

@@ -10,17 +10,17 @@ use Rattle.ddf_rewrite.proofs.copies.changed_holdings.Goals as goal
 
 pub changed_holding-requires-clause-fits : goal.changed_holding-requires-clause-fits
 changed_holding-requires-clause-fits c =
-    (wanted_given c.args.old.now.header.geometry.max_members c.args.change.now.config.now c.args.all.now c.loop-wanted.wanted-index c.wanted-item.result
+    (wanted_given c.args.old.now.header.geometry.max_members c.args.issue.now.config.now c.args.all.now c.loop-wanted.wanted-index c.wanted-item.result
     c.requires.all c.requires.holdable c.loop-wanted-test.true c.wanted-item.is).plan
 
 pub changed_holding-requires-clause-elements : goal.changed_holding-requires-clause-elements
 changed_holding-requires-clause-elements c =
-    (wanted_given c.args.old.now.header.geometry.max_members c.args.change.now.config.now c.args.all.now c.loop-wanted.wanted-index c.wanted-item.result
+    (wanted_given c.args.old.now.header.geometry.max_members c.args.issue.now.config.now c.args.all.now c.loop-wanted.wanted-index c.wanted-item.result
     c.requires.all c.requires.holdable c.loop-wanted-test.true c.wanted-item.is).few
 
 pub changed_holding-requires-clause-index : goal.changed_holding-requires-clause-index
 changed_holding-requires-clause-index c =
-    let given = wanted_given c.args.old.now.header.geometry.max_members c.args.change.now.config.now c.args.all.now c.loop-wanted.wanted-index c.wanted-item.result
+    let given = wanted_given c.args.old.now.header.geometry.max_members c.args.issue.now.config.now c.args.all.now c.loop-wanted.wanted-index c.wanted-item.result
     c.requires.all c.requires.holdable c.loop-wanted-test.true c.wanted-item.is in
     let few = given.few in
     let index = given.index in

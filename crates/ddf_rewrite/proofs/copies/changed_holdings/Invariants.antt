@@ -8,6 +8,6 @@ use Rattle.ddf_rewrite.proofs.copies.changed_holdings.Given as goal
 
 abbrev pub invariant-loop-wanted : goal.invariant-loop-wanted
 invariant-loop-wanted l = record {
-  made : l.holdings.items ≡ map (changed_holding l.old (before l.leaders) l.change.config.now l.change.timestamp) (take l.wanted-index l.all);
+  made : l.holdings.items ≡ map (changed_holding l.old (before l.leaders) l.issue.config.now l.issue.timestamp) (take l.wanted-index l.all);
   sizes : (n : ℕ) (one : Wanted) → n < l.wanted-index → slice_get l.all n ≡ Some one → leading_record (before l.leaders) one.guid one.index ≡ None → array_capacity one.array < 2 ^ 64;
 }

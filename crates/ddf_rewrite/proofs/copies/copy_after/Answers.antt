@@ -6,6 +6,6 @@ use Rattle.ddf_rewrite.proofs.copies.copy_after.Goals as goal
 pub returns : goal.returns
 unfolding view_of
 returns c =
-    let change = c.args.change.now in
+    let change = c.args.issue.now in
     let slots : c.new.result ≡ slots_after c.args.old.now c.args.noted change.config.now change.timestamp c.args.holdings.now = c.new.ensures ∙ c.in_ok-slots.ensures in
     rw (c.header_after.ensures, c.in_ok-disks.ensures, c.in_ok-arrays.ensures, slots, c.in_ok-bad.ensures) refl

@@ -3,7 +3,7 @@ use Rattle.std.specs.Option.{option_copied}
 use Rattle.ddf_configs.specs.Elements.{CanBeElement}
 use Rattle.ddf_configs.specs.ElementValue.{ElementValue}
 use Rattle.ddf_configs.proofs.ElementRecords.{allowed}
-use Rattle.ddf_view.specs.View.{Held}
+use Rattle.ddf_view.specs.View.{HeldRecord}
 use Rattle.ddf_rewrite.proofs.elements.changed_over.Goals as goal
 
 pub over-requires-clause-few_before : goal.over-requires-clause-few_before
@@ -11,7 +11,7 @@ over-requires-clause-few_before c = allowed c.args.geometry.now c.args.leader.no
 
 pub over_own-requires-clause-own : goal.over_own-requires-clause-own
 over_own-requires-clause-own c =
-    subst (λ (element : ElementValue). CanBeElement c.args.geometry.now element) (sym (ap (λ (held : Held). held.element) c.held.view_is))
+    subst (λ (element : ElementValue). CanBeElement c.args.geometry.now element) (sym (ap (λ (held : HeldRecord). held.element) c.held.view_is))
     (c.requires.own c.in-Some.held.now (ap option_copied c.in-Some.is))
 
 pub returns-in-Some : goal.returns-in-Some

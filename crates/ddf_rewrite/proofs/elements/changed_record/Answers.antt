@@ -15,10 +15,10 @@ changed_over-requires-clause-few c =
     let leader = c.held.inside.element.now in
     let can : CanBeElement geometry leader = rw (← c.held.view_is) at (c.requires.leader c.in-Some.held.now (ap option_copied c.in-Some.is)) in
     rw c.altered-element.ensures
-    (altered_few geometry.max_members c.args.change.now.config.now c.args.change.now.timestamp c.args.wanted.now leader (allowed geometry leader can.is_element) c.requires.few)
+    (altered_few geometry.max_members c.args.issue.now.config.now c.args.issue.now.timestamp c.args.wanted.now leader (allowed geometry leader can.is_element) c.requires.few)
 
 pub returns-in-Some-clause-exact : goal.returns-in-Some-clause-exact
 unfolding changed_record
 returns-in-Some-clause-exact c =
-    let next = altered c.args.change.now.config.now c.args.change.now.timestamp c.args.wanted.now c.held.inside.element.now in
+    let next = altered c.args.issue.now.config.now c.args.issue.now.timestamp c.args.wanted.now c.held.inside.element.now in
     rw (c.in-Some.is, ← c.held.view_is, ← over_named c.args.header.now.geometry (option_copied c.args.own) c.held.inside.element.now next, ← c.altered-element.ensures) c.changed_over.ensures

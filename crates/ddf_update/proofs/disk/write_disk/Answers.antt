@@ -11,3 +11,8 @@ pub returns-in-Found-clause-calls : goal.returns-in-Found-clause-calls
 returns-in-Found-clause-calls g c = λ copy last mode is.
     let few = few_runs copy c.args.prepared.now.runs is.runs_are in
     omega (arith, few, c.found.ensures.spends.costs.calls_most)
+
+pub returns-in-Adopt-clause-calls : goal.returns-in-Adopt-clause-calls
+returns-in-Adopt-clause-calls g c = λ copy last mode is.
+    let few = few_runs copy c.args.prepared.now.runs is.runs_are in
+    omega (arith, few, c.adopt.ensures.spends.costs.calls_most)

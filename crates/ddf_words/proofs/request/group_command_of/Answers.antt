@@ -1,7 +1,8 @@
 use Rattle.std.proofs.Common.{◌≡◌, ◌∷◌, ◌∙◌, sym, ap, string_bytes, arith}
 use Rattle.ddf_words.specs.Words.{Word, words_of}
-use Rattle.ddf_words.proofs.Commands.{other_name, create, delete, fail, read, spare}
+use Rattle.ddf_words.proofs.Commands.{other_name, read}
 use Rattle.ddf_words.proofs.Requests.{no_group_command, other_group_command, more_group_words}
+use Rattle.ddf_words.proofs.Wishes.{create, delete, fail, spare}
 use Rattle.ddf_words.proofs.Lists.{named_words, none_left, some_left}
 use Rattle.ddf_words.proofs.request.group_command_of.Goals as goal
 

@@ -9,7 +9,7 @@ invariant_of-self g c =
       few = bay.few;
       small = bay.small;
       each = simp length-set bay.each;
-      closed = closed_set bay.files.items bay.sizes.items c.args.slot c.index_mut.result.now c.read_bytes-outcome.new.file c.index_mut.ensures.value c.read_bytes-outcome.ensures bay.closed;
+      closed = closed_set bay.files.items bay.sizes.items c.args.slot c.index_mut.result.now c.read_bytes-outcome.new.file c.index_mut.ensures.value c.read_bytes-outcome.ensures.same bay.closed;
     }
 
 pub invariant_of-self-else-is_err : goal.invariant_of-self-else-is_err
@@ -19,5 +19,5 @@ invariant_of-self-else-is_err g c =
       few = bay.few;
       small = bay.small;
       each = simp length-set bay.each;
-      closed = closed_set bay.files.items bay.sizes.items c.args.slot c.index_mut.result.now c.read_bytes-outcome.new.file c.index_mut.ensures.value c.read_bytes-outcome.ensures bay.closed;
+      closed = closed_set bay.files.items bay.sizes.items c.args.slot c.index_mut.result.now c.read_bytes-outcome.new.file c.index_mut.ensures.value c.read_bytes-outcome.ensures.same bay.closed;
     }

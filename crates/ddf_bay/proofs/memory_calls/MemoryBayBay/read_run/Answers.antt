@@ -1,4 +1,4 @@
-use Rattle.ddf_bay.specs.RecordLaws.{past_later}
+use Rattle.ddf_bay.specs.LoggedLaws.{past_later}
 use Rattle.ddf_bay.specs.MemoryLaws.{becomes_then, same_remembers, still_left, still_no_more, still_since}
 use Rattle.std.proofs.Common.{arith, refl}
 use Rattle.ddf_bay.specs.Memory.{state_of}
@@ -6,28 +6,28 @@ use Rattle.ddf_bay.proofs.MemorySteps.{becomes_still, never_fails, spends_still}
 use Rattle.ddf_bay.proofs.memory_calls.MemoryBayBay.read_run.Goals as goal
 
 pub invariant_of-self : goal.invariant_of-self
-invariant_of-self c = record { few = c.args.self.now.few; small = c.args.self.now.small; past = past_later c.args.self.now.clock c.next-self.result c.args.self.now.log.records.items c.next-self.ensures.least c.args.self.now.past; counted = c.args.self.now.counted; wanted = c.args.self.now.wanted }
+invariant_of-self c = record { few = c.args.self.now.few; small = c.args.self.now.small; past = past_later c.args.self.now.clock c.next-self.result c.args.self.now.log.logged.items c.next-self.ensures.least c.args.self.now.past; counted = c.args.self.now.counted; wanted = c.args.self.now.wanted }
 
 pub invariant_of-self-else-fails : goal.invariant_of-self-else-fails
-invariant_of-self-else-fails c = record { few = c.args.self.now.few; small = c.args.self.now.small; past = past_later c.args.self.now.clock c.next-self.result c.args.self.now.log.records.items c.next-self.ensures.least c.args.self.now.past; counted = c.args.self.now.counted; wanted = c.args.self.now.wanted }
+invariant_of-self-else-fails c = record { few = c.args.self.now.few; small = c.args.self.now.small; past = past_later c.args.self.now.clock c.next-self.result c.args.self.now.log.logged.items c.next-self.ensures.least c.args.self.now.past; counted = c.args.self.now.counted; wanted = c.args.self.now.wanted }
 
 pub returns-then-fails-clause-left : goal.returns-then-fails-clause-left
-returns-then-fails-clause-left c = still_left c.args.self.now.clock c.next-self.result c.args.self.now.log.records.items c.args.self.now.past c.next-self.ensures.least c.next-self.ensures.more
+returns-then-fails-clause-left c = still_left c.args.self.now.clock c.next-self.result c.args.self.now.log.logged.items c.args.self.now.past c.next-self.ensures.least c.next-self.ensures.more
 
 pub returns-then-fails-clause-any_moment : goal.returns-then-fails-clause-any_moment
-returns-then-fails-clause-any_moment c = record { later = c.next-self.ensures.least; since = still_since c.args.self.now.clock c.next-self.result c.args.self.now.log.records.items c.args.self.now.past c.next-self.ensures.least c.next-self.ensures.more }
+returns-then-fails-clause-any_moment c = record { later = c.next-self.ensures.least; since = still_since c.args.self.now.clock c.next-self.result c.args.self.now.log.logged.items c.args.self.now.past c.next-self.ensures.least c.next-self.ensures.more }
 
 pub returns-clause-left : goal.returns-clause-left
-returns-clause-left c = still_left c.args.self.now.clock c.next-self.result c.args.self.now.log.records.items c.args.self.now.past c.next-self.ensures.least c.next-self.ensures.more
+returns-clause-left c = still_left c.args.self.now.clock c.next-self.result c.args.self.now.log.logged.items c.args.self.now.past c.next-self.ensures.least c.next-self.ensures.more
 
 pub returns-clause-any_moment : goal.returns-clause-any_moment
-returns-clause-any_moment c = record { later = c.next-self.ensures.least; since = still_since c.args.self.now.clock c.next-self.result c.args.self.now.log.records.items c.args.self.now.past c.next-self.ensures.least c.next-self.ensures.more }
+returns-clause-any_moment c = record { later = c.next-self.ensures.least; since = still_since c.args.self.now.clock c.next-self.result c.args.self.now.log.logged.items c.args.self.now.past c.next-self.ensures.least c.next-self.ensures.more }
 
 pub returns-then-fails-clause-remembers : goal.returns-then-fails-clause-remembers
-returns-then-fails-clause-remembers c told = same_remembers c.args.self.now.clock c.next-self.result c.args.self.now.log.records.items c.next-self.ensures.least told
+returns-then-fails-clause-remembers c told = same_remembers c.args.self.now.clock c.next-self.result c.args.self.now.log.logged.items c.next-self.ensures.least told
 
 pub returns-clause-remembers : goal.returns-clause-remembers
-returns-clause-remembers c told = same_remembers c.args.self.now.clock c.next-self.result c.args.self.now.log.records.items c.next-self.ensures.least told
+returns-clause-remembers c told = same_remembers c.args.self.now.clock c.next-self.result c.args.self.now.log.logged.items c.next-self.ensures.least told
 
 pub returns-then-fails-clause-spends : goal.returns-then-fails-clause-spends
 returns-then-fails-clause-spends c =
@@ -35,7 +35,7 @@ returns-then-fails-clause-spends c =
     let clock = c.next-self.ensures in
     let made = c.next-self-2.ensures in
     spends_still c.args.slot
-    (λ next leads. becomes_then bay _ (state_of next) (becomes_still bay c.next-self.result c.next-self-2.result bay.room c.raise.new.counts bay.failed_writes bay.records refl
+    (λ next leads. becomes_then bay _ (state_of next) (becomes_still bay c.next-self.result c.next-self-2.result bay.room c.raise.new.counts bay.failed_writes bay.logged refl
     (λ healthy. absurd (never_fails bay c.args.slot c.fails-fails.result c.fails-fails.ensures c.if-fails.true healthy)) (λ healthy. refl)
     (still_no_more bay _ c.args.self.now.past clock.least clock.more refl)) leads)
     (λ told. omega (arith, told, clock.least)) refl refl c.raise.ensures.kept c.raise.ensures.others refl refl made.least made.most
@@ -46,6 +46,6 @@ returns-clause-spends c =
     let clock = c.next-self.ensures in
     let made = c.next-self-2.ensures in
     spends_still c.args.slot
-    (λ next leads. becomes_then bay _ (state_of next) (becomes_still bay c.next-self.result c.next-self-2.result bay.room bay.failed_reads bay.failed_writes bay.records refl
+    (λ next leads. becomes_then bay _ (state_of next) (becomes_still bay c.next-self.result c.next-self-2.result bay.room bay.failed_reads bay.failed_writes bay.logged refl
     (λ healthy. refl) (λ healthy. refl) (still_no_more bay _ c.args.self.now.past clock.least clock.more refl)) leads)
     (λ told. omega (arith, told, clock.least)) refl refl (λ s. omega arith) (λ s other. refl) refl refl made.least made.most

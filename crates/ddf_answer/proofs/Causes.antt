@@ -1,0 +1,63 @@
+-- The cause of a status, by what a command told.
+use Rattle.std.proofs.Common.{◌≡◌, ◌⊎◌, inl, inr, ⊎_elim, ℕ, List, true, false, refl, subst}
+use Rattle.std.specs.Prelude.{IsTrue}
+use Rattle.ddf_bytes.specs.Streams.{SinkRose}
+use Rattle.ddf_words.specs.declared.traits.Traits.{Traits}
+use Rattle.ddf_group.specs.declared.answer.Assembly.{Assembly}
+use Rattle.ddf_group.specs.declared.answer.Assembly.TheVariants as faults
+use Rattle.ddf_answer.specs.Answers.{failure_of}
+use Rattle.ddf_answer.specs.Call.{Answer, Work}
+use Rattle.ddf_answer.specs.Ends.{HasCause, SomeSlotRose, is_unwritten}
+use Rattle.ddf_answer.specs.Tells.{ClosesWith, EndsWith, IsCutShort}
+use Rattle.ddf_answer.specs.declared.failure.Failure.TheVariants.{Disk}
+
+-- ---- statuses of calls that may have written
+
+pub wrote : (status other : ℕ) → is_unwritten other ≡ false → status ≡ other → IsTrue (is_unwritten status) → ⊥
+wrote status other may same is =
+    let here : IsTrue (is_unwritten other) = subst (λ (n : ℕ). IsTrue (is_unwritten n)) same is in
+    cc
+
+-- where it told this, unless the output gave out
+pub closes_wrote : {expected : ℕ} {text : List ℕ} {answer : Answer} → is_unwritten expected ≡ false → ClosesWith expected text answer → IsTrue (is_unwritten answer.status) → ⊥
+closes_wrote {expected = expected} {answer = answer} may closes is = ⊎_elim (λ same. wrote answer.status expected may same is) (λ six. wrote answer.status 6 refl six is) closes.ends
+
+-- ---- causes
+
+-- where there is no group no slot is named that failed
+pub no_disk : (fault : Assembly) (slot : ℕ) → failure_of fault ≡ Disk slot → ⊥
+no_disk faults.NoGroup slot e = cc
+no_disk (faults.SeveralGroups first second) slot e = cc
+no_disk (faults.Conflict i j sequence differ) slot e = cc
+no_disk (faults.Split i j) slot e = cc
+no_disk faults.Memory slot e = cc
+
+module _ {D : Type 0} (traits : Traits) (work : Work D) (answer : Answer) (stream : answer.status ≡ 6 → SinkRose answer.old answer.new) where
+  pub memory_cause : answer.status ≡ 5 → HasCause traits work answer
+  memory_cause five = inr (inl five)
+
+  pub fault_cause : SomeSlotRose work.old work.new → answer.status ≡ 3 → HasCause traits work answer
+  fault_cause rose three = inr (inr (inr (inr (inl (three, rose)))))
+
+  pub stream_cause : answer.status ≡ 6 → HasCause traits work answer
+  stream_cause six = inr (inr (inr (inr (inr (six, stream six)))))
+
+  pub short_cause : IsCutShort answer.status → HasCause traits work answer
+  short_cause short = ⊎_elim memory_cause stream_cause short
+
+  module _ {text : List ℕ} where
+    -- it was done
+    pub done_told : ClosesWith 0 text answer → HasCause traits work answer
+    done_told closes = ⊎_elim inl stream_cause closes.ends
+
+    -- it was refused
+    pub refused_told : traits.may_refuse ≡ true → EndsWith 1 text answer → HasCause traits work answer
+    refused_told may ends = ⊎_elim (λ one. inr (inr (inl (one, may)))) short_cause ends.ends
+
+    -- records contradict each other
+    pub contradicted_told : traits.takes_group ≡ true → EndsWith 4 text answer → HasCause traits work answer
+    contradicted_told takes ends = ⊎_elim (λ four. inr (inr (inr (inl (four, takes))))) short_cause ends.ends
+
+    -- a call on a slot failed
+    pub fault_told : SomeSlotRose work.old work.new → ClosesWith 3 text answer → HasCause traits work answer
+    fault_told rose closes = ⊎_elim (fault_cause rose) stream_cause closes.ends

@@ -1,0 +1,3 @@
+mod Told
+pub mod Causes
+pub mod Rises

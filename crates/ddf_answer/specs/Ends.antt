@@ -1,0 +1,34 @@
+-- How a command ends, by what it may do.
+use Rattle.std.specs.Prelude.{◌≡◌, ◌⊎◌, ℕ, ◌<◌, [], ◌∷◌, length, Bool, true, false, ◌==◌, IsTrue}
+use Rattle.std.specs.List.{list_any}
+use Rattle.ddf_bytes.specs.Streams.{SinkRose}
+use Rattle.ddf_bay.specs.Moments.{GoesOn}
+use Rattle.ddf_bay.specs.ReadsOnly.{ReadsOnly, SlotRose}
+use Rattle.ddf_bay.specs.State.{BayState}
+use Rattle.ddf_words.specs.declared.traits.Traits.{Traits}
+use Rattle.ddf_answer.specs.Call.{Answer, Work}
+
+-- the statuses of calls that wrote nothing: it was refused, the words were no command's, records contradict each other, or memory ran out
+abbrev pub is_unwritten : ℕ → Bool
+is_unwritten number = list_any (λ status. status == number) (1 ∷ 2 ∷ 4 ∷ 5 ∷ [])
+
+-- A call on some slot failed.
+pub record SomeSlotRose {D : Type 0} (old new : BayState D) : Type 0 where
+  pub slot : ℕ
+  pub there : slot < length old.sizes
+  pub rose : SlotRose old new slot
+
+-- Each status has its cause, of a command that may do this: it was done; memory ran out; it was refused, where it may be; records of the group
+-- contradict each other, where it takes one; a call on a slot failed; or the output failed.
+abbrev pub HasCause : {D : Type 0} → Traits → Work D → Answer → Type 0
+HasCause traits work answer =
+    (answer.status ≡ 0) ⊎ (answer.status ≡ 5) ⊎ ((answer.status ≡ 1) × (traits.may_refuse ≡ true)) ⊎ ((answer.status ≡ 4) × (traits.takes_group ≡ true))
+    ⊎ ((answer.status ≡ 3) × SomeSlotRose work.old work.new) ⊎ ((answer.status ≡ 6) × SinkRose answer.old answer.new)
+
+-- How a command ends that may do this. At the statuses of calls that wrote nothing nothing was written, and where it may not write at none.
+pub record Ends {D : Type 0} (traits : Traits) (work : Work D) (answer : Answer) : Type 0 where
+  pub cause : HasCause traits work answer
+  pub unwritten : IsTrue (is_unwritten answer.status) → ReadsOnly work.old work.new
+  pub stays : traits.may_write ≡ false → ReadsOnly work.old work.new
+  pub goes_on : GoesOn work.old work.new
+  pub same_sizes : work.new.sizes ≡ work.old.sizes

@@ -1,0 +1,5 @@
+pub mod Call
+pub mod Status
+pub mod Tells
+pub mod Answers
+pub mod Ends

@@ -1,0 +1,10 @@
+pub mod Alike
+pub mod Apart
+pub mod CellsOn
+pub mod Without
+pub mod CellSources
+pub mod Degraded
+pub mod RowSums
+pub mod Parity
+pub mod Touching
+pub mod Writing

@@ -1,0 +1,34 @@
+use Rattle.ddf_command.proofs.dispatch.obey.Goals as goal
+
+pub returns-in-Examine-clause-done : goal.returns-in-Examine-clause-done
+returns-in-Examine-clause-done g c = rw c.in-Examine.is c.examine.ensures.done
+
+pub returns-in-Examine-clause-ends : goal.returns-in-Examine-clause-ends
+returns-in-Examine-clause-ends g c = rw c.in-Examine.is c.examine.ensures.ends
+
+pub returns-in-Label-clause-done : goal.returns-in-Label-clause-done
+returns-in-Label-clause-done g c = rw c.in-Label.is (rw c.items.ensures at c.label.ensures.done)
+
+pub returns-in-Label-clause-ends : goal.returns-in-Label-clause-ends
+returns-in-Label-clause-ends g c = rw c.in-Label.is c.label.ensures.ends
+
+pub returns-in-Assemble-clause-done : goal.returns-in-Assemble-clause-done
+returns-in-Assemble-clause-done g c = rw c.in-Assemble.is c.assemble_disks.ensures.done
+
+pub returns-in-Assemble-clause-ends : goal.returns-in-Assemble-clause-ends
+returns-in-Assemble-clause-ends g c = rw c.in-Assemble.is c.assemble_disks.ensures.ends
+
+pub returns-in-Read-clause-done : goal.returns-in-Read-clause-done
+returns-in-Read-clause-done g c = rw c.in-Read.is (rw c.items-in-Read.ensures at c.read.ensures.done)
+
+pub returns-in-Read-clause-ends : goal.returns-in-Read-clause-ends
+returns-in-Read-clause-ends g c = rw c.in-Read.is c.read.ensures.ends
+
+pub change-requires : goal.change-requires
+change-requires g c = rw c.in-Change.is at c.requires
+
+pub returns-in-Change-clause-done : goal.returns-in-Change-clause-done
+returns-in-Change-clause-done g c = rw c.in-Change.is c.change.ensures.done
+
+pub returns-in-Change-clause-ends : goal.returns-in-Change-clause-ends
+returns-in-Change-clause-ends g c = rw c.in-Change.is c.change.ensures.ends

@@ -1,0 +1,5 @@
+mod Readable
+pub mod ReadBlocks
+pub mod LeftOut
+mod Printing
+mod ReadEnds

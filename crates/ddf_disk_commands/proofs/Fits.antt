@@ -1,0 +1,101 @@
+-- Slots that can be labelled.
+use Rattle.std.proofs.Common.{◌≡◌, ℕ, ◌<◌, ◌≤◌, List, [], ◌∷◌, length, Bool, true, false, Option, Some, None, Result, Ok, Err, refl}
+use Rattle.std.proofs.lemmas.Bool.{ltb-false}
+use Rattle.std.proofs.lemmas.List.{get_or-map}
+use Rattle.std.specs.List.{All, find}
+use Rattle.std.specs.Option.{option_or}
+use Rattle.std.specs.Prelude.{get_or, nat_lt, not, option_map, slice_get, slice_index}
+use Rattle.std.proofs.lemmas.Option.{get_or_from_slice_get, slice_get_within}
+use Rattle.ddf_bytes.specs.Choices.{first_of, when}
+use Rattle.ddf_bay.specs.Sectors.{Image}
+use Rattle.ddf_header.specs.declared.reading.Header.{Header}
+use Rattle.ddf_copy.specs.declared.fault.AnchorFault.{AnchorFault}
+use Rattle.ddf_copy.specs.declared.fault.AnchorFault.TheVariants as anchors
+use Rattle.ddf_copy.specs.declared.fault.AnchorFault.TheVariants.{Blank, Damaged}
+use Rattle.ddf_copy.specs.Anchor.{anchor_at}
+use Rattle.ddf_words.proofs.Finds.{none_is}
+use Rattle.ddf_config.specs.declared.refusal.FullTable.TheVariants.{Disks}
+use Rattle.ddf_config.specs.declared.refusal.Refusal.{Refusal}
+use Rattle.ddf_config.specs.declared.refusal.Refusal.TheVariants.{Full, NoSlot, NotBlank, Small}
+use Rattle.ddf_update.specs.Group.{slot_sizes}
+use Rattle.ddf_disk_commands.specs.LabelRefusal.{IsFit, chosen, is_anchored, is_blank, is_small, label_refusal, least_sectors, misfit, missing, most_disks, unfit}
+
+none_of : (one other : Option Refusal) → option_or one other ≡ None → (one ≡ None) × (other ≡ None)
+none_of None other none = (refl, none)
+none_of (Some refusal) other none = absurd cc
+
+no_item : {X : Type 0} (f : X → Refusal) (o : Option X) → option_map f o ≡ None → o ≡ None
+no_item f None none = refl
+no_item f (Some item) none = absurd cc
+
+not_when : (test : Bool) (refusal : Refusal) → when test refusal ≡ None → test ≡ false
+not_when true refusal none = absurd cc
+not_when false refusal none = refl
+
+not_many : (count : ℕ) → nat_lt most_disks count ≡ false → count ≤ most_disks
+not_many count few = ltb-false most_disks count few
+
+not_small : (sizes slots : List ℕ) → find (is_small sizes) slots ≡ None → All (λ slot. least_sectors ≤ slice_index sizes slot) slots
+not_small sizes slots none k d lt = let large = none_is (is_small sizes) slots none k d lt in ltb-false (slice_index sizes (get_or slots k d)) least_sectors large
+
+pub fits : (sizes slots : List ℕ) (anchored : Option ℕ) → misfit sizes anchored slots ≡ None → IsFit sizes slots
+fits sizes slots anchored none =
+    let blank = none_of (option_map NotBlank anchored) (first_of (option_map (λ slot. Small least_sectors (slice_index sizes slot)) (find (is_small sizes) slots) ∷ when (nat_lt most_disks (length slots)) (Full Disks) ∷ [])) none in
+    let small = none_of (option_map (λ slot. Small least_sectors (slice_index sizes slot)) (find (is_small sizes) slots)) (first_of (when (nat_lt most_disks (length slots)) (Full Disks) ∷ [])) blank.1 in
+    let full = none_of (when (nat_lt most_disks (length slots)) (Full Disks)) None small.1 in
+    record {
+      few = not_many (length slots) (not_when (nat_lt most_disks (length slots)) (Full Disks) full.0);
+      large = not_small sizes slots (no_item (λ slot. Small least_sectors (slice_index sizes slot)) (find (is_small sizes) slots) small.0);
+    }
+
+-- ---- what `label` is refused for
+
+pub refused_missing : (sizes : List ℕ) (held : Image) (named : List ℕ) (slot : ℕ) → missing (length sizes) named ≡ Some slot → label_refusal sizes held named ≡ Some (NoSlot slot)
+unfolding label_refusal
+refused_missing sizes held named slot is = rw is refl
+
+or_none : (o : Option Refusal) → option_or o None ≡ o
+or_none None = refl
+or_none (Some refusal) = refl
+
+pub refused_unfit : (sizes : List ℕ) (held : Image) (named : List ℕ) (refusal : Option Refusal) → missing (length sizes) named ≡ None → unfit sizes held (chosen (length sizes) named) ≡ refusal → label_refusal sizes held named ≡ refusal
+unfolding label_refusal
+refused_unfit sizes held named refusal there is = rw (there, is) (or_none refusal)
+
+-- ---- the sizes of slots
+
+pub large_sizes : (sizes slots : List ℕ) → All (λ slot. least_sectors ≤ slice_index sizes slot) slots → (i : ℕ) → i < length slots → least_sectors ≤ slice_index (slot_sizes sizes slots) i
+large_sizes sizes slots large i lt = rw (get_or-map (slice_index sizes) slots i 0 0 lt) (large i 0 lt)
+
+-- ---- slots that aren't refused are blank
+
+blank_is : (read : Result Header AnchorFault) → not (is_blank read) ≡ false → read ≡ Err Blank
+blank_is (Ok header) is = absurd cc
+blank_is (Err Blank) is = refl
+blank_is (Err (Damaged fault)) is = absurd cc
+blank_is (Err (anchors.Disk slot)) is = absurd cc
+
+none_missing : (sizes : List ℕ) (held : Image) (named : List ℕ) → label_refusal sizes held named ≡ None → unfit sizes held (chosen (length sizes) named) ≡ None
+unfolding label_refusal
+none_missing sizes held named none =
+    let parts = none_of (option_map NoSlot (missing (length sizes) named)) (option_or (unfit sizes held (chosen (length sizes) named)) None) none in
+    (none_of (unfit sizes held (chosen (length sizes) named)) None parts.1).0
+
+none_anchored : (sizes : List ℕ) (held : Image) (slots : List ℕ) → unfit sizes held slots ≡ None → find (is_anchored sizes held) slots ≡ None
+none_anchored sizes held slots none =
+    no_item NotBlank (find (is_anchored sizes held) slots)
+    (none_of (option_map NotBlank (find (is_anchored sizes held) slots)) (first_of (option_map (λ slot. Small least_sectors (slice_index sizes slot)) (find (is_small sizes) slots) ∷ when (nat_lt most_disks (length slots)) (Full Disks) ∷ [])) none).0
+
+pub all_blank : (sizes : List ℕ) (held : Image) (named : List ℕ) → label_refusal sizes held named ≡ None
+    → (place slot : ℕ) → slice_get (chosen (length sizes) named) place ≡ Some slot → anchor_at (slice_index sizes slot) (held slot) ≡ Err Blank
+all_blank sizes held named none place slot at =
+    let slots = chosen (length sizes) named in
+    let all = none_is (is_anchored sizes held) slots (none_anchored sizes held slots (none_missing sizes held named none)) in
+    let here : get_or slots place 0 ≡ slot = get_or_from_slice_get slots place slot 0 at in
+    blank_is (anchor_at (slice_index sizes slot) (held slot)) (rw here at (all place 0 (slice_get_within slots place slot at)))
+
+-- Those that aren't refused are few.
+pub few_labelled : (sizes : List ℕ) (held : Image) (named : List ℕ) → label_refusal sizes held named ≡ None → length (chosen (length sizes) named) ≤ most_disks
+few_labelled sizes held named none =
+    let slots = chosen (length sizes) named in
+    (fits sizes slots (find (is_anchored sizes held) slots) (none_missing sizes held named none)).few

@@ -1,0 +1,8 @@
+mod Partway
+mod Told
+mod ExamineEnds
+pub mod Chosen
+mod Fits
+mod LabelEnds
+mod Labelled
+mod Quiet

@@ -1,0 +1,52 @@
+-- What `label` does, and how it ends.
+use Rattle.std.specs.Prelude.{◌≡◌, ℕ, ◌<◌, List, length, codes, Some, None, Result, Ok, Err}
+use Rattle.ddf_bytes.specs.declared.stamp.Stamp.{Stamp}
+use Rattle.ddf_bay.specs.Moments.{StopsLeave}
+use Rattle.ddf_bay.specs.ReadsOnly.{ReadsOnly, SlotRose}
+use Rattle.ddf_copy.specs.declared.copy.DiskCopy.{DiskCopy}
+use Rattle.ddf_update.specs.Group.{HaveFirstCopies, IsLeftFoundingAll, slot_sizes}
+use Rattle.ddf_update.specs.NewCopies.{new_copy}
+use Rattle.ddf_answer.specs.declared.failure.Failure.{Failure}
+use Rattle.ddf_answer.specs.declared.failure.Failure.TheVariants.{Conflict, Disk, Memory, Refused, Split}
+use Rattle.ddf_config.specs.declared.refusal.Refusal.{Refusal}
+use Rattle.ddf_answer.specs.Answers.{IsToldFailure}
+use Rattle.ddf_answer.specs.Call.{Answer, Work}
+use Rattle.ddf_disk_commands.specs.LabelRefusal.{chosen, label_refusal}
+use Rattle.ddf_answer.specs.Tells.{ClosesWith}
+
+-- the slots to label on a bay of these sizes
+abbrev pub label_slots : List ℕ → (named : List ℕ) → List ℕ
+label_slots sizes named = chosen (length sizes) named
+
+-- the copy that each of them gets, by its place
+abbrev pub label_copy : Stamp → List ℕ → (named : List ℕ) → ℕ → DiskCopy
+label_copy stamp sizes named = new_copy stamp (slot_sizes sizes (label_slots sizes named))
+
+-- What it did, by its answer: the slots have their copies, sure; or else it was refused and nothing was written, or a call on a
+-- slot failed, or memory ran out and nothing was written.
+abbrev pub IsTried : {D : Type 0} → Work D → Stamp → (named : List ℕ) → Result (Unit {0}) Failure → Type 0
+IsTried work stamp named (Ok done) =
+    work.tells → (label_refusal work.old.sizes work.old.held named ≡ None)
+    × HaveFirstCopies work.old work.new (label_slots work.old.sizes named) (label_copy stamp work.old.sizes named) (length (label_slots work.old.sizes named))
+IsTried work stamp named (Err (Refused refusal)) =
+    (work.tells → label_refusal work.old.sizes work.old.held named ≡ Some refusal) × ReadsOnly work.old work.new
+IsTried work stamp named (Err (Disk slot)) =
+    (slot < length work.old.sizes) × SlotRose work.old work.new slot
+IsTried work stamp named (Err (Conflict i j sequence differ)) = ⊥
+IsTried work stamp named (Err (Split i j)) = ⊥
+IsTried work stamp named (Err Memory) =
+    ReadsOnly work.old work.new
+
+-- what is told of it, and with which status
+abbrev pub IsToldLabel : Result (Unit {0}) Failure → Answer → Type 0
+IsToldLabel (Ok done) answer = ClosesWith 0 (codes "ok sequence 1\n") answer
+IsToldLabel (Err failure) answer = IsToldFailure failure answer
+
+-- It did this, and said so. A stop leaves each slot as it might have left it before, or blank, or with its copy, and no sector
+-- before both places of the copy is written. Where it is to be refused nothing is written, whatever it answers.
+pub record IsLabelled {D : Type 0} (work : Work D) (stamp : Stamp) (named : List ℕ) (answer : Answer) : Type 0 where
+  pub outcome : Result (Unit {0}) Failure
+  pub tried : IsTried work stamp named outcome
+  pub ends : IsToldLabel outcome answer
+  pub any_moment : work.tells → StopsLeave work.old work.new (IsLeftFoundingAll work.old (label_slots work.old.sizes named) (label_copy stamp work.old.sizes named))
+  pub refused : work.tells → (refusal : Refusal) → label_refusal work.old.sizes work.old.held named ≡ Some refusal → ReadsOnly work.old work.new

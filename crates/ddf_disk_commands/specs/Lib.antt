@@ -1,0 +1,5 @@
+pub mod Disk
+pub mod Quiet
+pub mod Examine
+pub mod LabelRefusal
+pub mod Label

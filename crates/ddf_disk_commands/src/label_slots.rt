@@ -1,0 +1,171 @@
+// The slots that `label` takes, and what it is refused for.
+ghost use Rattle.std.specs.Prelude.{◌≡◌, ◌<◌, ◌≤◌, nat_le, Some, None, All, IfOk, IfErr, OnOk, length};
+ghost use Rattle.std.specs.List.{find};
+ghost use Rattle.ddf_bay.specs.ReadsOnly.{ReadsOnly, SlotRose};
+ghost use Rattle.ddf_disk_commands.specs.Label.{label_slots};
+ghost use Rattle.ddf_disk_commands.specs.LabelRefusal.{IsFit, IsFitFailure, chosen, is_anchored, is_chosen, is_named, is_small, label_refusal, misfit, missing, unfit};
+ghost use Rattle.ddf_disk_commands.specs.Quiet.{IsQuiet};
+
+use ddf_answer::Failure;
+use ddf_bay::{Bay, DiskFault};
+use ddf_bytes::NoMemory;
+use ddf_config::{FullTable, Refusal};
+use ddf_copy::{AnchorFault, anchor_of};
+use std::alloc::Global;
+
+/// The fewest sectors of a new disk (profile).
+const LEAST_SECTORS: u64 = 33_000;
+
+/// The most disks of a new group (profile).
+const MOST_DISKS: usize = 15;
+
+/// The slots to label, in rising order: those that are named, or all. It reads the last sector of each.
+pub(crate) fn fit_slots<B: Bay>(
+    alloc: Global,
+    named: &[u8],
+    bay: &mut B,
+) -> Result<Vec<usize>, Failure>
+    ensures slots { IfOk result (λ slots. slots.items ≡ label_slots (B.disks bay.old).sizes named.now) }
+    ensures fit { IfOk result (λ slots. IsFit (B.disks bay.old).sizes slots.items) }
+    ensures unrefused { B.tells → OnOk result (label_refusal (B.disks bay.old).sizes (B.disks bay.old).held named.now ≡ None) }
+    ensures failed { IfErr result (IsFitFailure (B.disks bay.old) (B.disks bay.new) B.tells named.now) }
+    ensures quiet { OnOk result (IsQuiet (B.disks bay.old) (B.disks bay.new)) }
+    ensures reads { ReadsOnly (B.disks bay.old) (B.disks bay.new) }
+{
+    let count = bay.slots();
+    if let Some(slot) = missing(count, named) {
+        return Err(Failure::Refused(Refusal::NoSlot(slot)));
+    }
+    let Ok(slots) = chosen(alloc, count, named) else {
+        return Err(Failure::Memory);
+    };
+    match unfit(bay, &slots) {
+        Ok(None) => Ok(slots),
+        Ok(Some(refusal)) => Err(Failure::Refused(refusal)),
+        Err(DiskFault(slot)) => Err(Failure::Disk(slot)),
+    }
+}
+
+/// The first named slot that isn't there. Without names and without slots it is slot 0.
+fn missing(count: usize, named: &[u8]) -> Option<usize>
+    ensures { result ≡ missing count named.now }
+{
+    if !named.is_empty() {
+        return first_beyond(count, named);
+    }
+    if count == 0 { Some(0) } else { None }
+}
+
+fn first_beyond(count: usize, named: &[u8]) -> Option<usize>
+    ensures { result ≡ find (λ slot. nat_le count slot) named.now }
+{
+    named
+        .iter()
+        .map(|slot| usize::from(*slot))
+        .find(|slot| count <= *slot)
+}
+
+fn chosen(alloc: Global, count: usize, named: &[u8]) -> Result<Vec<usize>, NoMemory>
+    requires { count ≤ 64 }
+    ensures { IfOk result (λ slots. slots.items ≡ chosen count named.now) }
+{
+    let mut slots = Vec::with_capacity(alloc, count)?;
+    for slot in 0..count {
+        if is_chosen(named, slot) {
+            slots.push(slot)?;
+        }
+    }
+    Ok(slots)
+}
+
+fn is_chosen(named: &[u8], slot: usize) -> bool
+    ensures { result ≡ is_chosen named.now slot }
+{
+    if named.is_empty() {
+        return true;
+    }
+    is_named(named, slot)
+}
+
+fn is_named(named: &[u8], slot: usize) -> bool
+    ensures { result ≡ is_named named.now slot }
+{
+    named.iter().any(|other| usize::from(*other) == slot)
+}
+
+/// What these slots are refused for. All their anchors are read before.
+fn unfit<B: Bay>(bay: &mut B, slots: &[usize]) -> Result<Option<Refusal>, DiskFault>
+    requires { All (λ slot. slot < length (B.disks bay.old).sizes) slots.now }
+    ensures answer { B.tells → IfOk result (λ refusal. refusal ≡ unfit (B.disks bay.old).sizes (B.disks bay.old).held slots.now) }
+    ensures fit { IfOk result (λ refusal. refusal ≡ None → IsFit (B.disks bay.old).sizes slots.now) }
+    ensures failed { IfErr result (λ e. (e.0 < length (B.disks bay.old).sizes) × SlotRose (B.disks bay.old) (B.disks bay.new) e.0) }
+    ensures quiet { OnOk result (IsQuiet (B.disks bay.old) (B.disks bay.new)) }
+    ensures reads { ReadsOnly (B.disks bay.old) (B.disks bay.new) }
+{
+    match first_anchored(bay, slots) {
+        Ok(anchored) => Ok(misfit(bay, slots, anchored)),
+        Err(fault) => Err(fault),
+    }
+}
+
+/// What slots are refused for of which this is the first with an anchor.
+fn misfit<B: Bay>(bay: &B, slots: &[usize], anchored: Option<usize>) -> Option<Refusal>
+    requires { All (λ slot. slot < length (B.disks bay.now).sizes) slots.now }
+    ensures { result ≡ misfit (B.disks bay.now).sizes anchored slots.now }
+{
+    if let Some(slot) = anchored {
+        return Some(Refusal::NotBlank(slot));
+    }
+    if let Some(slot) = first_small(bay, slots) {
+        return Some(Refusal::Small {
+            needed: LEAST_SECTORS,
+            found: bay.size(slot),
+        });
+    }
+    if slots.len() > MOST_DISKS {
+        return Some(Refusal::Full(FullTable::Disks));
+    }
+    None
+}
+
+/// The first of the slots with too few sectors.
+fn first_small<B: Bay>(bay: &B, slots: &[usize]) -> Option<usize>
+    requires { All (λ slot. slot < length (B.disks bay.now).sizes) slots.now }
+    ensures { result ≡ find (is_small (B.disks bay.now).sizes) slots.now }
+{
+    slots
+        .iter()
+        .copied()
+        .find(|slot| bay.size(*slot) < LEAST_SECTORS)
+}
+
+/// The first of the slots that isn't blank. The anchors of all are read.
+fn first_anchored<B: Bay>(bay: &mut B, slots: &[usize]) -> Result<Option<usize>, DiskFault>
+    requires { All (λ slot. slot < length (B.disks bay.old).sizes) slots.now }
+    ensures answer { B.tells → IfOk result (λ first. first ≡ find (is_anchored (B.disks bay.old).sizes (B.disks bay.old).held) slots.now) }
+    ensures failed { IfErr result (λ e. (e.0 < length (B.disks bay.old).sizes) × SlotRose (B.disks bay.old) (B.disks bay.new) e.0) }
+    ensures quiet { OnOk result (IsQuiet (B.disks bay.old) (B.disks bay.new)) }
+    ensures reads { ReadsOnly (B.disks bay.old) (B.disks bay.new) }
+{
+    let mut first = None;
+    for slot in slots {
+        let anchored = is_anchored(bay, *slot)?;
+        first = first.or(anchored.then_some(*slot));
+    }
+    Ok(first)
+}
+
+/// Whether a slot's last sector begins as an anchor.
+fn is_anchored<B: Bay>(bay: &mut B, slot: usize) -> Result<bool, DiskFault>
+    requires { slot < length (B.disks bay.old).sizes }
+    ensures answer { B.tells → IfOk result (λ anchored. anchored ≡ is_anchored (B.disks bay.old).sizes (B.disks bay.old).held slot) }
+    ensures failed { IfErr result (λ e. (e.0 ≡ slot) × SlotRose (B.disks bay.old) (B.disks bay.new) slot) }
+    ensures quiet { OnOk result (IsQuiet (B.disks bay.old) (B.disks bay.new)) }
+    ensures reads { ReadsOnly (B.disks bay.old) (B.disks bay.new) }
+{
+    match anchor_of(bay, slot) {
+        Err(AnchorFault::Blank) => Ok(false),
+        Err(AnchorFault::Disk(slot)) => Err(DiskFault(slot)),
+        Ok(_) | Err(AnchorFault::Damaged(_)) => Ok(true),
+    }
+}

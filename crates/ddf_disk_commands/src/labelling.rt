@@ -1,0 +1,78 @@
+// `label`: the first copies of a new group's disks.
+ghost use Rattle.std.specs.Prelude.{◌≡◌, ◌<◌, Some, All, IfOk, length};
+ghost use Rattle.ddf_bay.specs.Moments.{GoesOn, StopsLeave};
+ghost use Rattle.ddf_bay.specs.ReadsOnly.{ReadsOnly};
+ghost use Rattle.ddf_update.specs.Group.{AreFirst, IsLeftFoundingAll, slot_sizes};
+ghost use Rattle.ddf_update.specs.NewCopies.{new_copy};
+ghost use Rattle.ddf_config.specs.declared.refusal.Refusal.{Refusal};
+ghost use Rattle.ddf_disk_commands.specs.Label.{IsLabelled, IsTried, label_copy, label_slots};
+ghost use Rattle.ddf_disk_commands.specs.LabelRefusal.{IsFit, label_refusal};
+ghost use Rattle.ddf_answer.specs.Call.{answer_of, work_of};
+ghost use Rattle.ddf_answer.specs.Ends.{Ends};
+ghost use Rattle.ddf_words.specs.Traits.{traits_of};
+ghost use Rattle.ddf_words.specs.declared.command.Command.{Command};
+ghost use Rattle.ddf_answer.specs.Status.{code_of};
+
+use crate::label_slots::fit_slots;
+use ddf_answer::{Failure, Status, tell, tell_failure};
+use ddf_bay::{Bay, DiskFault};
+use ddf_bytes::{NoMemory, Sink, Stamp};
+use ddf_update::{Prepared, found, found_disks};
+use std::alloc::Global;
+
+/// Writes the first copies of a new group to the named slots, or to all.
+pub fn label<B: Bay, K: Sink>(
+    alloc: Global,
+    named: &[u8],
+    bay: &mut B,
+    sink: &mut K,
+    stamp: &Stamp,
+) -> Status
+    ensures done { IsLabelled (work_of B.tells (B.disks bay.old) (B.disks bay.new)) stamp.now named.now (answer_of K.tells (K.output sink.old) (K.output sink.new) (code_of result)) }
+    ensures ends { Ends (traits_of (Command.Label named.now)) (work_of B.tells (B.disks bay.old) (B.disks bay.new)) (answer_of K.tells (K.output sink.old) (K.output sink.new) (code_of result)) }
+{
+    match labelled(alloc, named, bay, stamp) {
+        Ok(()) => tell(sink, b"ok sequence 1\n", Status::Ok),
+        Err(failure) => tell_failure(alloc, failure, sink),
+    }
+}
+
+/// Makes all sectors, and then writes them.
+fn labelled<B: Bay>(alloc: Global, named: &[u8], bay: &mut B, stamp: &Stamp) -> Result<(), Failure>
+    ensures tried { IsTried (work_of B.tells (B.disks bay.old) (B.disks bay.new)) stamp.now named.now result }
+    ensures any_moment { B.tells → StopsLeave (B.disks bay.old) (B.disks bay.new) (IsLeftFoundingAll (B.disks bay.old) (label_slots (B.disks bay.old).sizes named.now) (label_copy stamp.now (B.disks bay.old).sizes named.now)) }
+    ensures goes_on { GoesOn (B.disks bay.old) (B.disks bay.new) }
+    ensures same_sizes { (B.disks bay.new).sizes ≡ (B.disks bay.old).sizes }
+    ensures refused { B.tells → (refusal : Refusal) → label_refusal (B.disks bay.old).sizes (B.disks bay.old).held named.now ≡ Some refusal → ReadsOnly (B.disks bay.old) (B.disks bay.new) }
+{
+    let slots = match fit_slots(alloc, named, bay) {
+        Ok(slots) => slots,
+        Err(failure) => return Err(failure),
+    };
+    let Ok(updates) = first_updates(alloc, bay, &slots, stamp) else {
+        return Err(Failure::Memory);
+    };
+    match found_disks(bay, &slots, &updates) {
+        Ok(()) => Ok(()),
+        Err(DiskFault(slot)) => Err(Failure::Disk(slot)),
+    }
+}
+
+/// The first copies of a new group on these slots.
+fn first_updates<B: Bay>(
+    alloc: Global,
+    bay: &B,
+    slots: &[usize],
+    stamp: &Stamp,
+) -> Result<Vec<Prepared>, NoMemory>
+    requires fit { IsFit (B.disks bay.now).sizes slots.now }
+    requires there { All (λ slot. slot < length (B.disks bay.now).sizes) slots.now }
+    ensures counted { IfOk result (λ updates. length updates.items ≡ length slots.now) }
+    ensures first { IfOk result (λ updates. AreFirst (slot_sizes (B.disks bay.now).sizes slots.now) (new_copy stamp.now (slot_sizes (B.disks bay.now).sizes slots.now)) updates.items) }
+{
+    let mut disks = Vec::with_capacity(alloc, slots.len())?;
+    for slot in slots {
+        disks.push((*slot, bay.size(*slot)))?;
+    }
+    found(alloc, &disks, stamp)
+}

@@ -1,0 +1,10 @@
+//! The commands over the copies of single disks: `examine` and `label`.
+#![tactic(auto)]
+
+mod examining;
+mod label_slots;
+mod labelling;
+mod viewing;
+
+pub use examining::examine;
+pub use labelling::label;

@@ -1,0 +1,27 @@
+use Rattle.ddf_assembly.proofs.SettledHeld.{are_held}
+use Rattle.ddf_group_commands.proofs.Outcomes.{group_found}
+use Rattle.ddf_group_commands.proofs.writing.read_group.Goals as goal
+
+pub returns-clause-read : goal.returns-clause-read
+returns-clause-read g c =
+    let assembled = c.in_ok-group.ensures.assembled in
+    record {
+      left = assembled.looked.left;
+      every_slot = assembled.looked.every_slot;
+      failed = assembled.looked.are_failed.rose;
+      seen = assembled.looked.are_failed.same;
+      newest = assembled.newest;
+      read = assembled.read;
+      answer = group_found c.in_ok-group.group _ assembled.answer;
+    }
+
+pub returns-clause-from : goal.returns-clause-from
+returns-clause-from g c =
+    let is = c.in_ok-group.ensures in
+    record {
+      assembled = is.recovers;
+      held = λ told. are_held g.B.Bay.tells (g.B.Bay.disks c.args.bay.now) (g.B.Bay.disks c.assemble.new.bay) c.args.named c.in_ok-group.group is.assembled told;
+      stand = is.stand;
+      under = is.under;
+      seats = is.seats;
+    }

@@ -1,0 +1,94 @@
+// How a group is read, recovered and changed.
+ghost use Rattle.std.specs.Prelude.{◌≡◌, ◌≤◌, ℕ, Bool, List, length, Option, Ok, IfOk};
+ghost use Rattle.std.specs.List.{AllByRecursion};
+ghost use Rattle.ddf_bay.specs.Moments.{GoesOn, StopsLeave};
+ghost use Rattle.ddf_bay.specs.ReadsOnly.{ReadsOnly};
+ghost use Rattle.ddf_assembly.specs.Asked.{CanBeAsked};
+ghost use Rattle.ddf_assembly.specs.Committed.{slots_of};
+ghost use Rattle.ddf_assembly.specs.Ready.{readied};
+ghost use Rattle.ddf_assembly.specs.Recovery.{config_recovered, loss_of};
+ghost use Rattle.ddf_assembly.specs.Steps.{Step};
+ghost use Rattle.ddf_answer.specs.Call.{work_of};
+ghost use Rattle.ddf_group_commands.specs.Change.{IsChanged, KeepsHistories, failure_of_group, steps_or};
+ghost use Rattle.ddf_group_commands.specs.GroupRead.{IsFoundBy, IsGroupRead, IsReadFrom};
+ghost use Rattle.ddf_group_commands.specs.Others.{LeavesOthers};
+ghost use Rattle.ddf_group_commands.specs.Writing.{IsLeftWriting};
+
+use ddf_answer::Failure;
+use ddf_assembly::{Group, GroupFault, assemble};
+use ddf_bay::Bay;
+use ddf_bytes::Guid;
+use ddf_config::{Config, Refusal};
+use ddf_plan::Change;
+use std::alloc::Global;
+
+/// The group that the disks are.
+pub(crate) fn read_group<B: Bay>(
+    alloc: Global,
+    named: Option<Guid>,
+    bay: &mut B,
+) -> Result<Group, Failure>
+    ensures read { IsGroupRead (work_of B.tells (B.disks bay.old) (B.disks bay.new)) named result }
+    ensures from { IfOk result (IsReadFrom B.tells (B.disks bay.old)) }
+    ensures reads { ReadsOnly (B.disks bay.old) (B.disks bay.new) }
+    ensures reads_rise { (slot : ℕ) → (B.disks bay.old).failed_reads slot ≤ (B.disks bay.new).failed_reads slot }
+    ensures writes_rise { (slot : ℕ) → (B.disks bay.old).failed_writes slot ≤ (B.disks bay.new).failed_writes slot }
+{
+    let group = assemble(alloc, bay, named)?;
+    Ok(group)
+}
+
+/// The configuration of a group once it is recovered: the one in which its absent members are lost, where some are.
+pub(crate) fn recovered<'a>(group: &'a Group, loss: &'a Option<Config>) -> &'a Config
+    requires { loss.now ≡ loss_of group.now }
+    ensures { result.now ≡ config_recovered group.now }
+{
+    match loss {
+        Some(config) => config,
+        None => group.config(),
+    }
+}
+
+/// Why changes of a group aren't made, as the program tells it.
+fn failure_of(fault: GroupFault) -> Failure
+    ensures { result ≡ failure_of_group fault }
+{
+    match fault {
+        GroupFault::Refused(refusal) => Failure::Refused(refusal),
+        GroupFault::SequenceSpent => Failure::Refused(Refusal::SequenceSpent),
+        GroupFault::Memory => Failure::Memory,
+    }
+}
+
+/// Recovers a group and writes changes of it, one at the most, and answers the group's sequence number behind them.
+pub(crate) fn write_changes<B: Bay>(
+    alloc: Global,
+    group: &mut Group,
+    changes: &[Change],
+    timestamp: u32,
+    bay: &mut B,
+) -> Result<u32, Failure>
+    requires from { IsReadFrom B.tells (B.disks bay.old) group.old }
+    requires asked { AllByRecursion CanBeAsked changes.now }
+    requires one { length changes.now ≤ 1 }
+    ensures changed { IsChanged (work_of B.tells (B.disks bay.old) (B.disks bay.new)) group.old (steps_or (readied group.old changes.now timestamp)) result }
+
+    // From entry to exit slots that are no seats' are left as before, each history that admits the call is kept, and of the seats' slots nothing
+    // is another than before but the copies that are written.
+    ensures beside { B.tells → LeavesOthers (B.disks bay.old) (B.disks bay.new) (slots_of group.old.seats) }
+    ensures keeps { B.tells → (left : List Bool) (named : Option (List ℕ)) → IsFoundBy (B.disks bay.old) left named group.old → (steps : List Step) → readied group.old changes.now timestamp ≡ Ok steps
+        → KeepsHistories (B.disks bay.old) (B.disks bay.new) left group.old steps result }
+    ensures leaves { B.tells → (steps : List Step) → readied group.old changes.now timestamp ≡ Ok steps → StopsLeave (B.disks bay.old) (B.disks bay.new) (IsLeftWriting (B.disks bay.old) steps) }
+    ensures goes_on { GoesOn (B.disks bay.old) (B.disks bay.new) }
+    ensures same_sizes { (B.disks bay.new).sizes ≡ (B.disks bay.old).sizes }
+    ensures reads { (B.disks bay.new).failed_reads ≡ (B.disks bay.old).failed_reads }
+    ensures writes_rise { (slot : ℕ) → (B.disks bay.old).failed_writes slot ≤ (B.disks bay.new).failed_writes slot }
+{
+    let mut ready = match group.ready(alloc, changes, timestamp) {
+        Ok(ready) => ready,
+        Err(fault) => return Err(failure_of(fault)),
+    };
+    group.recover(bay, &mut ready)?;
+    group.commit(bay, &mut ready)?;
+    Ok(group.config().sequence)
+}

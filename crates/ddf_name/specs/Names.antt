@@ -1,0 +1,25 @@
+-- The word that the name of an array prints as.
+use Rattle.std.specs.Prelude.{ℕ, Bool, ◌&&◌, ◌||◌, not, ◌==◌, nat_le, List, ◌++◌, drop, take, codes, if◌then◌else◌}
+use Rattle.std.specs.List.{list_all, prefix_len}
+use Rattle.hex.specs.Hex.{encode_lower}
+
+-- a character that isn't a space and prints
+abbrev pub is_plain : ℕ → Bool
+is_plain byte = nat_le 0x21 byte && nat_le byte 0x7E
+
+-- how many of these stand in front of the padding
+abbrev pub plain_len : List ℕ → ℕ
+plain_len name = prefix_len is_plain name
+
+abbrev pub are_all : ℕ → List ℕ → Bool
+are_all value bytes = list_all (λ byte. byte == value) bytes
+
+-- one such character or more, and behind them spaces alone or zeros alone
+abbrev pub is_plain_name : List ℕ → Bool
+is_plain_name name =
+    let padding = drop (plain_len name) name in
+    not (plain_len name == 0) && (are_all 0x20 padding || are_all 0 padding)
+
+-- a name as it prints
+abbrev pub name_text : List ℕ → List ℕ
+name_text name = if is_plain_name name then take (plain_len name) name else codes "hex:" ++ encode_lower name

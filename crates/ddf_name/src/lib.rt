@@ -1,0 +1,7 @@
+//! Names of arrays: 16 bytes on disk, and the word that they print as.
+#![tactic(auto)]
+
+mod plain;
+mod printed;
+
+pub use printed::{NameText, prints_as};

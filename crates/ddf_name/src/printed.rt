@@ -1,0 +1,51 @@
+// The word that a name prints as.
+ghost use Rattle.std.specs.Prelude.{◌≡◌, ◌++◌, codes};
+ghost use Rattle.std.specs.Str.{bytes_eq};
+ghost use Rattle.hex.specs.Hex.{encode_lower};
+ghost use Rattle.ddf_name.specs.Names.{name_text};
+
+use crate::plain::{is_plain_name, plain_len};
+use ddf_bytes::{ascii_text, put_digits};
+use std::fmt;
+
+/// The name of an array as it prints: plain where it is characters and then padding, else `hex:` and the digits of all its bytes.
+#[derive(Drop)]
+pub struct NameText<'a>(pub &'a [u8; 16]);
+
+impl fmt::Display for NameText<'_> {
+    ghost use Rattle.std.specs.Prelude.{Some};
+    ghost use Rattle.ddf_name.specs.Names.{name_text};
+
+    ghost output = { λ name. Some (name_text name.0.now) };
+
+    fn fmt<W: fmt::Write>(&self, f: &mut fmt::Formatter<W>) -> fmt::Result {
+        let name = self.0;
+        if is_plain_name(name) {
+            f.write_str(ascii_text(&name[..plain_len(name)]))
+        } else {
+            let mut digits = [0; 32];
+            put_digits(name, &mut digits);
+            let digits = ascii_text(&digits);
+            write!(f, "hex:{digits}")
+        }
+    }
+}
+
+/// Whether the name of an array prints as this text.
+pub fn prints_as(name: &[u8; 16], text: &[u8]) -> bool
+    ensures { result ≡ bytes_eq (name_text name.now) text.now }
+{
+    if is_plain_name(name) {
+        return &name[..plain_len(name)] == text;
+    }
+    is_in_digits(name, text)
+}
+
+/// Whether a text is `hex:` and the digits of a name.
+fn is_in_digits(name: &[u8; 16], text: &[u8]) -> bool
+    ensures { result ≡ bytes_eq (codes "hex:" ++ encode_lower name.now) text.now }
+{
+    let mut printed = *b"hex:00000000000000000000000000000000";
+    put_digits(name, &mut printed[4..]);
+    printed.as_slice() == text
+}

@@ -1,7 +1,0 @@
-use Rattle.std.proofs.Common.{◌≡◌, None, length, take}
-use Rattle.ddf_config.specs.Refusals.{part_refusal}
-use Rattle.ddf_plan.specs.CreateRefusal.{room_refusal}
-use Rattle.ddf_plan.proofs.create_refusal.rooms_refusal.Given as goal
-
-abbrev pub invariant-loop-part : goal.invariant-loop-part
-invariant-loop-part l = part_refusal (room_refusal l.config l.seats (length l.parts)) (take l.part-index l.parts) ≡ None

@@ -1,0 +1,47 @@
+-- What a rebuild of rows leaves, at any moment and at its end, and why it ends (profile).
+use Rattle.std.specs.Prelude.{◌≡◌, ◌⊎◌, ℕ, ◌+◌, ◌-◌, ◌*◌, true, false, min, Some, slice_get}
+use Rattle.ddf_bytes.specs.Counts.{Rose}
+use Rattle.ddf_bay.specs.Sectors.{Image}
+use Rattle.ddf_bay.specs.State.{BayState}
+use Rattle.ddf_primary.specs.Placement.{Placement}
+use Rattle.ddf_primary.specs.Cells.{depth_of}
+use Rattle.ddf_array.specs.declared.part.Part.{Part}
+use Rattle.ddf_array.specs.declared.place.Place.{Place}
+use Rattle.ddf_array.specs.Volume.{Volume}
+use Rattle.ddf_array.specs.Within.{is_within}
+use Rattle.ddf_volume.specs.declared.fault.VolumeFault.{VolumeFault}
+use Rattle.ddf_volume.specs.declared.fault.VolumeFault.TheVariants.{Range, Degraded, Lost, Unsure, Disk}
+use Rattle.ddf_volume.specs.Reading.{Failed, NoneLeft}
+use Rattle.ddf_cells.specs.CellSources.{cell_sources, needed_positions, wanted}
+use Rattle.ddf_rebuild.specs.Target.{IsInRows, IsTarget}
+
+-- The target's sectors at these rows hold what they should by an image: the values of their cells, and the sums of rows
+-- where the position holds parity.
+abbrev pub HasRebuilt : Volume → (element position from to : ℕ) → (before image : Image) → Type 0
+HasRebuilt volume element position from to before image =
+    (part : Part) (place : Place) (slot sector : ℕ) → IsTarget volume element position part place slot → IsInRows part.shape from to sector
+    → image slot (place.start + sector) ≡ wanted volume before element part sector position
+
+-- no source is left at a slot for what the target should hold at a sector of these rows
+pub record NoneLeftInRows (failed : ℕ → Type 0) (volume : Volume) (element position from to slot : ℕ) : Type 0 where
+  pub part : Part
+  pub is_part : slice_get volume.parts element ≡ Some part
+  pub sector : ℕ
+  pub in_rows : IsInRows part.shape from to sector
+  pub number : ℕ
+  pub other : ℕ
+  pub is_needed : slice_get (needed_positions part sector position) number ≡ Some other
+  pub none_left : NoneLeft failed (cell_sources volume element part sector other) slot
+
+-- the cause of an answer other than Ok
+abbrev pub IsRebuildFault : {D : Type 0} → (old new : BayState D) → Volume → (element position from to : ℕ) → VolumeFault → Type 0
+IsRebuildFault old new volume element position from to (Range most) = ⊥
+IsRebuildFault old new volume element position from to Degraded = ⊥
+IsRebuildFault old new volume element position from to Lost = is_within volume ≡ false
+IsRebuildFault old new volume element position from to Unsure = ⊥
+IsRebuildFault old new volume element position from to (Disk slot) =
+    (is_within volume ≡ true) × (Rose (old.failed_writes slot) (new.failed_writes slot) ⊎ NoneLeftInRows (Failed old new) volume element position from to slot)
+
+-- how many sectors these rows have
+abbrev pub sectors_of : Placement → (from to : ℕ) → ℕ
+sectors_of shape from to = min (to * shape.strip) (depth_of shape) - from * shape.strip

@@ -1,0 +1,5 @@
+pub mod Accept
+pub mod First
+pub mod Spares
+pub mod Begin
+pub mod Places

@@ -1,0 +1,80 @@
+// The change that is asked for.
+ghost use Rattle.std.specs.Prelude.{◌≡◌, IfOk};
+ghost use Rattle.ddf_request.specs.Request.{IsRequested, IsWish, change_for, delete_change, request_of, slots_named};
+
+use crate::creating::create_change;
+use crate::named::named_guid;
+use crate::new_array::slots_of;
+use crate::slots::{reference_on, slots_refusal};
+use crate::spare::spare_change;
+use ddf_bytes::{NoMemory, Stamp};
+use ddf_config::{Config, Refusal, Seat};
+use ddf_plan::{Change, PlanFault};
+use ddf_words::Wish;
+use std::alloc::Global;
+
+/// The change of a group that a wish asks for, of a group of this configuration and these seats, on so many slots.
+///
+/// # Errors
+/// `Refused` with the first of these. `NoSlot` with the first slot that isn't there, in the order of the words. `NotMember` with the
+/// first slot whose disk is no current member. To delete: `NoArray` where no array has the name. For a spare: `NoArray` where a word
+/// names no array, or one of which the disks tell no element. To create, where the word for the secondary level doesn't fit the count
+/// of elements: what the plan refuses such an array for, where that comes before `Shape`, and `Shape` otherwise. What the change itself
+/// is refused for comes behind. `Memory` where memory ran out.
+pub fn request(
+    alloc: Global,
+    slots: usize,
+    config: &Config,
+    seats: &[Seat],
+    stamp: &Stamp,
+    wish: &Wish,
+) -> Result<Change, PlanFault>
+    requires { IsWish wish.now }
+    ensures { IsRequested (request_of slots config.now seats.now stamp.now wish.now) result }
+{
+    let named = slots_named(alloc, wish)?;
+    if let Some(refusal) = slots_refusal(slots, seats, named.as_slice()) {
+        return Err(PlanFault::Refused(refusal));
+    }
+    change_for(alloc, config, seats, stamp, wish)
+}
+
+/// The slots that a wish names, in the order of its words.
+fn slots_named(alloc: Global, wish: &Wish) -> Result<Vec<u8>, NoMemory>
+    ensures { IfOk result (λ slots. slots.items ≡ slots_named wish.now) }
+{
+    match wish {
+        Wish::Create(creation) => slots_of(alloc, creation.elements.items()),
+        Wish::Spare { slot, .. } | Wish::Fail { slot } => Ok(Vec::from_slice(alloc, &[*slot])?),
+        _ => Ok(Vec::new(alloc)),
+    }
+}
+
+/// The change, where the slots that the wish names have current members.
+fn change_for(
+    alloc: Global,
+    config: &Config,
+    seats: &[Seat],
+    stamp: &Stamp,
+    wish: &Wish,
+) -> Result<Change, PlanFault>
+    requires { IsWish wish.now }
+    ensures { IsRequested (change_for config.now seats.now stamp.now wish.now) result }
+{
+    match wish {
+        Wish::Create(creation) => create_change(alloc, config, seats, stamp, creation),
+        Wish::Delete { name } => delete_change(config, name.items()),
+        Wish::Spare { slot, word } => spare_change(alloc, config, reference_on(seats, *slot), word),
+        Wish::Fail { slot } => Ok(Change::Fail(reference_on(seats, *slot))),
+    }
+}
+
+/// The change that deletes the first array of the table whose name prints as this word.
+fn delete_change(config: &Config, name: &[u8]) -> Result<Change, PlanFault>
+    ensures { IsRequested (delete_change config.now name.now) result }
+{
+    match named_guid(&config.arrays, name) {
+        Some(guid) => Ok(Change::Delete(guid)),
+        None => Err(PlanFault::Refused(Refusal::NoArray)),
+    }
+}

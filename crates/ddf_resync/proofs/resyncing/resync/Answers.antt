@@ -1,0 +1,20 @@
+use Rattle.std.proofs.Common.{◌≡◌, false, sym}
+use Rattle.ddf_array.specs.Within.{is_redundant}
+use Rattle.ddf_volume.specs.Reading.{NoneFailed}
+use Rattle.ddf_cells.proofs.Whole.{readable}
+use Rattle.ddf_resync.proofs.Resynced.{not_refused, plain_resynced}
+use Rattle.ddf_resync.proofs.resyncing.resync.Goals as goal
+
+pub returns-then-not-redundant-clause-resynced : goal.returns-then-not-redundant-clause-resynced
+returns-then-not-redundant-clause-resynced g c = λ tells.
+    let v = c.args.view.now in
+    let old = g.B.Bay.disks c.args.bay.now in
+    let is = not_refused v (sym c.in_default.ensures.value) in
+    let plain : is_redundant v ≡ false = sym c.if-not-redundant.ensures in
+    plain_resynced v c.resync_refusal.ensures.sound plain c.requires.apart is.1 old.held (NoneFailed v old old)
+
+pub resync_all-requires-clause-readable : goal.resync_all-requires-clause-readable
+resync_all-requires-clause-readable g c =
+    let v = c.args.view.now in
+    let is = not_refused v (sym c.in_default.ensures.value) in
+    readable v c.resync_refusal.ensures.sound is.1 is.0

@@ -1,0 +1,82 @@
+use Rattle.std.proofs.Common.{◌≡◌, ◌∙◌, ◌⊎◌, inl, inr, ⊎_elim, ℕ, ◌<◌, List, sym, ap, subst, length}
+use Rattle.std.proofs.lemmas.Result.{err_from_is_err_and, on_ok_weaker}
+use Rattle.ddf_bytes.specs.Counts.{Rose}
+use Rattle.ddf_bay.specs.Sectors.{Image}
+use Rattle.ddf_array.specs.Volume.{capacity}
+use Rattle.ddf_volume.specs.Reading.{NoneFailed}
+use Rattle.ddf_cells.specs.Parity.{IsParityCell}
+use Rattle.ddf_cells.proofs.Ends.{moments_end, settled_end}
+use Rattle.ddf_cells.proofs.WriteSteps.{writes_then, writes_wider}
+use Rattle.ddf_resync.specs.Copying.{AreCopied, FirstTaken}
+use Rattle.ddf_resync.specs.Resyncing.{MayResync}
+use Rattle.ddf_resync.specs.Setting.{AreRightIn, SetsParity}
+use Rattle.ddf_resync.proofs.Resynced.{equal_mid, given_there, resynced}
+use Rattle.ddf_resync.proofs.Stops.{none_before, row_since}
+use Rattle.ddf_resync.proofs.resyncing.resync_all.Goals as goal
+
+pub set_all-requires-clause-fits : goal.set_all-requires-clause-fits
+set_all-requires-clause-fits g c = rw c.in_ok-copy_all.ensures.writes.same_sizes c.requires.fits
+
+pub returns-in_err-set_all-clause-any_moment : goal.returns-in_err-set_all-clause-any_moment
+returns-in_err-set_all-clause-any_moment g c =
+    let v = c.args.view.now in
+    let May = MayResync v g.B.Bay.tells (g.B.Bay.disks c.args.bay.now).held in
+    (writes_then May g.B.Bay.tells c.in_ok-copy_all.ensures.writes
+    (writes_wider (SetsParity v) May g.B.Bay.tells (λ s l bytes of. inr of) c.in_err-set_all.ensures.writes)).any_moment
+
+pub returns-in_err-set_all-clause-cause : goal.returns-in_err-set_all-clause-cause
+returns-in_err-set_all-clause-cause g c =
+    let v = c.args.view.now in
+    let May = MayResync v g.B.Bay.tells (g.B.Bay.disks c.args.bay.now).held in
+    let p = err_from_is_err_and c.from_residual-in_err-set_all.result c.from_residual-in_err-set_all.ensures.1 in
+    rw (p.1, p.2)
+    (⊎_elim inl (λ row. inr (inr row))
+    (row_since May (SetsParity v) g.B.Bay.tells c.in_ok-copy_all.ensures.writes c.in_err-set_all.ensures.writes v _ c.in_err-set_all.ensures.cause))
+
+pub returns-clause-any_moment : goal.returns-clause-any_moment
+returns-clause-any_moment g c =
+    let v = c.args.view.now in
+    let May = MayResync v g.B.Bay.tells (g.B.Bay.disks c.args.bay.now).held in
+    let w = writes_then May g.B.Bay.tells c.in_ok-copy_all.ensures.writes
+    (writes_wider (SetsParity v) May g.B.Bay.tells (λ s l bytes of. inr of) c.in_ok-set_all.ensures.writes) in
+    moments_end May g.B.Bay.tells w (g.B.Bay.disks c.sync_touched.new.bay) c.sync_touched.ensures.left c.sync_touched.ensures.held c.sync_touched.ensures.any_moment
+
+pub returns-clause-resynced : goal.returns-clause-resynced
+returns-clause-resynced g c = λ tells.
+    let v = c.args.view.now in
+    let old = g.B.Bay.disks c.args.bay.now in
+    let a = g.B.Bay.disks c.copy_all.new.bay in
+    let b = g.B.Bay.disks c.set_all.new.bay in
+    let n = g.B.Bay.disks c.sync_touched.new.bay in
+    let May = MayResync v g.B.Bay.tells old.held in
+    let first = c.in_ok-copy_all.ensures.writes in
+    let next = c.in_ok-set_all.ensures.writes in
+    let same : n.held ≡ b.held = c.sync_touched.ensures.held in
+    let copied : AreCopied v old.held a.held (capacity v) = c.in_ok-copy_all.ensures.copied tells in
+    let equal = equal_mid v c.requires.known old.held a.held copied in
+    let right : AreRightIn v n.held (length v.parts) =
+    subst (λ (f : Image). AreRightIn v f (length v.parts)) (sym same) (c.in_ok-set_all.ensures.set tells equal) in
+    let only : (s l : ℕ) → (n.held s l ≡ a.held s l) ⊎ IsParityCell v s l =
+    λ s l. ⊎_elim (λ was. inl (ap (λ (f : Image). f s l) same ∙ was)) (λ given. inr given.0) (next.held tells s l) in
+    let until : NoneFailed v old n → NoneFailed v old b =
+    λ none slot on rose. none slot on (subst (λ (m : ℕ). Rose (old.failed_reads slot) m) (sym (ap (λ (f : ℕ → ℕ). f slot) c.sync_touched.ensures.reads)) rose) in
+    let taken : NoneFailed v old n → FirstTaken v old.held a.held (capacity v) =
+    λ none. c.in_ok-copy_all.ensures.first tells (none_before May (SetsParity v) g.B.Bay.tells first next v (until none)) in
+    on_ok_weaker c.sync_touched.result
+    (λ settled. resynced v c.requires.known c.requires.apart c.requires.whole old.held a.held n.held copied only right (NoneFailed v old n) taken)
+    c.sync_touched.ensures.settled
+
+pub returns-clause-settled : goal.returns-clause-settled
+returns-clause-settled g c = λ tells.
+    let v = c.args.view.now in
+    let old = g.B.Bay.disks c.args.bay.now in
+    let May = MayResync v g.B.Bay.tells old.held in
+    let w = writes_then May g.B.Bay.tells c.in_ok-copy_all.ensures.writes
+    (writes_wider (SetsParity v) May g.B.Bay.tells (λ s l bytes of. inr of) c.in_ok-set_all.ensures.writes) in
+    on_ok_weaker c.sync_touched.result
+    (λ synced slot settled.
+    settled_end May g.B.Bay.tells w (g.B.Bay.disks c.sync_touched.new.bay) c.sync_touched.ensures.left c.sync_touched.ensures.held tells
+    (given_there v c.requires.known old.sizes c.requires.fits g.B.Bay.tells old.held)
+    (λ on is_on touched. synced on (subst (λ (sizes : List ℕ). on < length sizes) (sym w.same_sizes) is_on) touched)
+    slot settled)
+    c.sync_touched.ensures.settled

@@ -1,0 +1,12 @@
+use Rattle.std.proofs.Common.{ℕ, ◌+◌, ◌<◌}
+use Rattle.ddf_volume.specs.Reading.{OnlyReads}
+use Rattle.ddf_resync.specs.Agreeing.{RowAgrees}
+use Rattle.ddf_resync.proofs.rows.rows_agree.Given as goal
+
+abbrev pub invariant-loop-at : goal.invariant-loop-at
+invariant-loop-at g l =
+    let B = g.B.Bay in
+    record {
+      reads : OnlyReads (B.disks l.fn.bay) (B.disks l.bay);
+      agree : B.tells → (k : ℕ) → k < l.at → RowAgrees l.view (B.disks l.fn.bay).held l.element l.part l.position (l.sector + k);
+    }

@@ -1,0 +1,64 @@
+-- What a scrub finds (profile).
+use Rattle.std.specs.Prelude.{◌≡◌, ℕ, ◌*◌, ◌+◌, ◌<◌, ◌≤◌, false, true, Option, Some, None, slice_get}
+use Rattle.ddf_bay.specs.Sectors.{Image}
+use Rattle.ddf_bay.specs.State.{BayState}
+use Rattle.ddf_primary.specs.Cells.{depth_of}
+use Rattle.ddf_array.specs.declared.part.Part.{Part}
+use Rattle.ddf_array.specs.Redundant.{IsRedundant}
+use Rattle.ddf_array.specs.Volume.{Volume}
+use Rattle.ddf_array.specs.Within.{is_within}
+use Rattle.ddf_volume.specs.declared.fault.VolumeFault.{VolumeFault}
+use Rattle.ddf_volume.specs.declared.fault.VolumeFault.TheVariants.{Range, Degraded, Lost, Unsure, Disk}
+use Rattle.ddf_volume.specs.Reading.{Failed, IsOn}
+use Rattle.ddf_resync.specs.declared.outcome.Scrub.{Scrub}
+use Rattle.ddf_resync.specs.declared.outcome.Scrub.TheVariants.{Clean, Differs}
+use Rattle.ddf_resync.specs.Agreeing.{Agrees}
+
+-- an element agrees at every sector before one
+abbrev pub AgreesBefore : Volume → Image → (element sector : ℕ) → Type 0
+AgreesBefore volume image element sector =
+    (part : Part) (s : ℕ) → slice_get volume.parts element ≡ Some part → s < sector → s < depth_of part.shape → Agrees volume image element part s
+
+-- so do all elements before one
+abbrev pub AgreeBefore : Volume → Image → (element : ℕ) → Type 0
+AgreeBefore volume image element =
+    (e s : ℕ) (part : Part) → e < element → slice_get volume.parts e ≡ Some part → s < depth_of part.shape → Agrees volume image e part s
+
+-- a row of an element is the least that doesn't agree
+pub record IsLeastDiffering (volume : Volume) (image : Image) (element row : ℕ) : Type 0 where
+  pub part : Part
+  pub is_part : slice_get volume.parts element ≡ Some part
+  pub sector : ℕ
+  pub from : row * part.shape.strip ≤ sector
+  pub below : sector < row * part.shape.strip + part.shape.strip
+  pub deep : sector < depth_of part.shape
+  pub differs : Agrees volume image element part sector → ⊥
+  pub rows_before : AgreesBefore volume image element (row * part.shape.strip)
+  pub elements_before : AgreeBefore volume image element
+
+-- what an answer says of an image
+abbrev pub IsScrubbed : Volume → Image → Scrub → Type 0
+IsScrubbed volume image Clean = IsRedundant volume image
+IsScrubbed volume image (Differs element row) = (IsRedundant volume image → ⊥) × IsLeastDiffering volume image element row
+
+-- the cause of an answer other than Ok
+abbrev pub IsScrubFault : {D : Type 0} → (old new : BayState D) → Volume → VolumeFault → Type 0
+IsScrubFault old new volume (Range most) = ⊥
+IsScrubFault old new volume Degraded = ⊥
+IsScrubFault old new volume Lost = is_within volume ≡ false
+IsScrubFault old new volume Unsure = ⊥
+IsScrubFault old new volume (Disk slot) = (is_within volume ≡ true) × IsOn volume slot × Failed old new slot
+
+-- a row is the first of an element that doesn't agree
+pub record DiffersFirst (volume : Volume) (image : Image) (element : ℕ) (part : Part) (row : ℕ) : Type 0 where
+  pub sector : ℕ
+  pub from : row * part.shape.strip ≤ sector
+  pub below : sector < row * part.shape.strip + part.shape.strip
+  pub deep : sector < depth_of part.shape
+  pub differs : Agrees volume image element part sector → ⊥
+  pub rows_before : (s : ℕ) → s < row * part.shape.strip → Agrees volume image element part s
+
+-- what is found of an element: all its rows agree, or the first that doesn't
+abbrev pub IsElementScrubbed : Volume → Image → (element : ℕ) → Part → Option ℕ → Type 0
+IsElementScrubbed volume image element part None = (s : ℕ) → s < depth_of part.shape → Agrees volume image element part s
+IsElementScrubbed volume image element part (Some row) = DiffersFirst volume image element part row

@@ -1,0 +1,95 @@
+//! The copies of blocks, made equal.
+ghost use Rattle.std.specs.Prelude.{◌≡◌, ◌⊎◌, ◌+◌, ◌<◌, ◌≤◌, ◌^◌, ℕ, List, Some, false, length, slice_get, OnOk, IfOk, IfErr};
+ghost use Rattle.ddf_bytes.specs.Counts.{Rose};
+ghost use Rattle.ddf_array.specs.Apart.{IsApart};
+ghost use Rattle.ddf_array.specs.Sources.{trusts_parity};
+ghost use Rattle.ddf_array.specs.Volume.{Fits, IsVolume, capacity};
+ghost use Rattle.ddf_volume.specs.Reading.{Failed, NoneFailed};
+ghost use Rattle.ddf_cells.specs.CellSources.{IsReadable};
+ghost use Rattle.ddf_cells.specs.Touching.{Writes};
+ghost use Rattle.ddf_resync.specs.Copying.{AreCopied, FirstTaken, HasOneCopy};
+ghost use Rattle.ddf_resync.specs.Resyncing.{MayResync, NoneLeftOfBlock};
+
+use ddf_array::View;
+use ddf_bay::Bay;
+use ddf_cells::{SECTORS, blocks_along, read_run, write_cells};
+use ddf_volume::is_on_every;
+
+/// Whether a block may have more than one cell: each element holds it, or each position of its element.
+fn is_copied(view: &View, block: u64) -> bool
+    requires known { IsVolume view.now }
+    requires block { block < capacity view.now }
+    ensures { result ≡ false → HasOneCopy view.now block }
+{
+    if view.is_mirrored() {
+        return true;
+    }
+    let spot = view.spot(block);
+    match view.part(usize::from(spot.element)) {
+        Some(part) => is_on_every(part.shape.layout()),
+        None => true,
+    }
+}
+
+/// Makes the copies of the first blocks from one on equal, as far as these lie along a strip: each block is read once, and
+/// these bytes are written to all of its cells. Answers how many blocks these are. After a failure, the slot that failed,
+/// or at which no source of a block is left.
+fn copy_first<B: Bay>(
+    bay: &mut B,
+    view: &View,
+    block: u64,
+    touched: &mut [bool; 64],
+) -> Result<usize, usize>
+    requires known { IsVolume view.now }
+    requires apart { IsApart view.now }
+    requires fits { Fits (B.disks bay.old).sizes view.now }
+    requires readable { IsReadable view.now }
+    requires marked { trusts_parity view.now ≡ false }
+    requires block { block < capacity view.now }
+    requires small { capacity view.now < 2 ^ 64 }
+    ensures some { IfOk result (λ count. 0 < count) }
+    ensures within { IfOk result (λ count. block + count ≤ capacity view.now) }
+    ensures writes { (before : ℕ → ℕ → List ℕ) → (B.tells → AreCopied view.now before (B.disks bay.old).held block)
+        → Writes (MayResync view.now B.tells before) B.tells (B.disks bay.old) (B.disks bay.new) touched.old touched.new }
+    ensures copied { B.tells → (before : ℕ → ℕ → List ℕ) → AreCopied view.now before (B.disks bay.old).held block
+        → IfOk result (λ count. AreCopied view.now before (B.disks bay.new).held (block + count)) }
+    ensures first { B.tells → (before : ℕ → ℕ → List ℕ) → AreCopied view.now before (B.disks bay.old).held block → FirstTaken view.now before (B.disks bay.old).held block
+        → IfOk result (λ count. NoneFailed view.now (B.disks bay.old) (B.disks bay.new) → FirstTaken view.now before (B.disks bay.new).held (block + count)) }
+    ensures cause { IfErr result (λ slot. Rose ((B.disks bay.old).failed_writes slot) ((B.disks bay.new).failed_writes slot)
+        ⊎ NoneLeftOfBlock (Failed (B.disks bay.old) (B.disks bay.new)) view.now slot) }
+{
+    let count = blocks_along(view, block, SECTORS);
+    if !is_copied(view, block) {
+        return Ok(count);
+    }
+    let mut blocks = [[0; 512]; SECTORS];
+    let out = &mut blocks[..count];
+    read_run(bay, view, block, out)?;
+    write_cells(bay, view, block, out, touched)?;
+    Ok(count)
+}
+
+/// Makes the copies of each block equal. After a failure, the slot that failed, or at which no source of a block is left.
+pub(crate) fn copy_all<B: Bay>(
+    bay: &mut B,
+    view: &View,
+    touched: &mut [bool; 64],
+) -> Result<(), usize>
+    requires known { IsVolume view.now }
+    requires apart { IsApart view.now }
+    requires fits { Fits (B.disks bay.old).sizes view.now }
+    requires readable { IsReadable view.now }
+    requires marked { trusts_parity view.now ≡ false }
+    ensures writes { Writes (MayResync view.now B.tells (B.disks bay.old).held) B.tells (B.disks bay.old) (B.disks bay.new) touched.old touched.new }
+    ensures copied { B.tells → OnOk result (AreCopied view.now (B.disks bay.old).held (B.disks bay.new).held (capacity view.now)) }
+    ensures first { B.tells → OnOk result (NoneFailed view.now (B.disks bay.old) (B.disks bay.new) → FirstTaken view.now (B.disks bay.old).held (B.disks bay.new).held (capacity view.now)) }
+    ensures cause { IfErr result (λ slot. Rose ((B.disks bay.old).failed_writes slot) ((B.disks bay.new).failed_writes slot)
+        ⊎ NoneLeftOfBlock (Failed (B.disks bay.old) (B.disks bay.new)) view.now slot) }
+{
+    let capacity = view.capacity();
+    let mut block = 0;
+    while block < capacity {
+        block += copy_first(bay, view, block, touched)? as u64;
+    }
+    Ok(())
+}

@@ -1,0 +1,42 @@
+// Laws of what a scrub compares and of what a resync leaves: functions that do nothing, whose contracts are the laws.
+ghost use Rattle.std.specs.Prelude.{◌≡◌, ◌⊎◌, ◌<◌, ℕ, Some, slice_get};
+ghost use Rattle.ddf_bay.specs.Sectors.{Image, IsLeft};
+ghost use Rattle.ddf_primary.specs.Cells.{depth_of};
+ghost use Rattle.ddf_array.specs.declared.part.Part.{Part};
+ghost use Rattle.ddf_array.specs.declared.site.Site.{Site};
+ghost use Rattle.ddf_array.specs.Apart.{IsApart};
+ghost use Rattle.ddf_array.specs.Redundant.{IsRedundant};
+ghost use Rattle.ddf_array.specs.Sound.{AreSectors};
+ghost use Rattle.ddf_array.specs.Sources.{copies};
+ghost use Rattle.ddf_array.specs.Values.{bytes_at};
+ghost use Rattle.ddf_array.specs.Volume.{IsVolume, Volume};
+ghost use Rattle.ddf_resync.specs.Agreeing.{Agrees};
+ghost use Rattle.ddf_resync.specs.Resyncing.{IsAmongResynced, IsHeld, IsLeftByResync, MayResync};
+
+use ddf_bay::Bay;
+
+/// An array is redundant where it agrees at every sector of its elements, and only there.
+pub fn agreeing_is_redundant()
+    ensures redundant { (volume : Volume) (image : Image) → IsVolume volume → AreSectors image
+        → ((element sector : ℕ) (part : Part) → slice_get volume.parts element ≡ Some part → sector < depth_of part.shape → Agrees volume image element part sector)
+        → IsRedundant volume image }
+    ensures agrees { (volume : Volume) (image : Image) → IsVolume volume → IsRedundant volume image
+        → (element sector : ℕ) (part : Part) → slice_get volume.parts element ≡ Some part → sector < depth_of part.shape → Agrees volume image element part sector }
+{}
+
+/// On the way, each available cell of a block has bytes that one of the block's available cells held before. Where the
+/// array was redundant these are its own, so that only cells of parity change.
+pub fn a_resync_leaves_bytes_of_copies()
+    ensures taken { (volume : Volume) (block i : ℕ) (before after : Image) (one : Site) → IsVolume volume → IsApart volume
+        → IsLeftByResync volume (Unit {0}) before after → slice_get (copies volume block) i ≡ Some one → IsHeld volume before block (bytes_at after one) }
+    ensures same { (volume : Volume) (block i : ℕ) (before after : Image) (one : Site) → IsVolume volume → IsApart volume
+        → IsLeftByResync volume (Unit {0}) before after → IsRedundant volume before → slice_get (copies volume block) i ≡ Some one → bytes_at after one ≡ bytes_at before one }
+{}
+
+/// An image that a stop leaves while an array is resynced comes from one that it might leave before, in which at most
+/// cells of blocks and of parity are others.
+pub fn a_stop_in_a_resync_has_an_image_before<B: Bay>(bay: &B)
+    ensures { (volume : Volume) (first image : Image) → (B.disks bay.now).tells_left
+        → IsAmongResynced volume B.tells first (B.disks bay.now).may_hold image
+        → (before : Image) × IsLeft (B.disks bay.now).may_hold before × ((s l : ℕ) → (image s l ≡ before s l) ⊎ MayResync volume B.tells first s l (image s l)) }
+{}

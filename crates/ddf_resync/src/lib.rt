@@ -1,0 +1,19 @@
+//! The copies and parity of an array: whether they agree, and how they are made to.
+#![tactic(auto)]
+
+mod copies;
+mod copying;
+mod laws;
+mod outcome;
+mod resyncing;
+mod rows;
+mod setting;
+mod sums;
+mod walk;
+
+pub use laws::{
+    a_resync_leaves_bytes_of_copies, a_stop_in_a_resync_has_an_image_before, agreeing_is_redundant,
+};
+pub use outcome::Scrub;
+pub use resyncing::{resync, resync_refusal};
+pub use walk::scrub;

@@ -1,0 +1,92 @@
+//! The resync of an array.
+ghost use Rattle.std.specs.Prelude.{◌≡◌, ℕ, None, true, false, OnOk, IfErr};
+ghost use Rattle.ddf_bay.specs.Moments.{IsSettled, StopsLeave};
+ghost use Rattle.ddf_array.specs.Apart.{IsApart};
+ghost use Rattle.ddf_array.specs.Sources.{trusts_parity};
+ghost use Rattle.ddf_array.specs.Volume.{Fits, IsVolume};
+ghost use Rattle.ddf_array.specs.Within.{is_redundant};
+ghost use Rattle.ddf_volume.specs.Reading.{NoneFailed};
+ghost use Rattle.ddf_cells.specs.CellSources.{IsReadable};
+ghost use Rattle.ddf_cells.specs.Degraded.{is_degraded};
+ghost use Rattle.ddf_cells.specs.Touching.{GoesBetween};
+ghost use Rattle.ddf_resync.specs.Resyncing.{AddsResynced, HasResynced, IsAmongResynced, IsLeftByResync, IsResyncFault, IsStopped, resync_refusal};
+
+use crate::copying::copy_all;
+use crate::setting::set_all;
+use ddf_array::View;
+use ddf_bay::Bay;
+use ddf_cells::{is_degraded, sync_touched};
+use ddf_volume::VolumeFault;
+
+/// Why an array isn't resynced: `Lost` where it isn't within its level, `Unsure` where an element that keeps parity lacks a
+/// position, the first of these that holds.
+pub fn resync_refusal(view: &View) -> Option<VolumeFault>
+    ensures value { result ≡ resync_refusal view.now }
+    ensures sound { IsVolume view.now }
+{
+    let _parts = view.parts();
+    if !view.within() {
+        return Some(VolumeFault::Lost);
+    }
+    if is_degraded(view) {
+        return Some(VolumeFault::Unsure);
+    }
+    None
+}
+
+/// Makes the copies of an array's blocks equal, then its parity right, and makes both sure.
+fn resync_all<B: Bay>(bay: &mut B, view: &View) -> Result<(), usize>
+    requires known { IsVolume view.now }
+    requires apart { IsApart view.now }
+    requires fits { Fits (B.disks bay.old).sizes view.now }
+    requires readable { IsReadable view.now }
+    requires marked { view.now.marked ≡ true }
+    requires whole { is_degraded view.now ≡ false }
+    ensures any_moment { StopsLeave (B.disks bay.old) (B.disks bay.new) (IsAmongResynced view.now B.tells (B.disks bay.old).held (B.disks bay.old).may_hold) }
+    ensures left { AddsResynced view.now B.tells (B.disks bay.old).held (B.disks bay.old).may_hold (B.disks bay.new).may_hold }
+    ensures held { B.tells → IsLeftByResync view.now B.tells (B.disks bay.old).held (B.disks bay.new).held }
+    ensures resynced { B.tells → OnOk result (HasResynced view.now (NoneFailed view.now (B.disks bay.old) (B.disks bay.new)) (B.disks bay.old).held (B.disks bay.new).held) }
+    ensures settled { B.tells → OnOk result ((slot : ℕ) → IsSettled (B.disks bay.old).may_hold (B.disks bay.old).held slot → IsSettled (B.disks bay.new).may_hold (B.disks bay.new).held slot) }
+    ensures cause { IfErr result (IsStopped (B.disks bay.old) (B.disks bay.new) view.now) }
+    ensures goes { GoesBetween (B.disks bay.old) (B.disks bay.new) }
+{
+    let mut touched = [false; 64];
+    copy_all(bay, view, &mut touched)?;
+    set_all(bay, view, &mut touched)?;
+    sync_touched(bay, &touched)
+}
+
+/// Makes an array redundant. Each block that may have copies is read once, by the first of its available cells that can be
+/// read, and these bytes are written to all of them, one of which a read failed too. Then the parity of every row of every
+/// element that keeps any becomes the exclusive-or of the row's data cells, that of rows without blocks too. Then each slot
+/// that was written to is synced. An array that isn't redundant by its level is left alone, and no call is made.
+///
+/// # Errors
+/// `Lost` where the array isn't within its level, `Unsure` where an element that keeps parity lacks a position; then no call
+/// is made. `Disk` where a write or sync of the slot failed, or each source of a block or of a data cell that is needed has
+/// a slot of which a read failed: it names such a slot of the first source.
+pub fn resync<B: Bay>(bay: &mut B, view: &View) -> Result<(), VolumeFault>
+    requires apart { IsApart view.now }
+    requires fits { Fits (B.disks bay.old).sizes view.now }
+    requires marked { is_redundant view.now ≡ true → trusts_parity view.now ≡ false }
+    ensures any_moment { StopsLeave (B.disks bay.old) (B.disks bay.new) (IsAmongResynced view.now B.tells (B.disks bay.old).held (B.disks bay.old).may_hold) }
+    ensures left { AddsResynced view.now B.tells (B.disks bay.old).held (B.disks bay.old).may_hold (B.disks bay.new).may_hold }
+    ensures held { B.tells → IsLeftByResync view.now B.tells (B.disks bay.old).held (B.disks bay.new).held }
+    ensures resynced { B.tells → OnOk result (HasResynced view.now (NoneFailed view.now (B.disks bay.old) (B.disks bay.new)) (B.disks bay.old).held (B.disks bay.new).held) }
+    ensures settled { B.tells → OnOk result ((slot : ℕ) → IsSettled (B.disks bay.old).may_hold (B.disks bay.old).held slot → IsSettled (B.disks bay.new).may_hold (B.disks bay.new).held slot) }
+    ensures ok { OnOk result (resync_refusal view.now ≡ None) }
+    ensures fault { IfErr result (IsResyncFault (B.disks bay.old) (B.disks bay.new) view.now) }
+    ensures goes { GoesBetween (B.disks bay.old) (B.disks bay.new) }
+    ensures idle { is_redundant view.now ≡ false → (B.disks bay.new).calls ≡ (B.disks bay.old).calls }
+{
+    if let Some(fault) = resync_refusal(view) {
+        return Err(fault);
+    }
+    if !view.redundant() {
+        return Ok(());
+    }
+    match resync_all(bay, view) {
+        Ok(()) => Ok(()),
+        Err(slot) => Err(VolumeFault::Disk(slot)),
+    }
+}

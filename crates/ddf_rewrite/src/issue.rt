@@ -1,0 +1,10 @@
+use ddf_config::Config;
+
+/// A configuration as a change or a recovery issues it.
+#[derive(Drop)]
+pub(crate) struct Issue<'a> {
+    /// The configuration.
+    pub config: &'a Config,
+    /// When it is issued: seconds since 1980 began.
+    pub timestamp: u32,
+}

@@ -1,0 +1,74 @@
+// The call that the program makes, over the disks of a scenario.
+use crate::disks::{ALL, Disks, Output, new_bay};
+use crate::run::{sync_slot, write_sectors};
+use crate::told::text_of;
+use crate::words::{push_words, words_over};
+use anyhow::bail;
+use ddf_bay::{Bay, MemoryBay};
+use ddf_bytes::{MemorySink, MemorySource, Stamp};
+use ddf_command::{serve, slot_paths};
+use ddf_linux::Turned;
+use std::alloc::Global;
+
+/// The sizes of small disks, for words alone.
+const SMALL: [u64; 64] = [9; 64];
+
+/// The answer of a command over all disks.
+pub fn command(alloc: Global, disks: &mut Disks, text: &str) -> anyhow::Result<String> {
+    let mut bay = Turned::new(disks.take()?);
+    if disks.loses_anchors {
+        lose_anchors(&mut bay)?;
+        disks.loses_anchors = false;
+    }
+    let words = words_over(alloc, bay.slots(), text)?;
+    let answer = call(alloc, &mut bay, words.as_slice(), disks.stamp, disks.output)?;
+    disks.bay = Some(bay.into_inner());
+    Ok(answer)
+}
+
+/// The answer of a call with all its words, over as many small blank disks as they name, to which nothing can be written.
+pub fn command_alone(alloc: Global, stamp: Stamp, text: &str) -> anyhow::Result<String> {
+    let mut words = Vec::new(alloc);
+    push_words(alloc, &mut words, text)?;
+    let sizes = &SMALL[..slot_paths(words.as_slice()).len()];
+    let mut bay = Turned::new(new_bay(alloc, sizes, 0)?);
+    call(alloc, &mut bay, words.as_slice(), stamp, ALL)
+}
+
+fn call(
+    alloc: Global,
+    bay: &mut Turned<MemoryBay>,
+    words: &[String],
+    stamp: Stamp,
+    output: Output,
+) -> anyhow::Result<String> {
+    if bay.slots() != slot_paths(words).len() {
+        bail!("the words name another number of disks");
+    }
+    let mut failing = Vec::new(alloc);
+    if let Some(call) = output.failing {
+        failing.push(call)?;
+    }
+    let mut source = MemorySource::new(Vec::new(alloc), Vec::new(alloc));
+    let Ok(mut sink) = MemorySink::new(alloc, output.room, failing) else {
+        bail!("memory ran out");
+    };
+    let status = serve(alloc, words, bay, &mut source, &mut sink, stamp);
+    Ok(text_of(alloc, sink.bytes(), status)?)
+}
+
+/// Writes zeros over the last sector of each disk, through the bay as it was first seen.
+fn lose_anchors(bay: &mut Turned<MemoryBay>) -> anyhow::Result<()> {
+    for slot in 0..bay.slots() {
+        lose_anchor(bay, slot)?;
+    }
+    Ok(())
+}
+
+fn lose_anchor(bay: &mut Turned<MemoryBay>, slot: usize) -> anyhow::Result<()> {
+    if slot < bay.slots() {
+        let last = bay.size(slot).saturating_sub(1);
+        write_sectors(bay, slot, last, &[[0; 512]])?;
+    }
+    sync_slot(bay, slot)
+}

@@ -1,0 +1,29 @@
+-- What commands may do.
+use Rattle.std.specs.Prelude.{Bool, true, false}
+use Rattle.ddf_words.specs.declared.command.Command.{Command}
+use Rattle.ddf_words.specs.declared.command.Command.TheVariants.{Examine, Label, Assemble, Read, Change}
+use Rattle.ddf_words.specs.declared.command.Wish.{Wish}
+use Rattle.ddf_words.specs.declared.command.Wish.TheVariants.{Create}
+use Rattle.ddf_words.specs.declared.traits.Traits.{Traits}
+
+-- whether a command is done to one group, whether it may write to the disks, whether it may be refused, and whether it makes new GUIDs
+abbrev pub row : (takes_group may_write may_refuse makes_names : Bool) → Traits
+row takes_group may_write may_refuse makes_names = record {
+  takes_group = takes_group;
+  may_write = may_write;
+  may_refuse = may_refuse;
+  makes_names = makes_names;
+}
+
+-- A new array gets a GUID.
+abbrev pub makes_guid : Wish → Bool
+makes_guid (Create creation) = true
+makes_guid other = false
+
+-- a row a command
+abbrev pub traits_of : Command → Traits
+traits_of Examine = row false false false false
+traits_of (Label slots) = row false true true true
+traits_of Assemble = row true true true false
+traits_of (Read name start count) = row true false true false
+traits_of (Change wish) = row true true true (makes_guid wish)

@@ -1,0 +1,59 @@
+// What a command may do.
+ghost use Rattle.std.specs.Prelude.{◌≡◌};
+
+use crate::command::{Command, Wish};
+
+/// What a command may do, as a row of a table over the commands.
+#[derive(Clone, Copy)]
+pub struct Traits {
+    /// It is done to one group, which the words may name.
+    pub takes_group: bool,
+    /// It may write to the disks.
+    pub may_write: bool,
+    /// It may be refused though its words are good.
+    pub may_refuse: bool,
+    /// It makes new GUIDs, which takes chance.
+    pub makes_names: bool,
+}
+
+impl Command {
+    ghost use Rattle.ddf_words.specs.Traits.{traits_of};
+
+    /// What it may do.
+    pub fn traits(&self) -> Traits
+        ensures { result ≡ traits_of self.now }
+    {
+        match self {
+            Command::Examine => Traits {
+                takes_group: false,
+                may_write: false,
+                may_refuse: false,
+                makes_names: false,
+            },
+            Command::Label { .. } => Traits {
+                takes_group: false,
+                may_write: true,
+                may_refuse: true,
+                makes_names: true,
+            },
+            Command::Assemble => Traits {
+                takes_group: true,
+                may_write: true,
+                may_refuse: true,
+                makes_names: false,
+            },
+            Command::Read { .. } => Traits {
+                takes_group: true,
+                may_write: false,
+                may_refuse: true,
+                makes_names: false,
+            },
+            Command::Change(wish) => Traits {
+                takes_group: true,
+                may_write: true,
+                may_refuse: true,
+                makes_names: matches!(wish, Wish::Create(_)),
+            },
+        }
+    }
+}

@@ -1,0 +1,10 @@
+pub mod RowsRight
+pub mod RowReads
+pub mod Gives
+pub mod RowSteps
+pub mod RowLoops
+pub mod WriteEnds
+pub mod WriteLeaves
+pub mod RedundantAfter
+pub mod WrittenValues
+pub mod CellsCount

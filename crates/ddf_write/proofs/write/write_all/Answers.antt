@@ -1,0 +1,157 @@
+use Rattle.std.proofs.Common.{inl, ℕ, length, sym, ap, subst, arith}
+use Rattle.std.proofs.lemmas.Result.{err_from_is_err_and, MatchResult-weaker, on_ok_weaker}
+use Rattle.ddf_bytes.specs.Counts.{Rose}
+use Rattle.ddf_bay.proofs.Steps.{rose_since}
+use Rattle.ddf_volume.specs.Reading.{Failed}
+use Rattle.ddf_write.specs.RowWrites.{AllSet, IsSure}
+use Rattle.ddf_write.proofs.CellsCount.{cells_are_copies}
+use Rattle.ddf_write.proofs.RowLoops.{failed_since, filled_then, stopped_since}
+use Rattle.ddf_write.proofs.RowReads.{sure_fewer}
+use Rattle.ddf_write.proofs.WriteEnds.{filled_by, goes_by, goes_end, held_by, held_end, left_by, left_end, moments_end, settled_end, written_end, written_noted, written_there}
+use Rattle.ddf_write.specs.Writing.{MayGive}
+use Rattle.ddf_write.proofs.Gives.{cells_written, may_cell}
+use Rattle.ddf_cells.proofs.WriteSteps.{set_stays, writes_then}
+use Rattle.ddf_write.proofs.write.write_all.Goals as goal
+
+pub set_rows-requires-clause-fits : goal.set_rows-requires-clause-fits
+set_rows-requires-clause-fits g c = rw (cells_written c.args.view.now c.args.start c.args.from.now g.B.Bay.tells c.in_ok-write_cells.ensures.writes).same_sizes c.requires.fits
+
+-- the cells couldn't be written
+pub returns-in_err-write_cells-clause-held : goal.returns-in_err-write_cells-clause-held
+returns-in_err-write_cells-clause-held g c = λ tells. held_by c.args.view.now c.requires.known c.args.start c.args.from.now g.B.Bay.tells (cells_written c.args.view.now c.args.start c.args.from.now g.B.Bay.tells c.in_err-write_cells.ensures.writes) tells
+
+pub returns-in_err-write_cells-clause-left : goal.returns-in_err-write_cells-clause-left
+returns-in_err-write_cells-clause-left g c = left_by c.args.view.now c.requires.known c.args.start c.args.from.now g.B.Bay.tells (cells_written c.args.view.now c.args.start c.args.from.now g.B.Bay.tells c.in_err-write_cells.ensures.writes)
+
+pub returns-in_err-write_cells-clause-goes : goal.returns-in_err-write_cells-clause-goes
+returns-in_err-write_cells-clause-goes g c = goes_by c.args.view.now c.requires.known c.args.start c.args.from.now g.B.Bay.tells (cells_written c.args.view.now c.args.start c.args.from.now g.B.Bay.tells c.in_err-write_cells.ensures.writes)
+
+pub returns-in_err-write_cells-clause-cause : goal.returns-in_err-write_cells-clause-cause
+returns-in_err-write_cells-clause-cause g c =
+    let p = err_from_is_err_and c.from_residual.result c.from_residual.ensures.1 in
+    rw (p.1, p.2) (inl c.in_err-write_cells.ensures.failed)
+
+-- the parity couldn't
+pub returns-in_err-set_rows-clause-any_moment : goal.returns-in_err-set_rows-clause-any_moment
+returns-in_err-set_rows-clause-any_moment g c = (writes_then (MayGive c.args.view.now c.args.start c.args.from.now) g.B.Bay.tells (cells_written c.args.view.now c.args.start c.args.from.now g.B.Bay.tells c.in_ok-write_cells.ensures.writes) c.in_err-set_rows.ensures.writes).any_moment
+
+pub returns-in_err-set_rows-clause-held : goal.returns-in_err-set_rows-clause-held
+returns-in_err-set_rows-clause-held g c = λ tells.
+    held_by c.args.view.now c.requires.known c.args.start c.args.from.now g.B.Bay.tells (writes_then (MayGive c.args.view.now c.args.start c.args.from.now) g.B.Bay.tells (cells_written c.args.view.now c.args.start c.args.from.now g.B.Bay.tells c.in_ok-write_cells.ensures.writes) c.in_err-set_rows.ensures.writes) tells
+
+pub returns-in_err-set_rows-clause-left : goal.returns-in_err-set_rows-clause-left
+returns-in_err-set_rows-clause-left g c =
+    left_by c.args.view.now c.requires.known c.args.start c.args.from.now g.B.Bay.tells (writes_then (MayGive c.args.view.now c.args.start c.args.from.now) g.B.Bay.tells (cells_written c.args.view.now c.args.start c.args.from.now g.B.Bay.tells c.in_ok-write_cells.ensures.writes) c.in_err-set_rows.ensures.writes)
+
+pub returns-in_err-set_rows-clause-goes : goal.returns-in_err-set_rows-clause-goes
+returns-in_err-set_rows-clause-goes g c =
+    goes_by c.args.view.now c.requires.known c.args.start c.args.from.now g.B.Bay.tells (writes_then (MayGive c.args.view.now c.args.start c.args.from.now) g.B.Bay.tells (cells_written c.args.view.now c.args.start c.args.from.now g.B.Bay.tells c.in_ok-write_cells.ensures.writes) c.in_err-set_rows.ensures.writes)
+
+pub returns-in_err-set_rows-clause-cause : goal.returns-in_err-set_rows-clause-cause
+returns-in_err-set_rows-clause-cause g c =
+    let p = err_from_is_err_and c.from_residual-in_err-set_rows.result c.from_residual-in_err-set_rows.ensures.1 in
+    rw (p.1, p.2) (stopped_since c.args.view.now c.args.start c.args.from.now g.B.Bay.tells (cells_written c.args.view.now c.args.start c.args.from.now g.B.Bay.tells c.in_ok-write_cells.ensures.writes) c.in_err-set_rows.ensures.writes (length c.args.from.now) _ c.in_err-set_rows.ensures.cause)
+
+pub returns-in_err-set_rows-clause-asked : goal.returns-in_err-set_rows-clause-asked
+returns-in_err-set_rows-clause-asked g c = omega (arith, cells_are_copies c.args.view.now c.requires.known c.args.start (length c.args.from.now), c.in_ok-write_cells.ensures.costs.asked, c.in_err-set_rows.ensures.asked)
+
+pub returns-in_err-set_rows-clause-sectors : goal.returns-in_err-set_rows-clause-sectors
+returns-in_err-set_rows-clause-sectors g c = omega (arith, cells_are_copies c.args.view.now c.requires.known c.args.start (length c.args.from.now), c.in_ok-write_cells.ensures.costs.written, c.in_err-set_rows.ensures.written)
+
+pub returns-in_err-set_rows-clause-calls : goal.returns-in_err-set_rows-clause-calls
+returns-in_err-set_rows-clause-calls g c = λ none. omega (arith, c.in_ok-write_cells.ensures.costs.calls_most, c.in_err-set_rows.ensures.calls none)
+
+-- all was written
+pub returns-clause-any_moment : goal.returns-clause-any_moment
+returns-clause-any_moment g c =
+    moments_end c.args.view.now c.requires.known c.args.start c.args.from.now g.B.Bay.tells (writes_then (MayGive c.args.view.now c.args.start c.args.from.now) g.B.Bay.tells (cells_written c.args.view.now c.args.start c.args.from.now g.B.Bay.tells c.in_ok-write_cells.ensures.writes) c.in_ok-set_rows.ensures.writes)
+    (g.B.Bay.disks c.sync_touched.new.bay) c.sync_touched.ensures.left c.sync_touched.ensures.held c.sync_touched.ensures.any_moment
+
+pub returns-clause-held : goal.returns-clause-held
+returns-clause-held g c =
+    held_end c.args.view.now c.requires.known c.args.start c.args.from.now g.B.Bay.tells (writes_then (MayGive c.args.view.now c.args.start c.args.from.now) g.B.Bay.tells (cells_written c.args.view.now c.args.start c.args.from.now g.B.Bay.tells c.in_ok-write_cells.ensures.writes) c.in_ok-set_rows.ensures.writes)
+    (g.B.Bay.disks c.sync_touched.new.bay) c.sync_touched.ensures.left c.sync_touched.ensures.held
+
+pub returns-clause-left : goal.returns-clause-left
+returns-clause-left g c =
+    left_end c.args.view.now c.requires.known c.args.start c.args.from.now g.B.Bay.tells (writes_then (MayGive c.args.view.now c.args.start c.args.from.now) g.B.Bay.tells (cells_written c.args.view.now c.args.start c.args.from.now g.B.Bay.tells c.in_ok-write_cells.ensures.writes) c.in_ok-set_rows.ensures.writes)
+    (g.B.Bay.disks c.sync_touched.new.bay) c.sync_touched.ensures.left c.sync_touched.ensures.held
+
+pub returns-clause-goes : goal.returns-clause-goes
+returns-clause-goes g c =
+    goes_end c.args.view.now c.requires.known c.args.start c.args.from.now g.B.Bay.tells (writes_then (MayGive c.args.view.now c.args.start c.args.from.now) g.B.Bay.tells (cells_written c.args.view.now c.args.start c.args.from.now g.B.Bay.tells c.in_ok-write_cells.ensures.writes) c.in_ok-set_rows.ensures.writes)
+    (g.B.Bay.disks c.sync_touched.new.bay) c.sync_touched.ensures.left c.sync_touched.ensures.held c.sync_touched.ensures.spends
+
+pub returns-clause-cause : goal.returns-clause-cause
+returns-clause-cause g c =
+    let w = writes_then (MayGive c.args.view.now c.args.start c.args.from.now) g.B.Bay.tells (cells_written c.args.view.now c.args.start c.args.from.now g.B.Bay.tells c.in_ok-write_cells.ensures.writes) c.in_ok-set_rows.ensures.writes in
+    MatchResult-weaker c.sync_touched.result c.sync_touched.ensures.failed (λ done none. none)
+    (λ slot rose. inl (rose_since _ _ _ (w.writes_rise slot) rose))
+
+pub returns-clause-written : goal.returns-clause-written
+returns-clause-written g c = λ tells.
+    let v = c.args.view.now in
+    let old = g.B.Bay.disks c.args.bay.now in
+    let a = g.B.Bay.disks c.write_cells.new.bay in
+    let b = g.B.Bay.disks c.set_rows.new.bay in
+    let n = g.B.Bay.disks c.sync_touched.new.bay in
+    let first = (cells_written c.args.view.now c.args.start c.args.from.now g.B.Bay.tells c.in_ok-write_cells.ensures.writes) in
+    let next = c.in_ok-set_rows.ensures.writes in
+    let w = writes_then (MayGive v c.args.start c.args.from.now) g.B.Bay.tells first next in
+    let set : AllSet v c.args.start c.args.from.now a.held = λ element position k one below cell. (c.in_ok-write_cells.ensures.set tells element position k one (omega arith) below cell).0 in
+    let filled = filled_by v c.requires.known c.args.start c.args.from.now g.B.Bay.tells first tells set in
+    let all = filled_then v c.requires.known c.requires.apart c.args.start c.args.from.now g.B.Bay.tells old.held tells filled next in
+    let fewer : (slot : ℕ) → Failed a b slot → Failed old n slot =
+    λ slot failed. subst (λ (m : ℕ). Rose (old.failed_reads slot) m) (sym (ap (λ (f : ℕ → ℕ). f slot) c.sync_touched.ensures.reads)) (failed_since v c.args.start c.args.from.now g.B.Bay.tells first next slot failed) in
+    on_ok_weaker c.sync_touched.result
+    (λ settled.
+    written_end v c.requires.known c.args.start c.args.from.now g.B.Bay.tells w (g.B.Bay.disks c.sync_touched.new.bay) c.sync_touched.ensures.left c.sync_touched.ensures.held (IsSure (Failed old n) v old.held) tells all.cells
+    (λ sure. c.in_ok-set_rows.ensures.summed tells old.held filled (sure_fewer (Failed a b) (Failed old n) v old.held fewer sure)))
+    c.sync_touched.ensures.settled
+
+pub returns-clause-durable : goal.returns-clause-durable
+returns-clause-durable g c = λ tells.
+    let v = c.args.view.now in
+    let first = (cells_written c.args.view.now c.args.start c.args.from.now g.B.Bay.tells c.in_ok-write_cells.ensures.writes) in
+    let next = c.in_ok-set_rows.ensures.writes in
+    let w = writes_then (MayGive v c.args.start c.args.from.now) g.B.Bay.tells first next in
+    let len = length c.args.from.now in
+    on_ok_weaker c.sync_touched.result
+    (λ synced slot written.
+    let there = written_there v c.requires.known c.args.start c.args.from.now (g.B.Bay.disks c.args.bay.now).sizes c.requires.fits slot written in
+    let noted =
+    written_noted v c.requires.known c.args.start c.args.from.now (g.B.Bay.disks c.set_rows.new.bay).held c.set_rows.new.touched
+    (λ element position. set_stays v c.requires.known c.args.start c.args.from.now (MayGive v c.args.start c.args.from.now) (may_cell v c.requires.known c.requires.apart c.args.start c.args.from.now) g.B.Bay.tells element position 0 len tells next (c.in_ok-write_cells.ensures.set tells element position))
+    c.in_ok-set_rows.ensures.noted slot written in
+    (rw w.same_sizes at synced) slot there noted)
+    c.sync_touched.ensures.settled
+
+pub returns-clause-settled : goal.returns-clause-settled
+returns-clause-settled g c = λ tells.
+    let v = c.args.view.now in
+    let w = writes_then (MayGive v c.args.start c.args.from.now) g.B.Bay.tells (cells_written c.args.view.now c.args.start c.args.from.now g.B.Bay.tells c.in_ok-write_cells.ensures.writes) c.in_ok-set_rows.ensures.writes in
+    on_ok_weaker c.sync_touched.result
+    (λ synced slot settled.
+    settled_end v c.requires.known c.args.start c.args.from.now g.B.Bay.tells w (g.B.Bay.disks c.sync_touched.new.bay) c.sync_touched.ensures.left c.sync_touched.ensures.held tells c.requires.fits (rw w.same_sizes at synced) slot settled)
+    c.sync_touched.ensures.settled
+
+pub returns-clause-asked : goal.returns-clause-asked
+returns-clause-asked g c = omega (arith, cells_are_copies c.args.view.now c.requires.known c.args.start (length c.args.from.now), c.in_ok-write_cells.ensures.costs.asked, c.in_ok-set_rows.ensures.asked, c.sync_touched.ensures.spends.costs.asked)
+
+pub returns-clause-sectors : goal.returns-clause-sectors
+returns-clause-sectors g c = omega (arith, cells_are_copies c.args.view.now c.requires.known c.args.start (length c.args.from.now), c.in_ok-write_cells.ensures.costs.written, c.in_ok-set_rows.ensures.written, c.sync_touched.ensures.spends.costs.written)
+
+pub returns-clause-calls : goal.returns-clause-calls
+returns-clause-calls g c = λ none.
+    let w = writes_then (MayGive c.args.view.now c.args.start c.args.from.now) g.B.Bay.tells (cells_written c.args.view.now c.args.start c.args.from.now g.B.Bay.tells c.in_ok-write_cells.ensures.writes) c.in_ok-set_rows.ensures.writes in
+    let sizes = ap length w.same_sizes in
+    omega (arith, c.in_ok-write_cells.ensures.costs.calls_most, c.in_ok-set_rows.ensures.calls none, c.sync_touched.ensures.spends.costs.calls_most, sizes)
+
+pub returns-in_err-write_cells-clause-asked : goal.returns-in_err-write_cells-clause-asked
+returns-in_err-write_cells-clause-asked g c = omega (arith, cells_are_copies c.args.view.now c.requires.known c.args.start (length c.args.from.now), c.in_err-write_cells.ensures.costs.asked)
+
+pub returns-in_err-write_cells-clause-sectors : goal.returns-in_err-write_cells-clause-sectors
+returns-in_err-write_cells-clause-sectors g c = omega (arith, cells_are_copies c.args.view.now c.requires.known c.args.start (length c.args.from.now), c.in_err-write_cells.ensures.costs.written)
+
+pub returns-in_err-write_cells-clause-any_moment : goal.returns-in_err-write_cells-clause-any_moment
+returns-in_err-write_cells-clause-any_moment g c = (cells_written c.args.view.now c.args.start c.args.from.now g.B.Bay.tells c.in_err-write_cells.ensures.writes).any_moment

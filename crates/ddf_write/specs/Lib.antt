@@ -1,0 +1,4 @@
+pub mod Writing
+pub mod WriteRefused
+pub mod RowWrites
+pub mod Filling

@@ -1,0 +1,114 @@
+//! Writes of blocks of an array.
+ghost use Rattle.std.specs.Prelude.{◌≡◌, ◌+◌, ◌<◌, ◌≤◌, ◌^◌, ℕ, None, true, false, length, OnOk, IfErr};
+ghost use Rattle.std.specs.List.{list_all, list_any};
+ghost use Rattle.ddf_bay.specs.Moments.{IsSettled, StopsLeave};
+ghost use Rattle.ddf_bytes.specs.Counts.{Rose};
+ghost use Rattle.ddf_array.specs.Places.{is_available};
+ghost use Rattle.ddf_array.specs.Sources.{trusts_parity};
+ghost use Rattle.ddf_array.specs.Volume.{Fits, IsVolume, capacity};
+ghost use Rattle.ddf_cells.specs.CellSources.{IsReadable};
+ghost use Rattle.ddf_cells.specs.CellsOn.{copy_cells, write_stretches};
+ghost use Rattle.ddf_volume.specs.Reading.{Failed};
+ghost use Rattle.ddf_write.specs.RowWrites.{IsSure, keeps_parity_anywhere, row_cells};
+ghost use Rattle.ddf_cells.specs.Touching.{GoesBetween};
+ghost use Rattle.ddf_cells.specs.Degraded.{is_degraded, lacks_place};
+ghost use Rattle.ddf_write.specs.WriteRefused.{write_refusal, IsStopped, IsWriteFault};
+ghost use Rattle.ddf_array.specs.Apart.{IsApart};
+ghost use Rattle.ddf_write.specs.Writing.{AddsWrites, HasWritten, IsAmongWrites, IsLeftByWrite, IsWritten};
+
+use crate::rows::set_rows;
+use ddf_array::View;
+use ddf_bay::Bay;
+use ddf_bytes::Sector;
+use ddf_cells::{is_degraded, sync_touched, write_cells};
+use ddf_volume::VolumeFault;
+
+/// Why `write_blocks` writes none of so many blocks from one on: `Range` where they pass the capacity, `Lost` where the array
+/// isn't within its level, `Degraded` where an element that keeps parity lacks a position, the first of these that holds.
+pub fn write_refusal(view: &View, start: u64, count: usize) -> Option<VolumeFault>
+    ensures value { result ≡ write_refusal view.now start count }
+    ensures small { result ≡ None → start + count < 2 ^ 64 }
+    ensures sound { IsVolume view.now }
+{
+    let capacity = view.capacity();
+    if start > capacity || count as u64 > capacity - start {
+        return Some(VolumeFault::Range(capacity));
+    }
+    if !view.within() {
+        return Some(VolumeFault::Lost);
+    }
+    if is_degraded(view) {
+        return Some(VolumeFault::Degraded);
+    }
+    None
+}
+
+/// Writes the cells of these blocks, then the parity of the rows that they touch, and makes both sure.
+fn write_all<B: Bay>(bay: &mut B, view: &View, start: u64, from: &[Sector]) -> Result<(), usize>
+    requires known { IsVolume view.now }
+    requires apart { IsApart view.now }
+    requires fits { Fits (B.disks bay.old).sizes view.now }
+    requires marked { keeps_parity_anywhere view.now ≡ true → trusts_parity view.now ≡ false }
+    requires readable { IsReadable view.now }
+    requires whole { is_degraded view.now ≡ false }
+    requires small { start + length from.now < 2 ^ 64 }
+    requires blocks { start + length from.now ≤ capacity view.now }
+    ensures any_moment { StopsLeave (B.disks bay.old) (B.disks bay.new) (IsAmongWrites view.now start from.now (B.disks bay.old).may_hold) }
+    ensures held { B.tells → IsLeftByWrite view.now start from.now (B.disks bay.old).held (B.disks bay.new).held }
+    ensures left { AddsWrites view.now start from.now (B.disks bay.old).may_hold (B.disks bay.new).may_hold }
+    ensures written { B.tells → OnOk result (HasWritten view.now start from.now (IsSure (Failed (B.disks bay.old) (B.disks bay.new)) view.now (B.disks bay.old).held) (B.disks bay.new).held) }
+    ensures durable { B.tells → OnOk result ((slot : ℕ) → IsWritten view.now start (length from.now) slot → IsSettled (B.disks bay.new).may_hold (B.disks bay.new).held slot) }
+    ensures settled { B.tells → OnOk result ((slot : ℕ) → IsSettled (B.disks bay.old).may_hold (B.disks bay.old).held slot → IsSettled (B.disks bay.new).may_hold (B.disks bay.new).held slot) }
+    ensures cause { IfErr result (IsStopped (B.disks bay.old) (B.disks bay.new) view.now start (length from.now)) }
+    ensures goes { GoesBetween (B.disks bay.old) (B.disks bay.new) }
+    ensures asked { (B.disks bay.new).sectors_asked ≤ (B.disks bay.old).sectors_asked + (copy_cells view.now start (length from.now) + row_cells view.now (length from.now)) }
+    ensures sectors { (B.disks bay.new).sectors_written ≤ (B.disks bay.old).sectors_written + (copy_cells view.now start (length from.now) + row_cells view.now (length from.now)) }
+    ensures calls { keeps_parity_anywhere view.now ≡ false → (B.disks bay.new).calls ≤ (B.disks bay.old).calls + (write_stretches view.now start (length from.now) + length (B.disks bay.old).sizes) }
+{
+    let mut touched = [false; 64];
+    write_cells(bay, view, start, from, &mut touched)?;
+    set_rows(bay, view, start, from, &mut touched)?;
+    sync_touched(bay, &touched)
+}
+
+/// Writes the blocks of a range, as many as there are sectors. Every available cell of a block gets its bytes; then each
+/// parity cell of a row that holds one of these blocks becomes the exclusive-or of what the row's data cells have after the
+/// call. Data cells of other blocks are read for it, from the available cells of their blocks in order. Then each slot
+/// that was written to is synced. Neighbouring blocks are written in one call where their cells on a position follow one another.
+///
+/// The parity is right where no read failed in this call, and where the array was redundant before.
+///
+/// # Errors
+/// `Range` where the range passes the capacity, `Lost` where the array isn't within its level, `Degraded` where an element that
+/// keeps parity lacks a position; then nothing is written. `Disk` where a write or sync of the slot failed, or each source of
+/// a data cell that a sum needs has a slot of which a read failed: it names such a slot of the first source.
+pub fn write_blocks<B: Bay>(
+    bay: &mut B,
+    view: &View,
+    start: u64,
+    from: &[Sector],
+) -> Result<(), VolumeFault>
+    requires apart { IsApart view.now }
+    requires fits { Fits (B.disks bay.old).sizes view.now }
+    requires marked { keeps_parity_anywhere view.now ≡ true → trusts_parity view.now ≡ false }
+    ensures any_moment { StopsLeave (B.disks bay.old) (B.disks bay.new) (IsAmongWrites view.now start from.now (B.disks bay.old).may_hold) }
+    ensures held { B.tells → IsLeftByWrite view.now start from.now (B.disks bay.old).held (B.disks bay.new).held }
+    ensures left { AddsWrites view.now start from.now (B.disks bay.old).may_hold (B.disks bay.new).may_hold }
+    ensures written { B.tells → OnOk result (HasWritten view.now start from.now (IsSure (Failed (B.disks bay.old) (B.disks bay.new)) view.now (B.disks bay.old).held) (B.disks bay.new).held) }
+    ensures durable { B.tells → OnOk result ((slot : ℕ) → IsWritten view.now start (length from.now) slot → IsSettled (B.disks bay.new).may_hold (B.disks bay.new).held slot) }
+    ensures settled { B.tells → OnOk result ((slot : ℕ) → IsSettled (B.disks bay.old).may_hold (B.disks bay.old).held slot → IsSettled (B.disks bay.new).may_hold (B.disks bay.new).held slot) }
+    ensures ok { OnOk result (write_refusal view.now start (length from.now) ≡ None) }
+    ensures fault { IfErr result (IsWriteFault (B.disks bay.old) (B.disks bay.new) view.now start (length from.now)) }
+    ensures goes { GoesBetween (B.disks bay.old) (B.disks bay.new) }
+    ensures asked { (B.disks bay.new).sectors_asked ≤ (B.disks bay.old).sectors_asked + (copy_cells view.now start (length from.now) + row_cells view.now (length from.now)) }
+    ensures sectors { (B.disks bay.new).sectors_written ≤ (B.disks bay.old).sectors_written + (copy_cells view.now start (length from.now) + row_cells view.now (length from.now)) }
+    ensures calls { keeps_parity_anywhere view.now ≡ false → (B.disks bay.new).calls ≤ (B.disks bay.old).calls + (write_stretches view.now start (length from.now) + length (B.disks bay.old).sizes) }
+{
+    if let Some(fault) = write_refusal(view, start, from.len()) {
+        return Err(fault);
+    }
+    match write_all(bay, view, start, from) {
+        Ok(()) => Ok(()),
+        Err(slot) => Err(VolumeFault::Disk(slot)),
+    }
+}
