@@ -3,6 +3,7 @@ use Rattle.std.specs.Prelude.{◌≡◌, ◌⊎◌, ℕ, ◌+◌, ◌-◌, ◌*�
 use Rattle.ddf_bytes.specs.Counts.{Rose}
 use Rattle.ddf_bay.specs.Sectors.{Image}
 use Rattle.ddf_bay.specs.State.{BayState}
+use Rattle.ddf_bay.specs.ReadsOnly.{ReadsOnly}
 use Rattle.ddf_primary.specs.Placement.{Placement}
 use Rattle.ddf_primary.specs.Cells.{depth_of}
 use Rattle.ddf_array.specs.declared.part.Part.{Part}
@@ -33,11 +34,11 @@ pub record NoneLeftInRows (failed : ℕ → Type 0) (volume : Volume) (element p
   pub is_needed : slice_get (needed_positions part sector position) number ≡ Some other
   pub none_left : NoneLeft failed (cell_sources volume element part sector other) slot
 
--- the cause of an answer other than Ok
+-- The cause of an answer other than Ok. Where the array isn't within its level no call is made, and nothing changes.
 abbrev pub IsRebuildFault : {D : Type 0} → (old new : BayState D) → Volume → (element position from to : ℕ) → VolumeFault → Type 0
 IsRebuildFault old new volume element position from to (Range most) = ⊥
 IsRebuildFault old new volume element position from to Degraded = ⊥
-IsRebuildFault old new volume element position from to Lost = is_within volume ≡ false
+IsRebuildFault old new volume element position from to Lost = (is_within volume ≡ false) × (ReadsOnly old new × (new.calls ≡ old.calls))
 IsRebuildFault old new volume element position from to Unsure = ⊥
 IsRebuildFault old new volume element position from to (Disk slot) =
     (is_within volume ≡ true) × (Rose (old.failed_writes slot) (new.failed_writes slot) ⊎ NoneLeftInRows (Failed old new) volume element position from to slot)

@@ -29,6 +29,8 @@ module _ {D : Type 0} (May Other : Giving) (tells : Type 0) {a b c : BayState D}
         is_part = left.is_part;
         sector = left.sector;
         count = left.count;
+        keeps = left.keeps;
+        inside = left.inside;
         for_sum = record {
           cell = of.cell;
           is_in = of.is_in;

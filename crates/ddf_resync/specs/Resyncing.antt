@@ -1,8 +1,10 @@
 -- What a resync leaves, at any moment and at its end, and why it ends (profile).
-use Rattle.std.specs.Prelude.{◌≡◌, ◌⊎◌, ℕ, ◌<◌, not, List, Option, Some, None, slice_get, if◌then◌else◌}
+use Rattle.std.specs.Prelude.{◌≡◌, ◌⊎◌, ℕ, ◌+◌, ◌<◌, ◌≤◌, true, not, List, Option, Some, None, slice_get, if◌then◌else◌}
 use Rattle.ddf_bytes.specs.Counts.{Rose}
 use Rattle.ddf_bay.specs.Sectors.{Image, Outcomes}
 use Rattle.ddf_bay.specs.State.{BayState}
+use Rattle.ddf_bay.specs.ReadsOnly.{ReadsOnly}
+use Rattle.ddf_primary.specs.Cells.{depth_of}
 use Rattle.ddf_array.specs.declared.part.Part.{Part}
 use Rattle.ddf_array.specs.declared.site.Site.{Site}
 use Rattle.ddf_array.specs.Places.{site_on}
@@ -11,6 +13,7 @@ use Rattle.ddf_array.specs.Sources.{copies, first_copy, sources}
 use Rattle.ddf_array.specs.Sound.{AreSectors}
 use Rattle.ddf_array.specs.Values.{bytes_at}
 use Rattle.ddf_array.specs.Redundant.{IsRedundant}
+use Rattle.ddf_array.specs.Levels.{keeps_parity}
 use Rattle.ddf_array.specs.Within.{is_within}
 use Rattle.ddf_volume.specs.declared.fault.VolumeFault.{VolumeFault}
 use Rattle.ddf_volume.specs.declared.fault.VolumeFault.TheVariants.{Range, Degraded, Lost, Unsure, Disk}
@@ -75,15 +78,21 @@ pub record NoneLeftOfRow (failed : ℕ → Type 0) (volume : Volume) (slot : ℕ
   pub is_part : slice_get volume.parts element ≡ Some part
   pub sector : ℕ
   pub count : ℕ
+  pub keeps : keeps_parity part.shape.layout ≡ true
+  pub inside : sector + count ≤ depth_of part.shape
   pub for_sum : NoneLeftForSum failed volume element part sector count slot
 
 -- the calls ended at a slot: a write or sync of it failed, or no source is left there
 abbrev pub IsStopped : {D : Type 0} (old new : BayState D) → Volume → (slot : ℕ) → Type 0
 IsStopped old new volume slot = Rose (old.failed_writes slot) (new.failed_writes slot) ⊎ (NoneLeftOfBlock (Failed old new) volume slot ⊎ NoneLeftOfRow (Failed old new) volume slot)
 
--- The cause of an answer other than Ok. Where the array is refused no call is made.
+-- no call is made, and nothing changes
+abbrev pub IsUntouched : {D : Type 0} (old new : BayState D) → Type 0
+IsUntouched old new = ReadsOnly old new × (new.calls ≡ old.calls)
+
+-- The cause of an answer other than Ok. Where the array is refused nothing is done.
 abbrev pub IsRefused : {D : Type 0} (old new : BayState D) → Volume → VolumeFault → Type 0
-IsRefused old new volume fault = (resync_refusal volume ≡ Some fault) × (new.calls ≡ old.calls)
+IsRefused old new volume fault = (resync_refusal volume ≡ Some fault) × IsUntouched old new
 
 abbrev pub IsResyncFault : {D : Type 0} → (old new : BayState D) → Volume → VolumeFault → Type 0
 IsResyncFault old new volume (Range most) = ⊥

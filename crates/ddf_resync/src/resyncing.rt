@@ -9,7 +9,7 @@ ghost use Rattle.ddf_volume.specs.Reading.{NoneFailed};
 ghost use Rattle.ddf_cells.specs.CellSources.{IsReadable};
 ghost use Rattle.ddf_cells.specs.Degraded.{is_degraded};
 ghost use Rattle.ddf_cells.specs.Touching.{GoesBetween};
-ghost use Rattle.ddf_resync.specs.Resyncing.{AddsResynced, HasResynced, IsAmongResynced, IsLeftByResync, IsResyncFault, IsStopped, resync_refusal};
+ghost use Rattle.ddf_resync.specs.Resyncing.{AddsResynced, HasResynced, IsAmongResynced, IsLeftByResync, IsResyncFault, IsStopped, IsUntouched, resync_refusal};
 
 use crate::copying::copy_all;
 use crate::setting::set_all;
@@ -59,7 +59,8 @@ fn resync_all<B: Bay>(bay: &mut B, view: &View) -> Result<(), usize>
 /// Makes an array redundant. Each block that may have copies is read once, by the first of its available cells that can be
 /// read, and these bytes are written to all of them, one of which a read failed too. Then the parity of every row of every
 /// element that keeps any becomes the exclusive-or of the row's data cells, that of rows without blocks too. Then each slot
-/// that was written to is synced. An array that isn't redundant by its level is left alone, and no call is made.
+/// that was written to is synced. An array that isn't redundant by its level is left alone, and no call is made; one that is has
+/// to be marked, so that no block is read from parity meanwhile.
 ///
 /// # Errors
 /// `Lost` where the array isn't within its level, `Unsure` where an element that keeps parity lacks a position; then no call
@@ -77,7 +78,7 @@ pub fn resync<B: Bay>(bay: &mut B, view: &View) -> Result<(), VolumeFault>
     ensures ok { OnOk result (resync_refusal view.now ≡ None) }
     ensures fault { IfErr result (IsResyncFault (B.disks bay.old) (B.disks bay.new) view.now) }
     ensures goes { GoesBetween (B.disks bay.old) (B.disks bay.new) }
-    ensures idle { is_redundant view.now ≡ false → (B.disks bay.new).calls ≡ (B.disks bay.old).calls }
+    ensures idle { is_redundant view.now ≡ false → IsUntouched (B.disks bay.old) (B.disks bay.new) }
 {
     if let Some(fault) = resync_refusal(view) {
         return Err(fault);

@@ -2,6 +2,7 @@
 use Rattle.std.specs.Prelude.{◌≡◌, ◌≢◌, ◌⊎◌, ℕ, ◌+◌, ◌/◌, ◌<◌, nat_lt, not, List, map, Option, Some, None, option_to_list, if◌then◌else◌, slice_get, length}
 use Rattle.ddf_bytes.specs.Counts.{Rose}
 use Rattle.ddf_bay.specs.State.{BayState}
+use Rattle.ddf_bay.specs.ReadsOnly.{ReadsOnly}
 use Rattle.ddf_primary.specs.Cells.{parity_member}
 use Rattle.ddf_array.specs.declared.part.Part.{Part}
 use Rattle.ddf_array.specs.Places.{site_at}
@@ -57,10 +58,10 @@ abbrev pub IsStopped : {D : Type 0} (old new : BayState D) → Volume → (start
 IsStopped old new volume start count slot =
     Rose (old.failed_writes slot) (new.failed_writes slot) ⊎ NoneLeftOfRow (Failed old new) volume start count slot
 
--- The cause of an answer other than Ok. Where the blocks are refused no write is asked for, and all stays as it was.
+-- The cause of an answer other than Ok. Where the blocks are refused no call is made, and nothing changes.
 abbrev pub IsRefused : {D : Type 0} (old new : BayState D) → Volume → (start count : ℕ) → VolumeFault → Type 0
 IsRefused old new volume start count fault =
-    (write_refusal volume start count ≡ Some fault) × (new.sectors_asked ≡ old.sectors_asked) × (new.held ≡ old.held)
+    (write_refusal volume start count ≡ Some fault) × (ReadsOnly old new × (new.calls ≡ old.calls))
 
 abbrev pub IsWriteFault : {D : Type 0} (old new : BayState D) → Volume → (start count : ℕ) → VolumeFault → Type 0
 IsWriteFault old new volume start count (Range most) = IsRefused old new volume start count (Range most)

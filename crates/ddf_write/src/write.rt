@@ -76,11 +76,12 @@ fn write_all<B: Bay>(bay: &mut B, view: &View, start: u64, from: &[Sector]) -> R
 /// call. Data cells of other blocks are read for it, from the available cells of their blocks in order. Then each slot
 /// that was written to is synced. Neighbouring blocks are written in one call where their cells on a position follow one another.
 ///
-/// The parity is right where no read failed in this call, and where the array was redundant before.
+/// The parity is right where no read failed in this call, or where the array was redundant before. An array that keeps parity has
+/// to be marked, so that whoever meets a write that was interrupted makes it redundant again.
 ///
 /// # Errors
 /// `Range` where the range passes the capacity, `Lost` where the array isn't within its level, `Degraded` where an element that
-/// keeps parity lacks a position; then nothing is written. `Disk` where a write or sync of the slot failed, or each source of
+/// keeps parity lacks a position; then no call is made. `Disk` where a write or sync of the slot failed, or each source of
 /// a data cell that a sum needs has a slot of which a read failed: it names such a slot of the first source.
 pub fn write_blocks<B: Bay>(
     bay: &mut B,
