@@ -1,6 +1,7 @@
 #!/bin/sh
-# Runs the program in hard surroundings: closed streams, paths that can't be opened, disks that may not be written, one
-# disk under two names, wrong words. Each run ends with the wanted status and output, and no image changes.
+# Runs the program in hard surroundings: closed streams, paths that can't be opened, disks that may not be written, that are
+# locked, absent or not empty, one disk under two names, wrong words. Each run ends with the wanted status and output, and no
+# image changes but those that a command is to change.
 set -eu
 PATH=$PATH:/sbin:/usr/sbin
 top=$(cd "$(dirname "$0")/.." && pwd)
@@ -46,6 +47,8 @@ for input in "" "<&-"; do
     done
 done
 ends 6 "" "ddf: the input or the output failed" "./ddf d0.img -- examine >&-"
+./ddf d0.img -- examine >&- 2>err || true
+case $(cat err) in *"may have been done"*) fail "said that examine may have done something" ;; esac
 echo "edge: no image becomes a closed stream"
 
 ends 3 "slot 0 fault" "missing.img can't be opened: No such file" "./ddf missing.img -- examine"
@@ -54,6 +57,9 @@ ends 3 "disk fault slot 0" "missing.img can't be opened: No such file" "./ddf mi
 ends 3 "slot 0 fault" ". can't be opened: is a directory" "./ddf . -- examine"
 ends 3 "disk fault slot 0" ". can't be opened: is a directory" "./ddf . d1.img -- label"
 ends 0 "slot 0 blank" "" "./ddf empty.img -- examine"
+for command in assemble "create a raid0 0 single 0@8" "delete a" "spare 0 off" "fail 0"; do
+    ends 3 "" "nothing was done" "./ddf d0.img missing.img -- $command"
+done
 ends 3 "slot 0 fault" "pipe can't be opened" "timeout 20 ./ddf pipe -- examine"
 echo "edge: paths that are no disks are told with their reasons"
 
@@ -68,7 +74,16 @@ ends 2 "refused 10 word 1" "d0.img is named twice" "./ddf d0.img d0.img -- exami
 ends 2 "refused 10 word 64" "more than 64 images" "./ddf $(seq -s ' ' 65) -- examine"
 ends 2 "refused 10 word 2" "there is no command list" "./ddf d0.img -- list"
 ends 2 "refused 10 word 3" "64 is no slot's number" "./ddf d0.img -- label 64"
+ends 2 "refused 10 word 4" "slot 0 is named twice" "./ddf d0.img -- label 0 d0.img"
+ends 1 "refused 11 slot 0" "" "./ddf d0.img d1.img -- label d1.img d0.img"
 ends 2 "refused 10 word 1" "there is no --" "./ddf d0.img"
+ends 2 "refused 10 word 4" "it wants a level: raid0" "./ddf d0.img -- create a raid9"
+ends 2 "refused 10 word 4" "read wants more words: the first block" "./ddf d0.img -- read a"
+ends 2 "refused 10 word 0" "isn't UTF-8 text" "./ddf \"\$(printf 'a\\377')\" -- examine"
+ends 3 "slot 0 fault" 'a\nb\u{1b}[2J can'"'"'t be opened' "./ddf \"\$(printf 'a\\nb\\033[2J')\" -- examine"
+for word in --help -h help; do
+    ends 0 "Usage: ddf" "" "./ddf $word"
+done
 echo "edge: wrong words are told"
 
 # Root may write to everything, so that another user is asked for.
@@ -87,9 +102,13 @@ fi
 chmod 644 d0.img d1.img
 
 if command -v flock >/dev/null; then
-    ends 3 "disk fault slot 0" "another program holds a lock on it" "flock d1.img ./ddf d1.img -- label"
-    ends 0 "slot 0 blank" "" "flock d1.img ./ddf d1.img -- examine"
-    echo "edge: a disk that another program has locked isn't labelled"
+    for command in label assemble "fail 0"; do
+        ends 3 "" "another program holds a lock on it" "flock d0.img ./ddf d0.img -- $command"
+        ends 3 "" "another program holds a lock on it" "flock -s d0.img ./ddf d0.img -- $command"
+    done
+    ends 3 "slot 0 fault" "another program holds a lock on it" "flock d1.img ./ddf d1.img -- examine"
+    ends 0 "slot 0 blank" "" "flock -s d1.img ./ddf d1.img -- examine"
+    echo "edge: a disk that another program has locked isn't written, and isn't read while that one writes"
 else
     echo "edge: no flock here, so locked disks were not tried"
 fi
@@ -125,4 +144,108 @@ if command -v strace >/dev/null; then
     esac
 else
     echo "edge: no strace here, so syncs were not looked for"
+fi
+
+# Groups of their own, which commands may change.
+truncate -s 32M g0.img g1.img g2.img
+printf x | dd of=g2.img bs=1 seek=1000 conv=notrunc 2>/dev/null
+ends 0 "ok sequence 1" "slot 2 (g2.img) isn't empty" "./ddf g0.img g1.img g2.img -- label"
+case $(cat err) in *"slot 0 (g0.img) isn't empty"*) fail "called an empty disk not empty" ;; esac
+ends 0 "ok sequence 2" "" "./ddf g0.img g1.img g2.img -- create v raid1 0 single 0,1@64"
+echo "edge: a disk that isn't empty is named before it is labelled"
+
+group_of() {
+    ./ddf "$1" -- examine 2>/dev/null | sed -n 's/^slot 0 .* group \([0-9a-f]*\) .*/\1/p'
+}
+in_one=
+for attempt in 1 2 3 4 5 6 7 8; do
+    rm -f a.img b.img
+    truncate -s 32M a.img b.img
+    second=$(date +%s)
+    ./ddf a.img -- label >/dev/null
+    ./ddf b.img -- label >/dev/null
+    if [ "$(date +%s)" = "$second" ]; then
+        in_one=yes
+        break
+    fi
+done
+if [ -n "$in_one" ]; then
+    [ "$(group_of a.img)" != "$(group_of b.img)" ] || fail "two groups have one GUID"
+    echo "edge: two groups that were made in one second have different GUIDs"
+else
+    echo "edge: no two groups were made in one second here"
+fi
+
+for name in 0 1 2; do
+    cp "g$name.img" "h$name.img"
+    cp "g$name.img" "k$name.img"
+done
+ends 6 "" "may have been done; assemble tells" "./ddf h0.img h1.img h2.img -- spare 2 global >&-"
+ends 0 "ok sequence" "slot 2 (h2.img) stands in for what the words say now" "./ddf h0.img h1.img h2.img -- spare h2.img global"
+ends 0 "ok sequence" "slot 2 (h2.img) is out of use now" "./ddf h0.img h1.img h2.img -- fail h2.img"
+printf x | dd of=h1.img bs=1 seek=$((32 * 1024 * 1024 - 400)) conv=notrunc 2>/dev/null
+ends 0 "group" "slot 1 (h1.img) shows no member: the anchor in its last sector is damaged" "./ddf h0.img h1.img h2.img -- assemble"
+case $(cat err) in
+*"is absent, and the group goes on without it for good: no image shows it"*"array v blocks 64 degraded"*) ;;
+*) fail "said $(cat err), of a disk that was lost" ;;
+esac
+ends 0 "group" "for good: no image of it was named" "./ddf k0.img k2.img -- assemble"
+ends 0 "group" "" "./ddf k0.img k2.img -- assemble"
+[ ! -s err ] || fail "said $(cat err), where nothing was lost"
+echo "edge: what a command loses and does is told on standard error"
+
+if command -v script >/dev/null; then
+    truncate -s 32M t.img
+    printf x | dd of=t.img bs=1 seek=1000 conv=notrunc 2>/dev/null
+    sum=$(cksum t.img)
+    ends 3 "" "" "(sleep 1; echo n) | script -qec './ddf t.img -- label' /dev/null"
+    case $(cat out) in *"t.img) isn't empty"*"go on?"*"nothing was done"*) ;; *) fail "asked $(cat out)" ;; esac
+    [ "$(cksum t.img)" = "$sum" ] || fail "t.img was labelled"
+    ends 0 "" "" "(sleep 1; echo y) | script -qec './ddf t.img -- label' /dev/null"
+    case $(cat out) in *"ok sequence 1"*) ;; *) fail "answered $(cat out)" ;; esac
+    echo "edge: on a terminal it asks before it labels a disk that isn't empty"
+else
+    echo "edge: no script here, so nothing was asked on a terminal"
+fi
+
+# Changes of the group, one after another.
+change_often() {
+    for round in 1 2 3 4 5 6 7 8 9 10; do
+        ./ddf g0.img g1.img g2.img -- create u raid0 0 single 0,1@8 || true
+        ./ddf g0.img g1.img g2.img -- delete u || true
+    done
+}
+change_often >changes 2>/dev/null &
+writer=$!
+while kill -0 "$writer" 2>/dev/null; do
+    status=0
+    ./ddf g0.img g1.img g2.img -- read v 0 64 >out 2>err || status=$?
+    [ "$status" != 4 ] || fail "a reader beside a writer printed $(cat out)"
+done
+wait "$writer" || true
+echo "edge: readers beside $(grep -c '^ok' changes || true) changes met no contradiction"
+
+if command -v flock >/dev/null && strace -o calls -e inject=fsync:delay_enter=1:when=1 true 2>/dev/null; then
+    strace -o calls -e trace=fsync -e inject=fsync:delay_enter=6000000:when=1 \
+        ./ddf g0.img g1.img g2.img -- spare 2 global >late 2>&1 &
+    writer=$!
+    sleep 2
+    for image in g0.img g1.img g2.img; do
+        ! flock -n -s "$image" true || fail "$image isn't locked while it may be written"
+    done
+    ends 3 "slot 0 fault" "another program holds a lock on it" "./ddf g0.img -- examine"
+    wait "$writer" || fail "a writer ended so: $(cat late)"
+    strace -o calls -e trace=lseek -e inject=lseek:delay_enter=6000000:when=20 \
+        ./ddf g0.img g1.img g2.img -- examine >late 2>&1 &
+    reader=$!
+    sleep 2
+    for image in g0.img g1.img g2.img; do
+        ! flock -n "$image" true || fail "$image isn't locked while it is read"
+    done
+    ends 0 "slot 0 sectors" "" "./ddf g0.img -- examine"
+    ends 3 "" "nothing was done" "./ddf g0.img g1.img g2.img -- spare 2 off"
+    wait "$reader" || fail "a reader ended so: $(cat late)"
+    echo "edge: disks are locked as long as a command runs"
+else
+    echo "edge: no flock here, or no strace that delays calls, so the program's own locks were not looked for"
 fi

@@ -1,7 +1,8 @@
 // The disks of a command.
 ghost use Rattle.std.specs.Prelude.{◌≡◌, ◌≤◌, length, IfOk};
 
-use crate::claims::claim_all;
+use crate::claims::{Use, claim_all};
+use crate::one_line::OneLine;
 use ddf_bay::{Bay, FileBay};
 use ddf_bytes::NoMemory;
 use ddf_command::Command;
@@ -9,30 +10,22 @@ use ddf_linux::Turned;
 use std::fs::File;
 use std::rt::Files;
 
-/// Opens the disks of a command: for reading alone, or for writing too where the command may write, with what keeps them
-/// from other programs until it is dropped. Standard error names each that could not be opened, and why.
-pub fn open_disks<R>(
-    rt: &R,
-    paths: &[String],
-    command: &Command,
-) -> Result<(FileBay<R>, Vec<File>), NoMemory>
+/// Opens the disks of a command: for reading alone, or for writing too where the command may write. They are kept from other
+/// programs as long as the bay lasts. Standard error names each that could not be opened, and why.
+pub fn open_disks<R>(rt: &R, paths: &[String], command: &Command) -> Result<FileBay<R>, NoMemory>
 where
     R: Files<File = File> + Eprint + AllocGlobal + Clone + Drop,
     requires { length paths.now ≤ 64 }
-    ensures { IfOk result (λ disks. length (⟦<FileBay<R> as Bay>⟧.disks disks.0).sizes ≡ length paths.now) }
+    ensures { IfOk result (λ bay. length (⟦<FileBay<R> as Bay>⟧.disks bay).sizes ≡ length paths.now) }
 {
-    let (bay, claims) = if command.traits().may_write {
-        let mut bay = FileBay::open(rt, rt.alloc(), paths)?;
-        let claims = claim_all(rt, &mut bay, paths)?;
-        (bay, claims)
+    let (mut bay, wanted) = if command.traits().may_write {
+        (FileBay::open(rt, rt.alloc(), paths)?, Use::Write)
     } else {
-        (
-            FileBay::open_to_read(rt, rt.alloc(), paths)?,
-            Vec::new(rt.alloc()),
-        )
+        (FileBay::open_to_read(rt, rt.alloc(), paths)?, Use::Read)
     };
+    claim_all(rt, &mut bay, paths, wanted)?;
     name_unopened(rt, &bay, paths);
-    Ok((bay, claims))
+    Ok(bay)
 }
 
 /// Whether a disk could not be opened.
@@ -55,6 +48,7 @@ fn name_unopened<R: Files + Eprint>(rt: &R, bay: &FileBay<R>, paths: &[String])
 {
     for (slot, path) in paths.iter().enumerate() {
         if let Some(why) = bay.fault(slot) {
+            let path = OneLine(path);
             let _ = eprintln!(rt; "ddf: slot {slot}: {path} can't be opened: {why}");
         }
     }

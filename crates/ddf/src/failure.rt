@@ -16,14 +16,18 @@ pub const STREAM_FAULT: u8 = 6;
 pub enum Failure {
     /// Memory ran out.
     Memory,
-    /// The input or the output failed.
+    /// The input or the output failed, and nothing was written to a disk.
     Stream,
+    /// The output failed at the end of a command that may write to disks.
+    StreamBehind,
     /// The descriptors of the standard streams can't be kept in use.
     Streams(io::Error),
     /// There is no chance for new names.
     Chance(io::Error),
     /// A disk that is named can't be opened, and its group would be changed without it.
     Unopened,
+    /// Whoever was asked doesn't want the command to go on.
+    Declined,
 }
 
 impl Failure {
@@ -31,8 +35,9 @@ impl Failure {
     pub fn status(&self) -> u8 {
         match self {
             Failure::Memory => NO_MEMORY,
-            Failure::Unopened => DISK_FAULT,
-            Failure::Stream | Failure::Streams(_) | Failure::Chance(_) => STREAM_FAULT,
+            Failure::Unopened | Failure::Declined => DISK_FAULT,
+            Failure::Stream | Failure::StreamBehind | Failure::Streams(_) | Failure::Chance(_) =>
+                STREAM_FAULT,
         }
     }
 }
@@ -49,6 +54,11 @@ impl fmt::Display for Failure {
         match self {
             Failure::Memory => write!(f, "memory ran out"),
             Failure::Stream => write!(f, "the input or the output failed"),
+            Failure::StreamBehind => write!(
+                f,
+                "the input or the output failed: what was asked for may have been done; assemble tells"
+            ),
+            Failure::Declined => write!(f, "nothing was done"),
             Failure::Unopened => write!(
                 f,
                 "nothing was done: a group counts a disk that can't be opened as lost for good; leave it out of the words if it is"

@@ -5,7 +5,8 @@ pub const USAGE: &str = "\
 Usage: ddf IMAGE.. -- [@GROUP] COMMAND
 
 Reads and writes RAID metadata in the SNIA Common RAID Disk Data Format (DDF) on disk
-images and block devices. Slots are the images in their order, from 0.
+images and block devices. Slots are the images in their order, from 0; behind label,
+spare and fail the word of an image may stand for its SLOT.
 
 Commands:
   examine          show what each disk holds; nothing is written
@@ -27,11 +28,13 @@ Commands:
 
 Each but examine and label is over a group: the only one that the disks show, or the one that is
 named, by @ and the 48 hexadecimal digits of its GUID. All of these but read recover it first: a
-member whose disk is left out of the words is listed as missing, for good.
+member whose disk is left out of the words, or shows nothing, is listed as missing, for
+good. Standard error names it first, and on a terminal you are asked.
 
 Disks are opened for reading alone by commands that write nothing. Others don't touch a
-disk that is mounted, swapped to, part of another device, locked by another program, or
-protected from writes. A program that holds a disk in another way isn't found.
+disk that is mounted, swapped to, part of another device, or protected from writes. Each
+disk is locked as long as a command runs, and one that another program has locked isn't
+touched. A program that holds a disk in another way isn't found.
 
 Exit status: 0 done, 1 refused, 2 words that are no command's, 3 a disk failed,
 4 records of the group contradict each other, 5 no memory, 6 the input or the output
@@ -40,13 +43,13 @@ failed, or there was no chance for new names. At 1, 2, 4 and 5 nothing was writt
 
 const VERSION: &str = "ddf 0.1.0\n";
 
-/// The text for `--help` or `--version` alone.
+/// The text for `--help`, `--version` or another word for them alone.
 pub fn answer(words: &[String]) -> Option<&'static str> {
     let [word] = words else {
         return None;
     };
     match word.as_str() {
-        "--help" => Some(USAGE),
+        "--help" | "-h" | "help" => Some(USAGE),
         "--version" => Some(VERSION),
         _ => None,
     }

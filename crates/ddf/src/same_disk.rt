@@ -1,4 +1,5 @@
 // One disk under two names.
+use crate::one_line::OneLine;
 use ddf_bytes::NoMemory;
 use std::fs;
 use std::fs::Metadata;
@@ -23,6 +24,7 @@ where
     for (place, path) in paths.iter().enumerate() {
         let identity = identity_of(rt, path);
         if let Some(twin) = twin_of(&known, identity) {
+            let path = OneLine(path);
             let _ = eprintln!(rt; "ddf: slot {place}: {path} is the same disk as slot {twin}");
             return Ok(Some(place));
         }

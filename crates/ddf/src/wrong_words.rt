@@ -1,4 +1,5 @@
 // What is wrong with words that are no command's.
+use crate::one_line::OneLine;
 use ddf_command::{MOST_IMAGES, image_paths};
 use std::fmt;
 
@@ -21,10 +22,10 @@ pub enum Wrong<'a> {
     NoGroup(&'a str),
     /// A command takes no group.
     Groupless(&'a str),
-    /// They end before the command has all its words.
-    Short(&'a str),
-    /// A word is none that the command can take there.
-    Misplaced(&'a str, &'a str),
+    /// They end before the command has all its words: what it wants there.
+    Short(&'a str, &'static str),
+    /// A word is none that the command can take there: what it wants there.
+    Misplaced(&'a str, &'a str, &'static str),
     /// A slot is named twice.
     SlotTwice(&'a str),
     /// A word is no slot's number.
@@ -75,14 +76,51 @@ fn explain_over_group(words: &[String], first: usize, place: usize) -> Wrong<'_>
 
 /// What is wrong with a command whose name stands at this place.
 fn explain_command(words: &[String], name: usize, place: usize) -> Wrong<'_> {
+    let offset = place.saturating_sub(name);
     match (words.get(name), words.get(place)) {
         (None, _) => Wrong::NoCommand,
-        (Some(command), None) => Wrong::Short(command),
+        (Some(command), None) => Wrong::Short(command, wanted(command, offset)),
         (Some(command), Some(_)) if place <= name => Wrong::Unknown(command),
         (Some(command), Some(word)) if command.as_str() == "label" => {
             explain_slot(words, name, word)
         }
-        (Some(command), Some(word)) => Wrong::Misplaced(command, word),
+        (Some(command), Some(word)) => Wrong::Misplaced(command, word, wanted(command, offset)),
+    }
+}
+
+/// What a command wants so many words behind its name.
+fn wanted(command: &str, offset: usize) -> &'static str {
+    match command {
+        "create" => wanted_of_array(offset),
+        "read" => wanted_of_blocks(offset),
+        "delete" if offset == 1 => "the name of an array",
+        "spare" | "fail" if offset == 1 => "a slot's number from 0 to 63, or its image",
+        "spare" if offset == 2 => "global, for or off",
+        "spare" => "the name of an array behind for, and nothing behind global and off",
+        _ => "nothing more",
+    }
+}
+
+/// What `create` wants so many words behind its name.
+fn wanted_of_array(offset: usize) -> &'static str {
+    match offset {
+        1 => "a name of 1 to 16 characters",
+        2 => {
+            "a level: raid0, raid1, raid4.first, raid4.last, raid5.r0, raid5.rn, raid5.rnc, jbod or concat"
+        }
+        3 => "a number n from 0 to 15, for strips of 2^n sectors",
+        4 => "single, striped, mirrored, concat or spanned",
+        _ => "slots with commas between, @, and the blocks of each",
+    }
+}
+
+/// What `read` wants so many words behind its name.
+fn wanted_of_blocks(offset: usize) -> &'static str {
+    match offset {
+        1 => "the name of an array",
+        2 => "the first block",
+        3 => "a count of blocks",
+        _ => "nothing more",
     }
 }
 
@@ -107,14 +145,24 @@ impl fmt::Display for Wrong<'_> {
             Wrong::NoCommand => write!(f, "there is no command behind --"),
             Wrong::Unnamed => write!(f, "a word for an image is empty"),
             Wrong::Crowd => write!(f, "there are more than {MOST_IMAGES} images"),
-            Wrong::Twice(path) => write!(f, "{path} is named twice"),
-            Wrong::Unknown(command) => write!(f, "there is no command {command}"),
-            Wrong::NoGroup(word) => write!(f, "{word} isn't @ and the 48 digits of a group"),
+            Wrong::Twice(path) => write!(f, "{} is named twice", OneLine(path)),
+            Wrong::Unknown(command) => write!(f, "there is no command {}", OneLine(command)),
+            Wrong::NoGroup(word) => {
+                write!(f, "{} isn't @ and the 48 digits of a group", OneLine(word))
+            }
             Wrong::Groupless(command) => write!(f, "{command} takes no group"),
-            Wrong::Short(command) => write!(f, "{command} wants more words"),
-            Wrong::Misplaced(command, word) => write!(f, "{command} doesn't take the word {word}"),
-            Wrong::SlotTwice(word) => write!(f, "slot {word} is named twice"),
-            Wrong::NoSlot(word) => write!(f, "{word} is no slot's number from 0 to 63"),
+            Wrong::Short(command, wanted) => write!(f, "{command} wants more words: {wanted}"),
+            Wrong::Misplaced(command, word, wanted) => write!(
+                f,
+                "{command} doesn't take the word {}: it wants {wanted} there",
+                OneLine(word)
+            ),
+            Wrong::SlotTwice(word) => write!(f, "slot {} is named twice", OneLine(word)),
+            Wrong::NoSlot(word) => write!(
+                f,
+                "{} is no slot's number from 0 to 63, and no image",
+                OneLine(word)
+            ),
         }
     }
 }
