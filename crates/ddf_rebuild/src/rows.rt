@@ -115,6 +115,15 @@ fn aim_at(view: &View, target: &Target) -> Aim
     }
 }
 
+/// How many rows of strips an element has, a last part strip among them: what a rebuild of a position counts to.
+pub fn row_count(part: &Part) -> u64
+    requires { IsPart part.now }
+    ensures { result ≡ row_count part.now.shape }
+{
+    let strip = strip_of(part);
+    (depth_of(part) + strip - 1) / strip
+}
+
 /// The first sector of these rows, and the end of the last.
 fn sectors_between(part: &Part, from: u64, to: u64) -> (u64, u64)
     requires part { IsPart part.now }
