@@ -37,9 +37,9 @@ fn is_alone(marked: bool, site: Option<Site>) -> bool
     marked && site.is_some()
 }
 
-/// Reads a cell itself, or else what the others of its row give where the element keeps parity; but for an available cell
-/// of an array that is marked. After a failure, a slot
-/// of the first of these of which a read failed, if there are any.
+/// Reads a cell itself, or else what the others of its row give where the element keeps parity; an available cell of an array
+/// that is marked is read itself or not at all. After a failure, a slot of the first of these of which a read failed, if
+/// there are any.
 fn try_without<B: Bay>(
     bay: &mut B,
     part: &Part,

@@ -1,7 +1,8 @@
 /// What a scrub of an array found.
 #[derive(Clone, Copy, PartialEq, Eq)]
 pub enum Scrub {
-    /// All available copies of each block are equal, and all parity is right.
+    /// All available copies of each block are equal, and each row of which all cells are available has the sum of its data as
+    /// parity.
     Clean,
     /// In this row of this element, the least such, they aren't.
     Differs {
