@@ -1,191 +1,143 @@
 -- The copies of blocks, made equal run by run.
-use Rattle.std.proofs.Common.{◌≡◌, ◌∙◌, ◌⊎◌, inl, inr, ⊎_elim, ℕ, ◌+◌, ◌-◌, ◌<◌, ◌≤◌, Bool, true, false, List, [], Some, refl, sym, ap, subst, arith, map, length, slice_get}
-use Rattle.std.specs.Prelude.{◌==◌, ◌&&◌, ◌||◌, nat_le, slice_index_or}
-use Rattle.std.proofs.lemmas.Bool.{cases_lt, eqb-true, leb-false}
-use Rattle.std.proofs.lemmas.Option.{slice_get_within}
+use Rattle.std.proofs.Common.{◌≡◌, ◌∙◌, ◌⊎◌, inl, inr, ⊎_elim, ℕ, suc, ◌+◌, ◌-◌, ◌<◌, ◌≤◌, List, [], ◌∷◌, Bool, true, false, Some, refl, sym, ap, subst, arith, map, length, slice_get}
+use Rattle.std.specs.Prelude.{slice_index_or}
+use Rattle.std.proofs.lemmas.Bool.{cases_lt}
 use Rattle.ddf_bay.specs.Sectors.{Image}
-use Rattle.ddf_primary.specs.declared.layout.Layout.{Layout}
-use Rattle.ddf_primary.specs.declared.layout.Layout.TheVariants.{Raid0, Raid1, Parity, Jbod, Concatenation}
-use Rattle.ddf_primary.specs.Cells as cells_of
-use Rattle.ddf_primary.specs.Cells.{cells}
-use Rattle.ddf_secondary.specs.declared.spot.Spot.{Spot}
-use Rattle.ddf_secondary.specs.Spots.{spots}
-use Rattle.ddf_array.specs.declared.part.Part.{Part}
 use Rattle.ddf_array.specs.declared.site.Site.{Site}
 use Rattle.ddf_array.specs.Apart.{IsApart}
-use Rattle.ddf_array.specs.Cells.{is_in_every}
-use Rattle.ddf_array.specs.Levels.{is_on_every}
-use Rattle.ddf_array.specs.Places.{site_at, site_on}
+use Rattle.ddf_array.specs.Places.{site_on}
 use Rattle.ddf_array.specs.Sources.{Source, copies, copy, first_copy, sources, trusts_parity}
 use Rattle.ddf_array.specs.Values.{bytes_at, given}
 use Rattle.ddf_array.specs.Volume.{Volume, IsVolume}
-use Rattle.ddf_array.specs.Within.{is_mirrored}
-use Rattle.ddf_volume.specs.Along.{LieAlong, further}
 use Rattle.ddf_volume.specs.Reading.{IsGivenBy}
 use Rattle.ddf_volume.proofs.BlockSources.{sources_untrusted}
 use Rattle.ddf_volume.proofs.GivenLaws.{one_of}
+use Rattle.ddf_volume.proofs.Tries.{IsGivenBy-wider, Within}
 use Rattle.ddf_cells.specs.CellsOn.{GivesCells}
-use Rattle.ddf_cells.proofs.AlongStrips.{first_spot}
+use Rattle.ddf_cells.specs.Touching.{IsTouchedSlot}
 use Rattle.ddf_cells.proofs.CopiesOn.{on_position}
 use Rattle.ddf_cells.proofs.Items.{in_map}
-use Rattle.ddf_cells.proofs.OnCells.{on_cell, one_owner, spot_of}
-use Rattle.ddf_resync.specs.Copying.{AreCopied, FirstTaken, HasOneCopy}
+use Rattle.ddf_cells.proofs.Lists.{some_not_none}
+use Rattle.ddf_cells.proofs.OnCells.{on_cell, one_owner}
+use Rattle.ddf_resync.specs.Copying.{AreAsBefore, AreCopied, AreNoted, HasOneCopy}
 use Rattle.ddf_resync.specs.Resyncing.{IsHeld, MayResync}
+use Rattle.ddf_resync.specs.Several.{has_other}
 
 some_is : {X : Type 0} {a b : X} → Some a ≡ Some b → a ≡ b
 some_is e = cc
 
--- ---- a block with one cell
+-- ---- what copies give
 
-lone_cell : (layout : Layout) (members : ℕ) (items : List (ℕ × ℕ)) (position sector inner : ℕ) → is_on_every layout ≡ false → cells_of.HoldsBy layout members items position sector inner → slice_get items inner ≡ Some (position, sector)
-lone_cell Raid0 members items position sector inner one holds = holds
-lone_cell Raid1 members items position sector inner one holds = absurd (cc)
-lone_cell (Parity parity) members items position sector inner one holds = holds
-lone_cell Jbod members items position sector inner one holds = holds
-lone_cell Concatenation members items position sector inner one holds = holds
+-- bytes of the first copy
+first_by : (failed : ℕ → Type 0) (image : Image) (cs : List Site) (i : ℕ) (one : Site) (bytes : List ℕ) → slice_get cs i ≡ Some one → ((first : Site) → slice_get cs 0 ≡ Some first → bytes ≡ bytes_at image first) → IsGivenBy failed image (map copy cs) bytes
+first_by failed image [] i one bytes at is = absurd (some_not_none one (sym at))
+first_by failed image (c ∷ cs) i one bytes at is = inl (is c refl)
 
-few_parts : (every : Bool) (n : ℕ) → every ≡ true → (every && nat_le 2 n) ≡ false → n < 2
-few_parts true n is not = leb-false 2 n not
-few_parts false n is not = absurd (cc)
+pub given_alone : (failed : ℕ → Type 0) (v : Volume) (image : Image) (block i : ℕ) (one : Site) (bytes : List ℕ) → HasOneCopy v block → slice_get (copies v block) i ≡ Some one → bytes ≡ bytes_at image one
+    → IsGivenBy failed image (map copy (copies v block)) bytes
+given_alone failed v image block i one bytes alone at is =
+    first_by failed image (copies v block) i one bytes at (λ first is_first. is ∙ ap (bytes_at image) (alone i 0 one first at is_first))
 
-module _ (v : Volume) (known : IsVolume v) (one_element : is_mirrored v ≡ false) (block : ℕ) (spot : Spot) (at : slice_get (spots v.tiers) block ≡ Some spot) (part : Part) (is_part : slice_get v.parts spot.element ≡ Some part)
-    (lone : is_on_every part.shape.layout ≡ false) where
-  element_by : (every : Bool) (element first : ℕ) → is_in_every v.tiers.level ≡ every → (every || (first == element)) ≡ true → first ≡ spot.element → element < length v.parts → element ≡ spot.element
-  element_by true element first is like same below =
-      let few : length v.parts < 2 = few_parts (is_in_every v.tiers.level) (length v.parts) is one_element in
-      omega (arith, few, below, slice_get_within v.parts spot.element part is_part)
-  element_by false element first is like same below = sym (eqb-true first element like) ∙ same
+-- the same of another image that has the same there
+given_same : (failed : ℕ → Type 0) (a b : Image) (cs : List Site) (bytes : List ℕ) → ((i : ℕ) (one : Site) → slice_get cs i ≡ Some one → bytes_at a one ≡ bytes_at b one) → IsGivenBy failed a (map copy cs) bytes → IsGivenBy failed b (map copy cs) bytes
+given_same failed a b [] bytes same is = is
+given_same failed a b (c ∷ cs) bytes same is = ⊎_elim (λ here. inl (here ∙ same 0 c refl)) (λ later. inr (later.0, given_same failed a b cs bytes (λ i one at. same (suc i) one at) later.1)) is
 
-  record IsThere (one : Site) : Type 0 where
-    position : ℕ
-    sector : ℕ
-    is_cell : slice_get (cells part.shape) spot.block ≡ Some (position, sector)
-    is_site : site_at part.places position sector ≡ Some one
+pub given_held : (v : Volume) (failed : ℕ → Type 0) (image : Image) (block : ℕ) (bytes : List ℕ) → IsGivenBy failed image (map copy (copies v block)) bytes → IsHeld v image block bytes
+given_held v failed image block bytes is =
+    let from = one_of failed image (map copy (copies v block)) bytes is in
+    let its = in_map copy (copies v block) from.0 from.1.0 from.1.1 in
+    record { number = from.0; other = its.0; is_copy = its.1; bytes_are = from.1.2 ∙ ap (given image) (sym its.2) }
 
-  there : (i : ℕ) (one : Site) → slice_get (copies v block) i ≡ Some one → IsThere one
-  there i one is =
-      let on = on_position v known block i one is in
-      let cell = on_cell v known on.element on.position block one on.on in
-      let first = first_spot v.tiers.level v.tiers.sizes (spots v.tiers) on.element cell.sits.inner block cell.sits.in_element in
-      let same : spot_of first.0 cell.sits.inner ≡ spot = some_is (sym first.1 ∙ at) in
-      let element : on.element ≡ spot.element =
-      element_by (is_in_every v.tiers.level) on.element first.0 refl first.2 (ap (λ (s : Spot). s.element) same) (slice_get_within v.parts on.element cell.sits.part cell.sits.is_part) in
-      let parts : cell.sits.part ≡ part = some_is (sym cell.sits.is_part ∙ ap (slice_get v.parts) element ∙ is_part) in
-      let inner : cell.sits.inner ≡ spot.block = ap (λ (s : Spot). s.block) same in
-      let holds : cells_of.Holds part.shape on.position cell.sector spot.block =
-      subst (λ n. cells_of.Holds part.shape on.position cell.sector n) inner (subst (λ (q : Part). cells_of.Holds q.shape on.position cell.sector cell.sits.inner) parts cell.sits.on_position) in
-      record {
-        position = on.position;
-        sector = cell.sector;
-        is_cell = lone_cell part.shape.layout part.shape.members (cells part.shape) on.position cell.sector spot.block lone holds;
-        is_site = ap (λ (q : Part). site_at q.places on.position cell.sector) (sym parts) ∙ cell.is_there;
-      }
+-- where no read failed on the first copy's slot, its bytes
+first_taken_by : (failed : ℕ → Type 0) (image : Image) (cs : List Site) (first : Site) (bytes : List ℕ) → slice_get cs 0 ≡ Some first → (failed first.slot → ⊥) → IsGivenBy failed image (map copy cs) bytes → bytes ≡ bytes_at image first
+first_taken_by failed image [] first bytes at never is = absurd (some_not_none first (sym at))
+first_taken_by failed image (c ∷ cs) first bytes at never is =
+    let same : c ≡ first = some_is at in
+    ⊎_elim (λ here. here ∙ ap (bytes_at image) same) (λ later. absurd (never (subst (λ (one : Site). failed one.slot) same later.0))) is
 
-  pub one_copy : HasOneCopy v block
-  one_copy i j one other at_i at_j =
-      let a = there i one at_i in
-      let b = there j other at_j in
-      let same : (a.position, a.sector) ≡ (b.position, b.sector) = some_is (sym a.is_cell ∙ b.is_cell) in
-      some_is (sym a.is_site ∙ ap (λ (c : ℕ × ℕ). site_at part.places c.0 c.1) same ∙ b.is_site)
+pub first_taken : (failed : ℕ → Type 0) (v : Volume) (image : Image) (block : ℕ) (first : Site) (bytes : List ℕ) → first_copy v block ≡ Some first → (failed first.slot → ⊥) → IsGivenBy failed image (map copy (copies v block)) bytes
+    → bytes ≡ bytes_at image first
+first_taken failed v image block first bytes at never is = first_taken_by failed image (copies v block) first bytes at never is
 
--- so have those that lie along with it
-pub one_along : (v : Volume) (block count : ℕ) → LieAlong v block count → HasOneCopy v block → (k : ℕ) → k < count → HasOneCopy v (block + k)
-one_along v block count along one k below i j first second at_i at_j =
-    let a = in_map (further k) (copies v block) i first (ap (λ (l : List Site). slice_get l i) (sym (along.copies_are k below)) ∙ at_i) in
-    let b = in_map (further k) (copies v block) j second (ap (λ (l : List Site). slice_get l j) (sym (along.copies_are k below)) ∙ at_j) in
-    sym a.2 ∙ ap (further k) (one i j a.0 b.0 a.1 b.1) ∙ b.2
+pub given_marked : (v : Volume) → trusts_parity v ≡ false → (failed : ℕ → Type 0) (image : Image) (block : ℕ) (bytes : List ℕ) → IsGivenBy failed image (sources v block) bytes → IsGivenBy failed image (map copy (copies v block)) bytes
+given_marked v marked failed image block bytes is = subst (λ (l : List Source). IsGivenBy failed image l bytes) (sources_untrusted v block marked) is
 
 -- ---- blocks of a range
 
-in_range : (b block n : ℕ) → (b < block) ⊎ (((k : ℕ) × (k < n) × (b ≡ block + k)) ⊎ (block + n ≤ b))
-in_range b block n =
-    ⊎_elim inl
-    (λ (from : block ≤ b). inr (⊎_elim (λ (below : b < block + n). inl (b - block, omega (arith, from, below), omega (arith, from))) (λ (past : block + n ≤ b). inr past) (cases_lt b (block + n))))
-    (cases_lt b block)
-
-module _ (v : Volume) (before old new : Image) (block n : ℕ) where
-  -- blocks with one cell need nothing
-  pub copied_alone : ((k : ℕ) → k < n → HasOneCopy v (block + k)) → AreCopied v before old block → AreCopied v before old (block + n)
-  copied_alone alone was = record {
-    equal = λ b i j one other below at at'. ⊎_elim
-        (λ earlier. was.equal b i j one other earlier at at')
-        (⊎_elim
-        (λ here. ap (bytes_at old) (alone here.0 here.1 i j one other (ap (λ m. slice_get (copies v m) i) (sym here.2) ∙ at) (ap (λ m. slice_get (copies v m) j) (sym here.2) ∙ at')))
-        (λ past. absurd (omega (arith, past, below))))
-        (in_range b block n);
-    taken = was.taken;
-    rest = λ b i one from at. was.rest b i one (omega (arith, from)) at;
+module _ (v : Volume) where
+  -- none is copied yet
+  pub copied_start : (failed : ℕ → Type 0) (image : Image) (from : ℕ) → AreCopied failed v image image from from
+  copied_start failed image from = record {
+    equal = λ b i j one other above below at at'. absurd (omega (arith, above, below));
+    given = λ b i one above below at. absurd (omega (arith, above, below));
+    earlier = λ b i one before at. refl;
+    later = λ b i one behind at. refl;
   }
 
-  pub first_alone : ((k : ℕ) → k < n → HasOneCopy v (block + k)) → AreCopied v before old block → FirstTaken v before old block → FirstTaken v before old (block + n)
-  first_alone alone was taken b i one first below at is_first = ⊎_elim
-      (λ earlier. taken b i one first earlier at is_first)
-      (⊎_elim
-      (λ here.
-      let same : one ≡ first = alone here.0 here.1 i 0 one first (ap (λ m. slice_get (copies v m) i) (sym here.2) ∙ at) (ap (λ m. slice_get (copies v m) 0) (sym here.2) ∙ is_first) in
-      was.rest b i one (omega (arith, here.2)) at ∙ ap (bytes_at before) same)
-      (λ past. absurd (omega (arith, past, below))))
-      (in_range b block n)
+  -- blocks with one cell need nothing
+  pub copied_alone : (failed : ℕ → Type 0) (image : Image) (from n : ℕ) → ((k : ℕ) → k < n → HasOneCopy v (from + k)) → AreCopied failed v image image from (from + n)
+  copied_alone failed image from n alone = record {
+    equal = λ b i j one other above below at at'. ap (bytes_at image) (its b above below i j one other at at');
+    given = λ b i one above below at. given_alone failed v image b i one (bytes_at image one) (its b above below) at refl;
+    earlier = λ b i one before at. refl;
+    later = λ b i one behind at. refl;
+  }
+    where
+      its : (b : ℕ) → from ≤ b → b < from + n → HasOneCopy v b
+      its b above below = let same : from + (b - from) ≡ b = omega (arith, above) in subst (HasOneCopy v) same (alone (b - from) (omega (arith, above, below)))
 
-  module _ (out : List (List ℕ)) (held : (k : ℕ) → k < n → IsHeld v old (block + k) (slice_index_or out k []))
-      (set : (k i : ℕ) (one : Site) → k < n → slice_get (copies v (block + k)) i ≡ Some one → bytes_at new one ≡ slice_index_or out k [])
-      (stays : (b i : ℕ) (one : Site) → ((k : ℕ) → k < n → b ≡ block + k → ⊥) → slice_get (copies v b) i ≡ Some one → bytes_at new one ≡ bytes_at old one) where
-    early : (b : ℕ) → b < block → (k : ℕ) → k < n → b ≡ block + k → ⊥
-    early b before_it k below same = omega (arith, before_it, same)
+  -- a run is read, and written to all cells of its blocks
+  module _ (failed : ℕ → Type 0) (old new : Image) (from n : ℕ) (out : List (List ℕ)) (are : (k : ℕ) → k < n → IsGivenBy failed old (map copy (copies v (from + k))) (slice_index_or out k []))
+      (set : (k i : ℕ) (one : Site) → k < n → slice_get (copies v (from + k)) i ≡ Some one → bytes_at new one ≡ slice_index_or out k [])
+      (stays : (b i : ℕ) (one : Site) → ((k : ℕ) → k < n → b ≡ from + k → ⊥) → slice_get (copies v b) i ≡ Some one → bytes_at new one ≡ bytes_at old one) where
+    set_at : (b i : ℕ) (one : Site) → from ≤ b → b < from + n → slice_get (copies v b) i ≡ Some one → bytes_at new one ≡ slice_index_or out (b - from) []
+    set_at b i one above below at =
+        let same : from + (b - from) ≡ b = omega (arith, above) in set (b - from) i one (omega (arith, above, below)) (ap (λ m. slice_get (copies v m) i) same ∙ at)
 
-    late : (b : ℕ) → block + n ≤ b → (k : ℕ) → k < n → b ≡ block + k → ⊥
-    late b past k below same = omega (arith, past, below, same)
-
-    set_at : (b i k : ℕ) (one : Site) → k < n → b ≡ block + k → slice_get (copies v b) i ≡ Some one → bytes_at new one ≡ slice_index_or out k []
-    set_at b i k one below same at = set k i one below (ap (λ m. slice_get (copies v m) i) (sym same) ∙ at)
-
-    other_taken : AreCopied v before old block → (b i : ℕ) (one : Site) → bytes_at new one ≡ bytes_at old one → slice_get (copies v b) i ≡ Some one → IsHeld v before b (bytes_at new one)
-    other_taken was b i one same at =
-        let taken = was.taken b i one at in record { number = taken.number; other = taken.other; is_copy = taken.is_copy; bytes_are = same ∙ taken.bytes_are }
-
-    -- the others get what was read
-    pub copied_more : AreCopied v before old block → AreCopied v before new (block + n)
-    copied_more was = record {
-      equal = λ b i j one other below at at'. ⊎_elim
-          (λ earlier. stays b i one (early b earlier) at ∙ was.equal b i j one other earlier at at' ∙ sym (stays b j other (early b earlier) at'))
-          (⊎_elim
-          (λ here. set_at b i here.0 one here.1 here.2 at ∙ sym (set_at b j here.0 other here.1 here.2 at'))
-          (λ past. absurd (omega (arith, past, below))))
-          (in_range b block n);
-      taken = λ b i one at. ⊎_elim
-          (λ earlier. other_taken was b i one (stays b i one (early b earlier) at) at)
-          (⊎_elim
-          (λ here.
-          let is = held here.0 here.1 in
-          record {
-            number = is.number;
-            other = is.other;
-            is_copy = ap (λ m. slice_get (copies v m) is.number) here.2 ∙ is.is_copy;
-            bytes_are = set_at b i here.0 one here.1 here.2 at ∙ is.bytes_are ∙ was.rest (block + here.0) is.number is.other (omega arith) is.is_copy;
-          })
-          (λ past. other_taken was b i one (stays b i one (late b past) at) at))
-          (in_range b block n);
-      rest = λ b i one from at. stays b i one (late b from) at ∙ was.rest b i one (omega (arith, from)) at;
+    pub copied_run : AreCopied failed v old new from (from + n)
+    copied_run = record {
+      equal = λ b i j one other above below at at'. set_at b i one above below at ∙ sym (set_at b j other above below at');
+      given = λ b i one above below at.
+          let same : from + (b - from) ≡ b = omega (arith, above) in
+          subst (λ bytes. IsGivenBy failed old (map copy (copies v b)) bytes) (sym (set_at b i one above below at))
+          (subst (λ m. IsGivenBy failed old (map copy (copies v m)) (slice_index_or out (b - from) [])) same (are (b - from) (omega (arith, above, below))));
+      earlier = λ b i one before at. stays b i one (λ k below same. omega (arith, before, same)) at;
+      later = λ b i one behind at. stays b i one (λ k below same. omega (arith, behind, below, same)) at;
     }
 
-    pub first_more : ((k : ℕ) (first : Site) → k < n → first_copy v (block + k) ≡ Some first → slice_index_or out k [] ≡ bytes_at old first) → AreCopied v before old block → FirstTaken v before old block
-        → FirstTaken v before new (block + n)
-    first_more given was taken b i one first below at is_first = ⊎_elim
-        (λ earlier. stays b i one (early b earlier) at ∙ taken b i one first earlier at is_first)
-        (⊎_elim
-        (λ here.
-        let its : first_copy v (block + here.0) ≡ Some first = ap (first_copy v) (sym here.2) ∙ is_first in
-        set_at b i here.0 one here.1 here.2 at ∙ given here.0 first here.1 its ∙ was.rest (block + here.0) 0 first (omega arith) its)
-        (λ past. absurd (omega (arith, past, below))))
-        (in_range b block n)
+  -- one range after another
+  pub copied_then : {P Q R : ℕ → Type 0} (a b c : Image) (from mid to : ℕ) → from ≤ mid → mid ≤ to → Within P R → Within Q R → AreCopied P v a b from mid → AreCopied Q v b c mid to → AreCopied R v a c from to
+  copied_then {R = R} a b c from mid to le le' first_within next_within first next = record {
+    equal = λ n i j one other above below at at'. ⊎_elim
+        (λ (early : n < mid). next.earlier n i one early at ∙ first.equal n i j one other above early at at' ∙ sym (next.earlier n j other early at'))
+        (λ (late : mid ≤ n). next.equal n i j one other late below at at')
+        (cases_lt n mid);
+    given = λ n i one above below at. ⊎_elim
+        (λ (early : n < mid).
+        subst (λ bytes. IsGivenBy R a (map copy (copies v n)) bytes) (sym (next.earlier n i one early at)) (IsGivenBy-wider first_within a (map copy (copies v n)) (bytes_at b one) (first.given n i one above early at)))
+        (λ (late : mid ≤ n).
+        given_same R b a (copies v n) (bytes_at c one) (λ j other is. first.later n j other late is) (IsGivenBy-wider next_within b (map copy (copies v n)) (bytes_at c one) (next.given n i one late below at)))
+        (cases_lt n mid);
+    earlier = λ n i one before at. next.earlier n i one (omega (arith, before, le)) at ∙ first.earlier n i one before at;
+    later = λ n i one behind at. next.later n i one behind at ∙ first.later n i one (omega (arith, behind, le')) at;
+  }
 
--- ---- what is read, and what is written
+  pub copied_wider : {P Q : ℕ → Type 0} → Within P Q → (a b : Image) (from to : ℕ) → AreCopied P v a b from to → AreCopied Q v a b from to
+  copied_wider within a b from to was = record {
+    equal = was.equal;
+    given = λ n i one above below at. IsGivenBy-wider within a (map copy (copies v n)) (bytes_at b one) (was.given n i one above below at);
+    earlier = was.earlier;
+    later = was.later;
+  }
 
-pub held_of : (v : Volume) → trusts_parity v ≡ false → (failed : ℕ → Type 0) (image : Image) (block : ℕ) (bytes : List ℕ) → IsGivenBy failed image (sources v block) bytes → IsHeld v image block bytes
-held_of v marked failed image block bytes is =
-    let from = one_of failed image (map copy (copies v block)) bytes (subst (λ (l : List Source). IsGivenBy failed image l bytes) (sources_untrusted v block marked) is) in
-    let its = in_map copy (copies v block) from.0 from.1.0 from.1.1 in
-    record { number = from.0; other = its.0; is_copy = its.1; bytes_are = from.1.2 ∙ ap (given image) (sym its.2) }
+  pub noted_then : (t u : List Bool) (from mid to : ℕ) → ((s : ℕ) → IsTouchedSlot t s → IsTouchedSlot u s) → AreNoted v t from mid → AreNoted v u mid to → AreNoted v u from to
+  noted_then t u from mid to up first next b i one above below several at = ⊎_elim
+      (λ (early : b < mid). up one.slot (first b i one above early several at))
+      (λ (late : mid ≤ b). next b i one late below several at)
+      (cases_lt b mid)
+
+-- ---- what is written
 
 module _ (v : Volume) (known : IsVolume v) (apart : IsApart v) (block : ℕ) (out : List (List ℕ)) where
   pub stays_by : (old new : Image) → ((s l : ℕ) → (new s l ≡ old s l) ⊎ GivesCells v block out s l (new s l)) → (b i : ℕ) (one : Site) → ((k : ℕ) → k < length out → b ≡ block + k → ⊥) → slice_get (copies v b) i ≡ Some one
@@ -199,14 +151,16 @@ module _ (v : Volume) (known : IsVolume v) (apart : IsApart v) (block : ℕ) (ou
       absurd (other given.0.k given.0.below same))
       (only one.slot one.lba)
 
-  pub taken_by : (tells : Type 0) (before old : Image) → (tells → AreCopied v before old block) → (tells → (k : ℕ) → k < length out → IsHeld v old (block + k) (slice_index_or out k [])) → (s l : ℕ) (bytes : List ℕ)
+  pub taken_by : (tells : Type 0) (before old : Image) → ((k : ℕ) → k < length out → has_other v (block + k) ≡ true) → (tells → AreAsBefore v before old block)
+      → (tells → (k : ℕ) → k < length out → IsHeld v old (block + k) (slice_index_or out k [])) → (s l : ℕ) (bytes : List ℕ)
       → GivesCells v block out s l bytes → MayResync v tells before s l bytes
-  taken_by tells before old copied held s l bytes gives =
+  taken_by tells before old several same held s l bytes gives =
       inl (record {
         block = block + gives.0.k;
         i = gives.0.i;
         is_cell = gives.0.is_cell;
+        several = several gives.0.k gives.0.below;
         held = λ tell.
             let is = held tell gives.0.k gives.0.below in
-            record { number = is.number; other = is.other; is_copy = is.is_copy; bytes_are = gives.1 ∙ is.bytes_are ∙ (copied tell).rest (block + gives.0.k) is.number is.other (omega arith) is.is_copy };
+            record { number = is.number; other = is.other; is_copy = is.is_copy; bytes_are = gives.1 ∙ is.bytes_are ∙ same tell (block + gives.0.k) is.number is.other (omega arith) is.is_copy };
       })

@@ -1,17 +1,23 @@
 -- What a resync leaves: of images that a stop leaves, and of single blocks.
-use Rattle.std.proofs.Common.{◌≡◌, ◌∙◌, ◌⊎◌, inl, inr, ⊎_elim, ℕ, List, Some, refl, subst, slice_get}
+use Rattle.std.proofs.Common.{◌≡◌, ◌∙◌, ◌⊎◌, inl, inr, ⊎_elim, ℕ, List, Some, refl, sym, map, subst, slice_get}
+use Rattle.ddf_bay.specs.Moments.{IsSettled}
 use Rattle.ddf_bay.specs.Sectors.{Image, IsLeft, Outcomes}
 use Rattle.ddf_array.specs.declared.site.Site.{Site}
 use Rattle.ddf_array.specs.Apart.{IsApart}
 use Rattle.ddf_array.specs.Redundant.{IsRedundant}
-use Rattle.ddf_array.specs.Sources.{copies}
+use Rattle.ddf_array.specs.Sound.{AreSectors}
+use Rattle.ddf_array.specs.Sources.{copies, copy}
 use Rattle.ddf_array.specs.Values.{bytes_at}
 use Rattle.ddf_array.specs.Volume.{Volume, IsVolume}
 use Rattle.ddf_array.proofs.Consistent.{consistent_if}
+use Rattle.ddf_volume.specs.Reading.{IsGivenBy, IsOn}
+use Rattle.ddf_cells.specs.Alike.{AreAlike}
+use Rattle.ddf_cells.proofs.Alike.{copy_is_cell, redundant_same}
+use Rattle.ddf_cells.proofs.Surely.{cell_on}
 use Rattle.ddf_cells.proofs.CopiesOn.{on_position}
 use Rattle.ddf_cells.proofs.OnCells.{on_cell, one_owner}
 use Rattle.ddf_cells.proofs.ParityCells.{no_copy}
-use Rattle.ddf_resync.specs.Resyncing.{IsAmongResynced, IsHeld, IsLeftByResync, IsTaken, MayResync}
+use Rattle.ddf_resync.specs.Resyncing.{HasResynced, IsAmongResynced, IsHeld, IsLeftByResync, IsTaken, MayResync}
 
 -- ---- a stop comes from an image that a stop might leave before
 
@@ -63,3 +69,16 @@ module _ (v : Volume) (known : IsVolume v) (apart : IsApart v) (before after : I
   same_where_redundant is block i one at =
       let held = held_before block i one at in
       held.bytes_are ∙ (consistent_if v before is).equal_copies block held.number i held.other one held.is_copy at
+
+-- ---- images that a stop leaves where nothing is pending
+
+module _ (v : Volume) (known : IsVolume v) (may : Outcomes) (held image : Image) (settled : (slot : ℕ) → IsOn v slot → IsSettled may held slot) (left : IsLeft may image) where
+  alike : AreAlike v held image
+  alike slot lba is = sym (settled slot (cell_on v slot lba is) lba (image slot lba) (left slot lba))
+
+  pub settled_resynced : (failed : ℕ → Type 0) (before : Image) → AreSectors held → HasResynced failed v before held → HasResynced failed v before image
+  settled_resynced failed before are was = record {
+    redundant = λ sectors. redundant_same v known held image alike (was.redundant are);
+    given = λ block i one at.
+        subst (λ bytes. IsGivenBy failed before (map copy (copies v block)) bytes) (alike one.slot one.lba (copy_is_cell v known block i one at)) (was.given block i one at);
+  }

@@ -2,8 +2,11 @@ pub mod Found
 pub mod Failing
 pub mod Beside
 pub mod Values
+pub mod SeveralCells
 pub mod Copied
+pub mod CopyStep
 pub mod Stops
+pub mod SetStep
 pub mod Resynced
 pub mod Leaves
 mod Worked

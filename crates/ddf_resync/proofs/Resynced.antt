@@ -1,23 +1,31 @@
 -- An array whose copies were made equal, and then its parity right.
-use Rattle.std.proofs.Common.{◌≡◌, ◌∙◌, ◌⊎◌, inl, inr, ⊎_elim, ℕ, zero, suc, ◌<◌, Bool, true, false, not, List, [], ◌∷◌, Some, None, refl, sym, ap, arith, length, slice_get}
-use Rattle.std.specs.Prelude.{if◌then◌else◌}
+use Rattle.std.proofs.Common.{◌≡◌, ◌∙◌, ◌⊎◌, inl, inr, ⊎_elim, ℕ, zero, suc, ◌/◌, ◌<◌, Bool, true, false, not, List, [], ◌∷◌, Some, None, refl, sym, ap, subst, arith, map, length, slice_get}
+use Rattle.std.specs.Prelude.{◌==◌, ◌&&◌, ◌||◌, if◌then◌else◌, nat_le}
+use Rattle.std.proofs.lemmas.Bool.{eqb-true, leb-false}
 use Rattle.std.specs.List.{list_any}
 use Rattle.std.proofs.lemmas.Option.{slice_get_within}
 use Rattle.ddf_bay.specs.Sectors.{Image}
+use Rattle.ddf_primary.specs.declared.layout.Layout.{Layout}
+use Rattle.ddf_primary.specs.declared.layout.Layout.TheVariants.{Raid0, Raid1, Parity, Jbod, Concatenation}
+use Rattle.ddf_primary.specs.Cells as cells_of
+use Rattle.ddf_primary.specs.Cells.{cells}
 use Rattle.ddf_primary.proofs.ShapeFacts.{depth_le}
+use Rattle.ddf_secondary.specs.declared.spot.Spot.{Spot}
 use Rattle.ddf_secondary.specs.Spots.{spots}
 use Rattle.ddf_secondary.proofs.SpotFacts.{spot_facts}
 use Rattle.ddf_array.specs.declared.part.Part.{Part}
 use Rattle.ddf_array.specs.declared.site.Site.{Site}
 use Rattle.ddf_array.specs.Apart.{IsApart}
 use Rattle.ddf_array.specs.Levels.{is_on_every, keeps_parity}
-use Rattle.ddf_array.specs.Places.{site_on}
-use Rattle.ddf_array.specs.Sources.{copies}
+use Rattle.ddf_array.specs.Cells.{is_in_every}
+use Rattle.ddf_array.specs.Places.{site_at, site_on}
+use Rattle.ddf_array.specs.Sources.{copies, copy}
 use Rattle.ddf_array.specs.Values.{bytes_at}
 use Rattle.ddf_array.specs.Volume.{Volume, IsVolume, Fits, capacity}
 use Rattle.ddf_array.specs.Within.{is_mirrored, is_redundant, is_within, keeps_more}
 use Rattle.ddf_array.proofs.Bools.{or_first, or_second}
 use Rattle.ddf_array.proofs.Elements.{parts_count}
+use Rattle.ddf_volume.specs.Reading.{IsGivenBy}
 use Rattle.ddf_volume.specs.declared.fault.VolumeFault.{VolumeFault}
 use Rattle.ddf_volume.specs.declared.fault.VolumeFault.TheVariants.{Lost, Unsure}
 use Rattle.ddf_volume.proofs.Sites.{site_at_there}
@@ -26,17 +34,19 @@ use Rattle.ddf_cells.specs.Degraded.{is_degraded}
 use Rattle.ddf_cells.specs.Parity.{IsParityCell}
 use Rattle.ddf_cells.proofs.AlongStrips.{first_spot}
 use Rattle.ddf_cells.proofs.CopiesOn.{on_position, sits_below}
+use Rattle.ddf_cells.proofs.DataCells.{keeps}
 use Rattle.ddf_cells.proofs.Items.{any_at}
 use Rattle.ddf_cells.proofs.OnCells.{on_cell, spot_of}
 use Rattle.ddf_cells.proofs.ParityCells.{no_copy}
 use Rattle.ddf_cells.proofs.Redundance.{made_redundant}
 use Rattle.ddf_cells.proofs.RunGiven.{cell_there}
-use Rattle.ddf_resync.specs.Copying.{AreCopied, FirstTaken, HasOneCopy}
-use Rattle.ddf_resync.specs.Resyncing.{HasResynced, MayResync, resync_refusal}
+use Rattle.ddf_resync.specs.Copying.{AreCopied, AreNoted, HasOneCopy}
+use Rattle.ddf_resync.specs.Resyncing.{HasResynced, IsSetOn, MayResync, resync_refusal}
 use Rattle.ddf_bay.specs.State.{BayState}
-use Rattle.ddf_cells.specs.Touching.{Writes}
-use Rattle.ddf_resync.specs.Setting.{AreRightIn, SetsParity}
-use Rattle.ddf_resync.proofs.Copied.{one_copy}
+use Rattle.ddf_cells.specs.Touching.{IsTouchedSlot, Writes}
+use Rattle.ddf_resync.specs.Setting.{AreNotedIn, AreRightIn, SetsParity}
+use Rattle.ddf_resync.proofs.Copied.{given_alone}
+use Rattle.ddf_resync.proofs.SeveralCells.{not_several}
 
 some_is : {X : Type 0} {a b : X} → Some a ≡ Some b → a ≡ b
 some_is e = cc
@@ -49,44 +59,51 @@ copy_below v known block i one at =
     sits_below v known on.element on.position cell.sector block cell.sits
 
 -- what a resync gives lies on slots
-pub given_there : (v : Volume) → IsVolume v → (sizes : List ℕ) → Fits sizes v → (tells : Type 0) (before : Image) (s l : ℕ) (bytes : List ℕ) → MayResync v tells before s l bytes → s < length sizes
-given_there v known sizes fits tells before s l bytes (inl taken) =
-    let on = on_position v known taken.block taken.i (site_on s l) taken.is_cell in
-    (cell_there sizes v known fits on.element on.position taken.block (site_on s l) on.on).slot_is
-given_there v known sizes fits tells before s l bytes (inr of) =
+copy_there : (v : Volume) → IsVolume v → (sizes : List ℕ) → Fits sizes v → (block i s l : ℕ) → slice_get (copies v block) i ≡ Some (site_on s l) → s < length sizes
+copy_there v known sizes fits block i s l is_cell =
+    let on = on_position v known block i (site_on s l) is_cell in (cell_there sizes v known fits on.element on.position block (site_on s l) on.on).slot_is
+
+parity_there : (v : Volume) (sizes : List ℕ) → Fits sizes v → (s l : ℕ) → IsParityCell v s l → s < length sizes
+parity_there v sizes fits s l of =
     (site_at_there sizes of.part of.position of.sector 1 (site_on s l) (fits of.element of.part of.is_part) (omega (arith, of.deep, depth_le of.part.shape.layout of.part.shape.strip of.part.shape.blocks)) of.is_there).slot_is
 
--- no block is copied yet
-pub copied_start : (v : Volume) (image : Image) → AreCopied v image image 0
-copied_start v image = record {
-  equal = λ b i j one other below at at'. absurd (omega (arith, below));
-  taken = λ b i one at. record { number = i; other = one; is_copy = at; bytes_are = refl };
-  rest = λ b i one from at. refl;
-}
+pub given_there : (v : Volume) → IsVolume v → (sizes : List ℕ) → Fits sizes v → (tells : Type 0) (before : Image) (s l : ℕ) (bytes : List ℕ) → MayResync v tells before s l bytes → s < length sizes
+given_there v known sizes fits tells before s l bytes (inl taken) = copy_there v known sizes fits taken.block taken.i s l taken.is_cell
+given_there v known sizes fits tells before s l bytes (inr of) = parity_there v sizes fits s l of
 
 -- ---- after both halves
 
-module _ (v : Volume) (known : IsVolume v) (apart : IsApart v) (whole : is_degraded v ≡ false) (before mid now : Image) (copied : AreCopied v before mid (capacity v))
+module _ (failed : ℕ → Type 0) (v : Volume) (known : IsVolume v) (apart : IsApart v) (whole : is_degraded v ≡ false) (before mid now : Image) (copied : AreCopied failed v before mid 0 (capacity v))
     (only : (s l : ℕ) → (now s l ≡ mid s l) ⊎ IsParityCell v s l) where
   copy_same : (block i : ℕ) (one : Site) → slice_get (copies v block) i ≡ Some one → bytes_at now one ≡ bytes_at mid one
   copy_same block i one at = ⊎_elim (λ same. same) (λ of. absurd (no_copy v known apart block i one at of)) (only one.slot one.lba)
 
   equal_now : HaveEqualCopies v now
   equal_now block j k one other at at' =
-      copy_same block j one at ∙ copied.equal block j k one other (copy_below v known block j one at) at at' ∙ sym (copy_same block k other at')
+      copy_same block j one at ∙ copied.equal block j k one other (omega arith) (copy_below v known block j one at) at at' ∙ sym (copy_same block k other at')
 
-  pub resynced : AreRightIn v now (length v.parts) → (sure : Type 0) → (sure → FirstTaken v before mid (capacity v)) → HasResynced v sure before now
-  resynced right sure first = record {
+  pub resynced : AreRightIn v now (length v.parts) → HasResynced failed v before now
+  resynced right = record {
     redundant = λ are. made_redundant v known apart whole now are equal_now
         (λ element sector position part own is_part keep deep is_parity at. right element sector part (slice_get_within v.parts element part is_part) is_part deep position own is_parity at);
-    taken = λ block i one at.
-        let is = copied.taken block i one at in
-        record { number = is.number; other = is.other; is_copy = is.is_copy; bytes_are = copy_same block i one at ∙ is.bytes_are };
-    first = λ is_sure block i one its at is_first. copy_same block i one at ∙ first is_sure block i one its (copy_below v known block i one at) at is_first;
+    given = λ block i one at.
+        subst (λ bytes. IsGivenBy failed before (map copy (copies v block)) bytes) (sym (copy_same block i one at)) (copied.given block i one (omega arith) (copy_below v known block i one at) at);
   }
 
-pub equal_mid : (v : Volume) → IsVolume v → (before mid : Image) → AreCopied v before mid (capacity v) → HaveEqualCopies v mid
-equal_mid v known before mid copied block j k one other at at' = copied.equal block j k one other (copy_below v known block j one at) at at'
+pub equal_mid : {failed : ℕ → Type 0} (v : Volume) → IsVolume v → (before mid : Image) → AreCopied failed v before mid 0 (capacity v) → HaveEqualCopies v mid
+equal_mid v known before mid copied block j k one other at at' = copied.equal block j k one other (omega arith) (copy_below v known block j one at) at at'
+
+-- the slots of what was set were touched
+pub set_noted : (v : Volume) → IsVolume v → (touched after : List Bool) (slot : ℕ) → ((s : ℕ) → IsTouchedSlot touched s → IsTouchedSlot after s) → AreNoted v touched 0 (capacity v) → AreNotedIn v after (length v.parts)
+    → IsSetOn v slot → IsTouchedSlot after slot
+set_noted v known touched after slot up copies_noted parity_noted on = ⊎_elim
+    (λ cell. up slot (copies_noted cell.block cell.i (site_on slot on.lba) (omega arith) (copy_below v known cell.block cell.i (site_on slot on.lba) cell.is_cell) cell.several cell.is_cell))
+    (λ of. parity_noted of.element of.sector of.part (slice_get_within v.parts of.element of.part of.is_part) of.is_part of.deep of.position (site_on slot on.lba) of.is_parity of.is_there)
+    on.is_set
+
+-- and they are slots of the bay
+pub set_there : (v : Volume) → IsVolume v → (sizes : List ℕ) → Fits sizes v → (slot : ℕ) → IsSetOn v slot → slot < length sizes
+set_there v known sizes fits slot on = ⊎_elim (λ cell. copy_there v known sizes fits cell.block cell.i slot on.lba cell.is_cell) (λ of. parity_there v sizes fits slot on.lba of) on.is_set
 
 -- copies that are equal stay so while parity is set
 pub equal_kept : (v : Volume) → IsVolume v → IsApart v → (tells : Type 0) {D : Type 0} {a b : BayState D} {t u : List Bool} → Writes (SetsParity v) tells a b t u → tells → HaveEqualCopies v a.held → HaveEqualCopies v b.held
@@ -94,6 +111,59 @@ equal_kept v known apart tells {a = a} {b = b} writes tell equal block j k one o
   where
     kept : (i : ℕ) (its : Site) → slice_get (copies v block) i ≡ Some its → bytes_at b.held its ≡ bytes_at a.held its
     kept i its is = ⊎_elim (λ same. same) (λ given. absurd (no_copy v known apart block i its is given.0)) (writes.held tell its.slot its.lba)
+
+-- ---- a block with one cell
+
+lone_cell : (layout : Layout) (members : ℕ) (items : List (ℕ × ℕ)) (position sector inner : ℕ) → is_on_every layout ≡ false → cells_of.HoldsBy layout members items position sector inner → slice_get items inner ≡ Some (position, sector)
+lone_cell Raid0 members items position sector inner one holds = holds
+lone_cell Raid1 members items position sector inner one holds = absurd (cc)
+lone_cell (Parity parity) members items position sector inner one holds = holds
+lone_cell Jbod members items position sector inner one holds = holds
+lone_cell Concatenation members items position sector inner one holds = holds
+
+few_parts : (every : Bool) (n : ℕ) → every ≡ true → (every && nat_le 2 n) ≡ false → n < 2
+few_parts true n is not = leb-false 2 n not
+few_parts false n is not = absurd (cc)
+
+module _ (v : Volume) (known : IsVolume v) (one_element : is_mirrored v ≡ false) (block : ℕ) (spot : Spot) (at : slice_get (spots v.tiers) block ≡ Some spot) (part : Part) (is_part : slice_get v.parts spot.element ≡ Some part)
+    (lone : is_on_every part.shape.layout ≡ false) where
+  element_by : (every : Bool) (element first : ℕ) → is_in_every v.tiers.level ≡ every → (every || (first == element)) ≡ true → first ≡ spot.element → element < length v.parts → element ≡ spot.element
+  element_by true element first is like same below =
+      let few : length v.parts < 2 = few_parts (is_in_every v.tiers.level) (length v.parts) is one_element in
+      omega (arith, few, below, slice_get_within v.parts spot.element part is_part)
+  element_by false element first is like same below = sym (eqb-true first element like) ∙ same
+
+  record IsThere (one : Site) : Type 0 where
+    position : ℕ
+    sector : ℕ
+    is_cell : slice_get (cells part.shape) spot.block ≡ Some (position, sector)
+    is_site : site_at part.places position sector ≡ Some one
+
+  there : (i : ℕ) (one : Site) → slice_get (copies v block) i ≡ Some one → IsThere one
+  there i one is =
+      let on = on_position v known block i one is in
+      let cell = on_cell v known on.element on.position block one on.on in
+      let first = first_spot v.tiers.level v.tiers.sizes (spots v.tiers) on.element cell.sits.inner block cell.sits.in_element in
+      let same : spot_of first.0 cell.sits.inner ≡ spot = some_is (sym first.1 ∙ at) in
+      let element : on.element ≡ spot.element =
+      element_by (is_in_every v.tiers.level) on.element first.0 refl first.2 (ap (λ (s : Spot). s.element) same) (slice_get_within v.parts on.element cell.sits.part cell.sits.is_part) in
+      let parts : cell.sits.part ≡ part = some_is (sym cell.sits.is_part ∙ ap (slice_get v.parts) element ∙ is_part) in
+      let inner : cell.sits.inner ≡ spot.block = ap (λ (s : Spot). s.block) same in
+      let holds : cells_of.Holds part.shape on.position cell.sector spot.block =
+      subst (λ n. cells_of.Holds part.shape on.position cell.sector n) inner (subst (λ (q : Part). cells_of.Holds q.shape on.position cell.sector cell.sits.inner) parts cell.sits.on_position) in
+      record {
+        position = on.position;
+        sector = cell.sector;
+        is_cell = lone_cell part.shape.layout part.shape.members (cells part.shape) on.position cell.sector spot.block lone holds;
+        is_site = ap (λ (q : Part). site_at q.places on.position cell.sector) (sym parts) ∙ cell.is_there;
+      }
+
+  one_copy : HasOneCopy v block
+  one_copy i j one other at_i at_j =
+      let a = there i one at_i in
+      let b = there j other at_j in
+      let same : (a.position, a.sector) ≡ (b.position, b.sector) = some_is (sym a.is_cell ∙ b.is_cell) in
+      some_is (sym a.is_site ∙ ap (λ (c : ℕ × ℕ). site_at part.places c.0 c.1) same ∙ b.is_site)
 
 -- ---- an array that isn't redundant by its level
 
@@ -130,14 +200,25 @@ module _ (v : Volume) (known : IsVolume v) (plain : is_redundant v ≡ false) wh
       let part = at_index v.parts first.0 (omega (arith, within, parts_count v known)) in
       one_copy v known one_element block spot first.1 part.0 part.1 (or_first (is_on_every part.0.shape.layout) (keeps_parity part.0.shape.layout) (keeps_none first.0 part.0 part.1)) i j one other at_i at_j
 
-  pub plain_resynced : IsApart v → is_degraded v ≡ false → (image : Image) (sure : Type 0) → HasResynced v sure image image
-  plain_resynced apart whole image sure = record {
+  no_parity : (element : ℕ) (part : Part) → slice_get v.parts element ≡ Some part → keeps_parity part.shape.layout ≡ true → ⊥
+  no_parity element part is_part keep = differ (sym (or_second (is_on_every part.shape.layout) (keeps_parity part.shape.layout) (keeps_none element part is_part)) ∙ keep)
+    where
+      differ : false ≡ true → ⊥
+      differ e = cc
+
+  pub plain_resynced : IsApart v → is_degraded v ≡ false → (failed : ℕ → Type 0) (image : Image) → HasResynced failed v image image
+  plain_resynced apart whole failed image = record {
     redundant = λ are. made_redundant v known apart whole image are (λ block j k one other at at'. ap (bytes_at image) (lone block j k one other at at'))
-        (λ element sector position part own is_part keep deep is_parity at.
-        absurd (differ (sym (or_second (is_on_every part.shape.layout) (keeps_parity part.shape.layout) (keeps_none element part is_part)) ∙ keep)));
-    taken = λ block i one at. record { number = i; other = one; is_copy = at; bytes_are = refl };
-    first = λ is_sure block i one its at is_first. ap (bytes_at image) (lone block i 0 one its at is_first);
+        (λ element sector position part own is_part keep deep is_parity at. absurd (no_parity element part is_part keep));
+    given = λ block i one at. given_alone failed v image block i one (bytes_at image one) (lone block) at refl;
   }
+
+  -- nothing of it is set
+  pub plain_set : (slot : ℕ) → IsSetOn v slot → ⊥
+  plain_set slot on = ⊎_elim
+      (λ cell. differ (sym (not_several v cell.block (lone cell.block)) ∙ cell.several))
+      (λ of. no_parity of.element of.part of.is_part (keeps of.part.shape.layout of.part.shape.members (of.sector / of.part.shape.strip) of.position of.is_parity))
+      on.is_set
     where
       differ : false ≡ true → ⊥
       differ e = cc

@@ -1,6 +1,7 @@
 pub mod Agreeing
 pub mod Scrubbing
 pub mod Runs
+pub mod Several
 pub mod Resyncing
 pub mod Copying
 pub mod Setting

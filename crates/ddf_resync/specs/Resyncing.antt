@@ -1,5 +1,5 @@
 -- What a resync leaves, at any moment and at its end, and why it ends (profile).
-use Rattle.std.specs.Prelude.{◌≡◌, ◌⊎◌, ℕ, ◌+◌, ◌<◌, ◌≤◌, true, not, List, Option, Some, None, slice_get, if◌then◌else◌}
+use Rattle.std.specs.Prelude.{◌≡◌, ◌⊎◌, ℕ, ◌+◌, ◌<◌, ◌≤◌, true, not, List, map, Option, Some, None, slice_get, if◌then◌else◌}
 use Rattle.ddf_bytes.specs.Counts.{Rose}
 use Rattle.ddf_bay.specs.Sectors.{Image, Outcomes}
 use Rattle.ddf_bay.specs.State.{BayState}
@@ -9,7 +9,7 @@ use Rattle.ddf_array.specs.declared.part.Part.{Part}
 use Rattle.ddf_array.specs.declared.site.Site.{Site}
 use Rattle.ddf_array.specs.Places.{site_on}
 use Rattle.ddf_array.specs.Volume.{Volume, capacity}
-use Rattle.ddf_array.specs.Sources.{copies, first_copy, sources}
+use Rattle.ddf_array.specs.Sources.{copies, copy, sources}
 use Rattle.ddf_array.specs.Sound.{AreSectors}
 use Rattle.ddf_array.specs.Values.{bytes_at}
 use Rattle.ddf_array.specs.Redundant.{IsRedundant}
@@ -17,11 +17,12 @@ use Rattle.ddf_array.specs.Levels.{keeps_parity}
 use Rattle.ddf_array.specs.Within.{is_within}
 use Rattle.ddf_volume.specs.declared.fault.VolumeFault.{VolumeFault}
 use Rattle.ddf_volume.specs.declared.fault.VolumeFault.TheVariants.{Range, Degraded, Lost, Unsure, Disk}
-use Rattle.ddf_volume.specs.Reading.{Failed, NoneLeft}
+use Rattle.ddf_volume.specs.Reading.{Failed, IsGivenBy, NoneLeft}
 use Rattle.ddf_cells.specs.Degraded.{is_degraded}
 use Rattle.ddf_cells.specs.Parity.{IsParityCell}
 use Rattle.ddf_cells.specs.RowSums.{NoneLeftForSum}
 use Rattle.ddf_cells.specs.Touching.{IsAmongGiven}
+use Rattle.ddf_resync.specs.Several.{has_other, IsCopied}
 
 -- these bytes are those that an available cell of a block holds in an image
 pub record IsHeld (volume : Volume) (image : Image) (block : ℕ) (bytes : List ℕ) : Type 0 where
@@ -30,12 +31,13 @@ pub record IsHeld (volume : Volume) (image : Image) (block : ℕ) (bytes : List 
   pub is_copy : slice_get (copies volume block) number ≡ Some other
   pub bytes_are : bytes ≡ bytes_at image other
 
--- A sector of the bay is an available cell of a block, and gets bytes that one of the block's held before, where the bay
--- tells what it holds.
+-- A sector of the bay is an available cell of a block that has another one, and gets bytes that one of the block's held before,
+-- where the bay tells what it holds.
 pub record IsTaken (volume : Volume) (tells : Type 0) (before : Image) (slot lba : ℕ) (bytes : List ℕ) : Type 0 where
   pub block : ℕ
   pub i : ℕ
   pub is_cell : slice_get (copies volume block) i ≡ Some (site_on slot lba)
+  pub several : has_other volume block ≡ true
   pub held : tells → IsHeld volume before block bytes
 
 -- what a resync may give a sector: such bytes, or any at a parity cell
@@ -54,21 +56,26 @@ AddsResynced volume tells before old new = (s l : ℕ) (bytes : List ℕ) → ne
 abbrev pub IsLeftByResync : Volume → (tells : Type 0) → (before image : Image) → Type 0
 IsLeftByResync volume tells before image = (s l : ℕ) → (image s l ≡ before s l) ⊎ MayResync volume tells before s l (image s l)
 
--- The array was resynced: it is redundant, and each cell of a block has bytes that one of its cells held before, those of
--- the first where reads are sure.
-pub record HasResynced (volume : Volume) (sure : Type 0) (before image : Image) : Type 0 where
+-- The array was resynced: it is redundant, and each available cell of a block has what the first of the block's available cells
+-- held before, or the first of them behind others that are on slots of which a read failed.
+pub record HasResynced (failed : ℕ → Type 0) (volume : Volume) (before image : Image) : Type 0 where
   pub redundant : AreSectors image → IsRedundant volume image
-  pub taken : (block i : ℕ) (one : Site) → slice_get (copies volume block) i ≡ Some one → IsHeld volume before block (bytes_at image one)
-  pub first : sure → (block i : ℕ) (one first : Site) → slice_get (copies volume block) i ≡ Some one → first_copy volume block ≡ Some first → bytes_at image one ≡ bytes_at before first
+  pub given : (block i : ℕ) (one : Site) → slice_get (copies volume block) i ≡ Some one → IsGivenBy failed before (map copy (copies volume block)) (bytes_at image one)
+
+-- a resync sets sectors of this slot: an available cell of a block that has another one, or parity
+pub record IsSetOn (volume : Volume) (slot : ℕ) : Type 0 where
+  pub lba : ℕ
+  pub is_set : IsCopied volume slot lba ⊎ IsParityCell volume slot lba
 
 -- why an array isn't resynced: it isn't within its level, or an element that keeps parity lacks a position
 abbrev pub resync_refusal : Volume → Option VolumeFault
 resync_refusal volume = if not (is_within volume) then Some Lost else (if is_degraded volume then Some Unsure else None)
 
--- no source of a block is left at a slot
+-- no source is left at a slot of a block that has several available cells
 pub record NoneLeftOfBlock (failed : ℕ → Type 0) (volume : Volume) (slot : ℕ) : Type 0 where
   pub block : ℕ
   pub below : block < capacity volume
+  pub several : has_other volume block ≡ true
   pub none_left : NoneLeft failed (sources volume block) slot
 
 -- nor one of a data cell of a row whose parity is set

@@ -9,6 +9,7 @@ ghost use Rattle.ddf_volume.specs.Reading.{Failed, OnlyReads};
 ghost use Rattle.ddf_resync.specs.Agreeing.{AllOrNot, CopyAgrees, FailedOn, IsStep};
 ghost use Rattle.ddf_resync.specs.Runs.{NamesEither};
 
+use crate::several::is_site;
 use crate::sums::is_same;
 use ddf_array::{Part, Site, View};
 use ddf_bay::Bay;
@@ -49,13 +50,6 @@ fn runs_agree<B: Bay>(bay: &mut B, own: Site, first: Site, count: usize) -> Resu
     read_from(bay, own, one)?;
     read_from(bay, first, other)?;
     Ok(are_same(one, other))
-}
-
-/// Whether two sectors are one.
-fn is_site(one: Site, other: Site) -> bool
-    ensures { result ≡ true → one ≡ other }
-{
-    one.slot == other.slot && one.lba == other.lba
 }
 
 /// Whether the first of neighbouring cells hold what the first copies of their blocks do, and how many these are. After a

@@ -1,5 +1,6 @@
 // Laws of what a scrub compares and of what a resync leaves: functions that do nothing, whose contracts are the laws.
 ghost use Rattle.std.specs.Prelude.{◌≡◌, ◌⊎◌, ◌<◌, ℕ, Some, slice_get};
+ghost use Rattle.ddf_bay.specs.Moments.{IsSettled};
 ghost use Rattle.ddf_bay.specs.Sectors.{Image, IsLeft};
 ghost use Rattle.ddf_primary.specs.Cells.{depth_of};
 ghost use Rattle.ddf_array.specs.declared.part.Part.{Part};
@@ -7,11 +8,12 @@ ghost use Rattle.ddf_array.specs.declared.site.Site.{Site};
 ghost use Rattle.ddf_array.specs.Apart.{IsApart};
 ghost use Rattle.ddf_array.specs.Redundant.{IsRedundant};
 ghost use Rattle.ddf_array.specs.Sound.{AreSectors};
-ghost use Rattle.ddf_array.specs.Sources.{copies};
+ghost use Rattle.ddf_array.specs.Sources.{copies, first_copy};
 ghost use Rattle.ddf_array.specs.Values.{bytes_at};
 ghost use Rattle.ddf_array.specs.Volume.{IsVolume, Volume};
+ghost use Rattle.ddf_volume.specs.Reading.{Failed, IsOn};
 ghost use Rattle.ddf_resync.specs.Agreeing.{Agrees};
-ghost use Rattle.ddf_resync.specs.Resyncing.{IsAmongResynced, IsHeld, IsLeftByResync, MayResync};
+ghost use Rattle.ddf_resync.specs.Resyncing.{HasResynced, IsAmongResynced, IsHeld, IsLeftByResync, MayResync};
 
 use ddf_bay::Bay;
 
@@ -39,4 +41,20 @@ pub fn a_stop_in_a_resync_has_an_image_before<B: Bay>(bay: &B)
     ensures { (volume : Volume) (first image : Image) → (B.disks bay.now).tells_left
         → IsAmongResynced volume B.tells first (B.disks bay.now).may_hold image
         → (before : Image) × IsLeft (B.disks bay.now).may_hold before × ((s l : ℕ) → (image s l ≡ before s l) ⊎ MayResync volume B.tells first s l (image s l)) }
+{}
+
+/// At its end each available cell of a block has bytes that one of the block's available cells held before; those of the
+/// first, where no read failed on the slot of that one.
+pub fn a_resync_takes_the_first_copy<B: Bay>(old: &B, new: &B)
+    ensures held { (volume : Volume) (block i : ℕ) (before after : Image) (one : Site) → HasResynced (Failed (B.disks old.now) (B.disks new.now)) volume before after
+        → slice_get (copies volume block) i ≡ Some one → IsHeld volume before block (bytes_at after one) }
+    ensures first { (volume : Volume) (block i : ℕ) (before after : Image) (one first : Site) → HasResynced (Failed (B.disks old.now) (B.disks new.now)) volume before after
+        → slice_get (copies volume block) i ≡ Some one → first_copy volume block ≡ Some first → (Failed (B.disks old.now) (B.disks new.now) first.slot → ⊥) → bytes_at after one ≡ bytes_at before first }
+{}
+
+/// Where nothing is pending on the slots of an array, it is resynced in every image that a stop may leave.
+pub fn a_settled_resync_is_in_every_image<B: Bay>(old: &B, new: &B)
+    ensures { (volume : Volume) (before image : Image) → IsVolume volume → (B.disks new.now).tells_left
+        → ((slot : ℕ) → IsOn volume slot → IsSettled (B.disks new.now).may_hold (B.disks new.now).held slot) → IsLeft (B.disks new.now).may_hold image
+        → HasResynced (Failed (B.disks old.now) (B.disks new.now)) volume before (B.disks new.now).held → HasResynced (Failed (B.disks old.now) (B.disks new.now)) volume before image }
 {}

@@ -1,15 +1,16 @@
 //! The resync of an array.
-ghost use Rattle.std.specs.Prelude.{◌≡◌, ℕ, None, true, false, OnOk, IfErr};
+ghost use Rattle.std.specs.Prelude.{◌≡◌, ◌+◌, ◌≤◌, ℕ, None, true, false, OnOk, IfErr};
 ghost use Rattle.ddf_bay.specs.Moments.{IsSettled, StopsLeave};
 ghost use Rattle.ddf_array.specs.Apart.{IsApart};
 ghost use Rattle.ddf_array.specs.Sources.{trusts_parity};
 ghost use Rattle.ddf_array.specs.Volume.{Fits, IsVolume};
 ghost use Rattle.ddf_array.specs.Within.{is_redundant};
-ghost use Rattle.ddf_volume.specs.Reading.{NoneFailed};
+ghost use Rattle.ddf_volume.specs.Reading.{Failed};
 ghost use Rattle.ddf_cells.specs.CellSources.{IsReadable};
 ghost use Rattle.ddf_cells.specs.Degraded.{is_degraded};
 ghost use Rattle.ddf_cells.specs.Touching.{GoesBetween};
-ghost use Rattle.ddf_resync.specs.Resyncing.{AddsResynced, HasResynced, IsAmongResynced, IsLeftByResync, IsResyncFault, IsStopped, IsUntouched, resync_refusal};
+ghost use Rattle.ddf_resync.specs.Resyncing.{AddsResynced, HasResynced, IsAmongResynced, IsLeftByResync, IsResyncFault, IsSetOn, IsStopped, IsUntouched, resync_refusal};
+ghost use Rattle.ddf_resync.specs.Several.{resync_sectors};
 
 use crate::copying::copy_all;
 use crate::setting::set_all;
@@ -45,10 +46,13 @@ fn resync_all<B: Bay>(bay: &mut B, view: &View) -> Result<(), usize>
     ensures any_moment { StopsLeave (B.disks bay.old) (B.disks bay.new) (IsAmongResynced view.now B.tells (B.disks bay.old).held (B.disks bay.old).may_hold) }
     ensures left { AddsResynced view.now B.tells (B.disks bay.old).held (B.disks bay.old).may_hold (B.disks bay.new).may_hold }
     ensures held { B.tells → IsLeftByResync view.now B.tells (B.disks bay.old).held (B.disks bay.new).held }
-    ensures resynced { B.tells → OnOk result (HasResynced view.now (NoneFailed view.now (B.disks bay.old) (B.disks bay.new)) (B.disks bay.old).held (B.disks bay.new).held) }
+    ensures resynced { B.tells → OnOk result (HasResynced (Failed (B.disks bay.old) (B.disks bay.new)) view.now (B.disks bay.old).held (B.disks bay.new).held) }
+    ensures durable { B.tells → OnOk result ((slot : ℕ) → IsSetOn view.now slot → IsSettled (B.disks bay.new).may_hold (B.disks bay.new).held slot) }
     ensures settled { B.tells → OnOk result ((slot : ℕ) → IsSettled (B.disks bay.old).may_hold (B.disks bay.old).held slot → IsSettled (B.disks bay.new).may_hold (B.disks bay.new).held slot) }
     ensures cause { IfErr result (IsStopped (B.disks bay.old) (B.disks bay.new) view.now) }
     ensures goes { GoesBetween (B.disks bay.old) (B.disks bay.new) }
+    ensures asked { (B.disks bay.new).sectors_asked ≤ (B.disks bay.old).sectors_asked + resync_sectors view.now }
+    ensures sectors { (B.disks bay.new).sectors_written ≤ (B.disks bay.old).sectors_written + resync_sectors view.now }
 {
     let mut touched = [false; 64];
     copy_all(bay, view, &mut touched)?;
@@ -56,7 +60,7 @@ fn resync_all<B: Bay>(bay: &mut B, view: &View) -> Result<(), usize>
     sync_touched(bay, &touched)
 }
 
-/// Makes an array redundant. Each block that may have copies is read once, by the first of its available cells that can be
+/// Makes an array redundant. Each block that has several available cells is read once, by the first of these that can be
 /// read, and these bytes are written to all of them, one of which a read failed too. Then the parity of every row of every
 /// element that keeps any becomes the exclusive-or of the row's data cells, that of rows without blocks too. Then each slot
 /// that was written to is synced. An array that isn't redundant by its level is left alone, and no call is made; one that is has
@@ -64,8 +68,8 @@ fn resync_all<B: Bay>(bay: &mut B, view: &View) -> Result<(), usize>
 ///
 /// # Errors
 /// `Lost` where the array isn't within its level, `Unsure` where an element that keeps parity lacks a position; then no call
-/// is made. `Disk` where a write or sync of the slot failed, or each source of a block or of a data cell that is needed has
-/// a slot of which a read failed: it names such a slot of the first source.
+/// is made. `Disk` where a write or sync of the slot failed, or each source of a block with several available cells, or of
+/// a data cell of a row whose parity is set, has a slot of which a read failed: it names such a slot of the first source.
 pub fn resync<B: Bay>(bay: &mut B, view: &View) -> Result<(), VolumeFault>
     requires apart { IsApart view.now }
     requires fits { Fits (B.disks bay.old).sizes view.now }
@@ -73,11 +77,14 @@ pub fn resync<B: Bay>(bay: &mut B, view: &View) -> Result<(), VolumeFault>
     ensures any_moment { StopsLeave (B.disks bay.old) (B.disks bay.new) (IsAmongResynced view.now B.tells (B.disks bay.old).held (B.disks bay.old).may_hold) }
     ensures left { AddsResynced view.now B.tells (B.disks bay.old).held (B.disks bay.old).may_hold (B.disks bay.new).may_hold }
     ensures held { B.tells → IsLeftByResync view.now B.tells (B.disks bay.old).held (B.disks bay.new).held }
-    ensures resynced { B.tells → OnOk result (HasResynced view.now (NoneFailed view.now (B.disks bay.old) (B.disks bay.new)) (B.disks bay.old).held (B.disks bay.new).held) }
+    ensures resynced { B.tells → OnOk result (HasResynced (Failed (B.disks bay.old) (B.disks bay.new)) view.now (B.disks bay.old).held (B.disks bay.new).held) }
+    ensures durable { B.tells → OnOk result ((slot : ℕ) → IsSetOn view.now slot → IsSettled (B.disks bay.new).may_hold (B.disks bay.new).held slot) }
     ensures settled { B.tells → OnOk result ((slot : ℕ) → IsSettled (B.disks bay.old).may_hold (B.disks bay.old).held slot → IsSettled (B.disks bay.new).may_hold (B.disks bay.new).held slot) }
     ensures ok { OnOk result (resync_refusal view.now ≡ None) }
     ensures fault { IfErr result (IsResyncFault (B.disks bay.old) (B.disks bay.new) view.now) }
     ensures goes { GoesBetween (B.disks bay.old) (B.disks bay.new) }
+    ensures asked { (B.disks bay.new).sectors_asked ≤ (B.disks bay.old).sectors_asked + resync_sectors view.now }
+    ensures sectors { (B.disks bay.new).sectors_written ≤ (B.disks bay.old).sectors_written + resync_sectors view.now }
     ensures idle { is_redundant view.now ≡ false → IsUntouched (B.disks bay.old) (B.disks bay.new) }
 {
     if let Some(fault) = resync_refusal(view) {

@@ -10,7 +10,9 @@ ghost use Rattle.ddf_cells.specs.CellSources.{HaveEqualCopies, IsInOneRow, IsRea
 ghost use Rattle.ddf_cells.specs.Degraded.{is_degraded};
 ghost use Rattle.ddf_cells.specs.Touching.{Writes};
 ghost use Rattle.ddf_resync.specs.Resyncing.{NoneLeftOfRow};
-ghost use Rattle.ddf_resync.specs.Setting.{AreRightIn, AreRightTo, IsRightAt, KeepsRight, SetsParity};
+ghost use Rattle.ddf_resync.specs.Setting.{AreNotedIn, AreNotedTo, AreRightIn, AreRightTo, IsNotedAt, IsRightAt, KeepsRight, SetsParity};
+ghost use Rattle.ddf_resync.specs.Copying.{Asks};
+ghost use Rattle.ddf_resync.specs.Several.{parity_cells, parity_of};
 
 use ddf_array::{Part, View};
 use ddf_bay::Bay;
@@ -43,6 +45,8 @@ fn set_piece<B: Bay>(
     ensures writes { Writes (SetsParity view.now) B.tells (B.disks bay.old) (B.disks bay.new) touched.old touched.new }
     ensures set { B.tells → HaveEqualCopies view.now (B.disks bay.old).held → OnOk result ((j : ℕ) → j < count → IsRightAt view.now (B.disks bay.new).held element part.now (sector + j)) }
     ensures kept { B.tells → HaveEqualCopies view.now (B.disks bay.old).held → OnOk result (KeepsRight view.now (B.disks bay.old).held (B.disks bay.new).held) }
+    ensures noted { OnOk result ((j : ℕ) → j < count → IsNotedAt touched.new part.now (sector + j)) }
+    ensures asks { Asks (B.disks bay.old) (B.disks bay.new) 0 count }
     ensures cause { IfErr result (λ slot. Rose ((B.disks bay.old).failed_writes slot) ((B.disks bay.new).failed_writes slot)
         ⊎ NoneLeftOfRow (Failed (B.disks bay.old) (B.disks bay.new)) view.now slot) }
 {
@@ -84,6 +88,8 @@ fn set_element<B: Bay>(
     ensures writes { Writes (SetsParity view.now) B.tells (B.disks bay.old) (B.disks bay.new) touched.old touched.new }
     ensures set { B.tells → HaveEqualCopies view.now (B.disks bay.old).held → OnOk result (AreRightTo view.now (B.disks bay.new).held element (depth_of part.now.shape)) }
     ensures kept { B.tells → HaveEqualCopies view.now (B.disks bay.old).held → OnOk result (KeepsRight view.now (B.disks bay.old).held (B.disks bay.new).held) }
+    ensures noted { OnOk result (AreNotedTo touched.new part.now (depth_of part.now.shape)) }
+    ensures asks { Asks (B.disks bay.old) (B.disks bay.new) 0 (parity_of (Some part.now)) }
     ensures cause { IfErr result (λ slot. Rose ((B.disks bay.old).failed_writes slot) ((B.disks bay.new).failed_writes slot)
         ⊎ NoneLeftOfRow (Failed (B.disks bay.old) (B.disks bay.new)) view.now slot) }
 {
@@ -115,6 +121,8 @@ pub(crate) fn set_all<B: Bay>(
     requires whole { is_degraded view.now ≡ false }
     ensures writes { Writes (SetsParity view.now) B.tells (B.disks bay.old) (B.disks bay.new) touched.old touched.new }
     ensures set { B.tells → HaveEqualCopies view.now (B.disks bay.old).held → OnOk result (AreRightIn view.now (B.disks bay.new).held (length view.now.parts)) }
+    ensures noted { OnOk result (AreNotedIn view.now touched.new (length view.now.parts)) }
+    ensures asks { Asks (B.disks bay.old) (B.disks bay.new) 0 (parity_cells view.now (length view.now.parts)) }
     ensures cause { IfErr result (λ slot. Rose ((B.disks bay.old).failed_writes slot) ((B.disks bay.new).failed_writes slot)
         ⊎ NoneLeftOfRow (Failed (B.disks bay.old) (B.disks bay.new)) view.now slot) }
 {

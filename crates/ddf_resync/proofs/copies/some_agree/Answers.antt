@@ -86,5 +86,5 @@ returns-then-is_site-clause-agree g c = λ tells.
       c.blocks_along-count.ensures.some,
       c.blocks_along-count.ensures.within,
       λ k below. run_good v held c.args.element c.args.part.now c.args.position c.args.sector c.in-Some.block own first count run (sym c.site_at.ensures ∙ c.in-Some-site_at.is) k below
-          (ap (λ (s : Site). bytes_at held (further k s)) (c.if-is_site.ensures refl)),
+          (ap (λ (s : Site). bytes_at held (further k s)) (c.if-is_site.ensures.yes refl)),
     )

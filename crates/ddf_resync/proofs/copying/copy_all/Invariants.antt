@@ -1,9 +1,10 @@
 use Rattle.std.proofs.Common.{◌-◌, ◌≤◌}
 use Rattle.ddf_array.specs.Volume.{capacity}
-use Rattle.ddf_volume.specs.Reading.{NoneFailed}
+use Rattle.ddf_volume.specs.Reading.{Failed}
 use Rattle.ddf_cells.specs.Touching.{Writes}
-use Rattle.ddf_resync.specs.Copying.{AreCopied, FirstTaken}
+use Rattle.ddf_resync.specs.Copying.{AreCopied, AreNoted, Asks}
 use Rattle.ddf_resync.specs.Resyncing.{MayResync}
+use Rattle.ddf_resync.specs.Several.{copied_cells}
 use Rattle.ddf_resync.proofs.copying.copy_all.Given as goal
 
 abbrev pub invariant-loop-block : goal.invariant-loop-block
@@ -14,8 +15,9 @@ invariant-loop-block g l =
     record {
       inside : l.block ≤ capacity l.view;
       writes : Writes (MayResync l.view B.tells old.held) B.tells old now l.fn.touched l.touched;
-      copied : B.tells → AreCopied l.view old.held now.held l.block;
-      first : B.tells → NoneFailed l.view old now → FirstTaken l.view old.held now.held l.block;
+      copied : B.tells → AreCopied (Failed old now) l.view old.held now.held 0 l.block;
+      noted : B.tells → AreNoted l.view l.touched 0 l.block;
+      asks : Asks old now 0 (copied_cells l.view l.block);
     }
 
 abbrev pub decreases-loop-block : goal.decreases-loop-block

@@ -1,104 +1,130 @@
-use Rattle.std.proofs.Common.{◌≡◌, ◌∙◌, ◌⊎◌, inl, inr, ⊎_elim, ℕ, ◌+◌, ◌<◌, [], Some, refl, sym, ap, subst, arith, length, rules, slice_get}
-use Rattle.std.specs.Prelude.{slice_index_or}
+use Rattle.std.proofs.Common.{◌≡◌, ◌∙◌, inr, false, ◌+◌, ◌-◌, true, sym, ap, arith, length, rules}
 use Rattle.std.proofs.lemmas.Grind.{common_steps}
-use Rattle.ddf_bytes.specs.Counts.{Rose}
-use Rattle.ddf_bay.specs.Sectors.{Image}
-use Rattle.ddf_array.specs.declared.site.Site.{Site}
-use Rattle.ddf_array.specs.Sources.{copies, first_copy}
-use Rattle.ddf_array.specs.Values.{bytes_at}
-use Rattle.ddf_volume.specs.Reading.{Failed, NoneFailed}
-use Rattle.ddf_cells.specs.CellsOn.{GivesCells}
-use Rattle.ddf_cells.proofs.CopiesOn.{on_position}
-use Rattle.ddf_cells.proofs.DataCells.{value_first}
-use Rattle.ddf_cells.proofs.Surely.{value_is}
-use Rattle.ddf_cells.proofs.WriteSteps.{writes_read, writes_then, writes_wider}
-use Rattle.ddf_resync.specs.Resyncing.{IsHeld, MayResync}
-use Rattle.ddf_resync.proofs.Copied.{copied_alone, copied_more, first_alone, first_more, held_of, one_along, stays_by, taken_by}
+use Rattle.std.proofs.lemmas.Result.{err_from_is_err_and}
+use Rattle.ddf_array.specs.Volume.{capacity}
+use Rattle.ddf_cells.specs.CellsOn.{write_cells}
+use Rattle.ddf_resync.specs.Several.{copied_cells, has_other}
+use Rattle.ddf_resync.proofs.Copied.{copied_alone}
+use Rattle.ddf_resync.proofs.CopyStep.{block_left, step_cells, step_copied, step_noted, step_writes}
+use Rattle.ddf_resync.proofs.SeveralCells.{cells_up, lone, other_along}
+use Rattle.ddf_resync.proofs.Stops.{asks_behind, asks_read}
+use Rattle.ddf_cells.proofs.Lists.{true_not_false}
 use Rattle.ddf_resync.proofs.copying.copy_first.Goals as goal
 
-pub returns-then-not-is_copied-clause-copied : goal.returns-then-not-is_copied-clause-copied
-returns-then-not-is_copied-clause-copied g c = λ tells before was.
+-- nothing is done where the blocks have one cell
+pub returns-then-not-has_other-clause-copied : goal.returns-then-not-has_other-clause-copied
+returns-then-not-has_other-clause-copied g c = λ tells.
+    let v = c.args.view.now in
     let n = c.blocks_along-count.result in
-    copied_alone c.args.view.now before (g.B.Bay.disks c.args.bay.now).held (g.B.Bay.disks c.args.bay.now).held c.args.block n (one_along c.args.view.now c.args.block n c.blocks_along-count.ensures.along (c.if-not-is_copied.ensures refl)) was
+    let none : has_other v c.args.block ≡ false = sym c.has_other.ensures ∙ c.if-not-has_other.true in
+    copied_alone v _ (g.B.Bay.disks c.args.bay.now).held c.args.block n (λ k below. lone v (c.args.block + k) (other_along v c.args.block n c.blocks_along-count.ensures.along k below ∙ none))
 
-pub returns-then-not-is_copied-clause-first : goal.returns-then-not-is_copied-clause-first
-returns-then-not-is_copied-clause-first g c = λ tells before was taken none.
-    let n = c.blocks_along-count.result in
-    first_alone c.args.view.now before (g.B.Bay.disks c.args.bay.now).held (g.B.Bay.disks c.args.bay.now).held c.args.block n (one_along c.args.view.now c.args.block n c.blocks_along-count.ensures.along (c.if-not-is_copied.ensures refl)) was taken
+pub returns-then-not-has_other-clause-noted : goal.returns-then-not-has_other-clause-noted
+returns-then-not-has_other-clause-noted g c = λ tells b i one above below several at.
+    let v = c.args.view.now in
+    let block = c.args.block in
+    let none : has_other v block ≡ false = sym c.has_other.ensures ∙ c.if-not-has_other.true in
+    let same : block + (b - block) ≡ b = omega (arith, above) in
+    absurd (true_not_false (sym several ∙ ap (has_other v) (sym same) ∙ other_along v block c.blocks_along-count.result c.blocks_along-count.ensures.along (b - block) (omega (arith, above, below)) ∙ none))
+
+pub returns-then-not-has_other-clause-asks : goal.returns-then-not-has_other-clause-asks
+returns-then-not-has_other-clause-asks g c =
+    let v = c.args.view.now in
+    let up = cells_up v c.args.block (c.args.block + c.blocks_along-count.result) (omega arith) in
+    record { asked = omega (arith, up); written = omega (arith, up) }
+
+pub returns-then-not-has_other-clause-most : goal.returns-then-not-has_other-clause-most
+returns-then-not-has_other-clause-most g c =
+    let v = c.args.view.now in
+    let up = cells_up v c.args.block (capacity v) (omega (arith, c.requires.block)) in
+    record { asked = omega (arith, up); written = omega (arith, up) }
+
+-- no source is left of a block
+pub returns-in_err-read_run-clause-most : goal.returns-in_err-read_run-clause-most
+returns-in_err-read_run-clause-most g c =
+    let v = c.args.view.now in
+    asks_read (copied_cells v c.args.block) (copied_cells v (capacity v)) c.in_err-read_run.ensures.reads (cells_up v c.args.block (capacity v) (omega (arith, c.requires.block)))
+
+pub returns-in_err-read_run-clause-cause : goal.returns-in_err-read_run-clause-cause
+returns-in_err-read_run-clause-cause g c =
+    let v = c.args.view.now in
+    let p = err_from_is_err_and c.from_residual.result c.from_residual.ensures.1 in
+    let several : has_other v c.args.block ≡ true = sym c.has_other.ensures ∙ c.if-not-has_other.false in
+    let along = c.blocks_along-count.ensures in
+    rw (p.1, p.2)
+    (inr (block_left _ v c.args.block c.blocks_along-count.result _ _ along.along several along.inside (first_of (grind (arith, common_steps), search rules)) c.in_err-read_run.ensures.left))
 
 pub write_cells-requires-clause-fits : goal.write_cells-requires-clause-fits
 write_cells-requires-clause-fits g c = rw c.in_ok-read_run.ensures.reads.reads.same_sizes c.requires.fits
 
+-- a cell couldn't be written
 pub returns-in_err-write_cells-clause-writes : goal.returns-in_err-write_cells-clause-writes
-returns-in_err-write_cells-clause-writes g c = λ before was.
+returns-in_err-write_cells-clause-writes g c = λ before same.
     let v = c.args.view.now in
-    let old = g.B.Bay.disks c.args.bay.now in
-    let mid = g.B.Bay.disks c.read_run.new.bay in
-    let out = c.read_run.new.out in
-    let held : g.B.Bay.tells → (k : ℕ) → k < length out → IsHeld v old.held (c.args.block + k) (slice_index_or out k []) =
-    λ tell k below. held_of v c.requires.marked (Failed old mid) old.held (c.args.block + k) (slice_index_or out k []) (c.in_ok-read_run.ensures.given tell k (omega (arith, below, c.read_run.auto.out))) in
-    writes_then (MayResync v g.B.Bay.tells before) g.B.Bay.tells
-    (writes_read (MayResync v g.B.Bay.tells before) g.B.Bay.tells c.args.touched.now c.in_ok-read_run.ensures.reads)
-    (writes_wider (GivesCells v c.args.block out) (MayResync v g.B.Bay.tells before) g.B.Bay.tells
-    (taken_by v c.requires.known c.requires.apart c.args.block out g.B.Bay.tells before old.held was held) c.in_err-write_cells.ensures.writes)
+    let several : has_other v c.args.block ≡ true = sym c.has_other.ensures ∙ c.if-not-has_other.false in
+    let n : length c.read_run.new.out ≡ c.blocks_along-count.result = first_of (grind (arith, common_steps), search rules) in
+    step_writes v c.requires.known c.requires.apart c.requires.marked c.args.block c.blocks_along-count.result c.blocks_along-count.ensures.along several g.B.Bay.tells c.read_run.new.out n c.in_ok-read_run.ensures.reads
+    (λ tell k below. c.in_ok-read_run.ensures.given tell k (omega (arith, below, n, c.read_run.auto.out))) c.in_err-write_cells.ensures.writes before same
 
-pub returns-clause-writes : goal.returns-clause-writes
-returns-clause-writes g c = λ before was.
+pub returns-in_err-write_cells-clause-most : goal.returns-in_err-write_cells-clause-most
+returns-in_err-write_cells-clause-most g c =
     let v = c.args.view.now in
-    let old = g.B.Bay.disks c.args.bay.now in
-    let mid = g.B.Bay.disks c.read_run.new.bay in
-    let out = c.read_run.new.out in
-    let held : g.B.Bay.tells → (k : ℕ) → k < length out → IsHeld v old.held (c.args.block + k) (slice_index_or out k []) =
-    λ tell k below. held_of v c.requires.marked (Failed old mid) old.held (c.args.block + k) (slice_index_or out k []) (c.in_ok-read_run.ensures.given tell k (omega (arith, below, c.read_run.auto.out))) in
-    writes_then (MayResync v g.B.Bay.tells before) g.B.Bay.tells
-    (writes_read (MayResync v g.B.Bay.tells before) g.B.Bay.tells c.args.touched.now c.in_ok-read_run.ensures.reads)
-    (writes_wider (GivesCells v c.args.block out) (MayResync v g.B.Bay.tells before) g.B.Bay.tells
-    (taken_by v c.requires.known c.requires.apart c.args.block out g.B.Bay.tells before old.held was held) c.in_ok-write_cells.ensures.writes)
+    let block = c.args.block in
+    let count = c.blocks_along-count.result in
+    let several : has_other v block ≡ true = sym c.has_other.ensures ∙ c.if-not-has_other.false in
+    let n : length c.read_run.new.out ≡ count = first_of (grind (arith, common_steps), search rules) in
+    let cells = step_cells v c.requires.known c.requires.apart c.requires.marked block count c.blocks_along-count.ensures.along several g.B.Bay.tells c.read_run.new.out n c.in_ok-read_run.ensures.reads
+    (λ tell k below. c.in_ok-read_run.ensures.given tell k (omega (arith, below, n, c.read_run.auto.out))) c.in_err-write_cells.ensures.writes in
+    let up = cells_up v (block + count) (capacity v) c.blocks_along-count.ensures.inside in
+    asks_behind (copied_cells v block) (copied_cells v (capacity v)) (write_cells v block (length c.read_run.new.out)) c.in_ok-read_run.ensures.reads c.in_err-write_cells.ensures.costs.asked c.in_err-write_cells.ensures.costs.written
+    (omega (arith, cells, up))
+
+-- all cells have what was read
+pub returns-clause-writes : goal.returns-clause-writes
+returns-clause-writes g c = λ before same.
+    let v = c.args.view.now in
+    let several : has_other v c.args.block ≡ true = sym c.has_other.ensures ∙ c.if-not-has_other.false in
+    let n : length c.read_run.new.out ≡ c.blocks_along-count.result = first_of (grind (arith, common_steps), search rules) in
+    step_writes v c.requires.known c.requires.apart c.requires.marked c.args.block c.blocks_along-count.result c.blocks_along-count.ensures.along several g.B.Bay.tells c.read_run.new.out n c.in_ok-read_run.ensures.reads
+    (λ tell k below. c.in_ok-read_run.ensures.given tell k (omega (arith, below, n, c.read_run.auto.out))) c.in_ok-write_cells.ensures.writes before same
 
 pub returns-clause-copied : goal.returns-clause-copied
-returns-clause-copied g c = λ tells before was.
+returns-clause-copied g c = λ tells.
     let v = c.args.view.now in
-    let block = c.args.block in
-    let count = c.blocks_along-count.result in
-    let old = g.B.Bay.disks c.args.bay.now in
-    let mid = g.B.Bay.disks c.read_run.new.bay in
-    let new = g.B.Bay.disks c.write_cells.new.bay in
-    let out = c.read_run.new.out in
+    let several : has_other v c.args.block ≡ true = sym c.has_other.ensures ∙ c.if-not-has_other.false in
     let n : length c.read_run.new.out ≡ c.blocks_along-count.result = first_of (grind (arith, common_steps), search rules) in
-    let held : (k : ℕ) → k < count → IsHeld v old.held (block + k) (slice_index_or out k []) =
-    λ k below. held_of v c.requires.marked (Failed old mid) old.held (block + k) (slice_index_or out k []) (c.in_ok-read_run.ensures.given tells k (omega (arith, below, n, c.read_run.auto.out))) in
-    let set : (k i : ℕ) (one : Site) → k < count → slice_get (copies v (block + k)) i ≡ Some one → bytes_at new.held one ≡ slice_index_or out k [] =
-    λ k i one below at. let on = on_position v c.requires.known (block + k) i one at in (c.in_ok-write_cells.ensures.set tells on.element on.position k one (omega arith) (omega (arith, below, n)) on.on).0 in
-    let only : (s l : ℕ) → (new.held s l ≡ mid.held s l) ⊎ GivesCells v block out s l (new.held s l) = λ s l. ⊎_elim inl (λ given. inr given.0) (c.in_ok-write_cells.ensures.writes.held tells s l) in
-    copied_more v before old.held new.held block count out held set
-    (λ b i one other at.
-    stays_by v c.requires.known c.requires.apart block out mid.held new.held only b i one (λ k below same. other k (omega (arith, below, n)) same) at
-    ∙ ap (λ (f : Image). f one.slot one.lba) c.in_ok-read_run.ensures.reads.reads.same_held) was
+    step_copied v c.requires.known c.requires.apart c.requires.marked c.args.block c.blocks_along-count.result c.blocks_along-count.ensures.along several g.B.Bay.tells c.read_run.new.out n c.in_ok-read_run.ensures.reads
+    (λ tell k below. c.in_ok-read_run.ensures.given tell k (omega (arith, below, n, c.read_run.auto.out))) c.in_ok-write_cells.ensures.writes tells c.in_ok-write_cells.ensures.reads (c.in_ok-write_cells.ensures.set tells)
 
-pub returns-clause-first : goal.returns-clause-first
-returns-clause-first g c = λ tells before was taken none.
+pub returns-clause-noted : goal.returns-clause-noted
+returns-clause-noted g c = λ tells.
+    let v = c.args.view.now in
+    let several : has_other v c.args.block ≡ true = sym c.has_other.ensures ∙ c.if-not-has_other.false in
+    let n : length c.read_run.new.out ≡ c.blocks_along-count.result = first_of (grind (arith, common_steps), search rules) in
+    step_noted v c.requires.known c.requires.apart c.requires.marked c.args.block c.blocks_along-count.result c.blocks_along-count.ensures.along several g.B.Bay.tells c.read_run.new.out n c.in_ok-read_run.ensures.reads
+    (λ tell k below. c.in_ok-read_run.ensures.given tell k (omega (arith, below, n, c.read_run.auto.out))) c.in_ok-write_cells.ensures.writes tells c.in_ok-write_cells.ensures.reads (c.in_ok-write_cells.ensures.set tells)
+
+pub returns-clause-asks : goal.returns-clause-asks
+returns-clause-asks g c =
     let v = c.args.view.now in
     let block = c.args.block in
     let count = c.blocks_along-count.result in
-    let old = g.B.Bay.disks c.args.bay.now in
-    let mid = g.B.Bay.disks c.read_run.new.bay in
-    let new = g.B.Bay.disks c.write_cells.new.bay in
-    let out = c.read_run.new.out in
-    let n : length c.read_run.new.out ≡ c.blocks_along-count.result = first_of (grind (arith, common_steps), search rules) in
-    let held : (k : ℕ) → k < count → IsHeld v old.held (block + k) (slice_index_or out k []) =
-    λ k below. held_of v c.requires.marked (Failed old mid) old.held (block + k) (slice_index_or out k []) (c.in_ok-read_run.ensures.given tells k (omega (arith, below, n, c.read_run.auto.out))) in
-    let set : (k i : ℕ) (one : Site) → k < count → slice_get (copies v (block + k)) i ≡ Some one → bytes_at new.held one ≡ slice_index_or out k [] =
-    λ k i one below at. let on = on_position v c.requires.known (block + k) i one at in (c.in_ok-write_cells.ensures.set tells on.element on.position k one (omega arith) (omega (arith, below, n)) on.on).0 in
-    let only : (s l : ℕ) → (new.held s l ≡ mid.held s l) ⊎ GivesCells v block out s l (new.held s l) = λ s l. ⊎_elim inl (λ given. inr given.0) (c.in_ok-write_cells.ensures.writes.held tells s l) in
-    let none_mid : NoneFailed v old mid =
-    λ slot on rose. none slot on (subst (λ (m : ℕ). Rose (old.failed_reads slot) m) (sym (ap (λ (f : ℕ → ℕ). f slot) c.in_ok-write_cells.ensures.reads)) rose) in
-    let given : (k : ℕ) (first : Site) → k < count → first_copy v (block + k) ≡ Some first → slice_index_or out k [] ≡ bytes_at old.held first =
-    λ k first below is_first.
-    some_is (sym (value_is v old mid (inl none_mid) (block + k) (slice_index_or out k []) (c.in_ok-read_run.ensures.given tells k (omega (arith, below, n, c.read_run.auto.out)))) ∙ value_first v old.held (block + k) first is_first) in
-    first_more v before old.held new.held block count out held set
-    (λ b i one other at.
-    stays_by v c.requires.known c.requires.apart block out mid.held new.held only b i one (λ k below same. other k (omega (arith, below, n)) same) at
-    ∙ ap (λ (f : Image). f one.slot one.lba) c.in_ok-read_run.ensures.reads.reads.same_held) given was taken
-  where
-    some_is : {X : Type 0} {a b : X} → Some a ≡ Some b → a ≡ b
-    some_is e = cc
+    let several : has_other v block ≡ true = sym c.has_other.ensures ∙ c.if-not-has_other.false in
+    let n : length c.read_run.new.out ≡ count = first_of (grind (arith, common_steps), search rules) in
+    let cells = step_cells v c.requires.known c.requires.apart c.requires.marked block count c.blocks_along-count.ensures.along several g.B.Bay.tells c.read_run.new.out n c.in_ok-read_run.ensures.reads
+    (λ tell k below. c.in_ok-read_run.ensures.given tell k (omega (arith, below, n, c.read_run.auto.out))) c.in_ok-write_cells.ensures.writes in
+    asks_behind (copied_cells v block) (copied_cells v (block + count)) (write_cells v block (length c.read_run.new.out)) c.in_ok-read_run.ensures.reads c.in_ok-write_cells.ensures.costs.asked c.in_ok-write_cells.ensures.costs.written
+    (omega (arith, cells))
+
+pub returns-clause-most : goal.returns-clause-most
+returns-clause-most g c =
+    let v = c.args.view.now in
+    let block = c.args.block in
+    let count = c.blocks_along-count.result in
+    let several : has_other v block ≡ true = sym c.has_other.ensures ∙ c.if-not-has_other.false in
+    let n : length c.read_run.new.out ≡ count = first_of (grind (arith, common_steps), search rules) in
+    let cells = step_cells v c.requires.known c.requires.apart c.requires.marked block count c.blocks_along-count.ensures.along several g.B.Bay.tells c.read_run.new.out n c.in_ok-read_run.ensures.reads
+    (λ tell k below. c.in_ok-read_run.ensures.given tell k (omega (arith, below, n, c.read_run.auto.out))) c.in_ok-write_cells.ensures.writes in
+    let up = cells_up v (block + count) (capacity v) c.blocks_along-count.ensures.inside in
+    asks_behind (copied_cells v block) (copied_cells v (capacity v)) (write_cells v block (length c.read_run.new.out)) c.in_ok-read_run.ensures.reads c.in_ok-write_cells.ensures.costs.asked c.in_ok-write_cells.ensures.costs.written
+    (omega (arith, cells, up))

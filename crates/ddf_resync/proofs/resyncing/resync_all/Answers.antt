@@ -1,17 +1,18 @@
-use Rattle.std.proofs.Common.{◌≡◌, ◌∙◌, ◌⊎◌, inl, inr, ⊎_elim, ℕ, ◌<◌, List, sym, ap, subst, length}
+use Rattle.std.proofs.Common.{◌≡◌, ◌∙◌, ◌⊎◌, inl, inr, ⊎_elim, ℕ, ◌<◌, List, sym, ap, subst, arith, length}
 use Rattle.std.proofs.lemmas.Result.{err_from_is_err_and, on_ok_weaker}
 use Rattle.ddf_bytes.specs.Counts.{Rose}
 use Rattle.ddf_bay.specs.Sectors.{Image}
 use Rattle.ddf_array.specs.Volume.{capacity}
-use Rattle.ddf_volume.specs.Reading.{NoneFailed}
+use Rattle.ddf_volume.specs.Reading.{Failed}
 use Rattle.ddf_cells.specs.Parity.{IsParityCell}
 use Rattle.ddf_cells.proofs.Ends.{moments_end, settled_end}
 use Rattle.ddf_cells.proofs.WriteSteps.{writes_then, writes_wider}
-use Rattle.ddf_resync.specs.Copying.{AreCopied, FirstTaken}
+use Rattle.ddf_resync.specs.Copying.{AreCopied}
 use Rattle.ddf_resync.specs.Resyncing.{MayResync}
 use Rattle.ddf_resync.specs.Setting.{AreRightIn, SetsParity}
-use Rattle.ddf_resync.proofs.Resynced.{equal_mid, given_there, resynced}
-use Rattle.ddf_resync.proofs.Stops.{none_before, row_since}
+use Rattle.ddf_resync.proofs.Copied.{copied_wider}
+use Rattle.ddf_resync.proofs.Resynced.{equal_mid, given_there, resynced, set_noted, set_there}
+use Rattle.ddf_resync.proofs.Stops.{failed_before, row_since}
 use Rattle.ddf_resync.proofs.resyncing.resync_all.Goals as goal
 
 pub set_all-requires-clause-fits : goal.set_all-requires-clause-fits
@@ -52,18 +53,29 @@ returns-clause-resynced g c = λ tells.
     let first = c.in_ok-copy_all.ensures.writes in
     let next = c.in_ok-set_all.ensures.writes in
     let same : n.held ≡ b.held = c.sync_touched.ensures.held in
-    let copied : AreCopied v old.held a.held (capacity v) = c.in_ok-copy_all.ensures.copied tells in
+    let fewer : (slot : ℕ) → Failed old a slot → Failed old n slot =
+    λ slot failed. subst (λ (m : ℕ). Rose (old.failed_reads slot) m) (sym (ap (λ (f : ℕ → ℕ). f slot) c.sync_touched.ensures.reads)) (failed_before May (SetsParity v) g.B.Bay.tells first next slot failed) in
+    let copied : AreCopied (Failed old n) v old.held a.held 0 (capacity v) = copied_wider v fewer old.held a.held 0 (capacity v) (c.in_ok-copy_all.ensures.copied tells) in
     let equal = equal_mid v c.requires.known old.held a.held copied in
     let right : AreRightIn v n.held (length v.parts) =
     subst (λ (f : Image). AreRightIn v f (length v.parts)) (sym same) (c.in_ok-set_all.ensures.set tells equal) in
     let only : (s l : ℕ) → (n.held s l ≡ a.held s l) ⊎ IsParityCell v s l =
     λ s l. ⊎_elim (λ was. inl (ap (λ (f : Image). f s l) same ∙ was)) (λ given. inr given.0) (next.held tells s l) in
-    let until : NoneFailed v old n → NoneFailed v old b =
-    λ none slot on rose. none slot on (subst (λ (m : ℕ). Rose (old.failed_reads slot) m) (sym (ap (λ (f : ℕ → ℕ). f slot) c.sync_touched.ensures.reads)) rose) in
-    let taken : NoneFailed v old n → FirstTaken v old.held a.held (capacity v) =
-    λ none. c.in_ok-copy_all.ensures.first tells (none_before May (SetsParity v) g.B.Bay.tells first next v (until none)) in
     on_ok_weaker c.sync_touched.result
-    (λ settled. resynced v c.requires.known c.requires.apart c.requires.whole old.held a.held n.held copied only right (NoneFailed v old n) taken)
+    (λ settled. resynced (Failed old n) v c.requires.known c.requires.apart c.requires.whole old.held a.held n.held copied only right)
+    c.sync_touched.ensures.settled
+
+pub returns-clause-durable : goal.returns-clause-durable
+returns-clause-durable g c = λ tells.
+    let v = c.args.view.now in
+    let old = g.B.Bay.disks c.args.bay.now in
+    let first = c.in_ok-copy_all.ensures.writes in
+    let next = c.in_ok-set_all.ensures.writes in
+    on_ok_weaker c.sync_touched.result
+    (λ synced slot is_set.
+    let there = set_there v c.requires.known old.sizes c.requires.fits slot is_set in
+    let noted = set_noted v c.requires.known c.copy_all.new.touched c.set_all.new.touched slot next.touched_up (c.in_ok-copy_all.ensures.noted tells) c.in_ok-set_all.ensures.noted is_set in
+    synced slot (subst (λ (sizes : List ℕ). slot < length sizes) (sym (next.same_sizes ∙ first.same_sizes)) there) noted)
     c.sync_touched.ensures.settled
 
 pub returns-clause-settled : goal.returns-clause-settled
@@ -80,3 +92,23 @@ returns-clause-settled g c = λ tells.
     (λ on is_on touched. synced on (subst (λ (sizes : List ℕ). on < length sizes) (sym w.same_sizes) is_on) touched)
     slot settled)
     c.sync_touched.ensures.settled
+
+-- ---- what it costs
+
+pub returns-in_err-copy_all-clause-asked : goal.returns-in_err-copy_all-clause-asked
+returns-in_err-copy_all-clause-asked g c = omega (arith, c.in_err-copy_all.ensures.asks.asked)
+
+pub returns-in_err-copy_all-clause-sectors : goal.returns-in_err-copy_all-clause-sectors
+returns-in_err-copy_all-clause-sectors g c = omega (arith, c.in_err-copy_all.ensures.asks.written)
+
+pub returns-in_err-set_all-clause-asked : goal.returns-in_err-set_all-clause-asked
+returns-in_err-set_all-clause-asked g c = omega (arith, c.in_ok-copy_all.ensures.asks.asked, c.in_err-set_all.ensures.asks.asked)
+
+pub returns-in_err-set_all-clause-sectors : goal.returns-in_err-set_all-clause-sectors
+returns-in_err-set_all-clause-sectors g c = omega (arith, c.in_ok-copy_all.ensures.asks.written, c.in_err-set_all.ensures.asks.written)
+
+pub returns-clause-asked : goal.returns-clause-asked
+returns-clause-asked g c = omega (arith, c.in_ok-copy_all.ensures.asks.asked, c.in_ok-set_all.ensures.asks.asked, c.sync_touched.ensures.spends.costs.asked)
+
+pub returns-clause-sectors : goal.returns-clause-sectors
+returns-clause-sectors g c = omega (arith, c.in_ok-copy_all.ensures.asks.written, c.in_ok-set_all.ensures.asks.written, c.sync_touched.ensures.spends.costs.written)

@@ -3,8 +3,8 @@ use Rattle.std.proofs.lemmas.Bool.{cases_lt}
 use Rattle.std.proofs.lemmas.Result.{err_from_is_err_and}
 use Rattle.ddf_array.specs.declared.part.Part.{Part}
 use Rattle.ddf_cells.proofs.WriteSteps.{writes_then}
-use Rattle.ddf_resync.specs.Setting.{IsRightAt, SetsParity}
-use Rattle.ddf_resync.proofs.Stops.{row_since}
+use Rattle.ddf_resync.specs.Setting.{IsNotedAt, IsRightAt, SetsParity}
+use Rattle.ddf_resync.proofs.Stops.{asks_from, asks_then, row_since}
 use Rattle.ddf_resync.proofs.Resynced.{equal_kept}
 use Rattle.ddf_resync.proofs.setting.set_element.Goals as goal
 
@@ -45,6 +45,13 @@ loop-sector-preserved g c =
           subst (λ (q : Part). IsRightAt v (g.B.Bay.disks c.set_piece.new.bay).held c.args.element q sector) same
           (subst (λ x. IsRightAt v (g.B.Bay.disks c.set_piece.new.bay).held c.args.element c.args.part.now x) row (next.set tells here (sector - at) (omega (arith, from, below)))))
           (cases_lt sector at);
+      noted = λ sector below. ⊎_elim
+          (λ (before : sector < at) position own is there. next.writes.touched_up own.slot (so_far.noted sector before position own is there))
+          (λ (from : at ≤ sector).
+          let row : at + (sector - at) ≡ sector = omega (arith, from) in
+          subst (λ x. IsNotedAt c.set_piece.new.touched c.args.part.now x) row (next.noted (sector - at) (omega (arith, from, below))))
+          (cases_lt sector at);
+      asks = asks_then 0 at (at + n) so_far.asks (asks_from n n at (at + n) next.asks (omega arith) (omega arith));
       kept = λ tells equal element sector part is_part deep was.
           next.kept tells (equal_kept v c.requires.known c.requires.apart g.B.Bay.tells so_far.writes tells equal) element sector part is_part deep (so_far.kept tells equal element sector part is_part deep was);
     }

@@ -2,7 +2,8 @@ use Rattle.std.proofs.Common.{◌-◌, ◌≤◌}
 use Rattle.ddf_primary.specs.Cells.{depth_of}
 use Rattle.ddf_cells.specs.CellSources.{HaveEqualCopies}
 use Rattle.ddf_cells.specs.Touching.{Writes}
-use Rattle.ddf_resync.specs.Setting.{AreRightTo, KeepsRight, SetsParity}
+use Rattle.ddf_resync.specs.Copying.{Asks}
+use Rattle.ddf_resync.specs.Setting.{AreNotedTo, AreRightTo, KeepsRight, SetsParity}
 use Rattle.ddf_resync.proofs.setting.set_element.Given as goal
 
 abbrev pub invariant-loop-sector : goal.invariant-loop-sector
@@ -14,6 +15,8 @@ invariant-loop-sector g l =
       inside : l.sector ≤ depth_of l.part.shape;
       writes : Writes (SetsParity l.view) B.tells old now l.fn.touched l.touched;
       set : B.tells → HaveEqualCopies l.view old.held → AreRightTo l.view now.held l.element l.sector;
+      noted : AreNotedTo l.touched l.part l.sector;
+      asks : Asks old now 0 l.sector;
       kept : B.tells → HaveEqualCopies l.view old.held → KeepsRight l.view old.held now.held;
     }
 
