@@ -1,5 +1,5 @@
 -- The slots of reads that fail are those of available places; the sites of rows.
-use Rattle.std.proofs.Common.{◌≡◌, ◌∙◌, ⊎_elim, ℕ, zero, suc, ◌+◌, ◌<◌, ◌≤◌, Bool, true, false, List, [], ◌∷◌, ◌++◌, Option, Some, None, refl, sym, ap, subst, arith, map, length, slice_get}
+use Rattle.std.proofs.Common.{◌≡◌, ◌∙◌, ℕ, zero, suc, ◌+◌, ◌<◌, ◌≤◌, Bool, true, false, List, [], ◌∷◌, ◌++◌, Option, Some, None, refl, sym, ap, arith, map, length, slice_get}
 use Rattle.std.specs.Prelude.{◌==◌, ◌&&◌, not, is_some, option_map, option_to_list, if◌then◌else◌}
 use Rattle.std.specs.List.{flat_map, list_all, range_with_len}
 use Rattle.std.proofs.lemmas.Bool.{eqb-true}
@@ -9,44 +9,15 @@ use Rattle.ddf_array.specs.declared.part.Part.{Part}
 use Rattle.ddf_array.specs.declared.place.Place.{Place}
 use Rattle.ddf_array.specs.declared.site.Site.{Site}
 use Rattle.ddf_array.specs.Places.{is_available, site_at}
-use Rattle.ddf_array.specs.Volume.{Volume, IsVolume}
 use Rattle.ddf_array.specs.Sources.{all_of}
 use Rattle.ddf_array.specs.Redundant.{whole_row}
 use Rattle.ddf_volume.specs.Along.{further}
-use Rattle.ddf_volume.specs.Reading.{HasSite, IsOn}
 use Rattle.ddf_volume.specs.Sums.{other_site, other_sites}
 use Rattle.ddf_volume.proofs.SourcesAlong.{site_further}
-use Rattle.ddf_cells.proofs.Alike.{AreCellSites, cell_site}
-use Rattle.ddf_cells.proofs.Lists.{in_flat, some_not_none, to_map, true_not_false}
-use Rattle.ddf_cells.proofs.Surely.{cell_on, of_place}
+use Rattle.ddf_cells.proofs.Lists.{some_not_none, to_map, true_not_false}
+use Rattle.ddf_cells.proofs.Surely.{of_place}
 use Rattle.ddf_array.proofs.Enough.{all_pass, site_there}
 use Rattle.ddf_resync.specs.Agreeing.{AllOrNot, Decides, IsStep, IsValue}
-
--- ---- sites and slots
-
-pub has_on : (v : Volume) (slot : ℕ) (sites : List Site) → AreCellSites v sites → HasSite (λ other. other ≡ slot) sites → IsOn v slot
-has_on v slot [] are has = absurd has
-has_on v slot (one ∷ sites) are has =
-    ⊎_elim (λ here. subst (IsOn v) here (cell_on v one.slot one.lba (are 0 one refl))) (λ later. has_on v slot sites (λ k other at. are (suc k) other at) later) has
-
-pub site_is_on : (v : Volume) → IsVolume v → (element : ℕ) (part : Part) → slice_get v.parts element ≡ Some part → (position sector : ℕ) (one : Site) → sector < part.shape.blocks
-    → site_at part.places position sector ≡ Some one → IsOn v one.slot
-site_is_on v known element part part_at position sector one below at = cell_on v one.slot one.lba (cell_site v known element part part_at position sector one below at)
-
-listed_some : (o : Option Site) (k : ℕ) (one : Site) → slice_get (option_to_list o) k ≡ Some one → o ≡ Some one
-listed_some None k one at = absurd (some_not_none one (sym at))
-listed_some (Some x) zero one at = let same : x ≡ one = cc in ap Some same
-listed_some (Some x) (suc k) one at = absurd (some_not_none one (sym at))
-
-other_some : (b : Bool) (found : Option Site) (one : Site) → (if b then None else found) ≡ Some one → found ≡ Some one
-other_some true found one e = absurd (some_not_none one (sym e))
-other_some false found one e = e
-
-pub others_are_cells : (v : Volume) → IsVolume v → (element : ℕ) (part : Part) → slice_get v.parts element ≡ Some part → (sector position : ℕ) → sector < part.shape.blocks → AreCellSites v (other_sites part.places sector position)
-others_are_cells v known element part part_at sector position below k one at =
-    let from = in_flat (λ other. option_to_list (other_site part.places sector position other)) (range_with_len 0 (length part.places)) k one at in
-    let found = listed_some (other_site part.places sector position from.item) from.inner one from.is_inner in
-    cell_site v known element part part_at from.item sector one below (other_some (from.item == position) (site_at part.places from.item sector) one found)
 
 -- ---- whole rows
 

@@ -1,5 +1,6 @@
 pub mod Found
 pub mod Failing
+pub mod Comparing
 pub mod Beside
 pub mod Values
 pub mod SeveralCells

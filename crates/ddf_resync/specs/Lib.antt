@@ -1,4 +1,5 @@
 pub mod Agreeing
+pub mod Compared
 pub mod Scrubbing
 pub mod Runs
 pub mod Several

@@ -9,10 +9,10 @@ use Rattle.ddf_array.specs.Volume.{Volume}
 use Rattle.ddf_array.specs.Within.{is_within}
 use Rattle.ddf_volume.specs.declared.fault.VolumeFault.{VolumeFault}
 use Rattle.ddf_volume.specs.declared.fault.VolumeFault.TheVariants.{Range, Degraded, Lost, Unsure, Disk}
-use Rattle.ddf_volume.specs.Reading.{Failed, IsOn}
 use Rattle.ddf_resync.specs.declared.outcome.Scrub.{Scrub}
 use Rattle.ddf_resync.specs.declared.outcome.Scrub.TheVariants.{Clean, Differs}
 use Rattle.ddf_resync.specs.Agreeing.{Agrees}
+use Rattle.ddf_resync.specs.Compared.{FailedOn}
 
 -- an element agrees at every sector before one
 abbrev pub AgreesBefore : Volume → Image → (element sector : ℕ) → Type 0
@@ -41,13 +41,13 @@ abbrev pub IsScrubbed : Volume → Image → Scrub → Type 0
 IsScrubbed volume image Clean = IsRedundant volume image
 IsScrubbed volume image (Differs element row) = (IsRedundant volume image → ⊥) × IsLeastDiffering volume image element row
 
--- the cause of an answer other than Ok
+-- the cause of an answer other than Ok: a read failed of a slot with a sector that is compared
 abbrev pub IsScrubFault : {D : Type 0} → (old new : BayState D) → Volume → VolumeFault → Type 0
 IsScrubFault old new volume (Range most) = ⊥
 IsScrubFault old new volume Degraded = ⊥
 IsScrubFault old new volume Lost = is_within volume ≡ false
 IsScrubFault old new volume Unsure = ⊥
-IsScrubFault old new volume (Disk slot) = (is_within volume ≡ true) × IsOn volume slot × Failed old new slot
+IsScrubFault old new volume (Disk slot) = (is_within volume ≡ true) × FailedOn volume old new slot
 
 -- a row is the first of an element that doesn't agree
 pub record DiffersFirst (volume : Volume) (image : Image) (element : ℕ) (part : Part) (row : ℕ) : Type 0 where

@@ -6,7 +6,8 @@ ghost use Rattle.ddf_array.specs.Values.{bytes_at};
 ghost use Rattle.ddf_array.specs.Volume.{Fits, IsVolume, capacity};
 ghost use Rattle.ddf_volume.specs.Along.{further};
 ghost use Rattle.ddf_volume.specs.Reading.{Failed, OnlyReads};
-ghost use Rattle.ddf_resync.specs.Agreeing.{AllOrNot, CopyAgrees, FailedOn, IsStep};
+ghost use Rattle.ddf_resync.specs.Agreeing.{AllOrNot, CopyAgrees, IsStep};
+ghost use Rattle.ddf_resync.specs.Compared.{FailedOn};
 ghost use Rattle.ddf_resync.specs.Runs.{NamesEither};
 
 use crate::several::is_site;

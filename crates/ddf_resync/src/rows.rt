@@ -3,12 +3,14 @@ ghost use Rattle.std.specs.Prelude.{◌≡◌, ◌≢◌, ◌+◌, ◌<◌, ◌�
 ghost use Rattle.ddf_array.specs.declared.part.Part.{Part};
 ghost use Rattle.ddf_array.specs.Levels.{keeps_parity};
 ghost use Rattle.ddf_array.specs.declared.site.Site.{Site};
-ghost use Rattle.ddf_array.specs.Sources.{first_copy, row_without};
+ghost use Rattle.ddf_array.specs.Sources.{first_copy, row_without, rows};
 ghost use Rattle.ddf_array.specs.Values.{sum_at, value};
 ghost use Rattle.ddf_array.specs.Volume.{Fits, IsVolume, capacity};
 ghost use Rattle.ddf_array.specs.Within.{is_mirrored};
-ghost use Rattle.ddf_volume.specs.Reading.{Failed, OnlyReads};
-ghost use Rattle.ddf_resync.specs.Agreeing.{AllOrNot, Decides, FailedOn, IsValue, RowAgrees};
+ghost use Rattle.ddf_volume.specs.Reading.{Failed, HasSite, OnlyReads};
+ghost use Rattle.ddf_volume.specs.Sums.{other_sites};
+ghost use Rattle.ddf_resync.specs.Agreeing.{AllOrNot, Decides, IsValue, RowAgrees};
+ghost use Rattle.ddf_resync.specs.Compared.{FailedOn};
 
 use crate::sums::is_same;
 use ddf_array::{Part, Site, View};
@@ -33,7 +35,8 @@ fn read_sum<B: Bay>(
     requires part { slice_get view.now.parts element ≡ Some part.now }
     requires sector { sector < part.now.shape.blocks }
     ensures sum { B.tells → OnOk result ((sites : List Site) → row_without part.now.places position sector ≡ Some sites → into.new ≡ sum_at (B.disks bay.old).held sites) }
-    ensures failed { IfErr result (FailedOn view.now (B.disks bay.old) (B.disks bay.new)) }
+    ensures named { IfErr result (λ slot. HasSite (λ other. other ≡ slot) (other_sites part.now.places sector position)) }
+    ensures failed { IfErr result (Failed (B.disks bay.old) (B.disks bay.new)) }
     ensures reads { OnlyReads (B.disks bay.old) (B.disks bay.new) }
 {
     let mut work = [[0; 512]; 1];
@@ -62,7 +65,8 @@ fn read_first<B: Bay>(
     requires fits { Fits (B.disks bay.old).sizes view.now }
     requires first { first_copy view.now block ≡ Some site }
     ensures value { B.tells → OnOk result (value view.now (B.disks bay.old).held block ≡ Some into.new) }
-    ensures failed { IfErr result (FailedOn view.now (B.disks bay.old) (B.disks bay.new)) }
+    ensures named { IfErr result (λ slot. slot ≡ site.slot) }
+    ensures failed { IfErr result (Failed (B.disks bay.old) (B.disks bay.new)) }
     ensures reads { OnlyReads (B.disks bay.old) (B.disks bay.new) }
 {
     match bay.read(site.slot, site.lba, into) {
@@ -71,7 +75,7 @@ fn read_first<B: Bay>(
     }
 }
 
-/// Reads what a block's first source gives, if it has one. After a failure, the slot that failed.
+/// Reads what a block's first source gives, where it has a row. After a failure, the slot that failed.
 fn read_value<B: Bay>(
     bay: &mut B,
     view: &View,
@@ -81,6 +85,8 @@ fn read_value<B: Bay>(
     requires known { IsVolume view.now }
     requires fits { Fits (B.disks bay.old).sizes view.now }
     requires block { block < capacity view.now }
+    requires mirrored { is_mirrored view.now ≡ true }
+    requires row { (number : ℕ) × ((sites : List Site) × (slice_get (rows view.now block) number ≡ Some sites)) }
     ensures value { B.tells → IfOk result (λ found. IsValue found (value view.now (B.disks bay.old).held block) into.new) }
     ensures failed { IfErr result (FailedOn view.now (B.disks bay.old) (B.disks bay.new)) }
     ensures reads { OnlyReads (B.disks bay.old) (B.disks bay.new) }

@@ -2,11 +2,13 @@
 ghost use Rattle.std.specs.Prelude.{◌≡◌, ◌+◌, ◌<◌, ◌≤◌, ℕ, Some, [], true, false, length, slice_get, slice_index_or, IfOk, IfErr};
 ghost use Rattle.std.specs.List.{list_all};
 ghost use Rattle.ddf_parity.specs.Xor.{zeros};
+ghost use Rattle.ddf_primary.specs.Cells.{depth_of};
 ghost use Rattle.ddf_array.specs.declared.part.Part.{Part};
 ghost use Rattle.ddf_array.specs.Places.{is_available};
 ghost use Rattle.ddf_array.specs.Volume.{Fits, IsPart, IsVolume, PartFits};
 ghost use Rattle.ddf_volume.specs.Reading.{OnlyReads};
-ghost use Rattle.ddf_resync.specs.Agreeing.{AllOrNot, FailedOn, SumAgrees};
+ghost use Rattle.ddf_resync.specs.Agreeing.{AllOrNot, SumAgrees};
+ghost use Rattle.ddf_resync.specs.Compared.{FailedOn};
 
 use ddf_array::{Part, View};
 use ddf_bay::Bay;
@@ -34,8 +36,8 @@ fn are_zeros(sectors: &[Sector]) -> bool
     true
 }
 
-/// Whether neighbouring rows of an element sum to zero, where it keeps parity and all its positions are available. After
-/// a failure, the slot that failed.
+/// Whether neighbouring rows of an element sum to zero, where it keeps parity and all its positions are available. Elsewhere
+/// nothing is read. After a failure, the slot that failed.
 pub(crate) fn sums_agree<B: Bay>(
     bay: &mut B,
     view: &View,
@@ -49,7 +51,7 @@ pub(crate) fn sums_agree<B: Bay>(
     requires part { slice_get view.now.parts element ≡ Some part.now }
     requires some { 0 < count }
     requires few { count ≤ 32 }
-    requires sectors { sector + count ≤ part.now.shape.blocks }
+    requires sectors { sector + count ≤ depth_of part.now.shape }
     ensures agree { B.tells → IfOk result (λ agree. AllOrNot agree count (λ k. SumAgrees (B.disks bay.old).held part.now (sector + k))) }
     ensures failed { IfErr result (FailedOn view.now (B.disks bay.old) (B.disks bay.new)) }
     ensures reads { OnlyReads (B.disks bay.old) (B.disks bay.new) }

@@ -6,7 +6,8 @@ ghost use Rattle.ddf_array.specs.Sound.{AreSectors};
 ghost use Rattle.ddf_array.specs.Volume.{Fits, IsPart, IsVolume};
 ghost use Rattle.ddf_array.specs.Within.{is_within};
 ghost use Rattle.ddf_volume.specs.Reading.{OnlyReads};
-ghost use Rattle.ddf_resync.specs.Agreeing.{Agrees, AllOrNot, FailedOn, PositionAgrees};
+ghost use Rattle.ddf_resync.specs.Agreeing.{Agrees, AllOrNot, PositionAgrees};
+ghost use Rattle.ddf_resync.specs.Compared.{FailedOn};
 ghost use Rattle.ddf_resync.specs.Scrubbing.{IsElementScrubbed, IsScrubFault, IsScrubbed};
 
 use crate::copies::copies_agree;
@@ -61,7 +62,7 @@ fn piece_agrees<B: Bay>(
     requires some { 0 < count }
     requires few { count ≤ 32 }
     requires small { sector + count < 2 ^ 64 }
-    requires sectors { sector + count ≤ part.now.shape.blocks }
+    requires sectors { sector + count ≤ depth_of part.now.shape }
     ensures agree { B.tells → IfOk result (λ agree. AllOrNot agree count (λ k. Agrees view.now (B.disks bay.old).held element part.now (sector + k))) }
     ensures failed { IfErr result (FailedOn view.now (B.disks bay.old) (B.disks bay.new)) }
     ensures reads { OnlyReads (B.disks bay.old) (B.disks bay.new) }
@@ -146,7 +147,9 @@ fn scrub_all<B: Bay>(bay: &mut B, view: &View) -> Result<Scrub, usize>
 /// available is the block's value. Else the least row in which they don't, by element and row (profile). Only reads are made.
 ///
 /// # Errors
-/// `Lost` where the array isn't within its level. `Disk` where a read failed in this call on the slot of an available place.
+/// `Lost` where the array isn't within its level. `Disk` where a read failed in this call on a slot that has a sector of
+/// those that are compared: of a source of a block that has another one, of a row that is all available, or of a row of
+/// a mirrored array that gives a cell which isn't available.
 pub fn scrub<B: Bay>(bay: &mut B, view: &View) -> Result<Scrub, VolumeFault>
     requires { Fits (B.disks bay.old).sizes view.now }
     ensures found { B.tells → AreSectors (B.disks bay.old).held → IfOk result (IsScrubbed view.now (B.disks bay.old).held) }

@@ -3,15 +3,16 @@ use Rattle.std.proofs.lemmas.Result.{err_from_is_err_and}
 use Rattle.ddf_array.specs.declared.site.Site.{Site}
 use Rattle.ddf_array.specs.Values.{bytes_at}
 use Rattle.ddf_volume.specs.Along.{further}
-use Rattle.ddf_volume.specs.Reading.{IsOn}
 use Rattle.ddf_volume.proofs.FirstCopies.{first_there}
 use Rattle.ddf_volume.proofs.Followers.{follow_first}
 use Rattle.ddf_volume.proofs.Sites.{site_at_there}
-use Rattle.ddf_volume.proofs.SourceSlots.{copy_on}
 use Rattle.ddf_cells.proofs.BlockOf.{block_within}
 use Rattle.ddf_resync.specs.Agreeing.{CopyAgrees}
 use Rattle.ddf_resync.proofs.Beside.{copy_run, run_bad, run_good}
-use Rattle.ddf_resync.proofs.Failing.{site_is_on, step_of}
+use Rattle.ddf_resync.specs.Compared.{IsCompared}
+use Rattle.ddf_resync.proofs.Comparing.{first_compared, own_compared}
+use Rattle.ddf_resync.proofs.Found.{among_copies}
+use Rattle.ddf_resync.proofs.Failing.{step_of}
 use Rattle.ddf_resync.proofs.copies.some_agree.Goals as goal
 
 pub site_at-requires-clause-part : goal.site_at-requires-clause-part
@@ -44,12 +45,16 @@ pub returns-in_err-agree-clause-failed : goal.returns-in_err-agree-clause-failed
 returns-in_err-agree-clause-failed g c =
     let p = err_from_is_err_and c.from_residual.result c.from_residual.ensures.1 in
     let v = c.args.view.now in
+    let block = c.in-Some.block in
+    let own = c.in-Some-site_at.own in
+    let first = c.in-Some-first_copy.first in
+    let own_at = sym c.site_at.ensures ∙ c.in-Some-site_at.is in
+    let first_at = sym c.first_copy.ensures ∙ c.in-Some-first_copy.is in
+    let among = among_copies v c.requires.known block c.args.element c.args.position c.args.sector c.args.part.now own c.requires.part (sym c.block_at.ensures ∙ c.in-Some.is) own_at in
+    let differ = c.if-is_site.ensures.no refl in
     rw (p.1, p.2) (
-      ⊎_elim
-          (λ own. subst (IsOn v) (sym own)
-          (site_is_on v c.requires.known c.args.element c.args.part.now c.requires.part c.args.position c.args.sector c.in-Some-site_at.own (omega (arith, c.requires.sectors, c.requires.some)) (sym c.site_at.ensures ∙ c.in-Some-site_at.is)))
-          (λ first. subst (IsOn v) (sym first) (copy_on v c.in-Some.block c.in-Some-first_copy.first (sym c.first_copy.ensures ∙ c.in-Some-first_copy.is)))
-          c.in_err-agree.ensures.named,
+      ⊎_elim (λ is_own. subst (IsCompared v) (sym is_own) (own_compared v block among.0 own first among.1 first_at differ))
+          (λ is_first. subst (IsCompared v) (sym is_first) (first_compared v block among.0 own first among.1 first_at differ)) c.in_err-agree.ensures.named,
       c.in_err-agree.ensures.failed,
     )
 

@@ -1,6 +1,5 @@
 use Rattle.std.proofs.Common.{◌∙◌, Some, sym, ap, arith}
 use Rattle.ddf_volume.proofs.FirstCopies.{first_there}
-use Rattle.ddf_volume.proofs.SourceSlots.{copy_on}
 use Rattle.ddf_resync.proofs.Values.{value_copy}
 use Rattle.ddf_resync.proofs.rows.read_first.Goals as goal
 
@@ -13,6 +12,3 @@ read-requires-clause-sector g c = omega (arith, (first_there _ c.args.view.now c
 pub returns-in-Ok-clause-value : goal.returns-in-Ok-clause-value
 returns-in-Ok-clause-value g c = λ tells.
     value_copy c.args.view.now (g.B.Bay.disks c.args.bay.now).held c.args.block c.args.site c.requires.first ∙ ap Some (sym (c.in-Ok.ensures.bytes tells))
-
-pub returns-in-Err-clause-failed : goal.returns-in-Err-clause-failed
-returns-in-Err-clause-failed g c = (copy_on c.args.view.now c.args.block c.args.site c.requires.first, c.in-Err.ensures.failed)

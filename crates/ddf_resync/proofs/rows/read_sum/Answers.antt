@@ -3,7 +3,6 @@ use Rattle.std.proofs.lemmas.List.{get_or_default}
 use Rattle.ddf_array.specs.Values.{sum_at}
 use Rattle.ddf_volume.specs.Sums.{other_sites}
 use Rattle.ddf_volume.proofs.OtherCells.{first_sum, row_sites}
-use Rattle.ddf_resync.proofs.Failing.{has_on, others_are_cells}
 use Rattle.ddf_resync.proofs.rows.read_sum.Goals as goal
 
 pub sum_rows-requires-clause-part : goal.sum_rows-requires-clause-part
@@ -21,10 +20,3 @@ returns-in-Ok-clause-sum g c = λ tells sites row_at.
     get_or_default out 0 c.args.into.now [] some
     ∙ first_sum held (other_sites places c.args.sector c.args.position) out some (c.in-Ok.ensures.sums tells)
     ∙ ap (sum_at held) (row_sites places c.args.position c.args.sector sites row_at)
-
-pub returns-in-Err-clause-failed : goal.returns-in-Err-clause-failed
-returns-in-Err-clause-failed g c = (
-  has_on c.args.view.now c.in-Err.slot (other_sites c.args.part.now.places c.args.sector c.args.position)
-      (others_are_cells c.args.view.now c.requires.known c.args.element c.args.part.now c.requires.part c.args.sector c.args.position c.requires.sector) c.in-Err.ensures.among,
-  c.in-Err.ensures.failed,
-)

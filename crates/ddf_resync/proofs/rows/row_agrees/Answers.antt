@@ -7,6 +7,8 @@ use Rattle.ddf_array.proofs.Firsts.{by_none}
 use Rattle.ddf_cells.proofs.BlockOf.{block_within}
 use Rattle.ddf_cells.proofs.Lists.{some_not_none}
 use Rattle.ddf_resync.specs.Agreeing.{IsValue, RowAgrees}
+use Rattle.std.proofs.lemmas.Result.{err_from_is_err_and}
+use Rattle.ddf_resync.proofs.Comparing.{among_rows, row_of_compared}
 use Rattle.ddf_resync.proofs.Failing.{decides, some_of, value_missing, value_there}
 use Rattle.ddf_resync.proofs.rows.row_agrees.Goals as goal
 
@@ -55,3 +57,21 @@ returns-clause-agree g c = λ tells.
     ap (value v held) (sym b) ∙ there ∙ ap Some (sym (c.is_same.ensures.yes yes) ∙ sum_is ∙ ap (sum_at held) s))
     (λ no agrees.
     c.is_same.ensures.no no (sum_is ∙ same_of _ _ (sym (agrees c.requires.mirrored c.requires.parity block row.0 block_is none row.1) ∙ there)))
+
+pub read_value-requires-clause-row : goal.read_value-requires-clause-row
+read_value-requires-clause-row g c =
+    let part = c.args.part.now in
+    let row = some_of (row_without part.places c.args.position c.args.sector) (sym c.has_row.ensures ∙ c.if-not-has_row.false) in
+    let at = among_rows c.args.view.now c.requires.known c.in-Some.block c.args.element c.args.position c.args.sector part row.0 c.requires.part c.requires.parity (sym c.block_at.ensures ∙ c.in-Some.is) row.1 in
+    (at.0, (row.0, at.1))
+
+pub returns-in_err-read_sum-clause-failed : goal.returns-in_err-read_sum-clause-failed
+returns-in_err-read_sum-clause-failed g c =
+    let part = c.args.part.now in
+    let row = some_of (row_without part.places c.args.position c.args.sector) (sym c.has_row.ensures ∙ c.if-not-has_row.false) in
+    let p = err_from_is_err_and c.from_residual.result c.from_residual.ensures.1 in
+    rw (p.1, p.2) (
+      row_of_compared c.args.view.now c.requires.known c.requires.mirrored c.in-Some.block c.args.element c.args.position c.args.sector part row.0 c.requires.part c.requires.parity (sym c.block_at.ensures ∙ c.in-Some.is) row.1 _
+          c.in_err-read_sum.ensures.named,
+      c.in_err-read_sum.ensures.failed,
+    )

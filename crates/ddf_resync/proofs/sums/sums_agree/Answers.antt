@@ -3,7 +3,8 @@ use Rattle.std.proofs.lemmas.Result.{err_from_is_err_and}
 use Rattle.ddf_array.specs.Levels.{keeps_parity}
 use Rattle.ddf_array.specs.Values.{sum_at}
 use Rattle.ddf_cells.proofs.Lists.{true_not_false}
-use Rattle.std.proofs.Common.{ℕ, ◌<◌, List, [], Some, map, rules}
+use Rattle.ddf_primary.proofs.ShapeFacts.{depth_le}
+use Rattle.std.proofs.Common.{ℕ, ◌<◌, ◌≤◌, List, [], Some, map, rules}
 use Rattle.std.proofs.lemmas.Grind.{common_steps}
 use Rattle.std.specs.Prelude.{slice_index_or}
 use Rattle.std.specs.List.{list_all}
@@ -14,7 +15,8 @@ use Rattle.ddf_array.specs.Redundant.{whole_row}
 use Rattle.ddf_volume.specs.Along.{further}
 use Rattle.ddf_volume.specs.Sums.{other_sites}
 use Rattle.ddf_resync.specs.Agreeing.{SumAgrees}
-use Rattle.ddf_resync.proofs.Failing.{all_or_not, available_whole, has_on, others_are_cells, whole_available, whole_sites}
+use Rattle.ddf_resync.proofs.Comparing.{whole_compared}
+use Rattle.ddf_resync.proofs.Failing.{all_or_not, available_whole, whole_available, whole_sites}
 use Rattle.ddf_resync.proofs.sums.sums_agree.Goals as goal
 
 pub sum_rows-requires-clause-part : goal.sum_rows-requires-clause-part
@@ -27,13 +29,21 @@ pub returns-then-not-all_available-clause-agree : goal.returns-then-not-all_avai
 returns-then-not-all_available-clause-agree g c = λ tells k below parity sites whole.
     absurd (true_not_false (sym (whole_available c.args.part.now (c.args.sector + k) sites whole) ∙ ap (list_all is_available) (sym c.items-places.ensures) ∙ sym c.all_available.ensures ∙ c.if-not-all_available.true))
 
+pub sum_rows-requires-clause-sectors : goal.sum_rows-requires-clause-sectors
+sum_rows-requires-clause-sectors g c =
+    let shape = c.args.part.now.shape in
+    let inside : c.args.sector + c.args.count ≤ shape.blocks = omega (arith, c.requires.sectors, depth_le shape.layout shape.strip shape.blocks) in
+    first_of (grind (arith, common_steps), search rules)
+
 pub returns-in_err-sum_rows-clause-failed : goal.returns-in_err-sum_rows-clause-failed
 returns-in_err-sum_rows-clause-failed g c =
     let p = err_from_is_err_and c.from_residual.result c.from_residual.ensures.1 in
+    let part = c.args.part.now in
+    let len : length c.items-places.result.now ≡ length part.places = ap length c.items-places.ensures in
+    let all : list_all is_available part.places ≡ true = ap (list_all is_available) (sym c.items-places.ensures) ∙ sym c.all_available.ensures ∙ c.if-not-all_available.false in
+    let kept : keeps_parity part.shape.layout ≡ true = ap keeps_parity (sym c.layout.ensures) ∙ sym c.keeps_parity.ensures ∙ c.if-not-keeps_parity.false in
     rw (p.1, p.2) (
-      has_on c.args.view.now _ (other_sites c.args.part.now.places c.args.sector (length c.items-places.result.now))
-          (others_are_cells c.args.view.now c.requires.known c.args.element c.args.part.now c.requires.part c.args.sector (length c.items-places.result.now) (omega (arith, c.requires.sectors, c.requires.some)))
-          c.in_err-sum_rows.ensures.among,
+      whole_compared c.args.view.now c.args.element part c.requires.part kept c.args.sector (omega (arith, c.requires.sectors, c.requires.some)) all (length c.items-places.result.now) _ len c.in_err-sum_rows.ensures.among,
       c.in_err-sum_rows.ensures.failed,
     )
 

@@ -1,7 +1,7 @@
 use Rattle.std.proofs.Common.{◌≡◌, ⊎_elim, ◌+◌, ◌<◌, ◌≤◌, length, ap, subst, arith}
 use Rattle.std.proofs.lemmas.Bool.{cases_lt}
 use Rattle.ddf_bay.specs.Sectors.{Image}
-use Rattle.ddf_primary.proofs.ShapeFacts.{cell_facts}
+use Rattle.ddf_primary.proofs.ShapeFacts.{cell_facts, depth_le}
 use Rattle.ddf_array.proofs.Consistent.{position_within}
 use Rattle.ddf_volume.proofs.OnlyReading.{only_reads_then}
 use Rattle.ddf_cells.proofs.BlockOf.{holds_both}
@@ -11,6 +11,10 @@ use Rattle.ddf_resync.proofs.walk.piece_agrees.Goals as goal
 
 pub position_agrees-requires-clause-fits : goal.position_agrees-requires-clause-fits
 position_agrees-requires-clause-fits g c = rw (c.loop-position.invariant.reads.reads.same_sizes) c.requires.fits
+
+pub position_agrees-requires-clause-sectors : goal.position_agrees-requires-clause-sectors
+position_agrees-requires-clause-sectors g c =
+    let shape = c.args.part.now.shape in omega (arith, c.requires.sectors, depth_le shape.layout shape.strip shape.blocks)
 
 pub returns-then-not-agree-clause-agree : goal.returns-then-not-agree-clause-agree
 returns-then-not-agree-clause-agree g c = λ tells.
