@@ -4,6 +4,7 @@ pub mod Comparing
 pub mod Beside
 pub mod Values
 pub mod SeveralCells
+pub mod Extents
 pub mod Copied
 pub mod CopyStep
 pub mod Stops

@@ -135,7 +135,7 @@ other_along v block count along k below = ap among (along.copies_are k below) �
 
 -- ---- how many cells these are
 
-sum_of : (f g h : ℕ → ℕ) (xs : List ℕ) → ((x : ℕ) → f x ≡ g x + h x) → sum_by f xs ≡ sum_by g xs + sum_by h xs
+pub sum_of : (f g h : ℕ → ℕ) (xs : List ℕ) → ((x : ℕ) → f x ≡ g x + h x) → sum_by f xs ≡ sum_by g xs + sum_by h xs
 sum_of f g h [] same = refl
 sum_of f g h (x ∷ xs) same =
     let a = sum_by-cons f x xs in

@@ -1,5 +1,5 @@
 -- The blocks that have several available cells, and how many sectors a resync sets (profile).
-use Rattle.std.specs.Prelude.{◌≡◌, ℕ, Bool, true, false, not, ◌&&◌, ◌==◌, ◌+◌, length, map, Option, Some, None, slice_get, if◌then◌else◌}
+use Rattle.std.specs.Prelude.{◌≡◌, ℕ, Bool, true, false, not, ◌&&◌, ◌==◌, ◌+◌, ◌*◌, length, map, Option, Some, None, slice_get, if◌then◌else◌}
 use Rattle.std.specs.List.{list_any, range_with_len, sum_by}
 use Rattle.ddf_primary.specs.Cells.{depth_of}
 use Rattle.ddf_array.specs.declared.part.Part.{Part}
@@ -46,3 +46,12 @@ parity_cells volume elements = sum_by (λ element. parity_of (slice_get volume.p
 -- The sectors that a resync sets: every available cell of each block that has several, once, and every parity cell, once.
 abbrev pub resync_sectors : Volume → ℕ
 resync_sectors volume = copied_cells volume (capacity volume) + parity_cells volume (length volume.parts)
+
+-- the sectors of the extents of an element's positions
+abbrev pub extents_of : Option Part → ℕ
+extents_of None = 0
+extents_of (Some part) = length part.places * part.shape.blocks
+
+-- those of the array
+abbrev pub extent_sectors : Volume → ℕ
+extent_sectors volume = sum_by (λ element. extents_of (slice_get volume.parts element)) (range_with_len 0 (length volume.parts))

@@ -1,5 +1,5 @@
 // Laws of what a scrub compares and of what a resync leaves: functions that do nothing, whose contracts are the laws.
-ghost use Rattle.std.specs.Prelude.{◌≡◌, ◌⊎◌, ◌<◌, ℕ, Some, slice_get};
+ghost use Rattle.std.specs.Prelude.{◌≡◌, ◌⊎◌, ◌<◌, ◌≤◌, ℕ, Some, slice_get};
 ghost use Rattle.ddf_bay.specs.Moments.{IsSettled};
 ghost use Rattle.ddf_bay.specs.Sectors.{Image, IsLeft};
 ghost use Rattle.ddf_primary.specs.Cells.{depth_of};
@@ -14,6 +14,7 @@ ghost use Rattle.ddf_array.specs.Volume.{IsVolume, Volume};
 ghost use Rattle.ddf_volume.specs.Reading.{Failed, IsOn};
 ghost use Rattle.ddf_resync.specs.Agreeing.{Agrees};
 ghost use Rattle.ddf_resync.specs.Resyncing.{HasResynced, IsAmongResynced, IsHeld, IsLeftByResync, MayResync};
+ghost use Rattle.ddf_resync.specs.Several.{extent_sectors, resync_sectors};
 
 use ddf_bay::Bay;
 
@@ -57,4 +58,9 @@ pub fn a_settled_resync_is_in_every_image<B: Bay>(old: &B, new: &B)
     ensures { (volume : Volume) (before image : Image) → IsVolume volume → (B.disks new.now).tells_left
         → ((slot : ℕ) → IsOn volume slot → IsSettled (B.disks new.now).may_hold (B.disks new.now).held slot) → IsLeft (B.disks new.now).may_hold image
         → HasResynced (Failed (B.disks old.now) (B.disks new.now)) volume before (B.disks new.now).held → HasResynced (Failed (B.disks old.now) (B.disks new.now)) volume before image }
+{}
+
+/// The sectors that a resync sets are sectors of the array's extents, each of them once.
+pub fn a_resync_sets_sectors_of_extents()
+    ensures { (volume : Volume) → IsVolume volume → resync_sectors volume ≤ extent_sectors volume }
 {}
