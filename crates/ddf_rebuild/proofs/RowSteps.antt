@@ -1,14 +1,17 @@
 -- Rows of the target, by its sectors.
 use Rattle.std.proofs.Common.{◌≡◌, ◌∙◌, ℕ, ◌+◌, ◌-◌, ◌*◌, ◌<◌, ◌≤◌, Some, sym, ap, subst, arith, slice_get}
 use Rattle.std.specs.Prelude.{min}
-use Rattle.ddf_bay.specs.Sectors.{Image}
+use Rattle.ddf_bay.specs.State.{BayState}
+use Rattle.ddf_bay.specs.Moments.{StopsLeave}
+use Rattle.ddf_bay.specs.Sectors.{Image, Outcomes}
 use Rattle.ddf_primary.specs.Cells.{depth_of}
 use Rattle.ddf_array.specs.declared.part.Part.{Part}
 use Rattle.ddf_array.specs.declared.place.Place.{Place}
 use Rattle.ddf_array.specs.Volume.{Volume}
 use Rattle.ddf_volume.specs.Reading.{NoneLeft}
 use Rattle.ddf_cells.specs.CellSources.{cell_sources, needed_positions, wanted}
-use Rattle.ddf_cells.specs.Writing.{IsAmongSectors}
+use Rattle.ddf_cells.specs.Writing.{AddsBut, AsksFor, IsAmongSectors, IsLeftBut, StaysBut}
+use Rattle.ddf_cells.proofs.Writes.{adds_wider, asks_start, asks_then, stays_wider, stops_wider}
 use Rattle.ddf_rebuild.specs.declared.aim.Aim.{Aim}
 use Rattle.ddf_rebuild.specs.Rebuilding.{HasRebuilt, NoneLeftInRows, sectors_of}
 use Rattle.ddf_rebuild.specs.Sectors.{AreRebuilt, NoneLeftIn}
@@ -18,8 +21,15 @@ use Rattle.ddf_rebuild.proofs.Aiming.{same_target}
 slots_are : (a b : ℕ) → Some a ≡ Some b → a ≡ b
 slots_are a b e = cc
 
-module _ (v : Volume) (aim : Aim) (aims : IsAim v aim) (element position from to first end : ℕ) (element_is : aim.element ≡ element) (position_is : aim.position ≡ position)
-    (end_is : end ≡ min (to * aims.part.shape.strip) (depth_of aims.part.shape)) (first_is : first ≡ min (from * aims.part.shape.strip) end) where
+-- the rows of an element that is looked up
+module _ (v : Volume) (aim : Aim) (aims : IsAim v aim) (own : Part) (own_is : own ≡ aims.part) (element position from to first end : ℕ) (element_is : aim.element ≡ element) (position_is : aim.position ≡ position)
+    (end_own : end ≡ min (to * own.shape.strip) (depth_of own.shape)) (first_own : first ≡ min (from * own.shape.strip) end) where
+  end_is : end ≡ min (to * aims.part.shape.strip) (depth_of aims.part.shape)
+  end_is = end_own ∙ ap (λ (p : Part). min (to * p.shape.strip) (depth_of p.shape)) own_is
+
+  first_is : first ≡ min (from * aims.part.shape.strip) end
+  first_is = first_own ∙ ap (λ (p : Part). min (from * p.shape.strip) end) own_is
+
   target_is : IsTarget v element position aims.part aims.place aim.slot
   target_is = record {
     is_part = ap (slice_get v.parts) (sym element_is) ∙ aims.is_target.is_part;
@@ -35,7 +45,7 @@ module _ (v : Volume) (aim : Aim) (aims : IsAim v aim) (element position from to
     below = omega (arith, below, end_is);
   }
 
-  pub row_cell : (s l : ℕ) → IsAmongSectors aim.slot (aim.start + first) (end - first) s l → IsTargetCell v element position from to s l
+  row_cell : (s l : ℕ) → IsAmongSectors aim.slot (aim.start + first) (end - first) s l → IsTargetCell v element position from to s l
   row_cell s l is = record {
     part = aims.part;
     place = aims.place;
@@ -44,6 +54,16 @@ module _ (v : Volume) (aim : Aim) (aims : IsAim v aim) (element position from to
     in_rows = in_rows (l - aim.start) (omega (arith, is.from)) (omega (arith, is.from, is.below));
     lba_is = omega (arith, is.from, aims.start_is);
   }
+
+  -- what calls on these sectors leave, they leave on these rows
+  pub rows_moments : {D : Type 0} {a b : BayState D} (may : Outcomes) → StopsLeave a b (IsLeftBut (IsAmongSectors aim.slot (aim.start + first) (end - first)) may) → StopsLeave a b (IsLeftBut (IsTargetCell v element position from to) may)
+  rows_moments may moments = stops_wider (IsAmongSectors aim.slot (aim.start + first) (end - first)) (IsTargetCell v element position from to) row_cell may moments
+
+  pub rows_add : (a b : Outcomes) → AddsBut (IsAmongSectors aim.slot (aim.start + first) (end - first)) a b → AddsBut (IsTargetCell v element position from to) a b
+  rows_add a b adds = adds_wider (IsAmongSectors aim.slot (aim.start + first) (end - first)) (IsTargetCell v element position from to) row_cell a b adds
+
+  pub rows_stay : (a b : Image) → StaysBut (IsAmongSectors aim.slot (aim.start + first) (end - first)) a b → StaysBut (IsTargetCell v element position from to) a b
+  rows_stay a b stays = stays_wider (IsAmongSectors aim.slot (aim.start + first) (end - first)) (IsTargetCell v element position from to) row_cell a b stays
 
   pub rows_all : (before now image : Image) → AreRebuilt v aim first end before now → ((l : ℕ) → image aim.slot l ≡ now aim.slot l) → HasRebuilt v element position from to before image
   rows_all before now image all same part place slot sector target rows =
@@ -72,5 +92,11 @@ module _ (v : Volume) (aim : Aim) (aims : IsAim v aim) (element position from to
       same_part' : (a b : Part) → Some a ≡ Some b → a ≡ b
       same_part' a b e = cc
 
-  pub rows_count : end - first ≤ sectors_of aims.part.shape from to
-  rows_count = omega (arith, end_is, first_is)
+  pub rows_ask : {D : Type 0} {a b : BayState D} (part : Part) → slice_get v.parts element ≡ Some part → AsksFor a b (end - first) → AsksFor a b (sectors_of part.shape from to)
+  rows_ask {a = a} part part_at asks =
+      let same : aims.part ≡ part = same_part' aims.part part (sym target_is.is_part ∙ part_at) in
+      let count : end - first ≤ sectors_of aims.part.shape from to = omega (arith, end_is, first_is) in
+      asks_then _ (subst (λ (p : Part). 0 + (end - first) ≤ sectors_of p.shape from to) same (omega (arith, count))) (asks_start a) asks
+    where
+      same_part' : (a b : Part) → Some a ≡ Some b → a ≡ b
+      same_part' a b e = cc
