@@ -7,7 +7,7 @@ use Rattle.ddf_cells.proofs.OnCells.{block_below, no_parity}
 use Rattle.ddf_bay.specs.State.{BayState}
 use Rattle.ddf_cells.specs.CellsOn.{GivesCells}
 use Rattle.ddf_cells.specs.Touching.{Writes}
-use Rattle.ddf_cells.proofs.WriteSteps.{KeepsCells, given_cell, writes_wider}
+use Rattle.ddf_cells.proofs.WriteSteps.{KeepsCells, given_cell, writes_then, writes_wider}
 use Rattle.ddf_write.specs.Writing.{MayGive}
 
 module _ (v : Volume) (known : IsVolume v) (apart : IsApart v) (start : ℕ) (sectors : List (List ℕ)) where
@@ -27,3 +27,8 @@ module _ (v : Volume) (known : IsVolume v) (apart : IsApart v) (start : ℕ) (se
 -- a write of cells is one of a write
 pub cells_written : (v : Volume) (start : ℕ) (sectors : List (List ℕ)) (tells : Type 0) {D : Type 0} {a b : BayState D} {t u : List Bool} → Writes (GivesCells v start sectors) tells a b t u → Writes (MayGive v start sectors) tells a b t u
 cells_written v start sectors tells writes = writes_wider (GivesCells v start sectors) (MayGive v start sectors) tells (λ s l bytes given. inl given) writes
+
+-- cells, and then parity
+pub both_written : (v : Volume) (start : ℕ) (sectors : List (List ℕ)) (tells : Type 0) {D : Type 0} {a b c : BayState D} {t u w : List Bool} → Writes (GivesCells v start sectors) tells a b t u → Writes (MayGive v start sectors) tells b c u w
+    → Writes (MayGive v start sectors) tells a c t w
+both_written v start sectors tells first next = writes_then (MayGive v start sectors) tells (cells_written v start sectors tells first) next

@@ -1,17 +1,14 @@
 -- What holds once blocks are written and made sure.
-use Rattle.std.proofs.Common.{◌≡◌, ◌∙◌, inl, inr, ⊎_elim, ℕ, ◌+◌, ◌<◌, ◌≤◌, Bool, true, false, List, Some, refl, sym, ap, subst, arith, length}
-use Rattle.std.specs.Prelude.{slice_index_or}
-use Rattle.std.proofs.lemmas.Bool.{cases_lt}
+use Rattle.std.proofs.Common.{◌≡◌, ◌∙◌, inl, inr, ℕ, ◌+◌, ◌<◌, Bool, List, Some, sym, subst, arith, length}
 use Rattle.ddf_bay.specs.State.{BayState}
-use Rattle.ddf_bay.specs.Sectors.{Image, IsLeft}
-use Rattle.ddf_bay.specs.Moments.{IsSettled, Keeps, SpendsOver, StopsLeave}
-use Rattle.ddf_bay.proofs.Steps.{stops_then}
+use Rattle.ddf_bay.specs.Sectors.{Image}
 use Rattle.ddf_array.specs.declared.part.Part.{Part}
 use Rattle.ddf_array.specs.Places.{site_on}
 use Rattle.ddf_array.specs.Volume.{Volume, IsVolume, Fits}
 use Rattle.ddf_write.specs.RowWrites.{AllRows, AllSet, IsFilled, IsNoted, IsSummed}
-use Rattle.ddf_cells.specs.Touching.{AreSet, GoesBetween, IsTouchedSlot, Writes}
-use Rattle.ddf_write.specs.Writing.{AddsWrites, HasWritten, IsAmongWrites, IsLeftByWrite, IsWritten, MayGive}
+use Rattle.ddf_cells.specs.Touching.{AreSet, IsTouchedSlot, Writes}
+use Rattle.ddf_write.specs.Writing.{HasWritten, IsWritten, MayGive}
+use Rattle.ddf_cells.proofs.Ends.{held_by}
 use Rattle.ddf_cells.proofs.CopiesOn.{block_at_sits, on_position}
 use Rattle.ddf_cells.proofs.OnCells.{block_below}
 use Rattle.ddf_cells.proofs.RunGiven.{cell_there}
@@ -33,7 +30,7 @@ module _ (v : Volume) (known : IsVolume v) (start : ℕ) (sectors : List (List �
       let within : parity.sector < parity.part.shape.blocks = subst (λ (q : Part). parity.sector < q.shape.blocks) same (block_below v known parity.element is.touched.position parity.sector (start + is.touched.k) sits) in
       (site_at_there sizes parity.part is.position parity.sector 1 (site_on slot lba) (fits parity.element parity.part is.is_part) (omega (arith, within)) is.is_there).slot_is
 
-  given_there : (sizes : List ℕ) → Fits sizes v → (s l : ℕ) (bytes : List ℕ) → MayGive v start sectors s l bytes → s < length sizes
+  pub given_there : (sizes : List ℕ) → Fits sizes v → (s l : ℕ) (bytes : List ℕ) → MayGive v start sectors s l bytes → s < length sizes
   given_there sizes fits s l bytes (inl given) = written_there sizes fits s (l, inl given.0)
   given_there sizes fits s l bytes (inr parity) = written_there sizes fits s (l, inr parity)
 
@@ -46,58 +43,11 @@ module _ (v : Volume) (known : IsVolume v) (start : ℕ) (sectors : List (List �
   written_noted image touched set noted slot (lba, inr parity) = noted parity.element parity.sector parity.part (site_on slot lba) parity.is_at
 
   module _ {D : Type 0} (tells : Type 0) {old b : BayState D} {t u : List Bool} (w : Writes (MayGive v start sectors) tells old b t u) where
-    pub held_by : tells → IsLeftByWrite v start sectors old.held b.held
-    held_by tell s l = ⊎_elim inl (λ given. inr given.0) (w.held tell s l)
-
     pub filled_by : tells → AllSet v start sectors b.held → IsFilled v start sectors old.held b.held
-    filled_by tell set = record { left = held_by tell; cells = set }
-
-    pub left_by : AddsWrites v start sectors old.may_hold b.may_hold
-    left_by s l bytes left = ⊎_elim inl (λ given. inr given.0) (w.left s l bytes left)
-
-    pub goes_by : GoesBetween old b
-    goes_by = record { goes_on = w.goes_on; same_sizes = w.same_sizes; reads_rise = w.reads_rise; writes_rise = w.writes_rise }
+    filled_by tell set = record { left = held_by (MayGive v start sectors) tells w tell; cells = set }
 
     -- after the syncs
-    module _ (n : BayState D) (keeps : Keeps b.may_hold n.may_hold) (same : n.held ≡ b.held) where
-      pub moments_end : StopsLeave b n (IsLeft b.may_hold) → StopsLeave old n (IsAmongWrites v start sectors old.may_hold)
-      moments_end moments = stops_then {Q = IsLeft b.may_hold} w.any_moment moments (λ image left s l. left_by s l (image s l) (left s l))
-
-      pub held_end : tells → IsLeftByWrite v start sectors old.held n.held
-      held_end tell = subst (λ (f : Image). IsLeftByWrite v start sectors old.held f) (sym same) (held_by tell)
-
-      pub left_end : AddsWrites v start sectors old.may_hold n.may_hold
-      left_end s l bytes left = left_by s l bytes (keeps s l bytes left)
-
-      pub goes_end : {m k : ℕ} → SpendsOver b n m k → GoesBetween old n
-      goes_end spends = record {
-        goes_on = λ bay leads. w.goes_on bay (spends.goes_on bay leads);
-        same_sizes = spends.same_sizes ∙ w.same_sizes;
-        reads_rise = λ s. omega (arith, w.reads_rise s, spends.reads_rise s);
-        writes_rise = λ s. omega (arith, w.writes_rise s, spends.writes_rise s);
-      }
-
-      -- a slot where nothing was pending has nothing pending
-      pub settled_end : tells → Fits old.sizes v → ((slot : ℕ) → slot < length old.sizes → IsTouchedSlot u slot → IsSettled n.may_hold n.held slot)
-          → (slot : ℕ) → IsSettled old.may_hold old.held slot → IsSettled n.may_hold n.held slot
-      settled_end tell fits synced slot settled = by (slice_index_or u slot false) refl
-        where
-          untouched : ((l : ℕ) (bytes : List ℕ) → MayGive v start sectors slot l bytes → IsTouchedSlot u slot → ⊥) → IsSettled n.may_hold n.held slot
-          untouched never l bytes left =
-              let was : old.may_hold slot l bytes = ⊎_elim (λ before. before) (λ given. absurd (never l bytes given.0 given.1)) (w.left slot l bytes (keeps slot l bytes left)) in
-              let held : b.held slot l ≡ old.held slot l = ⊎_elim (λ before. before) (λ given. absurd (never l (b.held slot l) given.0 given.1)) (w.held tell slot l) in
-              settled l bytes was ∙ sym (ap (λ (f : Image). f slot l) same ∙ held)
-
-          by : (touched : Bool) → slice_index_or u slot false ≡ touched → IsSettled n.may_hold n.held slot
-          by false is = untouched (λ l bytes given on. absurd (differ (sym is ∙ on)))
-            where
-              differ : false ≡ true → ⊥
-              differ e = cc
-          by true is = ⊎_elim
-              (λ (there : slot < length old.sizes). synced slot there is)
-              (λ (past : length old.sizes ≤ slot). untouched (λ l bytes given on. omega (arith, past, given_there old.sizes fits slot l bytes given)))
-              (cases_lt slot (length old.sizes))
-
+    module _ (n : BayState D) (same : n.held ≡ b.held) where
       -- the blocks are written
       pub written_end : (sure : Type 0) → tells → AllSet v start sectors b.held → (sure → AllRows v start (length sectors) (IsSummed v b.held)) → HasWritten v start sectors sure n.held
       written_end sure tell set summed = subst (λ (f : Image). HasWritten v start sectors sure f) (sym same) (record {

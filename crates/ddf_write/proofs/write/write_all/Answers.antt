@@ -7,9 +7,10 @@ use Rattle.ddf_write.specs.RowWrites.{AllSet, IsSure}
 use Rattle.ddf_write.proofs.CellsCount.{cells_are_copies}
 use Rattle.ddf_write.proofs.RowLoops.{failed_since, filled_then, stopped_since}
 use Rattle.ddf_write.proofs.RowReads.{sure_fewer}
-use Rattle.ddf_write.proofs.WriteEnds.{filled_by, goes_by, goes_end, held_by, held_end, left_by, left_end, moments_end, settled_end, written_end, written_noted, written_there}
+use Rattle.ddf_write.proofs.WriteEnds.{filled_by, given_there, written_end, written_noted, written_there}
 use Rattle.ddf_write.specs.Writing.{MayGive}
-use Rattle.ddf_write.proofs.Gives.{cells_written, may_cell}
+use Rattle.ddf_write.proofs.Gives.{both_written, cells_written, may_cell}
+use Rattle.ddf_cells.proofs.Ends.{goes_by, goes_end, held_by, held_end, left_by, left_end, moments_end, settled_end}
 use Rattle.ddf_cells.proofs.WriteSteps.{set_stays, writes_then}
 use Rattle.ddf_write.proofs.write.write_all.Goals as goal
 
@@ -18,13 +19,13 @@ set_rows-requires-clause-fits g c = rw (cells_written c.args.view.now c.args.sta
 
 -- the cells couldn't be written
 pub returns-in_err-write_cells-clause-held : goal.returns-in_err-write_cells-clause-held
-returns-in_err-write_cells-clause-held g c = λ tells. held_by c.args.view.now c.requires.known c.args.start c.args.from.now g.B.Bay.tells (cells_written c.args.view.now c.args.start c.args.from.now g.B.Bay.tells c.in_err-write_cells.ensures.writes) tells
+returns-in_err-write_cells-clause-held g c = λ tells. held_by (MayGive c.args.view.now c.args.start c.args.from.now) g.B.Bay.tells (cells_written c.args.view.now c.args.start c.args.from.now g.B.Bay.tells c.in_err-write_cells.ensures.writes) tells
 
 pub returns-in_err-write_cells-clause-left : goal.returns-in_err-write_cells-clause-left
-returns-in_err-write_cells-clause-left g c = left_by c.args.view.now c.requires.known c.args.start c.args.from.now g.B.Bay.tells (cells_written c.args.view.now c.args.start c.args.from.now g.B.Bay.tells c.in_err-write_cells.ensures.writes)
+returns-in_err-write_cells-clause-left g c = left_by (MayGive c.args.view.now c.args.start c.args.from.now) g.B.Bay.tells (cells_written c.args.view.now c.args.start c.args.from.now g.B.Bay.tells c.in_err-write_cells.ensures.writes)
 
 pub returns-in_err-write_cells-clause-goes : goal.returns-in_err-write_cells-clause-goes
-returns-in_err-write_cells-clause-goes g c = goes_by c.args.view.now c.requires.known c.args.start c.args.from.now g.B.Bay.tells (cells_written c.args.view.now c.args.start c.args.from.now g.B.Bay.tells c.in_err-write_cells.ensures.writes)
+returns-in_err-write_cells-clause-goes g c = goes_by (MayGive c.args.view.now c.args.start c.args.from.now) g.B.Bay.tells (cells_written c.args.view.now c.args.start c.args.from.now g.B.Bay.tells c.in_err-write_cells.ensures.writes)
 
 pub returns-in_err-write_cells-clause-cause : goal.returns-in_err-write_cells-clause-cause
 returns-in_err-write_cells-clause-cause g c =
@@ -33,19 +34,19 @@ returns-in_err-write_cells-clause-cause g c =
 
 -- the parity couldn't
 pub returns-in_err-set_rows-clause-any_moment : goal.returns-in_err-set_rows-clause-any_moment
-returns-in_err-set_rows-clause-any_moment g c = (writes_then (MayGive c.args.view.now c.args.start c.args.from.now) g.B.Bay.tells (cells_written c.args.view.now c.args.start c.args.from.now g.B.Bay.tells c.in_ok-write_cells.ensures.writes) c.in_err-set_rows.ensures.writes).any_moment
+returns-in_err-set_rows-clause-any_moment g c = (both_written c.args.view.now c.args.start c.args.from.now g.B.Bay.tells c.in_ok-write_cells.ensures.writes c.in_err-set_rows.ensures.writes).any_moment
 
 pub returns-in_err-set_rows-clause-held : goal.returns-in_err-set_rows-clause-held
 returns-in_err-set_rows-clause-held g c = λ tells.
-    held_by c.args.view.now c.requires.known c.args.start c.args.from.now g.B.Bay.tells (writes_then (MayGive c.args.view.now c.args.start c.args.from.now) g.B.Bay.tells (cells_written c.args.view.now c.args.start c.args.from.now g.B.Bay.tells c.in_ok-write_cells.ensures.writes) c.in_err-set_rows.ensures.writes) tells
+    held_by (MayGive c.args.view.now c.args.start c.args.from.now) g.B.Bay.tells (both_written c.args.view.now c.args.start c.args.from.now g.B.Bay.tells c.in_ok-write_cells.ensures.writes c.in_err-set_rows.ensures.writes) tells
 
 pub returns-in_err-set_rows-clause-left : goal.returns-in_err-set_rows-clause-left
 returns-in_err-set_rows-clause-left g c =
-    left_by c.args.view.now c.requires.known c.args.start c.args.from.now g.B.Bay.tells (writes_then (MayGive c.args.view.now c.args.start c.args.from.now) g.B.Bay.tells (cells_written c.args.view.now c.args.start c.args.from.now g.B.Bay.tells c.in_ok-write_cells.ensures.writes) c.in_err-set_rows.ensures.writes)
+    left_by (MayGive c.args.view.now c.args.start c.args.from.now) g.B.Bay.tells (both_written c.args.view.now c.args.start c.args.from.now g.B.Bay.tells c.in_ok-write_cells.ensures.writes c.in_err-set_rows.ensures.writes)
 
 pub returns-in_err-set_rows-clause-goes : goal.returns-in_err-set_rows-clause-goes
 returns-in_err-set_rows-clause-goes g c =
-    goes_by c.args.view.now c.requires.known c.args.start c.args.from.now g.B.Bay.tells (writes_then (MayGive c.args.view.now c.args.start c.args.from.now) g.B.Bay.tells (cells_written c.args.view.now c.args.start c.args.from.now g.B.Bay.tells c.in_ok-write_cells.ensures.writes) c.in_err-set_rows.ensures.writes)
+    goes_by (MayGive c.args.view.now c.args.start c.args.from.now) g.B.Bay.tells (both_written c.args.view.now c.args.start c.args.from.now g.B.Bay.tells c.in_ok-write_cells.ensures.writes c.in_err-set_rows.ensures.writes)
 
 pub returns-in_err-set_rows-clause-cause : goal.returns-in_err-set_rows-clause-cause
 returns-in_err-set_rows-clause-cause g c =
@@ -64,27 +65,27 @@ returns-in_err-set_rows-clause-calls g c = λ none. omega (arith, c.in_ok-write_
 -- all was written
 pub returns-clause-any_moment : goal.returns-clause-any_moment
 returns-clause-any_moment g c =
-    moments_end c.args.view.now c.requires.known c.args.start c.args.from.now g.B.Bay.tells (writes_then (MayGive c.args.view.now c.args.start c.args.from.now) g.B.Bay.tells (cells_written c.args.view.now c.args.start c.args.from.now g.B.Bay.tells c.in_ok-write_cells.ensures.writes) c.in_ok-set_rows.ensures.writes)
+    moments_end (MayGive c.args.view.now c.args.start c.args.from.now) g.B.Bay.tells (both_written c.args.view.now c.args.start c.args.from.now g.B.Bay.tells c.in_ok-write_cells.ensures.writes c.in_ok-set_rows.ensures.writes)
     (g.B.Bay.disks c.sync_touched.new.bay) c.sync_touched.ensures.left c.sync_touched.ensures.held c.sync_touched.ensures.any_moment
 
 pub returns-clause-held : goal.returns-clause-held
 returns-clause-held g c =
-    held_end c.args.view.now c.requires.known c.args.start c.args.from.now g.B.Bay.tells (writes_then (MayGive c.args.view.now c.args.start c.args.from.now) g.B.Bay.tells (cells_written c.args.view.now c.args.start c.args.from.now g.B.Bay.tells c.in_ok-write_cells.ensures.writes) c.in_ok-set_rows.ensures.writes)
+    held_end (MayGive c.args.view.now c.args.start c.args.from.now) g.B.Bay.tells (both_written c.args.view.now c.args.start c.args.from.now g.B.Bay.tells c.in_ok-write_cells.ensures.writes c.in_ok-set_rows.ensures.writes)
     (g.B.Bay.disks c.sync_touched.new.bay) c.sync_touched.ensures.left c.sync_touched.ensures.held
 
 pub returns-clause-left : goal.returns-clause-left
 returns-clause-left g c =
-    left_end c.args.view.now c.requires.known c.args.start c.args.from.now g.B.Bay.tells (writes_then (MayGive c.args.view.now c.args.start c.args.from.now) g.B.Bay.tells (cells_written c.args.view.now c.args.start c.args.from.now g.B.Bay.tells c.in_ok-write_cells.ensures.writes) c.in_ok-set_rows.ensures.writes)
+    left_end (MayGive c.args.view.now c.args.start c.args.from.now) g.B.Bay.tells (both_written c.args.view.now c.args.start c.args.from.now g.B.Bay.tells c.in_ok-write_cells.ensures.writes c.in_ok-set_rows.ensures.writes)
     (g.B.Bay.disks c.sync_touched.new.bay) c.sync_touched.ensures.left c.sync_touched.ensures.held
 
 pub returns-clause-goes : goal.returns-clause-goes
 returns-clause-goes g c =
-    goes_end c.args.view.now c.requires.known c.args.start c.args.from.now g.B.Bay.tells (writes_then (MayGive c.args.view.now c.args.start c.args.from.now) g.B.Bay.tells (cells_written c.args.view.now c.args.start c.args.from.now g.B.Bay.tells c.in_ok-write_cells.ensures.writes) c.in_ok-set_rows.ensures.writes)
+    goes_end (MayGive c.args.view.now c.args.start c.args.from.now) g.B.Bay.tells (both_written c.args.view.now c.args.start c.args.from.now g.B.Bay.tells c.in_ok-write_cells.ensures.writes c.in_ok-set_rows.ensures.writes)
     (g.B.Bay.disks c.sync_touched.new.bay) c.sync_touched.ensures.left c.sync_touched.ensures.held c.sync_touched.ensures.spends
 
 pub returns-clause-cause : goal.returns-clause-cause
 returns-clause-cause g c =
-    let w = writes_then (MayGive c.args.view.now c.args.start c.args.from.now) g.B.Bay.tells (cells_written c.args.view.now c.args.start c.args.from.now g.B.Bay.tells c.in_ok-write_cells.ensures.writes) c.in_ok-set_rows.ensures.writes in
+    let w = both_written c.args.view.now c.args.start c.args.from.now g.B.Bay.tells c.in_ok-write_cells.ensures.writes c.in_ok-set_rows.ensures.writes in
     MatchResult-weaker c.sync_touched.result c.sync_touched.ensures.failed (λ done none. none)
     (λ slot rose. inl (rose_since _ _ _ (w.writes_rise slot) rose))
 
@@ -105,7 +106,7 @@ returns-clause-written g c = λ tells.
     λ slot failed. subst (λ (m : ℕ). Rose (old.failed_reads slot) m) (sym (ap (λ (f : ℕ → ℕ). f slot) c.sync_touched.ensures.reads)) (failed_since v c.args.start c.args.from.now g.B.Bay.tells first next slot failed) in
     on_ok_weaker c.sync_touched.result
     (λ settled.
-    written_end v c.requires.known c.args.start c.args.from.now g.B.Bay.tells w (g.B.Bay.disks c.sync_touched.new.bay) c.sync_touched.ensures.left c.sync_touched.ensures.held (IsSure (Failed old n) v old.held) tells all.cells
+    written_end v c.requires.known c.args.start c.args.from.now g.B.Bay.tells w (g.B.Bay.disks c.sync_touched.new.bay) c.sync_touched.ensures.held (IsSure (Failed old n) v old.held) tells all.cells
     (λ sure. c.in_ok-set_rows.ensures.summed tells old.held filled (sure_fewer (Failed a b) (Failed old n) v old.held fewer sure)))
     c.sync_touched.ensures.settled
 
@@ -129,10 +130,10 @@ returns-clause-durable g c = λ tells.
 pub returns-clause-settled : goal.returns-clause-settled
 returns-clause-settled g c = λ tells.
     let v = c.args.view.now in
-    let w = writes_then (MayGive v c.args.start c.args.from.now) g.B.Bay.tells (cells_written c.args.view.now c.args.start c.args.from.now g.B.Bay.tells c.in_ok-write_cells.ensures.writes) c.in_ok-set_rows.ensures.writes in
+    let w = both_written v c.args.start c.args.from.now g.B.Bay.tells c.in_ok-write_cells.ensures.writes c.in_ok-set_rows.ensures.writes in
     on_ok_weaker c.sync_touched.result
     (λ synced slot settled.
-    settled_end v c.requires.known c.args.start c.args.from.now g.B.Bay.tells w (g.B.Bay.disks c.sync_touched.new.bay) c.sync_touched.ensures.left c.sync_touched.ensures.held tells c.requires.fits (rw w.same_sizes at synced) slot settled)
+    settled_end (MayGive v c.args.start c.args.from.now) g.B.Bay.tells w (g.B.Bay.disks c.sync_touched.new.bay) c.sync_touched.ensures.left c.sync_touched.ensures.held tells (given_there v c.requires.known c.args.start c.args.from.now (g.B.Bay.disks c.args.bay.now).sizes c.requires.fits) (rw w.same_sizes at synced) slot settled)
     c.sync_touched.ensures.settled
 
 pub returns-clause-asked : goal.returns-clause-asked
@@ -143,7 +144,7 @@ returns-clause-sectors g c = omega (arith, cells_are_copies c.args.view.now c.re
 
 pub returns-clause-calls : goal.returns-clause-calls
 returns-clause-calls g c = λ none.
-    let w = writes_then (MayGive c.args.view.now c.args.start c.args.from.now) g.B.Bay.tells (cells_written c.args.view.now c.args.start c.args.from.now g.B.Bay.tells c.in_ok-write_cells.ensures.writes) c.in_ok-set_rows.ensures.writes in
+    let w = both_written c.args.view.now c.args.start c.args.from.now g.B.Bay.tells c.in_ok-write_cells.ensures.writes c.in_ok-set_rows.ensures.writes in
     let sizes = ap length w.same_sizes in
     omega (arith, c.in_ok-write_cells.ensures.costs.calls_most, c.in_ok-set_rows.ensures.calls none, c.sync_touched.ensures.spends.costs.calls_most, sizes)
 
