@@ -111,7 +111,7 @@ module _ (found : GroupValue) (asked : List Change) (timestamp : ℕ) (ready : R
   recovered = changes_in found (option_to_list (recovery_of timestamp found))
 
   -- What the steps issue together.
-  changes_are : changes_in found (map (λ (one : ReadyStep). one.step) (all_ready ready))
+  pub changes_are : changes_in found (map (λ (one : ReadyStep). one.step) (all_ready ready))
       ≡ recovered ++ changes_in found (map (λ (one : ReadyStep). one.step) ready.steps)
   changes_are =
       ap (changes_in found) (map-append (λ (one : ReadyStep). one.step) (option_to_list ready.recovery) ready.steps)
@@ -120,7 +120,7 @@ module _ (found : GroupValue) (asked : List Change) (timestamp : ℕ) (ready : R
       (recovery_listed ready.recovery ∙ ap (λ (step : Option Step). option_to_list step) was.is_recovery)
 
   -- The recovery doesn't lower the sequence number.
-  no_lower : found.config.sequence ≤ (config_recovered found).sequence
+  pub no_lower : found.config.sequence ≤ (config_recovered found).sequence
   unfolding config_recovered
   no_lower = by (some found.absent) refl ready.recovery refl
     where

@@ -1,0 +1,4 @@
+mod Above
+mod Below
+mod Floored
+mod Course
