@@ -1,39 +1,29 @@
 -- So what is written to one array changes no sector of another.
-use Rattle.std.proofs.Common.{◌≡◌, ◌≢◌, ◌∙◌, ◌⊎◌, inl, inr, ⊎_elim, ℕ, ◌+◌, ◌<◌, Bool, true, false, not, List, [], ◌∷◌, Option, Some, None, Ok, refl, sym, ap, subst, arith, length, slice_get, ◌&&◌}
-use Rattle.std.specs.List.{list_all, list_any}
+use Rattle.std.proofs.Common.{◌≡◌, ◌≢◌, ◌∙◌, ◌⊎◌, inl, inr, ⊎_elim, ℕ, ◌+◌, ◌<◌, true, List, Option, Some, None, Ok, sym, ap, subst, arith, length, slice_get}
+use Rattle.std.specs.List.{list_all}
 use Rattle.std.specs.Map.{lookup}
 use Rattle.ddf_bay.specs.Sectors.{Image}
 use Rattle.ddf_primary.proofs.ShapeFacts.{depth_le}
 use Rattle.ddf_config.specs.declared.array.Array.{Array}
 use Rattle.ddf_config.specs.declared.element.Position.{Position}
 use Rattle.ddf_config.specs.declared.extent.Extent.{Extent}
-use Rattle.ddf_config.specs.declared.member.Member.{Member}
-use Rattle.ddf_config.specs.declared.refusal.Refusal.{Refusal}
-use Rattle.ddf_config.specs.declared.refusal.Refusal.TheVariants.{Shape, Lost}
 use Rattle.ddf_config.specs.declared.seat.Seat.{Seat}
 use Rattle.ddf_config.specs.Configuration.{Configuration}
 use Rattle.ddf_config.specs.ElementValue.{ElementValue}
 use Rattle.ddf_config.specs.Extents.{array_extents, extent, extents, part_extents}
-use Rattle.ddf_config.specs.Levels.{unserved_level}
 use Rattle.ddf_config.specs.Members.{same_guid}
-use Rattle.ddf_config.specs.Refusals.{refuse_if}
 use Rattle.ddf_config.specs.Seats.{floor_of, slot_of}
-use Rattle.ddf_config.specs.Served.{is_served, lies_well, meets_extent}
-use Rattle.ddf_config.specs.Shapes.{has_shapes, has_tiers}
-use Rattle.ddf_config.specs.Unusable.{is_served_on, passes_floor, unusable}
-use Rattle.ddf_config.specs.Within.{is_complete}
-use Rattle.ddf_config.proofs.Firsts as firsts
+use Rattle.ddf_config.specs.Served.{lies_well, meets_extent}
 use Rattle.ddf_array.specs.Apart.{AreSeats}
 use Rattle.ddf_array.specs.declared.part.Part.{Part}
 use Rattle.ddf_array.specs.Places.{site_on}
 use Rattle.ddf_array.specs.Sources.{copies}
 use Rattle.ddf_array.specs.Viewing.{view_of}
 use Rattle.ddf_array.specs.Volume.{Volume, IsVolume}
-use Rattle.ddf_array.proofs.Bools.{and_first, and_second}
 use Rattle.ddf_array.proofs.Consistent.{to_flat}
 use Rattle.ddf_array.proofs.Enough.{all_pass}
 use Rattle.ddf_array.proofs.Losses.{mapped_at}
-use Rattle.ddf_array.proofs.Usable.{complete, shapes}
+use Rattle.ddf_array.proofs.Usable.{complete, lie_well, shapes}
 use Rattle.ddf_array.proofs.Viewed.{from_view}
 use Rattle.ddf_cells.specs.Alike.{AreAlike, IsCell}
 use Rattle.ddf_cells.specs.Apart.{LiesAt}
@@ -50,18 +40,6 @@ use Rattle.ddf_keeping.specs.Over.{AreCurrentSeats, IsOver}
 use Rattle.ddf_keeping.proofs.Apart.{HasExtent, count_in, count_in_two, count_one, entry_of, few, has_extent, meets_itself, own_slots, slot_is, they_meet}
 use Rattle.ddf_keeping.proofs.Entries.{guid_is}
 use Rattle.ddf_keeping.proofs.Lessened.{slot_ends}
-
-holds : (b : Bool) (refusal : Refusal) → refuse_if (not b) refusal ≡ None → b ≡ true
-holds true refusal e = refl
-holds false refusal e = absurd (cc)
-
--- the extents of an array that can be used lie well
-all_well : (members : List (ℕ × Member)) (seats : List Seat) (all : List Extent) (array : Array) → unusable members seats all array ≡ None → list_all (lies_well members all) (array_extents array) ≡ true
-all_well members seats all array usable =
-    let served = holds (is_served_on members seats all array) Shape
-    (firsts.all_pass (unserved_level array ∷ []) (refuse_if (not (is_served_on members seats all array)) Shape) (refuse_if (not (is_complete array)) Lost ∷ []) usable) in
-    and_second (has_shapes array && has_tiers array) (list_all (lies_well members all) (array_extents array))
-    (and_first (is_served members all array) (not (list_any (passes_floor seats) (array_extents array))) served)
 
 same_key : (o : Option (List ℕ × Array)) (a b : List ℕ) (x y : Array) → o ≡ Some (a, x) → o ≡ Some (b, y) → a ≡ b
 same_key None a b x y one other = absurd (cc)
@@ -97,7 +75,7 @@ used config guid seats v e known =
         complete = complete config.members seats (extents config.arrays) view.array view.usable;
         shapes = shapes config.members seats (extents config.arrays) view.array view.usable;
       };
-      well = all_well config.members seats (extents config.arrays) view.array view.usable;
+      well = lie_well config.members seats (extents config.arrays) view.array view.usable;
     }
 
 module _ (config : Configuration) (guid : List ℕ) (seats : List Seat) (v : Volume) (use_of : IsUsed config guid seats v) (are : AreCurrentSeats config.members seats) (seated : AreSeats config.members seats) where

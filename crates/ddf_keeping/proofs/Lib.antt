@@ -13,3 +13,4 @@ pub mod Agreed
 pub mod Apart
 pub mod Clearly
 pub mod Created
+pub mod Readied

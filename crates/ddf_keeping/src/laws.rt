@@ -1,5 +1,5 @@
 // Laws of what the arrays of groups keep: functions that do nothing, whose contracts are the laws.
-ghost use Rattle.std.specs.Prelude.{◌≡◌, ◌≢◌, ◌⊎◌, ◌<◌, ℕ, Bool, true, false, List, None, Some, Ok};
+ghost use Rattle.std.specs.Prelude.{◌≡◌, ◌≢◌, ◌⊎◌, ◌<◌, ℕ, Bool, true, false, List, None, Some, Ok, is_some};
 ghost use Rattle.std.specs.Map.{lookup};
 ghost use Rattle.ddf_bay.specs.Sectors.{Image};
 ghost use Rattle.ddf_config.specs.declared.member.Member.{Member};
@@ -16,17 +16,21 @@ ghost use Rattle.ddf_plan.specs.Lose.{lost_array};
 ghost use Rattle.ddf_plan.specs.Members.{members_after};
 ghost use Rattle.ddf_array.specs.Apart.{AreSeats};
 ghost use Rattle.ddf_array.specs.Losing.{AreFewer};
+ghost use Rattle.ddf_array.specs.Redundant.{IsRedundant};
 ghost use Rattle.ddf_array.specs.Viewing.{view_of};
 ghost use Rattle.ddf_array.specs.Volume.{Volume, IsVolume};
+ghost use Rattle.ddf_array.specs.Within.{is_within};
 ghost use Rattle.ddf_cells.specs.Alike.{AreAlike};
 ghost use Rattle.ddf_cells.specs.Apart.{LiesAt};
+ghost use Rattle.ddf_cells.specs.Degraded.{is_degraded};
 ghost use Rattle.ddf_cells.specs.Writing.{StaysBut};
 ghost use Rattle.ddf_write.specs.Writing.{IsLeftByWrite};
 ghost use Rattle.ddf_resync.specs.Resyncing.{MayResync};
 ghost use Rattle.ddf_rebuild.specs.Target.{IsTargetCell};
 ghost use Rattle.ddf_data.specs.Allowed.{Allowed};
-ghost use Rattle.ddf_data.specs.Changing.{IsWritable};
+ghost use Rattle.ddf_data.specs.Changing.{IsWritable, NoneAbsent};
 ghost use Rattle.ddf_data.specs.Fewer.{IsFewer};
+ghost use Rattle.ddf_data.specs.Kept.{IsKeptData};
 ghost use Rattle.ddf_keeping.specs.Agreeing.{AgreeOn};
 ghost use Rattle.ddf_keeping.specs.Clear.{ChangesItsCells};
 ghost use Rattle.ddf_keeping.specs.Clearing.{IsInSync, IsSameButMark, MayBeCleared, MayBeInSync};
@@ -100,6 +104,21 @@ pub fn a_change_keeps_the_data_of_a_group()
     ensures { (config : Configuration) (change : Change) (sequence : ℕ) (seats fewer : List Seat) (image : Image) (promises : Promises)
         → AreCurrentSeats config.members seats → AreCurrentSeats (members_after config change) fewer → AreFewer seats fewer → MayChange config seats image promises change
         → KeepsArrays config seats image promises → KeepsArrays (changed_at config change sequence) fewer image promises }
+{}
+
+/// The mark may be cleared of an array that is redundant and within its level, and of which no element that keeps parity lacks a position: as behind a
+/// resync, a write, and a scrub that finds nothing.
+pub fn a_redundant_array_may_be_unmarked()
+    ensures { (is_absent : ℕ → ℕ → Bool) (volume : Volume) (image : Image) (allowed : Allowed) → IsVolume volume → is_within volume ≡ true
+        → is_degraded volume ≡ false → IsRedundant volume image → IsKeptData is_absent volume image allowed → MayBeCleared is_absent volume image allowed }
+{}
+
+/// Where each current member has a seat, an array that can be used lacks no disk that a current member has.
+pub fn a_view_over_all_members_lacks_no_disk()
+    ensures { (config : Configuration) (guid : List ℕ) (seats : List Seat) (volume : Volume) (array : Array) → view_of config guid seats ≡ Ok volume
+        → lookup (same_guid guid) config.arrays ≡ Some array
+        → ((reference : ℕ) → is_current config.members reference ≡ true → is_some (floor_of seats reference) ≡ true)
+        → (element : ℕ) → NoneAbsent (absent_in config.members seats array.elements) element }
 {}
 
 /// What an array keeps rests on its own members and their seats alone, whichever others there are.
