@@ -14,3 +14,4 @@ pub mod Apart
 pub mod Clearly
 pub mod Created
 pub mod Readied
+pub mod Vacant

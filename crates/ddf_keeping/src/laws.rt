@@ -14,6 +14,9 @@ ghost use Rattle.ddf_plan.specs.declared.change.Change.TheVariants.{Create};
 ghost use Rattle.ddf_plan.specs.Changes.{changed_at};
 ghost use Rattle.ddf_plan.specs.Lose.{lost_array};
 ghost use Rattle.ddf_plan.specs.Members.{members_after};
+ghost use Rattle.ddf_repair.specs.declared.beginning.Begun.TheVariants.{Fresh};
+ghost use Rattle.ddf_repair.specs.declared.first.Target.{Target};
+ghost use Rattle.ddf_repair.specs.Begin.{begun};
 ghost use Rattle.ddf_array.specs.Apart.{AreSeats};
 ghost use Rattle.ddf_array.specs.Losing.{AreFewer};
 ghost use Rattle.ddf_array.specs.Redundant.{IsRedundant};
@@ -119,6 +122,12 @@ pub fn a_view_over_all_members_lacks_no_disk()
         → lookup (same_guid guid) config.arrays ≡ Some array
         → ((reference : ℕ) → is_current config.members reference ≡ true → is_some (floor_of seats reference) ≡ true)
         → (element : ℕ) → NoneAbsent (absent_in config.members seats array.elements) element }
+{}
+
+/// The change by which a rebuild begins has what it asks for: its position is out of sync, on a disk that is no current member's.
+pub fn a_rebuild_that_begins_has_what_it_asks_for()
+    ensures { (config : Configuration) (guid : List ℕ) (seats : List Seat) (target : Target) (change : Change) (all : List Seat) (image : Image) (promises : Promises)
+        → begun config guid seats ≡ Ok (Fresh target change) → MayChange config all image promises change }
 {}
 
 /// What an array keeps rests on its own members and their seats alone, whichever others there are.
