@@ -41,13 +41,13 @@ is_current_by config disk e =
 -- ---- slots that have a seat
 
 module _ (floor : ℕ → ℕ) (disk : ℕ → Disk) where
-  abbrev seat_of : ℕ → Seat
+  abbrev pub seat_of : ℕ → Seat
   seat_of slot = record { reference = (disk slot).reference; slot = slot; floor = floor slot; bad = 0 }
 
-  abbrev seats_by : (ℕ → Bool) → (a n : ℕ) → List Seat
+  abbrev pub seats_by : (ℕ → Bool) → (a n : ℕ) → List Seat
   seats_by here a n = filter_map (λ slot. seat_if (here slot) floor (disk slot) slot) (range_with_len a n)
 
-  abbrev found : (ℕ → Bool) → (reference a n : ℕ) → Option Seat
+  abbrev pub found : (ℕ → Bool) → (reference a n : ℕ) → Option Seat
   found here reference a n = find (λ (seat : Seat). nat_eq seat.reference reference) (seats_by here a n)
 
   pub record HasSeat (here : ℕ → Bool) (reference : ℕ) (seat : Seat) : Type 0 where
@@ -106,6 +106,12 @@ module _ (floor : ℕ → ℕ) (disk : ℕ → Disk) where
   seat_below here reference a zero seat e = absurd (cc)
   seat_below here reference a (suc n) seat e = seat_below_by here reference a n seat (here a) refl e (seat_below here reference (a + 1) n seat)
 
+  both : (a b c : ℕ) → a ≡ c → b ≡ c → a ≡ b
+  both a b c one other = one ∙ sym other
+
+  same_of : (x y : Seat) (s t : ℕ) → x ≡ seat_of s → s ≡ t → y ≡ seat_of t → x ≡ y
+  same_of x y s t one same other = one ∙ ap seat_of same ∙ sym other
+
   -- ---- fewer slots
 
   module _ (here fewer : ℕ → Bool) (n : ℕ) (less : (slot : ℕ) → fewer slot ≡ true → here slot ≡ true)
@@ -117,8 +123,8 @@ module _ (floor : ℕ → ℕ) (disk : ℕ → Disk) where
         let slot_is : seat.slot ≡ has.slot = ap (λ (s : Seat). s.slot) has.is_seat in
         let other = is_found here reference 0 n has.slot (omega arith) (omega (arith, bounds.1, slot_is)) (less has.slot has.is_here) has.is_reference in
         let its = has_seat here reference 0 n other.0 other.1 in
-        let one = alone its.slot has.slot its.is_here (less has.slot has.is_here) (its.is_reference ∙ sym has.is_reference) in
-        other.1 ∙ ap Some (its.is_seat ∙ ap seat_of one ∙ sym has.is_seat)
+        let one = alone its.slot has.slot its.is_here (less has.slot has.is_here) (both (disk its.slot).reference (disk has.slot).reference reference its.is_reference has.is_reference) in
+        other.1 ∙ ap Some (same_of other.0 seat its.slot has.slot its.is_seat one has.is_seat)
 
     pub are_fewer : AreFewer (seats_by here 0 n) (seats_by fewer 0 n)
     are_fewer reference = by (found fewer reference 0 n) refl
