@@ -1,0 +1,76 @@
+// Laws of groups on disks and of their data: functions that do nothing, whose contracts are the laws.
+ghost use Rattle.std.specs.Prelude.{◌≡◌, ◌⊎◌, ◌-◌, ◌<◌, ◌≤◌, ◌^◌, ℕ, List, true};
+ghost use Rattle.ddf_bay.specs.Sectors.{Image, IsLeft};
+ghost use Rattle.ddf_config.specs.declared.seat.Seat.{Seat};
+ghost use Rattle.ddf_config.specs.Configuration.{Configuration};
+ghost use Rattle.ddf_copy.specs.declared.copy.DiskCopy.{DiskCopy};
+ghost use Rattle.ddf_copy.specs.declared.which.Which.{Which};
+ghost use Rattle.ddf_update.specs.declared.prepared.Mode.{Mode};
+ghost use Rattle.ddf_update.specs.declared.prepared.Prepared.{Prepared};
+ghost use Rattle.ddf_update.specs.Changes.{IsLeftChangingAll, MayChangeAll, SlotChange};
+ghost use Rattle.ddf_update.specs.Prepared.{IsPrepared, writes_anchor};
+ghost use Rattle.ddf_update.specs.Update.{IsWritten};
+ghost use Rattle.ddf_array.specs.Apart.{AreSeats};
+ghost use Rattle.ddf_array.specs.Sound.{AreSectors};
+ghost use Rattle.ddf_array.specs.Viewing.{view_of};
+ghost use Rattle.ddf_assembly.specs.Committed.{synced};
+ghost use Rattle.ddf_assembly.specs.Group.{GroupValue, floor_of};
+ghost use Rattle.ddf_history.specs.Groups.{groups};
+ghost use Rattle.ddf_history.specs.Issued.{Past};
+ghost use Rattle.ddf_stops.specs.AtEnd.{IsAtEnd};
+ghost use Rattle.ddf_keeping.specs.Grouped.{KeepsArrays, Promises};
+ghost use Rattle.ddf_promise.specs.Carried.{IsAllData};
+ghost use Rattle.ddf_promise.specs.Promised.{KeepsData, seats_in};
+ghost use Rattle.ddf_carrying.specs.Seats.{AreAlikeSeats, AreOnSlots};
+ghost use Rattle.ddf_carrying.specs.Writing.{LieAtFloors};
+
+use ddf_bay::Bay;
+
+/// The seats of a group that stands at the end of its history are those that the history's configuration lists among the slots that aren't
+/// lost, where none of their slots is lost, and each has the floor of its slot.
+pub fn the_seats_of_a_settled_group_are_those_of_its_history<B: Bay>(bay: &B)
+    ensures { (group : List ℕ) (past : Past (groups group)) (floor : ℕ → ℕ) (found : GroupValue) → IsAtEnd group past (B.disks bay.now) found
+        → AreOnSlots group past floor found.seats → AreAlikeSeats found.seats (seats_in group past floor found.config) }
+{}
+
+/// Each of its seats is a member's, and no slot has the seats of two.
+pub fn a_settled_groups_seats_are_members<B: Bay>(bay: &B)
+    ensures { (group : List ℕ) (past : Past (groups group)) (found : GroupValue) → IsAtEnd group past (B.disks bay.now) found
+        → AreSeats found.config.members found.seats }
+{}
+
+/// An array has one view over seats that are alike, or one refusal.
+pub fn alike_seats_give_one_view()
+    ensures { (config : Configuration) (guid : List ℕ) (one other : List Seat) → AreAlikeSeats one other → view_of config guid one ≡ view_of config guid other }
+{}
+
+/// At the end of its history a group's data are kept exactly where its arrays keep theirs over its seats.
+pub fn a_settled_group_keeps_what_its_history_does<B: Bay>(bay: &B)
+    ensures there { (group : List ℕ) (past : Past (groups group)) (floor : ℕ → ℕ) (found : GroupValue) → IsAtEnd group past (B.disks bay.now) found
+        → AreOnSlots group past floor found.seats → (image : Image) (promises : Promises) → KeepsData group past floor image promises
+        → KeepsArrays found.config found.seats image promises }
+    ensures back { (group : List ℕ) (past : Past (groups group)) (floor : ℕ → ℕ) (found : GroupValue) → IsAtEnd group past (B.disks bay.now) found
+        → AreOnSlots group past floor found.seats → (image : Image) (promises : Promises) → KeepsArrays found.config found.seats image promises
+        → KeepsData group past floor image promises }
+{}
+
+/// What is written of a copy lies at or past the copy's floor, but for the last sector of a disk that is founded, or taken over from another group.
+pub fn a_copy_is_written_at_or_past_its_floor()
+    ensures { (copy : DiskCopy) (last : Which) (mode : Mode) (update : Prepared) (size l : ℕ) → IsPrepared copy last mode update → IsWritten size update l
+        → (floor_of copy ≤ l) ⊎ ((writes_anchor mode ≡ true) × (l ≡ size - 1)) }
+{}
+
+/// Whatever a stop leaves while a step is written, or a recovery behind its syncs, keeps the data of the group, where whatever it might have left before
+/// did.
+pub fn writing_records_keeps_the_data<B: Bay>(bay: &B)
+    ensures step { (group : List ℕ) (past : Past (groups group)) (floor : ℕ → ℕ) → ((slot : ℕ) → floor slot < 2 ^ 64) → (promises : Promises)
+        → (slots : List ℕ) (seat : ℕ → SlotChange) (updates : List Prepared) (image : Image) → IsLeft (B.disks bay.now).may_hold (B.disks bay.now).held
+        → MayChangeAll (B.disks bay.now) slots seat updates → LieAtFloors (B.disks bay.now) floor slots seat updates
+        → IsAllData group past floor (B.disks bay.now) promises → AreSectors image
+        → IsLeftChangingAll (B.disks bay.now) slots seat updates image → KeepsData group past floor image promises }
+    ensures recovery { (group : List ℕ) (past : Past (groups group)) (floor : ℕ → ℕ) → ((slot : ℕ) → floor slot < 2 ^ 64) → (promises : Promises)
+        → (seats slots : List ℕ) (seat : ℕ → SlotChange) (updates : List Prepared) (image : Image) → IsLeft (B.disks bay.now).may_hold (B.disks bay.now).held
+        → MayChangeAll (synced (B.disks bay.now) seats) slots seat updates → LieAtFloors (synced (B.disks bay.now) seats) floor slots seat updates
+        → IsAllData group past floor (B.disks bay.now) promises → AreSectors image
+        → IsLeftChangingAll (synced (B.disks bay.now) seats) slots seat updates image → KeepsData group past floor image promises }
+{}

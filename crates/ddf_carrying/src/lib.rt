@@ -1,0 +1,10 @@
+//! What groups on disks carry of their arrays' data: the laws that join histories of data with what calls promise of disks.
+#![tactic(auto)]
+
+mod laws;
+
+pub use laws::{
+    a_copy_is_written_at_or_past_its_floor, a_settled_group_keeps_what_its_history_does,
+    a_settled_groups_seats_are_members, alike_seats_give_one_view,
+    the_seats_of_a_settled_group_are_those_of_its_history, writing_records_keeps_the_data,
+};

@@ -1,0 +1,16 @@
+pub mod Ranges
+pub mod From
+pub mod Sitting
+pub mod Same
+pub mod Fewer
+pub mod Lessened
+pub mod Consistent
+pub mod Plain
+pub mod Written
+pub mod Resynced
+pub mod Totals
+pub mod Items
+pub mod InSync
+pub mod Finished
+pub mod Given
+pub mod Histories

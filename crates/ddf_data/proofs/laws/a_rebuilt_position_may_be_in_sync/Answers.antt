@@ -1,0 +1,5 @@
+use Rattle.ddf_data.proofs.Finished.{kept_finished}
+use Rattle.ddf_data.proofs.laws.a_rebuilt_position_may_be_in_sync.Goals as goal
+
+pub returns : goal.returns
+returns c = kept_finished

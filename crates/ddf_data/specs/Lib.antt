@@ -1,0 +1,5 @@
+pub mod Allowed
+pub mod Kept
+pub mod Fewer
+pub mod Changing
+pub mod History

@@ -1,0 +1,17 @@
+pub mod Lessened
+pub mod Levels
+pub mod Parts
+pub mod Staying
+pub mod Lost
+pub mod Cleared
+pub mod Synced
+pub mod Keeping
+pub mod Entries
+pub mod Named
+pub mod Changed
+pub mod Agreed
+pub mod Apart
+pub mod Clearly
+pub mod Created
+pub mod Readied
+pub mod Vacant
