@@ -1,3 +1,4 @@
 pub mod Alike
 pub mod Ended
 pub mod Records
+pub mod Blocks

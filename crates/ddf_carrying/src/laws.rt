@@ -1,5 +1,6 @@
 // Laws of groups on disks and of their data: functions that do nothing, whose contracts are the laws.
-ghost use Rattle.std.specs.Prelude.{◌≡◌, ◌⊎◌, ◌-◌, ◌<◌, ◌≤◌, ◌^◌, ℕ, List, true};
+ghost use Rattle.std.specs.Prelude.{◌≡◌, ◌⊎◌, ◌-◌, ◌<◌, ◌≤◌, ◌^◌, ℕ, List, Ok, Some, false, true};
+ghost use Rattle.ddf_bay.specs.Moments.{IsSettled};
 ghost use Rattle.ddf_bay.specs.Sectors.{Image, IsLeft};
 ghost use Rattle.ddf_config.specs.declared.seat.Seat.{Seat};
 ghost use Rattle.ddf_config.specs.Configuration.{Configuration};
@@ -11,8 +12,18 @@ ghost use Rattle.ddf_update.specs.Changes.{IsLeftChangingAll, MayChangeAll, Slot
 ghost use Rattle.ddf_update.specs.Prepared.{IsPrepared, writes_anchor};
 ghost use Rattle.ddf_update.specs.Update.{IsWritten};
 ghost use Rattle.ddf_array.specs.Apart.{AreSeats};
+ghost use Rattle.ddf_array.specs.Redundant.{IsRedundant};
 ghost use Rattle.ddf_array.specs.Sound.{AreSectors};
 ghost use Rattle.ddf_array.specs.Viewing.{view_of};
+ghost use Rattle.ddf_array.specs.Volume.{Volume, IsVolume};
+ghost use Rattle.ddf_volume.specs.Reading.{IsOn};
+ghost use Rattle.ddf_cells.specs.Degraded.{is_degraded};
+ghost use Rattle.ddf_cells.specs.Writing.{IsLeftBut};
+ghost use Rattle.ddf_write.specs.Writing.{HasWritten, IsAmongWrites};
+ghost use Rattle.ddf_resync.specs.Resyncing.{IsAmongResynced};
+ghost use Rattle.ddf_rebuild.specs.Target.{IsTargetCell};
+ghost use Rattle.ddf_data.specs.Allowed.{Allowed, once_consistent, once_written, while_written};
+ghost use Rattle.ddf_data.specs.Changing.{IsWritable};
 ghost use Rattle.ddf_assembly.specs.Committed.{synced};
 ghost use Rattle.ddf_assembly.specs.Group.{GroupValue, floor_of};
 ghost use Rattle.ddf_history.specs.Groups.{groups};
@@ -20,7 +31,7 @@ ghost use Rattle.ddf_history.specs.Issued.{Past};
 ghost use Rattle.ddf_stops.specs.AtEnd.{IsAtEnd};
 ghost use Rattle.ddf_keeping.specs.Grouped.{KeepsArrays, Promises};
 ghost use Rattle.ddf_promise.specs.Carried.{IsAllData};
-ghost use Rattle.ddf_promise.specs.Promised.{KeepsData, seats_in};
+ghost use Rattle.ddf_promise.specs.Promised.{IsAlone, KeepsData, seats_in, with_promise};
 ghost use Rattle.ddf_carrying.specs.Seats.{AreAlikeSeats, AreOnSlots};
 ghost use Rattle.ddf_carrying.specs.Writing.{LieAtFloors};
 
@@ -73,4 +84,47 @@ pub fn writing_records_keeps_the_data<B: Bay>(bay: &B)
         → MayChangeAll (synced (B.disks bay.now) seats) slots seat updates → LieAtFloors (synced (B.disks bay.now) seats) floor slots seat updates
         → IsAllData group past floor (B.disks bay.now) promises → AreSectors image
         → IsLeftChangingAll (synced (B.disks bay.now) seats) slots seat updates image → KeepsData group past floor image promises }
+{}
+
+/// Whatever a stop leaves while blocks of an array of a settled group are written keeps the data of the group, with the old bytes of these blocks or the
+/// new ones; once they are written, with the new ones.
+pub fn writing_blocks_keeps_the_data<B: Bay>(bay: &B)
+    ensures interrupted { (group : List ℕ) (past : Past (groups group)) (floor : ℕ → ℕ) (found : GroupValue) → ((slot : ℕ) → floor slot < 2 ^ 64)
+        → IsAtEnd group past (B.disks bay.now) found → AreOnSlots group past floor found.seats
+        → (guid : List ℕ) (volume : Volume) (promises : Promises) (allowed : Allowed) → view_of found.config guid found.seats ≡ Ok volume → IsVolume volume
+        → promises guid ≡ Some allowed → IsAllData group past floor (B.disks bay.now) promises
+        → IsWritable volume → (start : ℕ) (sectors : List (List ℕ)) (image : Image) → AreSectors image → IsAmongWrites volume start sectors (B.disks bay.now).may_hold image
+        → KeepsData group past floor image (with_promise promises guid (Some (while_written allowed start sectors))) }
+    ensures done { (group : List ℕ) (past : Past (groups group)) (floor : ℕ → ℕ) (found : GroupValue) → ((slot : ℕ) → floor slot < 2 ^ 64)
+        → IsAtEnd group past (B.disks bay.now) found → AreOnSlots group past floor found.seats
+        → (guid : List ℕ) (volume : Volume) (promises : Promises) (allowed : Allowed) → view_of found.config guid found.seats ≡ Ok volume → IsVolume volume
+        → promises guid ≡ Some allowed → IsAllData group past floor (B.disks bay.now) promises
+        → IsWritable volume → (start : ℕ) (sectors : List (List ℕ)) (image : Image) → AreSectors image → IsAmongWrites volume start sectors (B.disks bay.now).may_hold image
+        → HasWritten volume start sectors ⊥ image → KeepsData group past floor image (with_promise promises guid (Some (once_written allowed start sectors))) }
+{}
+
+/// So does whatever a stop leaves while it is resynced, or rows of it are rebuilt.
+pub fn setting_cells_keeps_the_data<B: Bay>(bay: &B)
+    ensures resync { (group : List ℕ) (past : Past (groups group)) (floor : ℕ → ℕ) (found : GroupValue) → ((slot : ℕ) → floor slot < 2 ^ 64)
+        → IsAtEnd group past (B.disks bay.now) found → AreOnSlots group past floor found.seats
+        → (guid : List ℕ) (volume : Volume) (promises : Promises) (allowed : Allowed) → view_of found.config guid found.seats ≡ Ok volume → IsVolume volume
+        → promises guid ≡ Some allowed → IsAllData group past floor (B.disks bay.now) promises
+        → B.tells → IsWritable volume → (image : Image) → AreSectors image → IsAmongResynced volume B.tells (B.disks bay.now).held (B.disks bay.now).may_hold image
+        → KeepsData group past floor image (with_promise promises guid (Some allowed)) }
+    ensures rebuild { (group : List ℕ) (past : Past (groups group)) (floor : ℕ → ℕ) (found : GroupValue) → ((slot : ℕ) → floor slot < 2 ^ 64)
+        → IsAtEnd group past (B.disks bay.now) found → AreOnSlots group past floor found.seats
+        → (guid : List ℕ) (volume : Volume) (promises : Promises) (allowed : Allowed) → view_of found.config guid found.seats ≡ Ok volume → IsVolume volume
+        → promises guid ≡ Some allowed → IsAllData group past floor (B.disks bay.now) promises
+        → (element position from to : ℕ) (image : Image) → AreSectors image → IsLeftBut (IsTargetCell volume element position from to) (B.disks bay.now).may_hold image
+        → KeepsData group past floor image (with_promise promises guid (Some allowed)) }
+{}
+
+/// Once an array was resynced, and nothing is pending on its slots, what its blocks have counts in each image that a stop may leave.
+pub fn a_resynced_array_counts<B: Bay>(bay: &B)
+    ensures { (group : List ℕ) (past : Past (groups group)) (floor : ℕ → ℕ) (config : Configuration) → ((slot : ℕ) → floor slot < 2 ^ 64) → IsAlone group past config
+        → (guid : List ℕ) (volume : Volume) (promises : Promises) (allowed : Allowed) → view_of config guid (seats_in group past floor config) ≡ Ok volume → IsVolume volume
+        → promises guid ≡ Some allowed → IsAllData group past floor (B.disks bay.now) promises
+        → ((slot : ℕ) → IsOn volume slot → IsSettled (B.disks bay.now).may_hold (B.disks bay.now).held slot)
+        → is_degraded volume ≡ false → IsRedundant volume (B.disks bay.now).held → (image : Image) → IsLeft (B.disks bay.now).may_hold image → AreSectors image
+        → KeepsData group past floor image (with_promise promises guid (Some (once_consistent volume (B.disks bay.now).held))) }
 {}
