@@ -2,3 +2,4 @@ pub mod Alike
 pub mod Ended
 pub mod Records
 pub mod Blocks
+pub mod Aside

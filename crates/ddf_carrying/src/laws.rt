@@ -28,11 +28,14 @@ ghost use Rattle.ddf_assembly.specs.Committed.{synced};
 ghost use Rattle.ddf_assembly.specs.Group.{GroupValue, floor_of};
 ghost use Rattle.ddf_history.specs.Groups.{groups};
 ghost use Rattle.ddf_history.specs.Issued.{Past};
+ghost use Rattle.ddf_history.specs.Promise.{IsKept};
+ghost use Rattle.ddf_history.specs.Scenes.{scene_of};
 ghost use Rattle.ddf_stops.specs.AtEnd.{IsAtEnd};
+ghost use Rattle.ddf_keeping.specs.Clear.{ChangesItsCells};
 ghost use Rattle.ddf_keeping.specs.Grouped.{KeepsArrays, Promises};
 ghost use Rattle.ddf_promise.specs.Carried.{IsAllData};
 ghost use Rattle.ddf_promise.specs.Promised.{IsAlone, KeepsData, seats_in, with_promise};
-ghost use Rattle.ddf_carrying.specs.Seats.{AreAlikeSeats, AreOnSlots};
+ghost use Rattle.ddf_carrying.specs.Seats.{AreAlikeSeats, AreOnSlots, HaveFloors};
 ghost use Rattle.ddf_carrying.specs.Writing.{LieAtFloors};
 
 use ddf_bay::Bay;
@@ -127,4 +130,12 @@ pub fn a_resynced_array_counts<B: Bay>(bay: &B)
         → ((slot : ℕ) → IsOn volume slot → IsSettled (B.disks bay.now).may_hold (B.disks bay.now).held slot)
         → is_degraded volume ≡ false → IsRedundant volume (B.disks bay.now).held → (image : Image) → IsLeft (B.disks bay.now).may_hold image → AreSectors image
         → KeepsData group past floor image (with_promise promises guid (Some (once_consistent volume (B.disks bay.now).held))) }
+{}
+
+/// What is done to the blocks of an array of a settled group keeps its history: each slot shows what it showed.
+pub fn what_is_done_to_blocks_keeps_the_history<B: Bay>(bay: &B)
+    ensures { (group : List ℕ) (past : Past (groups group)) (found : GroupValue) → IsAtEnd group past (B.disks bay.now) found → HaveFloors found
+        → (guid : List ℕ) (volume : Volume) → view_of found.config guid found.seats ≡ Ok volume → IsVolume volume
+        → (before image : Image) → IsLeft (B.disks bay.now).may_hold before → ChangesItsCells volume before image
+        → IsKept past (scene_of (B.disks bay.now).sizes image) }
 {}
