@@ -1,29 +1,20 @@
 -- What is written to the blocks of an array is no part of what slots show.
-use Rattle.std.proofs.Common.{◌≡◌, ◌∙◌, ⊎_elim, ℕ, zero, suc, ◌+◌, ◌-◌, ◌<◌, ◌≤◌, Bool, true, false, List, [], ◌∷◌, Option, Some, None, Result, Ok, find, refl, sym, ap, subst, arith, map, nat_eq, length, slice_get}
+use Rattle.std.proofs.Common.{◌≡◌, ◌∙◌, ⊎_elim, ℕ, zero, suc, ◌-◌, ◌<◌, ◌≤◌, Bool, true, false, List, [], ◌∷◌, Option, Some, None, Ok, find, refl, sym, ap, subst, arith, map, nat_eq, length, slice_get}
 use Rattle.std.proofs.Math.Path.{fun_ext}
 use Rattle.std.specs.Prelude.{nat_lt, option_map, if◌then◌else◌}
-use Rattle.std.specs.List.{range_with_len}
 use Rattle.std.proofs.lemmas.Bool.{false≢true}
 use Rattle.ddf_bay.specs.Sectors.{Image, IsLeft}
 use Rattle.ddf_bay.specs.State.{BayState, size_of}
-use Rattle.ddf_header.specs.declared.geometry.Geometry.{Geometry}
 use Rattle.ddf_header.specs.declared.reading.Header.{Header}
-use Rattle.ddf_header.specs.Geometry.{section_of}
 use Rattle.ddf_config.specs.declared.seat.Seat.{Seat}
 use Rattle.ddf_config.specs.Seats as seats_by
 use Rattle.ddf_copy.specs.declared.copy.DiskCopy.{DiskCopy}
-use Rattle.ddf_copy.specs.declared.fault.CopyFault.{CopyFault}
 use Rattle.ddf_copy.specs.declared.newest_copy.Newest.{Newest}
 use Rattle.ddf_copy.specs.declared.newest_copy.Newest.TheVariants as newests
-use Rattle.ddf_copy.specs.declared.which.Which.{Which}
 use Rattle.ddf_copy.specs.declared.which.Which.TheVariants.{Primary, Secondary}
 use Rattle.ddf_copy.specs.Anchor.{anchor_at}
-use Rattle.ddf_copy.specs.Copies.{copy_of, newest_at, newest_of, newest_under}
-use Rattle.ddf_copy.specs.Gate.{header_of}
-use Rattle.ddf_copy.specs.Sections.{and_then, copy_in, raw_at, whole_slots}
 use Rattle.ddf_copy.specs.Which.{place_of}
 use Rattle.ddf_copy.proofs.Stands.{place_within}
-use Rattle.ddf_update.proofs.Changing.{same_anchor}
 use Rattle.ddf_group.specs.Shown.{shown_of}
 use Rattle.ddf_rewrite.proofs.Lists.{all_at, map_get}
 use Rattle.ddf_array.specs.Viewing.{view_of}
@@ -42,52 +33,11 @@ use Rattle.ddf_history.specs.Scenes.{scene_of, told_of}
 use Rattle.ddf_stops.specs.AtEnd.{IsAtEnd}
 use Rattle.ddf_stops.specs.Kept.{is_slot}
 use Rattle.ddf_stops.proofs.Slots.{slot_is, slot_placed}
-use Rattle.ddf_stops.proofs.Stops.{same_scene}
 use Rattle.ddf_keeping.specs.Clear.{ChangesItsCells, IsItsCell}
 use Rattle.ddf_keeping.proofs.Clearly.{below_floor, used}
 use Rattle.ddf_carrying.specs.Seats.{HaveFloors}
 use Rattle.ddf_carrying.proofs.Records.{floor_below}
-
--- ---- what is read of a slot lies at or past the places of its copies
-
-same_map : (one other : ℕ → List ℕ) (a n : ℕ) → ((l : ℕ) → a ≤ l → one l ≡ other l) → map one (range_with_len a n) ≡ map other (range_with_len a n)
-same_map one other a zero same = refl
-same_map one other a (suc n) same =
-    ap (λ x. x ∷ map one (range_with_len (a + 1) n)) (same a (omega arith)) ∙ ap (λ l. other a ∷ l) (same_map one other (a + 1) n (λ l from. same l (omega (arith, from))))
-
-module _ (size : ℕ) (now before : ℕ → List ℕ) (least : ℕ) (same : (l : ℕ) → least ≤ l → now l ≡ before l) where
-  raw_same : (lba : ℕ) (geometry : Geometry) → least ≤ lba → raw_at now lba geometry ≡ raw_at before lba geometry
-  raw_same lba geometry low =
-      let s = λ (k : ℕ). section_of geometry k in
-      let from : (offset : ℕ) → least ≤ lba + offset = λ offset. omega (arith, low) in
-      let run : (offset count : ℕ) → map now (range_with_len (lba + offset) count) ≡ map before (range_with_len (lba + offset) count) =
-      λ offset count. same_map now before (lba + offset) count (λ l at. same l (omega (arith, at, low))) in
-      let controller : now (lba + (s 0).offset) ≡ before (lba + (s 0).offset) = same (lba + (s 0).offset) (from (s 0).offset) in
-      let disks = run (s 1).offset (s 1).length in
-      let arrays = run (s 2).offset (s 2).length in
-      let records = run (whole_slots geometry).offset (whole_slots geometry).length in
-      let disk_data : now (lba + (s 4).offset) ≡ before (lba + (s 4).offset) = same (lba + (s 4).offset) (from (s 4).offset) in
-      let bad_blocks = run (s 5).offset (s 5).length in
-      rw (controller, disks, arrays, records, disk_data, bad_blocks) refl
-
-  header_same : (anchor : Header) (which : Which) → least ≤ place_of which anchor → header_of size now anchor which ≡ header_of size before anchor which
-  unfolding header_of
-  header_same anchor which low = rw (same (place_of which anchor) low) refl
-
-  copy_same : (anchor : Header) (which : Which) → least ≤ place_of which anchor → copy_of size now anchor which ≡ copy_of size before anchor which
-  unfolding copy_of
-  copy_same anchor which low =
-      let lba = place_of which anchor in
-      ap (λ (found : Result Header CopyFault). and_then found (λ (h : Header). copy_in h (raw_at now lba h.geometry))) (header_same anchor which low)
-      ∙ ap (λ (f : Header → Result DiskCopy CopyFault). and_then (header_of size before anchor which) f) (fun_ext (λ (h : Header). ap (copy_in h) (raw_same lba h.geometry low)))
-
-  newest_same : (anchor : Header) → least ≤ place_of Primary anchor → least ≤ place_of Secondary anchor → newest_of size now anchor ≡ newest_of size before anchor
-  unfolding newest_of
-  newest_same anchor primary secondary = rw (copy_same anchor Primary primary, copy_same anchor Secondary secondary) refl
-
-  pub read_same : (anchor : Header) → anchor_at size before ≡ Ok anchor → least ≤ size - 1 → least ≤ place_of Primary anchor → least ≤ place_of Secondary anchor → newest_at size now ≡ newest_at size before
-  read_same anchor is last primary secondary =
-      ap (newest_under size now) (same_anchor size now before (same (size - 1) last) ∙ is) ∙ ap Some (newest_same anchor primary secondary) ∙ sym (ap (newest_under size before) is)
+use Rattle.ddf_carrying.proofs.SlotReads.{IsReadSame, read_here, read_newest, read_past}
 
 -- ---- a settled group
 
@@ -189,10 +139,9 @@ module _ (group : List ℕ) {D : Type 0} (past : Past (groups group)) (disks : B
         }
 
     module _ (before image : Image) (left : IsLeft disks.may_hold before) (changes : ChangesItsCells v before image) where
-      -- a seat's slot
-      seat_same : (place : ℕ) (seat : Seat) → slice_get found.seats place ≡ Some seat → scene_of disks.sizes image seat.slot ≡ scene_of disks.sizes before seat.slot
-      seat_same place seat at =
-          let slot = seat.slot in
+      -- a seat's slot is read as before
+      seat_read : (place : ℕ) (seat : Seat) → slice_get found.seats place ≡ Some seat → IsReadSame (size_of disks seat.slot) (image seat.slot) (before seat.slot)
+      seat_read place seat at =
           let is = seat_slot place seat at in
           let held : (l : ℕ) → before seat.slot l ≡ disks.held seat.slot l =
           λ l. end.holds.are_settled place seat (within found.seats place seat at) at l (before seat.slot l) (left seat.slot l) in
@@ -201,27 +150,34 @@ module _ (group : List ℕ) {D : Type 0} (past : Past (groups group)) (disks : B
           let cell = cell_below seat.slot l its in
           let copies = same_level (slice_get found.newest seat.slot) is.copy cell.copy is.is_newest cell.is_newest in
           absurd (omega (arith, high, cell.below, ap floor_of copies))) (changes seat.slot l) in
-          let now = read_same (size_of disks seat.slot) (image seat.slot) (disks.held seat.slot) (floor_of is.copy) past_floor is.anchor is.is_anchored is.last is.primary is.secondary in
-          ap (λ (n : Option Newest). if nat_lt seat.slot (length disks.sizes) then told_of (shown_of n) else Nothing) now ∙ sym (same_scene disks.sizes before disks.held seat.slot (fun_ext held))
+          subst (IsReadSame (size_of disks seat.slot) (image seat.slot)) (sym (fun_ext held))
+          (read_past (size_of disks seat.slot) (image seat.slot) (disks.held seat.slot) (floor_of is.copy) past_floor is.anchor is.is_anchored is.last is.primary is.secondary)
         where
           within : {X : Type 0} (xs : List X) (k : ℕ) (x : X) → slice_get xs k ≡ Some x → k < length xs
           within [] k x at = absurd (cc)
           within (y ∷ xs) zero x at = omega arith
           within (y ∷ xs) (suc k) x at = omega (arith, within xs k x at)
 
-      -- and any other slot
-      other_same : (slot : ℕ) → is_slot (slots_of found.seats) slot ≡ false → scene_of disks.sizes image slot ≡ scene_of disks.sizes before slot
+      -- and any other slot is as it was
+      other_same : (slot : ℕ) → is_slot (slots_of found.seats) slot ≡ false → image slot ≡ before slot
       other_same slot none =
-          same_scene disks.sizes image before slot (fun_ext (λ l. ⊎_elim (λ stays. stays) (λ its.
+          fun_ext (λ l. ⊎_elim (λ stays. stays) (λ its.
           let cell = cell_below slot l its in
-          absurd (false≢true (sym none ∙ slot_is (slots_of found.seats) cell.place slot (mapped_at (λ (s : Seat). s.slot) found.seats cell.place cell.seat cell.is_at ∙ ap Some cell.on_slot)))) (changes slot l)))
+          absurd (false≢true (sym none ∙ slot_is (slots_of found.seats) cell.place slot (mapped_at (λ (s : Seat). s.slot) found.seats cell.place cell.seat cell.is_at ∙ ap Some cell.on_slot)))) (changes slot l))
 
-      one_same : (slot : ℕ) (b : Bool) → is_slot (slots_of found.seats) slot ≡ b → scene_of disks.sizes image slot ≡ scene_of disks.sizes before slot
-      one_same slot true is =
+      read_by : (slot : ℕ) (b : Bool) → is_slot (slots_of found.seats) slot ≡ b → IsReadSame (size_of disks slot) (image slot) (before slot)
+      read_by slot true is =
           let placed = slot_placed (slots_of found.seats) slot is in
           let own = map_get (λ (s : Seat). s.slot) found.seats placed.0 slot placed.1 in
-          subst (λ (s : ℕ). scene_of disks.sizes image s ≡ scene_of disks.sizes before s) own.2 (seat_same placed.0 own.0 own.1)
-      one_same slot false is = other_same slot is
+          subst (λ (s : ℕ). IsReadSame (size_of disks s) (image s) (before s)) own.2 (seat_read placed.0 own.0 own.1)
+      read_by slot false is = read_here (size_of disks slot) (image slot) (before slot) (other_same slot is)
+
+      pub slot_read : (slot : ℕ) → IsReadSame (size_of disks slot) (image slot) (before slot)
+      slot_read slot = read_by slot (is_slot (slots_of found.seats) slot) refl
+
+      scene_same : (slot : ℕ) → scene_of disks.sizes image slot ≡ scene_of disks.sizes before slot
+      scene_same slot =
+          ap (λ (n : Option Newest). if nat_lt slot (length disks.sizes) then told_of (shown_of n) else Nothing) (read_newest (size_of disks slot) (image slot) (before slot) (slot_read slot))
 
       pub still_kept : IsKept past (scene_of disks.sizes image)
-      still_kept = subst (IsKept past) (sym (fun_ext (λ (slot : ℕ). one_same slot (is_slot (slots_of found.seats) slot) refl))) (end.all_kept before left)
+      still_kept = subst (IsKept past) (sym (fun_ext scene_same)) (end.all_kept before left)

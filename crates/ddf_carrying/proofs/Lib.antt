@@ -2,4 +2,6 @@ pub mod Alike
 pub mod Ended
 pub mod Records
 pub mod Blocks
+pub mod SlotReads
 pub mod Aside
+pub mod Staying

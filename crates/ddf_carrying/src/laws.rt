@@ -26,15 +26,18 @@ ghost use Rattle.ddf_data.specs.Allowed.{Allowed, once_consistent, once_written,
 ghost use Rattle.ddf_data.specs.Changing.{IsWritable};
 ghost use Rattle.ddf_assembly.specs.Committed.{synced};
 ghost use Rattle.ddf_assembly.specs.Group.{GroupValue, floor_of};
+ghost use Rattle.ddf_assembly.specs.Ready.{ReadyValue};
 ghost use Rattle.ddf_history.specs.Groups.{groups};
 ghost use Rattle.ddf_history.specs.Issued.{Past};
 ghost use Rattle.ddf_history.specs.Promise.{IsKept};
 ghost use Rattle.ddf_history.specs.Scenes.{scene_of};
 ghost use Rattle.ddf_stops.specs.AtEnd.{IsAtEnd};
+ghost use Rattle.ddf_stops.specs.Steps.{StandsReady};
 ghost use Rattle.ddf_keeping.specs.Clear.{ChangesItsCells};
 ghost use Rattle.ddf_keeping.specs.Grouped.{KeepsArrays, Promises};
 ghost use Rattle.ddf_promise.specs.Carried.{IsAllData};
 ghost use Rattle.ddf_promise.specs.Promised.{IsAlone, KeepsData, seats_in, with_promise};
+ghost use Rattle.ddf_carrying.specs.Blocks.{HaveBlocksWritten};
 ghost use Rattle.ddf_carrying.specs.Seats.{AreAlikeSeats, AreOnSlots, HaveFloors};
 ghost use Rattle.ddf_carrying.specs.Writing.{LieAtFloors};
 
@@ -138,4 +141,15 @@ pub fn what_is_done_to_blocks_keeps_the_history<B: Bay>(bay: &B)
         → (guid : List ℕ) (volume : Volume) → view_of found.config guid found.seats ≡ Ok volume → IsVolume volume
         → (before image : Image) → IsLeft (B.disks bay.now).may_hold before → ChangesItsCells volume before image
         → IsKept past (scene_of (B.disks bay.now).sizes image) }
+{}
+
+/// So a group that stood at the end of its history, with steps that were readied, still does once blocks of an array were written, resynced or rebuilt.
+pub fn a_settled_group_stays_where_blocks_are_written<B: Bay>()
+    ensures stands { (group : List ℕ) (past : Past (groups group)) (old new : B) (found : GroupValue) → IsAtEnd group past (B.disks old) found → HaveFloors found
+        → (guid : List ℕ) (volume : Volume) → view_of found.config guid found.seats ≡ Ok volume → IsVolume volume
+        → HaveBlocksWritten (B.disks old) (B.disks new) volume → (B.disks new).tells_left → IsAtEnd group past (B.disks new) found }
+    ensures ready { (group : List ℕ) (past : Past (groups group)) (old new : B) (found : GroupValue) (ready : ReadyValue)
+        → StandsReady group past (B.disks old) found ready → HaveFloors found
+        → (guid : List ℕ) (volume : Volume) → view_of found.config guid found.seats ≡ Ok volume → IsVolume volume
+        → HaveBlocksWritten (B.disks old) (B.disks new) volume → (B.disks new).tells_left → StandsReady group past (B.disks new) found ready }
 {}
