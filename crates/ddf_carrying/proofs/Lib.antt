@@ -5,3 +5,4 @@ pub mod Blocks
 pub mod SlotReads
 pub mod Aside
 pub mod Staying
+pub mod Calls

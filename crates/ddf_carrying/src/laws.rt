@@ -18,9 +18,9 @@ ghost use Rattle.ddf_array.specs.Viewing.{view_of};
 ghost use Rattle.ddf_array.specs.Volume.{Volume, IsVolume};
 ghost use Rattle.ddf_volume.specs.Reading.{IsOn};
 ghost use Rattle.ddf_cells.specs.Degraded.{is_degraded};
-ghost use Rattle.ddf_cells.specs.Writing.{IsLeftBut};
-ghost use Rattle.ddf_write.specs.Writing.{HasWritten, IsAmongWrites};
-ghost use Rattle.ddf_resync.specs.Resyncing.{IsAmongResynced};
+ghost use Rattle.ddf_cells.specs.Writing.{AddsBut, IsLeftBut, StaysBut};
+ghost use Rattle.ddf_write.specs.Writing.{AddsWrites, HasWritten, IsAmongWrites, IsLeftByWrite};
+ghost use Rattle.ddf_resync.specs.Resyncing.{AddsResynced, IsAmongResynced, IsLeftByResync};
 ghost use Rattle.ddf_rebuild.specs.Target.{IsTargetCell};
 ghost use Rattle.ddf_data.specs.Allowed.{Allowed, once_consistent, once_written, while_written};
 ghost use Rattle.ddf_data.specs.Changing.{IsWritable};
@@ -143,7 +143,23 @@ pub fn what_is_done_to_blocks_keeps_the_history<B: Bay>(bay: &B)
         → IsKept past (scene_of (B.disks bay.now).sizes image) }
 {}
 
-/// So a group that stood at the end of its history, with steps that were readied, still does once blocks of an array were written, resynced or rebuilt.
+/// What a write, a resync and a rebuild promise at Ok is that of the bay only sectors of their array are others.
+pub fn a_call_on_blocks_writes_its_array_alone<B: Bay>()
+    ensures write { (old new : B) (volume : Volume) → IsVolume volume → (B.disks new).sizes ≡ (B.disks old).sizes → IsLeft (B.disks old).may_hold (B.disks old).held
+        → ((slot : ℕ) → IsSettled (B.disks old).may_hold (B.disks old).held slot → IsSettled (B.disks new).may_hold (B.disks new).held slot)
+        → (start : ℕ) (sectors : List (List ℕ)) → IsLeftByWrite volume start sectors (B.disks old).held (B.disks new).held
+        → AddsWrites volume start sectors (B.disks old).may_hold (B.disks new).may_hold → HaveBlocksWritten (B.disks old) (B.disks new) volume }
+    ensures resync { (old new : B) (volume : Volume) → IsVolume volume → (B.disks new).sizes ≡ (B.disks old).sizes → IsLeft (B.disks old).may_hold (B.disks old).held
+        → ((slot : ℕ) → IsSettled (B.disks old).may_hold (B.disks old).held slot → IsSettled (B.disks new).may_hold (B.disks new).held slot)
+        → B.tells → IsLeftByResync volume B.tells (B.disks old).held (B.disks new).held
+        → AddsResynced volume B.tells (B.disks old).held (B.disks old).may_hold (B.disks new).may_hold → HaveBlocksWritten (B.disks old) (B.disks new) volume }
+    ensures rebuild { (old new : B) (volume : Volume) → IsVolume volume → (B.disks new).sizes ≡ (B.disks old).sizes → IsLeft (B.disks old).may_hold (B.disks old).held
+        → ((slot : ℕ) → IsSettled (B.disks old).may_hold (B.disks old).held slot → IsSettled (B.disks new).may_hold (B.disks new).held slot)
+        → (element position from to : ℕ) → StaysBut (IsTargetCell volume element position from to) (B.disks old).held (B.disks new).held
+        → AddsBut (IsTargetCell volume element position from to) (B.disks old).may_hold (B.disks new).may_hold → HaveBlocksWritten (B.disks old) (B.disks new) volume }
+{}
+
+/// A group that stood at the end of its history, with steps that were readied, still does once only sectors of an array are others.
 pub fn a_settled_group_stays_where_blocks_are_written<B: Bay>()
     ensures stands { (group : List ℕ) (past : Past (groups group)) (old new : B) (found : GroupValue) → IsAtEnd group past (B.disks old) found → HaveFloors found
         → (guid : List ℕ) (volume : Volume) → view_of found.config guid found.seats ≡ Ok volume → IsVolume volume
