@@ -18,7 +18,7 @@ use Rattle.ddf_cells.proofs.Alike.{redundant_same, value_same}
 use Rattle.ddf_cells.proofs.Surely.{cell_on}
 use Rattle.ddf_write.specs.Writing.{HasWritten, IsAmongWrites}
 use Rattle.ddf_write.proofs.WriteLeaves as writes
-use Rattle.ddf_resync.specs.Resyncing.{IsAmongResynced, MayResync}
+use Rattle.ddf_resync.specs.Resyncing.{IsAmongResynced}
 use Rattle.ddf_resync.proofs.Leaves as resyncs
 use Rattle.ddf_rebuild.specs.Target.{IsTargetCell}
 use Rattle.ddf_rebuild.proofs.Kept as rebuilds
@@ -35,6 +35,7 @@ use Rattle.ddf_promise.specs.Promised.{IsAlone, KeepsData, seats_in, with_promis
 use Rattle.ddf_promise.proofs.Viewed.{last_alone, view_counts, view_rebuild, view_resync, view_write, view_written}
 use Rattle.ddf_carrying.specs.Seats.{AreOnSlots}
 use Rattle.ddf_carrying.proofs.Alike.{view_same}
+use Rattle.ddf_carrying.proofs.Calls.{told_by}
 use Rattle.ddf_carrying.proofs.Ended.{seats_alike}
 
 module _ (group : List ℕ) {D : Type 0} (past : Past (groups group)) (disks : BayState D) (found : GroupValue) (end : IsAtEnd group past disks found) (floor : ℕ → ℕ) (small : (slot : ℕ) → floor slot < 2 ^ 64)
@@ -63,11 +64,7 @@ module _ (group : List ℕ) {D : Type 0} (past : Past (groups group)) (disks : B
   while_resyncing tells told writable image are among =
       let before = resyncs.stop_before v tells disks.held disks.may_hold disks.held image end.is_left among in
       view_resync group floor small past found.config guid v listed known before.0 image promises allowed (all before.0 before.1) alone promised are disks.held (all disks.held end.is_left) writable
-      (λ s l. ⊎_elim inl (λ given. inr (told_by s l (image s l) given)) (before.2 s l))
-    where
-      told_by : (s l : ℕ) (bytes : List ℕ) → MayResync v tells disks.held s l bytes → MayResync v (Unit {0}) disks.held s l bytes
-      told_by s l bytes given =
-          ⊎_elim (λ taken. inl (record { block = taken.block; i = taken.i; is_cell = taken.is_cell; held = λ t. taken.held told })) inr given
+      (λ s l. ⊎_elim inl (λ given. inr (told_by v tells disks.held s l (image s l) told given)) (before.2 s l))
 
   pub while_rebuilding : (element position from to : ℕ) (image : Image) → AreSectors image → IsLeftBut (IsTargetCell v element position from to) disks.may_hold image
       → KeepsData group past floor image (with_promise promises guid (Some allowed))

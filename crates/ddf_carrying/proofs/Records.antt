@@ -38,7 +38,7 @@ covered lba (run ∷ runs) l is = ⊎_elim (λ here. omega (arith, here.0)) (λ 
 in_copy : (lba : ℕ) (runs : List Run) (l : ℕ) → IsInCopy lba runs l → lba ≤ l
 in_copy lba runs l is = ⊎_elim (λ head. omega (arith, head)) (λ rest. covered lba runs l rest) is
 
-floor_below : (copy : DiskCopy) (which : Which) → floor_of copy ≤ place_of which copy.header
+pub floor_below : (copy : DiskCopy) (which : Which) → floor_of copy ≤ place_of which copy.header
 floor_below copy Primary = omega arith
 floor_below copy Secondary = omega arith
 

@@ -2,6 +2,9 @@
 use Rattle.std.specs.Prelude.{◌≡◌, ℕ, false, List, Some, slice_get}
 use Rattle.ddf_config.specs.declared.seat.Seat.{Seat}
 use Rattle.ddf_config.specs.Seats.{floor_of, slot_of}
+use Rattle.ddf_assembly.specs.declared.seated.Seated.{Seated}
+use Rattle.ddf_assembly.specs.Group.{GroupValue, floor_of as copy_floor}
+use Rattle.ddf_assembly.specs.Seated.{seated}
 use Rattle.ddf_history.specs.Groups.{groups}
 use Rattle.ddf_history.specs.Issued.{Past}
 
@@ -14,3 +17,7 @@ pub record AreOnSlots (group : List ℕ) (past : Past (groups group)) (floor : �
 pub record AreAlikeSeats (one other : List Seat) : Type 0 where
   pub same_floors : (reference : ℕ) → floor_of one reference ≡ floor_of other reference
   pub same_slots : (reference : ℕ) → slot_of one reference ≡ slot_of other reference
+
+-- each seat has the floor of its slot's copy
+abbrev pub HaveFloors : GroupValue → Type 0
+HaveFloors group = (place : ℕ) (disk : Seated) → slice_get (seated group) place ≡ Some disk → disk.seat.floor ≡ copy_floor disk.copy

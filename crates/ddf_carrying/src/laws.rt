@@ -18,21 +18,27 @@ ghost use Rattle.ddf_array.specs.Viewing.{view_of};
 ghost use Rattle.ddf_array.specs.Volume.{Volume, IsVolume};
 ghost use Rattle.ddf_volume.specs.Reading.{IsOn};
 ghost use Rattle.ddf_cells.specs.Degraded.{is_degraded};
-ghost use Rattle.ddf_cells.specs.Writing.{IsLeftBut};
-ghost use Rattle.ddf_write.specs.Writing.{HasWritten, IsAmongWrites};
-ghost use Rattle.ddf_resync.specs.Resyncing.{IsAmongResynced};
+ghost use Rattle.ddf_cells.specs.Writing.{AddsBut, IsLeftBut, StaysBut};
+ghost use Rattle.ddf_write.specs.Writing.{AddsWrites, HasWritten, IsAmongWrites, IsLeftByWrite};
+ghost use Rattle.ddf_resync.specs.Resyncing.{AddsResynced, IsAmongResynced, IsLeftByResync};
 ghost use Rattle.ddf_rebuild.specs.Target.{IsTargetCell};
 ghost use Rattle.ddf_data.specs.Allowed.{Allowed, once_consistent, once_written, while_written};
 ghost use Rattle.ddf_data.specs.Changing.{IsWritable};
 ghost use Rattle.ddf_assembly.specs.Committed.{synced};
 ghost use Rattle.ddf_assembly.specs.Group.{GroupValue, floor_of};
+ghost use Rattle.ddf_assembly.specs.Ready.{ReadyValue};
 ghost use Rattle.ddf_history.specs.Groups.{groups};
 ghost use Rattle.ddf_history.specs.Issued.{Past};
+ghost use Rattle.ddf_history.specs.Promise.{IsKept};
+ghost use Rattle.ddf_history.specs.Scenes.{scene_of};
 ghost use Rattle.ddf_stops.specs.AtEnd.{IsAtEnd};
+ghost use Rattle.ddf_stops.specs.Steps.{StandsReady};
+ghost use Rattle.ddf_keeping.specs.Clear.{ChangesItsCells};
 ghost use Rattle.ddf_keeping.specs.Grouped.{KeepsArrays, Promises};
 ghost use Rattle.ddf_promise.specs.Carried.{IsAllData};
 ghost use Rattle.ddf_promise.specs.Promised.{IsAlone, KeepsData, seats_in, with_promise};
-ghost use Rattle.ddf_carrying.specs.Seats.{AreAlikeSeats, AreOnSlots};
+ghost use Rattle.ddf_carrying.specs.Blocks.{HaveBlocksWritten};
+ghost use Rattle.ddf_carrying.specs.Seats.{AreAlikeSeats, AreOnSlots, HaveFloors};
 ghost use Rattle.ddf_carrying.specs.Writing.{LieAtFloors};
 
 use ddf_bay::Bay;
@@ -127,4 +133,39 @@ pub fn a_resynced_array_counts<B: Bay>(bay: &B)
         → ((slot : ℕ) → IsOn volume slot → IsSettled (B.disks bay.now).may_hold (B.disks bay.now).held slot)
         → is_degraded volume ≡ false → IsRedundant volume (B.disks bay.now).held → (image : Image) → IsLeft (B.disks bay.now).may_hold image → AreSectors image
         → KeepsData group past floor image (with_promise promises guid (Some (once_consistent volume (B.disks bay.now).held))) }
+{}
+
+/// What is done to the blocks of an array of a settled group keeps its history: each slot shows what it showed.
+pub fn what_is_done_to_blocks_keeps_the_history<B: Bay>(bay: &B)
+    ensures { (group : List ℕ) (past : Past (groups group)) (found : GroupValue) → IsAtEnd group past (B.disks bay.now) found → HaveFloors found
+        → (guid : List ℕ) (volume : Volume) → view_of found.config guid found.seats ≡ Ok volume → IsVolume volume
+        → (before image : Image) → IsLeft (B.disks bay.now).may_hold before → ChangesItsCells volume before image
+        → IsKept past (scene_of (B.disks bay.now).sizes image) }
+{}
+
+/// What a write, a resync and a rebuild promise at Ok is that of the bay only sectors of their array are others.
+pub fn a_call_on_blocks_writes_its_array_alone<B: Bay>()
+    ensures write { (old new : B) (volume : Volume) → IsVolume volume → (B.disks new).sizes ≡ (B.disks old).sizes → IsLeft (B.disks old).may_hold (B.disks old).held
+        → ((slot : ℕ) → IsSettled (B.disks old).may_hold (B.disks old).held slot → IsSettled (B.disks new).may_hold (B.disks new).held slot)
+        → (start : ℕ) (sectors : List (List ℕ)) → IsLeftByWrite volume start sectors (B.disks old).held (B.disks new).held
+        → AddsWrites volume start sectors (B.disks old).may_hold (B.disks new).may_hold → HaveBlocksWritten (B.disks old) (B.disks new) volume }
+    ensures resync { (old new : B) (volume : Volume) → IsVolume volume → (B.disks new).sizes ≡ (B.disks old).sizes → IsLeft (B.disks old).may_hold (B.disks old).held
+        → ((slot : ℕ) → IsSettled (B.disks old).may_hold (B.disks old).held slot → IsSettled (B.disks new).may_hold (B.disks new).held slot)
+        → B.tells → IsLeftByResync volume B.tells (B.disks old).held (B.disks new).held
+        → AddsResynced volume B.tells (B.disks old).held (B.disks old).may_hold (B.disks new).may_hold → HaveBlocksWritten (B.disks old) (B.disks new) volume }
+    ensures rebuild { (old new : B) (volume : Volume) → IsVolume volume → (B.disks new).sizes ≡ (B.disks old).sizes → IsLeft (B.disks old).may_hold (B.disks old).held
+        → ((slot : ℕ) → IsSettled (B.disks old).may_hold (B.disks old).held slot → IsSettled (B.disks new).may_hold (B.disks new).held slot)
+        → (element position from to : ℕ) → StaysBut (IsTargetCell volume element position from to) (B.disks old).held (B.disks new).held
+        → AddsBut (IsTargetCell volume element position from to) (B.disks old).may_hold (B.disks new).may_hold → HaveBlocksWritten (B.disks old) (B.disks new) volume }
+{}
+
+/// A group that stood at the end of its history, with steps that were readied, still does once only sectors of an array are others.
+pub fn a_settled_group_stays_where_blocks_are_written<B: Bay>()
+    ensures stands { (group : List ℕ) (past : Past (groups group)) (old new : B) (found : GroupValue) → IsAtEnd group past (B.disks old) found → HaveFloors found
+        → (guid : List ℕ) (volume : Volume) → view_of found.config guid found.seats ≡ Ok volume → IsVolume volume
+        → HaveBlocksWritten (B.disks old) (B.disks new) volume → (B.disks new).tells_left → IsAtEnd group past (B.disks new) found }
+    ensures ready { (group : List ℕ) (past : Past (groups group)) (old new : B) (found : GroupValue) (ready : ReadyValue)
+        → StandsReady group past (B.disks old) found ready → HaveFloors found
+        → (guid : List ℕ) (volume : Volume) → view_of found.config guid found.seats ≡ Ok volume → IsVolume volume
+        → HaveBlocksWritten (B.disks old) (B.disks new) volume → (B.disks new).tells_left → StandsReady group past (B.disks new) found ready }
 {}
