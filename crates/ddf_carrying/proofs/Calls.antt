@@ -17,7 +17,7 @@ use Rattle.ddf_carrying.specs.Blocks.{HaveBlocksWritten}
 -- what a resync may give is told of, where the bay tells what it holds
 pub told_by : (v : Volume) (tells : Type 0) (first : Image) (s l : ℕ) (bytes : List ℕ) → tells → MayResync v tells first s l bytes → MayResync v (Unit {0}) first s l bytes
 told_by v tells first s l bytes told given =
-    ⊎_elim (λ taken. inl (record { block = taken.block; i = taken.i; is_cell = taken.is_cell; held = λ t. taken.held told })) inr given
+    ⊎_elim (λ taken. inl (record { block = taken.block; i = taken.i; is_cell = taken.is_cell; several = taken.several; held = λ t. taken.held told })) inr given
 
 module _ {D : Type 0} (old new : BayState D) (v : Volume) (known : IsVolume v) (same_sizes : new.sizes ≡ old.sizes) (told : IsLeft old.may_hold old.held)
     (settled : (slot : ℕ) → IsSettled old.may_hold old.held slot → IsSettled new.may_hold new.held slot) where
