@@ -94,8 +94,9 @@ fi
 chmod 444 d0.img d1.img
 if $user true 2>/dev/null; then
     ends 0 "slot 0 sectors 65536" "" "$user ./ddf d0.img d1.img -- examine"
+    ends 0 "group" "" "$user ./ddf d0.img d1.img -- show"
     ends 3 "disk fault slot 0" "d1.img can't be opened: Permission denied" "$user ./ddf d1.img -- label"
-    echo "edge: disks that may not be written are examined, and not labelled"
+    echo "edge: disks that may not be written are examined and shown, and not labelled"
 else
     echo "edge: no other user can be asked here, so disks that may not be written were not tried"
 fi
@@ -108,6 +109,8 @@ if command -v flock >/dev/null; then
     done
     ends 3 "slot 0 fault" "another program holds a lock on it" "flock d1.img ./ddf d1.img -- examine"
     ends 0 "slot 0 blank" "" "flock -s d1.img ./ddf d1.img -- examine"
+    ends 0 "group" "" "flock -s d0.img ./ddf d0.img -- show"
+    ends 1 "refused 12" "another program holds a lock on it" "flock d0.img ./ddf d0.img -- show"
     echo "edge: a disk that another program has locked isn't written, and isn't read while that one writes"
 else
     echo "edge: no flock here, so locked disks were not tried"
@@ -180,7 +183,7 @@ for name in 0 1 2; do
     cp "g$name.img" "h$name.img"
     cp "g$name.img" "k$name.img"
 done
-ends 6 "" "may have been done; assemble tells" "./ddf h0.img h1.img h2.img -- spare 2 global >&-"
+ends 6 "" "may have been done; show tells" "./ddf h0.img h1.img h2.img -- spare 2 global >&-"
 ends 0 "ok sequence" "slot 2 (h2.img) stands in for what the words say now" "./ddf h0.img h1.img h2.img -- spare h2.img global"
 ends 0 "ok sequence" "slot 2 (h2.img) is out of use now" "./ddf h0.img h1.img h2.img -- fail h2.img"
 printf x | dd of=h1.img bs=1 seek=$((32 * 1024 * 1024 - 400)) conv=notrunc 2>/dev/null
@@ -189,6 +192,12 @@ case $(cat err) in
 *"is absent, and the group goes on without it for good: no image shows it"*"array v blocks 64 degraded"*) ;;
 *) fail "said $(cat err), of a disk that was lost" ;;
 esac
+sum=$(cksum k0.img k2.img)
+ends 0 "group" "missing.img can't be opened: No such file" "./ddf k0.img missing.img k2.img -- show"
+case $(cat out) in *" absent"*"array v blocks 64 degraded marked"*) ;; *) fail "showed $(cat out)" ;; esac
+ends 0 "group" "" "./ddf k0.img k2.img -- show"
+[ ! -s err ] || fail "said $(cat err), where nothing is lost"
+[ "$(cksum k0.img k2.img)" = "$sum" ] || fail "show changed an image"
 ends 0 "group" "for good: no image of it was named" "./ddf k0.img k2.img -- assemble"
 ends 0 "group" "" "./ddf k0.img k2.img -- assemble"
 [ ! -s err ] || fail "said $(cat err), where nothing was lost"

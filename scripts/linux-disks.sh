@@ -1,5 +1,5 @@
 #!/bin/sh
-# Runs `examine` and `assemble` over disks as Linux's mdadm left them, and compares what they print with what an independent
+# Runs `examine`, `show` and `assemble` over disks as Linux's mdadm left them, and compares what they print with what an independent
 # reader found; and reads their arrays, whole and without each disk that the level can do without, and compares the checksum of all
 # blocks with the one that Linux found.
 # Nothing may be written to an image, and an image that `label` made has the standard's checksums. The disks aren't part of
@@ -59,8 +59,10 @@ for archive in "$disks"/*.tar.xz; do
     sha256sum "$work/$name"/*.img >"$work/before"
     "$top/ddf" "$work/$name"/*.img -- examine >"$work/told" 2>"$work/notes" || fail "examine of $name failed"
     diff -u "$disks/$name.examine.txt" "$work/told" || fail "$name differs"
-    "$top/ddf" "$work/$name"/*.img -- assemble >"$work/told" 2>/dev/null || fail "assemble of $name failed"
-    diff -u "$disks/$name.assemble.txt" "$work/told" || fail "the group of $name differs"
+    for command in show assemble; do
+        "$top/ddf" "$work/$name"/*.img -- "$command" >"$work/told" 2>/dev/null || fail "$command of $name failed"
+        diff -u "$disks/$name.assemble.txt" "$work/told" || fail "the group of $name differs for $command"
+    done
     sums=$(sum_of "$name")
     blocks=${sums% *}
     if [ "$blocks" -gt 0 ]; then

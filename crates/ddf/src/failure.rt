@@ -56,7 +56,7 @@ impl fmt::Display for Failure {
             Failure::Stream => write!(f, "the input or the output failed"),
             Failure::StreamBehind => write!(
                 f,
-                "the input or the output failed: what was asked for may have been done; assemble tells"
+                "the input or the output failed: what was asked for may have been done; show tells"
             ),
             Failure::Declined => write!(f, "nothing was done"),
             Failure::Unopened => write!(

@@ -13,6 +13,8 @@ Commands:
   label [SLOT..]   make a new group of these blank disks, or of all
   assemble         recover the group that the disks are, and show its members and
                    arrays; where all is in order nothing is written
+  show             show the members and arrays of the group as its disks record it,
+                   and what is absent or behind; nothing is recovered or written
   read NAME START COUNT
                    print the bytes of so many blocks of an array, from one on, and
                    nothing else: at most 2048 of 512 bytes each; nothing is written
@@ -27,8 +29,8 @@ Commands:
   fail SLOT        take a disk out of use for good; it isn't written any more
 
 Each but examine and label is over a group: the only one that the disks show, or the one that is
-named, by @ and the 48 hexadecimal digits of its GUID. All of these but read recover it first: a
-member whose disk is left out of the words, or shows nothing, is listed as missing, for
+named, by @ and the 48 hexadecimal digits of its GUID. All of these but show and read recover it
+first: a member whose disk is left out of the words, or shows nothing, is listed as missing, for
 good. Standard error names it first, and on a terminal you are asked.
 
 Disks are opened for reading alone by commands that write nothing. Others don't touch a

@@ -178,7 +178,7 @@ where
     let mut source = StdSource::new(rt.reader());
     let mut sink = CountingSink::new(StdSink::new(io::writer(rt)));
     let status = serve(rt.alloc(), words, &mut bay, &mut source, &mut sink, stamp);
-    if let Command::Examine | Command::Assemble = asked.command {
+    if let Command::Examine | Command::Assemble | Command::Show = asked.command {
         name_turned(rt, &bay);
     }
     tell_end(rt, &asked.command, paths, status, sink.taken());

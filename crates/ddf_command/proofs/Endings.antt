@@ -14,7 +14,7 @@ use Rattle.ddf_assembly.specs.Group.{group_of}
 use Rattle.ddf_assembly.specs.Slots.{IsLooked, newest_from}
 use Rattle.ddf_words.specs.declared.command.Asked.{Asked}
 use Rattle.ddf_words.specs.declared.command.Command.{Command}
-use Rattle.ddf_words.specs.declared.command.Command.TheVariants.{Assemble, Change, Examine, Label, Read}
+use Rattle.ddf_words.specs.declared.command.Command.TheVariants.{Assemble, Change, Examine, Label, Read, Show}
 use Rattle.ddf_words.specs.declared.traits.Traits.{Traits}
 use Rattle.ddf_words.specs.declared.words.WordFault.{WordFault}
 use Rattle.ddf_words.specs.declared.words.WordFault.TheVariants as words
@@ -25,6 +25,7 @@ use Rattle.ddf_answer.specs.declared.failure.Failure.TheVariants.{Memory}
 use Rattle.ddf_disk_commands.specs.Examine.{IsExamined}
 use Rattle.ddf_disk_commands.specs.Label.{label_copy, label_slots}
 use Rattle.ddf_group_commands.proofs.ChangeEnds.{assembled_nothing, changed_nothing}
+use Rattle.ddf_group_commands.proofs.ShowEnds.{shown_nothing}
 use Rattle.ddf_group_commands.specs.Requests.{request_for}
 use Rattle.ddf_data_commands.proofs.LeftOut.{has_no_place}
 use Rattle.ddf_data_commands.proofs.ReadBlocks.{memory_in}
@@ -135,6 +136,7 @@ pub done_nothing : {D : Type 0} (old : BayState D) (tells told : Type 0) (before
     → IsCommandDone (work_of tells old old) stamp group command (answer_of told before before 5)
 done_nothing old tells told before stamp group Examine = nothing_done old tells told before
 done_nothing old tells told before stamp group Assemble = assembled_nothing old tells told before group (timestamp_of stamp) (none_looked old)
+done_nothing old tells told before stamp group Show = shown_nothing old tells told before group (none_looked old)
 done_nothing old tells told before stamp group (Label slots) = record {
   outcome = Err Memory;
   tried = reads_start old;

@@ -21,7 +21,7 @@ use ddf_bay::Bay;
 use ddf_bytes::{Guid, Sink, Source, Stamp};
 use ddf_data_commands::read;
 use ddf_disk_commands::{examine, label};
-use ddf_group_commands::{assemble_disks, change};
+use ddf_group_commands::{assemble_disks, change, show};
 use ddf_words::{Command, WordFault, asked};
 use std::alloc::Global;
 
@@ -86,6 +86,7 @@ fn obey<B: Bay, K: Sink>(
         Command::Examine => examine(alloc, bay, sink),
         Command::Label { slots } => label(alloc, slots.items(), bay, sink, stamp),
         Command::Assemble => assemble_disks(alloc, group, bay, sink, stamp),
+        Command::Show => show(alloc, group, bay, sink),
         Command::Read { name, start, count } => {
             read(alloc, group, name.items(), start, count, bay, sink)
         }

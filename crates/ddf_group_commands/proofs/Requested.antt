@@ -23,7 +23,7 @@ use Rattle.ddf_words.specs.declared.command.Wish.{Wish}
 use Rattle.ddf_words.specs.declared.command.Wish.TheVariants.{Create, Delete, Spare, Fail}
 use Rattle.ddf_words.specs.Commands.{FitsCreation, FitsElement, FitsSpare, FitsWish}
 use Rattle.ddf_request.specs.Named.{named_guid}
-use Rattle.ddf_request.specs.NewArray.{IsCreation, is_misfit, misfit_refusal, new_array, new_array_guid, new_element, new_position, padded, qualifier_of}
+use Rattle.ddf_request.specs.NewArray.{is_misfit, misfit_refusal, new_array, new_array_guid, new_element, new_position, padded, qualifier_of}
 use Rattle.ddf_request.specs.Request.{IsWish, change_for, create_change, delete_change, request_of, slots_named, spare_change, unless}
 use Rattle.ddf_request.specs.Spare.{served_guid, served_guids, use_of, with_guid}
 use Rattle.ddf_request.specs.Slots.{is_on, reference_on, slot_refusals}

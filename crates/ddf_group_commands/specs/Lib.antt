@@ -5,3 +5,4 @@ pub mod Change
 pub mod GroupRead
 pub mod Requests
 pub mod Assemble
+pub mod Show

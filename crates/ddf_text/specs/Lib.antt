@@ -7,4 +7,5 @@ pub mod Reasons
 pub mod Records
 pub mod CopyText
 pub mod Report
+pub mod Standing
 pub mod GroupText

@@ -11,12 +11,13 @@ mod reason;
 mod records;
 mod refusal;
 mod report;
+mod standing;
 mod view;
 
 pub use conflict::{ConflictText, SplitText};
 pub use done::sequence_line;
 pub use fault::disk_fault_line;
-pub use group::group_text;
+pub use group::{group_text, shown_text};
 pub use refusal::RefusalText;
 pub use report::slot_text;
 pub use view::{DiskView, HeaderView, Headers};

@@ -5,7 +5,7 @@ use Rattle.ddf_words.proofs.Wishes.{create, delete, fail, first_word, no_wish, s
 use Rattle.ddf_words.specs.Traits.{traits_of}
 use Rattle.ddf_words.specs.Words.{Word, NameSlots, Spells, SpellCreate, SpellDelete, SpellFail, SpellRead, SpellSpare, IsGroupCommand}
 use Rattle.ddf_words.specs.declared.command.Command.{Command}
-use Rattle.ddf_words.specs.declared.command.Command.TheVariants.{Examine, Label, Assemble, Read, Change}
+use Rattle.ddf_words.specs.declared.command.Command.TheVariants.{Examine, Label, Assemble, Show, Read, Change}
 use Rattle.ddf_words.specs.declared.command.Creation.{Creation}
 use Rattle.ddf_words.specs.declared.command.SpareWord.{SpareWord}
 use Rattle.ddf_words.specs.declared.command.Wish.TheVariants.{Create, Delete, Spare, Fail}
@@ -19,6 +19,9 @@ label = codes "label"
 abbrev pub assemble : Word
 assemble = codes "assemble"
 
+abbrev pub show : Word
+show = codes "show"
+
 abbrev pub read : Word
 read = codes "read"
 
@@ -27,6 +30,7 @@ abbrev pub name_of : Command → Word
 name_of Examine = examine
 name_of (Label slots) = label
 name_of Assemble = assemble
+name_of Show = show
 name_of (Read name start count) = read
 name_of (Change wish) = wish_name wish
 
@@ -35,6 +39,7 @@ pub begins_with : (words : List Word) (command : Command) → Spells command wor
 begins_with words Examine spells = ap first_word spells
 begins_with words (Label slots) spells = ap first_word spells.parts
 begins_with words Assemble spells = ap first_word spells
+begins_with words Show spells = ap first_word spells
 begins_with words (Read name start count) spells = ap first_word spells.parts
 begins_with words (Change wish) spells = wish_begins words wish spells
 
@@ -67,6 +72,11 @@ pub assemble_alone : (rest : List Word) (command : Command) → Spells command (
 assemble_alone rest Assemble spells = cc
 assemble_alone rest (Change wish) spells = absurd (no_wish assemble (refl, refl, refl, refl) wish (wish_begins (assemble ∷ rest) wish spells))
 assemble_alone rest command spells = absurd (unlike assemble (name_of command) refl (begins_with (assemble ∷ rest) command spells))
+
+pub show_alone : (rest : List Word) (command : Command) → Spells command (show ∷ rest) → rest ≡ []
+show_alone rest Show spells = cc
+show_alone rest (Change wish) spells = absurd (no_wish show (refl, refl, refl, refl) wish (wish_begins (show ∷ rest) wish spells))
+show_alone rest command spells = absurd (unlike show (name_of command) refl (begins_with (show ∷ rest) command spells))
 
 -- the words behind `read` name an array and blocks
 pub record NameBlocks (words : List Word) : Type 0 where
@@ -116,6 +126,7 @@ same_read words name name' start start' count count' spells spells' =
 pub same_command : (words : List Word) (command command' : Command) → Spells command words → Spells command' words → command ≡ command'
 same_command words Examine Examine spells spells' = refl
 same_command words Assemble Assemble spells spells' = refl
+same_command words Show Show spells spells' = refl
 same_command words (Label slots) (Label slots') spells spells' =
     let same : spells.numbers ≡ spells'.numbers = ap (drop 1) (sym spells.parts ∙ spells'.parts) in
     ap Label (same_slots slots slots' spells'.numbers (rw same at spells.are_slots) spells'.are_slots)
@@ -137,6 +148,7 @@ over_group name more not_examine not_label command spells = record { command = c
 -- another name is none of a command over a group
 pub record IsOther (name : Word) : Type 0 where
   pub assemble : name ≢ codes "assemble"
+  pub show : name ≢ codes "show"
   pub read : name ≢ codes "read"
   pub create : name ≢ codes "create"
   pub delete : name ≢ codes "delete"
@@ -147,6 +159,7 @@ pub other_name : (name : Word) → IsOther name → (command : Command) → (tra
 other_name name other Examine takes e = cc
 other_name name other (Label slots) takes e = cc
 other_name name other Assemble takes e = other.assemble e
+other_name name other Show takes e = other.show e
 other_name name other (Read array start count) takes e = other.read e
 other_name name other (Change (Create creation)) takes e = other.create e
 other_name name other (Change (Delete array)) takes e = other.delete e

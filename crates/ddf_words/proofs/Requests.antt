@@ -2,7 +2,7 @@
 use Rattle.std.proofs.Common.{◌≡◌, ◌≢◌, ℕ, ◌+◌, List, [], ◌∷◌, get_or, take, drop, refl, sym, ap, ◌∙◌, Option, Some, None, true, arith}
 use Rattle.hex.specs.Hex.{decode_of, encode_lower}
 use Rattle.hex.proofs.HexLemmas.{decode_of-encode_lower, decode_of-same}
-use Rattle.ddf_words.proofs.Commands.{examine, label, assemble, name_of, begins_with, not_at, no_words, examine_alone, label_names, assemble_alone, same_command, over_group}
+use Rattle.ddf_words.proofs.Commands.{examine, label, assemble, name_of, begins_with, not_at, no_words, examine_alone, label_names, same_command, over_group}
 use Rattle.ddf_words.proofs.Wishes.{first_word}
 use Rattle.ddf_words.proofs.Places.{begins_itself, wrong_word, wanting_words, wrong_among, wrong_behind}
 use Rattle.ddf_words.specs.Traits.{traits_of}
@@ -49,9 +49,11 @@ pub other_group_command : (words rest : List Word) (name : Word) → words ≡ n
 other_group_command words rest name e other = rw e (wrong_word IsGroupCommand (name ∷ rest) 0 (omega arith) (assemble_begins 0)
     (λ begun. other begun.goes_on.command begun.goes_on.takes_one (begins_with (name ∷ begun.more) begun.goes_on.command begun.goes_on.spells)))
 
-pub more_group_words : (words rest : List Word) (next : Word) → words ≡ assemble ∷ next ∷ rest → GoWrongAt IsGroupCommand words 1
-more_group_words words rest next e = rw e (wrong_word IsGroupCommand (assemble ∷ next ∷ rest) 1 (omega arith) (assemble_begins 1)
-    (λ begun. let e : next ∷ begun.more ≡ [] = assemble_alone _ begun.goes_on.command begun.goes_on.spells in cc))
+-- behind a name that stands alone nothing goes on
+pub more_group_words : (name : Word) → IsGroupCommand (name ∷ []) → ((more : List Word) (command : Command) → Spells command (name ∷ more) → more ≡ [])
+    → (words rest : List Word) (next : Word) → words ≡ name ∷ next ∷ rest → GoWrongAt IsGroupCommand words 1
+more_group_words name is alone words rest next e = rw e (wrong_word IsGroupCommand (name ∷ next ∷ rest) 1 (omega arith) (begins_itself IsGroupCommand (name ∷ []) 1 is)
+    (λ begun. let e : next ∷ begun.more ≡ [] = alone _ begun.goes_on.command begun.goes_on.spells in cc))
 
 -- ---- behind the dashes
 

@@ -1,7 +1,7 @@
 -- What commands may do.
 use Rattle.std.specs.Prelude.{Bool, true, false}
 use Rattle.ddf_words.specs.declared.command.Command.{Command}
-use Rattle.ddf_words.specs.declared.command.Command.TheVariants.{Examine, Label, Assemble, Read, Change}
+use Rattle.ddf_words.specs.declared.command.Command.TheVariants.{Examine, Label, Assemble, Show, Read, Change}
 use Rattle.ddf_words.specs.declared.command.Wish.{Wish}
 use Rattle.ddf_words.specs.declared.command.Wish.TheVariants.{Create}
 use Rattle.ddf_words.specs.declared.traits.Traits.{Traits}
@@ -25,5 +25,6 @@ abbrev pub traits_of : Command → Traits
 traits_of Examine = row false false false false
 traits_of (Label slots) = row false true true true
 traits_of Assemble = row true true true false
+traits_of Show = row true false true false
 traits_of (Read name start count) = row true false true false
 traits_of (Change wish) = row true true true (makes_guid wish)

@@ -9,7 +9,7 @@ use Rattle.hex.specs.Hex.{encode_lower}
 use Rattle.ddf_bytes.specs.Guids.{IsGuid}
 use Rattle.ddf_words.specs.declared.command.Asked.{Asked}
 use Rattle.ddf_words.specs.declared.command.Command.{Command}
-use Rattle.ddf_words.specs.declared.command.Command.TheVariants.{Examine, Label, Assemble, Read, Change}
+use Rattle.ddf_words.specs.declared.command.Command.TheVariants.{Examine, Label, Assemble, Show, Read, Change}
 use Rattle.ddf_words.specs.declared.command.CreateElement.{CreateElement}
 use Rattle.ddf_words.specs.declared.command.Creation.{Creation}
 use Rattle.ddf_words.specs.declared.command.SpareWord.{SpareWord}
@@ -221,6 +221,7 @@ abbrev pub Spells : Command → List Word → Type 0
 Spells Examine words = words ≡ codes "examine" ∷ []
 Spells (Label slots) words = SpellLabel slots words
 Spells Assemble words = words ≡ codes "assemble" ∷ []
+Spells Show words = words ≡ codes "show" ∷ []
 Spells (Read name start count) words = SpellRead name start count words
 Spells (Change wish) words = SpellsWish wish words
 

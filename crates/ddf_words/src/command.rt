@@ -21,8 +21,10 @@ pub enum Command {
         /// The slots, each from 0 to 63, in the order of the words.
         slots: Seq<u8>,
     },
-    /// Shows the members and the arrays of a group.
+    /// Recovers a group, and shows its members and arrays.
     Assemble,
+    /// Shows the members and the arrays of a group as its disks record them.
+    Show,
     /// Reads blocks of an array.
     Read {
         /// The name of the array, as the words give it: its plain bytes, or `hex:` and the digits of all its bytes.

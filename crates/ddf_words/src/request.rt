@@ -37,6 +37,10 @@ fn group_command_of(alloc: Global, words: &[String]) -> Result<Command, WordFaul
             [] => Ok(Command::Assemble),
             _ => Err(WordFault::Place(1)),
         },
+        "show" => match rest {
+            [] => Ok(Command::Show),
+            _ => Err(WordFault::Place(1)),
+        },
         "read" => read_of(alloc, words),
         "create" => create_of(alloc, words),
         "delete" => delete_of(alloc, words),

@@ -42,7 +42,7 @@ impl Command {
                 may_refuse: true,
                 makes_names: false,
             },
-            Command::Read { .. } => Traits {
+            Command::Show | Command::Read { .. } => Traits {
                 takes_group: true,
                 may_write: false,
                 may_refuse: true,

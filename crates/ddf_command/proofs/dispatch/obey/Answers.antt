@@ -18,6 +18,12 @@ returns-in-Assemble-clause-done g c = rw c.in-Assemble.is c.assemble_disks.ensur
 pub returns-in-Assemble-clause-ends : goal.returns-in-Assemble-clause-ends
 returns-in-Assemble-clause-ends g c = rw c.in-Assemble.is c.assemble_disks.ensures.ends
 
+pub returns-in-Show-clause-done : goal.returns-in-Show-clause-done
+returns-in-Show-clause-done g c = rw c.in-Show.is c.show.ensures.done
+
+pub returns-in-Show-clause-ends : goal.returns-in-Show-clause-ends
+returns-in-Show-clause-ends g c = rw c.in-Show.is c.show.ensures.ends
+
 pub returns-in-Read-clause-done : goal.returns-in-Read-clause-done
 returns-in-Read-clause-done g c = rw c.in-Read.is (rw c.items-in-Read.ensures at c.read.ensures.done)
 

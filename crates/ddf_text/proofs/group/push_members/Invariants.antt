@@ -5,4 +5,4 @@ use Rattle.ddf_text.proofs.group.push_members.Given as goal
 
 abbrev pub invariant-loop-reference : goal.invariant-loop-reference
 invariant-loop-reference l =
-    string_bytes l.text ++ member_lines l.seats l.reference-iterator ≡ string_bytes l.initial.text ++ member_lines l.seats l.members.entries
+    string_bytes l.text ++ member_lines l.seats l.lagging l.reference-iterator ≡ string_bytes l.initial.text ++ member_lines l.seats l.lagging l.members.entries

@@ -1,6 +1,7 @@
-use Rattle.std.proofs.Common.{◌≡◌, ◌∷◌, ◌∙◌, sym, ap, string_bytes, arith}
+use Rattle.std.proofs.Common.{◌≡◌, ◌∷◌, ◌∙◌, refl, sym, ap, string_bytes, arith}
 use Rattle.ddf_words.specs.Words.{Word, words_of}
-use Rattle.ddf_words.proofs.Commands.{other_name, read}
+use Rattle.ddf_words.specs.declared.command.Command.TheVariants.{Assemble, Show}
+use Rattle.ddf_words.proofs.Commands.{assemble, assemble_alone, other_name, read, show, show_alone}
 use Rattle.ddf_words.proofs.Requests.{no_group_command, other_group_command, more_group_words}
 use Rattle.ddf_words.proofs.Wishes.{create, delete, fail, spare}
 use Rattle.ddf_words.proofs.Lists.{named_words, none_left, some_left}
@@ -17,6 +18,7 @@ returns-in_default-as_str-clause-place c = λ place e.
     rw same at (other_group_command (words_of c.args.words.now) (words_of c.in-Some.rest.now) (string_bytes c.in-Some.name.now) (ap words_of c.in-Some.ensures.cases.0)
     (other_name (string_bytes c.in-Some.name.now) (record {
       assemble = λ e. c.in_default-as_str.not-assemble (c.as_str.ensures.value ∙ e);
+      show = λ e. c.in_default-as_str.not-show (c.as_str.ensures.value ∙ e);
       read = λ e. c.in_default-as_str.not-read (c.as_str.ensures.value ∙ e);
       create = λ e. c.in_default-as_str.not-create (c.as_str.ensures.value ∙ e);
       delete = λ e. c.in_default-as_str.not-delete (c.as_str.ensures.value ∙ e);
@@ -28,8 +30,15 @@ pub returns-in_default-rest-clause-place : goal.returns-in_default-rest-clause-p
 returns-in_default-rest-clause-place c = λ place e.
     let same : 1 ≡ place = cc in
     let more = some_left c.in-Some.rest.now (omega (arith, c.in_default-rest.len_at_least)) in
-    rw same at (more_group_words (words_of c.args.words.now) (words_of more.1.0) (string_bytes more.0)
+    rw same at (more_group_words assemble (record { command = Assemble; takes_one = refl; spells = refl }) assemble_alone (words_of c.args.words.now) (words_of more.1.0) (string_bytes more.0)
     (ap words_of (c.in-Some.ensures.cases.0 ∙ ap (λ ws. c.in-Some.name.now ∷ ws) more.1.1) ∙ ap (λ (w : Word). w ∷ string_bytes more.0 ∷ words_of more.1.0) (sym c.as_str.ensures.value ∙ c.in-assemble.is)))
+
+pub returns-in_default-rest-2-clause-place : goal.returns-in_default-rest-2-clause-place
+returns-in_default-rest-2-clause-place c = λ place e.
+    let same : 1 ≡ place = cc in
+    let more = some_left c.in-Some.rest.now (omega (arith, c.in_default-rest-2.len_at_least)) in
+    rw same at (more_group_words show (record { command = Show; takes_one = refl; spells = refl }) show_alone (words_of c.args.words.now) (words_of more.1.0) (string_bytes more.0)
+    (ap words_of (c.in-Some.ensures.cases.0 ∙ ap (λ ws. c.in-Some.name.now ∷ ws) more.1.1) ∙ ap (λ (w : Word). w ∷ string_bytes more.0 ∷ words_of more.1.0) (sym c.as_str.ensures.value ∙ c.in-show.is)))
 
 pub returns-in-read-clause-place : goal.returns-in-read-clause-place
 returns-in-read-clause-place c = λ place e.
