@@ -13,6 +13,7 @@ from struct import pack
 
 from measuring import beside, measured, peak_of, row, spread
 from read_speed import read_rows
+from scrub_speed import scrub_rows
 
 SECTOR = 512
 
@@ -184,6 +185,7 @@ def main():
         row("peak memory at the limit, MB", f"{peak / 1e6:.1f}", f"copies {size / 1e6:.1f}", peak / size, "2")
 
     read_rows(program, work, rounds)
+    scrub_rows(program, work, max(3, rounds // 8))
     xor = work / "xor/crates/xor_speed/out/xor_speed"
     if xor.exists():
         for sectors in (1, 64):

@@ -1,6 +1,6 @@
 #!/bin/sh
-# Measures `examine` beside mdadm, blkid and zlib, where they are at hand, `read` beside cat and the exclusive-or beside a copy, and
-# prints the table of docs/SPEED.md. It is no part of the gate. ROUNDS is the number of rounds (40); in each round every program runs
+# Measures `examine` beside mdadm, blkid and zlib, where they are at hand, `read` and `scrub` beside cat and the exclusive-or beside a
+# copy, and prints the table of docs/SPEED.md. It is no part of the gate. ROUNDS is the number of rounds (40); in each round every program runs
 # once, one after another.
 #
 # - Linux's disks: both read them as Linux left them (DDF_LINUX_DISKS, a folder of NAME.tar.xz). Then `ddf` reads them beside the same
@@ -12,6 +12,8 @@
 #   of a file of the same bytes. The bytes and the parity are placed without `ddf`, and what it gives is compared with them once. Both
 #   write over a file that is there, in memory where /dev/shm is, so that the kernel doesn't copy for cat within one file system. The
 #   same of no block tells what the start and the assembly cost. Ratios are of throughput.
+# - `scrub` of an array of random bytes, whose copies and parity agree, beside cat of what its members hold, to nowhere. It takes an eighth
+#   of the rounds, and room for 1.4 GB in the folder of temporary files.
 # - The exclusive-or of sectors in cache beside a copy of as many, in one small program (xor_speed.rt.txt: only a crate has files
 #   named .rt), which `rt` proves and builds first. That takes a minute or more.
 #

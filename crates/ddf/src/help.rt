@@ -18,6 +18,10 @@ Commands:
   read NAME START COUNT
                    print the bytes of so many blocks of an array, from one on, and
                    nothing else: at most 2048 of 512 bytes each; nothing is written
+  scrub NAME       tell whether the copies and the parity of an array agree, or the
+                   first row that doesn't; nothing is written
+  accept NAME      take the copies and the parity of a marked array to agree, on
+                   your word
   create NAME LEVEL CODE SECONDARY SLOT,SLOT..@BLOCKS..
                    make an array of these disks, with strips of 2^CODE sectors;
                    LEVEL is raid0, raid1, raid4.first, raid4.last, raid5.r0,
@@ -29,9 +33,9 @@ Commands:
   fail SLOT        take a disk out of use for good; it isn't written any more
 
 Each but examine and label is over a group: the only one that the disks show, or the one that is
-named, by @ and the 48 hexadecimal digits of its GUID. All of these but show and read recover it
-first: a member whose disk is left out of the words, or shows nothing, is listed as missing, for
-good. Standard error names it first, and on a terminal you are asked.
+named, by @ and the 48 hexadecimal digits of its GUID. All of these but show, read and scrub
+recover it first: a member whose disk is left out of the words, or shows nothing, is listed as
+missing, for good. Standard error names it first, and on a terminal you are asked.
 
 Disks are opened for reading alone by commands that write nothing. Others don't touch a
 disk that is mounted, swapped to, part of another device, or protected from writes. Each

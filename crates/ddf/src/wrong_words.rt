@@ -93,7 +93,7 @@ fn wanted(command: &str, offset: usize) -> &'static str {
     match command {
         "create" => wanted_of_array(offset),
         "read" => wanted_of_blocks(offset),
-        "delete" if offset == 1 => "the name of an array",
+        "delete" | "accept" | "scrub" if offset == 1 => "the name of an array",
         "spare" | "fail" if offset == 1 => "a slot's number from 0 to 63, or its image",
         "spare" if offset == 2 => "global, for or off",
         "spare" => "the name of an array behind for, and nothing behind global and off",

@@ -14,7 +14,7 @@ use Rattle.ddf_assembly.specs.Group.{group_of}
 use Rattle.ddf_assembly.specs.Slots.{IsLooked, newest_from}
 use Rattle.ddf_words.specs.declared.command.Asked.{Asked}
 use Rattle.ddf_words.specs.declared.command.Command.{Command}
-use Rattle.ddf_words.specs.declared.command.Command.TheVariants.{Assemble, Change, Examine, Label, Read, Show}
+use Rattle.ddf_words.specs.declared.command.Command.TheVariants.{Assemble, Change, Examine, Label, Read, Scrub, Show}
 use Rattle.ddf_words.specs.declared.traits.Traits.{Traits}
 use Rattle.ddf_words.specs.declared.words.WordFault.{WordFault}
 use Rattle.ddf_words.specs.declared.words.WordFault.TheVariants as words
@@ -29,6 +29,7 @@ use Rattle.ddf_group_commands.proofs.ShowEnds.{shown_nothing}
 use Rattle.ddf_group_commands.specs.Requests.{request_for}
 use Rattle.ddf_data_commands.proofs.LeftOut.{has_no_place}
 use Rattle.ddf_data_commands.proofs.ReadBlocks.{memory_in}
+use Rattle.ddf_data_commands.proofs.Scrubbed.{scrubbed_nothing}
 use Rattle.ddf_data_commands.specs.Read.{NotRead}
 use Rattle.ddf_command.specs.Run.{IsCommandDone, is_status}
 
@@ -157,4 +158,5 @@ done_nothing old tells told before stamp group (Read name start count) = record 
   };
   ends = (refl, λ told. refl);
 }
+done_nothing old tells told before stamp group (Scrub name) = scrubbed_nothing old tells told before group name (none_looked old)
 done_nothing old tells told before stamp group (Change wish) = changed_nothing old tells told before group (timestamp_of stamp) (none_looked old) (request_for (length old.sizes) stamp wish)

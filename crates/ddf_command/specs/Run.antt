@@ -5,7 +5,7 @@ use Rattle.ddf_bytes.specs.declared.stamp.Stamp.{Stamp}
 use Rattle.ddf_bytes.specs.Stamps.{timestamp_of}
 use Rattle.ddf_words.specs.declared.command.Asked.{Asked}
 use Rattle.ddf_words.specs.declared.command.Command.{Command}
-use Rattle.ddf_words.specs.declared.command.Command.TheVariants.{Assemble, Change, Examine, Label, Read, Show}
+use Rattle.ddf_words.specs.declared.command.Command.TheVariants.{Assemble, Change, Examine, Label, Read, Scrub, Show}
 use Rattle.ddf_words.specs.Traits.{traits_of}
 use Rattle.ddf_words.specs.Words.{Word, IsAsked}
 use Rattle.ddf_answer.specs.Call.{Answer, Work}
@@ -16,6 +16,7 @@ use Rattle.ddf_group_commands.specs.Change.{IsChangeDone}
 use Rattle.ddf_group_commands.specs.Requests.{request_for}
 use Rattle.ddf_group_commands.specs.Show.{IsShown}
 use Rattle.ddf_data_commands.specs.Read.{IsReadDone}
+use Rattle.ddf_data_commands.specs.Scrub.{IsScrubDone}
 
 -- The words ask for no command that may write to the disks.
 abbrev pub AsksForNoWrite : List Word → Type 0
@@ -28,6 +29,7 @@ IsCommandDone work stamp group (Label slots) answer = IsLabelled work stamp slot
 IsCommandDone work stamp group Assemble answer = IsAssembleDone work group (timestamp_of stamp) answer
 IsCommandDone work stamp group Show answer = IsShown work group answer
 IsCommandDone work stamp group (Read name start count) answer = IsReadDone work group name start count answer
+IsCommandDone work stamp group (Scrub name) answer = IsScrubDone work group name answer
 IsCommandDone work stamp group (Change wish) answer = IsChangeDone work group (timestamp_of stamp) (request_for (length work.old.sizes) stamp wish) answer
 
 abbrev pub IsDone : {D : Type 0} → Work D → Stamp → Asked → Answer → Type 0

@@ -19,7 +19,7 @@ use crate::refusing::refuse_words;
 use ddf_answer::Status;
 use ddf_bay::Bay;
 use ddf_bytes::{Guid, Sink, Source, Stamp};
-use ddf_data_commands::read;
+use ddf_data_commands::{read, scrub_disks};
 use ddf_disk_commands::{examine, label};
 use ddf_group_commands::{assemble_disks, change, show};
 use ddf_words::{Command, WordFault, asked};
@@ -90,6 +90,7 @@ fn obey<B: Bay, K: Sink>(
         Command::Read { name, start, count } => {
             read(alloc, group, name.items(), start, count, bay, sink)
         }
+        Command::Scrub { name } => scrub_disks(alloc, group, name.items(), bay, sink),
         Command::Change(wish) => change(alloc, group, &wish, bay, sink, stamp),
     }
 }

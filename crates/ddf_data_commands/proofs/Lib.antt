@@ -1,5 +1,7 @@
-mod Readable
+mod ArrayUse
 pub mod ReadBlocks
 pub mod LeftOut
 mod Printing
 mod ReadEnds
+mod ComparedSlots
+pub mod Scrubbed

@@ -34,8 +34,12 @@ use Rattle.ddf_answer.specs.declared.failure.Failure.{Failure}
 use Rattle.ddf_answer.specs.declared.failure.Failure.TheVariants.{Conflict, Disk, Memory, Refused, Split}
 use Rattle.ddf_answer.specs.Answers.{failure_of}
 use Rattle.ddf_answer.specs.Call.{Work, work_of}
-use Rattle.ddf_data_commands.specs.Read.{AreBlocks, AreFirstBlocks, CutShort, IsArrayRead, IsReadIn, IsReadOf, IsReadable, IsWithoutSource, MayRead, NotRead, Outcome, Stopped, Whole, array_refusals, block_refusals, failure_of_read, needs_parity, piece_blocks, read_refusal}
-use Rattle.ddf_data_commands.proofs.Readable.{named_is, range_of}
+use Rattle.ddf_data_commands.specs.Read.{AreBlocks, AreFirstBlocks, CutShort, IsArrayRead, IsReadIn, IsReadOf, IsReadable, IsWithoutSource, MayRead, NotRead, Outcome, Stopped, Whole, block_refusals, needs_parity, piece_blocks, read_refusal}
+use Rattle.ddf_data_commands.proofs.ArrayUse.{named_is, range_of}
+use Rattle.ddf_config.specs.declared.seat.Seat.{Seat}
+use Rattle.ddf_config.specs.Configuration.{Configuration}
+use Rattle.ddf_data_commands.specs.declared.using.Access.TheVariants.{Reads}
+use Rattle.ddf_data_commands.specs.Use.{IsUsable, MayUse, array_refusals, failure_of_volume, use_refusal}
 use Rattle.ddf_volume.proofs.GivenLaws.{values_of}
 use Rattle.ddf_answer.proofs.Rises.{rose_later, rose_still}
 
@@ -106,33 +110,38 @@ never_disk false false unsure most slot e = cc
 never_disk false true true most slot e = cc
 never_disk false true false most slot e = cc
 
-module _ (group : GroupValue) (word : List ℕ) (start count : ℕ) (entry : List ℕ × Array) (v : Volume) (named : named_array group.config.arrays word ≡ Some entry)
-    (is_view : view_of group.config entry.0 group.seats ≡ Ok v) (accepted : first_refusal (array_refusals group entry.1 start count) ≡ None) where
-  found : lookup (same_guid entry.0) group.config.arrays ≡ Some entry.1
-  found = named_is group.config.arrays word entry named
+module _ (config : Configuration) (seats : List Seat) (word : List ℕ) (start count : ℕ) (used : List ℕ × Volume) (usable : IsUsable Reads config seats word start count used) where
+  abbrev entry : List ℕ × Array
+  entry = (used.0, usable.array)
+
+  abbrev v : Volume
+  v = used.1
+
+  found : lookup (same_guid entry.0) config.arrays ≡ Some entry.1
+  found = named_is config.arrays word entry usable.is_named
 
   capacity_is : capacity v ≡ array_capacity entry.1
-  capacity_is = told_capacity group.config entry.0 group.seats v entry.1 is_view found
+  capacity_is = told_capacity config entry.0 seats v entry.1 usable.is_view found
 
-  within_is : is_within v ≡ is_array_within group.seats entry.1
-  within_is = told_within group.config entry.0 group.seats v entry.1 is_view found
+  within_is : is_within v ≡ is_array_within seats entry.1
+  within_is = told_within config entry.0 seats v entry.1 usable.is_view found
 
-  unsure_is : needs_parity (view_of group.config entry.0 group.seats) start count ≡ is_unsure v start count
-  unsure_is = ap (λ (found : Result Volume Refusal). needs_parity found start count) is_view
+  unsure_is : needs_parity (view_of config entry.0 seats) start count ≡ is_unsure v start count
+  unsure_is = ap (λ (found : Result Volume Refusal). needs_parity found start count) usable.is_view
 
   -- the refusal is that of the blocks
-  then_blocks : read_refusal group (named_array group.config.arrays word) start count
+  then_blocks : read_refusal config seats (named_array config.arrays word) start count
       ≡ first_refusal (refuse_if (not (is_within v)) Lost ∷ refuse_if (is_unsure v start count) Unsure ∷ [])
   then_blocks =
-      ap (λ (one : Option (List ℕ × Array)). read_refusal group one start count) named
-      ∙ first_append (array_refusals group entry.1 start count) (block_refusals group entry start count)
-      ∙ ap (λ (r : Option Refusal). option_or r (first_refusal (block_refusals group entry start count))) accepted
-      ∙ ap (λ (b : Bool). first_refusal (refuse_if (not b) Lost ∷ refuse_if (needs_parity (view_of group.config entry.0 group.seats) start count) Unsure ∷ [])) (sym within_is)
+      ap (λ (one : Option (List ℕ × Array)). read_refusal config seats one start count) usable.is_named
+      ∙ first_append (array_refusals Reads config seats entry.1 start count) (block_refusals config seats entry start count)
+      ∙ ap (λ (r : Option Refusal). option_or r (first_refusal (block_refusals config seats entry start count))) usable.accepted
+      ∙ ap (λ (b : Bool). first_refusal (refuse_if (not b) Lost ∷ refuse_if (needs_parity (view_of config entry.0 seats) start count) Unsure ∷ [])) (sym within_is)
       ∙ ap (λ (b : Bool). first_refusal (refuse_if (not (is_within v)) Lost ∷ refuse_if b Unsure ∷ [])) unsure_is
 
   -- the range lies within the capacity
   in_capacity : nat_lt (capacity v) (start + count) ≡ false
-  in_capacity = ap (λ (n : ℕ). nat_lt n (start + count)) capacity_is ∙ range_of group start count entry accepted
+  in_capacity = ap (λ (n : ℕ). nat_lt n (start + count)) capacity_is ∙ range_of Reads config seats start count entry.1 usable.accepted
 
   by_tests : (past within unsure : Bool) → past ≡ false → (fault : Option VolumeFault)
       → (if past then Some (faults.Range (capacity v)) else (if not within then Some faults.Lost else (if unsure then Some faults.Unsure else None))) ≡ fault
@@ -142,15 +151,15 @@ module _ (group : GroupValue) (word : List ℕ) (start count : ℕ) (entry : Lis
   by_tests false true true is fault e = ap refused e
   by_tests false true false is fault e = ap refused e
 
-  same_refusal : (fault : Option VolumeFault) → volume.read_refusal v start count ≡ fault → read_refusal group (named_array group.config.arrays word) start count ≡ refused fault
+  same_refusal : (fault : Option VolumeFault) → volume.read_refusal v start count ≡ fault → read_refusal config seats (named_array config.arrays word) start count ≡ refused fault
   same_refusal fault e = then_blocks ∙ by_tests (nat_lt (capacity v) (start + count)) (is_within v) (is_unsure v start count) in_capacity fault e
 
   -- an array whose blocks nothing refuses may be read
-  pub may_read : volume.read_refusal v start count ≡ None → MayRead group word start count (Ok v)
-  may_read none = record { entry = entry; is_named = named; is_view = is_view; accepted = same_refusal None none }
+  pub may_read : volume.read_refusal v start count ≡ None → MayRead config seats word start count (Ok v)
+  may_read none = record { entry = entry; is_named = usable.is_named; is_view = usable.is_view; accepted = same_refusal None none }
 
   -- else it is refused for what they tell
-  pub may_not_read : (fault : VolumeFault) → volume.read_refusal v start count ≡ Some fault → MayRead group word start count (Err (failure_of_read fault))
+  pub may_not_read : (fault : VolumeFault) → volume.read_refusal v start count ≡ Some fault → MayRead config seats word start count (Err (failure_of_volume fault))
   may_not_read (faults.Range most) e = same_refusal (Some (faults.Range most)) e
   may_not_read faults.Lost e = same_refusal (Some faults.Lost) e
   may_not_read faults.Unsure e = same_refusal (Some faults.Unsure) e
@@ -159,9 +168,28 @@ module _ (group : GroupValue) (word : List ℕ) (start count : ℕ) (entry : Lis
 
 -- ---- what comes of a group
 
-module _ {D : Type 0} (work : Work D) (group : GroupValue) (word : List ℕ) (start count : ℕ) where
+module _ (config : Configuration) (seats : List Seat) (word : List ℕ) (start count : ℕ) where
+  -- one that can't be used may not be read
+  refused_use : (refusal : Refusal) → use_refusal Reads config seats (named_array config.arrays word) start count ≡ Some refusal
+      → read_refusal config seats (named_array config.arrays word) start count ≡ Some refusal
+  refused_use refusal is = by (named_array config.arrays word) is
+    where
+      by : (found : Option (List ℕ × Array)) → use_refusal Reads config seats found start count ≡ Some refusal → read_refusal config seats found start count ≡ Some refusal
+      by None e = e
+      by (Some entry) e =
+          first_append (array_refusals Reads config seats entry.1 start count) (block_refusals config seats entry start count)
+          ∙ ap (λ (r : Option Refusal). option_or r (first_refusal (block_refusals config seats entry start count))) e
+
+  pub may_not_use : (failure : Failure) → MayUse Reads config seats word start count (Err failure) → MayRead config seats word start count (Err failure)
+  may_not_use (Refused refusal) may = refused_use refusal may
+  may_not_use (Disk slot) may = absurd may
+  may_not_use (Conflict i j sequence differ) may = absurd may
+  may_not_use (Split i j) may = absurd may
+  may_not_use Memory may = tt
+
+module _ {D : Type 0} (work : Work D) (config : Configuration) (seats : List Seat) (word : List ℕ) (start count : ℕ) where
   -- an array that may not be read isn't
-  pub not_read : (failure : Failure) → MayRead group word start count (Err failure) → IsReadOf work group word start count (NotRead failure)
+  pub not_read : (failure : Failure) → MayRead config seats word start count (Err failure) → IsReadOf work config seats word start count (NotRead failure)
   not_read (Refused refusal) may = may
   not_read (Disk slot) may = absurd may
   not_read (Conflict i j sequence differ) may = absurd may
@@ -169,7 +197,7 @@ module _ {D : Type 0} (work : Work D) (group : GroupValue) (word : List ℕ) (st
   not_read Memory may = tt
 
   -- what comes of one that may be read
-  pub read_of : (v : Volume) → IsReadable group word start count v → (outcome : Outcome) → IsArrayRead work v start count outcome → IsReadOf work group word start count outcome
+  pub read_of : (v : Volume) → IsReadable config seats word start count v → (outcome : Outcome) → IsArrayRead work v start count outcome → IsReadOf work config seats word start count outcome
   read_of v ready (Whole sectors) is = (v, ready, is)
   read_of v ready (NotRead (Refused refusal)) is = absurd is
   read_of v ready (NotRead (Disk slot)) is = (v, ready, is)
@@ -212,8 +240,8 @@ module _ {D : Type 0} (tells : Type 0) (old middle new : BayState D)
         (is.0, first_behind start count front is.1, without_behind (start + length front) (min (count - length front) piece_blocks) slot is.2)
     from_behind start count (CutShort front) is = first_behind start count front is
 
-  module _ (group : GroupValue) (word : List ℕ) (start count : ℕ) where
-    pub read_behind : (outcome : Outcome) → IsReadOf (work_of tells middle new) group word start count outcome → IsReadOf (work_of tells old new) group word start count outcome
+  module _ (config : Configuration) (seats : List Seat) (word : List ℕ) (start count : ℕ) where
+    pub read_behind : (outcome : Outcome) → IsReadOf (work_of tells middle new) config seats word start count outcome → IsReadOf (work_of tells old new) config seats word start count outcome
     read_behind (Whole sectors) is = (is.0, is.1, from_behind is.0 start count (Whole sectors) is.2)
     read_behind (NotRead (Refused refusal)) is = is
     read_behind (NotRead (Disk slot)) is = (is.0, is.1, from_behind is.0 start count (NotRead (Disk slot)) is.2)
@@ -225,8 +253,8 @@ module _ {D : Type 0} (tells : Type 0) (old middle new : BayState D)
 
 -- where a group was assembled
 pub read_in : {D : Type 0} (work : Work D) (word : List ℕ) (start count : ℕ) (group : GroupValue) (answer : Result GroupValue Assembly) (outcome : Outcome)
-    → UpToMemory (Ok group) answer → IsReadOf work group word start count outcome → IsReadIn work word start count answer outcome
-read_in work word start count group (Ok one) outcome (inl is) read = let same : group ≡ one = cc in subst (λ (g : GroupValue). IsReadOf work g word start count outcome) same read
+    → UpToMemory (Ok group) answer → IsReadOf work group.config group.seats word start count outcome → IsReadIn work word start count answer outcome
+read_in work word start count group (Ok one) outcome (inl is) read = let same : group ≡ one = cc in subst (λ (g : GroupValue). IsReadOf work g.config g.seats word start count outcome) same read
 read_in work word start count group (Err fault) outcome (inl is) read = absurd cc
 read_in work word start count group answer outcome (inr is) read = absurd cc
 
@@ -236,7 +264,7 @@ pub fault_in : {D : Type 0} (work : Work D) (word : List ℕ) (start count : ℕ
 fault_in work word start count fault (Ok one) (inl is) = absurd cc
 fault_in work word start count fault (Ok one) (inr is) =
     let same : fault ≡ assembly.Memory = cc in
-    subst (λ (f : Assembly). IsReadOf work one word start count (NotRead (failure_of f))) (sym same) tt
+    subst (λ (f : Assembly). IsReadOf work one.config one.seats word start count (NotRead (failure_of f))) (sym same) tt
 fault_in work word start count fault (Err other) (inl is) = let same : fault ≡ other = cc in inl (ap (λ (f : Assembly). NotRead (failure_of f)) same)
 fault_in work word start count fault (Err other) (inr is) = let same : fault ≡ assembly.Memory = cc in inr (ap (λ (f : Assembly). NotRead (failure_of f)) same)
 

@@ -1,3 +1,4 @@
-pub mod Arrays
+pub mod Use
 pub mod Read
+pub mod Scrub
 pub mod Pieces

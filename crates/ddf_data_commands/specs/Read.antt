@@ -1,25 +1,20 @@
 -- What `read` tells, and how it ends.
-use Rattle.std.specs.Prelude.{◌≡◌, ◌⊎◌, ℕ, ◌+◌, ◌-◌, ◌%◌, ◌<◌, ◌≤◌, Bool, true, false, not, ◌&&◌, ◌||◌, nat_lt, List, [], ◌∷◌, ◌++◌, length, min, Option, Some, None, Result, Ok, Err, IsTrue, slice_index_or}
+use Rattle.std.specs.Prelude.{◌≡◌, ◌⊎◌, ℕ, ◌+◌, ◌-◌, ◌%◌, ◌<◌, ◌≤◌, Bool, false, not, List, [], ◌∷◌, ◌++◌, length, min, Option, Some, None, Result, Ok, Err, IsTrue, slice_index_or}
 use Rattle.std.specs.List.{flat_map}
 use Rattle.ddf_bytes.specs.Streams.{TakesFront}
 use Rattle.ddf_bay.specs.ReadsOnly.{LookFailed}
 use Rattle.ddf_copy.specs.declared.newest_copy.Newest.{Newest}
 use Rattle.ddf_config.specs.declared.array.Array.{Array}
 use Rattle.ddf_config.specs.declared.refusal.Refusal.{Refusal}
-use Rattle.ddf_config.specs.declared.refusal.Refusal.TheVariants.{Degraded, Held, Level, Lost, NoArray, Range, Shape, Unsure}
-use Rattle.ddf_config.specs.Extents.{extents}
-use Rattle.ddf_config.specs.Levels.{unserved_level}
+use Rattle.ddf_config.specs.declared.refusal.Refusal.TheVariants.{Lost, NoArray, Unsure}
+use Rattle.ddf_config.specs.declared.seat.Seat.{Seat}
+use Rattle.ddf_config.specs.Configuration.{Configuration}
 use Rattle.ddf_config.specs.Refusals.{first_refusal, refuse_if}
-use Rattle.ddf_config.specs.Shapes.{array_capacity}
-use Rattle.ddf_config.specs.Unusable.{is_served_on}
-use Rattle.ddf_config.specs.Within.{is_complete}
 use Rattle.ddf_array.specs.Viewing.{is_array_within, view_of}
 use Rattle.ddf_array.specs.Volume.{Volume}
 use Rattle.ddf_volume.specs.Given.{AreGiven, AreValues, NoneLeftIn}
 use Rattle.ddf_volume.specs.Reading.{Failed, IsOn, NoneFailed}
 use Rattle.ddf_volume.specs.Refused.{is_unsure}
-use Rattle.ddf_volume.specs.declared.fault.VolumeFault.{VolumeFault}
-use Rattle.ddf_volume.specs.declared.fault.VolumeFault.TheVariants as volumes
 use Rattle.ddf_group.specs.declared.answer.Assembly.{Assembly}
 use Rattle.ddf_assembly.specs.Group.{GroupValue, group_of}
 use Rattle.ddf_assembly.specs.Slots.{newest_from}
@@ -27,13 +22,10 @@ use Rattle.ddf_request.specs.Named.{named_array}
 use Rattle.ddf_answer.specs.declared.failure.Failure.{Failure}
 use Rattle.ddf_answer.specs.declared.failure.Failure.TheVariants.{Conflict, Disk, Memory, Refused, Split}
 use Rattle.ddf_answer.specs.Answers.{IsToldFailure, failure_of}
-use Rattle.ddf_data_commands.specs.Arrays.{bad_blocks, is_held}
+use Rattle.ddf_data_commands.specs.declared.using.Access.TheVariants.{Reads}
+use Rattle.ddf_data_commands.specs.Use.{array_refusals}
 use Rattle.ddf_answer.specs.Call.{Answer, Work}
 use Rattle.ddf_answer.specs.Tells.{EndedWith}
-
--- the most blocks of one read (profile)
-abbrev pub most_blocks : ℕ
-most_blocks = 2048
 
 -- the blocks of a piece: so many are read and printed, and then the next (profile)
 abbrev pub piece_blocks : ℕ
@@ -41,45 +33,22 @@ piece_blocks = 128
 
 -- ---- what it is refused for
 
--- blocks pass the capacity, or are too many; of an array that isn't complete that can't be told
-abbrev pub is_out_of_range : Array → (start count : ℕ) → Bool
-is_out_of_range array start count = is_complete array && (nat_lt (array_capacity array) (start + count) || nat_lt most_blocks count)
-
 -- the array is marked, and a block has no available cell
 abbrev pub needs_parity : Result Volume Refusal → (start count : ℕ) → Bool
 needs_parity (Ok volume) start count = is_unsure volume start count
 needs_parity (Err refusal) start count = false
 
--- a level isn't served, or the numbers make no array
-abbrev pub is_useless : Option Refusal → Bool
-is_useless None = false
-is_useless (Some (Level code)) = true
-is_useless (Some Shape) = true
-is_useless other = false
-
--- In order: a level isn't served; the numbers make no array, or its extents don't lie well; the range passes the capacity; a disk of
--- it has bad blocks; its state or its access bits forbid it; an element of it is unknown.
-abbrev pub array_refusals : GroupValue → Array → (start count : ℕ) → List (Option Refusal)
-array_refusals group array start count =
-    unserved_level array
-    ∷ refuse_if (not (is_served_on group.config.members group.seats (extents group.config.arrays) array)) Shape
-    ∷ refuse_if (is_out_of_range array start count) (Range (array_capacity array))
-    ∷ bad_blocks group.seats array
-    ∷ refuse_if (is_held array) Held
-    ∷ refuse_if (not (is_complete array)) Lost
-    ∷ []
-
--- Then: it isn't within its level; parity is needed of a marked array.
-abbrev pub block_refusals : GroupValue → (List ℕ × Array) → (start count : ℕ) → List (Option Refusal)
-block_refusals group entry start count =
-    refuse_if (not (is_array_within group.seats entry.1)) Lost
-    ∷ refuse_if (needs_parity (view_of group.config entry.0 group.seats) start count) Unsure
+-- Behind what any use of blocks is refused for: the array isn't within its level; parity is needed of a marked one.
+abbrev pub block_refusals : Configuration → List Seat → (List ℕ × Array) → (start count : ℕ) → List (Option Refusal)
+block_refusals config seats entry start count =
+    refuse_if (not (is_array_within seats entry.1)) Lost
+    ∷ refuse_if (needs_parity (view_of config entry.0 seats) start count) Unsure
     ∷ []
 
 -- the first of all: no array has the name, or the array can't be read
-abbrev pub read_refusal : GroupValue → Option (List ℕ × Array) → (start count : ℕ) → Option Refusal
-read_refusal group None start count = Some NoArray
-read_refusal group (Some entry) start count = first_refusal (array_refusals group entry.1 start count ++ block_refusals group entry start count)
+abbrev pub read_refusal : Configuration → List Seat → Option (List ℕ × Array) → (start count : ℕ) → Option Refusal
+read_refusal config seats None start count = Some NoArray
+read_refusal config seats (Some entry) start count = first_refusal (array_refusals Reads config seats entry.1 start count ++ block_refusals config seats entry start count)
 
 -- ---- what it gives
 
@@ -91,12 +60,12 @@ pub data Outcome : Type 0 where
   Stopped : (front : List (List ℕ)) → (slot : ℕ) → Outcome
   CutShort : (front : List (List ℕ)) → Outcome
 
--- The word names an array of the group, of which so many blocks may be read from a number on.
-pub record IsReadable (group : GroupValue) (word : List ℕ) (start count : ℕ) (volume : Volume) : Type 0 where
+-- The word names an array of a configuration, of which so many blocks may be read from a number on.
+pub record IsReadable (config : Configuration) (seats : List Seat) (word : List ℕ) (start count : ℕ) (volume : Volume) : Type 0 where
   pub entry : List ℕ × Array
-  pub is_named : named_array group.config.arrays word ≡ Some entry
-  pub is_view : view_of group.config entry.0 group.seats ≡ Ok volume
-  pub accepted : read_refusal group (named_array group.config.arrays word) start count ≡ None
+  pub is_named : named_array config.arrays word ≡ Some entry
+  pub is_view : view_of config entry.0 seats ≡ Ok volume
+  pub accepted : read_refusal config seats (named_array config.arrays word) start count ≡ None
 
 -- The sectors are the blocks of an array from a number on, as their sources give them, and where no read failed in this
 -- call on a slot of the array's available places exactly their values.
@@ -128,40 +97,23 @@ IsArrayRead work volume start count (Stopped front slot) =
 IsArrayRead work volume start count (CutShort front) = AreFirstBlocks work volume start count front
 
 -- what came of a group: that it is refused, want of memory, or what came of the array
-abbrev pub IsReadOf : {D : Type 0} → Work D → GroupValue → (word : List ℕ) → (start count : ℕ) → Outcome → Type 0
-IsReadOf work group word start count (NotRead (Refused refusal)) = read_refusal group (named_array group.config.arrays word) start count ≡ Some refusal
-IsReadOf work group word start count (NotRead Memory) = Unit {0}
-IsReadOf work group word start count outcome = (volume : Volume) × IsReadable group word start count volume × IsArrayRead work volume start count outcome
+abbrev pub IsReadOf : {D : Type 0} → Work D → Configuration → List Seat → (word : List ℕ) → (start count : ℕ) → Outcome → Type 0
+IsReadOf work config seats word start count (NotRead (Refused refusal)) = read_refusal config seats (named_array config.arrays word) start count ≡ Some refusal
+IsReadOf work config seats word start count (NotRead Memory) = Unit {0}
+IsReadOf work config seats word start count outcome = (volume : Volume) × IsReadable config seats word start count volume × IsArrayRead work volume start count outcome
 
 abbrev pub IsReadIn : {D : Type 0} → Work D → (word : List ℕ) → (start count : ℕ) → Result GroupValue Assembly → Outcome → Type 0
-IsReadIn work word start count (Ok group) outcome = IsReadOf work group word start count outcome
+IsReadIn work word start count (Ok group) outcome = IsReadOf work group.config group.seats word start count outcome
 IsReadIn work word start count (Err fault) outcome = (outcome ≡ NotRead (failure_of fault)) ⊎ (outcome ≡ NotRead Memory)
 
 -- an array may be read, why it may not, or want of memory
-abbrev pub MayRead : GroupValue → (word : List ℕ) → (start count : ℕ) → Result Volume Failure → Type 0
-MayRead group word start count (Ok volume) = IsReadable group word start count volume
-MayRead group word start count (Err (Refused refusal)) = read_refusal group (named_array group.config.arrays word) start count ≡ Some refusal
-MayRead group word start count (Err Memory) = Unit {0}
-MayRead group word start count (Err (Disk slot)) = ⊥
-MayRead group word start count (Err (Conflict i j sequence differ)) = ⊥
-MayRead group word start count (Err (Split i j)) = ⊥
-
--- the view of an array, why there is none, or want of memory
-abbrev pub IsViewed : Result Volume Refusal → Result Volume Failure → Type 0
-IsViewed meaning (Ok volume) = meaning ≡ Ok volume
-IsViewed meaning (Err (Refused refusal)) = meaning ≡ Err refusal
-IsViewed meaning (Err Memory) = Unit {0}
-IsViewed meaning (Err (Disk slot)) = ⊥
-IsViewed meaning (Err (Conflict i j sequence differ)) = ⊥
-IsViewed meaning (Err (Split i j)) = ⊥
-
--- what blocks tell of a read that isn't done
-abbrev pub failure_of_read : VolumeFault → Failure
-failure_of_read (volumes.Range capacity) = Refused (Range capacity)
-failure_of_read volumes.Lost = Refused Lost
-failure_of_read volumes.Unsure = Refused Unsure
-failure_of_read volumes.Degraded = Refused Degraded
-failure_of_read (volumes.Disk slot) = Disk slot
+abbrev pub MayRead : Configuration → List Seat → (word : List ℕ) → (start count : ℕ) → Result Volume Failure → Type 0
+MayRead config seats word start count (Ok volume) = IsReadable config seats word start count volume
+MayRead config seats word start count (Err (Refused refusal)) = read_refusal config seats (named_array config.arrays word) start count ≡ Some refusal
+MayRead config seats word start count (Err Memory) = Unit {0}
+MayRead config seats word start count (Err (Disk slot)) = ⊥
+MayRead config seats word start count (Err (Conflict i j sequence differ)) = ⊥
+MayRead config seats word start count (Err (Split i j)) = ⊥
 
 -- no array of the group, if there is one, has an available place on this slot
 abbrev pub HasNoPlace : Result GroupValue Assembly → ℕ → Type 0

@@ -28,7 +28,7 @@ use Rattle.ddf_answer.specs.Answers.{failure_of, failure_of_plan}
 use Rattle.ddf_answer.specs.Call.{Work, work_of}
 use Rattle.ddf_group_commands.specs.Change.{HasChanged, IsChanged, IsChangedIn, KeepsHistories, Request, failure_of_group, steps_asked, steps_of, steps_or}
 use Rattle.ddf_group_commands.specs.GroupRead.{IsFoundBy, IsGroupRead, IsReadFrom, group_or}
-use Rattle.ddf_group_commands.specs.Requests.{alone}
+use Rattle.ddf_group_commands.specs.Requests.{at_most_one}
 use Rattle.ddf_group_commands.specs.Others.{LeavesOthers}
 use Rattle.ddf_group_commands.specs.Writing.{IsLeftWriting}
 use Rattle.ddf_group_commands.proofs.Beside.{beside_since, reads_beside}
@@ -150,19 +150,19 @@ module _ {D : Type 0} (work : Work D) (named : Option (List ℕ)) (timestamp : �
   pub memory_spent : HasChanged work named timestamp request (Err Memory)
   memory_spent = unwritten Memory reads
 
-  refused_by : (meaning : Result Change Refusal) (fault : PlanFault) → request (config_recovered group) group.seats ≡ alone meaning → IsRequested meaning (Err fault)
+  refused_by : (meaning : Result (Option Change) Refusal) (fault : PlanFault) → request (config_recovered group) group.seats ≡ at_most_one meaning → IsRequested meaning (Err fault)
       → IsChanged work group (steps_of group timestamp request) (Err (failure_of_plan fault))
-  refused_by meaning (plans.Refused refusal) same is = (ap (steps_asked group timestamp) (same ∙ ap alone is), reads)
+  refused_by meaning (plans.Refused refusal) same is = (ap (steps_asked group timestamp) (same ∙ ap at_most_one is), reads)
   refused_by meaning plans.Memory same is = reads
 
   -- where there is nothing that the words ask for, or memory ran out
-  pub not_asked : (meaning : Result Change Refusal) (fault : PlanFault) → request (config_recovered group) group.seats ≡ alone meaning → IsRequested meaning (Err fault)
+  pub not_asked : (meaning : Result (Option Change) Refusal) (fault : PlanFault) → request (config_recovered group) group.seats ≡ at_most_one meaning → IsRequested meaning (Err fault)
       → HasChanged work named timestamp request (Err (failure_of_plan fault))
   not_asked meaning fault same is = unwritten (failure_of_plan fault) (refused_by meaning fault same is)
 
 -- What is asked of the same slots, configuration and seats is the same.
-pub same_asked : {slots : ℕ} {old now : List ℕ} {config same_config : Configuration} {seats same_seats : List Seat} (ask : (slots : ℕ) → Configuration → List Seat → Result Change Refusal)
-    → slots ≡ length now → now ≡ old → config ≡ same_config → seats ≡ same_seats → alone (ask (length old) same_config same_seats) ≡ alone (ask slots config seats)
+pub same_asked : {slots : ℕ} {old now : List ℕ} {config same_config : Configuration} {seats same_seats : List Seat} (ask : (slots : ℕ) → Configuration → List Seat → Result (Option Change) Refusal)
+    → slots ≡ length now → now ≡ old → config ≡ same_config → seats ≡ same_seats → at_most_one (ask (length old) same_config same_seats) ≡ at_most_one (ask slots config seats)
 same_asked ask one sizes two three = rw (one, sizes, two, three) refl
 
 -- ---- changes are asked

@@ -3,6 +3,8 @@ use Rattle.std.proofs.Common.{◌≡◌, ℕ, zero, suc, ◌^◌, ◌<◌, ◌�
 use Rattle.std.proofs.lemmas.List.{length-append, length-map, length-take}
 use Rattle.std.specs.Prelude.{slice_get}
 use Rattle.std.specs.List.{AllByRecursion, list_all}
+use Rattle.std.specs.Map.{lookup}
+use Rattle.std.specs.Option.{option_to_list}
 use Rattle.ddf_bytes.specs.declared.stamp.Stamp.{Stamp}
 use Rattle.ddf_config.specs.declared.array.Array.{Array}
 use Rattle.ddf_config.specs.declared.member.SpareUse.{SpareUse}
@@ -12,7 +14,9 @@ use Rattle.ddf_config.specs.declared.refusal.Refusal.TheVariants.{NoArray}
 use Rattle.ddf_config.specs.declared.seat.Seat.{Seat}
 use Rattle.ddf_config.specs.Configuration.{Configuration}
 use Rattle.ddf_config.specs.ElementValue.{ElementValue}
+use Rattle.ddf_config.specs.Members.{same_guid}
 use Rattle.ddf_config.specs.Refusals.{first_refusal}
+use Rattle.ddf_config.specs.States.{is_marked}
 use Rattle.ddf_plan.specs.declared.change.Change.{Change}
 use Rattle.ddf_plan.specs.declared.change.Change.TheVariants as changes
 use Rattle.ddf_words.specs.declared.command.CreateElement.{CreateElement}
@@ -20,11 +24,12 @@ use Rattle.ddf_words.specs.declared.command.SpareWord.{SpareWord}
 use Rattle.ddf_words.specs.declared.command.SpareWord.TheVariants as spares
 use Rattle.ddf_words.specs.declared.command.Creation.{Creation}
 use Rattle.ddf_words.specs.declared.command.Wish.{Wish}
-use Rattle.ddf_words.specs.declared.command.Wish.TheVariants.{Create, Delete, Spare, Fail}
+use Rattle.ddf_words.specs.declared.command.Wish.TheVariants.{Create, Delete, Accept, Spare, Fail}
 use Rattle.ddf_words.specs.Commands.{FitsCreation, FitsElement, FitsSpare, FitsWish}
-use Rattle.ddf_request.specs.Named.{named_guid}
+use Rattle.ddf_repair.specs.Accept.{accepted}
+use Rattle.ddf_request.specs.Named.{named_array, named_guid}
 use Rattle.ddf_request.specs.NewArray.{is_misfit, misfit_refusal, new_array, new_array_guid, new_element, new_position, padded, qualifier_of}
-use Rattle.ddf_request.specs.Request.{IsWish, change_for, create_change, delete_change, request_of, slots_named, spare_change, unless}
+use Rattle.ddf_request.specs.Request.{IsWish, accept_change, accept_refusal, change_for, create_change, delete_change, one, request_of, slots_named, spare_change, unless}
 use Rattle.ddf_request.specs.Spare.{served_guid, served_guids, use_of, with_guid}
 use Rattle.ddf_request.specs.Slots.{is_on, reference_on, slot_refusals}
 use Rattle.ddf_request.proofs.Numbers.{least_fits}
@@ -48,9 +53,21 @@ wish_is (Create creation) fits = record { short = fits.short; few = few_of creat
 wish_is other fits = tt
 
 -- what is given where nothing refuses it before
-change_of : (refusal : Option Refusal) (asked : Result Change Refusal) (given : Change) → unless refusal asked ≡ Ok given → asked ≡ Ok given
+change_of : (refusal : Option Refusal) (asked : Result (Option Change) Refusal) (given : Option Change) → unless refusal asked ≡ Ok given → asked ≡ Ok given
 change_of None asked given is = is
 change_of (Some refusal) asked given is = absurd cc
+
+-- the changes that are asked for, one at the most
+abbrev pub AreAsked : Option Change → Type 0
+AreAsked change = AllByRecursion CanBeAsked (option_to_list change)
+
+pub one_at_most : (change : Option Change) → length (option_to_list change) ≤ 1
+one_at_most None = omega arith
+one_at_most (Some change) = omega arith
+
+one_asked : (asked : Result Change Refusal) (change : Option Change) → ((only : Change) → asked ≡ Ok only → CanBeAsked only) → one asked ≡ Ok change → AreAsked change
+one_asked (Ok only) change can is = let same : Some only ≡ change = cc in subst AreAsked same (can only refl, tt)
+one_asked (Err refusal) change can is = absurd cc
 
 -- ---- a new array
 
@@ -177,16 +194,46 @@ spare_is : (reference : ℕ) (asked : Result SpareUse Refusal) (change : Change)
 spare_is reference (Ok use_as) change new is = let same : changes.Spare reference use_as ≡ change = cc in subst CanBeAsked same (new use_as refl)
 spare_is reference (Err refusal) change new is = absurd cc
 
+-- ---- `accept`
+
+-- what clears the mark of an array, where it has one
+unmark_is : (config : Configuration) (guid : List ℕ) → AreAsked (accepted config guid)
+unmark_is config guid = by (lookup (same_guid guid) config.arrays)
+  where
+    cleared : (marked : Bool) (array : Array) → AreAsked (if marked then Some (changes.Unmark guid array.init) else None)
+    cleared true array = (tt, tt)
+    cleared false array = tt
+
+    by : (found : Option Array) → AreAsked (elim found [ None ↦ None | Some array ↦ if is_marked array then Some (changes.Unmark guid array.init) else None ])
+    by None = tt
+    by (Some array) = cleared (is_marked array) array
+
+-- what `accept` gives
+accept_asked : (config : Configuration) (seats : List Seat) (word : List ℕ) (change : Option Change) → accept_change config seats word ≡ Ok change → AreAsked change
+accept_asked config seats word change is = by (named_array config.arrays word) is
+  where
+    taken : (entry : List ℕ × Array) (refusal : Option Refusal) → ◌≡◌ {A = Result (Option Change) Refusal} (elim refusal [ None ↦ Ok (accepted config entry.0) | Some refusal ↦ Err refusal ]) (Ok change) → AreAsked change
+    taken entry None is = let same : accepted config entry.0 ≡ change = cc in subst AreAsked same (unmark_is config entry.0)
+    taken entry (Some refusal) is = absurd cc
+
+    by : (found : Option (List ℕ × Array)) → ◌≡◌ {A = Result (Option Change) Refusal}
+        (elim found [ None ↦ Err NoArray | Some entry ↦ elim (accept_refusal config seats entry.1) [ None ↦ Ok (accepted config entry.0) | Some refusal ↦ Err refusal ] ]) (Ok change) → AreAsked change
+    by None is = absurd cc
+    by (Some entry) is = taken entry (accept_refusal config seats entry.1) is
+
 -- ---- every wish
 
 module _ (seats : List Seat) (config : Configuration) (stamp : Stamp) (small : AllByRecursion (λ (seat : Seat). seat.reference < 2 ^ 32) seats) where
-  wished : (wish : Wish) (change : Change) → FitsWish wish → HasByteCodes wish → change_for config seats stamp wish ≡ Ok change → CanBeAsked change
-  wished (Create creation) change fits codes is = create_asked seats creation (record { words = fits; codes = codes; references = small }) config stamp change is
-  wished (Delete name) change fits codes is = delete_asked config name change is
-  wished (Spare slot word) change fits codes is = spare_is (reference_on seats slot) (use_of config word) change (λ use_as. use_is config word use_as fits) is
-  wished (Fail slot) change fits codes is = let same : changes.Fail (reference_on seats slot) ≡ change = cc in subst CanBeAsked same tt
+  wished : (wish : Wish) (change : Option Change) → FitsWish wish → HasByteCodes wish → change_for config seats stamp wish ≡ Ok change → AreAsked change
+  wished (Create creation) change fits codes is =
+      one_asked (create_change config seats stamp creation) change (create_asked seats creation (record { words = fits; codes = codes; references = small }) config stamp) is
+  wished (Delete name) change fits codes is = one_asked (delete_change config name) change (delete_asked config name) is
+  wished (Accept name) change fits codes is = accept_asked config seats name change is
+  wished (Spare slot word) change fits codes is =
+      one_asked (spare_change (reference_on seats slot) (use_of config word)) change (λ only. spare_is (reference_on seats slot) (use_of config word) only (λ use_as. use_is config word use_as fits)) is
+  wished (Fail slot) change fits codes is = let same : Some (changes.Fail (reference_on seats slot)) ≡ change = cc in subst AreAsked same (tt, tt)
 
-  -- the change that is asked for
-  pub request_asked : (slots : ℕ) (wish : Wish) (change : Change) → FitsWish wish → HasByteCodes wish → request_of slots config seats stamp wish ≡ Ok change → CanBeAsked change
+  -- the changes that are asked for
+  pub request_asked : (slots : ℕ) (wish : Wish) (change : Option Change) → FitsWish wish → HasByteCodes wish → request_of slots config seats stamp wish ≡ Ok change → AreAsked change
   request_asked slots wish change fits codes is =
       wished wish change fits codes (change_of (first_refusal (slot_refusals slots seats (slots_named wish))) (change_for config seats stamp wish) change is)

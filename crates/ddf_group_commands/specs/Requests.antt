@@ -1,5 +1,6 @@
 -- What the words for a change ask of a group.
-use Rattle.std.specs.Prelude.{ℕ, ◌^◌, ◌<◌, List, [], ◌∷◌, unwrap_or, Result, Ok, Err}
+use Rattle.std.specs.Prelude.{ℕ, ◌^◌, ◌<◌, List, Option, unwrap_or, Result, Ok, Err}
+use Rattle.std.specs.Option.{option_to_list}
 use Rattle.ddf_bytes.specs.declared.stamp.Stamp.{Stamp}
 use Rattle.ddf_config.specs.declared.refusal.Refusal.{Refusal}
 use Rattle.ddf_plan.specs.declared.change.Change.{Change}
@@ -19,11 +20,11 @@ abbrev pub HasByteCodes : Wish → Type 0
 HasByteCodes (Create creation) = HasLevelCodes creation
 HasByteCodes other = Unit {0}
 
--- the one change
-abbrev pub alone : Result Change Refusal → Result (List Change) Refusal
-alone (Ok change) = Ok (change ∷ [])
-alone (Err refusal) = Err refusal
+-- the one change, or none
+abbrev pub at_most_one : Result (Option Change) Refusal → Result (List Change) Refusal
+at_most_one (Ok change) = Ok (option_to_list change)
+at_most_one (Err refusal) = Err refusal
 
 -- what is asked of a group where a change is wished, on so many slots
 abbrev pub request_for : (slots : ℕ) → Stamp → Wish → Request
-request_for slots stamp wish config seats = alone (request_of slots config seats stamp wish)
+request_for slots stamp wish config seats = at_most_one (request_of slots config seats stamp wish)

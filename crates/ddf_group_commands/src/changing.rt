@@ -1,5 +1,6 @@
 // Every change of a group that words ask for.
 ghost use Rattle.std.specs.Prelude.{◌≡◌, length};
+ghost use Rattle.std.specs.Option.{option_to_list};
 ghost use Rattle.ddf_bay.specs.Moments.{GoesOn};
 ghost use Rattle.ddf_bytes.specs.Stamps.{timestamp_of};
 ghost use Rattle.ddf_answer.specs.Call.{answer_of, work_of};
@@ -15,6 +16,7 @@ use crate::writing::{read_group, recovered, write_changes};
 use ddf_answer::{Failure, Status, tell, tell_failure};
 use ddf_bay::Bay;
 use ddf_bytes::{Guid, Sink, Stamp};
+use ddf_plan::Change;
 use ddf_request::request;
 use ddf_text::sequence_line;
 use ddf_words::Wish;
@@ -64,13 +66,17 @@ fn changed<B: Bay>(
         stamp,
         wish,
     )?;
-    write_changes(
-        alloc,
-        &mut group,
-        slice::from_ref(&change),
-        stamp.timestamp(),
-        bay,
-    )
+    write_changes(alloc, &mut group, listed(&change), stamp.timestamp(), bay)
+}
+
+/// The change as a list of changes.
+fn listed(change: &Option<Change>) -> &[Change]
+    ensures { result.now ≡ option_to_list change.now }
+{
+    match change {
+        Some(change) => slice::from_ref(change),
+        None => &[],
+    }
 }
 
 /// The codes of a new array's levels are bytes, as their types say.

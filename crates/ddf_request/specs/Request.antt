@@ -3,25 +3,28 @@
 use Rattle.std.specs.Prelude.{◌≡◌, ℕ, List, [], ◌∷◌, Option, Some, None, Result, Ok, Err, if◌then◌else◌}
 use Rattle.ddf_bytes.specs.declared.stamp.Stamp.{Stamp}
 use Rattle.ddf_config.specs.declared.member.SpareUse.{SpareUse}
+use Rattle.ddf_config.specs.declared.array.Array.{Array}
 use Rattle.ddf_config.specs.declared.seat.Seat.{Seat}
 use Rattle.ddf_config.specs.declared.refusal.Refusal.{Refusal}
-use Rattle.ddf_config.specs.declared.refusal.Refusal.TheVariants.{NoArray}
+use Rattle.ddf_config.specs.declared.refusal.Refusal.TheVariants.{Held, NoArray}
 use Rattle.ddf_config.specs.Configuration.{Configuration}
-use Rattle.ddf_config.specs.Refusals.{first_refusal}
+use Rattle.ddf_config.specs.Refusals.{first_refusal, refuse_if}
 use Rattle.ddf_plan.specs.declared.change.Change.{Change}
 use Rattle.ddf_plan.specs.declared.change.Change.TheVariants as changes
 use Rattle.ddf_plan.specs.declared.fault.PlanFault.{PlanFault}
 use Rattle.ddf_plan.specs.declared.fault.PlanFault.TheVariants.{Refused, Memory}
 use Rattle.ddf_words.specs.declared.command.Creation.{Creation}
 use Rattle.ddf_words.specs.declared.command.Wish.{Wish}
-use Rattle.ddf_words.specs.declared.command.Wish.TheVariants.{Create, Delete, Spare, Fail}
-use Rattle.ddf_request.specs.Named.{named_guid}
+use Rattle.ddf_words.specs.declared.command.Wish.TheVariants.{Create, Delete, Accept, Spare, Fail}
+use Rattle.ddf_request.specs.Named.{named_array, named_guid}
 use Rattle.ddf_request.specs.NewArray.{IsCreation, is_misfit, misfit_refusal, new_array, new_array_guid, slots_of}
 use Rattle.ddf_request.specs.Slots.{reference_on, slot_refusals}
 use Rattle.ddf_request.specs.Spare.{use_of}
+use Rattle.ddf_request.specs.Usable.{is_held, useless}
+use Rattle.ddf_repair.specs.Accept.{accepted}
 
 -- The answer is this meaning, or memory ran out.
-abbrev pub IsRequested : Result Change Refusal → Result Change PlanFault → Type 0
+abbrev pub IsRequested : {T : Type 0} → Result T Refusal → Result T PlanFault → Type 0
 IsRequested meaning (Ok change) = meaning ≡ Ok change
 IsRequested meaning (Err (Refused refusal)) = meaning ≡ Err refusal
 IsRequested meaning (Err Memory) = Unit {0}
@@ -55,20 +58,38 @@ abbrev pub spare_change : (reference : ℕ) → Result SpareUse Refusal → Resu
 spare_change reference (Ok use_as) = Ok (changes.Spare reference use_as)
 spare_change reference (Err refusal) = Err refusal
 
+-- An array is accepted unless it can't be used at all, or is held.
+abbrev pub accept_refusal : Configuration → List Seat → Array → Option Refusal
+accept_refusal config seats array = first_refusal (useless config seats array ∷ refuse_if (is_held array) Held ∷ [])
+
+-- Its mark is cleared. One that isn't marked stays as it is.
+abbrev pub accept_array : Configuration → List Seat → (List ℕ × Array) → Result (Option Change) Refusal
+accept_array config seats entry = elim (accept_refusal config seats entry.1) [ None ↦ Ok (accepted config entry.0) | Some refusal ↦ Err refusal ]
+
+-- The array with this name, or there is none.
+abbrev pub accept_change : Configuration → List Seat → (word : List ℕ) → Result (Option Change) Refusal
+accept_change config seats word = elim (named_array config.arrays word) [ None ↦ Err NoArray | Some entry ↦ accept_array config seats entry ]
+
+-- there is a change
+abbrev pub one : Result Change Refusal → Result (Option Change) Refusal
+one (Ok change) = Ok (Some change)
+one (Err refusal) = Err refusal
+
 -- a row a wish
-abbrev pub change_for : Configuration → List Seat → Stamp → Wish → Result Change Refusal
-change_for config seats stamp (Create creation) = create_change config seats stamp creation
-change_for config seats stamp (Delete name) = delete_change config name
-change_for config seats stamp (Spare slot word) = spare_change (reference_on seats slot) (use_of config word)
-change_for config seats stamp (Fail slot) = Ok (changes.Fail (reference_on seats slot))
+abbrev pub change_for : Configuration → List Seat → Stamp → Wish → Result (Option Change) Refusal
+change_for config seats stamp (Create creation) = one (create_change config seats stamp creation)
+change_for config seats stamp (Delete name) = one (delete_change config name)
+change_for config seats stamp (Accept name) = accept_change config seats name
+change_for config seats stamp (Spare slot word) = one (spare_change (reference_on seats slot) (use_of config word))
+change_for config seats stamp (Fail slot) = Ok (Some (changes.Fail (reference_on seats slot)))
 
 -- ---- what is asked for
 
 -- a change, unless something refuses it before
-abbrev pub unless : Option Refusal → Result Change Refusal → Result Change Refusal
+abbrev pub unless : Option Refusal → Result (Option Change) Refusal → Result (Option Change) Refusal
 unless None change = change
 unless (Some refusal) change = Err refusal
 
--- In order: each slot is there; the disk of each is a current member; then the change.
-abbrev pub request_of : (slots : ℕ) → Configuration → List Seat → Stamp → Wish → Result Change Refusal
+-- In order: each slot is there; the disk of each is a current member; then the change, where one is asked for.
+abbrev pub request_of : (slots : ℕ) → Configuration → List Seat → Stamp → Wish → Result (Option Change) Refusal
 request_of slots config seats stamp wish = unless (first_refusal (slot_refusals slots seats (slots_named wish))) (change_for config seats stamp wish)

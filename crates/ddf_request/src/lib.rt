@@ -1,12 +1,15 @@
-//! Which change of a group its words ask for.
+//! Which change of a group its words ask for, and what an array that they name can't be used for.
 #![tactic(auto)]
 
+mod accepting;
 mod creating;
 mod named;
 mod new_array;
 mod requests;
 mod slots;
 mod spare;
+mod usable;
 
 pub use named::named_array;
 pub use requests::request;
+pub use usable::{bad_blocks, is_held, is_held_from_writes, useless};

@@ -2,6 +2,7 @@
 ghost use Rattle.std.specs.Prelude.{◌≡◌, IfOk};
 ghost use Rattle.ddf_request.specs.Request.{IsRequested, IsWish, change_for, delete_change, request_of, slots_named};
 
+use crate::accepting::accept_change;
 use crate::creating::create_change;
 use crate::named::named_guid;
 use crate::new_array::slots_of;
@@ -13,12 +14,12 @@ use ddf_plan::{Change, PlanFault};
 use ddf_words::Wish;
 use std::alloc::Global;
 
-/// The change of a group that a wish asks for, of a group of this configuration and these seats, on so many slots.
+/// The change of a group that a wish asks for, where it asks for one, of a group of this configuration and these seats, on so many slots.
 ///
 /// # Errors
 /// `Refused` with the first of these. `NoSlot` with the first slot that isn't there, in the order of the words. `NotMember` with the
 /// first slot whose disk is no current member. To delete: `NoArray` where no array has the name. For a spare: `NoArray` where a word
-/// names no array, or one of which the disks tell no element. To create, where the word for the secondary level doesn't fit the count
+/// names no array, or one of which the disks tell no element. To accept: `NoArray`, or what the array can't be used for. To create, where the word for the secondary level doesn't fit the count
 /// of elements: what the plan refuses such an array for, where that comes before `Shape`, and `Shape` otherwise. What the change itself
 /// is refused for comes behind. `Memory` where memory ran out.
 pub fn request(
@@ -28,7 +29,7 @@ pub fn request(
     seats: &[Seat],
     stamp: &Stamp,
     wish: &Wish,
-) -> Result<Change, PlanFault>
+) -> Result<Option<Change>, PlanFault>
     requires { IsWish wish.now }
     ensures { IsRequested (request_of slots config.now seats.now stamp.now wish.now) result }
 {
@@ -57,15 +58,25 @@ fn change_for(
     seats: &[Seat],
     stamp: &Stamp,
     wish: &Wish,
-) -> Result<Change, PlanFault>
+) -> Result<Option<Change>, PlanFault>
     requires { IsWish wish.now }
     ensures { IsRequested (change_for config.now seats.now stamp.now wish.now) result }
 {
     match wish {
-        Wish::Create(creation) => create_change(alloc, config, seats, stamp, creation),
-        Wish::Delete { name } => delete_change(config, name.items()),
-        Wish::Spare { slot, word } => spare_change(alloc, config, reference_on(seats, *slot), word),
-        Wish::Fail { slot } => Ok(Change::Fail(reference_on(seats, *slot))),
+        Wish::Create(creation) => {
+            let change = create_change(alloc, config, seats, stamp, creation)?;
+            Ok(Some(change))
+        }
+        Wish::Delete { name } => {
+            let change = delete_change(config, name.items())?;
+            Ok(Some(change))
+        }
+        Wish::Accept { name } => accept_change(alloc, config, seats, name.items()),
+        Wish::Spare { slot, word } => {
+            let change = spare_change(alloc, config, reference_on(seats, *slot), word)?;
+            Ok(Some(change))
+        }
+        Wish::Fail { slot } => Ok(Some(Change::Fail(reference_on(seats, *slot)))),
     }
 }
 

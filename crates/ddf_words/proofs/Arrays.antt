@@ -1,44 +1,43 @@
 -- Where the words of commands over a whole array go wrong.
 use Rattle.std.proofs.Common.{◌≡◌, ◌+◌, ◌<◌, ℕ, List, [], ◌∷◌, None, codes, length, drop, refl, ap, arith}
 use Rattle.std.specs.Fmt.{decimal}
-use Rattle.ddf_words.proofs.Commands.{create_names, delete_names}
+use Rattle.ddf_words.proofs.Commands.{create_names}
 use Rattle.ddf_words.proofs.Elements.{elements_met}
 use Rattle.ddf_words.proofs.Fields.{Fields, Ends, IsMet, ends_met, field_met, lacks_field, behind_field, more_words}
 use Rattle.ddf_words.proofs.Names.{a_name, a_plain_name}
 use Rattle.ddf_words.proofs.Numbers.{zero_number}
 use Rattle.ddf_words.proofs.Places.{wrong_behind}
-use Rattle.ddf_words.proofs.Wishes.{create, delete}
-use Rattle.ddf_words.specs.Words.{Word, AreElements, GoWrongAt, IsGroupCommand, IsLevel, IsName, IsNumber, IsPlainName, IsSecondary, LacksAt, StandsAt}
+use Rattle.ddf_words.proofs.Wishes.{create}
+use Rattle.ddf_words.specs.Words.{Word, AreElements, GoWrongAt, IsGroupCommand, IsLevel, IsName, IsNamed, IsNumber, IsPlainName, IsSecondary, LacksAt, StandsAt}
 use Rattle.ddf_words.specs.declared.command.Command.TheVariants.{Change}
-use Rattle.ddf_words.specs.declared.command.Wish.TheVariants.{Create, Delete}
+use Rattle.ddf_words.specs.declared.command.Wish.TheVariants.{Create}
 
--- ---- `delete`
+-- ---- a name alone
 
--- the words behind it
+-- the words behind a command's
 abbrev AreName : List Word → Type 0
 AreName words = Fields (IsName ∷ []) Ends words
 
-are_delete : (words : List Word) → AreName words → IsGroupCommand (delete ∷ words)
-are_delete [] are = absurd are
-are_delete (name ∷ others) are =
+are_named : (command : Word) (words : List Word) → AreName words → IsNamed command (command ∷ words)
+are_named command [] are = absurd are
+are_named command (name ∷ others) are =
     let ends : others ≡ [] = are.1 in
-    record { command = Change (Delete name); takes_one = refl; spells = record { parts = rw ends refl; is_name = are.0 } }
+    record { name = name; spells = record { parts = rw ends refl; is_name = are.0 } }
 
-delete_are : (words : List Word) → IsGroupCommand (delete ∷ words) → AreName words
-delete_are words is =
-    let named = delete_names words is.command is.spells in
-    let parts : words ≡ named.0 ∷ [] = ap (drop 1) named.1.parts in
-    rw parts (named.1.is_name, refl)
+named_are : (command : Word) (words : List Word) → IsNamed command (command ∷ words) → AreName words
+named_are command words is =
+    let parts : words ≡ is.name ∷ [] = ap (drop 1) is.spells.parts in
+    rw parts (is.spells.is_name, refl)
 
-wrong_delete : (words : List Word) (place : ℕ) → GoWrongAt AreName words place → GoWrongAt IsGroupCommand (delete ∷ words) (1 + place)
-wrong_delete words place wrong = wrong_behind AreName IsGroupCommand delete words place delete_are are_delete wrong
+wrong_named : (command : Word) (words : List Word) (place : ℕ) → GoWrongAt AreName words place → GoWrongAt (IsNamed command) (command ∷ words) (1 + place)
+wrong_named command words place wrong = wrong_behind AreName (IsNamed command) command words place (named_are command) (are_named command) wrong
 
-module _ (words : List Word) where
-  pub wrong_delete_name : LacksAt IsName words 1 → GoWrongAt IsGroupCommand (delete ∷ drop 1 words) 1
-  wrong_delete_name lacks = wrong_delete (drop 1 words) 0 (lacks_field IsName [] Ends words 1 (field_met IsName [] Ends (codes "a") a_name ends_met) lacks)
+module _ (command : Word) (words : List Word) where
+  pub wrong_named_name : LacksAt IsName words 1 → GoWrongAt (IsNamed command) (command ∷ drop 1 words) 1
+  wrong_named_name lacks = wrong_named command (drop 1 words) 0 (lacks_field IsName [] Ends words 1 (field_met IsName [] Ends (codes "a") a_name ends_met) lacks)
 
-  pub wrong_delete_end : StandsAt IsName words 1 → 2 < length words → GoWrongAt IsGroupCommand (delete ∷ drop 1 words) 2
-  wrong_delete_end name more = wrong_delete (drop 1 words) 1 (behind_field IsName [] Ends words 1 0 name (more_words words 2 more))
+  pub wrong_named_end : StandsAt IsName words 1 → 2 < length words → GoWrongAt (IsNamed command) (command ∷ drop 1 words) 2
+  wrong_named_end name more = wrong_named command (drop 1 words) 1 (behind_field IsName [] Ends words 1 0 name (more_words words 2 more))
 
 -- ---- `create`
 

@@ -1,14 +1,14 @@
 -- Which words spell which command.
 use Rattle.std.proofs.Common.{◌≡◌, ◌≢◌, ◌^◌, ℕ, List, [], ◌∷◌, get_or, drop, refl, sym, ap, ◌∙◌, arith, codes, true}
 use Rattle.ddf_words.proofs.Numbers.{same_number, same_slots}
-use Rattle.ddf_words.proofs.Wishes.{create, delete, fail, first_word, no_wish, same_wish, spare, unlike, wish_begins, wish_name, wish_not_at, word_at}
+use Rattle.ddf_words.proofs.Wishes.{accept, create, delete, fail, first_word, no_wish, same_wish, spare, unlike, wish_begins, wish_name, wish_not_at, word_at}
 use Rattle.ddf_words.specs.Traits.{traits_of}
-use Rattle.ddf_words.specs.Words.{Word, NameSlots, Spells, SpellCreate, SpellDelete, SpellFail, SpellRead, SpellSpare, IsGroupCommand}
+use Rattle.ddf_words.specs.Words.{Word, AreBlocks, NameSlots, Spells, SpellBlocks, SpellCreate, SpellFail, SpellNamed, SpellSpare, IsGroupCommand, IsNamed}
 use Rattle.ddf_words.specs.declared.command.Command.{Command}
-use Rattle.ddf_words.specs.declared.command.Command.TheVariants.{Examine, Label, Assemble, Show, Read, Change}
+use Rattle.ddf_words.specs.declared.command.Command.TheVariants.{Examine, Label, Assemble, Show, Read, Scrub, Change}
 use Rattle.ddf_words.specs.declared.command.Creation.{Creation}
 use Rattle.ddf_words.specs.declared.command.SpareWord.{SpareWord}
-use Rattle.ddf_words.specs.declared.command.Wish.TheVariants.{Create, Delete, Spare, Fail}
+use Rattle.ddf_words.specs.declared.command.Wish.TheVariants.{Create, Delete, Accept, Spare, Fail}
 
 abbrev pub examine : Word
 examine = codes "examine"
@@ -25,6 +25,9 @@ show = codes "show"
 abbrev pub read : Word
 read = codes "read"
 
+abbrev pub scrub : Word
+scrub = codes "scrub"
+
 -- the name of a command
 abbrev pub name_of : Command → Word
 name_of Examine = examine
@@ -32,6 +35,7 @@ name_of (Label slots) = label
 name_of Assemble = assemble
 name_of Show = show
 name_of (Read name start count) = read
+name_of (Scrub name) = scrub
 name_of (Change wish) = wish_name wish
 
 -- with it the words begin
@@ -41,6 +45,7 @@ begins_with words (Label slots) spells = ap first_word spells.parts
 begins_with words Assemble spells = ap first_word spells
 begins_with words Show spells = ap first_word spells
 begins_with words (Read name start count) spells = ap first_word spells.parts
+begins_with words (Scrub name) spells = ap first_word spells.parts
 begins_with words (Change wish) spells = wish_begins words wish spells
 
 -- no name begins with `@`
@@ -51,52 +56,54 @@ not_at command e = omega (arith, e)
 
 pub no_words : (command : Command) → Spells command [] → ⊥
 no_words Examine spells = cc
-no_words (Change wish) spells = no_wish [] (refl, refl, refl, refl) wish (wish_begins [] wish spells)
+no_words (Change wish) spells = no_wish [] (refl, refl, refl, refl, refl) wish (wish_begins [] wish spells)
 no_words command spells = unlike [] (name_of command) refl (begins_with [] command spells)
 
 -- ---- the words behind each name
 
 pub examine_alone : (rest : List Word) (command : Command) → Spells command (examine ∷ rest) → rest ≡ []
 examine_alone rest Examine spells = cc
-examine_alone rest (Change wish) spells = absurd (no_wish examine (refl, refl, refl, refl) wish (wish_begins (examine ∷ rest) wish spells))
+examine_alone rest (Change wish) spells = absurd (no_wish examine (refl, refl, refl, refl, refl) wish (wish_begins (examine ∷ rest) wish spells))
 examine_alone rest command spells = absurd (unlike examine (name_of command) refl (begins_with (examine ∷ rest) command spells))
 
 pub label_names : (rest : List Word) (command : Command) → Spells command (label ∷ rest) → NameSlots rest
 label_names rest (Label slots) spells =
     let same : rest ≡ spells.numbers = ap (drop 1) spells.parts in
     record { slots = slots; are_slots = rw same spells.are_slots }
-label_names rest (Change wish) spells = absurd (no_wish label (refl, refl, refl, refl) wish (wish_begins (label ∷ rest) wish spells))
+label_names rest (Change wish) spells = absurd (no_wish label (refl, refl, refl, refl, refl) wish (wish_begins (label ∷ rest) wish spells))
 label_names rest command spells = absurd (unlike label (name_of command) refl (begins_with (label ∷ rest) command spells))
 
 pub assemble_alone : (rest : List Word) (command : Command) → Spells command (assemble ∷ rest) → rest ≡ []
 assemble_alone rest Assemble spells = cc
-assemble_alone rest (Change wish) spells = absurd (no_wish assemble (refl, refl, refl, refl) wish (wish_begins (assemble ∷ rest) wish spells))
+assemble_alone rest (Change wish) spells = absurd (no_wish assemble (refl, refl, refl, refl, refl) wish (wish_begins (assemble ∷ rest) wish spells))
 assemble_alone rest command spells = absurd (unlike assemble (name_of command) refl (begins_with (assemble ∷ rest) command spells))
 
 pub show_alone : (rest : List Word) (command : Command) → Spells command (show ∷ rest) → rest ≡ []
 show_alone rest Show spells = cc
-show_alone rest (Change wish) spells = absurd (no_wish show (refl, refl, refl, refl) wish (wish_begins (show ∷ rest) wish spells))
+show_alone rest (Change wish) spells = absurd (no_wish show (refl, refl, refl, refl, refl) wish (wish_begins (show ∷ rest) wish spells))
 show_alone rest command spells = absurd (unlike show (name_of command) refl (begins_with (show ∷ rest) command spells))
 
--- the words behind `read` name an array and blocks
-pub record NameBlocks (words : List Word) : Type 0 where
-  pub name : Word
-  pub start : ℕ
-  pub count : ℕ
-  pub spells : SpellRead name start count (read ∷ words)
-
-pub read_names : (rest : List Word) (command : Command) → Spells command (read ∷ rest) → NameBlocks rest
+pub read_names : (rest : List Word) (command : Command) → Spells command (read ∷ rest) → AreBlocks read (read ∷ rest)
 read_names rest (Read name start count) spells = record { name = name; start = start; count = count; spells = spells }
-read_names rest (Change wish) spells = absurd (no_wish read (refl, refl, refl, refl) wish (wish_begins (read ∷ rest) wish spells))
+read_names rest (Change wish) spells = absurd (no_wish read (refl, refl, refl, refl, refl) wish (wish_begins (read ∷ rest) wish spells))
 read_names rest command spells = absurd (unlike read (name_of command) refl (begins_with (read ∷ rest) command spells))
+
+pub scrub_names : (rest : List Word) (command : Command) → Spells command (scrub ∷ rest) → IsNamed scrub (scrub ∷ rest)
+scrub_names rest (Scrub name) spells = record { name = name; spells = spells }
+scrub_names rest (Change wish) spells = absurd (no_wish scrub (refl, refl, refl, refl, refl) wish (wish_begins (scrub ∷ rest) wish spells))
+scrub_names rest command spells = absurd (unlike scrub (name_of command) refl (begins_with (scrub ∷ rest) command spells))
 
 pub create_names : (rest : List Word) (command : Command) → Spells command (create ∷ rest) → (creation : Creation) × SpellCreate creation (create ∷ rest)
 create_names rest (Change (Create creation)) spells = (creation, spells)
 create_names rest command spells = absurd (unlike create (name_of command) refl (begins_with (create ∷ rest) command spells))
 
-pub delete_names : (rest : List Word) (command : Command) → Spells command (delete ∷ rest) → (name : Word) × SpellDelete name (delete ∷ rest)
-delete_names rest (Change (Delete name)) spells = (name, spells)
+pub delete_names : (rest : List Word) (command : Command) → Spells command (delete ∷ rest) → IsNamed delete (delete ∷ rest)
+delete_names rest (Change (Delete name)) spells = record { name = name; spells = spells }
 delete_names rest command spells = absurd (unlike delete (name_of command) refl (begins_with (delete ∷ rest) command spells))
+
+pub accept_names : (rest : List Word) (command : Command) → Spells command (accept ∷ rest) → IsNamed accept (accept ∷ rest)
+accept_names rest (Change (Accept name)) spells = record { name = name; spells = spells }
+accept_names rest command spells = absurd (unlike accept (name_of command) refl (begins_with (accept ∷ rest) command spells))
 
 -- the words behind `spare` name a slot and a use
 pub record NameSpare (words : List Word) : Type 0 where
@@ -114,14 +121,22 @@ fail_names rest command spells = absurd (unlike fail (name_of command) refl (beg
 
 -- ---- words ask for one command
 
-same_read : (words : List Word) (name name' : Word) (start start' count count' : ℕ) → SpellRead name start count words → SpellRead name' start' count' words
-    → Read name start count ≡ Read name' start' count'
-same_read words name name' start start' count count' spells spells' =
-    let parts = sym spells.parts ∙ spells'.parts in
-    let same_name : name ≡ name' = ap (word_at 1) parts in
-    let same_start : start ≡ start' = same_number (2 ^ 60) start start' (omega arith) spells.start_within spells'.start_within (ap (word_at 2) parts) in
-    let same_count : count ≡ count' = same_number (2 ^ 60) count count' (omega arith) spells.count_within spells'.count_within (ap (word_at 3) parts) in
-    λ i. Read (same_name i) (same_start i) (same_count i)
+module _ (word : Word) (words : List Word) (name name' : Word) where
+  same_named : SpellNamed word name words → SpellNamed word name' words → name ≡ name'
+  same_named spells spells' = ap (word_at 1) (sym spells.parts ∙ spells'.parts)
+
+  module _ (start start' count count' : ℕ) (spells : SpellBlocks word name start count words) (spells' : SpellBlocks word name' start' count' words) where
+    same_array : name ≡ name'
+    same_array = ap (word_at 1) (sym spells.parts ∙ spells'.parts)
+
+    same_start : start ≡ start'
+    same_start = same_number (2 ^ 60) start start' (omega arith) spells.start_within spells'.start_within (ap (word_at 2) (sym spells.parts ∙ spells'.parts))
+
+    same_count : count ≡ count'
+    same_count = same_number (2 ^ 60) count count' (omega arith) spells.count_within spells'.count_within (ap (word_at 3) (sym spells.parts ∙ spells'.parts))
+
+    same_blocks : (command : Word → ℕ → ℕ → Command) → command name start count ≡ command name' start' count'
+    same_blocks command = λ i. command (same_array i) (same_start i) (same_count i)
 
 pub same_command : (words : List Word) (command command' : Command) → Spells command words → Spells command' words → command ≡ command'
 same_command words Examine Examine spells spells' = refl
@@ -130,12 +145,13 @@ same_command words Show Show spells spells' = refl
 same_command words (Label slots) (Label slots') spells spells' =
     let same : spells.numbers ≡ spells'.numbers = ap (drop 1) (sym spells.parts ∙ spells'.parts) in
     ap Label (same_slots slots slots' spells'.numbers (rw same at spells.are_slots) spells'.are_slots)
-same_command words (Read name start count) (Read name' start' count') spells spells' = same_read words name name' start start' count count' spells spells'
+same_command words (Read name start count) (Read name' start' count') spells spells' = same_blocks read words name name' start start' count count' spells spells' Read
+same_command words (Scrub name) (Scrub name') spells spells' = ap Scrub (same_named scrub words name name' spells spells')
 same_command words (Change wish) (Change wish') spells spells' = ap Change (same_wish words wish wish' spells spells')
 same_command words (Change wish) command' spells spells' =
-    absurd (no_wish (name_of command') (refl, refl, refl, refl) wish (sym (begins_with words command' spells') ∙ wish_begins words wish spells))
+    absurd (no_wish (name_of command') (refl, refl, refl, refl, refl) wish (sym (begins_with words command' spells') ∙ wish_begins words wish spells))
 same_command words command (Change wish') spells spells' =
-    absurd (no_wish (name_of command) (refl, refl, refl, refl) wish' (sym (begins_with words command spells) ∙ wish_begins words wish' spells'))
+    absurd (no_wish (name_of command) (refl, refl, refl, refl, refl) wish' (sym (begins_with words command spells) ∙ wish_begins words wish' spells'))
 same_command words command command' spells spells' =
     absurd (unlike (name_of command) (name_of command') refl (sym (begins_with words command spells) ∙ begins_with words command' spells'))
 
@@ -150,8 +166,10 @@ pub record IsOther (name : Word) : Type 0 where
   pub assemble : name ≢ codes "assemble"
   pub show : name ≢ codes "show"
   pub read : name ≢ codes "read"
+  pub scrub : name ≢ codes "scrub"
   pub create : name ≢ codes "create"
   pub delete : name ≢ codes "delete"
+  pub accept : name ≢ codes "accept"
   pub spare : name ≢ codes "spare"
   pub fail : name ≢ codes "fail"
 
@@ -161,7 +179,9 @@ other_name name other (Label slots) takes e = cc
 other_name name other Assemble takes e = other.assemble e
 other_name name other Show takes e = other.show e
 other_name name other (Read array start count) takes e = other.read e
+other_name name other (Scrub array) takes e = other.scrub e
 other_name name other (Change (Create creation)) takes e = other.create e
 other_name name other (Change (Delete array)) takes e = other.delete e
+other_name name other (Change (Accept array)) takes e = other.accept e
 other_name name other (Change (Spare slot word)) takes e = other.spare e
 other_name name other (Change (Fail slot)) takes e = other.fail e

@@ -11,13 +11,16 @@ use Rattle.ddf_words.specs.declared.command.Creation.{Creation}
 use Rattle.ddf_words.specs.declared.command.SpareWord.{SpareWord}
 use Rattle.ddf_words.specs.declared.command.SpareWord.TheVariants as spares
 use Rattle.ddf_words.specs.declared.command.Wish.{Wish}
-use Rattle.ddf_words.specs.declared.command.Wish.TheVariants.{Create, Delete, Spare, Fail}
+use Rattle.ddf_words.specs.declared.command.Wish.TheVariants.{Create, Delete, Accept, Spare, Fail}
 
 abbrev pub create : Word
 create = codes "create"
 
 abbrev pub delete : Word
 delete = codes "delete"
+
+abbrev pub accept : Word
+accept = codes "accept"
 
 abbrev pub spare : Word
 spare = codes "spare"
@@ -40,6 +43,7 @@ first_word words = get_or words 0 []
 abbrev pub wish_name : Wish → Word
 wish_name (Create creation) = create
 wish_name (Delete name) = delete
+wish_name (Accept name) = accept
 wish_name (Spare slot word) = spare
 wish_name (Fail slot) = fail
 
@@ -47,6 +51,7 @@ wish_name (Fail slot) = fail
 pub wish_begins : (words : List Word) (wish : Wish) → SpellsWish wish words → first_word words ≡ wish_name wish
 wish_begins words (Create creation) spells = ap first_word spells.parts
 wish_begins words (Delete name) spells = ap first_word spells.parts
+wish_begins words (Accept name) spells = ap first_word spells.parts
 wish_begins words (Spare slot word) spells = ap first_word spells.parts
 wish_begins words (Fail slot) spells = ap first_word spells.parts
 
@@ -57,13 +62,15 @@ wish_not_at wish e = omega (arith, e)
 
 -- a word is none of them
 abbrev pub IsNoWish : Word → Type 0
-IsNoWish word = (bytes_eq word create ≡ false) × (bytes_eq word delete ≡ false) × (bytes_eq word spare ≡ false) × (bytes_eq word fail ≡ false)
+IsNoWish word =
+    (bytes_eq word create ≡ false) × (bytes_eq word delete ≡ false) × (bytes_eq word accept ≡ false) × (bytes_eq word spare ≡ false) × (bytes_eq word fail ≡ false)
 
 pub no_wish : (word : Word) → IsNoWish word → (wish : Wish) → word ≢ wish_name wish
 no_wish word is (Create creation) = unlike word create is.0
 no_wish word is (Delete name) = unlike word delete is.1
-no_wish word is (Spare slot use_as) = unlike word spare is.2
-no_wish word is (Fail slot) = unlike word fail is.3
+no_wish word is (Accept name) = unlike word accept is.2
+no_wish word is (Spare slot use_as) = unlike word spare is.3
+no_wish word is (Fail slot) = unlike word fail is.4
 
 -- ---- words ask for one wish
 
@@ -125,6 +132,7 @@ same_spare words slot slot' word word' spells spells' =
 pub same_wish : (words : List Word) (wish wish' : Wish) → SpellsWish wish words → SpellsWish wish' words → wish ≡ wish'
 same_wish words (Create creation) (Create creation') spells spells' = same_create words creation creation' spells spells'
 same_wish words (Delete name) (Delete name') spells spells' = ap Delete (ap (word_at 1) (sym spells.parts ∙ spells'.parts))
+same_wish words (Accept name) (Accept name') spells spells' = ap Accept (ap (word_at 1) (sym spells.parts ∙ spells'.parts))
 same_wish words (Spare slot word) (Spare slot' word') spells spells' = same_spare words slot slot' word word' spells spells'
 same_wish words (Fail slot) (Fail slot') spells spells' =
     ap Fail (same_number 63 slot slot' (omega arith) spells.slot_within spells'.slot_within (ap (word_at 1) (sym spells.parts ∙ spells'.parts)))

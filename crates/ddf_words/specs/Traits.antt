@@ -1,7 +1,7 @@
 -- What commands may do.
 use Rattle.std.specs.Prelude.{Bool, true, false}
 use Rattle.ddf_words.specs.declared.command.Command.{Command}
-use Rattle.ddf_words.specs.declared.command.Command.TheVariants.{Examine, Label, Assemble, Show, Read, Change}
+use Rattle.ddf_words.specs.declared.command.Command.TheVariants.{Examine, Label, Assemble, Show, Read, Scrub, Change}
 use Rattle.ddf_words.specs.declared.command.Wish.{Wish}
 use Rattle.ddf_words.specs.declared.command.Wish.TheVariants.{Create}
 use Rattle.ddf_words.specs.declared.traits.Traits.{Traits}
@@ -27,4 +27,5 @@ traits_of (Label slots) = row false true true true
 traits_of Assemble = row true true true false
 traits_of Show = row true false true false
 traits_of (Read name start count) = row true false true false
+traits_of (Scrub name) = row true false true false
 traits_of (Change wish) = row true true true (makes_guid wish)

@@ -9,13 +9,13 @@ use Rattle.hex.specs.Hex.{encode_lower}
 use Rattle.ddf_bytes.specs.Guids.{IsGuid}
 use Rattle.ddf_words.specs.declared.command.Asked.{Asked}
 use Rattle.ddf_words.specs.declared.command.Command.{Command}
-use Rattle.ddf_words.specs.declared.command.Command.TheVariants.{Examine, Label, Assemble, Show, Read, Change}
+use Rattle.ddf_words.specs.declared.command.Command.TheVariants.{Examine, Label, Assemble, Show, Read, Scrub, Change}
 use Rattle.ddf_words.specs.declared.command.CreateElement.{CreateElement}
 use Rattle.ddf_words.specs.declared.command.Creation.{Creation}
 use Rattle.ddf_words.specs.declared.command.SpareWord.{SpareWord}
 use Rattle.ddf_words.specs.declared.command.SpareWord.TheVariants as spares
 use Rattle.ddf_words.specs.declared.command.Wish.{Wish}
-use Rattle.ddf_words.specs.declared.command.Wish.TheVariants.{Create, Delete, Spare, Fail}
+use Rattle.ddf_words.specs.declared.command.Wish.TheVariants.{Create, Delete, Accept, Spare, Fail}
 use Rattle.ddf_words.specs.Traits.{traits_of}
 
 -- a word is its bytes
@@ -80,9 +80,14 @@ pub record IsHexName (word : Word) : Type 0 where
 abbrev pub IsName : Word → Type 0
 IsName word = IsPlainName word ⊎ IsHexName word
 
--- The words are `read`, the name of an array, the first block and how many blocks.
-pub record SpellRead (name : Word) (start count : ℕ) (words : List Word) : Type 0 where
-  pub parts : words ≡ codes "read" ∷ name ∷ decimal start ∷ decimal count ∷ []
+-- The words are a command's and the name of an array.
+pub record SpellNamed (command name : Word) (words : List Word) : Type 0 where
+  pub parts : words ≡ command ∷ name ∷ []
+  pub is_name : IsName name
+
+-- The words are a command's, the name of an array, the first block and how many blocks.
+pub record SpellBlocks (command name : Word) (start count : ℕ) (words : List Word) : Type 0 where
+  pub parts : words ≡ command ∷ name ∷ decimal start ∷ decimal count ∷ []
   pub is_name : IsName name
   pub start_within : start ≤ 2 ^ 60
   pub count_within : count ≤ 2 ^ 60
@@ -175,11 +180,6 @@ pub record SpellCreate (creation : Creation) (words : List Word) : Type 0 where
   pub is_secondary : said_by secondary_rows secondary_word ≡ Some creation.secondary
   pub are_elements : AreElementWords creation.elements rest
 
--- The words are `delete` and the name of an array.
-pub record SpellDelete (name : Word) (words : List Word) : Type 0 where
-  pub parts : words ≡ codes "delete" ∷ name ∷ []
-  pub is_name : IsName name
-
 -- One name of an array or more, no two equal.
 pub record AreNames (names : List Word) : Type 0 where
   pub some : 1 ≤ length names
@@ -212,7 +212,8 @@ pub record SpellFail (slot : ℕ) (words : List Word) : Type 0 where
 -- the words of each wish
 abbrev pub SpellsWish : Wish → List Word → Type 0
 SpellsWish (Create creation) words = SpellCreate creation words
-SpellsWish (Delete name) words = SpellDelete name words
+SpellsWish (Delete name) words = SpellNamed (codes "delete") name words
+SpellsWish (Accept name) words = SpellNamed (codes "accept") name words
 SpellsWish (Spare slot word) words = SpellSpare slot word words
 SpellsWish (Fail slot) words = SpellFail slot words
 
@@ -222,7 +223,8 @@ Spells Examine words = words ≡ codes "examine" ∷ []
 Spells (Label slots) words = SpellLabel slots words
 Spells Assemble words = words ≡ codes "assemble" ∷ []
 Spells Show words = words ≡ codes "show" ∷ []
-Spells (Read name start count) words = SpellRead name start count words
+Spells (Read name start count) words = SpellBlocks (codes "read") name start count words
+Spells (Scrub name) words = SpellNamed (codes "scrub") name words
 Spells (Change wish) words = SpellsWish wish words
 
 -- The word is `@` and the 48 lower-case hexadecimal digits of the group's GUID.
@@ -272,6 +274,18 @@ pub record IsGroupCommand (words : List Word) : Type 0 where
 pub record IsRequest (words : List Word) : Type 0 where
   pub asked : Asked
   pub spells : SpellsAsked asked.group asked.command words
+
+-- an array is named so, behind a command's word
+pub record IsNamed (command : Word) (words : List Word) : Type 0 where
+  pub name : Word
+  pub spells : SpellNamed command name words
+
+-- an array and blocks of it are named so
+pub record AreBlocks (command : Word) (words : List Word) : Type 0 where
+  pub name : Word
+  pub start : ℕ
+  pub count : ℕ
+  pub spells : SpellBlocks command name start count words
 
 -- some slots are named so
 pub record NameSlots (words : List Word) : Type 0 where

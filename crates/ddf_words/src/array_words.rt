@@ -1,7 +1,7 @@
 // The commands over a whole array.
 ghost use Rattle.std.specs.Prelude.{◌≡◌, ◌∷◌, ℕ, true, codes, drop, IfOk};
 ghost use Rattle.ddf_words.specs.Traits.{traits_of};
-ghost use Rattle.ddf_words.specs.Words.{words_of, Spells, IsGroupCommand, GoWrongAt};
+ghost use Rattle.ddf_words.specs.Words.{Word, words_of, Spells, SpellNamed, IsGroupCommand, IsNamed, GoWrongAt};
 
 use crate::command::{Command, Creation, Wish};
 use crate::element_words::elements_of;
@@ -10,6 +10,7 @@ use crate::level_words::{level_at, secondary_at};
 use crate::name_words::{name_at, plain_name_at};
 use crate::number_words::byte_at;
 use crate::words::WordFault;
+use ddf_bytes::Seq;
 use std::alloc::Global;
 
 /// The greatest stripe size code that words give.
@@ -39,13 +40,12 @@ pub(crate) fn create_of(alloc: Global, words: &[String]) -> Result<Command, Word
     }
 }
 
-/// The command of words of which the first is `delete`, or where they go wrong.
-pub(crate) fn delete_of(alloc: Global, words: &[String]) -> Result<Command, WordFault>
-    ensures takes { IfOk result (λ command. (traits_of command).takes_group ≡ true) }
-    ensures found { IfOk result (λ command. Spells command (codes "delete" ∷ drop 1 (words_of words.now))) }
-    ensures place { (place : ℕ) → result ≡ Err (WordFault.Place place) → GoWrongAt IsGroupCommand (codes "delete" ∷ drop 1 (words_of words.now)) place }
+/// The name of an array that stands alone behind a command's word, or where the words go wrong.
+pub(crate) fn named_of(alloc: Global, words: &[String]) -> Result<Seq<u8>, WordFault>
+    ensures found { IfOk result (λ name. (command : Word) → SpellNamed command name (command ∷ drop 1 (words_of words.now))) }
+    ensures place { (place : ℕ) → result ≡ Err (WordFault.Place place) → (command : Word) → GoWrongAt (IsNamed command) (command ∷ drop 1 (words_of words.now)) place }
 {
     let name = name_at(alloc, words, 1)?;
     ends_at(words, 2)?;
-    Ok(Command::Change(Wish::Delete { name }))
+    Ok(name)
 }

@@ -1,24 +1,33 @@
-// The commands over the blocks of an array.
-ghost use Rattle.std.specs.Prelude.{◌≡◌, ◌∷◌, ℕ, true, codes, drop, IfOk};
-ghost use Rattle.ddf_words.specs.Traits.{traits_of};
-ghost use Rattle.ddf_words.specs.Words.{words_of, Spells, IsGroupCommand, GoWrongAt};
+// The words of commands over the blocks of an array.
+ghost use Rattle.std.specs.Prelude.{◌≡◌, ◌∷◌, ℕ, drop, IfOk};
+ghost use Rattle.ddf_words.specs.Words.{Word, words_of, AreBlocks, SpellBlocks, GoWrongAt};
 
-use crate::command::Command;
 use crate::ends::ends_at;
 use crate::name_words::name_at;
 use crate::number_words::{MOST_BLOCKS, number_at};
 use crate::words::WordFault;
+use ddf_bytes::Seq;
 use std::alloc::Global;
 
-/// The command of words of which the first is `read`, or where they go wrong.
-pub(crate) fn read_of(alloc: Global, words: &[String]) -> Result<Command, WordFault>
-    ensures takes { IfOk result (λ command. (traits_of command).takes_group ≡ true) }
-    ensures found { IfOk result (λ command. Spells command (codes "read" ∷ drop 1 (words_of words.now))) }
-    ensures place { (place : ℕ) → result ≡ Err (WordFault.Place place) → GoWrongAt IsGroupCommand (codes "read" ∷ drop 1 (words_of words.now)) place }
+/// Blocks of an array, as words name them.
+#[derive(Drop)]
+pub(crate) struct Blocks {
+    /// The name of the array.
+    pub(crate) name: Seq<u8>,
+    /// The first block.
+    pub(crate) start: u64,
+    /// How many blocks.
+    pub(crate) count: u64,
+}
+
+/// The blocks that are named behind a command's word, or where the words go wrong.
+pub(crate) fn blocks_of(alloc: Global, words: &[String]) -> Result<Blocks, WordFault>
+    ensures found { IfOk result (λ blocks. (command : Word) → SpellBlocks command blocks.name blocks.start blocks.count (command ∷ drop 1 (words_of words.now))) }
+    ensures place { (place : ℕ) → result ≡ Err (WordFault.Place place) → (command : Word) → GoWrongAt (AreBlocks command) (command ∷ drop 1 (words_of words.now)) place }
 {
     let name = name_at(alloc, words, 1)?;
     let start = number_at(words, 2, MOST_BLOCKS)?;
     let count = number_at(words, 3, MOST_BLOCKS)?;
     ends_at(words, 4)?;
-    Ok(Command::Read { name, start, count })
+    Ok(Blocks { name, start, count })
 }

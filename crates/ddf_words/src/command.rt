@@ -34,6 +34,11 @@ pub enum Command {
         /// How many blocks, at most 2^60.
         count: u64,
     },
+    /// Tells whether the copies and the parity of an array agree.
+    Scrub {
+        /// The name of the array, as the words give it.
+        name: Seq<u8>,
+    },
     /// Changes a group.
     Change(Wish),
 }
@@ -45,6 +50,11 @@ pub enum Wish {
     Create(Creation),
     /// Deletes an array.
     Delete {
+        /// The name of the array, as the words give it.
+        name: Seq<u8>,
+    },
+    /// Takes the copies and the parity of an array to agree.
+    Accept {
         /// The name of the array, as the words give it.
         name: Seq<u8>,
     },

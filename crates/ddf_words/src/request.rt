@@ -3,9 +3,9 @@ ghost use Rattle.std.specs.Prelude.{◌≡◌, ℕ, List, true, string_bytes, If
 ghost use Rattle.ddf_words.specs.Traits.{traits_of};
 ghost use Rattle.ddf_words.specs.Words.{words_of, NamesGroup, Spells, SpellsAsked, IsCommand, IsGroupCommand, IsRequest, GoWrongAt};
 
-use crate::array_words::{create_of, delete_of};
-use crate::block_words::read_of;
-use crate::command::{Asked, Command};
+use crate::array_words::{create_of, named_of};
+use crate::block_words::{Blocks, blocks_of};
+use crate::command::{Asked, Command, Wish};
 use crate::disk_words::{fail_of, spare_of};
 use crate::slot_words::slots_of;
 use crate::words::WordFault;
@@ -41,9 +41,23 @@ fn group_command_of(alloc: Global, words: &[String]) -> Result<Command, WordFaul
             [] => Ok(Command::Show),
             _ => Err(WordFault::Place(1)),
         },
-        "read" => read_of(alloc, words),
+        "read" => {
+            let Blocks { name, start, count } = blocks_of(alloc, words)?;
+            Ok(Command::Read { name, start, count })
+        }
+        "scrub" => {
+            let name = named_of(alloc, words)?;
+            Ok(Command::Scrub { name })
+        }
         "create" => create_of(alloc, words),
-        "delete" => delete_of(alloc, words),
+        "delete" => {
+            let name = named_of(alloc, words)?;
+            Ok(Command::Change(Wish::Delete { name }))
+        }
+        "accept" => {
+            let name = named_of(alloc, words)?;
+            Ok(Command::Change(Wish::Accept { name }))
+        }
         "spare" => spare_of(alloc, words),
         "fail" => fail_of(words),
         _ => Err(WordFault::Place(0)),

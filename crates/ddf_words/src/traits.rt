@@ -36,15 +36,15 @@ impl Command {
                 may_refuse: true,
                 makes_names: true,
             },
-            Command::Assemble => Traits {
+            Command::Show | Command::Read { .. } | Command::Scrub { .. } => Traits {
                 takes_group: true,
-                may_write: true,
+                may_write: false,
                 may_refuse: true,
                 makes_names: false,
             },
-            Command::Show | Command::Read { .. } => Traits {
+            Command::Assemble => Traits {
                 takes_group: true,
-                may_write: false,
+                may_write: true,
                 may_refuse: true,
                 makes_names: false,
             },

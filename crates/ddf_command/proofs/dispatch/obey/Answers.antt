@@ -30,6 +30,12 @@ returns-in-Read-clause-done g c = rw c.in-Read.is (rw c.items-in-Read.ensures at
 pub returns-in-Read-clause-ends : goal.returns-in-Read-clause-ends
 returns-in-Read-clause-ends g c = rw c.in-Read.is c.read.ensures.ends
 
+pub returns-in-Scrub-clause-done : goal.returns-in-Scrub-clause-done
+returns-in-Scrub-clause-done g c = rw c.in-Scrub.is (rw c.items-in-Scrub.ensures at c.scrub_disks.ensures.done)
+
+pub returns-in-Scrub-clause-ends : goal.returns-in-Scrub-clause-ends
+returns-in-Scrub-clause-ends g c = rw c.in-Scrub.is c.scrub_disks.ensures.ends
+
 pub change-requires : goal.change-requires
 change-requires g c = rw c.in-Change.is at c.requires
 

@@ -21,7 +21,7 @@ returns-in-Ok-clause-done g c =
     let assembled = c.in-Ok.ensures.assembled in
     let done = c.print_array.ensures.done in
     let of_group = read_behind g.B.Bay.tells old middle new c.assemble.ensures.never_falls c.assemble.ensures.reads.same_held c.assemble.ensures.reads.same_sizes
-    c.in-Ok.group c.args.name.now c.args.start c.args.count done.outcome done.has in
+    c.in-Ok.group.config c.in-Ok.group.seats c.args.name.now c.args.start c.args.count done.outcome done.has in
     record {
       outcome = done.outcome;
       has = record {

@@ -2,9 +2,9 @@ use Rattle.std.proofs.Common.{◌∙◌, ap}
 use Rattle.std.proofs.lemmas.Result.{err_from_is_err_and}
 use Rattle.ddf_request.specs.Request.{request_of}
 use Rattle.ddf_answer.specs.Call.{work_of}
-use Rattle.ddf_group_commands.specs.Requests.{alone}
+use Rattle.ddf_group_commands.specs.Requests.{at_most_one}
 use Rattle.ddf_group_commands.proofs.Outcomes.{group_read, has_changed, memory_spent, none_read, not_asked, read_still, same_asked}
-use Rattle.ddf_group_commands.proofs.Requested.{request_asked, wish_is}
+use Rattle.ddf_group_commands.proofs.Requested.{one_at_most, request_asked, wish_is}
 use Rattle.ddf_group_commands.proofs.SeatReferences.{group_small}
 use Rattle.ddf_group_commands.proofs.changing.changed.Goals as goal
 
@@ -36,8 +36,11 @@ write_changes-requires-clause-asked g c =
     let group = c.in_ok-group.group in
     let read = c.in_ok-group.ensures.read in
     let small = group_small old.sizes read.newest c.args.named group (group_read (work_of g.B.Bay.tells old (g.B.Bay.disks c.read_group.new.bay)) c.args.named group read) c.in_ok-group.ensures.from.under in
-    rw c.from_ref.ensures.value
-    (request_asked seats c.recovered.result.now c.args.stamp.now (rw c.seats.ensures small) c.slots.result c.args.wish.now c.in_ok-change.change c.requires c.have_byte_codes.ensures c.in_ok-change.ensures, tt)
+    rw c.listed.ensures
+    (request_asked seats c.recovered.result.now c.args.stamp.now (rw c.seats.ensures small) c.slots.result c.args.wish.now c.in_ok-change.change c.requires c.have_byte_codes.ensures c.in_ok-change.ensures)
+
+pub write_changes-requires-clause-one : goal.write_changes-requires-clause-one
+write_changes-requires-clause-one g c = rw c.listed.ensures (one_at_most c.in_ok-change.change)
 
 pub returns-clause-changed : goal.returns-clause-changed
 returns-clause-changed g c =
@@ -45,11 +48,11 @@ returns-clause-changed g c =
     c.slots.ensures.slots c.read_group.ensures.reads.same_sizes c.recovered.ensures c.seats.ensures in
     let read = c.read_group.ensures in
     let written = c.write_changes.ensures in
-    has_changed _ _ _ _ read.reads read.reads_rise read.writes_rise _ _ _ _ _ _ c.in_ok-group.ensures.read (same ∙ ap alone c.in_ok-change.ensures) (record {
-      changed = rw (c.from_ref.ensures.value, c.timestamp.ensures) at written.changed;
+    has_changed _ _ _ _ read.reads read.reads_rise read.writes_rise _ _ _ _ _ _ c.in_ok-group.ensures.read (same ∙ ap at_most_one c.in_ok-change.ensures) (record {
+      changed = rw (c.listed.ensures, c.timestamp.ensures) at written.changed;
       beside = written.beside;
-      leaves = rw (c.from_ref.ensures.value, c.timestamp.ensures) at written.leaves;
-      keeps = rw (c.from_ref.ensures.value, c.timestamp.ensures) at written.keeps;
+      leaves = rw (c.listed.ensures, c.timestamp.ensures) at written.leaves;
+      keeps = rw (c.listed.ensures, c.timestamp.ensures) at written.keeps;
       same_reads = written.reads;
       writes_rise = written.writes_rise;
     })

@@ -1,9 +1,12 @@
-use Rattle.std.proofs.Common.{◌≡◌, ◌∷◌, ◌∙◌, refl, sym, ap, string_bytes, arith}
-use Rattle.ddf_words.specs.Words.{Word, words_of}
-use Rattle.ddf_words.specs.declared.command.Command.TheVariants.{Assemble, Show}
-use Rattle.ddf_words.proofs.Commands.{assemble, assemble_alone, other_name, read, show, show_alone}
+use Rattle.std.proofs.Common.{◌≡◌, ◌∷◌, ◌∙◌, List, drop, refl, sym, ap, string_bytes, arith}
+use Rattle.ddf_words.specs.Words.{Word, words_of, AreBlocks, IsGroupCommand, IsNamed}
+use Rattle.ddf_words.specs.declared.command.Command.TheVariants.{Assemble, Show, Read, Scrub, Change}
+use Rattle.ddf_words.specs.declared.command.Wish.TheVariants.{Delete, Accept}
+use Rattle.ddf_words.proofs.Commands.{accept_names, assemble, assemble_alone, delete_names, other_name, read, read_names, scrub, scrub_names, show, show_alone}
+use Rattle.ddf_words.proofs.Faults.{passed_on}
+use Rattle.ddf_words.proofs.Places.{wrong_among}
 use Rattle.ddf_words.proofs.Requests.{no_group_command, other_group_command, more_group_words}
-use Rattle.ddf_words.proofs.Wishes.{create, delete, fail, spare}
+use Rattle.ddf_words.proofs.Wishes.{accept, create, delete, fail, spare}
 use Rattle.ddf_words.proofs.Lists.{named_words, none_left, some_left}
 use Rattle.ddf_words.proofs.request.group_command_of.Goals as goal
 
@@ -20,8 +23,10 @@ returns-in_default-as_str-clause-place c = λ place e.
       assemble = λ e. c.in_default-as_str.not-assemble (c.as_str.ensures.value ∙ e);
       show = λ e. c.in_default-as_str.not-show (c.as_str.ensures.value ∙ e);
       read = λ e. c.in_default-as_str.not-read (c.as_str.ensures.value ∙ e);
+      scrub = λ e. c.in_default-as_str.not-scrub (c.as_str.ensures.value ∙ e);
       create = λ e. c.in_default-as_str.not-create (c.as_str.ensures.value ∙ e);
       delete = λ e. c.in_default-as_str.not-delete (c.as_str.ensures.value ∙ e);
+      accept = λ e. c.in_default-as_str.not-accept (c.as_str.ensures.value ∙ e);
       spare = λ e. c.in_default-as_str.not-spare (c.as_str.ensures.value ∙ e);
       fail = λ e. c.in_default-as_str.not-fail (c.as_str.ensures.value ∙ e);
     })))
@@ -40,20 +45,10 @@ returns-in_default-rest-2-clause-place c = λ place e.
     rw same at (more_group_words show (record { command = Show; takes_one = refl; spells = refl }) show_alone (words_of c.args.words.now) (words_of more.1.0) (string_bytes more.0)
     (ap words_of (c.in-Some.ensures.cases.0 ∙ ap (λ ws. c.in-Some.name.now ∷ ws) more.1.1) ∙ ap (λ (w : Word). w ∷ string_bytes more.0 ∷ words_of more.1.0) (sym c.as_str.ensures.value ∙ c.in-show.is)))
 
-pub returns-in-read-clause-place : goal.returns-in-read-clause-place
-returns-in-read-clause-place c = λ place e.
-    rw (named_words (words_of c.args.words.now) (words_of c.in-Some.rest.now) (string_bytes c.in-Some.name.now) read (ap words_of c.in-Some.ensures.cases.0) (sym c.as_str.ensures.value ∙ c.in-read.is))
-    (c.read_of.ensures.place place e)
-
 pub returns-in-create-clause-place : goal.returns-in-create-clause-place
 returns-in-create-clause-place c = λ place e.
     rw (named_words (words_of c.args.words.now) (words_of c.in-Some.rest.now) (string_bytes c.in-Some.name.now) create (ap words_of c.in-Some.ensures.cases.0) (sym c.as_str.ensures.value ∙ c.in-create.is))
     (c.create_of.ensures.place place e)
-
-pub returns-in-delete-clause-place : goal.returns-in-delete-clause-place
-returns-in-delete-clause-place c = λ place e.
-    rw (named_words (words_of c.args.words.now) (words_of c.in-Some.rest.now) (string_bytes c.in-Some.name.now) delete (ap words_of c.in-Some.ensures.cases.0) (sym c.as_str.ensures.value ∙ c.in-delete.is))
-    (c.delete_of.ensures.place place e)
 
 pub returns-in-spare-clause-place : goal.returns-in-spare-clause-place
 returns-in-spare-clause-place c = λ place e.
@@ -64,3 +59,59 @@ pub returns-in-fail-clause-place : goal.returns-in-fail-clause-place
 returns-in-fail-clause-place c = λ place e.
     rw (named_words (words_of c.args.words.now) (words_of c.in-Some.rest.now) (string_bytes c.in-Some.name.now) fail (ap words_of c.in-Some.ensures.cases.0) (sym c.as_str.ensures.value ∙ c.in-fail.is))
     (c.fail_of.ensures.place place e)
+
+is_read : (words : List Word) → AreBlocks read words → IsGroupCommand words
+is_read words is = record { command = Read is.name is.start is.count; takes_one = refl; spells = is.spells }
+
+pub returns-in_err-name-in-read-clause-place : goal.returns-in_err-name-in-read-clause-place
+returns-in_err-name-in-read-clause-place c = λ place e.
+    rw (named_words (words_of c.args.words.now) (words_of c.in-Some.rest.now) (string_bytes c.in-Some.name.now) read (ap words_of c.in-Some.ensures.cases.0) (sym c.as_str.ensures.value ∙ c.in-read.is))
+    (wrong_among (AreBlocks read) IsGroupCommand read (drop 1 (words_of c.args.words.now)) place is_read (λ more is. read_names more is.command is.spells)
+    (c.blocks_of.ensures.place place (passed_on c.blocks_of.result c.in_err-name-in-read.field-0.0 c.from_residual.result place c.in_err-name-in-read.was c.from_residual.ensures.1 e) read))
+
+pub returns-in_ok-name-in-read-clause-found : goal.returns-in_ok-name-in-read-clause-found
+returns-in_ok-name-in-read-clause-found c =
+    rw (named_words (words_of c.args.words.now) (words_of c.in-Some.rest.now) (string_bytes c.in-Some.name.now) read (ap words_of c.in-Some.ensures.cases.0) (sym c.as_str.ensures.value ∙ c.in-read.is))
+    (c.in_ok-name-in-read.ensures.found read)
+
+is_scrub : (words : List Word) → IsNamed scrub words → IsGroupCommand words
+is_scrub words is = record { command = Scrub is.name; takes_one = refl; spells = is.spells }
+
+pub returns-in_err-name-in-scrub-clause-place : goal.returns-in_err-name-in-scrub-clause-place
+returns-in_err-name-in-scrub-clause-place c = λ place e.
+    rw (named_words (words_of c.args.words.now) (words_of c.in-Some.rest.now) (string_bytes c.in-Some.name.now) scrub (ap words_of c.in-Some.ensures.cases.0) (sym c.as_str.ensures.value ∙ c.in-scrub.is))
+    (wrong_among (IsNamed scrub) IsGroupCommand scrub (drop 1 (words_of c.args.words.now)) place is_scrub (λ more is. scrub_names more is.command is.spells)
+    (c.named_of.ensures.place place (passed_on c.named_of.result c.in_err-name-in-scrub.field-0.0 c.from_residual-in_err-name-in-scrub.result place c.in_err-name-in-scrub.was c.from_residual-in_err-name-in-scrub.ensures.1 e) scrub))
+
+pub returns-in_ok-name-in-scrub-clause-found : goal.returns-in_ok-name-in-scrub-clause-found
+returns-in_ok-name-in-scrub-clause-found c =
+    rw (named_words (words_of c.args.words.now) (words_of c.in-Some.rest.now) (string_bytes c.in-Some.name.now) scrub (ap words_of c.in-Some.ensures.cases.0) (sym c.as_str.ensures.value ∙ c.in-scrub.is))
+    (c.in_ok-name-in-scrub.ensures.found scrub)
+
+is_delete : (words : List Word) → IsNamed delete words → IsGroupCommand words
+is_delete words is = record { command = Change (Delete is.name); takes_one = refl; spells = is.spells }
+
+pub returns-in_err-name-in-delete-clause-place : goal.returns-in_err-name-in-delete-clause-place
+returns-in_err-name-in-delete-clause-place c = λ place e.
+    rw (named_words (words_of c.args.words.now) (words_of c.in-Some.rest.now) (string_bytes c.in-Some.name.now) delete (ap words_of c.in-Some.ensures.cases.0) (sym c.as_str.ensures.value ∙ c.in-delete.is))
+    (wrong_among (IsNamed delete) IsGroupCommand delete (drop 1 (words_of c.args.words.now)) place is_delete (λ more is. delete_names more is.command is.spells)
+    (c.named_of-in-delete.ensures.place place (passed_on c.named_of-in-delete.result c.in_err-name-in-delete.field-0.0 c.from_residual-in_err-name-in-delete.result place c.in_err-name-in-delete.was c.from_residual-in_err-name-in-delete.ensures.1 e) delete))
+
+pub returns-in_ok-name-in-delete-clause-found : goal.returns-in_ok-name-in-delete-clause-found
+returns-in_ok-name-in-delete-clause-found c =
+    rw (named_words (words_of c.args.words.now) (words_of c.in-Some.rest.now) (string_bytes c.in-Some.name.now) delete (ap words_of c.in-Some.ensures.cases.0) (sym c.as_str.ensures.value ∙ c.in-delete.is))
+    (c.in_ok-name-in-delete.ensures.found delete)
+
+is_accept : (words : List Word) → IsNamed accept words → IsGroupCommand words
+is_accept words is = record { command = Change (Accept is.name); takes_one = refl; spells = is.spells }
+
+pub returns-in_err-name-in-accept-clause-place : goal.returns-in_err-name-in-accept-clause-place
+returns-in_err-name-in-accept-clause-place c = λ place e.
+    rw (named_words (words_of c.args.words.now) (words_of c.in-Some.rest.now) (string_bytes c.in-Some.name.now) accept (ap words_of c.in-Some.ensures.cases.0) (sym c.as_str.ensures.value ∙ c.in-accept.is))
+    (wrong_among (IsNamed accept) IsGroupCommand accept (drop 1 (words_of c.args.words.now)) place is_accept (λ more is. accept_names more is.command is.spells)
+    (c.named_of-in-accept.ensures.place place (passed_on c.named_of-in-accept.result c.in_err-name-in-accept.field-0.0 c.from_residual-in_err-name-in-accept.result place c.in_err-name-in-accept.was c.from_residual-in_err-name-in-accept.ensures.1 e) accept))
+
+pub returns-in_ok-name-in-accept-clause-found : goal.returns-in_ok-name-in-accept-clause-found
+returns-in_ok-name-in-accept-clause-found c =
+    rw (named_words (words_of c.args.words.now) (words_of c.in-Some.rest.now) (string_bytes c.in-Some.name.now) accept (ap words_of c.in-Some.ensures.cases.0) (sym c.as_str.ensures.value ∙ c.in-accept.is))
+    (c.in_ok-name-in-accept.ensures.found accept)
