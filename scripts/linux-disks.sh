@@ -1,7 +1,7 @@
 #!/bin/sh
 # Runs `examine`, `show` and `assemble` over disks as Linux's mdadm left them, and compares what they print with what an independent
 # reader found; and reads their arrays, whole and without each disk that the level can do without, and compares the checksum of all
-# blocks with the one that Linux found.
+# blocks with the one that Linux found. Linux has resynced these arrays, so `scrub` finds them clean; a copy of one with a byte changed it doesn't.
 # Nothing may be written to an image, and an image that `label` made has the standard's checksums. The disks aren't part of
 # this repository: DDF_DISKS names a folder of NAME.tar.xz with the images, and NAME.examine.txt and NAME.assemble.txt with the
 # wanted texts. Where there is none, nothing is compared.
@@ -50,6 +50,20 @@ compare_blocks() {
     [ "$found" = "$wanted" ] || fail "the blocks of $label differ"
 }
 
+# Scrubs the array of a set of images, and a copy of them with one byte changed in the array's first sector on the first disk.
+compare_copies() {
+    label=$1
+    shift
+    [ "$("$top/ddf" "$@" -- scrub data 2>/dev/null)" = clean ] || fail "scrub doesn't find $label clean"
+    cp "$1" "$work/changed"
+    byte=$(od -An -tu1 -N1 "$1" | tr -d ' ')
+    # shellcheck disable=SC2059
+    printf "\\$(printf %03o $(((byte + 1) % 256)))" | dd of="$work/changed" conv=notrunc 2>/dev/null
+    shift
+    found=$("$top/ddf" "$work/changed" "$@" -- scrub data 2>/dev/null) || fail "scrub of a changed $label failed"
+    [ "$found" = "differs element 0 row 0" ] || fail "scrub of a changed $label says $found"
+}
+
 work=$(mktemp -d)
 trap 'rm -rf "$work"' EXIT
 for archive in "$disks"/*.tar.xz; do
@@ -66,6 +80,7 @@ for archive in "$disks"/*.tar.xz; do
     sums=$(sum_of "$name")
     blocks=${sums% *}
     if [ "$blocks" -gt 0 ]; then
+        compare_copies "$name" "$work/$name"/*.img
         compare_blocks "$name" "$blocks" "${sums#* }" "$work/$name"/*.img
         for left in "$work/$name"/*.img; do
             others=
