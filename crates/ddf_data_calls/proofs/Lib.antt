@@ -1,0 +1,4 @@
+pub mod Few
+pub mod Volumes
+pub mod Seats
+pub mod Printed

@@ -1,0 +1,45 @@
+-- A read of a group that a history tells of, and what it printed.
+use Rattle.std.specs.Prelude.{◌≡◌, ℕ, ◌+◌, Bool, true, false, List, [], length, map, Option, Some, None, slice_get}
+use Rattle.std.specs.Str.{bytes_eq}
+use Rattle.ddf_bay.specs.State.{BayState}
+use Rattle.ddf_copy.specs.declared.newest_copy.Newest.{Newest}
+use Rattle.ddf_group.specs.Choice.{is_absorbed}
+use Rattle.ddf_group.specs.Shown.{shown_of}
+use Rattle.ddf_data.specs.Allowed.{Allowed, May}
+use Rattle.ddf_keeping.specs.Grouped.{Promises}
+use Rattle.ddf_history.specs.Answer.{HasMember, IsReadable}
+use Rattle.ddf_history.specs.Groups.{groups}
+use Rattle.ddf_history.specs.Issued.{Past}
+use Rattle.ddf_history.specs.Promise.{IsKept}
+use Rattle.ddf_history.specs.Scenes.{scene_of}
+use Rattle.ddf_stops.specs.Kept.{is_read}
+use Rattle.ddf_promise.specs.Promised.{KeepsData}
+use Rattle.ddf_data_commands.specs.Read.{Outcome}
+use Rattle.ddf_data_commands.specs.Read.Outcome.{CutShort, NotRead, Stopped, Whole}
+use Rattle.ddf_data_calls.specs.Floors.{HaveFloors}
+
+-- A call means this group: it names it, or it names none and no other group absorbs this one.
+abbrev pub Means : (group : List ℕ) → List (Option Newest) → (named : Option (List ℕ)) → Type 0
+Means group newest None = is_absorbed (map shown_of newest) group ≡ false
+Means group newest (Some name) = bytes_eq name group ≡ true
+
+-- A history of a group and of its data admits a read that leaves these slots out. A current member is among the slots that it reads. The disks
+-- show what they should, and keep the data, and each slot has its floor.
+pub record AdmitsRead (group : List ℕ) {D : Type 0} (past : Past (groups group)) (floor : ℕ → ℕ) (promises : Promises) (disks : BayState D) (left : List Bool) : Type 0 where
+  pub same_slots : past.slots ≡ length disks.sizes
+  pub may_read : IsReadable past (scene_of disks.sizes disks.held) (is_read left)
+  pub member : HasMember past (scene_of disks.sizes disks.held) (is_read left)
+  pub is_kept : IsKept past (scene_of disks.sizes disks.held)
+  pub keeps : KeepsData group past floor disks.held promises
+  pub have_floors : HaveFloors disks floor
+
+-- the blocks that were printed: where the output gave out, those of which a front was
+abbrev pub blocks_printed : Outcome → List (List ℕ)
+blocks_printed (Whole sectors) = sectors
+blocks_printed (NotRead failure) = []
+blocks_printed (Stopped front slot) = front
+blocks_printed (CutShort front) = front
+
+-- Each of these sectors, the blocks from a number on, has bytes that its block may have.
+abbrev pub MayBe : Allowed → (start : ℕ) → List (List ℕ) → Type 0
+MayBe allowed start sectors = (k : ℕ) (bytes : List ℕ) → slice_get sectors k ≡ Some bytes → May (allowed (start + k)) bytes
