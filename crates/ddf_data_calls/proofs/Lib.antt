@@ -2,3 +2,11 @@ pub mod Few
 pub mod Volumes
 pub mod Seats
 pub mod Printed
+pub mod Issued
+pub mod Recovered
+pub mod Asked
+pub mod Steps
+pub mod Called
+pub mod Wished
+pub mod Aside
+pub mod Begun

@@ -1,5 +1,5 @@
 -- What a read prints over a history of data.
-use Rattle.std.proofs.Common.{◌≡◌, ◌∙◌, ℕ, ◌+◌, ◌<◌, ◌^◌, Bool, List, [], length, Option, Some, None, Result, Ok, ap, sym, subst, ⊎_elim}
+use Rattle.std.proofs.Common.{◌≡◌, ◌∙◌, ℕ, ◌+◌, ◌<◌, ◌^◌, Bool, List, [], length, Option, Some, None, Result, Ok, Err, refl, ap, sym, subst, ⊎_elim, arith}
 use Rattle.std.proofs.lemmas.Option.{get_or_from_slice_get, slice_get_within}
 use Rattle.std.specs.Prelude.{slice_index_or}
 use Rattle.ddf_bay.specs.State.{BayState}
@@ -28,11 +28,14 @@ use Rattle.ddf_promise.specs.Promised.{seats_in}
 use Rattle.ddf_promise.proofs.Returned.{read_since}
 use Rattle.ddf_promise.proofs.Steps.{seats_are}
 use Rattle.ddf_request.specs.Named.{named_array}
-use Rattle.ddf_answer.specs.Call.{work_of}
+use Rattle.ddf_answer.specs.declared.failure.Failure.{Failure}
+use Rattle.ddf_answer.specs.declared.failure.Failure.TheVariants.{Conflict, Disk, Memory, Refused, Split}
+use Rattle.ddf_answer.specs.Answers.{IsToldFailure, failure_of}
+use Rattle.ddf_answer.specs.Call.{Answer, work_of}
 use Rattle.ddf_group.specs.declared.answer.Assembly.{Assembly}
-use Rattle.ddf_data_commands.specs.Read.{AreBlocks, HasRead, IsReadIn, IsReadOf, IsReadable, Outcome}
+use Rattle.ddf_data_commands.specs.Read.{AreBlocks, HasRead, IsReadDone, IsReadIn, IsReadOf, IsReadTold, IsReadable, Outcome}
 use Rattle.ddf_data_commands.specs.Read.Outcome.{CutShort, NotRead, Stopped, Whole}
-use Rattle.ddf_data_calls.specs.Reading.{AdmitsRead, MayBe, Means, blocks_printed}
+use Rattle.ddf_data_calls.specs.Reading.{AdmitsRead, HasReturned, MayBe, Means, blocks_printed}
 use Rattle.ddf_data_calls.proofs.Few.{ArraysFew, given_few}
 use Rattle.ddf_data_calls.proofs.Seats as seating
 use Rattle.ddf_data_calls.proofs.Volumes.{view_is}
@@ -99,3 +102,54 @@ printed_may group tells told old new past floor small promises named word start 
     let own = meant_group group old read.left read.newest read.every_slot (read.read told) past floor promises admits named means found at in
     by_outcome group tells told old new past floor small promises read.left admits read.newest read.every_slot (read.read told) named found at own word start count guid array is_named allowed promised
     outcome (subst (λ (answer : Result GroupValue Assembly). IsReadIn (work_of tells old new) word start count answer outcome) at read.gives)
+
+-- ---- a read that was done
+
+-- one that wasn't has another status
+not_done : (failure : Failure) (answer : Answer) → IsToldFailure failure answer → answer.status ≡ 0 → ⊥
+not_done (Refused refusal) answer told done = ⊎_elim (λ one. omega (arith, one, done)) (λ cut. ⊎_elim (λ five. omega (arith, five, done)) (λ six. omega (arith, six, done)) cut) told.ends
+not_done (Disk slot) answer told done = ⊎_elim (λ three. omega (arith, three, done)) (λ six. omega (arith, six, done)) told.ends
+not_done (Conflict i j sequence differ) answer told done = ⊎_elim (λ four. omega (arith, four, done)) (λ cut. ⊎_elim (λ five. omega (arith, five, done)) (λ six. omega (arith, six, done)) cut) told.ends
+not_done (Split i j) answer told done = ⊎_elim (λ four. omega (arith, four, done)) (λ cut. ⊎_elim (λ five. omega (arith, five, done)) (λ six. omega (arith, six, done)) cut) told.ends
+not_done Memory answer told done = let five = told.0 in omega (arith, five, done)
+
+module _ (group : List ℕ) {D : Type 0} (tells : Type 0) (told : tells) (old new : BayState D) (past : Past (groups group)) (floor : ℕ → ℕ) (small : (slot : ℕ) → floor slot < 2 ^ 64)
+    (promises : Promises) (named : Option (List ℕ)) (word : List ℕ) (start count : ℕ) (answer : Answer) (read : IsReadDone (work_of tells old new) named word start count answer)
+    (done : answer.status ≡ 0) (means : Means group read.has.newest named) (admits : AdmitsRead group past floor promises old read.has.left) where
+  abbrev Returned : Type 0
+  Returned = HasReturned group past promises read.has.newest named word start count answer
+
+  returned_of : (found : GroupValue) → group_of read.has.newest named ≡ Ok found → (outcome : Outcome) → IsReadTold outcome answer → IsReadOf (work_of tells old new) found.config found.seats word start count outcome
+      → Returned
+  returned_of found at (Whole sectors) ends came =
+      let own = meant_group group old read.has.left read.has.newest read.has.every_slot (read.has.read told) past floor promises admits named means found at in
+      let since = seating.since group old read.has.left read.has.newest read.has.every_slot (read.has.read told) past admits.same_slots admits.is_kept admits.may_read admits.member named found at own in
+      record {
+        found = found;
+        is_found = at;
+        number = since.0;
+        since = since.1;
+        guid = came.1.entry.0;
+        array = came.1.entry.1;
+        is_named = came.1.is_named;
+        sectors = sectors;
+        counted = came.2.0;
+        printed = ends;
+        may_be = λ allowed promised.
+            by_blocks group tells told old new past floor small promises read.has.left admits read.has.newest read.has.every_slot (read.has.read told) named found at own word start count
+            came.1.entry.0 came.1.entry.1 came.1.is_named allowed promised came.0 came.1 sectors came.2.1;
+      }
+  returned_of found at (NotRead failure) ends came = absurd (not_done failure answer ends done)
+  returned_of found at (Stopped front slot) ends came = absurd (let three = ends.ends in omega (arith, three, done))
+  returned_of found at (CutShort front) ends came = absurd (let six = ends.0 in omega (arith, six, done))
+
+  none_found : (outcome : Outcome) (failure : Failure) → IsReadTold outcome answer → outcome ≡ NotRead failure → ⊥
+  none_found outcome failure ends is = not_done failure answer (subst (λ (one : Outcome). IsReadTold one answer) is ends) done
+
+  -- A read with status 0 returned what it should.
+  pub read_returned : Returned
+  read_returned = by (group_of read.has.newest named) refl read.has.gives
+    where
+      by : (found : Result GroupValue Assembly) → group_of read.has.newest named ≡ found → IsReadIn (work_of tells old new) word start count found read.outcome → Returned
+      by (Ok found) at gives = returned_of found at read.outcome read.ends gives
+      by (Err fault) at gives = absurd (⊎_elim (λ is. none_found read.outcome (failure_of fault) read.ends is) (λ is. none_found read.outcome Memory read.ends is) gives)

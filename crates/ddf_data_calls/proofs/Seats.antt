@@ -13,6 +13,7 @@ use Rattle.ddf_copy.specs.Copies.{newest_at, standing_copy}
 use Rattle.ddf_array.specs.Losing.{AreFewer}
 use Rattle.ddf_array.proofs.Bools.{and_second}
 use Rattle.ddf_view.specs.View.{View, view_of}
+use Rattle.ddf_plan.specs.Lose.{is_among}
 use Rattle.ddf_rewrite.proofs.AllWanted.{filter_map_get}
 use Rattle.ddf_history.specs.Answer.{HasMember, IsReadable}
 use Rattle.ddf_history.specs.Groups.{Disk, disk_of, groups, has_current}
@@ -50,12 +51,12 @@ module _ (group : List ℕ) (past : Past (groups group)) (config : Configuration
   AreListed seats = (place : ℕ) (seat : Seat) → slice_get seats place ≡ Some seat → IsListed seat
 
 -- a seat that is found is one of them
-record IsFoundAt (seats : List Seat) (reference : ℕ) (seat : Seat) : Type 0 where
+pub record IsFoundAt (seats : List Seat) (reference : ℕ) (seat : Seat) : Type 0 where
   pub place : ℕ
   pub is_at : slice_get seats place ≡ Some seat
   pub is_reference : seat.reference ≡ reference
 
-found_at : (seats : List Seat) (reference : ℕ) (seat : Seat) → find (λ (s : Seat). nat_eq s.reference reference) seats ≡ Some seat → IsFoundAt seats reference seat
+pub found_at : (seats : List Seat) (reference : ℕ) (seat : Seat) → find (λ (s : Seat). nat_eq s.reference reference) seats ≡ Some seat → IsFoundAt seats reference seat
 found_at [] reference seat e = absurd (cc)
 found_at (first ∷ seats) reference seat e = by (nat_eq first.reference reference) refl e (found_at seats reference seat)
   where
@@ -66,7 +67,16 @@ found_at (first ∷ seats) reference seat e = by (nat_eq first.reference referen
         record { place = 0; is_at = ap Some same; is_reference = ap (λ (s : Seat). s.reference) (sym same) ∙ eqb-true first.reference reference is }
     by false is e later = let rest = later e in record { place = suc rest.place; is_at = rest.is_at; is_reference = rest.is_reference }
 
-module _ (group : List ℕ) (past : Past (groups group)) (alone : AreAlone group past) (number : ℕ) (config : Configuration) (since : IsSince past.changes number config) (floor : ℕ → ℕ)
+-- each current member is in one slot
+abbrev pub AreInOne : (group : List ℕ) → Past (groups group) → Configuration → Type 0
+AreInOne group past config =
+    (s t : ℕ) → has_current config (past.disk s) ≡ true → has_current config (past.disk t) ≡ true → (past.disk s).reference ≡ (past.disk t).reference → s ≡ t
+
+pub in_one : (group : List ℕ) (past : Past (groups group)) → AreAlone group past → (number : ℕ) (config : Configuration) → IsSince past.changes number config → AreInOne group past config
+in_one group past alone number config since s t one other same =
+    alone s t number config since one ((groups_are_sound group).one_reference config (past.disk s) (past.disk t) one other same)
+
+module _ (group : List ℕ) (past : Past (groups group)) (config : Configuration) (apart : AreInOne group past config) (floor : ℕ → ℕ)
     (seats : List Seat) (listed : AreListed group past config floor seats) where
   not_away : (a b : Bool) → a ≡ false → b ≡ true → (not a && b) ≡ true
   not_away true b e f = absurd (cc)
@@ -76,16 +86,15 @@ module _ (group : List ℕ) (past : Past (groups group)) (alone : AreAlone group
   joined a b c one other = one ∙ sym other
 
   -- the seat that the history lists for a member is at the same slot
-  at_slot : (reference : ℕ) (seat : Seat) → IsListed group past config floor seat → seat.reference ≡ reference
+  pub at_slot : (reference : ℕ) (seat : Seat) → IsListed group past config floor seat → seat.reference ≡ reference
       → found floor past.disk (is_seat group past config) reference 0 past.slots ≡ Some (listed_seat floor past.disk seat.slot)
   at_slot reference seat is same =
       let there = is_found floor past.disk (is_seat group past config) reference 0 past.slots seat.slot (omega arith) (omega (arith, is.is_below))
       (not_away (past.lost seat.slot) (has_current config (past.disk seat.slot)) is.not_lost is.is_current) (sym is.same_reference ∙ same) in
       let has = has_seat floor past.disk (is_seat group past config) reference 0 past.slots there.0 there.1 in
       let current = and_second (not (past.lost has.slot)) (has_current config (past.disk has.slot)) has.is_here in
-      let one : has.slot ≡ seat.slot = alone has.slot seat.slot number config since current
-      ((groups_are_sound group).one_reference config (past.disk has.slot) (past.disk seat.slot) current is.is_current
-      (joined (past.disk has.slot).reference (past.disk seat.slot).reference reference has.is_reference (sym is.same_reference ∙ same))) in
+      let one : has.slot ≡ seat.slot = apart has.slot seat.slot current is.is_current
+      (joined (past.disk has.slot).reference (past.disk seat.slot).reference reference has.is_reference (sym is.same_reference ∙ same)) in
       there.1 ∙ ap Some has.is_seat ∙ ap (λ (s : ℕ). Some (listed_seat floor past.disk s)) one
 
   -- So they are some of those that the history lists.
@@ -108,7 +117,7 @@ module _ (group : List ℕ) (past : Past (groups group)) (alone : AreAlone group
 -- ---- the copies that were read
 
 -- the newest copy of a slot that was read is the one that the slot has
-newest_there : {D : Type 0} (disks : BayState D) (left : List Bool) (slot k : ℕ) (newest : Newest) → slice_get (newest_from disks slot left) k ≡ Some (Some newest) → on_slot newest_at disks (slot + k) ≡ Some newest
+pub newest_there : {D : Type 0} (disks : BayState D) (left : List Bool) (slot k : ℕ) (newest : Newest) → slice_get (newest_from disks slot left) k ≡ Some (Some newest) → on_slot newest_at disks (slot + k) ≡ Some newest
 newest_there disks [] slot k newest at = absurd cc
 newest_there disks (out ∷ left) slot zero newest at =
     subst (λ (n : ℕ). on_slot newest_at disks n ≡ Some newest) (let same : slot ≡ slot + 0 = omega arith in same) (by out at)
@@ -120,12 +129,12 @@ newest_there disks (out ∷ left) slot (suc k) newest at =
     subst (λ (n : ℕ). on_slot newest_at disks n ≡ Some newest) (let same : suc slot + k ≡ slot + suc k = omega arith in same) (newest_there disks left (suc slot) k newest at)
 
 -- a slot's copy stands for its newest
-record IsStanding (newest : List (Option Newest)) (slot : ℕ) (copy : DiskCopy) : Type 0 where
+pub record IsStanding (newest : List (Option Newest)) (slot : ℕ) (copy : DiskCopy) : Type 0 where
   pub own : Newest
   pub is_own : slice_get newest slot ≡ Some (Some own)
   pub stands : standing_copy own ≡ Some copy
 
-standing : (newest : List (Option Newest)) (slot : ℕ) (copy : DiskCopy) → copy_at newest slot ≡ Some copy → IsStanding newest slot copy
+pub standing : (newest : List (Option Newest)) (slot : ℕ) (copy : DiskCopy) → copy_at newest slot ≡ Some copy → IsStanding newest slot copy
 standing newest slot copy is = by (slice_get newest slot) refl is
   where
     by : (o : Option (Option Newest)) → slice_get newest slot ≡ o → option_and_then (λ one. option_and_then standing_copy one) o ≡ Some copy → IsStanding newest slot copy
@@ -186,6 +195,14 @@ module _ (group : List ℕ) {D : Type 0} (state : BayState D) (left : List Bool)
     unfolding copy view_of
     reference_is = ap (λ (one : Seat). one.reference) (sym (copy_is).2)
 
+    -- Its member isn't absent.
+    pub seat_not_absent : is_among g.absent (past.disk seat.slot).reference ≡ false
+    unfolding copy
+    seat_not_absent =
+        ap (λ (d : Disk). is_among g.absent d.reference) (sym copy_names)
+        ∙ claims.claimed_not_absent group state left newest long is past counted kept may member named g at own seat.slot (view_of (copy_is).0)
+        (claims.seats_claimed group state left newest long is past counted kept may member named g at own place seat (copy_is).0 there (copy_is).1)
+
     module _ (floor : ℕ → ℕ) (floors : HaveFloors state floor) where
       floor_is : seat.floor ≡ floor seat.slot
       floor_is =
@@ -193,7 +210,7 @@ module _ (group : List ℕ) {D : Type 0} (state : BayState D) (left : List Bool)
           let there : slice_get (newest_from state 0 left) seat.slot ≡ Some (Some standing_is.own) = ap (λ (all : List (Option Newest)). slice_get all seat.slot) (sym is) ∙ standing_is.is_own in
           let slot_is : 0 + seat.slot ≡ seat.slot = omega arith in
           let here = subst (λ (n : ℕ). on_slot newest_at state n ≡ Some standing_is.own) slot_is (newest_there state left 0 seat.slot standing_is.own there) in
-          ap (λ (one : Seat). one.floor) (sym (copy_is).2) ∙ floors seat.slot standing_is.own (copy_is).0 here standing_is.stands
+          ap (λ (one : Seat). one.floor) (sym (copy_is).2) ∙ (floors seat.slot).same_floor standing_is.own (copy_is).0 here standing_is.stands
 
       pub seat_listed : IsListed group past g.config floor seat
       seat_listed = record {
@@ -216,4 +233,4 @@ module _ (group : List ℕ) {D : Type 0} (state : BayState D) (left : List Bool)
     }
 
     pub seats_fewer : AreFewer (seats_in group past floor g.config) g.seats
-    seats_fewer = some_listed group past kept.alone (since).0 g.config (since).1 floor g.seats seats_listed
+    seats_fewer = some_listed group past g.config (in_one group past kept.alone (since).0 g.config (since).1) floor g.seats seats_listed

@@ -3,4 +3,10 @@
 
 mod laws;
 
-pub use laws::a_read_prints_what_was_acknowledged;
+pub use laws::{
+    a_call_keeps_its_history_and_its_data, a_call_on_other_disks_keeps_the_data,
+    a_calls_seats_are_those_of_its_history, a_created_array_may_have_any_bytes,
+    a_read_prints_what_was_acknowledged, fewer_promises_are_kept,
+    the_changes_of_a_call_keep_the_data, what_a_stop_leaves_has_whole_sectors,
+    what_a_wish_asks_for,
+};

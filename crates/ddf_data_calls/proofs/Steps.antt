@@ -1,0 +1,292 @@
+-- The steps that a call with one change makes, by what they make of the configuration and of the disks.
+use Rattle.std.proofs.Common.{◌≡◌, ◌⊎◌, ◌∙◌, inl, inr, ⊎_elim, ℕ, zero, suc, ◌+◌, ◌<◌, ◌≤◌, ◌==◌, not, cond, Bool, true, false, List, [], ◌∷◌, ◌++◌, length, map, filter, min, Option, Some, None, Result, Ok, Err, if◌then◌else◌, refl, ap, sym, subst, arith}
+use Rattle.std.proofs.lemmas.Bool.{eq-eqb, ne_eqb}
+use Rattle.std.specs.Prelude.{option_to_list, slice_get}
+use Rattle.std.specs.List.{AllByRecursion}
+use Rattle.ddf_bay.specs.Sectors.{Image}
+use Rattle.ddf_config.specs.declared.refusal.Refusal.{Refusal}
+use Rattle.ddf_config.specs.declared.seat.Seat.{Seat}
+use Rattle.ddf_config.specs.Configuration.{Configuration}
+use Rattle.ddf_copy.specs.declared.copy.DiskCopy.{DiskCopy}
+use Rattle.ddf_copy.specs.declared.which.Which.TheVariants.{Primary}
+use Rattle.ddf_copy.specs.Headers.{written_as}
+use Rattle.ddf_plan.specs.declared.change.Change.{Change}
+use Rattle.ddf_plan.specs.Refusals.{greatest_sequence}
+use Rattle.ddf_plan.specs.Causes.{steps_of as change_steps}
+use Rattle.ddf_plan.specs.Same.{is_step}
+use Rattle.ddf_keeping.specs.Grouped.{Promises}
+use Rattle.ddf_view.specs.Shows.{shows}
+use Rattle.ddf_view.specs.View.{view_of}
+use Rattle.ddf_rewrite.specs.Before.{Before, before}
+use Rattle.ddf_rewrite.specs.Copies.{changed_copy, recovered_copy}
+use Rattle.ddf_rewrite.proofs.Lists.{map_get}
+use Rattle.ddf_assembly.specs.declared.seated.Seated.{Seated}
+use Rattle.ddf_assembly.specs.Group.{GroupValue, floor_of}
+use Rattle.ddf_assembly.specs.Ready.{AreNumbered, readied, steps_from, with_step}
+use Rattle.ddf_assembly.specs.Recovery.{config_lost, config_recovered, disks_recovered, lags, leading, loss, lost_step, mended, mended_copy, mended_or_kept, mending_step, recovery_of, some}
+use Rattle.ddf_assembly.specs.Refusing.{step_refusal}
+use Rattle.ddf_assembly.specs.Seated.{seated, views_in}
+use Rattle.ddf_assembly.specs.Steps.{Step, config_after, disks_after, levelled, raised, rewritten, stays_in, step_of}
+use Rattle.ddf_assembly.proofs.CommittedReadied.{filter_get}
+use Rattle.ddf_assembly.proofs.Numbered.{steps_numbered}
+use Rattle.ddf_assembly.proofs.ReadiedSteps.{are_tried, behind, loss_rises, none_spent, steps_are}
+use Rattle.ddf_stops.specs.Going.{changes_in}
+use Rattle.ddf_data_calls.specs.Calls.{AreMade, MayAsk}
+
+-- ---- the steps behind the recovery
+
+-- what the steps make of the configuration, one after another
+abbrev pub configs : List Step → List Configuration
+configs steps = map (λ (step : Step). step.config) steps
+
+-- They are those of one change: none where it alters nothing.
+pub record AreOfChange (timestamp : ℕ) (config : Configuration) (disks : List Seated) (change : Change) (steps : List Step) : Type 0 where
+  pub not_refused : step_refusal timestamp None config disks change ≡ None
+  pub steps_are : (steps ≡ []) ⊎ (steps ≡ step_of timestamp config disks change ∷ [])
+
+module _ (timestamp : ℕ) (config : Configuration) (disks : List Seated) where
+  of_none : (steps : List Step) → steps_from timestamp None [] config disks ≡ Ok steps → steps ≡ []
+  of_none steps is = let same : ◌≡◌ {A = List Step} [] steps = cc in sym same
+
+  pub of_change : (change : Change) (steps : List Step) → steps_from timestamp None (change ∷ []) config disks ≡ Ok steps → AreOfChange timestamp config disks change steps
+  of_change change steps is = by_refusal (step_refusal timestamp None config disks change) refl is
+    where
+      by_step : step_refusal timestamp None config disks change ≡ None → (b : Bool)
+          → ◌≡◌ {A = Result (List Step) Refusal} (if b then with_step (step_of timestamp config disks change) (Ok []) else Ok []) (Ok steps) → AreOfChange timestamp config disks change steps
+      by_step none true e = record { not_refused = none; steps_are = inr (let same : step_of timestamp config disks change ∷ [] ≡ steps = cc in sym same) }
+      by_step none false e = record { not_refused = none; steps_are = inl (let same : ◌≡◌ {A = List Step} [] steps = cc in sym same) }
+
+      by_refusal : (o : Option Refusal) → step_refusal timestamp None config disks change ≡ o
+          → ◌≡◌ {A = Result (List Step) Refusal} (elim o [
+            | Some refusal ↦ Err refusal
+            | None ↦ if is_step config change then with_step (step_of timestamp config disks change) (Ok []) else Ok []
+          ]) (Ok steps) → AreOfChange timestamp config disks change steps
+      by_refusal None none e = by_step none (is_step config change) e
+      by_refusal (Some refusal) some_one e = absurd cc
+
+  -- what they make of the configuration
+  pub asked_made : (seats : Configuration → List Seat) (image : Image) (promises : Promises) (asked : Option Change) (steps : List Step)
+      → steps_from timestamp None (option_to_list asked) config disks ≡ Ok steps → MayAsk config (seats config) image promises asked → AreMade seats image promises config (configs steps)
+  asked_made seats image promises None steps is may = subst (λ (all : List Step). AreMade seats image promises config (configs all)) (sym (of_none steps is)) tt
+  asked_made seats image promises (Some change) steps is may = ⊎_elim
+      (λ none. subst (λ (all : List Step). AreMade seats image promises config (configs all)) (sym none) tt)
+      (λ one. subst (λ (all : List Step). AreMade seats image promises config (configs all)) (sym one)
+      (record { change = change; sequence = raised config.sequence (change_steps change); is_next = refl; may = may }, tt))
+      (of_change change steps is).steps_are
+
+-- ---- the changes that a call issues
+
+-- The sequence number of each of these steps is greater.
+abbrev AreAbove : ℕ → List Step → Type 0
+AreAbove sequence = AllByRecursion (λ (step : Step). sequence < step.config.sequence)
+
+numbered_above : (first sequence : ℕ) (steps : List Step) → first ≤ sequence → AreNumbered sequence steps → AreAbove first steps
+numbered_above first sequence [] le are = tt
+numbered_above first sequence (step ∷ steps) le are =
+    let more = are.0 in
+    (omega (arith, le, more), numbered_above first step.config.sequence steps (omega (arith, le, more)) are.2)
+
+-- whether a step raises the sequence number
+abbrev raises : GroupValue → Step → Bool
+raises found step = not (step.config.sequence == found.config.sequence)
+
+-- A step that does issues its configuration.
+first_issued : (found : GroupValue) (step : Step) (others : List Step) (same : Bool) → (step.config.sequence == found.config.sequence) ≡ same
+    → changes_in found (step ∷ others) ≡ (if same then changes_in found others else step.config ∷ changes_in found others)
+first_issued found step others true is = ap (λ (same : Bool). configs (cond (not same) (step ∷ filter (raises found) others) (filter (raises found) others))) is
+first_issued found step others false is = ap (λ (same : Bool). configs (cond (not same) (step ∷ filter (raises found) others) (filter (raises found) others))) is
+
+-- Where all do each of them is issued.
+above_issued : (found : GroupValue) (steps : List Step) → AreAbove found.config.sequence steps → changes_in found steps ≡ configs steps
+above_issued found [] above = refl
+above_issued found (step ∷ steps) above =
+    let more = above.0 in
+    first_issued found step steps false (ne_eqb step.config.sequence found.config.sequence (λ same. omega (arith, more, same)))
+    ∙ ap (λ (others : List Configuration). step.config ∷ others) (above_issued found steps above.1)
+
+module _ (found : GroupValue) (changes : List Change) (timestamp : ℕ) (steps : List Step) (are : readied found changes timestamp ≡ Ok steps) where
+  -- the steps behind the recovery
+  abbrev pub others : List Step
+  others = behind found changes timestamp steps are
+
+  lost_is : some found.absent ≡ true → recovery_of timestamp found ≡ Some (lost_step timestamp found)
+  unfolding recovery_of
+  lost_is absent = rw absent refl
+
+  mending_is : some found.absent ≡ false → some found.lagging ≡ true → recovery_of timestamp found ≡ Some (mending_step timestamp found)
+  unfolding recovery_of
+  mending_is present lagging = rw (present, lagging) refl
+
+  none_is : some found.absent ≡ false → some found.lagging ≡ false → recovery_of timestamp found ≡ None
+  unfolding recovery_of
+  none_is present level = rw (present, level) refl
+
+  -- The steps, by the recovery.
+  after : (next : Option Step) → recovery_of timestamp found ≡ next → steps ≡ option_to_list next ++ others
+  after next is = steps_are found changes timestamp steps are ∙ ap (λ (one : Option Step). option_to_list one ++ others) is
+
+  -- The recovery doesn't lower the sequence number.
+  no_lower : found.config.sequence ≤ (config_recovered found).sequence
+  unfolding config_recovered
+  no_lower = by (some found.absent) refl
+    where
+      by : (absent : Bool) → some found.absent ≡ absent → found.config.sequence ≤ (if absent then config_lost found else found.config).sequence
+      by true absent = let rises = loss_rises found changes timestamp steps are (lost_step timestamp found) (lost_is absent) absent in omega (arith, rises)
+      by false present = omega arith
+
+  others_above : AreAbove found.config.sequence others
+  others_above =
+      numbered_above found.config.sequence (config_recovered found).sequence others no_lower
+      (steps_numbered timestamp changes (config_recovered found) (disks_recovered timestamp found) others (are_tried found changes timestamp steps are) (none_spent found changes timestamp steps are))
+
+  -- What the call issues: the loss of absent members first, and then what the other steps make of it.
+  abbrev pub issued : List Configuration
+  issued = if some found.absent then config_lost found ∷ configs others else configs others
+
+  pub issued_are : changes_in found steps ≡ issued
+  issued_are = by (some found.absent) refl (some found.lagging) refl
+    where
+      from : (all : List Step) → steps ≡ all → changes_in found steps ≡ changes_in found all
+      from all same = ap (changes_in found) same
+
+      by : (absent : Bool) → some found.absent ≡ absent → (lagging : Bool) → some found.lagging ≡ lagging → changes_in found steps ≡ (if absent then config_lost found ∷ configs others else configs others)
+      by true absent lagging l =
+          from (lost_step timestamp found ∷ others) (after (Some (lost_step timestamp found)) (lost_is absent))
+          ∙ above_issued found (lost_step timestamp found ∷ others) (loss_rises found changes timestamp steps are (lost_step timestamp found) (lost_is absent) absent, others_above)
+      by false present true lagging =
+          from (mending_step timestamp found ∷ others) (after (Some (mending_step timestamp found)) (mending_is present lagging))
+          ∙ first_issued found (mending_step timestamp found) others true (eq-eqb found.config.sequence found.config.sequence refl)
+          ∙ above_issued found others others_above
+      by false present false level = from others (after None (none_is present level)) ∙ above_issued found others others_above
+
+-- Each of them is what a change makes of the one before it.
+pub issued_made : (found : GroupValue) (asked : Option Change) (timestamp : ℕ) (steps : List Step) → (are : readied found (option_to_list asked) timestamp ≡ Ok steps)
+    → (seats : Configuration → List Seat) (image : Image) (promises : Promises) → MayAsk (config_recovered found) (seats (config_recovered found)) image promises asked
+    → AreMade seats image promises found.config (changes_in found steps)
+unfolding config_recovered
+issued_made found asked timestamp steps are seats image promises may =
+    subst (AreMade seats image promises found.config) (sym (issued_are found (option_to_list asked) timestamp steps are))
+    (by (some found.absent) (asked_made timestamp (config_recovered found) (disks_recovered timestamp found) seats image promises asked (behind found (option_to_list asked) timestamp steps are)
+    (are_tried found (option_to_list asked) timestamp steps are) may))
+  where
+    by : (absent : Bool) → AreMade seats image promises (if absent then config_lost found else found.config) (configs (behind found (option_to_list asked) timestamp steps are))
+        → AreMade seats image promises found.config
+        (if absent then config_lost found ∷ configs (behind found (option_to_list asked) timestamp steps are) else configs (behind found (option_to_list asked) timestamp steps are))
+    by true made = (record { change = loss found; sequence = raised found.config.sequence (change_steps (loss found)); is_next = refl; may = tt }, made)
+    by false made = made
+
+-- ---- the floors of the disks that steps write
+
+-- A disk is on the slot of a seat's disk, with a copy of the same floor.
+pub record HasFloorOf (seats : List Seated) (disk : Seated) : Type 0 where
+  pub place : ℕ
+  pub before : Seated
+  pub is_there : slice_get seats place ≡ Some before
+  pub same_slot : before.seat.slot ≡ disk.seat.slot
+  pub same_floor : floor_of disk.copy ≡ floor_of before.copy
+
+abbrev pub HaveFloorsOf : List Seated → List Seated → Type 0
+HaveFloorsOf seats disks = (place : ℕ) (disk : Seated) → slice_get disks place ≡ Some disk → HasFloorOf seats disk
+
+changed_floor : (leaders : Before) (config : Configuration) (timestamp : ℕ) (copy : DiskCopy) → floor_of (written_as (changed_copy copy leaders config timestamp) Primary) ≡ floor_of copy
+unfolding changed_copy
+changed_floor leaders config timestamp copy = refl
+
+mended_floor : (leaders : Before) (config : Configuration) (timestamp : ℕ) (copy : DiskCopy) → floor_of (written_as (mended_copy leaders config timestamp copy) Primary) ≡ floor_of copy
+unfolding recovered_copy
+mended_floor leaders config timestamp copy = by (shows config (view_of copy))
+  where
+    by : (shown : Bool) → floor_of (written_as (if shown then copy else recovered_copy copy leaders config timestamp) Primary) ≡ floor_of copy
+    by true = refl
+    by false = refl
+
+module _ (seats : List Seated) where
+  renewed : (disk next : Seated) → disk.seat.slot ≡ next.seat.slot → floor_of next.copy ≡ floor_of disk.copy → HasFloorOf seats disk → HasFloorOf seats next
+  renewed disk next slot floor from =
+      record { place = from.place; before = from.before; is_there = from.is_there; same_slot = from.same_slot ∙ slot; same_floor = floor ∙ from.same_floor }
+
+  mapped : (f : Seated → Seated) (disks : List Seated) → ((disk : Seated) → (f disk).seat.slot ≡ disk.seat.slot) → ((disk : Seated) → floor_of (f disk).copy ≡ floor_of disk.copy)
+      → HaveFloorsOf seats disks → HaveFloorsOf seats (map f disks)
+  mapped f disks slots floors from place disk at =
+      let one = map_get f disks place disk at in
+      subst (HasFloorOf seats) one.2 (renewed one.0 (f one.0) (sym (slots one.0)) (floors one.0) (from place one.0 one.1))
+
+  filtered : (p : Seated → Bool) (disks : List Seated) → HaveFloorsOf seats disks → HaveFloorsOf seats (filter p disks)
+  filtered p disks from place disk at = let there = filter_get p disks place disk at in from there.0 disk there.1
+
+  after_floors : (timestamp : ℕ) (leaders : Before) (config : Configuration) (disks : List Seated) → HaveFloorsOf seats disks → HaveFloorsOf seats (disks_after timestamp leaders config disks)
+  unfolding disks_after
+  after_floors timestamp leaders config disks from =
+      mapped (rewritten leaders config timestamp) (filter (stays_in config) disks) (λ disk. refl) (λ disk. changed_floor leaders config timestamp disk.copy) (filtered (stays_in config) disks from)
+
+module _ (found : GroupValue) (timestamp : ℕ) where
+  own_floors : HaveFloorsOf (seated found) (seated found)
+  own_floors place disk at = record { place = place; before = disk; is_there = at; same_slot = refl; same_floor = refl }
+
+  lost_floors : HaveFloorsOf (seated found) (lost_step timestamp found).disks
+  lost_floors = after_floors (seated found) timestamp (leading found) (config_lost found) (seated found) own_floors
+
+  mending_floors : HaveFloorsOf (seated found) (mending_step timestamp found).disks
+  mending_floors =
+      mapped (seated found) (mended (leading found) found.config timestamp) (filter (lags found) (seated found)) (λ disk. refl) (λ disk. mended_floor (leading found) found.config timestamp disk.copy)
+      (filtered (seated found) (lags found) (seated found) own_floors)
+
+  recovery_floors : (step : Step) → recovery_of timestamp found ≡ Some step → HaveFloorsOf (seated found) step.disks
+  unfolding recovery_of
+  recovery_floors step is = by (some found.absent) (some found.lagging) is
+    where
+      by : (absent lagging : Bool)
+          → ◌≡◌ {A = Option Step} (if absent then Some (lost_step timestamp found) else if lagging then Some (mending_step timestamp found) else None) (Some step)
+          → HaveFloorsOf (seated found) step.disks
+      by true lagging is = let same : lost_step timestamp found ≡ step = cc in subst (λ (one : Step). HaveFloorsOf (seated found) one.disks) same lost_floors
+      by false true is = let same : mending_step timestamp found ≡ step = cc in subst (λ (one : Step). HaveFloorsOf (seated found) one.disks) same mending_floors
+      by false false is = absurd cc
+
+  recovered_floors : HaveFloorsOf (seated found) (disks_recovered timestamp found)
+  unfolding disks_recovered
+  recovered_floors = by (some found.absent)
+    where
+      kept_slot : (disk : Seated) → (mended_or_kept timestamp found disk).seat.slot ≡ disk.seat.slot
+      kept_slot disk = by_lag (lags found disk)
+        where
+          by_lag : (b : Bool) → (if b then levelled (mended (leading found) found.config timestamp disk) else disk).seat.slot ≡ disk.seat.slot
+          by_lag true = refl
+          by_lag false = refl
+
+      kept_floor : (disk : Seated) → floor_of (mended_or_kept timestamp found disk).copy ≡ floor_of disk.copy
+      kept_floor disk = by_lag (lags found disk)
+        where
+          by_lag : (b : Bool) → floor_of (if b then levelled (mended (leading found) found.config timestamp disk) else disk).copy ≡ floor_of disk.copy
+          by_lag true = mended_floor (leading found) found.config timestamp disk.copy
+          by_lag false = refl
+
+      by : (b : Bool) → HaveFloorsOf (seated found) (if b then map levelled (lost_step timestamp found).disks else map (mended_or_kept timestamp found) (seated found))
+      by true = mapped (seated found) levelled (lost_step timestamp found).disks (λ disk. refl) (λ disk. refl) lost_floors
+      by false = mapped (seated found) (mended_or_kept timestamp found) (seated found) kept_slot kept_floor own_floors
+
+  -- Each disk that the steps write has the floor of its seat's disk.
+  pub step_floors : (asked : Option Change) (steps : List Step) → readied found (option_to_list asked) timestamp ≡ Ok steps
+      → (number : ℕ) (step : Step) → slice_get steps number ≡ Some step → HaveFloorsOf (seated found) step.disks
+  step_floors asked steps are number step at =
+      by_recovery (recovery_of timestamp found) refl number (subst (λ (all : List Step). slice_get all number ≡ Some step) (steps_are found (option_to_list asked) timestamp steps are) at)
+    where
+      behind_floors : (ask : Option Change) (all : List Step) → steps_from timestamp None (option_to_list ask) (config_recovered found) (disks_recovered timestamp found) ≡ Ok all
+          → (k : ℕ) → slice_get all k ≡ Some step → HaveFloorsOf (seated found) step.disks
+      behind_floors None all is k there = absurd (let no = subst (λ (l : List Step). slice_get l k ≡ Some step) (of_none timestamp (config_recovered found) (disks_recovered timestamp found) all is) there in cc)
+      behind_floors (Some change) all is k there = ⊎_elim
+          (λ none. absurd (let no = subst (λ (l : List Step). slice_get l k ≡ Some step) none there in cc))
+          (λ one. first k (subst (λ (l : List Step). slice_get l k ≡ Some step) one there))
+          (of_change timestamp (config_recovered found) (disks_recovered timestamp found) change all is).steps_are
+        where
+          first : (j : ℕ) → slice_get (step_of timestamp (config_recovered found) (disks_recovered timestamp found) change ∷ []) j ≡ Some step → HaveFloorsOf (seated found) step.disks
+          first zero same =
+              let is_it : step_of timestamp (config_recovered found) (disks_recovered timestamp found) change ≡ step = cc in
+              subst (λ (one : Step). HaveFloorsOf (seated found) one.disks) is_it
+              (after_floors (seated found) timestamp (before (views_in (disks_recovered timestamp found))) (config_after (config_recovered found) change) (disks_recovered timestamp found) recovered_floors)
+          first (suc j) none = absurd cc
+
+      by_recovery : (next : Option Step) → recovery_of timestamp found ≡ next → (k : ℕ) → slice_get (option_to_list next ++ behind found (option_to_list asked) timestamp steps are) k ≡ Some step
+          → HaveFloorsOf (seated found) step.disks
+      by_recovery None is k there = behind_floors asked (behind found (option_to_list asked) timestamp steps are) (are_tried found (option_to_list asked) timestamp steps are) k there
+      by_recovery (Some one) is zero there = let same : one ≡ step = cc in recovery_floors step (is ∙ ap Some same)
+      by_recovery (Some one) is (suc k) there = behind_floors asked (behind found (option_to_list asked) timestamp steps are) (are_tried found (option_to_list asked) timestamp steps are) k there
