@@ -1,5 +1,5 @@
 -- What a change asks for over seats is asked for over others that are alike.
-use Rattle.std.proofs.Common.{◌≡◌, ◌∙◌, ℕ, ◌+◌, Bool, ◌&&◌, List, Option, Some, None, refl, ap, sym, subst, map, filter_map, length, if◌then◌else◌}
+use Rattle.std.proofs.Common.{◌≡◌, ◌∙◌, ℕ, ◌+◌, Bool, ◌&&◌, List, Option, Some, None, ap, sym, subst, map, filter_map, length, if◌then◌else◌}
 use Rattle.std.proofs.Math.Path.{fun_ext}
 use Rattle.std.specs.Prelude.{false, is_none, nat_le, option_and_then, option_map, slice_get}
 use Rattle.ddf_bay.specs.Sectors.{Image}
@@ -17,10 +17,8 @@ use Rattle.ddf_config.specs.Seats.{floor_of, slot_of}
 use Rattle.ddf_config.specs.Shapes.{element_shape}
 use Rattle.ddf_plan.specs.declared.change.Change.{Change}
 use Rattle.ddf_plan.specs.declared.change.Change.TheVariants as changes
-use Rattle.ddf_array.specs.declared.part.Part.{Part}
 use Rattle.ddf_array.specs.Viewing.{parts_of, seat_slot}
 use Rattle.ddf_array.specs.Volume.{Volume}
-use Rattle.ddf_data.specs.Allowed.{Allowed}
 use Rattle.ddf_keeping.specs.Clearing.{MayBeCleared, MayBeInSync}
 use Rattle.ddf_keeping.specs.Grouped.{MayChange, Promises}
 use Rattle.ddf_keeping.specs.Over.{IsOver, absent_in}

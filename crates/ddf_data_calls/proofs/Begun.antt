@@ -1,5 +1,5 @@
 -- What is promised of arrays once a call made them, and of fewer arrays.
-use Rattle.std.proofs.Common.{◌≡◌, ◌⊎◌, ◌∙◌, inl, inr, ⊎_elim, ℕ, zero, suc, ◌+◌, ◌<◌, ◌≤◌, ◌^◌, Bool, true, false, ◌||◌, List, [], ◌∷◌, ◌++◌, length, map, Option, Some, None, Ok, refl, ap, sym, subst, if◌then◌else◌, arith}
+use Rattle.std.proofs.Common.{◌≡◌, ◌⊎◌, ◌∙◌, inl, inr, ⊎_elim, ℕ, Bool, true, false, ◌||◌, List, [], ◌∷◌, length, Option, Some, None, Ok, refl, ap, sym, subst, if◌then◌else◌, arith}
 use Rattle.std.specs.Prelude.{is_some, slice_get}
 use Rattle.std.specs.Map.{lookup}
 use Rattle.ddf_bay.specs.Sectors.{Image}
@@ -11,20 +11,16 @@ use Rattle.ddf_config.specs.Levels.{unserved_level}
 use Rattle.ddf_config.specs.Members.{same_guid}
 use Rattle.ddf_config.specs.Refusals.{first_refusal, refuse_if}
 use Rattle.ddf_config.proofs.Firsts.{all_pass}
-use Rattle.ddf_plan.specs.declared.change.Change.{Change}
 use Rattle.ddf_plan.specs.declared.change.Change.TheVariants.{Create}
 use Rattle.ddf_plan.specs.Causes.{causes, steps_of as change_steps}
-use Rattle.ddf_plan.specs.Changes.{changed_at}
 use Rattle.ddf_plan.specs.CreateRefusal.{has_named, is_no_shape, is_spare_disk, passes_most, references}
 use Rattle.ddf_plan.specs.Refusals.{not_current, refuse_first}
 use Rattle.ddf_array.specs.Sound.{AreSectors}
-use Rattle.ddf_array.specs.Volume.{Volume}
 use Rattle.ddf_data.specs.Allowed.{Allowed, any_bytes}
-use Rattle.ddf_data.specs.Kept.{IsKeptData}
 use Rattle.ddf_data.proofs.Written.{kept_any}
 use Rattle.ddf_keeping.specs.Grouped.{Promises}
 use Rattle.ddf_keeping.specs.Kept.{KeepsArray}
-use Rattle.ddf_keeping.specs.Over.{IsOver, absent_in}
+use Rattle.ddf_keeping.specs.Over.{absent_in}
 use Rattle.ddf_keeping.proofs.Created.{created_writable}
 use Rattle.ddf_keeping.proofs.Entries.{guid_is}
 use Rattle.ddf_rewrite.proofs.Lists.{some_same}
@@ -37,7 +33,7 @@ use Rattle.ddf_assembly.specs.Ready.{readied}
 use Rattle.ddf_assembly.specs.Recovery.{config_lost, config_recovered, disks_recovered, some}
 use Rattle.ddf_assembly.specs.Refusing.{most_members, room_if_step, step_refusal}
 use Rattle.ddf_assembly.specs.Seated.{seats_in as disk_seats}
-use Rattle.ddf_assembly.specs.Steps.{Step, config_after, raised, step_of}
+use Rattle.ddf_assembly.specs.Steps.{Step, config_after, raised}
 use Rattle.ddf_assembly.proofs.ReadiedSteps.{are_tried, behind}
 use Rattle.ddf_stops.specs.Going.{IsOver as IsDone, changes_in}
 use Rattle.ddf_stops.proofs.LastIssued.{over_last, over_length}

@@ -1,5 +1,5 @@
 -- A call that changes a group keeps its history and its data at once.
-use Rattle.std.proofs.Common.{◌≡◌, ◌⊎◌, ◌∙◌, inl, inr, ⊎_elim, ℕ, ◌+◌, ◌-◌, ◌<◌, ◌≤◌, ◌^◌, Bool, false, List, length, Option, Some, Result, Ok, refl, ap, sym, subst, arith}
+use Rattle.std.proofs.Common.{◌≡◌, ◌⊎◌, ◌∙◌, inl, inr, ⊎_elim, ℕ, ◌+◌, ◌<◌, ◌≤◌, ◌^◌, Bool, false, List, length, Option, Some, Result, Ok, refl, ap, sym, subst, arith}
 use Rattle.std.specs.Prelude.{option_to_list, slice_get}
 use Rattle.ddf_bay.specs.Moments.{StopsLeave}
 use Rattle.ddf_bay.specs.Sectors.{Image, IsLeft}
@@ -31,17 +31,17 @@ use Rattle.ddf_promise.proofs.Steps.{below_floors}
 use Rattle.ddf_carrying.specs.Seats.{AreAlikeSeats}
 use Rattle.ddf_carrying.proofs.Records.{written_past}
 use Rattle.ddf_answer.specs.declared.failure.Failure.{Failure}
-use Rattle.ddf_answer.specs.Call.{Work, work_of}
-use Rattle.ddf_group_commands.specs.Change.{HasChanged, KeepsHistories, Request, is_done, steps_asked, steps_of, steps_or}
+use Rattle.ddf_answer.specs.Call.{work_of}
+use Rattle.ddf_group_commands.specs.Change.{HasChanged, KeepsHistories, Request, is_done, steps_asked, steps_of}
 use Rattle.ddf_group_commands.specs.Writing.{IsLeftWriting, IsStepsSector}
 use Rattle.ddf_group_commands.proofs.Outcomes.{asked_of}
-use Rattle.ddf_data_calls.specs.Calls.{AreBoth, AreMade, IsBoth, KeepsBoth, MayAsk, left_over}
+use Rattle.ddf_data_calls.specs.Calls.{AreMade, IsBoth, KeepsBoth, MayAsk, left_over}
 use Rattle.ddf_data_calls.specs.Floors.{HaveFloors}
 use Rattle.ddf_data_calls.proofs.Asked.{ask_same}
 use Rattle.ddf_data_calls.proofs.Issued.{ends_keep}
 use Rattle.ddf_data_calls.proofs.Recovered.{recovered_alike}
 use Rattle.ddf_data_calls.proofs.Seats.{newest_there, standing}
-use Rattle.ddf_data_calls.proofs.Steps.{HasFloorOf, issued_made, step_floors}
+use Rattle.ddf_data_calls.proofs.Steps.{issued_made, step_floors}
 
 -- What a call that changes a group tells of it, as far as it matters to the group's history and its data.
 pub record TookGroup {D : Type 0} (old new : BayState D) (left : List Bool) (newest : List (Option Newest)) (named : Option (List ℕ)) (found : GroupValue) (steps : List Step)

@@ -1,5 +1,5 @@
 -- However far a call's changes have come, the data of its group are kept.
-use Rattle.std.proofs.Common.{◌≡◌, ◌⊎◌, ◌∙◌, inl, inr, ⊎_elim, ℕ, zero, suc, ◌+◌, ◌<◌, ◌≤◌, ◌^◌, Bool, true, false, not, ◌&&◌, ◌||◌, List, [], ◌∷◌, ◌++◌, length, take, Some, refl, ap, sym, subst, if◌then◌else◌, arith}
+use Rattle.std.proofs.Common.{◌≡◌, inl, inr, ⊎_elim, ℕ, zero, suc, ◌+◌, ◌<◌, ◌≤◌, ◌^◌, Bool, true, false, not, ◌&&◌, ◌||◌, List, [], ◌∷◌, ◌++◌, length, take, Some, refl, sym, subst, if◌then◌else◌, arith}
 use Rattle.std.specs.Prelude.{slice_get}
 use Rattle.ddf_bay.specs.Sectors.{Image}
 use Rattle.ddf_config.specs.declared.seat.Seat.{Seat}
@@ -16,7 +16,7 @@ use Rattle.ddf_history.proofs.Lists.{get_more, get_taken, taken_get}
 use Rattle.ddf_history.proofs.Sound.{groups_are_sound}
 use Rattle.ddf_assembly.specs.Group.{GroupValue}
 use Rattle.ddf_assembly.specs.Recovery.{some}
-use Rattle.ddf_stops.specs.Going.{Ends, Goes, IsOver, IsUnderway, begun, issue_all}
+use Rattle.ddf_stops.specs.Going.{Ends, begun, issue_all}
 use Rattle.ddf_promise.specs.Promised.{AreAlone, KeepsData, is_seat, seats_in}
 use Rattle.ddf_promise.proofs.Seats.{are_fewer}
 use Rattle.ddf_promise.proofs.Steps.{by_acknowledge, by_issue, by_loss, by_taking, seats_are}

@@ -1,6 +1,6 @@
 -- Once absent members are lost the seats of a group that a call found are those that its history lists.
-use Rattle.std.proofs.Common.{◌≡◌, ◌∙◌, ⊎_elim, ℕ, zero, suc, Bool, true, false, not, ◌&&◌, ◌||◌, eqb, nat_eq, List, [], ◌∷◌, length, map, find, Option, Some, None, Ok, refl, ap, sym, subst, if◌then◌else◌, ◌+◌, arith}
-use Rattle.std.proofs.lemmas.Bool.{eq-eqb, eqb-true, false≢true, not-true, or_cases}
+use Rattle.std.proofs.Common.{◌≡◌, ◌∙◌, ℕ, zero, suc, Bool, true, false, not, ◌&&◌, ◌||◌, nat_eq, List, [], ◌∷◌, length, map, find, Option, Some, None, Ok, refl, ap, sym, if◌then◌else◌, ◌+◌, arith}
+use Rattle.std.proofs.lemmas.Bool.{eq-eqb, eqb-true}
 use Rattle.std.specs.Prelude.{option_map, slice_get}
 use Rattle.ddf_bay.specs.State.{BayState}
 use Rattle.ddf_config.specs.declared.member.Member.{Member}
@@ -13,17 +13,17 @@ use Rattle.ddf_copy.specs.declared.newest_copy.Newest.{Newest}
 use Rattle.ddf_plan.specs.declared.change.Change.TheVariants.{Lose}
 use Rattle.ddf_plan.specs.Changes.{changed_at}
 use Rattle.ddf_plan.specs.Lose.{is_among}
-use Rattle.ddf_plan.specs.Members.{member_after, members_after}
+use Rattle.ddf_plan.specs.Members.{member_after}
 use Rattle.ddf_array.proofs.Bools.{and_first, and_second}
 use Rattle.ddf_rewrite.proofs.Lists.{map_get}
 use Rattle.ddf_history.specs.Answer.{HasMember, IsReadable}
-use Rattle.ddf_history.specs.Groups.{Disk, groups, has_current, has_missing}
+use Rattle.ddf_history.specs.Groups.{Disk, groups, has_current}
 use Rattle.ddf_history.specs.Issued.{IsSince, Past, leave_out}
 use Rattle.ddf_history.specs.Promise.{IsKept}
 use Rattle.ddf_history.specs.Scenes.{scene_of}
 use Rattle.ddf_history.proofs.Assembling.{read_as}
 use Rattle.ddf_history.proofs.Calls.{claims as members_claimed}
-use Rattle.ddf_history.proofs.Following.{changes_follow, lost_missing}
+use Rattle.ddf_history.proofs.Following.{changes_follow}
 use Rattle.ddf_history.proofs.Sound.{groups_are_sound}
 use Rattle.ddf_assembly.specs.Committed.{slots_of}
 use Rattle.ddf_assembly.specs.Group.{GroupValue, group_of}
@@ -35,7 +35,7 @@ use Rattle.ddf_stops.proofs.ChangingStays.{stays_current}
 use Rattle.ddf_stops.proofs.Claimed as claims
 use Rattle.ddf_stops.proofs.RecoveringLoss.{listed_current}
 use Rattle.ddf_stops.proofs.Slots.{slot_placed}
-use Rattle.ddf_promise.specs.Promised.{AreAlone, is_seat, seats_in}
+use Rattle.ddf_promise.specs.Promised.{is_seat, seats_in}
 use Rattle.ddf_promise.proofs.Seats.{found as listed, has_seat}
 use Rattle.ddf_carrying.specs.Seats.{AreAlikeSeats}
 use Rattle.ddf_data_calls.specs.Calls.{left_over}

@@ -1,6 +1,6 @@
 -- What the wishes of the program's words ask of a group's data.
-use Rattle.std.proofs.Common.{◌≡◌, ◌∙◌, ℕ, Bool, true, false, List, [], ◌∷◌, Option, Some, None, Result, Ok, Err, refl, ap, sym, subst, if◌then◌else◌}
-use Rattle.std.specs.Prelude.{option_map, option_to_list}
+use Rattle.std.proofs.Common.{◌≡◌, ◌∙◌, ℕ, Bool, true, false, List, Option, Some, None, Result, Ok, Err, refl, ap, sym, subst, if◌then◌else◌}
+use Rattle.std.specs.Prelude.{option_map}
 use Rattle.std.specs.Map.{lookup}
 use Rattle.std.specs.Option.{option_and_then}
 use Rattle.ddf_bytes.specs.declared.stamp.Stamp.{Stamp}
@@ -24,7 +24,7 @@ use Rattle.ddf_words.specs.declared.command.Wish.{Wish}
 use Rattle.ddf_words.specs.declared.command.Wish.TheVariants.{Accept, Create, Delete, Fail, Spare}
 use Rattle.ddf_request.specs.Named.{named_array, named_guid, with_array}
 use Rattle.ddf_request.specs.NewArray.{is_misfit, misfit_refusal, new_array, new_array_guid}
-use Rattle.ddf_request.specs.Request.{accept_array, accept_change, accept_refusal, change_for, create_change, delete_change, if_fits, one, request_of, slots_named, spare_change, unless}
+use Rattle.ddf_request.specs.Request.{accept_array, accept_refusal, change_for, create_change, delete_change, one, request_of, slots_named, spare_change, unless}
 use Rattle.ddf_request.specs.Slots.{reference_on, slot_refusals}
 use Rattle.ddf_request.specs.Spare.{use_of}
 use Rattle.ddf_data_calls.specs.Calls.{MayAsk, MayWish}

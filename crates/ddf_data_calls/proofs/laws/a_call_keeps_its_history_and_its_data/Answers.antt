@@ -1,5 +1,3 @@
-use Rattle.std.proofs.Common.{refl}
-use Rattle.ddf_bay.specs.Sectors.{Image}
 use Rattle.ddf_data_calls.proofs.Called.{carries, keeps_both, took_group}
 use Rattle.ddf_data_calls.proofs.laws.a_call_keeps_its_history_and_its_data.Goals as goal
 
