@@ -203,6 +203,48 @@ ends 0 "group" "" "./ddf k0.img k2.img -- assemble"
 [ ! -s err ] || fail "said $(cat err), where nothing was lost"
 echo "edge: what a command loses and does is told on standard error"
 
+# Disks for Linux.
+linux_disks="l0.img l1.img l2.img l3.img"
+number=1
+silent_on_linux() {
+    case $(cat err) in *"Linux doesn't"*) fail "said $(cat err), where Linux does" ;; esac
+}
+makes() {
+    number=$((number + 1))
+    ends 0 "ok sequence $number" "$2" "./ddf $linux_disks -- create a$number $1"
+}
+truncate -s 32M small.img
+truncate -s 64M $linux_disks ./linux
+ends 0 "ok sequence 1" "slot 0 (small.img): Linux doesn't take it: it has no more than 65536 sectors" "./ddf small.img l0.img -- label linux 0"
+ends 0 "ok sequence 1" "" "./ddf small.img $linux_disks -- label linux l0.img l1.img l2.img l3.img"
+silent_on_linux
+for words in "raid0 3 single 0,1@128" "raid1 0 single 0,1@128" "raid1 0 single 0,1,2@128" "raid1 3 striped 0,1@128 2,3@128" "raid1 3 spanned 0,1@128 2,3@128"; do
+    makes "$words" ""
+    silent_on_linux
+done
+makes "raid0 0 single 0,1@128" ": Linux doesn't start it: it has no strips of less than 4 KiB (code 3)"
+makes "raid1 0 single 0,1,2,3@128" ": Linux doesn't start it: it has no RAID 1 of four disks and more"
+makes "raid4.first 7 single 0,1,2@128" ": Linux doesn't start it: it has no RAID 4 with its parity first"
+makes "jbod 0 single 0@128" ": Linux doesn't start it: it has no JBOD"
+makes "concat 0 single 0,1@128" ": Linux doesn't start it: it has no concatenation"
+# A new disk has room for the records of 15 elements.
+rm -f $linux_disks
+truncate -s 64M $linux_disks
+number=1
+ends 0 "ok sequence 1" "" "./ddf $linux_disks -- label linux"
+for words in "raid0 7 striped 0,1@128 2,3@128" "raid1 7 concat 0,1@128 2,3@128"; do
+    makes "$words" ": Linux doesn't start it: of several elements it has those of RAID 1 alone, striped or spanned"
+done
+for words in "raid5.r0 3 single 0,1,2@128" "raid5.rn 7 single 0,1,2@128" "raid4.last 7 single 0,1,2@128"; do
+    makes "$words" ": Linux doesn't start it without --force: nothing has made its parity agree with its data yet"
+done
+ends 0 "ok sequence 1" "slot 0 (linux) is labelled now" "./ddf linux -- label linux"
+./ddf linux -- examine >out 2>err
+silent_on_linux
+! grep -q "checksums as Linux's mdadm counts them" err || fail "the image linux was taken for the word"
+ends 1 "refused 11 slot 0" "" "./ddf ./linux -- label linux"
+echo "edge: what Linux doesn't take of its disks is told on standard error"
+
 if command -v script >/dev/null; then
     truncate -s 32M t.img
     printf x | dd of=t.img bs=1 seek=1000 conv=notrunc 2>/dev/null

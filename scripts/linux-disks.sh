@@ -4,7 +4,7 @@
 # blocks with the one that Linux found. Linux has resynced these arrays, so `scrub` finds them clean; a copy of one with a byte changed it doesn't.
 # Nothing may be written to an image, and an image that `label` made has the standard's checksums. The disks aren't part of
 # this repository: DDF_DISKS names a folder of NAME.tar.xz with the images, and NAME.examine.txt and NAME.assemble.txt with the
-# wanted texts. Where there is none, nothing is compared.
+# wanted texts; and DDF_MIDSYNC one with a mirror whose first resync Linux didn't finish. Where there is none, nothing is compared.
 set -eu
 top=$(cd "$(dirname "$0")/.." && pwd)
 disks=${DDF_DISKS:-$top/../shared/linux-disks}
@@ -74,8 +74,9 @@ for archive in "$disks"/*.tar.xz; do
     "$top/ddf" "$work/$name"/*.img -- examine >"$work/told" 2>"$work/notes" || fail "examine of $name failed"
     diff -u "$disks/$name.examine.txt" "$work/told" || fail "$name differs"
     for command in show assemble; do
-        "$top/ddf" "$work/$name"/*.img -- "$command" >"$work/told" 2>/dev/null || fail "$command of $name failed"
+        "$top/ddf" "$work/$name"/*.img -- "$command" >"$work/told" 2>"$work/said" || fail "$command of $name failed"
         diff -u "$disks/$name.assemble.txt" "$work/told" || fail "the group of $name differs for $command"
+        ! grep "first resync" "$work/said" || fail "$command of $name speaks of a resync that was finished"
     done
     sums=$(sum_of "$name")
     blocks=${sums% *}
@@ -99,9 +100,28 @@ for archive in "$disks"/*.tar.xz; do
     echo "linux-disks: $name is as wanted, and no image was written to"
 done
 
+# A mirror that Linux left within its first resync: its records call it consistent, and standard error names it.
+archive=${DDF_MIDSYNC:-$top/../shared/linux-midsync}/r1-midsync-quiet.tar.xz
+if [ -f "$archive" ]; then
+    mkdir "$work/midsync"
+    tar -xJf "$archive" -C "$work/midsync"
+    sha256sum "$work/midsync"/*.img >"$work/before"
+    said="ddf: array data: Linux had not finished its first resync; blocks that need parity may be wrong"
+    for command in show assemble "read data 0 8"; do
+        # shellcheck disable=SC2086
+        "$top/ddf" "$work/midsync"/*.img -- $command >"$work/told" 2>"$work/said" || fail "$command of an unfinished array failed"
+        grep -q -x "$said" "$work/said" || fail "$command doesn't name an unfinished array: $(cat "$work/said")"
+        ! grep -q -i resync "$work/told" || fail "$command prints what is for standard error"
+    done
+    sha256sum "$work/midsync"/*.img >"$work/after"
+    cmp -s "$work/before" "$work/after" || fail "an image of an unfinished array was written to"
+    echo "linux-disks: an array whose first resync Linux didn't finish is named"
+fi
+
 image=$work/new.img
 truncate -s 32M "$image"
 "$top/ddf" "$image" -- label >/dev/null || fail "label failed"
 "$top/ddf" "$image" -- examine >"$work/told" 2>"$work/notes" || fail "examine of a new image failed"
 ! grep -q "checksums as Linux's mdadm counts them" "$work/notes" || fail "a new image is turned"
+"$top/ddf" "$image" -- show 2>&1 | grep -q "first resync" && fail "a new image speaks of Linux"
 echo "linux-disks: an image that label made is not turned"

@@ -36,7 +36,7 @@ fn tell_done<R: Eprint>(rt: &R, command: &Command, paths: &[String]) {
             *slot,
             "stands in for what the words say now",
         ),
-        Command::Label { slots } => tell_labelled(rt, paths, slots.items()),
+        Command::Label { slots, .. } => tell_labelled(rt, paths, slots.items()),
         _ => {}
     }
 }

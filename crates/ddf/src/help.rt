@@ -10,7 +10,9 @@ spare and fail the word of an image may stand for its SLOT.
 
 Commands:
   examine          show what each disk holds; nothing is written
-  label [SLOT..]   make a new group of these blank disks, or of all
+  label [linux] [SLOT..]
+                   make a new group of these blank disks, or of all; with linux
+                   of disks that Linux's mdadm takes
   assemble         recover the group that the disks are, and show its members and
                    arrays; where all is in order nothing is written
   show             show the members and arrays of the group as its disks record it,

@@ -9,6 +9,7 @@ mod disks;
 mod done;
 mod failure;
 mod filled;
+mod for_linux;
 mod help;
 mod in_use;
 mod losses;
@@ -30,6 +31,7 @@ use crate::counting::CountingSink;
 use crate::disks::{any_unopened, name_turned, open_disks};
 use crate::done::tell_end;
 use crate::failure::{Failure, NO_MEMORY, STREAM_FAULT};
+use crate::for_linux::{makes_for_linux, name_unfinished, name_untaken};
 use crate::help::{USAGE, answer};
 use crate::memory::keep_freed;
 use crate::no_text::name_no_texts;
@@ -166,7 +168,7 @@ where
     if changes_group(&asked.command) && any_unopened(&files) {
         return Err(Failure::Unopened);
     }
-    let mut bay = Turned::new(files);
+    let mut bay = Turned::new(files, makes_for_linux(&asked.command));
     if is_risky(rt, &mut bay, paths, asked)? && asks && !agrees(rt) {
         return Err(Failure::Declined);
     }
@@ -181,6 +183,12 @@ where
     if let Command::Examine | Command::Assemble | Command::Show = asked.command {
         name_turned(rt, &bay);
     }
+    if let Command::Assemble | Command::Show | Command::Read { .. } = asked.command {
+        name_unfinished(rt, &mut bay, asked.group);
+    }
     tell_end(rt, &asked.command, paths, status, sink.taken());
+    if status == 0 {
+        name_untaken(rt, &bay, paths, &asked.command);
+    }
     answered(status, asked.command.traits().may_write)
 }

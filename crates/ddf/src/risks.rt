@@ -16,7 +16,7 @@ where
     R: Eprint + AllocGlobal,
 {
     match &asked.command {
-        Command::Label { slots } => Ok(name_filled(rt, bay, paths, slots.items())),
+        Command::Label { slots, .. } => Ok(name_filled(rt, bay, paths, slots.items())),
         command => {
             let traits = command.traits();
             if traits.takes_group && traits.may_write {

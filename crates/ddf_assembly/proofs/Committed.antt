@@ -5,6 +5,7 @@ use Rattle.std.specs.Prelude.{slice_get, slice_index}
 use Rattle.std.specs.List.{AllByRecursion}
 use Rattle.ddf_bay.specs.State.{BayState, size_of}
 use Rattle.ddf_bay.specs.Moments.{IsSettled}
+use Rattle.ddf_header.specs.declared.kind.Revision.TheVariants.{R200}
 use Rattle.ddf_header.specs.declared.reading.Header.{Header}
 use Rattle.ddf_copy.specs.declared.copy.DiskCopy.{DiskCopy}
 use Rattle.ddf_copy.specs.declared.which.Which.{Which}
@@ -60,7 +61,7 @@ pub record IsChange {D : Type 0} (disks : BayState D) (disk : Seated) (change : 
 
 -- a change for places where there is no disk
 no_copy : DiskCopy
-no_copy = new_copy (record { seconds = 0; salt = 0 }) [] 0
+no_copy = new_copy R200 (record { seconds = 0; salt = 0 }) [] 0
 
 pub no_change : SlotChange
 no_change = record { mode = Change; anchor = anchor_header no_copy; last = Secondary; old = no_copy; new = no_copy }

@@ -22,6 +22,7 @@ pub fn sync_touched<B: Bay>(bay: &mut B, touched: &[bool; 64]) -> Result<(), usi
     ensures left { Keeps (B.disks bay.old).may_hold (B.disks bay.new).may_hold }
     ensures any_moment { StopsLeave (B.disks bay.old) (B.disks bay.new) (IsLeft (B.disks bay.old).may_hold) }
     ensures failed { IfErr result (λ slot. Rose ((B.disks bay.old).failed_writes slot) ((B.disks bay.new).failed_writes slot)) }
+    ensures there { IfErr result (λ slot. slot < length (B.disks bay.old).sizes) }
     ensures reads { (B.disks bay.new).failed_reads ≡ (B.disks bay.old).failed_reads }
     ensures spends { SpendsOver (B.disks bay.old) (B.disks bay.new) 0 (length (B.disks bay.old).sizes) }
 {

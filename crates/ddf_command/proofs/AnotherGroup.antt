@@ -57,7 +57,7 @@ none_written work found failure (Err (Split i j)) done = absurd done
 module _ {B : Type 0} {tells : Type 0} (told : tells) (disks : B → BayState B) (group : List ℕ)
     (only_now : (bay : B) (image : Image) → (disks bay).left_since (disks bay).moment image → IsLeft (disks bay).may_hold image)
     (old : Moment (groups group) B) (exit : B) (named : Option (List ℕ)) (timestamp : ℕ) (request : Request) (outcome : Result ℕ Failure)
-    (changed : HasChanged (work_of tells (disks old.bay) (disks exit)) named timestamp request outcome) (found : GroupValue) (is_found : group_of changed.newest named ≡ Ok found)
+    (changed : HasChanged (work_of tells (disks old.bay) (disks exit)) named timestamp request outcome) (found : GroupValue) (is_found : group_of changed.taken.newest named ≡ Ok found)
     (another : bytes_eq group found.config.group ≡ false) (is_held : IsLeft (disks old.bay).may_hold (disks old.bay).held)
     (aside : (image : Image) → IsLeft (disks old.bay).may_hold image → (slot : ℕ) → is_slot (slots_of found.seats) slot ≡ true
     → IsAside old.past slot (scene_of (disks old.bay).sizes image slot)) where
@@ -83,7 +83,7 @@ module _ {B : Type 0} {tells : Type 0} (told : tells) (disks : B → BayState B)
         → IsSince old.past.changes number config → has_current config (disk_of copy) ≡ true → ⊥
     names_none slot copy seat written number config since current =
         let is = known slot written.0 in
-        let before = seat_shown entry changed.left changed.newest changed.every_slot (changed.read told) named found is_found is.place is.before is.is_there in
+        let before = seat_shown entry changed.taken.left changed.taken.newest changed.taken.every_slot (changed.taken.read told) named found is_found is.place is.before is.is_there in
         let shown = subst (λ (s : ℕ). IsCopyOf (scene_of entry.sizes entry.held s) (view_of is.before.copy)) (is.same_slot ∙ written.0.on_slot) before in
         let same = ap disk_of written.1 ∙ is.same_disk in
         (aside entry.held is_held slot seat).names_none (view_of is.before.copy) number config shown since (ap (has_current config) (sym same) ∙ current)
@@ -117,7 +117,7 @@ module _ {B : Type 0} {tells : Type 0} (told : tells) (disks : B → BayState B)
   call = record {
     exit = exit;
     written = slots_of found.seats;
-    leaves_others = changed.beside told found is_found;
+    leaves_others = changed.taken.beside told found is_found;
     is_held = is_held;
     are_aside = λ image was_left slot seat. inr (stops_aside (steps_of found timestamp request) refl image was_left slot seat);
   }

@@ -23,7 +23,7 @@ use Rattle.ddf_answer.specs.Call.{Answer, Work, answer_of, work_of}
 use Rattle.ddf_answer.specs.Ends.{Ends, HasCause, SomeSlotRose}
 use Rattle.ddf_answer.specs.declared.failure.Failure.TheVariants.{Memory}
 use Rattle.ddf_disk_commands.specs.Examine.{IsExamined}
-use Rattle.ddf_disk_commands.specs.Label.{label_copy, label_slots}
+use Rattle.ddf_disk_commands.specs.Label.{label_copy, label_slots, revision_of}
 use Rattle.ddf_group_commands.proofs.ChangeEnds.{assembled_nothing, changed_nothing}
 use Rattle.ddf_group_commands.proofs.ShowEnds.{shown_nothing}
 use Rattle.ddf_group_commands.specs.Requests.{request_for}
@@ -138,11 +138,11 @@ pub done_nothing : {D : Type 0} (old : BayState D) (tells told : Type 0) (before
 done_nothing old tells told before stamp group Examine = nothing_done old tells told before
 done_nothing old tells told before stamp group Assemble = assembled_nothing old tells told before group (timestamp_of stamp) (none_looked old)
 done_nothing old tells told before stamp group Show = shown_nothing old tells told before group (none_looked old)
-done_nothing old tells told before stamp group (Label slots) = record {
+done_nothing old tells told before stamp group (Label style slots) = record {
   outcome = Err Memory;
   tried = reads_start old;
   ends = (refl, λ told. refl);
-  any_moment = λ tells. stops_start old (IsLeftFoundingAll old (label_slots old.sizes slots) (label_copy stamp old.sizes slots));
+  any_moment = λ tells. stops_start old (IsLeftFoundingAll old (label_slots old.sizes slots) (label_copy (revision_of style) stamp old.sizes slots));
   refused = λ tells refusal is. reads_start old;
 }
 done_nothing old tells told before stamp group (Read name start count) = record {

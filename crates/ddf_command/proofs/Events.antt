@@ -37,7 +37,7 @@ module _ {B : Type 0} {tells : Type 0} (told : tells) (disks : B → BayState B)
             let last = end.is_left scene leaves in
             rw (end.is_past, last.is_shown) (keeps.2 last.image last.is_left),
         rw end.is_past
-            (ends_keeps group old.past keeps.0 (is_read end.call.changed.left) end.call.group (changes_in end.call.group end.call.steps) (is_done end.call.outcome) keeps.1),
+            (ends_keeps group old.past keeps.0 (is_read end.call.taken.left) end.call.group (changes_in end.call.group end.call.steps) (is_done end.call.outcome) keeps.1),
       )
 
   abbrev past_in : {A : Type 0} (past : Past (groups group)) (readable : ℕ → Bool) (found : GroupValue) (changes : List Configuration) (scene : Scene View)
@@ -55,7 +55,7 @@ module _ {B : Type 0} {tells : Type 0} (told : tells) (disks : B → BayState B)
   cut_kept : (old new : Moment (groups group) B) → IsCut told disks group old new → AllKept (Leaves told disks group) old → AllKept (Leaves told disks group) new × KeepsAcked old.past new.past
   cut_kept old new cut kept =
       let at = (kept_by told disks group old cut.call cut.kept).any_moment.since (disks old.bay).moment cut.image cut.since cut.was_left in
-      let both = at_moment old.past (is_read cut.call.changed.left) cut.call.group (changes_in cut.call.group cut.call.steps) (scene_of (disks old.bay).sizes cut.image)
+      let both = at_moment old.past (is_read cut.call.taken.left) cut.call.group (changes_in cut.call.group cut.call.steps) (scene_of (disks old.bay).sizes cut.image)
       (λ first. cut.kept cut.image (only_now old.bay cut.image first)) at in (
         λ scene leaves. rw (cut.is_past, cut.is_left scene leaves) both.0,
         rw cut.is_past both.1,

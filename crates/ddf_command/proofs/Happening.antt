@@ -29,7 +29,7 @@ module _ {B : Type 0} {tells : Type 0} (told : tells) (disks : B → BayState B)
   cuts cut image was_left is_left =
       let since : (disks old.bay).moment ≤ (disks old.bay).moment = omega arith in (
         record {
-          past = past_at told disks group {P = Goes group old.past (is_read call.changed.left) call.group (changes_in call.group call.steps)} {Q = λ now. IsKept now (scene_of (disks old.bay).sizes image)}
+          past = past_at told disks group {P = Goes group old.past (is_read call.taken.left) call.group (changes_in call.group call.steps)} {Q = λ now. IsKept now (scene_of (disks old.bay).sizes image)}
               old.past ((kept_by told disks group old call kept).any_moment.since (disks old.bay).moment image since was_left);
           bay = cut;
         },

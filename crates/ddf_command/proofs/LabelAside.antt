@@ -4,6 +4,7 @@ use Rattle.std.proofs.lemmas.Bool.{and_parts, false≢true}
 use Rattle.std.specs.Prelude.{slice_get}
 use Rattle.std.specs.Str.{bytes_eq}
 use Rattle.ddf_bytes.specs.declared.stamp.Stamp.{Stamp}
+use Rattle.ddf_header.specs.declared.kind.Revision.{Revision}
 use Rattle.ddf_bay.specs.Moments.{StopsLeave}
 use Rattle.ddf_bay.specs.Sectors.{Image, IsLeft}
 use Rattle.ddf_bay.specs.State.{BayState}
@@ -31,14 +32,14 @@ use Rattle.ddf_disk_commands.proofs.Chosen.{chosen_once}
 
 module _ {B : Type 0} {tells : Type 0} (told : tells) (disks : B → BayState B) (group : List ℕ)
     (only_now : (bay : B) (image : Image) → (disks bay).left_since (disks bay).moment image → IsLeft (disks bay).may_hold image)
-    (old : Moment (groups group) B) (exit : B) (stamp : Stamp) (named : List ℕ)
-    (any_moment : StopsLeave (disks old.bay) (disks exit) (IsLeftFoundingAll (disks old.bay) (label_slots (disks old.bay).sizes named) (label_copy stamp (disks old.bay).sizes named)))
+    (old : Moment (groups group) B) (exit : B) (revision : Revision) (stamp : Stamp) (named : List ℕ)
+    (any_moment : StopsLeave (disks old.bay) (disks exit) (IsLeftFoundingAll (disks old.bay) (label_slots (disks old.bay).sizes named) (label_copy revision stamp (disks old.bay).sizes named)))
     (is_held : IsLeft (disks old.bay).may_hold (disks old.bay).held)
     (another : bytes_eq group (group_of stamp) ≡ false)
     (aside : (image : Image) → IsLeft (disks old.bay).may_hold image → (slot : ℕ) → is_slot (label_slots (disks old.bay).sizes named) slot ≡ true
     → IsAside old.past slot (scene_of (disks old.bay).sizes image slot))
     (names_none : (place slot number : ℕ) (config : Configuration) → slice_get (label_slots (disks old.bay).sizes named) place ≡ Some slot → IsSince old.past.changes number config
-    → has_current config (disk_of (view_of (label_copy stamp (disks old.bay).sizes named place))) ≡ true → ⊥) where
+    → has_current config (disk_of (view_of (label_copy revision stamp (disks old.bay).sizes named place))) ≡ true → ⊥) where
   abbrev entry : BayState B
   entry = disks old.bay
 
@@ -46,14 +47,14 @@ module _ {B : Type 0} {tells : Type 0} (told : tells) (disks : B → BayState B)
   slots = label_slots entry.sizes named
 
   abbrev copy : ℕ → DiskCopy
-  copy = label_copy stamp entry.sizes named
+  copy = label_copy revision stamp entry.sizes named
 
   are : AreSlots entry.sizes slots
   are = chosen_once entry.sizes named
 
   -- what the copy at a place says
   abbrev says : (place : ℕ) → View
-  says place = view_at stamp (slot_sizes entry.sizes slots) place
+  says place = view_at revision stamp (slot_sizes entry.sizes slots) place
 
   module _ (image : Image) (left : IsLeftFoundingAll entry slots copy image) (slot : ℕ) (among : is_slot slots slot ≡ true) where
     abbrev shown : Shown View
@@ -67,9 +68,9 @@ module _ {B : Type 0} {tells : Type 0} (told : tells) (disks : B → BayState B)
 
     as_before : ((l : ℕ) → entry.may_hold slot l (image slot l)) → IsAside old.past slot shown
     as_before may =
-        subst (IsAside old.past slot) (sym (same_shown stamp entry slots are is_held image slot))
-        (aside (beside stamp entry slots are is_held image slot)
-        (beside_left stamp entry slots are is_held image slot may) slot among)
+        subst (IsAside old.past slot) (sym (same_shown revision stamp entry slots are is_held image slot))
+        (aside (beside revision stamp entry slots are is_held image slot)
+        (beside_left revision stamp entry slots are is_held image slot may) slot among)
 
     blank_aside : shown ≡ Nothing → IsAside old.past slot shown
     blank_aside nothing =
@@ -85,7 +86,7 @@ module _ {B : Type 0} {tells : Type 0} (told : tells) (disks : B → BayState B)
         let ours = (and_parts (bytes_eq group one.group) ((groups group).lists_current one (disk_of one)) standing).0 in
         false≢true (sym another ∙ sym (ap (λ (view : View). bytes_eq group view.group) (own one is)) ∙ ours))
         (λ one number config is since current.
-        let same = own one is ∙ sym (new_view stamp (slot_sizes entry.sizes slots) place) in
+        let same = own one is ∙ sym (new_view revision stamp (slot_sizes entry.sizes slots) place) in
         names_none place slot number config at since (ap (λ (view : View). has_current config (disk_of view)) (sym same) ∙ current))
 
     left_aside : IsAside old.past slot shown
@@ -94,8 +95,8 @@ module _ {B : Type 0} {tells : Type 0} (told : tells) (disks : B → BayState B)
         elim (left.each place.0 slot place.1) [
           | inl before ↦ as_before before
           | inr now ↦ elim now [
-            | inl blank ↦ blank_aside (blank_there stamp entry slots are is_held image place.0 slot place.1 blank)
-            | inr both ↦ copy_aside place.0 place.1 (copy_there stamp entry slots are is_held image place.0 slot place.1 both)
+            | inl blank ↦ blank_aside (blank_there revision stamp entry slots are is_held image place.0 slot place.1 blank)
+            | inr both ↦ copy_aside place.0 place.1 (copy_there revision stamp entry slots are is_held image place.0 slot place.1 both)
           ]
         ]
 

@@ -47,7 +47,7 @@ module _ {B : Type 0} {tells : Type 0} (told : tells) (disks : B → BayState B)
   entry = disks old.bay
 
   abbrev left : List Bool
-  left = call.changed.left
+  left = call.taken.left
 
   -- the changes that were asked for
   asked : AreReadied call.group call.timestamp call.steps
@@ -55,19 +55,19 @@ module _ {B : Type 0} {tells : Type 0} (told : tells) (disks : B → BayState B)
 
   members : AreMembers call.group.config (seated call.group)
   members =
-      claims.disk_member group entry left call.changed.newest call.changed.every_slot (call.changed.read told) old.past call.admitted.same_slots call.admitted.is_kept
+      claims.disk_member group entry left call.taken.newest call.taken.every_slot (call.taken.read told) old.past call.admitted.same_slots call.admitted.is_kept
       call.admitted.may_read call.admitted.member call.named call.group call.is_group call.same_group
 
   -- The slot of a seat was read, and is that of a current member.
   module _ (place : ℕ) (disk : Seated) (there : slice_get (seated call.group) place ≡ Some disk) where
     seat_names : disk_of (view_of disk.copy) ≡ old.past.disk disk.seat.slot
     seat_names =
-        claims.disk_names group entry left call.changed.newest call.changed.every_slot (call.changed.read told) old.past call.admitted.same_slots call.admitted.is_kept
+        claims.disk_names group entry left call.taken.newest call.taken.every_slot (call.taken.read told) old.past call.admitted.same_slots call.admitted.is_kept
         call.admitted.may_read call.admitted.member call.named call.group call.is_group call.same_group place disk there
 
     seat_read : is_read left disk.seat.slot ≡ true
     seat_read =
-        claims.disk_read group entry left call.changed.newest call.changed.every_slot (call.changed.read told) old.past call.admitted.same_slots call.admitted.is_kept
+        claims.disk_read group entry left call.taken.newest call.taken.every_slot (call.taken.read told) old.past call.admitted.same_slots call.admitted.is_kept
         call.admitted.may_read call.admitted.member call.named call.group call.is_group call.same_group place disk there
 
     pub seat_current : (is_read left disk.seat.slot ≡ true) × (has_current call.group.config (old.past.disk disk.seat.slot) ≡ true)
@@ -88,7 +88,7 @@ module _ {B : Type 0} {tells : Type 0} (told : tells) (disks : B → BayState B)
   module _ (slot : ℕ) (current : has_current call.group.config (old.past.disk slot) ≡ true) (out : is_read left slot ≡ false) where
     among : is_among call.group.absent (old.past.disk slot).reference ≡ true
     among =
-        claims.left_absent group entry left call.changed.newest call.changed.every_slot (call.changed.read told) old.past call.admitted.same_slots call.admitted.is_kept
+        claims.left_absent group entry left call.taken.newest call.taken.every_slot (call.taken.read told) old.past call.admitted.same_slots call.admitted.is_kept
         call.admitted.may_read call.admitted.member call.named call.group call.is_group call.same_group slot current out
 
     some_absent : some call.group.absent ≡ true
@@ -138,7 +138,7 @@ module _ {B : Type 0} {tells : Type 0} (told : tells) (disks : B → BayState B)
   ended = end.call
 
   abbrev readable : ℕ → Bool
-  readable = is_read ended.changed.left
+  readable = is_read ended.taken.left
 
   -- what the call issued
   abbrev issued : List Configuration

@@ -17,7 +17,7 @@ use Rattle.ddf_stops.specs.Kept.{AreAllKept, is_read, is_slot}
 use Rattle.ddf_stops.specs.Going.{Goes, IsAdmitted, KeepsHistory, changes_in}
 use Rattle.ddf_answer.specs.declared.failure.Failure.{Failure}
 use Rattle.ddf_answer.specs.Call.{work_of}
-use Rattle.ddf_group_commands.specs.Change.{HasChanged, Request, is_done, steps_of}
+use Rattle.ddf_group_commands.specs.Change.{Request, TakesGroup, is_done, steps_of}
 use Rattle.ddf_group_commands.specs.Others.{LeavesOthers}
 
 -- `disks` is what a bay of type B tells, and `told` that it tells what they hold.
@@ -30,7 +30,7 @@ module _ {B : Type 0} {tells : Type 0} (told : tells) (disks : B → BayState B)
 
   -- ---- calls on the group
 
-  -- A call of a command that changes the group, as the program's call promises it: the group that it found is this one, it wasn't refused, and
+  -- A call of a command that takes the group, as the program's call promises it: the group that it found is this one, it wasn't refused, and
   -- the history admits it.
   pub record GroupCall (old : Moment (groups guid) B) : Type 0 where
     pub exit : B
@@ -38,18 +38,18 @@ module _ {B : Type 0} {tells : Type 0} (told : tells) (disks : B → BayState B)
     pub timestamp : ℕ
     pub request : Request
     pub outcome : Result ℕ Failure
-    pub changed : HasChanged (work_of tells (disks old.bay) (disks exit)) named timestamp request outcome
+    pub taken : TakesGroup (work_of tells (disks old.bay) (disks exit)) named timestamp request outcome
     pub group : GroupValue
-    pub is_group : group_of changed.newest named ≡ Ok group
+    pub is_group : group_of taken.newest named ≡ Ok group
     pub same_group : group.config.group ≡ guid
     pub steps : List Step
     pub are_asked : steps_of group timestamp request ≡ Ok steps
-    pub admitted : IsAdmitted guid old.past (disks old.bay) changed.left group
+    pub admitted : IsAdmitted guid old.past (disks old.bay) taken.left group
 
   -- what it promises of the history
   abbrev pub kept_by : (old : Moment (groups guid) B) (call : GroupCall old) → AreAllKept guid old.past (disks old.bay)
-      → KeepsHistory guid (disks old.bay) (disks call.exit) old.past call.changed.left call.group (changes_in call.group call.steps) (is_done call.outcome)
-  kept_by old call kept = call.changed.keeps told call.group call.is_group call.steps call.are_asked guid call.same_group old.past kept call.admitted
+      → KeepsHistory guid (disks old.bay) (disks call.exit) old.past call.taken.left call.group (changes_in call.group call.steps) (is_done call.outcome)
+  kept_by old call kept = call.taken.keeps told call.group call.is_group call.steps call.are_asked guid call.same_group old.past kept call.admitted
 
   -- The call came to its end, where the bay still tells what a stop may leave.
   pub record IsEnd (old new : Moment (groups guid) B) : Type 0 where
@@ -73,7 +73,7 @@ module _ {B : Type 0} {tells : Type 0} (told : tells) (disks : B → BayState B)
     pub was_left : (disks call.exit).left_since (disks old.bay).moment image
     pub is_left : (scene : Scene View) → Leaves new.bay scene → scene ≡ scene_of (disks old.bay).sizes image
     pub is_past :
-        new.past ≡ past_at {P = Goes guid old.past (is_read call.changed.left) call.group (changes_in call.group call.steps)} {Q = λ now. IsKept now (scene_of (disks old.bay).sizes image)}
+        new.past ≡ past_at {P = Goes guid old.past (is_read call.taken.left) call.group (changes_in call.group call.steps)} {Q = λ now. IsKept now (scene_of (disks old.bay).sizes image)}
         old.past ((kept_by old call kept).any_moment.since (disks old.bay).moment image since was_left)
 
   -- ---- other calls

@@ -10,7 +10,7 @@ use Rattle.ddf_words.specs.Traits.{traits_of}
 use Rattle.ddf_words.specs.Words.{Word, IsAsked}
 use Rattle.ddf_answer.specs.Call.{Answer, Work}
 use Rattle.ddf_disk_commands.specs.Examine.{IsExamined}
-use Rattle.ddf_disk_commands.specs.Label.{IsLabelled}
+use Rattle.ddf_disk_commands.specs.Label.{IsLabelled, revision_of}
 use Rattle.ddf_group_commands.specs.Assemble.{IsAssembleDone}
 use Rattle.ddf_group_commands.specs.Change.{IsChangeDone}
 use Rattle.ddf_group_commands.specs.Requests.{request_for}
@@ -25,7 +25,7 @@ AsksForNoWrite words = (asked : Asked) → IsAsked words asked → (traits_of as
 -- the command was done, over the named group or the only one, or it told why not, or was cut short
 abbrev pub IsCommandDone : {D : Type 0} → Work D → Stamp → (group : Option (List ℕ)) → Command → Answer → Type 0
 IsCommandDone work stamp group Examine answer = IsExamined work answer
-IsCommandDone work stamp group (Label slots) answer = IsLabelled work stamp slots answer
+IsCommandDone work stamp group (Label style slots) answer = IsLabelled work (revision_of style) stamp slots answer
 IsCommandDone work stamp group Assemble answer = IsAssembleDone work group (timestamp_of stamp) answer
 IsCommandDone work stamp group Show answer = IsShown work group answer
 IsCommandDone work stamp group (Read name start count) answer = IsReadDone work group name start count answer

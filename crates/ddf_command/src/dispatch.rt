@@ -84,7 +84,7 @@ fn obey<B: Bay, K: Sink>(
 {
     match command {
         Command::Examine => examine(alloc, bay, sink),
-        Command::Label { slots } => label(alloc, slots.items(), bay, sink, stamp),
+        Command::Label { style, slots } => label(alloc, style, slots.items(), bay, sink, stamp),
         Command::Assemble => assemble_disks(alloc, group, bay, sink, stamp),
         Command::Show => show(alloc, group, bay, sink),
         Command::Read { name, start, count } => {

@@ -2,6 +2,7 @@
 ghost use Rattle.std.specs.Prelude.{◌≡◌, ◌<◌, ◌≤◌, ◌+◌, ◌-◌, ◌^◌, ℕ, Bool, true, false, ◌∷◌, [], List, length, Option, Some, Result, Ok, slice_get};
 ghost use Rattle.std.specs.Str.{bytes_eq};
 ghost use Rattle.ddf_bytes.specs.declared.stamp.Stamp.{Stamp};
+ghost use Rattle.ddf_header.specs.declared.kind.Revision.{Revision};
 ghost use Rattle.ddf_bay.specs.Moments.{GoesOn, StopsLeave};
 ghost use Rattle.ddf_bay.specs.Sectors.{Image, IsLeft};
 ghost use Rattle.ddf_config.specs.Configuration.{Configuration};
@@ -69,54 +70,54 @@ pub fn a_call_is_an_event_of_its_history<B: Bay>()
 /// A history of a new group begins where a `label` was done: whatever a stop may leave then shows the group on each of its disks. The names
 /// of the group and of its disks are new, so that no other slot shows them.
 pub fn a_label_begins_a_history<B: Bay>()
-    ensures { (told : B.tells) (stamp : Stamp) (named : List ℕ) (old new : B) → IsTried (work_of B.tells (B.disks old) (B.disks new)) stamp named (Ok tt)
+    ensures { (told : B.tells) (revision : Revision) (stamp : Stamp) (named : List ℕ) (old new : B) → IsTried (work_of B.tells (B.disks old) (B.disks new)) revision stamp named (Ok tt)
         → (B.disks new).sizes ≡ (B.disks old).sizes → IsLeft (B.disks old).may_hold (B.disks old).held
         → ((image : Image) → IsLeft (B.disks old).may_hold image
-        → AreNamesNew (group_of stamp) (is_slot (label_slots (B.disks old).sizes named)) (label_copy stamp (B.disks old).sizes named) (scene_of (B.disks old).sizes image))
+        → AreNamesNew (group_of stamp) (is_slot (label_slots (B.disks old).sizes named)) (label_copy revision stamp (B.disks old).sizes named) (scene_of (B.disks old).sizes image))
         → (past : Past (groups (group_of stamp)))
-        → IsNewGroup (group_of stamp) past (B.disks old).sizes (label_slots (B.disks old).sizes named) (label_copy stamp (B.disks old).sizes named) (is_slot (label_slots (B.disks old).sizes named))
+        → IsNewGroup (group_of stamp) past (B.disks old).sizes (label_slots (B.disks old).sizes named) (label_copy revision stamp (B.disks old).sizes named) (is_slot (label_slots (B.disks old).sizes named))
         → AreAllKept (group_of stamp) past (B.disks new) }
 {}
 
 /// A `label` that was cut short begins a history too, of the disks that had their copies by then: the members whose disks had none are absent.
 /// The names of the group and of its disks are new, so that no slot showed them before.
 pub fn a_label_cut_short_begins_a_history<B: Bay>()
-    ensures begins { (stamp : Stamp) (named : List ℕ) (old new cut : B) (founded : ℕ → Bool) → IsNewLabel (B.disks old) (B.disks new) stamp named
-        → IsLeftByLabel (B.disks old) (B.disks new) (B.disks cut) stamp named founded
+    ensures begins { (revision : Revision) (stamp : Stamp) (named : List ℕ) (old new cut : B) (founded : ℕ → Bool) → IsNewLabel (B.disks old) (B.disks new) revision stamp named
+        → IsLeftByLabel (B.disks old) (B.disks new) (B.disks cut) revision stamp named founded
         → (past : Past (groups (group_of stamp)))
-        → IsNewGroup (group_of stamp) past (B.disks old).sizes (label_slots (B.disks old).sizes named) (label_copy stamp (B.disks old).sizes named) founded
+        → IsNewGroup (group_of stamp) past (B.disks old).sizes (label_slots (B.disks old).sizes named) (label_copy revision stamp (B.disks old).sizes named) founded
         → AreAllKept (group_of stamp) past (B.disks cut) }
 
     // Whatever a stop left, it is told which slots are founded in it, if any.
-    ensures founded { (stamp : Stamp) (named : List ℕ) (old new : B) (image : Image) → IsNewLabel (B.disks old) (B.disks new) stamp named
-        → (B.disks new).left_since (B.disks old).moment image → (founded : ℕ → Bool) × AreLabelled (B.disks old) stamp named image founded }
+    ensures founded { (revision : Revision) (stamp : Stamp) (named : List ℕ) (old new : B) (image : Image) → IsNewLabel (B.disks old) (B.disks new) revision stamp named
+        → (B.disks new).left_since (B.disks old).moment image → (founded : ℕ → Bool) × AreLabelled (B.disks old) revision stamp named image founded }
 
     // No other slot shows the group, or names a member of it: where none is founded, none does.
-    ensures others { (stamp : Stamp) (named : List ℕ) (old new : B) (image : Image) (founded : ℕ → Bool) → IsNewLabel (B.disks old) (B.disks new) stamp named
-        → (B.disks new).left_since (B.disks old).moment image → AreLabelled (B.disks old) stamp named image founded
-        → AreNamesNew (group_of stamp) founded (label_copy stamp (B.disks old).sizes named) (scene_of (B.disks old).sizes image) }
+    ensures others { (revision : Revision) (stamp : Stamp) (named : List ℕ) (old new : B) (image : Image) (founded : ℕ → Bool) → IsNewLabel (B.disks old) (B.disks new) revision stamp named
+        → (B.disks new).left_since (B.disks old).moment image → AreLabelled (B.disks old) revision stamp named image founded
+        → AreNamesNew (group_of stamp) founded (label_copy revision stamp (B.disks old).sizes named) (scene_of (B.disks old).sizes image) }
 
     // Assembly of slots of which a founded one is read gives the founding configuration.
-    ensures assembles { (stamp : Stamp) (named : List ℕ) (old new cut : B) (founded : ℕ → Bool) → IsNewLabel (B.disks old) (B.disks new) stamp named
-        → IsLeftByLabel (B.disks old) (B.disks new) (B.disks cut) stamp named founded → IsLeft (B.disks cut).may_hold (B.disks cut).held
+    ensures assembles { (revision : Revision) (stamp : Stamp) (named : List ℕ) (old new cut : B) (founded : ℕ → Bool) → IsNewLabel (B.disks old) (B.disks new) revision stamp named
+        → IsLeftByLabel (B.disks old) (B.disks new) (B.disks cut) revision stamp named founded → IsLeft (B.disks cut).may_hold (B.disks cut).held
         → (left : List Bool) → length left ≡ length (B.disks cut).sizes → (slot : ℕ) → founded slot ≡ true → is_read left slot ≡ true
-        → Gives (B.disks cut) left (group_of stamp) (founding_config (label_copy stamp (B.disks old).sizes named)) }
+        → Gives (B.disks cut) left (group_of stamp) (founding_config (label_copy revision stamp (B.disks old).sizes named)) }
 {}
 
 /// A slot that a `label` founded is a current member at the beginning of the history, as it is asked that one is read, since its disk is a
 /// current member of the founding configuration. Where the label was done all of its slots are founded.
 pub fn a_founded_slot_is_a_current_member<B: Bay>()
-    ensures member { (stamp : Stamp) (named : List ℕ) (old bay : B) (founded : ℕ → Bool) → AreLabelled (B.disks old) stamp named (B.disks bay).held founded
+    ensures member { (revision : Revision) (stamp : Stamp) (named : List ℕ) (old bay : B) (founded : ℕ → Bool) → AreLabelled (B.disks old) revision stamp named (B.disks bay).held founded
         → (past : Past (groups (group_of stamp)))
-        → IsNewGroup (group_of stamp) past (B.disks old).sizes (label_slots (B.disks old).sizes named) (label_copy stamp (B.disks old).sizes named) founded
+        → IsNewGroup (group_of stamp) past (B.disks old).sizes (label_slots (B.disks old).sizes named) (label_copy revision stamp (B.disks old).sizes named) founded
         → (readable : ℕ → Bool) (slot : ℕ) → founded slot ≡ true → readable slot ≡ true
         → HasMember past (scene_of (B.disks old).sizes (B.disks bay).held) readable }
-    ensures done { (told : B.tells) (stamp : Stamp) (named : List ℕ) (old new : B) → IsTried (work_of B.tells (B.disks old) (B.disks new)) stamp named (Ok tt)
-        → AreLabelled (B.disks old) stamp named (B.disks new).held (is_slot (label_slots (B.disks old).sizes named)) }
-    ensures listed { (stamp : Stamp) (named : List ℕ) (old bay : B) (founded : ℕ → Bool) → AreLabelled (B.disks old) stamp named (B.disks bay).held founded
+    ensures done { (told : B.tells) (revision : Revision) (stamp : Stamp) (named : List ℕ) (old new : B) → IsTried (work_of B.tells (B.disks old) (B.disks new)) revision stamp named (Ok tt)
+        → AreLabelled (B.disks old) revision stamp named (B.disks new).held (is_slot (label_slots (B.disks old).sizes named)) }
+    ensures listed { (revision : Revision) (stamp : Stamp) (named : List ℕ) (old bay : B) (founded : ℕ → Bool) → AreLabelled (B.disks old) revision stamp named (B.disks bay).held founded
         → (past : Past (groups (group_of stamp)))
-        → IsNewGroup (group_of stamp) past (B.disks old).sizes (label_slots (B.disks old).sizes named) (label_copy stamp (B.disks old).sizes named) founded
-        → (slot : ℕ) → founded slot ≡ true → has_current (founding_config (label_copy stamp (B.disks old).sizes named)) (past.disk slot) ≡ true }
+        → IsNewGroup (group_of stamp) past (B.disks old).sizes (label_slots (B.disks old).sizes named) (label_copy revision stamp (B.disks old).sizes named) founded
+        → (slot : ℕ) → founded slot ≡ true → has_current (founding_config (label_copy revision stamp (B.disks old).sizes named)) (past.disk slot) ≡ true }
 {}
 
 /// Each seat of the group that a call found was read, and its disk is a current member of the configuration that it found. So was each slot
@@ -124,9 +125,9 @@ pub fn a_founded_slot_is_a_current_member<B: Bay>()
 pub fn a_calls_disks_are_current_members<B: Bay>()
     ensures seats { (told : B.tells) (group : List ℕ) (old : Moment (groups group) B) (call : GroupCall told B.disks group old)
         → (place : ℕ) (disk : Seated) → slice_get (seated call.group) place ≡ Some disk
-        → (is_read call.changed.left disk.seat.slot ≡ true) × (has_current call.group.config (old.past.disk disk.seat.slot) ≡ true) }
+        → (is_read call.taken.left disk.seat.slot ≡ true) × (has_current call.group.config (old.past.disk disk.seat.slot) ≡ true) }
     ensures steps { (told : B.tells) (group : List ℕ) (old : Moment (groups group) B) (call : GroupCall told B.disks group old)
-        → (slot : ℕ) (on : IsWrittenOn call.steps slot) → (is_read call.changed.left slot ≡ true) × (has_current on.step.config (old.past.disk slot) ≡ true) }
+        → (slot : ℕ) (on : IsWrittenOn call.steps slot) → (is_read call.taken.left slot ≡ true) × (has_current on.step.config (old.past.disk slot) ≡ true) }
 {}
 
 /// Behind a call that was done each disk that its last step was written to is a current member, as a history asks that one is read: in a group
@@ -144,7 +145,7 @@ pub fn a_call_that_was_done_leaves_current_members<B: Bay>()
 /// Behind a call that was done each current member whose disk it didn't read is missing.
 pub fn a_member_that_was_left_out_is_missing<B: Bay>()
     ensures { (told : B.tells) (group : List ℕ) (old new : Moment (groups group) B) (end : IsEnd told B.disks group old new) → is_done end.call.outcome ≡ true
-        → (slot : ℕ) → is_read end.call.changed.left slot ≡ false → has_current end.call.group.config (old.past.disk slot) ≡ true
+        → (slot : ℕ) → is_read end.call.taken.left slot ≡ false → has_current end.call.group.config (old.past.disk slot) ≡ true
         → (number : ℕ) (config : Configuration) → IsSince new.past.changes number config → has_missing config (new.past.disk slot) ≡ true }
 {}
 
@@ -160,13 +161,13 @@ pub fn a_calls_changes_keep_members()
 /// disks as they read are one of the images that a stop might have left, its slots were aside in each of these, and the names of its disks are
 /// none that the history counts as current members, its slots stay aside.
 pub fn a_label_is_aside_of_other_histories<B: Bay>()
-    ensures { (told : B.tells) (group : List ℕ) (old : Moment (groups group) B) (exit : B) (stamp : Stamp) (named : List ℕ)
-        → StopsLeave (B.disks old.bay) (B.disks exit) (IsLeftFoundingAll (B.disks old.bay) (label_slots (B.disks old.bay).sizes named) (label_copy stamp (B.disks old.bay).sizes named))
+    ensures { (told : B.tells) (group : List ℕ) (old : Moment (groups group) B) (exit : B) (revision : Revision) (stamp : Stamp) (named : List ℕ)
+        → StopsLeave (B.disks old.bay) (B.disks exit) (IsLeftFoundingAll (B.disks old.bay) (label_slots (B.disks old.bay).sizes named) (label_copy revision stamp (B.disks old.bay).sizes named))
         → IsLeft (B.disks old.bay).may_hold (B.disks old.bay).held → bytes_eq group (group_of stamp) ≡ false
         → ((image : Image) → IsLeft (B.disks old.bay).may_hold image → (slot : ℕ) → is_slot (label_slots (B.disks old.bay).sizes named) slot ≡ true
         → IsAside old.past slot (scene_of (B.disks old.bay).sizes image slot))
         → ((place slot number : ℕ) (config : Configuration) → slice_get (label_slots (B.disks old.bay).sizes named) place ≡ Some slot → IsSince old.past.changes number config
-        → has_current config (disk_of (view_of (label_copy stamp (B.disks old.bay).sizes named place))) ≡ true → ⊥)
+        → has_current config (disk_of (view_of (label_copy revision stamp (B.disks old.bay).sizes named place))) ≡ true → ⊥)
         → (call : OtherCall told B.disks group old) × (call.exit ≡ exit) × (call.written ≡ label_slots (B.disks old.bay).sizes named) }
 {}
 
@@ -190,7 +191,7 @@ pub fn a_steps_copies_name_their_group_and_disks()
 pub fn a_change_of_another_group_is_aside<B: Bay>()
     ensures { (told : B.tells) (group : List ℕ) (old : Moment (groups group) B) (exit : B) (named : Option (List ℕ)) (timestamp : ℕ) (request : Request) (outcome : Result ℕ Failure)
         → (changed : HasChanged (work_of B.tells (B.disks old.bay) (B.disks exit)) named timestamp request outcome)
-        → (other : GroupValue) → group_in changed.newest named ≡ Ok other → bytes_eq group other.config.group ≡ false
+        → (other : GroupValue) → group_in changed.taken.newest named ≡ Ok other → bytes_eq group other.config.group ≡ false
         → IsLeft (B.disks old.bay).may_hold (B.disks old.bay).held
         → ((image : Image) → IsLeft (B.disks old.bay).may_hold image → (slot : ℕ) → is_slot (slots_of other.seats) slot ≡ true
         → IsAside old.past slot (scene_of (B.disks old.bay).sizes image slot))

@@ -8,7 +8,8 @@ mod serving;
 
 pub use ddf_config::{FullTable, Refusal};
 pub use ddf_words::{
-    Asked, Command, MOST_IMAGES, Traits, Wish, WordFault, asked, image_paths, slot_paths,
+    Asked, Command, Creation, DiskStyle, MOST_IMAGES, Traits, Wish, WordFault, asked, image_paths,
+    slot_paths,
 };
 pub use dispatch::run;
 pub use laws::{

@@ -53,14 +53,14 @@ pub record TookGroup {D : Type 0} (old new : BayState D) (left : List Bool) (new
   pub keeps : KeepsHistories old new left found steps outcome
 
 pub took_group : {D : Type 0} (tells : Type 0) → tells → (old new : BayState D) (named : Option (List ℕ)) (timestamp : ℕ) (request : Request) (outcome : Result ℕ Failure)
-    → (changed : HasChanged (work_of tells old new) named timestamp request outcome) (found : GroupValue) → group_of changed.newest named ≡ Ok found → (steps : List Step)
-    → steps_of found timestamp request ≡ Ok steps → TookGroup old new changed.left changed.newest named found steps outcome
+    → (changed : HasChanged (work_of tells old new) named timestamp request outcome) (found : GroupValue) → group_of changed.taken.newest named ≡ Ok found → (steps : List Step)
+    → steps_of found timestamp request ≡ Ok steps → TookGroup old new changed.taken.left changed.taken.newest named found steps outcome
 took_group tells told old new named timestamp request outcome changed found is_found steps are_asked = record {
-  every_slot = changed.every_slot;
-  read = changed.read told;
+  every_slot = changed.taken.every_slot;
+  read = changed.taken.read told;
   is_found = is_found;
   leaves = changed.leaves told found is_found steps are_asked;
-  keeps = changed.keeps told found is_found steps are_asked;
+  keeps = changed.taken.keeps told found is_found steps are_asked;
 }
 
 module _ (group : List ℕ) {D : Type 0} (old new : BayState D) (past : Past (groups group)) (floor : ℕ → ℕ) (small : (slot : ℕ) → floor slot < 2 ^ 64)

@@ -82,24 +82,24 @@ pub fn a_call_keeps_its_history_and_its_data<B: Bay>()
     ensures both { (told : B.tells) (group : List ℕ) (past : Past (groups group)) (floor : ℕ → ℕ) → ((slot : ℕ) → floor slot < 2 ^ 64) → (promises : Promises)
         → (old new : B) (named : Option (List ℕ)) (timestamp : ℕ) (request : Request) (outcome : Result ℕ Failure)
         → (changed : HasChanged (work_of B.tells (B.disks old) (B.disks new)) named timestamp request outcome)
-        → (found : GroupValue) → group_of changed.newest named ≡ Ok found → found.config.group ≡ group → (steps : List Step) → steps_of found timestamp request ≡ Ok steps
-        → AdmitsCall group past floor promises (B.disks old) changed.left found
+        → (found : GroupValue) → group_of changed.taken.newest named ≡ Ok found → found.config.group ≡ group → (steps : List Step) → steps_of found timestamp request ≡ Ok steps
+        → AdmitsCall group past floor promises (B.disks old) changed.taken.left found
         → (asked : Option Change) → request (config_recovered found) found.seats ≡ Ok (option_to_list asked)
         → ((image : Image) → IsLeft (B.disks old).may_hold image → MayAsk (config_recovered found) found.seats image promises asked)
-        → KeepsBoth group (B.disks old) (B.disks new) floor (Goes group past (is_read changed.left) found (changes_in found steps))
-        (Ends group past (is_read changed.left) found (changes_in found steps) (is_done outcome)) (Stays promises) (Stays promises) }
+        → KeepsBoth group (B.disks old) (B.disks new) floor (Goes group past (is_read changed.taken.left) found (changes_in found steps))
+        (Ends group past (is_read changed.taken.left) found (changes_in found steps) (is_done outcome)) (Stays promises) (Stays promises) }
 
     // So it carries the data of the group, where all that a stop left on the way has sectors of 512 bytes.
     ensures carries { (told : B.tells) (group : List ℕ) (past : Past (groups group)) (floor : ℕ → ℕ) → ((slot : ℕ) → floor slot < 2 ^ 64) → (promises : Promises)
         → (old new : B) (named : Option (List ℕ)) (timestamp : ℕ) (request : Request) (outcome : Result ℕ Failure)
         → (changed : HasChanged (work_of B.tells (B.disks old) (B.disks new)) named timestamp request outcome)
-        → (found : GroupValue) → group_of changed.newest named ≡ Ok found → found.config.group ≡ group → (steps : List Step) → steps_of found timestamp request ≡ Ok steps
-        → AdmitsCall group past floor promises (B.disks old) changed.left found
+        → (found : GroupValue) → group_of changed.taken.newest named ≡ Ok found → found.config.group ≡ group → (steps : List Step) → steps_of found timestamp request ≡ Ok steps
+        → AdmitsCall group past floor promises (B.disks old) changed.taken.left found
         → (asked : Option Change) → request (config_recovered found) found.seats ≡ Ok (option_to_list asked)
         → ((image : Image) → IsLeft (B.disks old).may_hold image → MayAsk (config_recovered found) found.seats image promises asked)
         → ((t : ℕ) (image : Image) → (B.disks new).left_since t image → AreSectors image)
-        → CarriesData group (B.disks old) (B.disks new) floor promises (Goes group past (is_read changed.left) found (changes_in found steps))
-        (Ends group past (is_read changed.left) found (changes_in found steps) (is_done outcome)) Stays Stays }
+        → CarriesData group (B.disks old) (B.disks new) floor promises (Goes group past (is_read changed.taken.left) found (changes_in found steps))
+        (Ends group past (is_read changed.taken.left) found (changes_in found steps) (is_done outcome)) Stays Stays }
 {}
 
 /// Once a call has created an array, its blocks may have any bytes: in whatever a stop may leave of it then, where its sectors have 512 bytes.

@@ -1,4 +1,4 @@
-mod Above
-mod Below
-mod Floored
-mod Course
+pub mod Above
+pub mod Below
+pub mod Floored
+pub mod Course

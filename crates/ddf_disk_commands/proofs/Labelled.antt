@@ -6,6 +6,7 @@ use Rattle.ddf_bay.specs.Sectors.{Image, IsLeft}
 use Rattle.ddf_bay.specs.Moments.{StopsLeave}
 use Rattle.ddf_bay.specs.ReadsOnly.{ReadsOnly}
 use Rattle.ddf_bay.proofs.Steps.{stops_then, stops_weaken}
+use Rattle.ddf_header.specs.declared.kind.Revision.{Revision}
 use Rattle.ddf_copy.specs.declared.copy.DiskCopy.{DiskCopy}
 use Rattle.ddf_update.specs.declared.prepared.Prepared.{Prepared}
 use Rattle.ddf_update.specs.Group.{AreFirst, HaveFirstCopies, IsLeftFoundingAll, LieOnSlots, MayFoundAll, slot_sizes}
@@ -42,14 +43,14 @@ module _ {D : Type 0} (a b : BayState D) (slots : List ℕ) (copy : ℕ → Disk
   }
 
 -- The slots that were found fit get their first copies.
-module _ {D : Type 0} (a b : BayState D) (named slots : List ℕ) (stamp : Stamp) (updates : List Prepared)
+module _ {D : Type 0} (a b : BayState D) (named slots : List ℕ) (revision : Revision) (stamp : Stamp) (updates : List Prepared)
     (reads : ReadsOnly a b) (are : slots ≡ label_slots a.sizes named) (counted : length updates ≡ length slots)
-    (first : AreFirst (slot_sizes b.sizes slots) (new_copy stamp (slot_sizes b.sizes slots)) updates) where
+    (first : AreFirst (slot_sizes b.sizes slots) (new_copy revision stamp (slot_sizes b.sizes slots)) updates) where
   abbrev sizes : List ℕ
   sizes = a.sizes
 
   abbrev copy : ℕ → DiskCopy
-  copy = label_copy stamp sizes named
+  copy = label_copy revision stamp sizes named
 
   first_here : AreFirst (slot_sizes sizes (label_slots sizes named)) copy updates
   first_here = rw (are, reads.same_sizes) at first

@@ -3,12 +3,16 @@ use Rattle.std.specs.Prelude.{◌≡◌, ℕ, ◌<◌, List, length, codes, Some
 use Rattle.ddf_bytes.specs.declared.stamp.Stamp.{Stamp}
 use Rattle.ddf_bay.specs.Moments.{StopsLeave}
 use Rattle.ddf_bay.specs.ReadsOnly.{ReadsOnly, SlotRose}
+use Rattle.ddf_header.specs.declared.kind.Revision.{Revision}
+use Rattle.ddf_header.specs.declared.kind.Revision.TheVariants.{R120, R200}
 use Rattle.ddf_copy.specs.declared.copy.DiskCopy.{DiskCopy}
 use Rattle.ddf_update.specs.Group.{HaveFirstCopies, IsLeftFoundingAll, slot_sizes}
 use Rattle.ddf_update.specs.NewCopies.{new_copy}
 use Rattle.ddf_answer.specs.declared.failure.Failure.{Failure}
 use Rattle.ddf_answer.specs.declared.failure.Failure.TheVariants.{Conflict, Disk, Memory, Refused, Split}
 use Rattle.ddf_config.specs.declared.refusal.Refusal.{Refusal}
+use Rattle.ddf_words.specs.declared.command.DiskStyle.{DiskStyle}
+use Rattle.ddf_words.specs.declared.command.DiskStyle.TheVariants.{Linux, Standard}
 use Rattle.ddf_answer.specs.Answers.{IsToldFailure}
 use Rattle.ddf_answer.specs.Call.{Answer, Work}
 use Rattle.ddf_disk_commands.specs.LabelRefusal.{chosen, label_refusal}
@@ -18,23 +22,28 @@ use Rattle.ddf_answer.specs.Tells.{ClosesWith}
 abbrev pub label_slots : List ℕ → (named : List ℕ) → List ℕ
 label_slots sizes named = chosen (length sizes) named
 
+-- the revision of disks that are made in a style: Linux takes none but this one
+abbrev pub revision_of : DiskStyle → Revision
+revision_of Standard = R200
+revision_of Linux = R120
+
 -- the copy that each of them gets, by its place
-abbrev pub label_copy : Stamp → List ℕ → (named : List ℕ) → ℕ → DiskCopy
-label_copy stamp sizes named = new_copy stamp (slot_sizes sizes (label_slots sizes named))
+abbrev pub label_copy : Revision → Stamp → List ℕ → (named : List ℕ) → ℕ → DiskCopy
+label_copy revision stamp sizes named = new_copy revision stamp (slot_sizes sizes (label_slots sizes named))
 
 -- What it did, by its answer: the slots have their copies, sure; or else it was refused and nothing was written, or a call on a
 -- slot failed, or memory ran out and nothing was written.
-abbrev pub IsTried : {D : Type 0} → Work D → Stamp → (named : List ℕ) → Result (Unit {0}) Failure → Type 0
-IsTried work stamp named (Ok done) =
+abbrev pub IsTried : {D : Type 0} → Work D → Revision → Stamp → (named : List ℕ) → Result (Unit {0}) Failure → Type 0
+IsTried work revision stamp named (Ok done) =
     work.tells → (label_refusal work.old.sizes work.old.held named ≡ None)
-    × HaveFirstCopies work.old work.new (label_slots work.old.sizes named) (label_copy stamp work.old.sizes named) (length (label_slots work.old.sizes named))
-IsTried work stamp named (Err (Refused refusal)) =
+    × HaveFirstCopies work.old work.new (label_slots work.old.sizes named) (label_copy revision stamp work.old.sizes named) (length (label_slots work.old.sizes named))
+IsTried work revision stamp named (Err (Refused refusal)) =
     (work.tells → label_refusal work.old.sizes work.old.held named ≡ Some refusal) × ReadsOnly work.old work.new
-IsTried work stamp named (Err (Disk slot)) =
+IsTried work revision stamp named (Err (Disk slot)) =
     (slot < length work.old.sizes) × SlotRose work.old work.new slot
-IsTried work stamp named (Err (Conflict i j sequence differ)) = ⊥
-IsTried work stamp named (Err (Split i j)) = ⊥
-IsTried work stamp named (Err Memory) =
+IsTried work revision stamp named (Err (Conflict i j sequence differ)) = ⊥
+IsTried work revision stamp named (Err (Split i j)) = ⊥
+IsTried work revision stamp named (Err Memory) =
     ReadsOnly work.old work.new
 
 -- what is told of it, and with which status
@@ -44,9 +53,9 @@ IsToldLabel (Err failure) answer = IsToldFailure failure answer
 
 -- It did this, and said so. A stop leaves each slot as it might have left it before, or blank, or with its copy, and no sector
 -- before both places of the copy is written. Where it is to be refused nothing is written, whatever it answers.
-pub record IsLabelled {D : Type 0} (work : Work D) (stamp : Stamp) (named : List ℕ) (answer : Answer) : Type 0 where
+pub record IsLabelled {D : Type 0} (work : Work D) (revision : Revision) (stamp : Stamp) (named : List ℕ) (answer : Answer) : Type 0 where
   pub outcome : Result (Unit {0}) Failure
-  pub tried : IsTried work stamp named outcome
+  pub tried : IsTried work revision stamp named outcome
   pub ends : IsToldLabel outcome answer
-  pub any_moment : work.tells → StopsLeave work.old work.new (IsLeftFoundingAll work.old (label_slots work.old.sizes named) (label_copy stamp work.old.sizes named))
+  pub any_moment : work.tells → StopsLeave work.old work.new (IsLeftFoundingAll work.old (label_slots work.old.sizes named) (label_copy revision stamp work.old.sizes named))
   pub refused : work.tells → (refusal : Refusal) → label_refusal work.old.sizes work.old.held named ≡ Some refusal → ReadsOnly work.old work.new

@@ -11,10 +11,8 @@ use ddf_bay::{Bay, DiskFault};
 use ddf_bytes::NoMemory;
 use ddf_config::{FullTable, Refusal};
 use ddf_copy::{AnchorFault, anchor_of};
+use ddf_update::LEAST_SECTORS;
 use std::alloc::Global;
-
-/// The fewest sectors of a new disk (profile).
-const LEAST_SECTORS: u64 = 33_000;
 
 /// The most disks of a new group (profile).
 const MOST_DISKS: usize = 15;

@@ -5,7 +5,7 @@ ghost use Rattle.ddf_bay.specs.ReadsOnly.{ReadsOnly};
 ghost use Rattle.ddf_update.specs.Group.{AreFirst, IsLeftFoundingAll, slot_sizes};
 ghost use Rattle.ddf_update.specs.NewCopies.{new_copy};
 ghost use Rattle.ddf_config.specs.declared.refusal.Refusal.{Refusal};
-ghost use Rattle.ddf_disk_commands.specs.Label.{IsLabelled, IsTried, label_copy, label_slots};
+ghost use Rattle.ddf_disk_commands.specs.Label.{IsLabelled, IsTried, label_copy, label_slots, revision_of};
 ghost use Rattle.ddf_disk_commands.specs.LabelRefusal.{IsFit, label_refusal};
 ghost use Rattle.ddf_answer.specs.Call.{answer_of, work_of};
 ghost use Rattle.ddf_answer.specs.Ends.{Ends};
@@ -17,30 +17,49 @@ use crate::label_slots::fit_slots;
 use ddf_answer::{Failure, Status, tell, tell_failure};
 use ddf_bay::{Bay, DiskFault};
 use ddf_bytes::{NoMemory, Sink, Stamp};
+use ddf_header::Revision;
 use ddf_update::{Prepared, found, found_disks};
+use ddf_words::DiskStyle;
 use std::alloc::Global;
 
-/// Writes the first copies of a new group to the named slots, or to all.
+/// Writes the first copies of a new group to the named slots, or to all. The disks are made in a style.
 pub fn label<B: Bay, K: Sink>(
     alloc: Global,
+    style: DiskStyle,
     named: &[u8],
     bay: &mut B,
     sink: &mut K,
     stamp: &Stamp,
 ) -> Status
-    ensures done { IsLabelled (work_of B.tells (B.disks bay.old) (B.disks bay.new)) stamp.now named.now (answer_of K.tells (K.output sink.old) (K.output sink.new) (code_of result)) }
-    ensures ends { Ends (traits_of (Command.Label named.now)) (work_of B.tells (B.disks bay.old) (B.disks bay.new)) (answer_of K.tells (K.output sink.old) (K.output sink.new) (code_of result)) }
+    ensures done { IsLabelled (work_of B.tells (B.disks bay.old) (B.disks bay.new)) (revision_of style) stamp.now named.now (answer_of K.tells (K.output sink.old) (K.output sink.new) (code_of result)) }
+    ensures ends { Ends (traits_of (Command.Label style named.now)) (work_of B.tells (B.disks bay.old) (B.disks bay.new)) (answer_of K.tells (K.output sink.old) (K.output sink.new) (code_of result)) }
 {
-    match labelled(alloc, named, bay, stamp) {
+    match labelled(alloc, revision_of(style), named, bay, stamp) {
         Ok(()) => tell(sink, b"ok sequence 1\n", Status::Ok),
         Err(failure) => tell_failure(alloc, failure, sink),
     }
 }
 
+/// The revision of disks that are made in a style: Linux takes none but this one.
+fn revision_of(style: DiskStyle) -> Revision
+    ensures { result ≡ revision_of style }
+{
+    match style {
+        DiskStyle::Standard => Revision::R200,
+        DiskStyle::Linux => Revision::R120,
+    }
+}
+
 /// Makes all sectors, and then writes them.
-fn labelled<B: Bay>(alloc: Global, named: &[u8], bay: &mut B, stamp: &Stamp) -> Result<(), Failure>
-    ensures tried { IsTried (work_of B.tells (B.disks bay.old) (B.disks bay.new)) stamp.now named.now result }
-    ensures any_moment { B.tells → StopsLeave (B.disks bay.old) (B.disks bay.new) (IsLeftFoundingAll (B.disks bay.old) (label_slots (B.disks bay.old).sizes named.now) (label_copy stamp.now (B.disks bay.old).sizes named.now)) }
+fn labelled<B: Bay>(
+    alloc: Global,
+    revision: Revision,
+    named: &[u8],
+    bay: &mut B,
+    stamp: &Stamp,
+) -> Result<(), Failure>
+    ensures tried { IsTried (work_of B.tells (B.disks bay.old) (B.disks bay.new)) revision stamp.now named.now result }
+    ensures any_moment { B.tells → StopsLeave (B.disks bay.old) (B.disks bay.new) (IsLeftFoundingAll (B.disks bay.old) (label_slots (B.disks bay.old).sizes named.now) (label_copy revision stamp.now (B.disks bay.old).sizes named.now)) }
     ensures goes_on { GoesOn (B.disks bay.old) (B.disks bay.new) }
     ensures same_sizes { (B.disks bay.new).sizes ≡ (B.disks bay.old).sizes }
     ensures refused { B.tells → (refusal : Refusal) → label_refusal (B.disks bay.old).sizes (B.disks bay.old).held named.now ≡ Some refusal → ReadsOnly (B.disks bay.old) (B.disks bay.new) }
@@ -49,7 +68,7 @@ fn labelled<B: Bay>(alloc: Global, named: &[u8], bay: &mut B, stamp: &Stamp) -> 
         Ok(slots) => slots,
         Err(failure) => return Err(failure),
     };
-    let Ok(updates) = first_updates(alloc, bay, &slots, stamp) else {
+    let Ok(updates) = first_updates(alloc, revision, bay, &slots, stamp) else {
         return Err(Failure::Memory);
     };
     match found_disks(bay, &slots, &updates) {
@@ -61,6 +80,7 @@ fn labelled<B: Bay>(alloc: Global, named: &[u8], bay: &mut B, stamp: &Stamp) -> 
 /// The first copies of a new group on these slots.
 fn first_updates<B: Bay>(
     alloc: Global,
+    revision: Revision,
     bay: &B,
     slots: &[usize],
     stamp: &Stamp,
@@ -68,11 +88,11 @@ fn first_updates<B: Bay>(
     requires fit { IsFit (B.disks bay.now).sizes slots.now }
     requires there { All (λ slot. slot < length (B.disks bay.now).sizes) slots.now }
     ensures counted { IfOk result (λ updates. length updates.items ≡ length slots.now) }
-    ensures first { IfOk result (λ updates. AreFirst (slot_sizes (B.disks bay.now).sizes slots.now) (new_copy stamp.now (slot_sizes (B.disks bay.now).sizes slots.now)) updates.items) }
+    ensures first { IfOk result (λ updates. AreFirst (slot_sizes (B.disks bay.now).sizes slots.now) (new_copy revision stamp.now (slot_sizes (B.disks bay.now).sizes slots.now)) updates.items) }
 {
     let mut disks = Vec::with_capacity(alloc, slots.len())?;
     for slot in slots {
         disks.push((*slot, bay.size(*slot)))?;
     }
-    found(alloc, &disks, stamp)
+    found(alloc, &disks, revision, stamp)
 }

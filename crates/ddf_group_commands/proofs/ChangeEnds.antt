@@ -80,11 +80,11 @@ module _ {D : Type 0} (traits : Traits) (may : traits.may_refuse ≡ true) (take
 
     -- A change ends so,
     pub change_ends : IsChangeDone work named timestamp request answer → Ends traits work answer
-    change_ends done = ends_by done.outcome (group_of done.has.newest named) done.has.gives (change_closes done.outcome answer done.ends)
+    change_ends done = ends_by done.outcome (group_of done.has.taken.newest named) done.has.gives (change_closes done.outcome answer done.ends)
 
   -- and so does `assemble`.
   pub assemble_ends : IsAssembleDone work named timestamp answer → Ends traits work answer
-  assemble_ends done = ends_by no_change done.outcome (group_of done.has.newest named) done.has.gives (assemble_closes (group_of done.has.newest named) done.outcome answer done.ends)
+  assemble_ends done = ends_by no_change done.outcome (group_of done.has.taken.newest named) done.has.gives (assemble_closes (group_of done.has.taken.newest named) done.outcome answer done.ends)
 
 -- ---- before anything was done
 
@@ -97,16 +97,18 @@ nothing_in old tells timestamp request (Err fault) = (inr refl, reads_start old)
 spent_first : {D : Type 0} (old : BayState D) (tells : Type 0) (named : Option (List ℕ)) (timestamp : ℕ) (request : Request) → IsLooked old old
     → HasChanged (work_of tells old old) named timestamp request (Err Memory)
 spent_first old tells named timestamp request looked = record {
-  left = looked.left;
-  every_slot = looked.every_slot;
-  failed = looked.are_failed.rose;
+  taken = record {
+    left = looked.left;
+    every_slot = looked.every_slot;
+    failed = looked.are_failed.rose;
+    newest = newest_from old 0 looked.left;
+    read = λ tells. refl;
+    beside = λ told found is. reads_beside old old (slots_of found.seats) (reads_start old);
+    keeps = λ told found is steps asked. reads_keep old old looked.left found steps Memory (reads_start old);
+  };
   seen = λ slot below kept. refl;
-  newest = newest_from old 0 looked.left;
-  read = λ tells. refl;
   gives = nothing_in old tells timestamp request (group_of (newest_from old 0 looked.left) named);
-  beside = λ told found is. reads_beside old old (slots_of found.seats) (reads_start old);
   leaves = λ told found is steps asked. reads_leave old old steps (reads_start old);
-  keeps = λ told found is steps asked. reads_keep old old looked.left found steps Memory (reads_start old);
 }
 
 module _ {D : Type 0} (old : BayState D) (tells told : Type 0) (before : SinkState) (named : Option (List ℕ)) (timestamp : ℕ) (looked : IsLooked old old) where
@@ -116,4 +118,4 @@ module _ {D : Type 0} (old : BayState D) (tells told : Type 0) (before : SinkSta
   pub assembled_nothing : IsAssembleDone (work_of tells old old) named timestamp (answer_of told before before 5)
   assembled_nothing =
       let has = spent_first old tells named timestamp no_change looked in
-      record { outcome = Err Memory; has = has; ends = told_failure (group_of has.newest named) Memory (answer_of told before before 5) (refl, λ told. refl) }
+      record { outcome = Err Memory; has = has; ends = told_failure (group_of has.taken.newest named) Memory (answer_of told before before 5) (refl, λ told. refl) }

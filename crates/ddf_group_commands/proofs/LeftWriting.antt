@@ -44,7 +44,7 @@ use Rattle.ddf_group_commands.proofs.StepsWritten.{steps_in}
 -- ---- nothing was written
 
 -- An image that a stop might have left before is left.
-left_still : {D : Type 0} (start : BayState D) (steps : List Step) (image : Image) → IsLeft start.may_hold image → IsLeftWriting start steps image
+pub left_still : {D : Type 0} (start : BayState D) (steps : List Step) (image : Image) → IsLeft start.may_hold image → IsLeftWriting start steps image
 left_still start steps image left = record { before = image; is_left = left; shows = λ slot. inl refl; outside = λ slot l. inl refl }
 
 -- A call that only reads leaves nothing else.
@@ -132,7 +132,7 @@ module _ {D : Type 0} (start : BayState D) (one : ReadyStep) (seat : ℕ → Slo
       (each_outside start slots seat one.updates image lies.are_slots lies.counted may (λ other its there. says its) changing place slot update.0 at update.1 l)
 
   -- A stop while it is written leaves its copies, and what might be left before.
-  step_leaves : IsLeftWriting start steps image
+  pub step_leaves : IsLeftWriting start steps image
   step_leaves = record {
     before = unwritten start slots image;
     is_left = unwritten_left start slots seat one.updates image (λ s l is. held s l) changing;
@@ -166,7 +166,7 @@ next_in None one others = (0, refl)
 next_in (Some first) one others = (1, refl)
 
 -- Where the disks read true, each slot says one thing.
-says_one : {D : Type 0} (state : BayState D) → ReadsTrue state → (slot : ℕ) → SaysOne (size_of state slot) (state.held slot)
+pub says_one : {D : Type 0} (state : BayState D) → ReadsTrue state → (slot : ℕ) → SaysOne (size_of state slot) (state.held slot)
 says_one state reads slot = bytes_say_one (size_of state slot) (state.held slot) (reads.holds_bytes slot)
 
 -- ---- the recovery, and the step behind it

@@ -1,11 +1,11 @@
-mod StepsWritten
-mod Recovering
-mod Keeping
-mod Beside
+pub mod StepsWritten
+pub mod Recovering
+pub mod Keeping
+pub mod Beside
 pub mod LeftWriting
 pub mod Outcomes
 pub mod ChangeEnds
 pub mod ShowEnds
 mod ToldGroup
 mod Requested
-mod SeatReferences
+pub mod SeatReferences

@@ -26,7 +26,7 @@ use Rattle.ddf_answer.specs.declared.failure.Failure.{Failure}
 use Rattle.ddf_answer.specs.declared.failure.Failure.TheVariants.{Conflict, Disk, Memory, Refused, Split}
 use Rattle.ddf_answer.specs.Answers.{failure_of, failure_of_plan}
 use Rattle.ddf_answer.specs.Call.{Work, work_of}
-use Rattle.ddf_group_commands.specs.Change.{HasChanged, IsChanged, IsChangedIn, KeepsHistories, Request, failure_of_group, steps_asked, steps_of, steps_or}
+use Rattle.ddf_group_commands.specs.Change.{HasChanged, IsChanged, IsChangedIn, KeepsHistories, Request, TakesGroup, failure_of_group, steps_asked, steps_of, steps_or}
 use Rattle.ddf_group_commands.specs.GroupRead.{IsFoundBy, IsGroupRead, IsReadFrom, group_or}
 use Rattle.ddf_group_commands.specs.Requests.{at_most_one}
 use Rattle.ddf_group_commands.specs.Others.{LeavesOthers}
@@ -112,20 +112,28 @@ none_in work timestamp request (Err fault) failure reads answer = (
   reads,
 )
 
--- where there is none, or memory ran out
-pub none_read : {D : Type 0} (work : Work D) (named : Option (List ℕ)) (timestamp : ℕ) (request : Request) (failure : Failure) → IsGroupRead work named (Err failure)
-    → ReadsOnly work.old work.new → HasChanged work named timestamp request (Err failure)
-none_read work named timestamp request failure read reads = record {
+-- A call that only reads, and was refused or cut short, took the group that it read, or found none.
+pub takes_reading : {D : Type 0} (work : Work D) (named : Option (List ℕ)) (timestamp : ℕ) (request : Request) (found : Result GroupValue Failure) (failure : Failure) → IsGroupRead work named found
+    → ReadsOnly work.old work.new → TakesGroup work named timestamp request (Err failure)
+takes_reading work named timestamp request found failure read reads = record {
   left = read.left;
   every_slot = read.every_slot;
   failed = read.failed;
-  seen = λ slot below kept. (read.seen slot below kept).0;
   newest = read.newest;
   read = read.read;
+  beside = λ told one is. reads_beside work.old work.new (slots_of one.seats) reads;
+  keeps = λ told one is steps asked. reads_keep work.old work.new read.left one steps failure reads;
+}
+
+-- where there is none, or memory ran out
+pub none_read : {D : Type 0} (work : Work D) (named : Option (List ℕ)) (timestamp : ℕ) (request : Request) (failure : Failure) → IsGroupRead work named (Err failure)
+    → ReadsOnly work.old work.new → HasChanged work named timestamp request (Err failure)
+unfolding takes_reading
+none_read work named timestamp request failure read reads = record {
+  taken = takes_reading work named timestamp request (Err failure) failure read reads;
+  seen = λ slot below kept. (read.seen slot below kept).0;
   gives = none_in work timestamp request (group_of read.newest named) failure reads read.answer;
-  beside = λ told found is. reads_beside work.old work.new (slots_of found.seats) reads;
   leaves = λ told found is steps asked. reads_leave work.old work.new steps reads;
-  keeps = λ told found is steps asked. reads_keep work.old work.new read.left found steps failure reads;
 }
 
 -- ---- no change is asked
@@ -133,17 +141,12 @@ none_read work named timestamp request failure read reads = record {
 module _ {D : Type 0} (work : Work D) (named : Option (List ℕ)) (timestamp : ℕ) (request : Request) (group : GroupValue) (read : IsGroupRead work named (Ok group)) (reads : ReadsOnly work.old work.new) where
   -- what a command came to that wrote nothing
   unwritten : (failure : Failure) → IsChanged work group (steps_of group timestamp request) (Err failure) → HasChanged work named timestamp request (Err failure)
+  unfolding takes_reading
   unwritten failure is = record {
-    left = read.left;
-    every_slot = read.every_slot;
-    failed = read.failed;
+    taken = takes_reading work named timestamp request (Ok group) failure read reads;
     seen = λ slot below kept. (read.seen slot below kept).0;
-    newest = read.newest;
-    read = read.read;
     gives = subst (λ (one : Result GroupValue Assembly). IsChangedIn work timestamp request one (Err failure)) (sym (group_read work named group read)) is;
-    beside = λ told found is. reads_beside work.old work.new (slots_of found.seats) reads;
     leaves = λ told found is steps asked. reads_leave work.old work.new steps reads;
-    keeps = λ told found is steps asked. reads_keep work.old work.new read.left found steps failure reads;
   }
 
   -- where memory ran out
@@ -210,40 +213,42 @@ module _ {D : Type 0} (tells : Type 0) (old middle new : BayState D) (reads : Re
       let steps = ap (steps_asked group timestamp) is in
       let same_reads : (slot : ℕ) → new.failed_reads slot ≡ middle.failed_reads slot = λ slot. ap (λ (counts : ℕ → ℕ). counts slot) written.same_reads in
       record {
-        left = read.left;
-        every_slot = read.every_slot;
-        failed = λ slot below out. look_still old middle new slot (reads_rise slot) (omega (arith, same_reads slot)) (writes_rise slot) (written.writes_rise slot) (read.failed slot below out);
+        taken = record {
+          left = read.left;
+          every_slot = read.every_slot;
+          failed = λ slot below out. look_still old middle new slot (reads_rise slot) (omega (arith, same_reads slot)) (writes_rise slot) (written.writes_rise slot) (read.failed slot below out);
+          newest = read.newest;
+          read = read.read;
+          beside = λ told found is_found.
+              subst (λ (one : GroupValue). LeavesOthers old new (slots_of one.seats)) (found_same group found (sym (group_read (work_of tells old middle) named group read) ∙ is_found))
+              (beside_since old middle new (slots_of group.seats) reads (written.beside told));
+          keeps = λ told found is_found asked are_asked.
+              let same = found_same group found (sym (group_read (work_of tells old middle) named group read) ∙ is_found) in
+              subst (λ (one : GroupValue). steps_of one timestamp request ≡ Ok asked → KeepsHistories old new read.left one asked outcome) same
+              (λ now_asked.
+              since_entry old middle new read.left group asked outcome reads
+              (written.keeps told read.left named
+              (record {
+                every_slot = rw reads.same_sizes read.every_slot;
+                is_found = rw (newest_still old middle reads.same_sizes reads.same_held 0 read.left) (rw (read.read told) at (group_read (work_of tells old middle) named group read));
+              })
+              asked (asked_of (readied group changes timestamp) asked (sym steps ∙ now_asked))))
+              are_asked;
+        };
         seen = λ slot below kept. same_reads slot ∙ (read.seen slot below kept).0;
-        newest = read.newest;
-        read = read.read;
         gives = subst (λ (one : Result GroupValue Assembly). IsChangedIn (work_of tells old new) timestamp request one outcome) (sym (group_read (work_of tells old middle) named group read))
             (subst (λ (asked : Result (List Step) Failure). IsChanged (work_of tells old new) group asked outcome) (sym steps)
             (changed_before group (steps_or (readied group changes timestamp)) outcome written.changed));
-        beside = λ told found is_found.
-            subst (λ (one : GroupValue). LeavesOthers old new (slots_of one.seats)) (found_same group found (sym (group_read (work_of tells old middle) named group read) ∙ is_found))
-            (beside_since old middle new (slots_of group.seats) reads (written.beside told));
         leaves = λ told found is_found asked are_asked.
             let same = found_same group found (sym (group_read (work_of tells old middle) named group read) ∙ is_found) in
             subst (λ (one : GroupValue). steps_of one timestamp request ≡ Ok asked → StopsLeave old new (IsLeftWriting old asked)) same
             (λ now_asked. leaves_since old middle new asked reads (written.leaves told asked (asked_of (readied group changes timestamp) asked (sym steps ∙ now_asked))))
-            are_asked;
-        keeps = λ told found is_found asked are_asked.
-            let same = found_same group found (sym (group_read (work_of tells old middle) named group read) ∙ is_found) in
-            subst (λ (one : GroupValue). steps_of one timestamp request ≡ Ok asked → KeepsHistories old new read.left one asked outcome) same
-            (λ now_asked.
-            since_entry old middle new read.left group asked outcome reads
-            (written.keeps told read.left named
-            (record {
-              every_slot = rw reads.same_sizes read.every_slot;
-              is_found = rw (newest_still old middle reads.same_sizes reads.same_held 0 read.left) (rw (read.read told) at (group_read (work_of tells old middle) named group read));
-            })
-            asked (asked_of (readied group changes timestamp) asked (sym steps ∙ now_asked))))
             are_asked;
       }
 
   -- and of which group
   pub changed_group : (named : Option (List ℕ)) (timestamp : ℕ) (request : Request) (group : GroupValue) (changes : List Change) (outcome : Result ℕ Failure)
       (read : IsGroupRead (work_of tells old middle) named (Ok group)) (is : request (config_recovered group) group.seats ≡ Ok changes) (written : HasWritten tells middle new group changes timestamp outcome)
-      → group_of (has_changed named timestamp request group changes outcome read is written).newest named ≡ Ok group
+      → group_of (has_changed named timestamp request group changes outcome read is written).taken.newest named ≡ Ok group
   unfolding has_changed
   changed_group named timestamp request group changes outcome read is written = group_read (work_of tells old middle) named group read

@@ -50,7 +50,7 @@ still_seat group (Some one) slot on is = by (some group.absent) is
     by false is = is
 
 -- The next step is written to slots of seats.
-next_on_seat : (group : GroupValue) (steps : List ReadyStep) → AreRewriting (seated group) steps → (slot : ℕ)
+pub next_on_seat : (group : GroupValue) (steps : List ReadyStep) → AreRewriting (seated group) steps → (slot : ℕ)
     → IsOneOf (next_slots (record { recovery = None; steps = steps })) slot → IsOneOf (slots_of group.seats) slot
 next_on_seat group [] rewrites slot is = let none : None ≡ Some slot = is.is_there in absurd cc
 next_on_seat group (one ∷ others) rewrites slot is =

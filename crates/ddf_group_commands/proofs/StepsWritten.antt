@@ -144,7 +144,7 @@ none_asked old middle new syncs calls next steps first second none =
 
 -- ---- the sequence number
 
-next_sequence : (group : GroupValue) (steps : List ReadyStep) → length (steps_in steps) ≤ 1
+pub next_sequence : (group : GroupValue) (steps : List ReadyStep) → length (steps_in steps) ≤ 1
     → (group_next group (record { recovery = None; steps = steps })).config.sequence ≡ last_sequence group.config.sequence (steps_in steps)
 next_sequence group [] few = refl
 next_sequence group (one ∷ []) few = refl

@@ -24,7 +24,7 @@ module _ {D : Type 0} {work : Work D} {named : Option (List ℕ)} {timestamp : �
 
   -- the text of a group that was recovered
   pub told_text : {outcome : Result ℕ Failure} {sequence : ℕ} {group : GroupValue} {text : String Global} → outcome ≡ Ok sequence → (has : HasChanged work named timestamp no_change outcome)
-      → group_of has.newest named ≡ Ok group → string_bytes text ≡ told_group group → HasTold work named timestamp (Ok text)
+      → group_of has.taken.newest named ≡ Ok group → string_bytes text ≡ told_group group → HasTold work named timestamp (Ok text)
   told_text {outcome = outcome} {sequence = sequence} {group = group} is has found text = record { outcome = outcome; has = has; failed = tt; told = (group, sequence, found, is, text) }
 
   -- a text was printed
@@ -44,8 +44,8 @@ module _ {D : Type 0} {work : Work D} {named : Option (List ℕ)} {timestamp : �
   failure_done {failure = failure} {answer = answer} is told = record {
     outcome = is.outcome;
     has = is.has;
-    ends = subst (λ (outcome : Result ℕ Failure). IsTold (group_of is.has.newest named) outcome answer) (sym is.failed)
-        (told_failure (group_of is.has.newest named) failure answer told);
+    ends = subst (λ (outcome : Result ℕ Failure). IsTold (group_of is.has.taken.newest named) outcome answer) (sym is.failed)
+        (told_failure (group_of is.has.taken.newest named) failure answer told);
   }
 
 -- The text of a group that was read, and recovered.

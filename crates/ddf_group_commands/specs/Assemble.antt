@@ -25,7 +25,7 @@ pub record HasTold {D : Type 0} (work : Work D) (named : Option (List ℕ)) (tim
   pub outcome : Result ℕ Failure
   pub has : HasChanged work named timestamp no_change outcome
   pub failed : IfErr result (λ failure. outcome ≡ Err failure)
-  pub told : IfOk result (λ text. (group : GroupValue) × (sequence : ℕ) × (group_of has.newest named ≡ Ok group) × (outcome ≡ Ok sequence) × (string_bytes text ≡ told_group group))
+  pub told : IfOk result (λ text. (group : GroupValue) × (sequence : ℕ) × (group_of has.taken.newest named ≡ Ok group) × (outcome ≡ Ok sequence) × (string_bytes text ≡ told_group group))
 
 -- what is told of a group that was recovered, and with which status: once a disk was written no memory is taken
 abbrev pub IsTold : Result GroupValue Assembly → Result ℕ Failure → Answer → Type 0
@@ -37,4 +37,4 @@ IsTold found (Err failure) answer = IsToldFailure failure answer
 pub record IsAssembleDone {D : Type 0} (work : Work D) (named : Option (List ℕ)) (timestamp : ℕ) (answer : Answer) : Type 0 where
   pub outcome : Result ℕ Failure
   pub has : HasChanged work named timestamp no_change outcome
-  pub ends : IsTold (group_of has.newest named) outcome answer
+  pub ends : IsTold (group_of has.taken.newest named) outcome answer

@@ -112,21 +112,25 @@ KeepsHistories old new left found steps outcome =
     (group : List ℕ) → found.config.group ≡ group → (past : Past (groups group)) → AreAllKept group past old → IsAdmitted group past old left found
     → KeepsHistory group old new past left found (changes_in found steps) (is_done outcome)
 
--- A call came to this: what it made of the group that the newest copies of the slots give that aren't left out. A slot is left out
--- where a call of this call failed on it, as it was read, and nowhere else.
-pub record HasChanged {D : Type 0} (work : Work D) (named : Option (List ℕ)) (timestamp : ℕ) (request : Request) (outcome : Result ℕ Failure) : Type 0 where
+-- A call that came to this took the group, if there is one, that the newest copies of the slots give that aren't left out: it left slots that are no
+-- seats' as before, and keeps each history of the group that admits it. A slot is left out only where a call of this call failed on it.
+pub record TakesGroup {D : Type 0} (work : Work D) (named : Option (List ℕ)) (timestamp : ℕ) (request : Request) (outcome : Result ℕ Failure) : Type 0 where
   pub left : List Bool
   pub every_slot : length left ≡ length work.old.sizes
   pub failed : (slot : ℕ) → slot < length left → IsTrue (slice_index_or left slot false) → LookFailed work.old work.new slot
-  pub seen : (slot : ℕ) → slot < length left → slice_index_or left slot false ≡ false → work.new.failed_reads slot ≡ work.old.failed_reads slot
   pub newest : List (Option Newest)
   pub read : work.tells → newest ≡ newest_from work.old 0 left
-  pub gives : IsChangedIn work timestamp request (group_of newest named) outcome
   pub beside : work.tells → (found : GroupValue) → group_of newest named ≡ Ok found → LeavesOthers work.old work.new (slots_of found.seats)
-  pub leaves : work.tells → (found : GroupValue) → group_of newest named ≡ Ok found → (steps : List Step) → steps_of found timestamp request ≡ Ok steps
-      → StopsLeave work.old work.new (IsLeftWriting work.old steps)
   pub keeps : work.tells → (found : GroupValue) → group_of newest named ≡ Ok found → (steps : List Step) → steps_of found timestamp request ≡ Ok steps
       → KeepsHistories work.old work.new left found steps outcome
+
+-- A call that reads and writes no blocks came to this: what it made of the group that it took. A slot that isn't left out was read without a failure.
+pub record HasChanged {D : Type 0} (work : Work D) (named : Option (List ℕ)) (timestamp : ℕ) (request : Request) (outcome : Result ℕ Failure) : Type 0 where
+  pub taken : TakesGroup work named timestamp request outcome
+  pub seen : (slot : ℕ) → slot < length taken.left → slice_index_or taken.left slot false ≡ false → work.new.failed_reads slot ≡ work.old.failed_reads slot
+  pub gives : IsChangedIn work timestamp request (group_of taken.newest named) outcome
+  pub leaves : work.tells → (found : GroupValue) → group_of taken.newest named ≡ Ok found → (steps : List Step) → steps_of found timestamp request ≡ Ok steps
+      → StopsLeave work.old work.new (IsLeftWriting work.old steps)
 
 -- what is told of it, and with which status: once a disk was written no memory is taken
 abbrev pub IsToldChange : Result ℕ Failure → Answer → Type 0

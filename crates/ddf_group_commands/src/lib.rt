@@ -1,4 +1,4 @@
-//! The commands over the group that the disks are: `assemble`, `show`, and every change that words ask for.
+//! The commands over the group that the disks are: `assemble`, `show`, and every change that words ask for; and how a group is read.
 #![tactic(auto)]
 
 mod assembling;
@@ -9,3 +9,4 @@ mod writing;
 pub use assembling::assemble_disks;
 pub use changing::change;
 pub use showing::show;
+pub use writing::{failure_of, read_group, recovered};

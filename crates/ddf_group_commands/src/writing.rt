@@ -23,11 +23,11 @@ use ddf_plan::Change;
 use std::alloc::Global;
 
 /// The group that the disks are.
-pub(crate) fn read_group<B: Bay>(
-    alloc: Global,
-    named: Option<Guid>,
-    bay: &mut B,
-) -> Result<Group, Failure>
+///
+/// # Errors
+/// `Refused` where there is none, or no name and several; `Conflict` or `Split` where its records contradict each other; `Memory` where memory
+/// ran out.
+pub fn read_group<B: Bay>(alloc: Global, named: Option<Guid>, bay: &mut B) -> Result<Group, Failure>
     ensures read { IsGroupRead (work_of B.tells (B.disks bay.old) (B.disks bay.new)) named result }
     ensures from { IfOk result (IsReadFrom B.tells (B.disks bay.old)) }
     ensures reads { ReadsOnly (B.disks bay.old) (B.disks bay.new) }
@@ -39,7 +39,7 @@ pub(crate) fn read_group<B: Bay>(
 }
 
 /// The configuration of a group once it is recovered: the one in which its absent members are lost, where some are.
-pub(crate) fn recovered<'a>(group: &'a Group, loss: &'a Option<Config>) -> &'a Config
+pub fn recovered<'a>(group: &'a Group, loss: &'a Option<Config>) -> &'a Config
     requires { loss.now ≡ loss_of group.now }
     ensures { result.now ≡ config_recovered group.now }
 {
@@ -50,7 +50,7 @@ pub(crate) fn recovered<'a>(group: &'a Group, loss: &'a Option<Config>) -> &'a C
 }
 
 /// Why changes of a group aren't made, as the program tells it.
-fn failure_of(fault: GroupFault) -> Failure
+pub fn failure_of(fault: GroupFault) -> Failure
     ensures { result ≡ failure_of_group fault }
 {
     match fault {

@@ -1,5 +1,5 @@
 -- How the slots are seen that were looked at so far, one slot more.
-use Rattle.std.proofs.Common.{◌≡◌, ◌≢◌, ℕ, ◌+◌, ◌<◌, ◌≤◌, zero, suc, List, true, false, length, replicate, ⊎_elim, refl, ◌∙◌, arith}
+use Rattle.std.proofs.Common.{◌≡◌, ◌≢◌, ℕ, ◌+◌, ◌<◌, ◌≤◌, zero, suc, Bool, List, true, false, length, replicate, ⊎_elim, refl, ◌∙◌, arith}
 use Rattle.std.specs.Prelude.{slice_index, slice_set}
 use Rattle.std.proofs.lemmas.List.{get_or-set_same, get_or-set_other}
 use Rattle.std.proofs.lemmas.Bool.{cases_eq}
@@ -10,13 +10,19 @@ use Rattle.ddf_bay.proofs.Steps.{rose_then, rose_since}
 use Rattle.ddf_linux.specs.declared.kind.SlotKind.{SlotKind}
 use Rattle.ddf_linux.specs.declared.kind.SlotKind.TheVariants.{Plain}
 use Rattle.ddf_linux.specs.State.{own_or}
-use Rattle.ddf_linux.specs.Kinds.{IsKindOf, is_unread, kind_at}
+use Rattle.ddf_linux.specs.Kinds.{IsKindOf, IsSeenAs, is_unread, kind_at}
 
 -- reads leave how a slot is seen
-pub kind_kept : {D : Type 0} (a b : BayState D) (slot : ℕ) (kind : SlotKind) → ReadsOnly a b → IsKindOf b slot kind → IsKindOf a slot kind
-kind_kept a b slot kind reads is = record {
+kind_same : {D : Type 0} (a b : BayState D) (slot : ℕ) (kind : SlotKind) → ReadsOnly a b → IsKindOf b slot kind → IsKindOf a slot kind
+kind_same a b slot kind reads is = record {
   exact = rw (reads.same_sizes, reads.same_held) at is.exact;
   turned = rw (reads.same_sizes, reads.same_held) at is.turned;
+}
+
+pub kind_kept : {D : Type 0} (founds : Bool) (a b : BayState D) (slot : ℕ) (kind : SlotKind) → ReadsOnly a b → IsSeenAs founds b slot kind → IsSeenAs founds a slot kind
+kind_kept founds a b slot kind reads is = record {
+  founded = rw (reads.same_sizes, reads.same_held) at is.founded;
+  other = λ none. kind_same a b slot kind reads (is.other (rw (reads.same_sizes, reads.same_held) none));
 }
 
 -- before the first slot is looked at

@@ -5,3 +5,7 @@ mod ZeroSteps
 mod Below
 mod Listed
 mod Cuts
+mod NewPlaces
+mod SealedBelow
+mod SeenAnew
+mod FoundedDisks

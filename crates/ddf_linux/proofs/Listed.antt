@@ -32,7 +32,7 @@ linux_anchor signature bytes anchor size is =
 
 -- ---- no record lies before its header
 
-before_header : (records : Records) (header l : ℕ) → l < header → is_first records header l ≡ false
+pub before_header : (records : Records) (header l : ℕ) → l < header → is_first records header l ≡ false
 unfolding is_first
 before_header records header l under = grind (arith, common_steps)
 

@@ -1,6 +1,6 @@
 -- How a slot is seen: as it is, or turned where its anchor is sealed in Linux's kind. One whose last sector could not be
 -- read is neither.
-use Rattle.std.specs.Prelude.{◌≡◌, ℕ, ◌-◌, ◌<◌, Bool, true, false, ◌==◌, IsTrue, ◌↔◌, if◌then◌else◌, List, Option, Some, None, is_some, Result, Ok, Err, slice_index_or}
+use Rattle.std.specs.Prelude.{◌≡◌, ℕ, ◌-◌, ◌<◌, Bool, true, false, not, ◌&&◌, nat_le, ◌==◌, IsTrue, ◌↔◌, if◌then◌else◌, List, Option, Some, None, is_some, Result, Ok, Err, slice_index_or}
 use Rattle.std.specs.Int.{w32}
 use Rattle.ddf_bytes.specs.Bytes.{number_at}
 use Rattle.ddf_bay.specs.State.{BayState, size_of}
@@ -11,7 +11,7 @@ use Rattle.ddf_linux.specs.declared.kind.SlotKind.{SlotKind}
 use Rattle.ddf_linux.specs.declared.kind.SlotKind.TheVariants.{Plain, Unread, Turned}
 use Rattle.ddf_linux.specs.declared.places.Places.{Places}
 use Rattle.ddf_linux.specs.Crcs.{constant_of, IsLinuxSealed}
-use Rattle.ddf_linux.specs.Places.{constant_at, places_of}
+use Rattle.ddf_linux.specs.Places.{constant_at, new_places, places_of}
 use Rattle.ddf_linux.specs.Turning.{turned}
 
 abbrev pub is_turned : SlotKind → Bool
@@ -36,11 +36,12 @@ kind_by last bytes =
     let anchor = turned (constant_of 512) bytes in
     kind_if (seal_check header_signature anchor) (places_of last anchor)
 
--- a slot as it reads: one without sectors is as it is
+-- a slot of so many sectors, as they read: one without sectors is as it is
+abbrev pub kind_of_sectors : (size : ℕ) → (ℕ → List ℕ) → SlotKind
+kind_of_sectors size sector = if size == 0 then Plain else kind_by (size - 1) (sector (size - 1))
+
 abbrev pub held_kind : {D : Type 0} → BayState D → ℕ → SlotKind
-held_kind disks slot =
-    if size_of disks slot == 0 then Plain
-    else kind_by (size_of disks slot - 1) (disks.held slot (size_of disks slot - 1))
+held_kind disks slot = kind_of_sectors (size_of disks slot) (disks.held slot)
 
 -- the slot's last sector is sealed as an anchor in Linux's kind
 abbrev pub HasLinuxAnchor : {D : Type 0} → BayState D → ℕ → Type 0
@@ -51,11 +52,26 @@ pub record IsKindOf {D : Type 0} (disks : BayState D) (slot : ℕ) (kind : SlotK
   pub exact : kind ≡ held_kind disks slot
   pub turned : IsTrue (is_turned kind) ↔ HasLinuxAnchor disks slot
 
--- ---- by the sector
+-- ---- by its size alone
 
 -- the number that a sector begins with
 abbrev pub signature_of : List ℕ → ℕ
 signature_of bytes = number_at w32 bytes 0
+
+-- A disk may be founded on a slot: there is room for one, and its last sector begins as no anchor.
+abbrev pub may_be_founded : (size : ℕ) → (last : List ℕ) → Bool
+may_be_founded size last = nat_le 33000 size && not (signature_of last == header_signature)
+
+-- it is seen as that disk will be where new disks are founded for Linux
+abbrev pub is_founded : (founds : Bool) (size : ℕ) → (last : List ℕ) → Bool
+is_founded founds size last = founds && may_be_founded size last
+
+-- A slot that could be read is seen so, where new disks are founded for Linux or not.
+pub record IsSeenAs {D : Type 0} (founds : Bool) (disks : BayState D) (slot : ℕ) (kind : SlotKind) : Type 0 where
+  pub founded : is_founded founds (size_of disks slot) (disks.held slot (size_of disks slot - 1)) ≡ true → kind ≡ Turned (new_places (size_of disks slot))
+  pub other : is_founded founds (size_of disks slot) (disks.held slot (size_of disks slot - 1)) ≡ false → IsKindOf disks slot kind
+
+-- ---- by the sector
 
 -- what is added to the CRC of a sector of the slot, by its LBA and the number that it begins with
 abbrev pub kind_constant : SlotKind → ℕ → ℕ → Option ℕ

@@ -9,3 +9,4 @@ pub mod State
 pub mod TurnedBays
 pub mod TurnLaws
 pub mod CrcLaws
+pub mod Founded

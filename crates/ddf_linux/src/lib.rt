@@ -4,6 +4,7 @@
 mod calls;
 mod crcs;
 mod kind;
+mod laws;
 mod layout;
 mod pieces;
 mod places;
@@ -12,5 +13,9 @@ mod turned;
 mod zeros;
 
 pub use crcs::{linux_crc32, turn_record};
+pub use laws::{
+    a_blank_slot_is_seen_as_a_new_disk, a_founded_disk_is_sealed_for_linux,
+    a_founding_cut_short_is_seen_blank_or_whole,
+};
 pub use turned::Turned;
 pub use zeros::constant_of;

@@ -1,12 +1,13 @@
 // Which sectors of a slot are turned, by its anchor.
-ghost use Rattle.std.specs.Prelude.{◌≡◌};
-ghost use Rattle.ddf_linux.specs.Places.{places_of, copies_of, constant_at, copies_constant, lie_from, stands_at};
+ghost use Rattle.std.specs.Prelude.{◌≡◌, ◌≤◌};
+ghost use Rattle.ddf_linux.specs.Places.{places_of, new_places, copies_of, constant_at, copies_constant, lie_from, stands_at};
 
 use crate::layout::Layout;
 use crate::records::Records;
 use crate::zeros::SectorZeros;
 use ddf_bytes::Sector;
 use ddf_header::{HEADER_SIGNATURE, HeaderKind, decode};
+use ddf_update::{PRIMARY_BACK, SECONDARY_BACK, new_geometry};
 
 /// The two copies of a slot, as its anchor places them.
 #[derive(Clone, Copy)]
@@ -60,6 +61,22 @@ impl Places {
             anchor: last,
             constant: zeros.constant(1),
             copies: copies_of(zeros, anchor),
+        }
+    }
+
+    /// The places of a new disk of so many sectors.
+    pub fn of_new_disk(zeros: &SectorZeros, size: u64) -> Places
+        requires { 33000 ≤ size }
+        ensures { result ≡ new_places size }
+    {
+        Places {
+            anchor: size - 1,
+            constant: zeros.constant(1),
+            copies: Some(Copies {
+                primary: size - PRIMARY_BACK,
+                secondary: size - SECONDARY_BACK,
+                layout: Layout::new(zeros, &new_geometry(size)),
+            }),
         }
     }
 

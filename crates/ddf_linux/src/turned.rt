@@ -3,16 +3,17 @@ ghost use Rattle.std.specs.Prelude.{◌≡◌, ◌≢◌, ◌<◌, ◌≤◌, �
 ghost use Rattle.ddf_bytes.specs.Counts.{Rose};
 ghost use Rattle.ddf_bay.specs.Moments.{Remembers, SpendsOver, SpendsReads};
 ghost use Rattle.ddf_bay.specs.ReadsOnly.{ReadsOnly};
-ghost use Rattle.ddf_linux.specs.Kinds.{IsKindOf, is_turned, is_unread, turn};
+ghost use Rattle.ddf_linux.specs.Kinds.{IsSeenAs, is_turned, is_unread, turn};
 
 use crate::kind::SlotKind;
 use crate::zeros::SectorZeros;
 use ddf_bay::{Bay, BayFailed};
 
 /// A bay over a bay. A slot whose anchor is sealed as Linux's mdadm counts the CRC is turned: its sealed records are seen in
-/// the standard's kind, and what is written to their places is sealed in Linux's. Every other slot is seen as it is. Which
-/// sectors are turned is fixed when the bay is made, by the anchors of that moment. A slot whose last sector could not be
-/// read then fails each call.
+/// the standard's kind, and what is written to their places is sealed in Linux's. Every other slot is seen as it is, but for
+/// one on which a disk may be founded where new disks are Linux's: the records of such a disk are turned before they are there.
+/// Which sectors are turned is fixed when the bay is made, by the anchors of that moment and by the sizes of slots. A slot
+/// whose last sector could not be read then fails each call.
 #[derive(Drop)]
 pub struct Turned<B: Bay + Drop> {
     pub(crate) inner: B,
@@ -25,8 +26,9 @@ pub struct Turned<B: Bay + Drop> {
 impl<B: Bay + Drop> Turned<B> {
     ghost use Rattle.ddf_linux.specs.TurnedBays.{inner_of, kind_of, disks_of};
 
-    /// Reads the last sector of each slot, and sees the slot by it.
-    pub fn new(inner: B) -> Turned<B>
+    /// Reads the last sector of each slot, and sees the slot by it. With `founds` new disks are sealed in Linux's kind: a slot on
+    /// which one may be founded is seen as that disk will be.
+    pub fn new(inner: B, founds: bool) -> Turned<B>
         // Nothing is written.
         ensures reads { ReadsOnly (B.disks inner) (B.disks (inner_of result)) }
         ensures remembers { Remembers (B.disks inner) (B.disks (inner_of result)) }
@@ -35,8 +37,9 @@ impl<B: Bay + Drop> Turned<B> {
         ensures spends { SpendsOver (B.disks inner) (B.disks (inner_of result)) 0 (length (B.disks inner).sizes) }
         ensures writes { (B.disks (inner_of result)).failed_writes ≡ (B.disks inner).failed_writes }
 
-        // A slot that could be read is turned exactly where its anchor is sealed in Linux's kind, at the anchor's places.
-        ensures kinds { B.tells → (s : ℕ) → s < length (B.disks inner).sizes → is_unread (kind_of result s) ≡ false → IsKindOf (B.disks inner) s (kind_of result s) }
+        // A slot that could be read is turned exactly where its anchor is sealed in Linux's kind, at the anchor's places, and where a
+        // disk may be founded on it for Linux, at the places of such a disk.
+        ensures kinds { B.tells → (s : ℕ) → s < length (B.disks inner).sizes → is_unread (kind_of result s) ≡ false → IsSeenAs founds (B.disks inner) s (kind_of result s) }
 
         // A slot is unread only where a read of it failed.
         ensures unread { (s : ℕ) → is_unread (kind_of result s) ≡ true → Rose ((B.disks inner).failed_reads s) ((B.disks (inner_of result)).failed_reads s) }
@@ -50,7 +53,7 @@ impl<B: Bay + Drop> Turned<B> {
         let zeros = SectorZeros::new();
         let mut kinds = [SlotKind::Plain; 64];
         for slot in 0..inner.slots() {
-            kinds[slot] = look(&zeros, &mut inner, slot);
+            kinds[slot] = look(&zeros, &mut inner, slot, founds);
         }
         Turned {
             inner,
@@ -82,14 +85,14 @@ impl<B: Bay + Drop> Turned<B> {
 }
 
 /// Reads the last sector of a slot, and sees the slot by it.
-fn look<B: Bay>(zeros: &SectorZeros, inner: &mut B, slot: usize) -> SlotKind
+fn look<B: Bay>(zeros: &SectorZeros, inner: &mut B, slot: usize, founds: bool) -> SlotKind
     requires { slot < length (B.disks inner.old).sizes }
     ensures reads { ReadsOnly (B.disks inner.old) (B.disks inner.new) }
     ensures remembers { Remembers (B.disks inner.old) (B.disks inner.new) }
     ensures spends { SpendsReads (B.disks inner.old) (B.disks inner.new) slot 1 }
     ensures same { is_unread result ≡ false → (B.disks inner.new).failed_reads slot ≡ (B.disks inner.old).failed_reads slot }
     ensures rose { is_unread result ≡ true → Rose ((B.disks inner.old).failed_reads slot) ((B.disks inner.new).failed_reads slot) }
-    ensures kind { B.tells → is_unread result ≡ false → IsKindOf (B.disks inner.old) slot result }
+    ensures kind { B.tells → is_unread result ≡ false → IsSeenAs founds (B.disks inner.old) slot result }
 {
     let size = inner.size(slot);
     if size == 0 {
@@ -97,7 +100,7 @@ fn look<B: Bay>(zeros: &SectorZeros, inner: &mut B, slot: usize) -> SlotKind
     }
     let mut last = [0; 512];
     match inner.read(slot, size - 1, &mut last) {
-        Ok(()) => SlotKind::of(zeros, size - 1, &last),
+        Ok(()) => SlotKind::seen(zeros, size, &last, founds),
         Err(BayFailed) => SlotKind::Unread,
     }
 }

@@ -1,6 +1,6 @@
 // What a line of a scenario is answered.
 use crate::call::{command, command_alone};
-use crate::compare::compare;
+use crate::compare::{compare, look_for_linux};
 use crate::disks::Disks;
 use crate::edit::edit_disks;
 use crate::row::fill_row;
@@ -41,6 +41,7 @@ fn obeyed(alloc: Global, disks: &mut Disks, verb: &str, words: &[&str]) -> anyho
         )?,
         "row" => fill_row(alloc, disks, words)?,
         "is" => return compare(alloc, disks, words),
+        "for-linux" => return look_for_linux(alloc, disks, words),
         "calls" => return disks.calls(alloc),
         _ => return vector(alloc, verb, words),
     }

@@ -6,7 +6,7 @@ use crate::words::{push_words, words_over};
 use anyhow::bail;
 use ddf_bay::{Bay, MemoryBay};
 use ddf_bytes::{MemorySink, MemorySource, Stamp};
-use ddf_command::{serve, slot_paths};
+use ddf_command::{Command, DiskStyle, asked, serve, slot_paths};
 use ddf_linux::Turned;
 use std::alloc::Global;
 
@@ -15,12 +15,13 @@ const SMALL: [u64; 64] = [9; 64];
 
 /// The answer of a command over all disks.
 pub fn command(alloc: Global, disks: &mut Disks, text: &str) -> anyhow::Result<String> {
-    let mut bay = Turned::new(disks.take()?);
+    let inner = disks.take()?;
+    let words = words_over(alloc, inner.slots(), text)?;
+    let mut bay = Turned::new(inner, are_for_linux(alloc, words.as_slice()));
     if disks.loses_anchors {
         lose_anchors(&mut bay)?;
         disks.loses_anchors = false;
     }
-    let words = words_over(alloc, bay.slots(), text)?;
     let answer = call(alloc, &mut bay, words.as_slice(), disks.stamp, disks.output)?;
     disks.bay = Some(bay.into_inner());
     Ok(answer)
@@ -31,8 +32,22 @@ pub fn command_alone(alloc: Global, stamp: Stamp, text: &str) -> anyhow::Result<
     let mut words = Vec::new(alloc);
     push_words(alloc, &mut words, text)?;
     let sizes = &SMALL[..slot_paths(words.as_slice()).len()];
-    let mut bay = Turned::new(new_bay(alloc, sizes, 0)?);
+    let mut bay = Turned::new(new_bay(alloc, sizes, 0)?, false);
     call(alloc, &mut bay, words.as_slice(), stamp, ALL)
+}
+
+/// Whether words ask for disks for Linux.
+fn are_for_linux(alloc: Global, words: &[String]) -> bool {
+    match asked(alloc, words) {
+        Ok(asked) => matches!(
+            asked.command,
+            Command::Label {
+                style: DiskStyle::Linux,
+                ..
+            }
+        ),
+        Err(_) => false,
+    }
 }
 
 fn call(

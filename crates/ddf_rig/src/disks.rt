@@ -136,7 +136,7 @@ impl Disks {
             bail!("nothing is written so");
         };
         let sectors = sectors_from(alloc, rest)?;
-        let mut bay = Turned::new(self.take()?);
+        let mut bay = Turned::new(self.take()?, false);
         write_sectors(&mut bay, count(slot)?, number(lba)?, sectors.as_slice())?;
         self.bay = Some(bay.into_inner());
         Ok(())

@@ -3,6 +3,7 @@ use Rattle.std.proofs.Common.{◌≡◌, ℕ, ◌<◌, ◌^◌, true, List, [], 
 use Rattle.std.specs.Prelude.{filter, slice_get, unwrap_or}
 use Rattle.std.specs.List.{AllByRecursion}
 use Rattle.ddf_config.specs.Configuration.{Configuration}
+use Rattle.ddf_header.specs.declared.kind.Revision.TheVariants.{R200}
 use Rattle.ddf_copy.specs.declared.copy.DiskCopy.{DiskCopy}
 use Rattle.ddf_copy.specs.declared.newest_copy.Newest.{Newest}
 use Rattle.ddf_copy.specs.Written.{CanBeCopy}
@@ -36,7 +37,7 @@ use Rattle.ddf_stops.proofs.Slots.{slot_is, slot_placed}
 
 -- a copy for slots that have none
 no_copy : DiskCopy
-no_copy = new_copy (record { seconds = 0; salt = 0 }) [] 0
+no_copy = new_copy R200 (record { seconds = 0; salt = 0 }) [] 0
 
 -- the copy that stands for a slot
 pub copy_in : List (Option Newest) → ℕ → DiskCopy

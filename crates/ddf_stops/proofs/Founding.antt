@@ -7,6 +7,7 @@ use Rattle.std.proofs.Math.Path.{fun_ext}
 use Rattle.std.specs.Prelude.{slice_get, slice_index}
 use Rattle.std.specs.Str.{bytes_eq}
 use Rattle.ddf_bytes.specs.declared.stamp.Stamp.{Stamp}
+use Rattle.ddf_header.specs.declared.kind.Revision.{Revision}
 use Rattle.ddf_bay.specs.Sectors.{Image, IsLeft}
 use Rattle.ddf_bay.specs.State.{BayState, size_of}
 use Rattle.ddf_config.specs.Configuration.{Configuration}
@@ -40,37 +41,37 @@ use Rattle.ddf_stops.proofs.Stops.{scene_at}
 
 -- ---- what new copies say
 
-module _ (stamp : Stamp) (sizes : List ℕ) where
+module _ (revision : Revision) (stamp : Stamp) (sizes : List ℕ) where
   -- the view of the copy at a place
   abbrev pub view_at : (place : ℕ) → View
-  view_at place = plain_view (group_of stamp) (disk_guid stamp place) (reference_at stamp place) (new_disk_list stamp sizes)
+  view_at place = plain_view (group_of stamp) (disk_guid stamp place) (reference_at stamp place) (new_disk_list revision stamp sizes)
 
   -- what the first gives
   abbrev config : Configuration
-  config = founding_config (new_copy stamp sizes)
+  config = founding_config (new_copy revision stamp sizes)
 
   -- The founding configuration is what the first view gives.
   config_is : config ≡ read (group_of stamp) 1 (view_at 0 ∷ [])
-  config_is = ap (λ (view : View). read (group_of stamp) 1 (view ∷ [])) (new_view stamp sizes 0)
+  config_is = ap (λ (view : View). read (group_of stamp) 1 (view ∷ [])) (new_view revision stamp sizes 0)
 
   -- Each view shows it fully.
   pub view_shows : (place : ℕ) → ShowsFully (view_at place) config
   view_shows place =
       subst (λ (given : Configuration). ShowsFully (view_at place) given) (sym config_is)
-      (plain_shows (group_of stamp) (disk_guid stamp 0) (disk_guid stamp place) (reference_at stamp 0) (reference_at stamp place) (new_disk_list stamp sizes)
-      (new_references stamp sizes))
+      (plain_shows (group_of stamp) (disk_guid stamp 0) (disk_guid stamp place) (reference_at stamp 0) (reference_at stamp place) (new_disk_list revision stamp sizes)
+      (new_references revision stamp sizes))
 
   -- The disk of each view is a current member.
   pub view_is_member : (place : ℕ) → place < length sizes → has_current config (disk_of (view_at place)) ≡ true
   view_is_member place lt =
       sym ((groups_are_sound (group_of stamp)).same_current (view_at place) config (disk_of (view_at place)) (view_shows place).shows)
-      ∙ new_lists stamp sizes (group_of stamp) (disk_guid stamp place) (reference_at stamp place) place lt
+      ∙ new_lists revision stamp sizes (group_of stamp) (disk_guid stamp place) (reference_at stamp place) place lt
 
   -- By each its disk shows the group.
   pub view_stands : (place : ℕ) → place < length sizes → stands (groups (group_of stamp)) (view_at place) ≡ true
   view_stands place lt =
       and_from (bytes_eq (group_of stamp) (group_of stamp)) (lists_current (view_at place) (disk_guid stamp place) (reference_at stamp place))
-      (bytes_same (group_of stamp)) (new_lists stamp sizes (group_of stamp) (disk_guid stamp place) (reference_at stamp place) place lt)
+      (bytes_same (group_of stamp)) (new_lists revision stamp sizes (group_of stamp) (disk_guid stamp place) (reference_at stamp place) place lt)
 
   -- No two views are of one disk.
   one_place : (one other : ℕ) → disk_of (view_at one) ≡ disk_of (view_at other) → one ≡ other
@@ -78,23 +79,23 @@ module _ (stamp : Stamp) (sizes : List ℕ) where
 
 -- ---- slots of which some have them
 
-module _ (stamp : Stamp) (sizes slots : List ℕ) (founded : ℕ → Bool) (among : (slot : ℕ) → founded slot ≡ true → is_slot slots slot ≡ true)
-    (past : Past (groups (group_of stamp))) (is_new : IsNewGroup (group_of stamp) past sizes slots (new_copy stamp (slot_sizes sizes slots)) founded) where
+module _ (revision : Revision) (stamp : Stamp) (sizes slots : List ℕ) (founded : ℕ → Bool) (among : (slot : ℕ) → founded slot ≡ true → is_slot slots slot ≡ true)
+    (past : Past (groups (group_of stamp))) (is_new : IsNewGroup (group_of stamp) past sizes slots (new_copy revision stamp (slot_sizes sizes slots)) founded) where
   -- the sizes of the disks
   abbrev disk_sizes : List ℕ
   disk_sizes = slot_sizes sizes slots
 
   -- their copies
   abbrev copy : ℕ → DiskCopy
-  copy = new_copy stamp disk_sizes
+  copy = new_copy revision stamp disk_sizes
 
   -- the founding configuration
   abbrev founding : Configuration
-  founding = config stamp disk_sizes
+  founding = config revision stamp disk_sizes
 
   -- what the copy at a place says
   abbrev view : (place : ℕ) → View
-  view place = view_at stamp disk_sizes place
+  view place = view_at revision stamp disk_sizes place
 
   -- There are as many as slots.
   counted : length disk_sizes ≡ length slots
@@ -102,13 +103,13 @@ module _ (stamp : Stamp) (sizes slots : List ℕ) (founded : ℕ → Bool) (amon
 
   -- The disk of a founded slot is the one that its copy names.
   named : (place slot : ℕ) → slice_get slots place ≡ Some slot → founded slot ≡ true → past.disk slot ≡ disk_of (view place)
-  named place slot at here = is_new.names place slot at here ∙ ap disk_of (new_view stamp disk_sizes place)
+  named place slot at here = is_new.names place slot at here ∙ ap disk_of (new_view revision stamp disk_sizes place)
 
   -- It is a current member.
   slot_is_member : (place slot : ℕ) → slice_get slots place ≡ Some slot → founded slot ≡ true → has_current founding (past.disk slot) ≡ true
   slot_is_member place slot at here =
       let within = slice_get_within slots place slot at in
-      ap (has_current founding) (named place slot at here) ∙ view_is_member stamp disk_sizes place (omega (arith, counted, within))
+      ap (has_current founding) (named place slot at here) ∙ view_is_member revision stamp disk_sizes place (omega (arith, counted, within))
 
   -- Only the founded slots have members.
   member_founded : (slot : ℕ) → has_current founding (past.disk slot) ≡ true → founded slot ≡ true
@@ -133,7 +134,7 @@ module _ (stamp : Stamp) (sizes slots : List ℕ) (founded : ℕ → Bool) (amon
       let also = ap (has_current founding) (sym same) ∙ now in
       let one = member_placed s now in
       let other = member_placed t also in
-      let place = one_place stamp disk_sizes one.0 other.0 (sym (named one.0 s one.1 (member_founded s now)) ∙ same ∙ named other.0 t other.1 (member_founded t also)) in
+      let place = one_place revision stamp disk_sizes one.0 other.0 (sym (named one.0 s one.1 (member_founded s now)) ∙ same ∙ named other.0 t other.1 (member_founded t also)) in
       let both : Some s ≡ Some t = sym one.1 ∙ ap (slice_get slots) place ∙ other.1 in
       cc
 
@@ -155,7 +156,7 @@ module _ (stamp : Stamp) (sizes slots : List ℕ) (founded : ℕ → Bool) (amon
     member_shows slot now =
         let here = member_founded slot now in
         let place = member_placed slot now in
-        let full = view_shows stamp disk_sizes place.0 in
+        let full = view_shows revision stamp disk_sizes place.0 in
         record {
           copy = view place.0;
           is_only = shows place.0 slot place.1 here;
@@ -182,7 +183,7 @@ module _ (stamp : Stamp) (sizes slots : List ℕ) (founded : ℕ → Bool) (amon
           let of = standing_shows t other other_stands in
           ap (λ (first : View). difference first other) its.1 ∙ ap (difference (view its.0)) of.1
           ∙ plain_agree (group_of stamp) (disk_guid stamp its.0) (disk_guid stamp of.0) (reference_at stamp its.0) (reference_at stamp of.0)
-          (new_disk_list stamp disk_sizes)
+          (new_disk_list revision stamp disk_sizes)
 
       -- The group is founded.
       is_founded : IsFounded past scene founding
@@ -200,12 +201,12 @@ module _ (stamp : Stamp) (sizes slots : List ℕ) (founded : ℕ → Bool) (amon
 
 -- ---- disks that all have them
 
-module _ {D : Type 0} (stamp : Stamp) (old new : BayState D) (same_sizes : new.sizes ≡ old.sizes) (slots : List ℕ) (are : AreSlots old.sizes slots)
-    (first : HaveFirstCopies old new slots (new_copy stamp (slot_sizes old.sizes slots)) (length slots))
-    (past : Past (groups (group_of stamp))) (is_new : IsNewGroup (group_of stamp) past old.sizes slots (new_copy stamp (slot_sizes old.sizes slots)) (is_slot slots)) where
+module _ {D : Type 0} (revision : Revision) (stamp : Stamp) (old new : BayState D) (same_sizes : new.sizes ≡ old.sizes) (slots : List ℕ) (are : AreSlots old.sizes slots)
+    (first : HaveFirstCopies old new slots (new_copy revision stamp (slot_sizes old.sizes slots)) (length slots))
+    (past : Past (groups (group_of stamp))) (is_new : IsNewGroup (group_of stamp) past old.sizes slots (new_copy revision stamp (slot_sizes old.sizes slots)) (is_slot slots)) where
   -- the new copies
   abbrev copies : ℕ → DiskCopy
-  copies = new_copy stamp (slot_sizes old.sizes slots)
+  copies = new_copy revision stamp (slot_sizes old.sizes slots)
 
   module _ (image : Image) (left : IsLeft new.may_hold image) where
     -- A stop leaves what the slots hold.
@@ -213,20 +214,20 @@ module _ {D : Type 0} (stamp : Stamp) (old new : BayState D) (same_sizes : new.s
     first_holds place slot at = fun_ext (λ l. first.are_settled place slot (slice_get_within slots place slot at) at l (image slot l) (left slot l))
 
     -- Each of them shows its copy.
-    first_shows : (place slot : ℕ) → slice_get slots place ≡ Some slot → scene_of new.sizes image slot ≡ One (view_at stamp (slot_sizes old.sizes slots) place)
+    first_shows : (place slot : ℕ) → slice_get slots place ≡ Some slot → scene_of new.sizes image slot ≡ One (view_at revision stamp (slot_sizes old.sizes slots) place)
     first_shows place slot at =
         ap (λ (sizes : List ℕ). scene_of sizes image slot) same_sizes
         ∙ scene_at old.sizes image slot (are.there place slot at)
         ∙ ap (shows_at (size_of old slot)) (first_holds place slot at)
         ∙ both_show (size_of old slot) (new.held slot) (anchor_header (copies place)) (copies place)
         (first.are_both place slot (slice_get_within slots place slot at) at)
-        ∙ ap (λ (one : View). One one) (new_view stamp (slot_sizes old.sizes slots) place)
+        ∙ ap (λ (one : View). One one) (new_view revision stamp (slot_sizes old.sizes slots) place)
 
   -- Whatever a stop leaves shows the new group, where the names of the group are new.
   pub founded_kept : ((image : Image) → IsLeft new.may_hold image → AreNamesNew (group_of stamp) (is_slot slots) copies (scene_of new.sizes image))
       → AreAllKept (group_of stamp) past new
   founded_kept names_new = λ image left.
-      scene_kept stamp old.sizes slots (is_slot slots) (λ slot here. here) past is_new (scene_of new.sizes image)
+      scene_kept revision stamp old.sizes slots (is_slot slots) (λ slot here. here) past is_new (scene_of new.sizes image)
       (λ place slot at here. first_shows image left place slot at) (names_new image left)
 
   -- So it does where they were new before to whatever a stop might have left, what the disks held among it.

@@ -1,6 +1,7 @@
 -- The founding configuration by its parts: the group, the first sequence, a current member for each disk that is no spare, and no array.
 use Rattle.std.proofs.Common.{◌≡◌, ℕ, zero, suc, ◌-◌, false, List, [], ◌∷◌, ◌++◌, length, replicate, refl, ap, ◌∙◌, filter_map, map}
 use Rattle.ddf_bytes.specs.declared.stamp.Stamp.{Stamp}
+use Rattle.ddf_header.specs.declared.kind.Revision.{Revision}
 use Rattle.ddf_tables.specs.declared.disks.DiskEntry.{DiskEntry}
 use Rattle.ddf_tables.specs.declared.disks.DiskRow.TheVariants.{Unused}
 use Rattle.ddf_config.specs.declared.member.Member.{Member}
@@ -23,7 +24,7 @@ members_from stamp place (size ∷ sizes) =
 by_members : Stamp → List (ℕ × Member) → Configuration
 by_members stamp members = record { group = group_of stamp; sequence = 1; members = members; arrays = [] }
 
-module _ (stamp : Stamp) (group guid : List ℕ) (reference : ℕ) (all : List DiskEntry) where
+module _ (revision : Revision) (stamp : Stamp) (group guid : List ℕ) (reference : ℕ) (all : List DiskEntry) where
   -- a view without arrays
   abbrev views : List View
   views = plain_view group guid reference all ∷ []
@@ -35,7 +36,7 @@ module _ (stamp : Stamp) (group guid : List ℕ) (reference : ℕ) (all : List D
 
   -- The rows of disks are read as their members.
   members_read : (place : ℕ) (sizes : List ℕ) (unused : ℕ)
-      → map (member_entry_in views) (filter_map disk_of (entries_from stamp place sizes ++ replicate unused (Unused (replicate 64 255))))
+      → map (member_entry_in views) (filter_map disk_of (entries_from revision stamp place sizes ++ replicate unused (Unused (replicate 64 255))))
       ≡ members_from stamp place sizes
   unfolding spare_in
   members_read place [] unused = none_read unused
@@ -44,9 +45,9 @@ module _ (stamp : Stamp) (group guid : List ℕ) (reference : ℕ) (all : List D
       (members_read (suc place) sizes unused)
 
 -- The founding configuration has these members.
-pub founding_is : (stamp : Stamp) (sizes : List ℕ)
-    → founding_config (new_copy stamp sizes) ≡ record { group = group_of stamp; sequence = 1; members = members_from stamp 0 sizes; arrays = [] }
+pub founding_is : (revision : Revision) (stamp : Stamp) (sizes : List ℕ)
+    → founding_config (new_copy revision stamp sizes) ≡ record { group = group_of stamp; sequence = 1; members = members_from stamp 0 sizes; arrays = [] }
 unfolding read by_members
-founding_is stamp sizes =
-    ap (λ (view : View). read (group_of stamp) 1 (view ∷ [])) (new_view stamp sizes 0)
-    ∙ ap (by_members stamp) (members_read stamp (group_of stamp) (disk_guid stamp 0) (reference_at stamp 0) (new_disk_list stamp sizes) 0 sizes (15 - length sizes))
+founding_is revision stamp sizes =
+    ap (λ (view : View). read (group_of stamp) 1 (view ∷ [])) (new_view revision stamp sizes 0)
+    ∙ ap (by_members stamp) (members_read revision stamp (group_of stamp) (disk_guid stamp 0) (reference_at stamp 0) (new_disk_list revision stamp sizes) 0 sizes (15 - length sizes))

@@ -6,6 +6,7 @@ use Rattle.std.proofs.lemmas.Option.{slice_get_within}
 use Rattle.std.proofs.Math.Path.{fun_ext}
 use Rattle.std.specs.Prelude.{Result, slice_get, slice_index}
 use Rattle.ddf_bytes.specs.declared.stamp.Stamp.{Stamp}
+use Rattle.ddf_header.specs.declared.kind.Revision.{Revision}
 use Rattle.ddf_bay.specs.Sectors.{Image, IsLeft}
 use Rattle.ddf_bay.specs.State.{BayState, size_of}
 use Rattle.ddf_header.specs.declared.reading.Header.{Header}
@@ -47,10 +48,10 @@ blank_shows size sector blank = ap (λ (found : Result Header AnchorFault). told
 not_blank : {A E : Type 0} (anchor : A) (fault : E) (found : Result A E) → found ≡ Ok anchor → found ≡ Err fault → ⊥
 not_blank {A = A} {E = E} anchor fault found is blank = let both : ◌≡◌ {A = Result A E} (Ok anchor) (Err fault) = sym is ∙ blank in absurd cc
 
-module _ {D : Type 0} (stamp : Stamp) (old : BayState D) (slots : List ℕ) (are : AreSlots old.sizes slots) (is_left : IsLeft old.may_hold old.held) where
+module _ {D : Type 0} (revision : Revision) (stamp : Stamp) (old : BayState D) (slots : List ℕ) (are : AreSlots old.sizes slots) (is_left : IsLeft old.may_hold old.held) where
   -- the new copies
   abbrev copy : ℕ → DiskCopy
-  copy = new_copy stamp (slot_sizes old.sizes slots)
+  copy = new_copy revision stamp (slot_sizes old.sizes slots)
 
   -- What might be left before is left before a slot gets its copy.
   pub before_founding : (image : Image) → IsLeft old.may_hold image → IsLeftFoundingAll old slots copy image
@@ -88,11 +89,11 @@ module _ {D : Type 0} (stamp : Stamp) (old : BayState D) (slots : List ℕ) (are
     HasCopy place slot = AreBoth (size_of old slot) (image slot) (anchor_header (copy place)) (copy place)
 
     -- One with its copy shows it.
-    pub copy_there : (place slot : ℕ) → slice_get slots place ≡ Some slot → HasCopy place slot → scene slot ≡ One (view_at stamp (slot_sizes old.sizes slots) place)
+    pub copy_there : (place slot : ℕ) → slice_get slots place ≡ Some slot → HasCopy place slot → scene slot ≡ One (view_at revision stamp (slot_sizes old.sizes slots) place)
     copy_there place slot at both =
         scene_at old.sizes image slot (are.there place slot at)
         ∙ both_show (size_of old slot) (image slot) (anchor_header (copy place)) (copy place) both
-        ∙ ap (λ (one : View). One one) (new_view stamp (slot_sizes old.sizes slots) place)
+        ∙ ap (λ (one : View). One one) (new_view revision stamp (slot_sizes old.sizes slots) place)
 
     module _ (names_new : (before : Image) → IsLeft old.may_hold before → AreNamesNew (group_of stamp) (λ slot. false) copy (scene_of old.sizes before)) where
       -- A slot as it might be left before shows no copy of the group, nor one that names a member.
@@ -109,9 +110,9 @@ module _ {D : Type 0} (stamp : Stamp) (old : BayState D) (slots : List ℕ) (are
       not_before : (place slot : ℕ) → slice_get slots place ≡ Some slot → HasCopy place slot → ((l : ℕ) → old.may_hold slot l (image slot l)) → ⊥
       not_before place slot at both may =
           let there = copy_there place slot at both in
-          let own = view_at stamp (slot_sizes old.sizes slots) place in
+          let own = view_at revision stamp (slot_sizes old.sizes slots) place in
           let within : place < length (slot_sizes old.sizes slots) = rw (length-map slots (slice_index old.sizes)) (slice_get_within slots place slot at) in
-          before_shows slot may own (subst (λ (shown : Shown View). IsCopyOf shown own) (sym there) refl) (view_stands stamp (slot_sizes old.sizes slots) place within)
+          before_shows slot may own (subst (λ (shown : Shown View). IsCopyOf shown own) (sym there) refl) (view_stands revision stamp (slot_sizes old.sizes slots) place within)
 
       module _ (left : IsLeftFoundingAll old slots copy image) where
         -- ---- the slots that are founded
@@ -210,7 +211,7 @@ module _ {D : Type 0} (stamp : Stamp) (old : BayState D) (slots : List ℕ) (are
           -- Each slot shows what it should.
           pub cut_kept : (past : Past (groups (group_of stamp))) → IsNewGroup (group_of stamp) past old.sizes slots copy founded → IsKept past scene
           cut_kept past is_new =
-              scene_kept stamp old.sizes slots founded are_founded.are_among past is_new scene
+              scene_kept revision stamp old.sizes slots founded are_founded.are_among past is_new scene
               (λ place slot at here. copy_there place slot at (are_founded.have_copies place slot at here)) others_new
 
           -- So where a founded slot is read, assembly gives the founding configuration.
@@ -222,9 +223,9 @@ module _ {D : Type 0} (stamp : Stamp) (old : BayState D) (slots : List ℕ) (are
               let among = are_founded.are_among in
               let same : scene_of disks.sizes disks.held ≡ scene =
               ap (λ (sizes : List ℕ). scene_of sizes disks.held) same_sizes ∙ ap (λ (held : Image). scene_of old.sizes held) holds in
-              let kept = cut_kept (first_past stamp old.sizes slots are founded among) (first_is_new stamp old.sizes slots are founded among) in
+              let kept = cut_kept (first_past revision stamp old.sizes slots are founded among) (first_is_new revision stamp old.sizes slots are founded among) in
               let counted : length (slot_sizes old.sizes slots) ≡ length slots = length-map slots (slice_index old.sizes) in
-              founding_read stamp old.sizes slots are founded among disks same_sizes
-              (subst (λ (shown : Scene View). IsKept (first_past stamp old.sizes slots are founded among) shown) (sym same) kept) read long
+              founding_read revision stamp old.sizes slots are founded among disks same_sizes
+              (subst (λ (shown : Scene View). IsKept (first_past revision stamp old.sizes slots are founded among) shown) (sym same) kept) read long
               place.0 slot (subst (λ (n : ℕ). place.0 < n) (sym counted) (slice_get_within slots place.0 slot place.1))
               (ap (λ (shown : Scene View). shown slot) same ∙ copy_there place.0 slot place.1 (are_founded.have_copies place.0 slot place.1 here)) readable

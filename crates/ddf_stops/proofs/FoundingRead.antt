@@ -6,6 +6,7 @@ use Rattle.std.specs.Map.{lookup}
 use Rattle.std.specs.Option.{option_map_or}
 use Rattle.std.specs.Str.{bytes_eq}
 use Rattle.ddf_bytes.specs.declared.stamp.Stamp.{Stamp}
+use Rattle.ddf_header.specs.declared.kind.Revision.{Revision}
 use Rattle.ddf_bay.specs.State.{BayState}
 use Rattle.ddf_config.specs.declared.member.Member.{Member}
 use Rattle.ddf_config.specs.Configuration.{Configuration}
@@ -46,17 +47,17 @@ none_looked_up stamp place (size ∷ sizes) =
 abbrev no_disk : Disk
 no_disk = record { guid = []; reference = 0 }
 
-no_member : (stamp : Stamp) (sizes : List ℕ) → has_current (founding_config (new_copy stamp sizes)) no_disk ≡ false
-no_member stamp sizes =
-    ap (λ (config : Configuration). has_current config no_disk) (founding_is stamp sizes)
+no_member : (revision : Revision) (stamp : Stamp) (sizes : List ℕ) → has_current (founding_config (new_copy revision stamp sizes)) no_disk ≡ false
+no_member revision stamp sizes =
+    ap (λ (config : Configuration). has_current config no_disk) (founding_is revision stamp sizes)
     ∙ ap (λ (found : Option Member). option_map_or (λ (member : Member). bytes_eq member.guid [] && not member.missing) found false) (none_looked_up stamp 0 sizes)
 
-module _ (stamp : Stamp) (sizes slots : List ℕ) (are : AreSlots sizes slots) (founded : ℕ → Bool) (among : (slot : ℕ) → founded slot ≡ true → is_slot slots slot ≡ true) where
+module _ (revision : Revision) (stamp : Stamp) (sizes slots : List ℕ) (are : AreSlots sizes slots) (founded : ℕ → Bool) (among : (slot : ℕ) → founded slot ≡ true → is_slot slots slot ≡ true) where
   abbrev disk_sizes : List ℕ
   disk_sizes = slot_sizes sizes slots
 
   abbrev copy : ℕ → DiskCopy
-  copy = new_copy stamp disk_sizes
+  copy = new_copy revision stamp disk_sizes
 
   abbrev founding : Configuration
   founding = founding_config copy
@@ -87,7 +88,7 @@ module _ (stamp : Stamp) (sizes slots : List ℕ) (are : AreSlots sizes slots) (
   disk_out : (slot : ℕ) (here : Bool) (is : founded slot ≡ here) → founded slot ≡ false → has_current founding (disk_by slot here is) ≡ false
   unfolding disk_by
   disk_out slot true is none = absurd (false≢true (sym none ∙ is))
-  disk_out slot false is none = no_member stamp disk_sizes
+  disk_out slot false is none = no_member revision stamp disk_sizes
 
   pub first_is_new : IsNewGroup (group_of stamp) first_past sizes slots copy founded
   first_is_new = record {
@@ -131,7 +132,7 @@ module _ (stamp : Stamp) (sizes slots : List ℕ) (are : AreSlots sizes slots) (
     }
 
     -- A founded slot is read.
-    module _ (place slot : ℕ) (within : place < length disk_sizes) (shows : scene_of disks.sizes disks.held slot ≡ One (view_at stamp disk_sizes place))
+    module _ (place slot : ℕ) (within : place < length disk_sizes) (shows : scene_of disks.sizes disks.held slot ≡ One (view_at revision stamp disk_sizes place))
         (readable : is_read left slot ≡ true) where
       member : HasMember first_past (scene_of disks.sizes disks.held) (is_read left)
       member = record {
@@ -141,10 +142,10 @@ module _ (stamp : Stamp) (sizes slots : List ℕ) (are : AreSlots sizes slots) (
         number = 0;
         config = founding;
         since = record { late = omega arith; is_there = refl };
-        copy = view_at stamp disk_sizes place;
-        is_copy = subst (λ (shown : Shown View). IsCopyOf shown (view_at stamp disk_sizes place)) (sym shows) refl;
-        is_standing = view_stands stamp disk_sizes place within;
-        shows = (view_shows stamp disk_sizes place).shows;
+        copy = view_at revision stamp disk_sizes place;
+        is_copy = subst (λ (shown : Shown View). IsCopyOf shown (view_at revision stamp disk_sizes place)) (sym shows) refl;
+        is_standing = view_stands revision stamp disk_sizes place within;
+        shows = (view_shows revision stamp disk_sizes place).shows;
       }
 
       -- So assembly gives the founding configuration.

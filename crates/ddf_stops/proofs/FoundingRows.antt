@@ -6,6 +6,7 @@ use Rattle.std.specs.List.{AllByRecursion, IsDistinct}
 use Rattle.std.specs.Option.{option_map_or}
 use Rattle.std.specs.Str.{bytes_eq}
 use Rattle.ddf_bytes.specs.declared.stamp.Stamp.{Stamp}
+use Rattle.ddf_header.specs.declared.kind.Revision.{Revision}
 use Rattle.ddf_tables.specs.declared.disks.DiskEntry.{DiskEntry}
 use Rattle.ddf_tables.specs.declared.disks.DiskRow.TheVariants as disk_rows
 use Rattle.ddf_configs.specs.declared.notes.Notes.{Notes}
@@ -23,12 +24,12 @@ use Rattle.ddf_stops.proofs.FoundingViews.{plain_view}
 -- ---- the table
 
 -- the disks of these sizes, from a place on, of a table with so many unused rows behind them
-abbrev disks_from : Stamp → (place : ℕ) → List ℕ → (unused : ℕ) → List DiskEntry
-disks_from stamp place sizes unused = filter_map disk_of (entries_from stamp place sizes ++ replicate unused (disk_rows.Unused (replicate 64 255)))
+abbrev disks_from : Revision → Stamp → (place : ℕ) → List ℕ → (unused : ℕ) → List DiskEntry
+disks_from revision stamp place sizes unused = filter_map disk_of (entries_from revision stamp place sizes ++ replicate unused (disk_rows.Unused (replicate 64 255)))
 
 -- the disks that new copies list
-abbrev pub new_disk_list : Stamp → List ℕ → List DiskEntry
-new_disk_list stamp sizes = disks_from stamp 0 sizes (15 - length sizes)
+abbrev pub new_disk_list : Revision → Stamp → List ℕ → List DiskEntry
+new_disk_list revision stamp sizes = disks_from revision stamp 0 sizes (15 - length sizes)
 
 -- An unused row lists no disk.
 none_of_unused : (unused : ℕ) → filter_map disk_of (replicate unused (disk_rows.Unused (replicate 64 255))) ≡ []
@@ -36,23 +37,23 @@ none_of_unused zero = refl
 none_of_unused (suc unused) = none_of_unused unused
 
 -- The reference of a disk is none of those behind it.
-later_differ : (stamp : Stamp) (one place : ℕ) (sizes : List ℕ) (unused : ℕ) → one < place
-    → AllByRecursion (λ name. nat_eq (reference_at stamp one) name ≡ false) (map (λ disk. disk.reference) (disks_from stamp place sizes unused))
-later_differ stamp one place [] unused lt =
+later_differ : (revision : Revision) (stamp : Stamp) (one place : ℕ) (sizes : List ℕ) (unused : ℕ) → one < place
+    → AllByRecursion (λ name. nat_eq (reference_at stamp one) name ≡ false) (map (λ disk. disk.reference) (disks_from revision stamp place sizes unused))
+later_differ revision stamp one place [] unused lt =
     subst (λ disks. AllByRecursion (λ name. nat_eq (reference_at stamp one) name ≡ false) (map (λ disk. disk.reference) disks)) (sym (none_of_unused unused)) tt
-later_differ stamp one place (size ∷ sizes) unused lt = (
+later_differ revision stamp one place (size ∷ sizes) unused lt = (
   ne_eqb (reference_at stamp one) (reference_at stamp place) (λ (e : reference_at stamp one ≡ reference_at stamp place). absurd (omega (arith, e, lt))),
-  later_differ stamp one (suc place) sizes unused (omega (arith, lt)),
+  later_differ revision stamp one (suc place) sizes unused (omega (arith, lt)),
 )
 
-all_differ : (stamp : Stamp) (place : ℕ) (sizes : List ℕ) (unused : ℕ) → IsDistinct nat_eq (map (λ disk. disk.reference) (disks_from stamp place sizes unused))
+all_differ : (revision : Revision) (stamp : Stamp) (place : ℕ) (sizes : List ℕ) (unused : ℕ) → IsDistinct nat_eq (map (λ disk. disk.reference) (disks_from revision stamp place sizes unused))
 unfolding IsDistinct
-all_differ stamp place [] unused = subst (λ disks. IsDistinct nat_eq (map (λ disk. disk.reference) disks)) (sym (none_of_unused unused)) tt
-all_differ stamp place (size ∷ sizes) unused = (later_differ stamp place (suc place) sizes unused (omega arith), all_differ stamp (suc place) sizes unused)
+all_differ revision stamp place [] unused = subst (λ disks. IsDistinct nat_eq (map (λ disk. disk.reference) disks)) (sym (none_of_unused unused)) tt
+all_differ revision stamp place (size ∷ sizes) unused = (later_differ revision stamp place (suc place) sizes unused (omega arith), all_differ revision stamp (suc place) sizes unused)
 
 -- No two of the disks have one reference.
-pub new_references : (stamp : Stamp) (sizes : List ℕ) → IsDistinct nat_eq (map (λ disk. disk.reference) (new_disk_list stamp sizes))
-new_references stamp sizes = all_differ stamp 0 sizes (15 - length sizes)
+pub new_references : (revision : Revision) (stamp : Stamp) (sizes : List ℕ) → IsDistinct nat_eq (map (λ disk. disk.reference) (new_disk_list revision stamp sizes))
+new_references revision stamp sizes = all_differ revision stamp 0 sizes (15 - length sizes)
 
 -- ---- its members
 
@@ -70,9 +71,9 @@ found_current test (first ∷ disks) (suc place) disk current at is = elim (whic
 ]
 
 -- None of the disks is missing.
-none_missing : (stamp : Stamp) (from : ℕ) (sizes : List ℕ) (unused : ℕ) → AllByRecursion (λ one. is_missing one ≡ false) (disks_from stamp from sizes unused)
-none_missing stamp from [] unused = subst (AllByRecursion (λ one. is_missing one ≡ false)) (sym (none_of_unused unused)) tt
-none_missing stamp from (size ∷ sizes) unused = (refl, none_missing stamp (suc from) sizes unused)
+none_missing : (revision : Revision) (stamp : Stamp) (from : ℕ) (sizes : List ℕ) (unused : ℕ) → AllByRecursion (λ one. is_missing one ≡ false) (disks_from revision stamp from sizes unused)
+none_missing revision stamp from [] unused = subst (AllByRecursion (λ one. is_missing one ≡ false)) (sym (none_of_unused unused)) tt
+none_missing revision stamp from (size ∷ sizes) unused = (refl, none_missing revision stamp (suc from) sizes unused)
 
 -- A disk of a table that has the names of the disk at a place.
 record IsListed (stamp : Stamp) (place : ℕ) (disks : List DiskEntry) : Type 0 where
@@ -83,25 +84,25 @@ record IsListed (stamp : Stamp) (place : ℕ) (disks : List DiskEntry) : Type 0 
   guid : disk.guid ≡ disk_guid stamp place
 
 -- The disk of each place is listed.
-listed : (stamp : Stamp) (from place : ℕ) (sizes : List ℕ) (unused : ℕ) → from ≤ place → place < from + length sizes
-    → IsListed stamp place (disks_from stamp from sizes unused)
-listed stamp from place [] unused le lt = absurd (omega (arith, le, lt))
-listed stamp from place (size ∷ sizes) unused le lt = elim (cases_eq from place) [
+listed : (revision : Revision) (stamp : Stamp) (from place : ℕ) (sizes : List ℕ) (unused : ℕ) → from ≤ place → place < from + length sizes
+    → IsListed stamp place (disks_from revision stamp from sizes unused)
+listed revision stamp from place [] unused le lt = absurd (omega (arith, le, lt))
+listed revision stamp from place (size ∷ sizes) unused le lt = elim (cases_eq from place) [
   | inl same ↦ record { row = 0; disk = _; is_there = refl; reference = ap (reference_at stamp) same; guid = ap (disk_guid stamp) same }
   | inr differ ↦
-      let later = listed stamp (suc from) place sizes unused (omega (arith, le, differ)) (omega (arith, lt)) in
+      let later = listed revision stamp (suc from) place sizes unused (omega (arith, le, differ)) (omega (arith, lt)) in
       record { row = suc later.row; disk = later.disk; is_there = later.is_there; reference = later.reference; guid = later.guid }
 ]
 
 -- A view of this table lists the disk of each place as a current member.
-pub new_lists : (stamp : Stamp) (sizes : List ℕ) (group guid : List ℕ) (reference place : ℕ) → place < length sizes
-    → lists_current (plain_view group guid reference (new_disk_list stamp sizes)) (disk_guid stamp place) (reference_at stamp place) ≡ true
+pub new_lists : (revision : Revision) (stamp : Stamp) (sizes : List ℕ) (group guid : List ℕ) (reference place : ℕ) → place < length sizes
+    → lists_current (plain_view group guid reference (new_disk_list revision stamp sizes)) (disk_guid stamp place) (reference_at stamp place) ≡ true
 unfolding lists_current
-new_lists stamp sizes group guid reference place lt =
+new_lists revision stamp sizes group guid reference place lt =
     let unused = 15 - length sizes in
-    let one = listed stamp 0 place sizes unused (omega arith) (omega (arith, lt)) in
-    found_current (λ disk. disk.reference == reference_at stamp place && bytes_eq disk.guid (disk_guid stamp place)) (new_disk_list stamp sizes)
-    one.row one.disk (none_missing stamp 0 sizes unused) one.is_there
+    let one = listed revision stamp 0 place sizes unused (omega arith) (omega (arith, lt)) in
+    found_current (λ disk. disk.reference == reference_at stamp place && bytes_eq disk.guid (disk_guid stamp place)) (new_disk_list revision stamp sizes)
+    one.row one.disk (none_missing revision stamp 0 sizes unused) one.is_there
     (and_from (one.disk.reference == reference_at stamp place) (bytes_eq one.disk.guid (disk_guid stamp place))
     (eq-eqb one.disk.reference (reference_at stamp place) one.reference)
     (ap (λ name. bytes_eq name (disk_guid stamp place)) one.guid ∙ bytes_same (disk_guid stamp place)))
@@ -137,13 +138,13 @@ no_spare : (stamp : Stamp) → first_spare (new_slots stamp) ≡ None
 no_spare stamp = ap (λ slot. first_spare (replicate 15 slot)) unused_is ∙ none_spare 15 (replicate 1024 255)
 
 -- a view of this table by what its slots tell
-view_by : Stamp → List ℕ → (place : ℕ) → List HeldRecord → (noted : Bool) → Option SpareRecord → View
-view_by stamp sizes place elements noted spare = record {
+view_by : Revision → Stamp → List ℕ → (place : ℕ) → List HeldRecord → (noted : Bool) → Option SpareRecord → View
+view_by revision stamp sizes place elements noted spare = record {
   group = group_of stamp;
   sequence = 1;
   guid = disk_guid stamp place;
   reference = reference_at stamp place;
-  disks = new_disk_list stamp sizes;
+  disks = new_disk_list revision stamp sizes;
   arrays = [];
   elements = elements;
   noted = noted;
@@ -151,12 +152,12 @@ view_by stamp sizes place elements noted spare = record {
 }
 
 -- What a new copy says.
-pub new_view : (stamp : Stamp) (sizes : List ℕ) (place : ℕ)
-    → view_of (new_copy stamp sizes place) ≡ plain_view (group_of stamp) (disk_guid stamp place) (reference_at stamp place) (new_disk_list stamp sizes)
+pub new_view : (revision : Revision) (stamp : Stamp) (sizes : List ℕ) (place : ℕ)
+    → view_of (new_copy revision stamp sizes place) ≡ plain_view (group_of stamp) (disk_guid stamp place) (reference_at stamp place) (new_disk_list revision stamp sizes)
 unfolding view_of view_by new_arrays
-new_view stamp sizes place =
+new_view revision stamp sizes place =
     let notes = valid_notes (group_of stamp) 1 (new_slots stamp) in
-    ap (λ (elements : List HeldRecord). view_by stamp sizes place elements (is_some notes) (first_spare (new_slots stamp))) (no_elements stamp notes)
-    ∙ ap (λ (noted : Bool). view_by stamp sizes place [] noted (first_spare (new_slots stamp)))
+    ap (λ (elements : List HeldRecord). view_by revision stamp sizes place elements (is_some notes) (first_spare (new_slots stamp))) (no_elements stamp notes)
+    ∙ ap (λ (noted : Bool). view_by revision stamp sizes place [] noted (first_spare (new_slots stamp)))
     (first_noted (group_of stamp) (new_notes stamp).slots (replicate 15 unused_slot))
-    ∙ ap (λ (spare : Option SpareRecord). view_by stamp sizes place [] true spare) (no_spare stamp)
+    ∙ ap (λ (spare : Option SpareRecord). view_by revision stamp sizes place [] true spare) (no_spare stamp)

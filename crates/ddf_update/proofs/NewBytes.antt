@@ -2,6 +2,7 @@
 use Rattle.std.proofs.Common.{◌≡◌, ℕ, [], ◌∷◌, length, refl}
 use Rattle.ddf_seal.specs.declared.unread.Span.{Span}
 use Rattle.ddf_seal.specs.Unread.{cleared, placed, places}
+use Rattle.ddf_header.specs.declared.kind.Revision.{Revision}
 use Rattle.ddf_header.specs.declared.reading.Header.{Header}
 use Rattle.ddf_header.specs.Header.{unread}
 use Rattle.ddf_tables.specs.declared.disks.DiskEntry.{DiskEntry}
@@ -15,6 +16,6 @@ pub header_cleared : (header : Header) → cleared (span 0 51 ∷ span 96 17 ∷
 unfolding new_sector_bytes new_header_bytes placed
 header_cleared header = refl
 
-pub entry_cleared : (entry : DiskEntry) → cleared (span 0 40 ∷ []) new_entry_bytes ≡ cleared (places (disk_fields entry)) new_entry_bytes
+pub entry_cleared : (revision : Revision) (entry : DiskEntry) → cleared (span 0 40 ∷ []) (new_entry_bytes revision) ≡ cleared (places (disk_fields entry)) (new_entry_bytes revision)
 unfolding new_entry_bytes placed
-entry_cleared entry = refl
+entry_cleared revision entry = refl

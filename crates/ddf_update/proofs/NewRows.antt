@@ -4,6 +4,7 @@ use Rattle.std.proofs.lemmas.Bool.{ne_eqb}
 use Rattle.std.proofs.lemmas.List.{length-append, length-replicate}
 use Rattle.std.specs.List.{AllByRecursion, IsDistinct, filter_map}
 use Rattle.ddf_bytes.specs.declared.stamp.Stamp.{Stamp}
+use Rattle.ddf_header.specs.declared.kind.Revision.{Revision}
 use Rattle.ddf_seal.specs.Unread.{placed, places}
 use Rattle.ddf_seal.proofs.Same.{AreWithin, cleared-cleared, cleared_outside, within_from_test}
 use Rattle.ddf_tables.specs.declared.disks.DiskRow.{DiskRow}
@@ -13,19 +14,19 @@ use Rattle.ddf_update.specs.NewCopies.{entries_from, named_entry, new_entry, new
 
 -- ---- as the code makes them
 
-pub entries_more : (stamp : Stamp) (from : ℕ) (sizes : List ℕ) (i place : ℕ) → i < length sizes → from + i ≡ place
-    → entries_from stamp from (take (i + 1) sizes) ≡ entries_from stamp from (take i sizes) ++ new_entry stamp place (get_or sizes i 0) ∷ []
-entries_more stamp from [] i place lt is = absurd (omega (arith, lt))
-entries_more stamp from (size ∷ sizes) zero place lt is =
+pub entries_more : (revision : Revision) (stamp : Stamp) (from : ℕ) (sizes : List ℕ) (i place : ℕ) → i < length sizes → from + i ≡ place
+    → entries_from revision stamp from (take (i + 1) sizes) ≡ entries_from revision stamp from (take i sizes) ++ new_entry revision stamp place (get_or sizes i 0) ∷ []
+entries_more revision stamp from [] i place lt is = absurd (omega (arith, lt))
+entries_more revision stamp from (size ∷ sizes) zero place lt is =
     let here : from ≡ place = omega (arith, is) in
-    ap (λ p. new_entry stamp p size ∷ []) here
-entries_more stamp from (size ∷ sizes) (suc i) place lt is =
+    ap (λ p. new_entry revision stamp p size ∷ []) here
+entries_more revision stamp from (size ∷ sizes) (suc i) place lt is =
     let next : suc i + 1 ≡ suc (i + 1) = omega arith in
-    rw next (ap (λ rows. new_entry stamp from size ∷ rows) (entries_more stamp (suc from) sizes i place (omega (arith, lt)) (omega (arith, is))))
+    rw next (ap (λ rows. new_entry revision stamp from size ∷ rows) (entries_more revision stamp (suc from) sizes i place (omega (arith, lt)) (omega (arith, is))))
 
-pub length-entries : (stamp : Stamp) (from : ℕ) (sizes : List ℕ) → length (entries_from stamp from sizes) ≡ length sizes
-length-entries stamp from [] = refl
-length-entries stamp from (size ∷ sizes) = ap suc (length-entries stamp (suc from) sizes)
+pub length-entries : (revision : Revision) (stamp : Stamp) (from : ℕ) (sizes : List ℕ) → length (entries_from revision stamp from sizes) ≡ length sizes
+length-entries revision stamp from [] = refl
+length-entries revision stamp from (size ∷ sizes) = ap suc (length-entries revision stamp (suc from) sizes)
 
 all_taken : (rows : List DiskRow) (n : ℕ) → length rows ≤ n → take n rows ≡ rows
 all_taken [] zero le = refl
@@ -34,35 +35,35 @@ all_taken (row ∷ rows) zero le = absurd (omega (arith, le))
 all_taken (row ∷ rows) (suc n) le = ap (λ l. row ∷ l) (all_taken rows n (omega (arith, le)))
 
 -- the entries, filled up with unused rows
-pub rows_filled : (stamp : Stamp) (sizes : List ℕ) (rows : List DiskRow) (count : ℕ) → rows ≡ entries_from stamp 0 sizes → count ≡ length rows → length sizes ≤ 15
-    → take 15 rows ++ replicate (15 - count) (Unused (replicate 64 255)) ≡ new_rows stamp sizes
-rows_filled stamp sizes rows count are counted few =
-    let long : length rows ≡ length sizes = ap length are ∙ length-entries stamp 0 sizes in
-    let whole : take 15 rows ≡ entries_from stamp 0 sizes = all_taken rows 15 (omega (arith, long, few)) ∙ are in
+pub rows_filled : (revision : Revision) (stamp : Stamp) (sizes : List ℕ) (rows : List DiskRow) (count : ℕ) → rows ≡ entries_from revision stamp 0 sizes → count ≡ length rows → length sizes ≤ 15
+    → take 15 rows ++ replicate (15 - count) (Unused (replicate 64 255)) ≡ new_rows revision stamp sizes
+rows_filled revision stamp sizes rows count are counted few =
+    let long : length rows ≡ length sizes = ap length are ∙ length-entries revision stamp 0 sizes in
+    let whole : take 15 rows ≡ entries_from revision stamp 0 sizes = all_taken rows 15 (omega (arith, long, few)) ∙ are in
     let rest : count ≡ length sizes = counted ∙ long in
     rw (whole, rest) refl
 
-pub length-new_rows : (stamp : Stamp) (sizes : List ℕ) → length sizes ≤ 15 → length (new_rows stamp sizes) ≡ 15
-length-new_rows stamp sizes few =
-    let entries = length-entries stamp 0 sizes in
+pub length-new_rows : (revision : Revision) (stamp : Stamp) (sizes : List ℕ) → length sizes ≤ 15 → length (new_rows revision stamp sizes) ≡ 15
+length-new_rows revision stamp sizes few =
+    let entries = length-entries revision stamp 0 sizes in
     let unused = length-replicate (15 - length sizes) (Unused (replicate 64 255)) in
-    omega (arith, length-append (entries_from stamp 0 sizes) (replicate (15 - length sizes) (Unused (replicate 64 255))), entries, unused, few)
+    omega (arith, length-append (entries_from revision stamp 0 sizes) (replicate (15 - length sizes) (Unused (replicate 64 255))), entries, unused, few)
 
 -- ---- they can be written
 
 pub reference_fits : (stamp : Stamp) (place : ℕ) → place < 15 → reference_at stamp place < 2 ^ 32 - 1
 reference_fits stamp place lt = omega (arith, lt)
 
-entry_good : (stamp : Stamp) (place size : ℕ) → place < 15 → size < 2 ^ 64 → IsDiskRow (new_entry stamp place size)
+entry_good : (revision : Revision) (stamp : Stamp) (place size : ℕ) → place < 15 → size < 2 ^ 64 → IsDiskRow (new_entry revision stamp place size)
 unfolding new_entry_bytes placed
-entry_good stamp place size lt fits =
-    let fields = disk_fields (named_entry stamp place size) in
-    let within : AreWithin (length new_entry_bytes) (places fields) = within_from_test 64 (places fields) refl in (
+entry_good revision stamp place size lt fits =
+    let fields = disk_fields (named_entry revision stamp place size) in
+    let within : AreWithin (length (new_entry_bytes revision)) (places fields) = within_from_test 64 (places fields) refl in (
       record {
         fields_fit = (refl, (omega (arith, reference_fits stamp place lt), (omega arith, (omega arith, (omega (arith, fits), tt)))));
-        others_clear = cleared-cleared (places fields) new_entry_bytes within;
+        others_clear = cleared-cleared (places fields) (new_entry_bytes revision) within;
       },
-      (cleared_outside (places fields) new_entry_bytes within).size,
+      (cleared_outside (places fields) (new_entry_bytes revision) within).size,
       refl,
     )
 
@@ -70,46 +71,46 @@ unused_good : (count : ℕ) → AllByRecursion IsDiskRow (replicate count (Unuse
 unused_good zero = tt
 unused_good (suc count) = ((refl, refl), unused_good count)
 
-rows_good_from : (stamp : Stamp) (place : ℕ) (sizes : List ℕ) (unused : ℕ) → place + length sizes ≤ 15 → ((i : ℕ) → get_or sizes i 0 < 2 ^ 64)
-    → AllByRecursion IsDiskRow (entries_from stamp place sizes ++ replicate unused (Unused (replicate 64 255)))
-rows_good_from stamp place [] unused few fit = unused_good unused
-rows_good_from stamp place (size ∷ sizes) unused few fit =
-    (entry_good stamp place size (omega (arith, few)) (fit 0), rows_good_from stamp (suc place) sizes unused (omega (arith, few)) (λ i. fit (suc i)))
+rows_good_from : (revision : Revision) (stamp : Stamp) (place : ℕ) (sizes : List ℕ) (unused : ℕ) → place + length sizes ≤ 15 → ((i : ℕ) → get_or sizes i 0 < 2 ^ 64)
+    → AllByRecursion IsDiskRow (entries_from revision stamp place sizes ++ replicate unused (Unused (replicate 64 255)))
+rows_good_from revision stamp place [] unused few fit = unused_good unused
+rows_good_from revision stamp place (size ∷ sizes) unused few fit =
+    (entry_good revision stamp place size (omega (arith, few)) (fit 0), rows_good_from revision stamp (suc place) sizes unused (omega (arith, few)) (λ i. fit (suc i)))
 
-pub rows_good : (stamp : Stamp) (sizes : List ℕ) → length sizes ≤ 15 → ((i : ℕ) → get_or sizes i 0 < 2 ^ 64) → AllByRecursion IsDiskRow (new_rows stamp sizes)
-rows_good stamp sizes few fit = rows_good_from stamp 0 sizes (15 - length sizes) (omega (arith, few)) fit
+pub rows_good : (revision : Revision) (stamp : Stamp) (sizes : List ℕ) → length sizes ≤ 15 → ((i : ℕ) → get_or sizes i 0 < 2 ^ 64) → AllByRecursion IsDiskRow (new_rows revision stamp sizes)
+rows_good revision stamp sizes few fit = rows_good_from revision stamp 0 sizes (15 - length sizes) (omega (arith, few)) fit
 
 -- ---- their references
 
 -- the rows of disks from a place on, and then so many unused ones
-abbrev rows_from : Stamp → (place : ℕ) → List ℕ → (unused : ℕ) → List DiskRow
-rows_from stamp place sizes unused = entries_from stamp place sizes ++ replicate unused (Unused (replicate 64 255))
+abbrev rows_from : Revision → Stamp → (place : ℕ) → List ℕ → (unused : ℕ) → List DiskRow
+rows_from revision stamp place sizes unused = entries_from revision stamp place sizes ++ replicate unused (Unused (replicate 64 255))
 
 none_of_unused : (unused : ℕ) → filter_map reference_of (replicate unused (Unused (replicate 64 255))) ≡ []
 none_of_unused zero = refl
 none_of_unused (suc unused) = none_of_unused unused
 
-each_names : (stamp : Stamp) (place : ℕ) (sizes : List ℕ) (unused : ℕ) → place + length sizes ≤ 15 → AllByRecursion (λ name. is_no_disk name ≡ false) (filter_map reference_of (rows_from stamp place sizes unused))
-each_names stamp place [] unused few = subst (AllByRecursion (λ name. is_no_disk name ≡ false)) (sym (none_of_unused unused)) tt
-each_names stamp place (size ∷ sizes) unused few = (
+each_names : (revision : Revision) (stamp : Stamp) (place : ℕ) (sizes : List ℕ) (unused : ℕ) → place + length sizes ≤ 15 → AllByRecursion (λ name. is_no_disk name ≡ false) (filter_map reference_of (rows_from revision stamp place sizes unused))
+each_names revision stamp place [] unused few = subst (AllByRecursion (λ name. is_no_disk name ≡ false)) (sym (none_of_unused unused)) tt
+each_names revision stamp place (size ∷ sizes) unused few = (
   ne_eqb (reference_at stamp place) 0xFFFF_FFFF (λ (e : reference_at stamp place ≡ 0xFFFF_FFFF). absurd (omega (arith, e, reference_fits stamp place (omega (arith, few))))),
-  each_names stamp (suc place) sizes unused (omega (arith, few)),
+  each_names revision stamp (suc place) sizes unused (omega (arith, few)),
 )
 
-later_differ : (stamp : Stamp) (one place : ℕ) (sizes : List ℕ) (unused : ℕ) → one < place → AllByRecursion (λ name. eqb (reference_at stamp one) name ≡ false) (filter_map reference_of (rows_from stamp place sizes unused))
-later_differ stamp one place [] unused lt = subst (AllByRecursion (λ name. eqb (reference_at stamp one) name ≡ false)) (sym (none_of_unused unused)) tt
-later_differ stamp one place (size ∷ sizes) unused lt = (
+later_differ : (revision : Revision) (stamp : Stamp) (one place : ℕ) (sizes : List ℕ) (unused : ℕ) → one < place → AllByRecursion (λ name. eqb (reference_at stamp one) name ≡ false) (filter_map reference_of (rows_from revision stamp place sizes unused))
+later_differ revision stamp one place [] unused lt = subst (AllByRecursion (λ name. eqb (reference_at stamp one) name ≡ false)) (sym (none_of_unused unused)) tt
+later_differ revision stamp one place (size ∷ sizes) unused lt = (
   ne_eqb (reference_at stamp one) (reference_at stamp place) (λ (e : reference_at stamp one ≡ reference_at stamp place). absurd (omega (arith, e, lt))),
-  later_differ stamp one (suc place) sizes unused (omega (arith, lt)),
+  later_differ revision stamp one (suc place) sizes unused (omega (arith, lt)),
 )
 
-all_differ : (stamp : Stamp) (place : ℕ) (sizes : List ℕ) (unused : ℕ) → IsDistinct eqb (filter_map reference_of (rows_from stamp place sizes unused))
+all_differ : (revision : Revision) (stamp : Stamp) (place : ℕ) (sizes : List ℕ) (unused : ℕ) → IsDistinct eqb (filter_map reference_of (rows_from revision stamp place sizes unused))
 unfolding IsDistinct
-all_differ stamp place [] unused = subst (IsDistinct eqb) (sym (none_of_unused unused)) tt
-all_differ stamp place (size ∷ sizes) unused = (later_differ stamp place (suc place) sizes unused (omega arith), all_differ stamp (suc place) sizes unused)
+all_differ revision stamp place [] unused = subst (IsDistinct eqb) (sym (none_of_unused unused)) tt
+all_differ revision stamp place (size ∷ sizes) unused = (later_differ revision stamp place (suc place) sizes unused (omega arith), all_differ revision stamp (suc place) sizes unused)
 
-pub have_references : (stamp : Stamp) (sizes : List ℕ) → length sizes ≤ 15 → HaveReferences (new_rows stamp sizes)
-have_references stamp sizes few = record {
-  each_names = each_names stamp 0 sizes (15 - length sizes) (omega (arith, few));
-  all_differ = all_differ stamp 0 sizes (15 - length sizes);
+pub have_references : (revision : Revision) (stamp : Stamp) (sizes : List ℕ) → length sizes ≤ 15 → HaveReferences (new_rows revision stamp sizes)
+have_references revision stamp sizes few = record {
+  each_names = each_names revision stamp 0 sizes (15 - length sizes) (omega (arith, few));
+  all_differ = all_differ revision stamp 0 sizes (15 - length sizes);
 }

@@ -7,6 +7,9 @@ use Rattle.ddf_seal.specs.Seal.{seal_place}
 use Rattle.ddf_seal.specs.Unread.{Fits, placed, places, u32s_at}
 use Rattle.ddf_seal.proofs.Same.{AreWithin, cleared-cleared, cleared_outside, within_from_test}
 use Rattle.ddf_header.specs.declared.kind.HeaderKind.TheVariants.{Primary}
+use Rattle.ddf_header.specs.declared.kind.Revision.{Revision}
+use Rattle.ddf_header.specs.declared.kind.Revision.TheVariants.{R100, R120, R200}
+use Rattle.ddf_header.specs.Layout.{revision_text}
 use Rattle.ddf_header.specs.Geometry.{geometry_fault, is_bad_section, is_long, is_maximum, is_member_maximum, is_short, least_bytes, meets, section_numbers}
 use Rattle.ddf_header.specs.Header.{IsHeader, IsWritable, are_header_places, header_fields, is_open_flag}
 use Rattle.ddf_tables.specs.Sectors.{IsController, IsDiskData, controller_fields, disk_data_fields}
@@ -37,15 +40,15 @@ length-sector_bytes : length new_sector_bytes ≡ 512
 unfolding new_sector_bytes
 length-sector_bytes = refl
 
-header_within : (stamp : Stamp) (size : ℕ) → AreWithin (length new_header_bytes) (seal_place ∷ places (header_fields (named_header stamp size)))
-header_within stamp size =
-    let spans = seal_place ∷ places (header_fields (named_header stamp size)) in
+header_within : (revision : Revision) (stamp : Stamp) (size : ℕ) → AreWithin (length new_header_bytes) (seal_place ∷ places (header_fields (named_header revision stamp size)))
+header_within revision stamp size =
+    let spans = seal_place ∷ places (header_fields (named_header revision stamp size)) in
     subst (λ n. AreWithin n spans) (sym length-header_bytes) (within_from_test 512 spans refl)
 
-pub length-header_rest : (stamp : Stamp) (size : ℕ) → length (new_header stamp size).rest ≡ 512
-length-header_rest stamp size =
-    let spans = seal_place ∷ places (header_fields (named_header stamp size)) in
-    (cleared_outside spans new_header_bytes (header_within stamp size)).size ∙ length-header_bytes
+pub length-header_rest : (revision : Revision) (stamp : Stamp) (size : ℕ) → length (new_header revision stamp size).rest ≡ 512
+length-header_rest revision stamp size =
+    let spans = seal_place ∷ places (header_fields (named_header revision stamp size)) in
+    (cleared_outside spans new_header_bytes (header_within revision stamp size)).size ∙ length-header_bytes
 
 no_geometry_fault : (size : ℕ) → geometry_fault (new_geometry size) ≡ None
 unfolding geometry_fault is_bad_section is_long is_maximum is_member_maximum is_short least_bytes meets
@@ -59,9 +62,9 @@ places_good size large fits =
     let second = ne_eqb (size - 81) (2 ^ 64 - 1) (λ (e : size - 81 ≡ 2 ^ 64 - 1). absurd (omega (arith, e, fits))) in
     rw (apart, first, second) refl
 
-header_is : (stamp : Stamp) (size : ℕ) → 33000 ≤ size → size < 2 ^ 64 → IsHeader Primary (new_header stamp size)
+header_is : (revision : Revision) (stamp : Stamp) (size : ℕ) → 33000 ≤ size → size < 2 ^ 64 → IsHeader Primary (new_header revision stamp size)
 unfolding is_open_flag
-header_is stamp size large fits = record {
+header_is revision stamp size large fits = record {
   of_kind = refl;
   has_flag = refl;
   has_places = places_good size large fits;
@@ -98,16 +101,22 @@ sections_fit size = (
   ),
 )
 
-header_writable : (stamp : Stamp) (size : ℕ) → 33000 ≤ size → size < 2 ^ 64 → IsWritable Primary (new_header stamp size)
-header_writable stamp size large fits =
-    let spans = seal_place ∷ places (header_fields (named_header stamp size)) in
+-- a revision is written as eight characters
+text_long : (revision : Revision) → length (revision_text revision) ≡ 8
+text_long R100 = refl
+text_long R120 = refl
+text_long R200 = refl
+
+header_writable : (revision : Revision) (stamp : Stamp) (size : ℕ) → 33000 ≤ size → size < 2 ^ 64 → IsWritable Primary (new_header revision stamp size)
+header_writable revision stamp size large fits =
+    let spans = seal_place ∷ places (header_fields (named_header revision stamp size)) in
     record {
-      is_header = header_is stamp size large fits;
+      is_header = header_is revision stamp size large fits;
       is_record = record {
         fields_fit = (
           refl,
           (
-            refl,
+            text_long revision,
             (
               omega arith,
               (
@@ -129,9 +138,9 @@ header_writable stamp size large fits =
             ),
           ),
         );
-        others_clear = cleared-cleared spans new_header_bytes (header_within stamp size);
+        others_clear = cleared-cleared spans new_header_bytes (header_within revision stamp size);
       };
-      rest_size = length-header_rest stamp size;
+      rest_size = length-header_rest revision stamp size;
     }
 
 sections_near : (size : ℕ) → AllByRecursion IsNear (new_geometry size).sections
@@ -163,19 +172,19 @@ disk_data_can stamp place lt =
 -- ---- the copy
 
 -- the tables and the log of a new copy, as the calls that make them promise them
-pub record AreMade (stamp : Stamp) (sizes : List ℕ) : Type 0 where
-  pub disks_can : IsDiskTable 15 (new_disks stamp sizes)
-  pub disks_size : length (new_disks stamp sizes).rest ≡ 1024
+pub record AreMade (revision : Revision) (stamp : Stamp) (sizes : List ℕ) : Type 0 where
+  pub disks_can : IsDiskTable 15 (new_disks revision stamp sizes)
+  pub disks_size : length (new_disks revision stamp sizes).rest ≡ 1024
   pub arrays_can : IsArrayTable 15 new_arrays
   pub arrays_size : length new_arrays.rest ≡ 1024
   pub log_can : IsLog new_log
   pub log_size : length new_log.rest ≡ 512
 
-copy_is : (stamp : Stamp) (sizes : List ℕ) (place : ℕ) → AreMade stamp sizes → place < 15 → 33000 ≤ get_or sizes place 0 → get_or sizes place 0 < 2 ^ 64 → CanBeCopy (new_copy stamp sizes place)
-copy_is stamp sizes place made lt large fits =
+copy_is : (revision : Revision) (stamp : Stamp) (sizes : List ℕ) (place : ℕ) → AreMade revision stamp sizes → place < 15 → 33000 ≤ get_or sizes place 0 → get_or sizes place 0 < 2 ^ 64 → CanBeCopy (new_copy revision stamp sizes place)
+copy_is revision stamp sizes place made lt large fits =
     let size = get_or sizes place 0 in
     record {
-      header_can = header_writable stamp size large fits;
+      header_can = header_writable revision stamp size large fits;
       is_closed = refl;
       controller_can = controller_can stamp;
       disks_can = made.disks_can;
@@ -189,29 +198,29 @@ copy_is stamp sizes place made lt large fits =
       has_log = (made.log_can, made.log_size, omega arith);
     }
 
-copy_has_room : (stamp : Stamp) (sizes : List ℕ) (place : ℕ) (which : Which) → 33000 ≤ get_or sizes place 0
-    → room_fault (get_or sizes place 0 - 1) (place_of which (anchor_header (new_copy stamp sizes place))) (place_of (other_of which) (anchor_header (new_copy stamp sizes place))) (new_geometry (get_or sizes place 0)).sections ≡ None
-copy_has_room stamp sizes place whiches.Primary large =
+copy_has_room : (revision : Revision) (stamp : Stamp) (sizes : List ℕ) (place : ℕ) (which : Which) → 33000 ≤ get_or sizes place 0
+    → room_fault (get_or sizes place 0 - 1) (place_of which (anchor_header (new_copy revision stamp sizes place))) (place_of (other_of which) (anchor_header (new_copy revision stamp sizes place))) (new_geometry (get_or sizes place 0)).sections ≡ None
+copy_has_room revision stamp sizes place whiches.Primary large =
     let size = get_or sizes place 0 in
     has_room (size - 1) (size - 41) (size - 81) (new_geometry size).sections
     (record { own_ends = omega (arith, large); other_ends = omega (arith, large); are_apart = inl (omega (arith, large)) }) (sections_near size)
-copy_has_room stamp sizes place whiches.Secondary large =
+copy_has_room revision stamp sizes place whiches.Secondary large =
     let size = get_or sizes place 0 in
     has_room (size - 1) (size - 81) (size - 41) (new_geometry size).sections
     (record { own_ends = omega (arith, large); other_ends = omega (arith, large); are_apart = inr (omega (arith, large)) }) (sections_near size)
 
-copy_has_gate : (stamp : Stamp) (sizes : List ℕ) (place : ℕ) (which : Which) → CanBeCopy (new_copy stamp sizes place) → 33000 ≤ get_or sizes place 0
-    → gate_fault (get_or sizes place 0) (anchor_header (new_copy stamp sizes place)) which (closed_header (new_copy stamp sizes place) which) (header_bytes (closed_header (new_copy stamp sizes place) which)) ≡ None
+copy_has_gate : (revision : Revision) (stamp : Stamp) (sizes : List ℕ) (place : ℕ) (which : Which) → CanBeCopy (new_copy revision stamp sizes place) → 33000 ≤ get_or sizes place 0
+    → gate_fault (get_or sizes place 0) (anchor_header (new_copy revision stamp sizes place)) which (closed_header (new_copy revision stamp sizes place) which) (header_bytes (closed_header (new_copy revision stamp sizes place) which)) ≡ None
 unfolding gate_fault
-copy_has_gate stamp sizes place which is large =
-    rw (anchor_shares (new_copy stamp sizes place) which is (length-header_rest stamp (get_or sizes place 0)), copy_has_room stamp sizes place which large) refl
+copy_has_gate revision stamp sizes place which is large =
+    rw (anchor_shares (new_copy revision stamp sizes place) which is (length-header_rest revision stamp (get_or sizes place 0)), copy_has_room revision stamp sizes place which large) refl
 
 copy_in_place : (copy : DiskCopy) (which : Which) → place_of which copy.header ≡ place_of which (anchor_header copy)
 copy_in_place copy whiches.Primary = refl
 copy_in_place copy whiches.Secondary = refl
 
-pub copy_is_under : (stamp : Stamp) (sizes : List ℕ) (place : ℕ) → AreMade stamp sizes → place < 15 → 33000 ≤ get_or sizes place 0 → get_or sizes place 0 < 2 ^ 64
-    → IsUnder (get_or sizes place 0) (anchor_header (new_copy stamp sizes place)) (new_copy stamp sizes place)
-copy_is_under stamp sizes place made lt large fits =
-    let is = copy_is stamp sizes place made lt large fits in
-    record { is_copy = is; in_place = λ which. copy_in_place (new_copy stamp sizes place) which; has_gate = λ which. copy_has_gate stamp sizes place which is large }
+pub copy_is_under : (revision : Revision) (stamp : Stamp) (sizes : List ℕ) (place : ℕ) → AreMade revision stamp sizes → place < 15 → 33000 ≤ get_or sizes place 0 → get_or sizes place 0 < 2 ^ 64
+    → IsUnder (get_or sizes place 0) (anchor_header (new_copy revision stamp sizes place)) (new_copy revision stamp sizes place)
+copy_is_under revision stamp sizes place made lt large fits =
+    let is = copy_is revision stamp sizes place made lt large fits in
+    record { is_copy = is; in_place = λ which. copy_in_place (new_copy revision stamp sizes place) which; has_gate = λ which. copy_has_gate revision stamp sizes place which is large }

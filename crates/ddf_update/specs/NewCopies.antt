@@ -1,5 +1,6 @@
--- The copies of a new group's disks (profile).
+-- The copies of a new group's disks, by the revision of the standard that their headers have (profile).
 use Rattle.std.specs.Prelude.{ℕ, suc, ◌+◌, ◌-◌, ◌/◌, ◌%◌, ◌^◌, List, [], ◌∷◌, ◌++◌, length, map, replicate, slice_index, Some, false}
+use Rattle.std.specs.Int.{w16, to_be_bytes}
 use Rattle.ddf_bytes.specs.declared.guid.GuidKind.TheVariants as kinds
 use Rattle.ddf_bytes.specs.declared.stamp.Stamp.{Stamp}
 use Rattle.ddf_bytes.specs.Guids.{new_guid_bytes}
@@ -9,7 +10,8 @@ use Rattle.ddf_seal.specs.Unread.{cleared, placed, places}
 use Rattle.ddf_header.specs.declared.geometry.Section.{Section}
 use Rattle.ddf_header.specs.declared.geometry.Geometry.{Geometry}
 use Rattle.ddf_header.specs.declared.kind.HeaderKind.TheVariants.{Primary}
-use Rattle.ddf_header.specs.declared.kind.Revision.TheVariants.{R200}
+use Rattle.ddf_header.specs.declared.kind.Revision.{Revision}
+use Rattle.ddf_header.specs.declared.kind.Revision.TheVariants.{R100, R120, R200}
 use Rattle.ddf_header.specs.declared.reading.Header.{Header}
 use Rattle.ddf_header.specs.Header.{unread}
 use Rattle.ddf_tables.specs.declared.controller.Controller.{Controller}
@@ -66,11 +68,11 @@ new_geometry size = record {
 unfoldable pub new_header_bytes : List ℕ
 new_header_bytes = placed (replicate 512 255) 49 (0 ∷ 0 ∷ [])
 
-abbrev pub named_header : Stamp → (size : ℕ) → Header
-named_header stamp size = record {
+abbrev pub named_header : Revision → Stamp → (size : ℕ) → Header
+named_header revision stamp size = record {
   kind = Primary;
   guid = group_of stamp;
-  revision = R200;
+  revision = revision;
   sequence = 1;
   timestamp = timestamp_of stamp;
   openness = 0;
@@ -80,8 +82,8 @@ named_header stamp size = record {
   rest = new_header_bytes;
 }
 
-abbrev pub new_header : Stamp → (size : ℕ) → Header
-new_header stamp size = record (named_header stamp size) { rest = unread (named_header stamp size) new_header_bytes }
+abbrev pub new_header : Revision → Stamp → (size : ℕ) → Header
+new_header revision stamp size = record (named_header revision stamp size) { rest = unread (named_header revision stamp size) new_header_bytes }
 
 -- ---- the records
 
@@ -101,38 +103,44 @@ named_disk_data stamp place = record { guid = disk_guid stamp place; reference =
 abbrev pub new_disk_data : Stamp → (place : ℕ) → DiskData
 new_disk_data stamp place = record (named_disk_data stamp place) { rest = cleared (seal_place ∷ places (disk_data_fields (named_disk_data stamp place))) new_sector_bytes }
 
--- A new disk is online, and has a block size of 512 behind its path.
-unfoldable pub new_entry_bytes : List ℕ
-new_entry_bytes = placed (replicate 64 255) 58 (2 ∷ 0 ∷ [])
+-- the block size in a disk's entry: it is given under the latest revision alone
+abbrev pub block_size_of : Revision → ℕ
+block_size_of R200 = 512
+block_size_of R100 = 0xFFFF
+block_size_of R120 = 0xFFFF
 
-abbrev pub named_entry : Stamp → (place size : ℕ) → DiskEntry
-named_entry stamp place size = record {
+-- A new disk is online, and has its block size behind its path.
+unfoldable pub new_entry_bytes : Revision → List ℕ
+new_entry_bytes revision = placed (replicate 64 255) 58 (to_be_bytes w16 (block_size_of revision))
+
+abbrev pub named_entry : Revision → Stamp → (place size : ℕ) → DiskEntry
+named_entry revision stamp place size = record {
   guid = disk_guid stamp place;
   reference = reference_at stamp place;
   kind = record { 0 = 0 };
   state = record { 0 = 1 };
   size = size - 32849;
-  rest = new_entry_bytes;
+  rest = new_entry_bytes revision;
 }
 
-abbrev pub new_entry : Stamp → (place size : ℕ) → DiskRow
-new_entry stamp place size = disk_rows.Entry (record (named_entry stamp place size) { rest = cleared (places (disk_fields (named_entry stamp place size))) new_entry_bytes })
+abbrev pub new_entry : Revision → Stamp → (place size : ℕ) → DiskRow
+new_entry revision stamp place size = disk_rows.Entry (record (named_entry revision stamp place size) { rest = cleared (places (disk_fields (named_entry revision stamp place size))) (new_entry_bytes revision) })
 
 -- the entries of disks of these sizes, from a place on
-abbrev pub entries_from : Stamp → (place : ℕ) → List ℕ → List DiskRow
-entries_from stamp place [] = []
-entries_from stamp place (size ∷ sizes) = new_entry stamp place size ∷ entries_from stamp (suc place) sizes
+abbrev pub entries_from : Revision → Stamp → (place : ℕ) → List ℕ → List DiskRow
+entries_from revision stamp place [] = []
+entries_from revision stamp place (size ∷ sizes) = new_entry revision stamp place size ∷ entries_from revision stamp (suc place) sizes
 
 -- a row for each disk, and then unused ones, 15 in all
-abbrev pub new_rows : Stamp → List ℕ → List DiskRow
-new_rows stamp sizes = entries_from stamp 0 sizes ++ replicate (15 - length sizes) (disk_rows.Unused (replicate 64 255))
+abbrev pub new_rows : Revision → Stamp → List ℕ → List DiskRow
+new_rows revision stamp sizes = entries_from revision stamp 0 sizes ++ replicate (15 - length sizes) (disk_rows.Unused (replicate 64 255))
 
 -- the table of disks before it has its rows
 unfoldable pub blank_disks : TableValue DiskRow
 blank_disks = blank_table (disk_rows.Unused (replicate 64 255)) 15 1024
 
-abbrev pub new_disks : Stamp → List ℕ → TableValue DiskRow
-new_disks stamp sizes = replaced_table is_used_disk blank_disks (new_rows stamp sizes)
+abbrev pub new_disks : Revision → Stamp → List ℕ → TableValue DiskRow
+new_disks revision stamp sizes = replaced_table is_used_disk blank_disks (new_rows revision stamp sizes)
 
 -- a table of no array
 unfoldable pub new_arrays : TableValue ArrayRow
@@ -159,11 +167,11 @@ abbrev pub new_slots : Stamp → List RecordSlot
 new_slots stamp = slots.Notes (new_notes stamp) ∷ replicate 15 unused_slot
 
 -- The copy of the disk at a place among disks of these sizes.
-abbrev pub new_copy : Stamp → (sizes : List ℕ) → (place : ℕ) → DiskCopy
-new_copy stamp sizes place = record {
-  header = new_header stamp (slice_index sizes place);
+abbrev pub new_copy : Revision → Stamp → (sizes : List ℕ) → (place : ℕ) → DiskCopy
+new_copy revision stamp sizes place = record {
+  header = new_header revision stamp (slice_index sizes place);
   controller = new_controller stamp;
-  disks = new_disks stamp sizes;
+  disks = new_disks revision stamp sizes;
   arrays = new_arrays;
   slots = new_slots stamp;
   disk_data = new_disk_data stamp place;

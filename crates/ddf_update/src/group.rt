@@ -16,23 +16,25 @@ use crate::prepared::{Mode, Prepared, prepare};
 use ddf_bay::{Bay, DiskFault};
 use ddf_bytes::{NoMemory, Stamp};
 use ddf_copy::Which;
+use ddf_header::Revision;
 use std::alloc::Global;
 
-/// Makes the first copies of a new group's disks, each a slot and its size in sectors (profile).
+/// Makes the first copies of a new group's disks, each a slot and its size in sectors, with headers of a revision (profile).
 pub fn found(
     alloc: Global,
     disks: &[(usize, u64)],
+    revision: Revision,
     stamp: &Stamp,
 ) -> Result<Vec<Prepared>, NoMemory>
     requires few { length disks.now ≤ 15 }
     requires large { (i : ℕ) → i < length disks.now → 33000 ≤ slice_index (sizes_of disks.now) i }
     ensures counted { IfOk result (λ updates. length updates.items ≡ length disks.now) }
-    ensures first { IfOk result (λ updates. AreFirst (sizes_of disks.now) (new_copy stamp.now (sizes_of disks.now)) updates.items) }
+    ensures first { IfOk result (λ updates. AreFirst (sizes_of disks.now) (new_copy revision stamp.now (sizes_of disks.now)) updates.items) }
 {
     let sizes = sizes_of(alloc, disks)?;
     let mut updates = Vec::with_capacity(alloc, sizes.len())?;
     for place in 0..sizes.len() {
-        updates.push(first_update(alloc, stamp, &sizes, place)?)?;
+        updates.push(first_update(alloc, revision, stamp, &sizes, place)?)?;
     }
     Ok(updates)
 }
@@ -40,6 +42,7 @@ pub fn found(
 /// Makes the first copies of the disk at a place.
 fn first_update(
     alloc: Global,
+    revision: Revision,
     stamp: &Stamp,
     sizes: &[u64],
     place: usize,
@@ -47,10 +50,10 @@ fn first_update(
     requires few { length sizes.now ≤ 15 }
     requires within { place < length sizes.now }
     requires large { (i : ℕ) → i < length sizes.now → 33000 ≤ slice_index sizes.now i }
-    ensures prepared { IfOk result (IsPrepared (new_copy stamp.now sizes.now place) Secondary Found) }
-    ensures under { OnOk result (IsUnder (slice_index sizes.now place) (anchor_header (new_copy stamp.now sizes.now place)) (new_copy stamp.now sizes.now place)) }
+    ensures prepared { IfOk result (IsPrepared (new_copy revision stamp.now sizes.now place) Secondary Found) }
+    ensures under { OnOk result (IsUnder (slice_index sizes.now place) (anchor_header (new_copy revision stamp.now sizes.now place)) (new_copy revision stamp.now sizes.now place)) }
 {
-    let copy = new_copy(alloc, stamp, sizes, place)?;
+    let copy = new_copy(alloc, revision, stamp, sizes, place)?;
     prepare(alloc, &copy, Which::Secondary, Mode::Found)
 }
 

@@ -20,4 +20,5 @@ pub use ddf_bay::DiskFault;
 pub use disk::write_disk;
 pub use gate::Gate;
 pub use group::{found, found_disks};
+pub use new_copy::{LEAST_SECTORS, PRIMARY_BACK, SECONDARY_BACK, new_geometry};
 pub use prepared::{Mode, Prepared, prepare};

@@ -10,6 +10,7 @@ ghost use Rattle.ddf_tables.specs.Arrays.{IsArrayTable};
 ghost use Rattle.ddf_tables.specs.BadBlocks.{IsLog};
 ghost use Rattle.ddf_copy.specs.Headers.{IsUnder, anchor_header};
 ghost use Rattle.ddf_update.specs.NewCopies.{
+  block_size_of,
   disk_guid,
   entries_from,
   new_arrays,
@@ -59,14 +60,17 @@ const SLOT: usize = 1024;
 /// The sectors of the workspace.
 const WORKSPACE: u32 = 32768;
 
-/// Sectors from the primary header to the end of the disk.
-const PRIMARY: u64 = 41;
+/// The fewest sectors of a new disk (profile).
+pub const LEAST_SECTORS: u64 = 33_000;
 
-/// Sectors from the secondary header to the end of the disk.
-const SECONDARY: u64 = 81;
+/// Sectors from the primary header of a new disk to its end (profile).
+pub const PRIMARY_BACK: u64 = 41;
+
+/// Sectors from the secondary header of a new disk to its end (profile).
+pub const SECONDARY_BACK: u64 = 81;
 
 /// Sectors from the workspace to the end of the disk.
-const WORKSPACE_BACK: u64 = SECONDARY + WORKSPACE as u64;
+const WORKSPACE_BACK: u64 = SECONDARY_BACK + WORKSPACE as u64;
 
 /// Where the GUID of a controller or a disk stands in its sector.
 const GUID: Span = Span { at: 8, length: 24 };
@@ -94,9 +98,10 @@ const ENTRY: [Span; 1] = [Span { at: 0, length: 40 }];
 /// Where the block size stands in an entry.
 const BLOCK_SIZE: usize = 58;
 
-/// The copy of the disk at a place among the disks of a new group, by the sizes of all in sectors (profile).
+/// The copy of the disk at a place among the disks of a new group of a revision, by the sizes of all in sectors (profile).
 pub(crate) fn new_copy(
     alloc: Global,
+    revision: Revision,
     stamp: &Stamp,
     sizes: &[u64],
     place: usize,
@@ -104,16 +109,16 @@ pub(crate) fn new_copy(
     requires few { length sizes.now ≤ 15 }
     requires within { place < length sizes.now }
     requires large { (i : ℕ) → i < length sizes.now → 33000 ≤ slice_index sizes.now i }
-    ensures exact { IfOk result (λ copy. copy ≡ new_copy stamp.now sizes.now place) }
+    ensures exact { IfOk result (λ copy. copy ≡ new_copy revision stamp.now sizes.now place) }
     // It can be written in both places of its disk.
     ensures whole { IfOk result (λ copy. IsUnder (slice_index sizes.now place) (anchor_header copy) copy) }
 {
-    let disks = new_disks(alloc, stamp, sizes)?;
+    let disks = new_disks(alloc, revision, stamp, sizes)?;
     let arrays = new_arrays(alloc)?;
     let slots = new_slots(alloc, stamp)?;
     let log = new_log(alloc)?;
     Ok(DiskCopy {
-        header: new_header(stamp, sizes[place]),
+        header: new_header(revision, stamp, sizes[place]),
         controller: new_controller(stamp),
         disks,
         arrays,
@@ -123,19 +128,19 @@ pub(crate) fn new_copy(
     })
 }
 
-fn new_header(stamp: &Stamp, size: u64) -> Header
+fn new_header(revision: Revision, stamp: &Stamp, size: u64) -> Header
     requires { 33000 ≤ size }
-    ensures { result ≡ new_header stamp.now size }
+    ensures { result ≡ new_header revision stamp.now size }
 {
     Header {
         kind: HeaderKind::Primary,
         guid: new_guid(GuidKind::Group, stamp, 0),
-        revision: Revision::R200,
+        revision,
         sequence: 1,
         timestamp: stamp.timestamp(),
         openness: 0,
-        primary_lba: size - PRIMARY,
-        secondary_lba: size - SECONDARY,
+        primary_lba: size - PRIMARY_BACK,
+        secondary_lba: size - SECONDARY_BACK,
         geometry: new_geometry(size),
         rest: header_rest(),
     }
@@ -158,7 +163,8 @@ fn blank_sector(fields: &[Span]) -> Sector
     sector
 }
 
-fn new_geometry(size: u64) -> Geometry
+/// The geometry of a new disk of so many sectors (profile).
+pub fn new_geometry(size: u64) -> Geometry
     requires { 33000 ≤ size }
     ensures { result ≡ new_geometry size }
 {
@@ -226,44 +232,59 @@ fn reference_at(stamp: &Stamp, place: usize) -> u32
 }
 
 #[tactic(auto, unfolding(crate::specs::NewCopies::blank_disks))]
-fn new_disks(alloc: Global, stamp: &Stamp, sizes: &[u64]) -> Result<DiskTable, NoMemory>
+fn new_disks(
+    alloc: Global,
+    revision: Revision,
+    stamp: &Stamp,
+    sizes: &[u64],
+) -> Result<DiskTable, NoMemory>
     requires few { length sizes.now ≤ 15 }
     requires large { (i : ℕ) → i < length sizes.now → 33000 ≤ slice_index sizes.now i }
-    ensures exact { IfOk result (λ table. table ≡ new_disks stamp.now sizes.now) }
+    ensures exact { IfOk result (λ table. table ≡ new_disks revision stamp.now sizes.now) }
     ensures writable { IfOk result (IsDiskTable 15) }
     ensures size { IfOk result (λ table. length table.rest ≡ 1024) }
 {
     let table = DiskTable::blank(alloc, ROWS, TABLE_SECTORS)?;
-    let rows = new_rows(alloc, stamp, sizes)?;
+    let rows = new_rows(alloc, revision, stamp, sizes)?;
     Ok(table.replaced(rows))
 }
 
-fn new_rows(alloc: Global, stamp: &Stamp, sizes: &[u64]) -> Result<Vec<DiskRow>, NoMemory>
+fn new_rows(
+    alloc: Global,
+    revision: Revision,
+    stamp: &Stamp,
+    sizes: &[u64],
+) -> Result<Vec<DiskRow>, NoMemory>
     requires few { length sizes.now ≤ 15 }
     requires large { (i : ℕ) → i < length sizes.now → 33000 ≤ slice_index sizes.now i }
-    ensures { IfOk result (λ rows. rows.items ≡ new_rows stamp.now sizes.now) }
+    ensures { IfOk result (λ rows. rows.items ≡ new_rows revision stamp.now sizes.now) }
 {
-    let mut rows = entries(alloc, stamp, sizes)?;
+    let mut rows = entries(alloc, revision, stamp, sizes)?;
     rows.resize(usize::from(ROWS), DiskRow::Unused([0xFF; 64]))?;
     Ok(rows)
 }
 
-fn entries(alloc: Global, stamp: &Stamp, sizes: &[u64]) -> Result<Vec<DiskRow>, NoMemory>
+fn entries(
+    alloc: Global,
+    revision: Revision,
+    stamp: &Stamp,
+    sizes: &[u64],
+) -> Result<Vec<DiskRow>, NoMemory>
     requires few { length sizes.now ≤ 15 }
     requires large { (i : ℕ) → i < length sizes.now → 33000 ≤ slice_index sizes.now i }
-    ensures { IfOk result (λ rows. rows.items ≡ entries_from stamp.now 0 sizes.now) }
+    ensures { IfOk result (λ rows. rows.items ≡ entries_from revision stamp.now 0 sizes.now) }
 {
     let mut rows = Vec::with_capacity(alloc, usize::from(ROWS))?;
     for (place, size) in sizes.iter().enumerate() {
-        rows.push(new_entry(stamp, place, *size))?;
+        rows.push(new_entry(revision, stamp, place, *size))?;
     }
     Ok(rows)
 }
 
-fn new_entry(stamp: &Stamp, place: usize, size: u64) -> DiskRow
+fn new_entry(revision: Revision, stamp: &Stamp, place: usize, size: u64) -> DiskRow
     requires within { place < 15 }
     requires large { 33000 ≤ size }
-    ensures { result ≡ new_entry stamp.now place size }
+    ensures { result ≡ new_entry revision stamp.now place size }
 {
     DiskRow::Entry(DiskEntry {
         guid: disk_guid(stamp, place),
@@ -271,17 +292,27 @@ fn new_entry(stamp: &Stamp, place: usize, size: u64) -> DiskRow
         kind: DiskType(0),
         state: DiskState::ONLINE,
         size: size - WORKSPACE_BACK,
-        rest: entry_rest(),
+        rest: entry_rest(revision),
     })
 }
 
-fn entry_rest() -> [u8; 64]
-    ensures { (entry : DiskEntry) → result ≡ cleared (places (disk_fields entry)) new_entry_bytes }
+fn entry_rest(revision: Revision) -> [u8; 64]
+    ensures { (entry : DiskEntry) → result ≡ cleared (places (disk_fields entry)) (new_entry_bytes revision) }
 {
     let mut rest = [0xFF; 64];
-    put16(&mut rest, BLOCK_SIZE, 512);
+    put16(&mut rest, BLOCK_SIZE, block_size_of(revision));
     clear(&mut rest, &ENTRY);
     rest
+}
+
+/// The block size in a disk's entry: it is given under the latest revision alone.
+fn block_size_of(revision: Revision) -> u16
+    ensures { result ≡ block_size_of revision }
+{
+    match revision {
+        Revision::R200 => 512,
+        Revision::R100 | Revision::R120 => 0xFFFF,
+    }
 }
 
 #[tactic(auto, unfolding(crate::specs::NewCopies::new_arrays))]

@@ -16,9 +16,6 @@ use Rattle.ddf_words.specs.declared.command.Command.TheVariants.{Examine}
 
 -- ---- the words of slots
 
-no_slots : AreSlotWords [] []
-no_slots = record { spelled = refl; within = λ i lt. absurd (omega (arith, lt)); different = λ i j lt le. absurd (omega (arith, le)) }
-
 module _ (words : List Word) (slots : List ℕ) (place : ℕ) (lt : place < length words) (so_far : AreSlotWords slots (take place words)) where
   many : length slots ≡ place
   many = sym (many_slots slots (take place words) so_far) ∙ length-take place words ∙ omega arith

@@ -11,6 +11,7 @@ mod Lists
 mod Guids
 mod Places
 mod Requests
+mod Labels
 mod Grammar
 mod Names
 mod Numbers

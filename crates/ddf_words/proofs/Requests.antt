@@ -6,7 +6,7 @@ use Rattle.ddf_words.proofs.Commands.{examine, label, assemble, name_of, begins_
 use Rattle.ddf_words.proofs.Wishes.{first_word}
 use Rattle.ddf_words.proofs.Places.{begins_itself, wrong_word, wanting_words, wrong_among, wrong_behind}
 use Rattle.ddf_words.specs.Traits.{traits_of}
-use Rattle.ddf_words.specs.Words.{Word, NameSlots, Spells, NamesGroup, SpellOverGroup, SpellsAsked, IsCommand, IsGroupCommand, IsRequest, Begins, GoWrongAt}
+use Rattle.ddf_words.specs.Words.{Word, NameDisks, Spells, NamesGroup, SpellOverGroup, SpellsAsked, IsCommand, IsGroupCommand, IsRequest, Begins, GoWrongAt}
 use Rattle.ddf_words.specs.declared.command.Command.{Command}
 use Rattle.ddf_words.specs.declared.command.Command.TheVariants.{Examine, Label, Assemble}
 
@@ -22,11 +22,11 @@ pub more_words : (words rest : List Word) (next : Word) → words ≡ examine �
 more_words words rest next e = rw e (wrong_word IsCommand (examine ∷ next ∷ rest) 1 (omega arith) (examine_begins 1)
     (λ begun. let e : next ∷ begun.more ≡ [] = examine_alone _ begun.goes_on.command begun.goes_on.spells in cc))
 
--- behind `label`, the words go wrong where the words of slots do
-pub wrong_numbers : (words rest : List Word) (place : ℕ) → words ≡ label ∷ rest → GoWrongAt NameSlots rest place → GoWrongAt IsCommand words (1 + place)
-wrong_numbers words rest place e wrong = rw e (wrong_behind NameSlots IsCommand label rest place
+-- behind `label`, the words go wrong where those of new disks do
+pub wrong_disks : (words rest : List Word) (place : ℕ) → words ≡ label ∷ rest → GoWrongAt NameDisks rest place → GoWrongAt IsCommand words (1 + place)
+wrong_disks words rest place e wrong = rw e (wrong_behind NameDisks IsCommand label rest place
     (λ more is. label_names more is.command is.spells)
-    (λ more is. record { command = Label is.slots; spells = record { numbers = more; parts = refl; are_slots = is.are_slots } })
+    (λ more is. record { command = Label is.style is.slots; spells = record { rest = more; parts = refl; are_disks = is.are_disks } })
     wrong)
 
 -- a command of another name takes a group

@@ -12,6 +12,8 @@ use Rattle.ddf_words.specs.declared.command.Command.{Command}
 use Rattle.ddf_words.specs.declared.command.Command.TheVariants.{Examine, Label, Assemble, Show, Read, Scrub, Change}
 use Rattle.ddf_words.specs.declared.command.CreateElement.{CreateElement}
 use Rattle.ddf_words.specs.declared.command.Creation.{Creation}
+use Rattle.ddf_words.specs.declared.command.DiskStyle.{DiskStyle}
+use Rattle.ddf_words.specs.declared.command.DiskStyle.TheVariants.{Linux, Standard}
 use Rattle.ddf_words.specs.declared.command.SpareWord.{SpareWord}
 use Rattle.ddf_words.specs.declared.command.SpareWord.TheVariants as spares
 use Rattle.ddf_words.specs.declared.command.Wish.{Wish}
@@ -48,11 +50,22 @@ pub record AreSlotWords (slots : List ℕ) (words : List Word) : Type 0 where
   pub within : (i : ℕ) → i < length slots → slice_index_or slots i 0 ≤ 63
   pub different : (i j : ℕ) → i < j → j < length slots → slice_index_or slots i 0 ≢ slice_index_or slots j 0
 
--- The words are `label` and then the numbers of these slots.
-pub record SpellLabel (slots : List ℕ) (words : List Word) : Type 0 where
+-- the words of how new disks are made: none where they are made as the standard says
+abbrev pub style_words : DiskStyle → List Word
+style_words Standard = []
+style_words Linux = codes "linux" ∷ []
+
+-- The words are those of a style, and then the numbers of these slots.
+pub record SpellDisks (style : DiskStyle) (slots : List ℕ) (words : List Word) : Type 0 where
   pub numbers : List Word
-  pub parts : words ≡ codes "label" ∷ numbers
+  pub parts : words ≡ style_words style ++ numbers
   pub are_slots : AreSlotWords slots numbers
+
+-- The words are `label` and then those of new disks.
+pub record SpellLabel (style : DiskStyle) (slots : List ℕ) (words : List Word) : Type 0 where
+  pub rest : List Word
+  pub parts : words ≡ codes "label" ∷ rest
+  pub are_disks : SpellDisks style slots rest
 
 -- The word is this number in decimal, without a sign and without a leading zero, and the number is at most so much.
 pub record SpellsNumber (most number : ℕ) (word : Word) : Type 0 where
@@ -220,7 +233,7 @@ SpellsWish (Fail slot) words = SpellFail slot words
 -- and of each command
 abbrev pub Spells : Command → List Word → Type 0
 Spells Examine words = words ≡ codes "examine" ∷ []
-Spells (Label slots) words = SpellLabel slots words
+Spells (Label style slots) words = SpellLabel style slots words
 Spells Assemble words = words ≡ codes "assemble" ∷ []
 Spells Show words = words ≡ codes "show" ∷ []
 Spells (Read name start count) words = SpellBlocks (codes "read") name start count words
@@ -291,6 +304,12 @@ pub record AreBlocks (command : Word) (words : List Word) : Type 0 where
 pub record NameSlots (words : List Word) : Type 0 where
   pub slots : List ℕ
   pub are_slots : AreSlotWords slots words
+
+-- some new disks are named so
+pub record NameDisks (words : List Word) : Type 0 where
+  pub style : DiskStyle
+  pub slots : List ℕ
+  pub are_disks : SpellDisks style slots words
 
 -- some number of at most so much is spelled so
 pub record IsNumber (most : ℕ) (word : Word) : Type 0 where

@@ -18,6 +18,8 @@ pub enum Command {
     Examine,
     /// Makes the first copies of the disks of a new group. Without slots it takes all.
     Label {
+        /// How the disks are made.
+        style: DiskStyle,
         /// The slots, each from 0 to 63, in the order of the words.
         slots: Seq<u8>,
     },
@@ -41,6 +43,15 @@ pub enum Command {
     },
     /// Changes a group.
     Change(Wish),
+}
+
+/// How the disks of a new group are made.
+#[derive(Clone, Copy)]
+pub enum DiskStyle {
+    /// As the standard says, in its latest revision.
+    Standard,
+    /// As Linux's mdadm takes them: of the revision that it takes, and sealed as it counts checksums.
+    Linux,
 }
 
 /// What a change of a group is asked for.

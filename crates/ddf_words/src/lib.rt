@@ -7,6 +7,7 @@ mod command;
 mod disk_words;
 mod element_words;
 mod ends;
+mod label_words;
 mod level_words;
 mod name_words;
 mod number_words;
@@ -15,6 +16,6 @@ mod slot_words;
 mod traits;
 mod words;
 
-pub use command::{Asked, Command, CreateElement, Creation, SpareWord, Wish};
+pub use command::{Asked, Command, CreateElement, Creation, DiskStyle, SpareWord, Wish};
 pub use traits::Traits;
 pub use words::{MOST_IMAGES, WordFault, asked, image_paths, slot_paths};

@@ -7,7 +7,7 @@ use crate::array_words::{create_of, named_of};
 use crate::block_words::{Blocks, blocks_of};
 use crate::command::{Asked, Command, Wish};
 use crate::disk_words::{fail_of, spare_of};
-use crate::slot_words::slots_of;
+use crate::label_words::label_of;
 use crate::words::WordFault;
 use ddf_bytes::Guid;
 use std::alloc::Global;
@@ -77,8 +77,8 @@ fn command_of(alloc: Global, words: &[String]) -> Result<Command, WordFault>
             [] => Ok(Command::Examine),
             _ => Err(WordFault::Place(1)),
         },
-        "label" => match slots_of(alloc, rest) {
-            Ok(slots) => Ok(Command::Label { slots }),
+        "label" => match label_of(alloc, rest) {
+            Ok(command) => Ok(command),
             Err(WordFault::Place(place)) => Err(WordFault::Place(1 + place)),
             Err(WordFault::Memory) => Err(WordFault::Memory),
         },

@@ -170,3 +170,7 @@ returns-in_default-clause-rest_stretches g c =
     let same : stretches_on (cells_on v c.args.element c.args.position (c.args.start + c.args.at + n) (most - n)) ≡ stretches_on (cells_on v c.args.element c.args.position (c.args.start + (c.args.at + n)) (length c.args.from.now - (c.args.at + n))) =
     ap (λ b. stretches_on (cells_on v c.args.element c.args.position b (most - n))) block ∙ ap (λ m. stretches_on (cells_on v c.args.element c.args.position (c.args.start + (c.args.at + n)) m)) left in
     omega (arith, rest.1, same)
+
+pub returns-in-Err-clause-there : goal.returns-in-Err-clause-there
+returns-in-Err-clause-there g c =
+    run_slot c.args.view.now c.requires.known c.args.element c.args.position c.args.start c.args.at c.run_on-count.result (length c.args.from.now - c.args.at) c.in-Some.first c.run_on-count.ensures (g.B.Bay.disks c.args.bay.now).sizes c.requires.fits

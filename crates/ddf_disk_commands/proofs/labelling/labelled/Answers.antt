@@ -7,7 +7,7 @@ pub found_disks-requires : goal.found_disks-requires
 found_disks-requires g c =
     let first = rw c.deref.ensures.value at c.in-Ok-first_updates.ensures.first in
     let counted = rw c.deref.ensures.value at c.in-Ok-first_updates.ensures.counted in
-    rw (c.deref-2.ensures.value, c.deref-3.ensures.value) (slots_lie _ _ c.args.named.now c.in-Ok.slots.items c.args.stamp.now c.in-Ok-first_updates.updates.items c.in-Ok.ensures.reads c.in-Ok.ensures.slots counted first)
+    rw (c.deref-2.ensures.value, c.deref-3.ensures.value) (slots_lie _ _ c.args.named.now c.in-Ok.slots.items c.args.revision c.args.stamp.now c.in-Ok-first_updates.updates.items c.in-Ok.ensures.reads c.in-Ok.ensures.slots counted first)
 
 pub returns-in-Ok-found_disks-clause-tried : goal.returns-in-Ok-found_disks-clause-tried
 returns-in-Ok-found_disks-clause-tried g c = λ tells.
@@ -15,14 +15,14 @@ returns-in-Ok-found_disks-clause-tried g c = λ tells.
     let counted = rw c.deref.ensures.value at c.in-Ok-first_updates.ensures.counted in
     let founded = rw (c.deref-2.ensures.value, c.deref-3.ensures.value) at (c.in-Ok-found_disks.ensures.founded tells) in
     let none = c.in-Ok.ensures.unrefused tells in
-    (none, label_founded _ _ c.args.named.now c.in-Ok.slots.items c.args.stamp.now c.in-Ok-first_updates.updates.items c.in-Ok.ensures.reads c.in-Ok.ensures.slots counted first _ none founded)
+    (none, label_founded _ _ c.args.named.now c.in-Ok.slots.items c.args.revision c.args.stamp.now c.in-Ok-first_updates.updates.items c.in-Ok.ensures.reads c.in-Ok.ensures.slots counted first _ none founded)
 
 pub returns-in-Ok-found_disks-clause-any_moment : goal.returns-in-Ok-found_disks-clause-any_moment
 returns-in-Ok-found_disks-clause-any_moment g c = λ tells.
     let first = rw c.deref.ensures.value at c.in-Ok-first_updates.ensures.first in
     let counted = rw c.deref.ensures.value at c.in-Ok-first_updates.ensures.counted in
     let step = rw (c.deref-2.ensures.value, c.deref-3.ensures.value) at (c.found_disks.ensures.any_moment tells) in
-    label_stops _ _ c.args.named.now c.in-Ok.slots.items c.args.stamp.now c.in-Ok-first_updates.updates.items c.in-Ok.ensures.reads c.in-Ok.ensures.slots counted first _ (c.in-Ok.ensures.unrefused tells) step
+    label_stops _ _ c.args.named.now c.in-Ok.slots.items c.args.revision c.args.stamp.now c.in-Ok-first_updates.updates.items c.in-Ok.ensures.reads c.in-Ok.ensures.slots counted first _ (c.in-Ok.ensures.unrefused tells) step
 
 pub returns-clause-tried : goal.returns-clause-tried
 returns-clause-tried g c =
@@ -35,4 +35,4 @@ returns-clause-any_moment g c = λ tells.
     let first = rw c.deref.ensures.value at c.in-Ok-first_updates.ensures.first in
     let counted = rw c.deref.ensures.value at c.in-Ok-first_updates.ensures.counted in
     let step = rw (c.deref-2.ensures.value, c.deref-3.ensures.value) at (c.found_disks.ensures.any_moment tells) in
-    label_stops _ _ c.args.named.now c.in-Ok.slots.items c.args.stamp.now c.in-Ok-first_updates.updates.items c.in-Ok.ensures.reads c.in-Ok.ensures.slots counted first _ (c.in-Ok.ensures.unrefused tells) step
+    label_stops _ _ c.args.named.now c.in-Ok.slots.items c.args.revision c.args.stamp.now c.in-Ok-first_updates.updates.items c.in-Ok.ensures.reads c.in-Ok.ensures.slots counted first _ (c.in-Ok.ensures.unrefused tells) step

@@ -7,5 +7,5 @@ use Rattle.ddf_update.proofs.new_copy.entry_rest.Goals as goal
 pub returns : goal.returns
 unfolding new_entry_bytes placed
 returns c = λ entry.
-    let put : c.put16.new.into ≡ new_entry_bytes = c.put16.ensures.written in
-    c.clear.ensures.unread ∙ ap (cleared (record { at = 0; length = 40 } ∷ [])) put ∙ entry_cleared entry
+    let put : c.put16.new.into ≡ new_entry_bytes c.args.revision = rw c.block_size_of.ensures at c.put16.ensures.written in
+    c.clear.ensures.unread ∙ ap (cleared (record { at = 0; length = 40 } ∷ [])) put ∙ entry_cleared c.args.revision entry

@@ -10,4 +10,4 @@ returns c =
     let fifteen : c.from.result ≡ 15 = c.from.ensures in
     let counted : vec_len rows ≡ length rows.items = search rules in
     items ∙ ap (λ n. take n rows.items ++ replicate (n - vec_len rows) (Unused (replicate 64 255))) fifteen
-    ∙ rows_filled c.args.stamp.now c.args.sizes.now rows.items (vec_len rows) c.in_ok-rows.ensures counted c.requires.few
+    ∙ rows_filled c.args.revision c.args.stamp.now c.args.sizes.now rows.items (vec_len rows) c.in_ok-rows.ensures counted c.requires.few

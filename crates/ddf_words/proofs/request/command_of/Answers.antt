@@ -1,7 +1,7 @@
 use Rattle.std.proofs.Common.{◌≡◌, ◌∷◌, ◌+◌, ◌∙◌, Err, sym, ap, string_bytes, arith}
 use Rattle.std.proofs.lemmas.List.{length-map}
 use Rattle.ddf_words.specs.Words.{Word, words_of, IsCommand, GoWrongAt}
-use Rattle.ddf_words.proofs.Requests.{no_command, other_command, more_words, wrong_numbers}
+use Rattle.ddf_words.proofs.Requests.{no_command, other_command, more_words, wrong_disks}
 use Rattle.ddf_words.proofs.Lists.{none_left, some_left}
 use Rattle.ddf_words.proofs.request.command_of.Goals as goal
 
@@ -25,9 +25,9 @@ returns-in_default-rest-clause-place c = λ place e.
 
 -- where the words behind `label` go wrong
 wrong_label : (c : goal.In-Err-Place) → GoWrongAt IsCommand (words_of c.args.words.now) (1 + c.in-Err-Place.place)
-wrong_label c = wrong_numbers (words_of c.args.words.now) (words_of c.in-Some.rest.now) c.in-Err-Place.place
+wrong_label c = wrong_disks (words_of c.args.words.now) (words_of c.in-Some.rest.now) c.in-Err-Place.place
     (ap words_of c.in-Some.ensures.cases.0 ∙ ap (λ (w : Word). w ∷ words_of c.in-Some.rest.now) (sym c.as_str.ensures.value ∙ c.in-label.is))
-    (c.slots_of.ensures.place c.in-Err-Place.place (c.in-Err-Place.is ∙ ap Err c.in-Err-Place.field-0-is))
+    (c.label_of.ensures.place c.in-Err-Place.place (c.in-Err-Place.is ∙ ap Err c.in-Err-Place.field-0-is))
 
 pub overflow_add-result : goal.overflow_add-result
 overflow_add-result c = omega (arith, (wrong_label c).within, length-map c.args.words.now string_bytes)

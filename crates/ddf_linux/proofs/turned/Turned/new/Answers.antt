@@ -4,7 +4,7 @@ use Rattle.ddf_bay.proofs.Looks.{reads_start, reads_then}
 use Rattle.ddf_bay.proofs.Steps.{over_start, over_then, over_reads}
 use Rattle.ddf_linux.proofs.Fronts.{remembers_then}
 use Rattle.ddf_linux.specs.declared.kind.SlotKind.{SlotKind}
-use Rattle.ddf_linux.specs.Kinds.{IsKindOf, is_unread}
+use Rattle.ddf_linux.specs.Kinds.{IsSeenAs, is_unread}
 use Rattle.ddf_linux.proofs.Below.{kind_kept, kinds_more, unread_more, read_more, none_unread, own_first}
 use Rattle.ddf_linux.proofs.turned.Turned.new.Goals as goal
 
@@ -42,9 +42,9 @@ loop-slot-preserved g c =
       writes = c.look.ensures.spends.same ∙ so_far.writes;
       later = λ s le. let above : s ≢ slot = λ e. omega (arith, e, le) in let before : slot ≤ s = omega (arith, le) in c.look.ensures.spends.other_slots s above ∙ so_far.later s before;
       kinds = λ tells. kinds_more kinds slot kind few
-          (λ (s : ℕ) (k : SlotKind). is_unread k ≡ false → IsKindOf old s k)
+          (λ (s : ℕ) (k : SlotKind). is_unread k ≡ false → IsSeenAs c.args.founds old s k)
           (so_far.kinds tells)
-          (λ read. kind_kept old now slot kind so_far.reads (c.look.ensures.kind tells read));
+          (λ read. kind_kept c.args.founds old now slot kind so_far.reads (c.look.ensures.kind tells read));
       unread = unread_more kinds slot kind few old.failed_reads now.failed_reads new.failed_reads so_far.spends.reads_rise c.look.ensures.spends.rises so_far.unread c.look.ensures.rose;
       read = read_more kinds slot kind few old.failed_reads now.failed_reads new.failed_reads so_far.read (so_far.later slot here) c.look.ensures.spends.other_slots c.look.ensures.same;
     }

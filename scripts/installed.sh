@@ -1,0 +1,53 @@
+#!/bin/sh
+# Makes a release, unpacks it, installs it below a folder, and tries what lies there: the program labels an image, with no other file of this
+# checkout and none of the kit, the man page is found, and all goes away again. A release of one commit has the same bytes each time.
+set -eu
+top=$(cd "$(dirname "$0")/.." && pwd)
+work=$(mktemp -d)
+trap 'rm -rf "$work"' EXIT
+
+fail() {
+    echo "installed: $*" >&2
+    exit 1
+}
+
+mkdir "$work/once" "$work/twice" "$work/unpacked"
+"$top/scripts/release.sh" "$work/once" >"$work/told" || fail "no release: $(cat "$work/told")"
+"$top/scripts/release.sh" "$work/twice" >"$work/told"
+tarball=$(echo "$work/once"/ddf-*.tar.gz)
+cmp -s "$tarball" "$work/twice/$(basename "$tarball")" || fail "two releases differ"
+tar -xzf "$tarball" -C "$work/unpacked" --strip-components=1
+(cd "$work/unpacked" && sha256sum -c --quiet SHA256SUMS) || fail "a file isn't what its sum says"
+grep -q "^this repository:" "$work/unpacked/LICENCES.txt" || fail "nothing is said of licences"
+
+prefix=$work/prefix
+"$work/unpacked/install" "$prefix" >/dev/null
+cmp -s "$work/unpacked/program/ddf" "$prefix/bin/ddf" || fail "another program was installed"
+truncate -s 32M "$work/d0.img"
+told=$(cd "$work" && env -i "$prefix/bin/ddf" d0.img -- label) || fail "the installed program labels nothing"
+[ "$told" = "ok sequence 1" ] || fail "the installed program says $told"
+for file in share/man/man8/ddf.8 share/bash-completion/completions/ddf share/zsh/site-functions/_ddf \
+    share/fish/vendor_completions.d/ddf.fish libexec/ddf/ddf-nbd.sh libexec/ddf/picture.py share/doc/ddf/RESCUE.md; do
+    [ -s "$prefix/$file" ] || fail "$file isn't installed"
+done
+if command -v nbdkit >/dev/null && command -v nbdinfo >/dev/null; then
+    "$prefix/bin/ddf" "$work/d0.img" -- create data jbod 0 single 0@64 >/dev/null
+    # shellcheck disable=SC2016
+    size=$(cd "$work" && nbdkit -U - sh "$prefix/libexec/ddf/ddf-nbd.sh" array=data d0.img --run 'nbdinfo --size "$uri"') || fail "the installed plugin serves nothing"
+    [ "$size" = 32768 ] || fail "the installed plugin serves $size bytes"
+fi
+"$prefix/libexec/ddf/picture.py" "$work/d0.img" | grep -q "slot 0 d0.img" || fail "the installed picture.py draws nothing"
+if command -v man >/dev/null && man -w man >/dev/null 2>&1; then
+    man -M "$prefix/share/man" -w 8 ddf >/dev/null || fail "man doesn't find the page"
+fi
+
+"$work/unpacked/install" "$prefix" >/dev/null || fail "it can't be installed over itself"
+DESTDIR=$work/package "$work/unpacked/install" /usr >/dev/null
+[ -x "$work/package/usr/bin/ddf" ] || fail "DESTDIR isn't heeded"
+"$work/unpacked/install" --remove "$prefix"
+[ -z "$(find "$prefix" -type f)" ] || fail "these stay: $(find "$prefix" -type f)"
+[ ! -d "$prefix/libexec/ddf" ] || fail "an empty folder stays"
+if "$work/unpacked/install" 2>/dev/null || "$work/unpacked/install" a b 2>/dev/null || "$work/unpacked/install" --help 2>/dev/null; then
+    fail "wrong words are taken"
+fi
+echo "installed: a release is unpacked, installed, tried and removed"

@@ -1,0 +1,258 @@
+#!/usr/bin/env python3
+"""Makes disks with `label linux` and changes them, and asks Linux's mdadm what they are.
+
+Before and behind each change mdadm names the container, the number of the change, each array with its level, size and disks, and the state of
+each disk, as was worked out by hand from the changes. Each record of each disk has the CRC that Linux counts, which is counted here, not by
+`ddf`. A disk that a plain `label` makes mdadm doesn't take. The program's standard error says what Linux doesn't take, and no more.
+
+Skipped where there is no mdadm: MDADM names one that stands in no folder of commands. It reads the images as files, so that nothing is
+assembled, and nothing of the system changes.
+"""
+import os
+import re
+import shutil
+import struct
+import subprocess
+import sys
+import tempfile
+import zlib
+from pathlib import Path
+
+TOP = Path(__file__).resolve().parent.parent
+os.environ["PATH"] += os.pathsep + "/sbin:/usr/sbin"
+MDADM = os.environ.get("MDADM", "mdadm")
+FORCED = "Linux doesn't start it without --force: nothing has made its parity agree with its data yet"
+SIGNATURES = (0xAD111111, 0x22222222, 0xDDDDDDDD, 0xEEEEEEEE, 0x55555555, 0x88888888, 0x33333333, 0xABADB10C)
+
+
+def stop(why):
+    sys.exit(f"mdadm: {why}")
+
+
+def ddf(images, *words):
+    """What a command prints, and the lines of standard error that speak of Linux."""
+    ended = subprocess.run([TOP / "ddf", *images, "--", *words], capture_output=True, text=True, check=False)
+    if ended.returncode != 0:
+        stop(f"{words} ended with {ended.returncode}: {ended.stdout}{ended.stderr}")
+    return ended.stdout, [line.removeprefix("ddf: ") for line in ended.stderr.splitlines() if "Linux doesn't" in line]
+
+
+def change(images, sequence, *words, notes=()):
+    """Gives a command that makes a change, and compares its answer with the number of the change."""
+    printed, said = ddf(images, *words)
+    if printed != f"ok sequence {sequence}\n":
+        stop(f"{words} printed {printed}")
+    if said != list(notes):
+        stop(f"{words} said {said}")
+
+
+def examine(image):
+    ended = subprocess.run([MDADM, "--examine", image], capture_output=True, text=True, check=False)
+    return ended.returncode, ended.stdout + ended.stderr
+
+
+def told(image):
+    """What mdadm tells of an image, a line for each thing that is compared."""
+    status, text = examine(image)
+    if status != 0 or re.search("crc|corrupt|mismatch", text, re.IGNORECASE):
+        stop(f"{image} isn't right for it: {text}")
+    value = dict(re.findall(r"^ *([A-Z][A-Za-z ]*) : (.*)$", text, re.MULTILINE))
+    group = value["Container GUID"].replace(":", "").lower()
+    lines = [f"{value['Version']} container {group} sequence {int(value['Seq'], 16)} both headers {value['Redundant hdr']}"]
+    for part in text.split(" VD GUID[")[1:]:
+        field = {name.strip(): found.strip() for name, found in re.findall(r"^ *([A-Za-z ]*)\[\d+\] : (.*)$", part, re.MULTILINE)}
+        what = [field["Name"], field["state"], field["init state"]]
+        if "Raid Level" in field:
+            what += [field["Raid Level"], field.get("Secondary Level", "single"), field["Array Size"] + "K", field["Raid Devices"]]
+        lines.append("; ".join(what))
+    for number, size, state in re.findall(r"^ +(\d+) +[0-9a-f]{8} +(\d+K) *(\S.*)$", text, re.MULTILINE):
+        lines.append(f"disk {number} {size} {state}")
+    return lines
+
+
+def linux_crc(record):
+    return zlib.crc32(record[:4] + b"\xff" * 4 + record[8:], 0xFFFFFFFF) ^ 0xFFFFFFFF
+
+
+def look(image):
+    """Looks at the CRC of each record of a disk: its anchor, and of both copies the headers and each section. How many there are."""
+    held = Path(image).read_bytes()
+    last = len(held) // 512 - 1
+
+    def check(lba, sectors):
+        record = held[512 * lba : 512 * (lba + sectors)]
+        if struct.unpack(">I", record[4:8])[0] != linux_crc(record):
+            stop(f"the record at sector {lba} of {image} isn't sealed as Linux does it")
+
+    check(last, 1)
+    anchor = held[512 * last :]
+    places = struct.unpack(">QQ", anchor[96:112])
+    slot = struct.unpack(">H", anchor[134:136])[0]
+    count = 1
+    for header in places:
+        check(header, 1)
+        count += 1
+        for section in range(6):
+            at, length = struct.unpack(">II", anchor[192 + 8 * section : 200 + 8 * section])
+            step = slot if section == 3 else length
+            for first in range(header + at, header + at + length, step):
+                found = struct.unpack(">I", held[512 * first : 512 * first + 4])[0]
+                if found in SIGNATURES:
+                    check(first, step)
+                    count += 1
+                elif section != 3 or found != 0xFFFFFFFF:
+                    stop(f"sector {first} of {image} begins with {found:08x}")
+    return count
+
+
+def compare(image, group, sequence, records, arrays, disks):
+    """Compares what mdadm tells of an image with what it is to tell, and the records that there are with their number."""
+    wanted = [f"01.02.00 container {group} sequence {sequence} both headers yes", *arrays]
+    wanted += [f"disk {number} {size} {state}" for number, (size, state) in enumerate(disks)]
+    found = told(image)
+    if found != wanted:
+        stop(f"of {image} it tells\n" + "\n".join(found) + "\nand not\n" + "\n".join(wanted))
+    count = look(image)
+    if count != records:
+        stop(f"{image} has {count} records, and not {records}")
+
+
+def make(names, megabytes=64):
+    for name in names:
+        with open(name, "wb") as image:
+            image.truncate(megabytes << 20)
+    return names
+
+
+def group_of(images):
+    return re.match("group ([0-9a-f]+) ", ddf(images, "assemble")[0])[1]
+
+
+def follow_group():
+    """A group of five disks, from its label to an array that is deleted."""
+    disks = make([f"d{number}.img" for number in range(5)])
+    change(disks, 1, "label", "linux")
+    group = group_of(disks)
+
+    # A disk has 131072 sectors, of which 32849 lie behind what arrays may use. Of records each disk has an anchor, and in both copies a
+    # header, five sections, and the notes in the first slot of the sixth. Each element of an array is one more in both, or a copy of one.
+    size = "49111K"
+    states = [(size, "/Online")] * 5
+    for disk in disks:
+        compare(disk, group, 1, 15, [], states)
+
+    change(disks, 2, "create", "mir", "raid1", "0", "single", "0,1@20480")
+    mir = "mir; Optimal, Not Consistent; Not Initialised"
+    states = [(size, "active/Online")] * 2 + [(size, "/Online")] * 3
+    for disk in disks[:2]:
+        compare(disk, group, 2, 17, [mir + "; RAID1; single; 10240K; 2 (0@0K 1@0K)"], states)
+    for disk in disks[2:]:
+        compare(disk, group, 2, 17, [mir], states)
+
+    # One array of each kind that Linux starts, each behind the one before it.
+    change(disks, 3, "create", "str", "raid0", "3", "single", "2,3@16384")
+    change(disks, 4, "create", "ten", "raid1", "7", "striped", "0,1@8192", "2,3@8192")
+    change(disks, 5, "create", "two", "raid1", "7", "spanned", "0,1@8192", "2,3@8192")
+    change(disks, 6, "create", "par", "raid5.rn", "7", "single", "0,1,2@16384", notes=[f"array par: {FORCED}"])
+    change(disks, 7, "create", "fixed", "raid4.last", "7", "single", "0,1,2@4096", notes=[f"array fixed: {FORCED}"])
+    states = [(size, "active/Online")] * 4 + [(size, "/Online")]
+    optimal = {
+        "mir": mir,
+        "str": "str; Optimal, Consistent; Not Initialised",
+        "ten": "ten; Optimal, Not Consistent; Not Initialised",
+        "two": "two; Optimal, Not Consistent; Not Initialised",
+        "par": "par; Optimal, Not Consistent; Not Initialised",
+        "fixed": "fixed; Optimal, Not Consistent; Not Initialised",
+    }
+    held = {
+        "d0.img": {
+            "mir": "RAID1; single; 10240K; 2 (0@0K 1@0K)",
+            "ten": "RAID1; Striped; 8192K; 2 (0@10240K 1@10240K)",
+            "two": "RAID1; Spanned; 8192K; 2 (0@14336K 1@14336K)",
+            "par": "RAID5; single; 16384K; 3 (0@18432K 1@18432K 2@16384K)",
+            "fixed": "RAID4; single; 4096K; 3 (0@26624K 1@26624K 2@24576K)",
+        },
+        "d2.img": {
+            "str": "RAID0; single; 16384K; 2 (2@0K 3@0K)",
+            "ten": "RAID1; Striped; 8192K; 2 (2@8192K 3@8192K)",
+            "two": "RAID1; Spanned; 8192K; 2 (2@12288K 3@12288K)",
+            "par": "RAID5; single; 16384K; 3 (0@18432K 1@18432K 2@16384K)",
+            "fixed": "RAID4; single; 4096K; 3 (0@26624K 1@26624K 2@24576K)",
+        },
+        "d4.img": {},
+    }
+    compare_arrays(group, 7, optimal, held, states)
+
+    # A spare is a record on each disk that is one.
+    change(disks, 8, "spare", "4", "global")
+    states[4] = (size, "Global-Spare/Online")
+    compare_arrays(group, 8, optimal, held, states, spares=["d4.img"])
+
+    # A member fails: the arrays that have it are degraded, and it keeps its records of before.
+    before = (group, 8, optimal, {"d1.img": held["d0.img"]}, list(states))
+    change(disks, 10, "fail", "1")
+    compare_arrays(*before)
+    states[1] = (size, "active/Offline, Failed, Missing")
+    for name in ("mir", "ten", "two", "par", "fixed"):
+        optimal[name] = optimal[name].replace("Optimal", "Degraded")
+    compare_arrays(group, 10, optimal, held, states, spares=["d4.img"])
+
+    change(disks, 11, "delete", "ten")
+    for of_disk in [optimal, *held.values()]:
+        of_disk.pop("ten", None)
+    compare_arrays(group, 11, optimal, held, states, spares=["d4.img"])
+
+
+def compare_arrays(group, sequence, arrays, held, states, spares=()):
+    """Compares what mdadm tells of these disks: each lists all arrays, and what is told of an element is told of a disk of its own."""
+    count = sum(1 + (name in ("ten", "two")) for name in arrays)
+    for disk, elements in held.items():
+        lines = [f"{line}; {elements[name]}" if name in elements else line for name, line in arrays.items()]
+        compare(disk, group, sequence, 15 + 2 * count + 2 * (disk in spares), lines, states)
+
+
+def name_untaken():
+    """What Linux doesn't take is made, and named."""
+    small, large = make(["small.img"], 32), make(["l0.img", "l1.img", "l2.img", "l3.img"])
+    printed, said = ddf(small, "label", "linux")
+    if said != ["slot 0 (small.img): Linux doesn't take it: it has no more than 65536 sectors"]:
+        stop(f"label of a small disk printed {printed} and said {said}")
+    change(large, 1, "label", "linux")
+    untaken = [
+        ("raid0 0 single 0@128", ": it has no strips of less than 4 KiB (code 3)"),
+        ("raid4.first 7 single 0,1,2@128", ": it has no RAID 4 with its parity first"),
+        ("raid1 7 single 0,1,2,3@128", ": it has no RAID 1 of four disks and more"),
+        ("jbod 0 single 0@128", ": it has no JBOD"),
+        ("concat 0 single 0,1@128", ": it has no concatenation"),
+        ("raid0 7 striped 0,1@128 2,3@128", ": of several elements it has those of RAID 1 alone, striped or spanned"),
+        ("raid1 7 concat 0,1@128 2,3@128", ": of several elements it has those of RAID 1 alone, striped or spanned"),
+        ("raid0 7 mirrored 0,1@128 2,3@128", ": of several elements it has those of RAID 1 alone, striped or spanned"),
+    ]
+    for number, (words, why) in enumerate(untaken):
+        change(large, 2 + number, "create", f"a{number}", *words.split(), notes=[f"array a{number}: Linux doesn't start it{why}"])
+
+
+def refuse_plain():
+    """Disks of the standard's kind mdadm doesn't take, and nothing is said of Linux where they are made and changed."""
+    images = make(["p0.img", "p1.img"])
+    change(images, 1, "label")
+    change(images, 2, "create", "vol", "jbod", "0", "single", "0@128")
+    status, text = examine(images[0])
+    if status == 0 or "No md superblock" not in text:
+        stop(f"a plain label is taken: {text}")
+
+
+def main():
+    if shutil.which(MDADM) is None:
+        print("mdadm: not here, nothing asked")
+        return
+    with tempfile.TemporaryDirectory() as work:
+        os.chdir(work)
+        follow_group()
+        name_untaken()
+        refuse_plain()
+        os.chdir(TOP)
+    print("mdadm: disks of `label linux` are as they are to be, before and behind each change")
+
+
+main()
