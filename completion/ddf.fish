@@ -65,6 +65,8 @@ complete -c ddf -n __ddf_wants_command -a show -d 'Show the group as its disks r
 complete -c ddf -n __ddf_wants_command -a read -d 'Print blocks of an array'
 complete -c ddf -n __ddf_wants_command -a scrub -d 'Tell whether copies and parity agree'
 complete -c ddf -n __ddf_wants_command -a accept -d 'Take copies and parity to agree, on your word'
+complete -c ddf -n __ddf_wants_command -a resync -d 'Make copies and parity agree'
+complete -c ddf -n __ddf_wants_command -a write -d 'Write blocks of an array'
 complete -c ddf -n __ddf_wants_command -a create -d 'Make an array'
 complete -c ddf -n __ddf_wants_command -a delete -d 'Remove an array from the records'
 complete -c ddf -n __ddf_wants_command -a spare -d 'Say what a disk may stand in for'

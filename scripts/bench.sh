@@ -1,5 +1,5 @@
 #!/bin/sh
-# Measures `examine` beside mdadm, blkid and zlib, where they are at hand, `read` and `scrub` beside cat and the exclusive-or beside a
+# Measures `examine` beside mdadm, blkid and zlib, where they are at hand, `read`, `scrub` and `resync` beside cat, `write` beside dd and the exclusive-or beside a
 # copy, and prints the table of docs/SPEED.md. It is no part of the gate. ROUNDS is the number of rounds (40); in each round every program runs
 # once, one after another.
 #
@@ -14,6 +14,8 @@
 #   same of no block tells what the start and the assembly cost. Ratios are of throughput.
 # - `scrub` of an array of random bytes, whose copies and parity agree, beside cat of what its members hold, to nowhere. It takes an eighth
 #   of the rounds, and room for 1.4 GB in the folder of temporary files.
+# - `resync` of the same arrays, beside cat of what their members hold; and `write` of 1 MiB, the most of one call, with its start, the two changes of the group around
+#   it and their syncs, beside dd of as many bytes as reach the disks, with one sync.
 # - The exclusive-or of sectors in cache beside a copy of as many, in one small program (xor_speed.rt.txt: only a crate has files
 #   named .rt), which `rt` proves and builds first. That takes a minute or more.
 #

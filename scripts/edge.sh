@@ -204,46 +204,120 @@ ends 0 "group" "" "./ddf k0.img k2.img -- assemble"
 echo "edge: what a command loses and does is told on standard error"
 
 # Disks for Linux.
-linux_disks="l0.img l1.img l2.img l3.img"
-number=1
 silent_on_linux() {
-    case $(cat err) in *"Linux doesn't"*) fail "said $(cat err), where Linux does" ;; esac
+    case $(cat err) in *Linux*) fail "said $(cat err), where nothing is to be said of Linux" ;; esac
+}
+linux_disks="l0.img l1.img l2.img l3.img l4.img l5.img"
+new_linux_disks() {
+    rm -f $linux_disks
+    truncate -s 64M $linux_disks
+    number=1
+}
+new_linux_group() {
+    new_linux_disks
+    ends 0 "ok sequence 1" "" "./ddf $linux_disks -- label linux"
+    silent_on_linux
 }
 makes() {
     number=$((number + 1))
     ends 0 "ok sequence $number" "$2" "./ddf $linux_disks -- create a$number $1"
 }
-truncate -s 32M small.img
-truncate -s 64M $linux_disks ./linux
-ends 0 "ok sequence 1" "slot 0 (small.img): Linux doesn't take it: it has no more than 65536 sectors" "./ddf small.img l0.img -- label linux 0"
-ends 0 "ok sequence 1" "" "./ddf small.img $linux_disks -- label linux l0.img l1.img l2.img l3.img"
+truncate -s 32M small.img plain.img
+truncate -s $((512 * 65537)) enough.img
+new_linux_disks
+ends 0 "slot 0 blank" "" "./ddf l0.img -- examine"
 silent_on_linux
-for words in "raid0 3 single 0,1@128" "raid1 0 single 0,1@128" "raid1 0 single 0,1,2@128" "raid1 3 striped 0,1@128 2,3@128" "raid1 3 spanned 0,1@128 2,3@128"; do
+ends 0 "ok sequence 1" "slot 0 (small.img): Linux doesn't take it: it has no more than 65536 sectors" "./ddf small.img l0.img -- label linux 0"
+ends 0 "ok sequence 1" "" "./ddf small.img $linux_disks -- label linux $linux_disks"
+silent_on_linux
+ends 0 "ok sequence 1" "" "./ddf enough.img -- label linux"
+silent_on_linux
+for words in "raid0 3 single 0,1@128" "raid1 0 single 0,1@128" "raid1 0 single 0,1,2@128" "raid1 3 striped 0,1@128 2,3@128" "raid1 3 spanned 0,1@128 2,3@128" "raid1 3 striped 0,1,2@128 3,4,5@128"; do
     makes "$words" ""
     silent_on_linux
 done
-makes "raid0 0 single 0,1@128" ": Linux doesn't start it: it has no strips of less than 4 KiB (code 3)"
+new_linux_group
+few_strips=": Linux doesn't start it: it has no strips of less than 4 KiB (code 3)"
+for words in "raid0 0 single 0,1@128" "raid0 2 single 0,1@128" "raid5.rn 2 single 0,1,2@128" "raid1 2 striped 0,1@128 2,3@128"; do
+    makes "$words" "$few_strips"
+done
 makes "raid1 0 single 0,1,2,3@128" ": Linux doesn't start it: it has no RAID 1 of four disks and more"
 makes "raid4.first 7 single 0,1,2@128" ": Linux doesn't start it: it has no RAID 4 with its parity first"
 makes "jbod 0 single 0@128" ": Linux doesn't start it: it has no JBOD"
 makes "concat 0 single 0,1@128" ": Linux doesn't start it: it has no concatenation"
-# A new disk has room for the records of 15 elements.
-rm -f $linux_disks
-truncate -s 64M $linux_disks
-number=1
-ends 0 "ok sequence 1" "" "./ddf $linux_disks -- label linux"
+new_linux_group
 for words in "raid0 7 striped 0,1@128 2,3@128" "raid1 7 concat 0,1@128 2,3@128"; do
     makes "$words" ": Linux doesn't start it: of several elements it has those of RAID 1 alone, striped or spanned"
+done
+for words in "raid1 7 striped 0,1@128 2,3,4@128" "raid1 3 spanned 0,1,2@128 3,4@128"; do
+    makes "$words" ": Linux doesn't start it: of several elements it has those of equally many disks alone"
 done
 for words in "raid5.r0 3 single 0,1,2@128" "raid5.rn 7 single 0,1,2@128" "raid4.last 7 single 0,1,2@128"; do
     makes "$words" ": Linux doesn't start it without --force: nothing has made its parity agree with its data yet"
 done
-ends 0 "ok sequence 1" "slot 0 (linux) is labelled now" "./ddf linux -- label linux"
-./ddf linux -- examine >out 2>err
+truncate -s 64M m1.img m2.img
+truncate -s 32M m0.img
+ends 0 "ok sequence 1" "slot 0 (m0.img): Linux doesn't take it" "./ddf m0.img m1.img m2.img -- label linux"
+small=" with all its disks: it takes none of 65536 sectors or less"
+ends 0 "ok sequence 2" "array m: Linux doesn't start it$small" "./ddf m0.img m1.img m2.img -- create m raid1 0 single 0,1@128"
+ends 0 "ok sequence 3" "array p: Linux doesn't start it$small" "./ddf m0.img m1.img m2.img -- create p raid5.rn 7 single 1,2,0@128"
+ends 0 "ok sequence 4" "array j: Linux doesn't start it: it has no JBOD" "./ddf m0.img m1.img m2.img -- create j jbod 0 single 0@128"
+ends 0 "ok sequence 5" "" "./ddf m0.img m1.img m2.img -- create n raid1 0 single 1,2@128"
 silent_on_linux
-! grep -q "checksums as Linux's mdadm counts them" err || fail "the image linux was taken for the word"
-ends 1 "refused 11 slot 0" "" "./ddf ./linux -- label linux"
 echo "edge: what Linux doesn't take of its disks is told on standard error"
+
+# Disks of the standard's kind, and the same commands.
+ends 0 "ok sequence 1" "" "./ddf plain.img small.img -- label 0"
+silent_on_linux
+ends 0 "ok sequence 2" "" "./ddf plain.img -- create j jbod 0 single 0@128"
+silent_on_linux
+truncate -s 32M s0.img s1.img
+ends 0 "ok sequence 1" "" "./ddf s0.img s1.img -- label"
+silent_on_linux
+ends 0 "ok sequence 2" "" "./ddf s0.img s1.img -- create mir raid1 0 single 0,1@128"
+ends 0 "ok sequence 3" "" "./ddf s0.img s1.img -- accept mir"
+for command in show assemble "read mir 0 1"; do
+    ends 0 "" "" "./ddf s0.img s1.img -- $command"
+    silent_on_linux
+done
+echo "edge: of disks of the standard's kind nothing is told of Linux"
+
+# Arrays whose first resync Linux may have left: redundant ones that aren't marked, and none else.
+new_linux_group
+makes "raid0 3 single 0,1@128" ""
+makes "raid1 0 single 0,1@128" ""
+makes "raid1 0 single 2,3@128" ""
+makes "raid5.rn 7 single 0,1,2@128" ""
+for command in show assemble "read a3 0 1"; do
+    ends 0 "" "" "./ddf $linux_disks -- $command"
+    ! grep -q "first resync" err || fail "said $(cat err), of arrays that are marked or not redundant"
+done
+ends 0 "ok sequence 6" "" "./ddf $linux_disks -- accept a3"
+for command in show assemble "read a2 0 1"; do
+    ends 0 "" "ddf: array a3: Linux had not finished its first resync; blocks that need parity may be wrong" "./ddf $linux_disks -- $command"
+    [ "$(grep -c "first resync" err)" = 1 ] || fail "said $(cat err), where one array is accepted"
+done
+echo "edge: the arrays whose first resync Linux may have left are told, and no others"
+
+# The word linux, and an image of that name.
+rm -f enough.img
+truncate -s 64M ./linux enough.img
+once="label doesn't take the word linux: it wants linux first and once, and a slot's number or image there"
+ends 2 "refused 10 word 4" "$once" "./ddf enough.img -- label linux linux"
+ends 2 "refused 10 word 4" "$once" "./ddf enough.img -- label 0 linux"
+taken="ddf: linux is taken for the image of slot 1: with ./linux for that image it makes disks for Linux"
+ends 1 "refused 14 no slot 5" "$taken" "./ddf enough.img linux -- label linux 5"
+ends 0 "ok sequence 1" "$taken" "./ddf enough.img linux -- label linux"
+case $(cat err) in *"slot 1 (linux) is labelled now"*) ;; *) fail "said $(cat err), of the image linux" ;; esac
+ends 0 "slot 0 blank" "" "./ddf enough.img linux -- examine"
+silent_on_linux
+ends 1 "refused 11 slot 1" "" "./ddf enough.img linux -- label 1"
+silent_on_linux
+ends 0 "ok sequence 2" "" "./ddf linux -- spare linux global"
+silent_on_linux
+ends 1 "refused 11 slot 1" "" "./ddf enough.img ./linux -- label linux"
+silent_on_linux
+echo "edge: the word linux is told from an image of that name"
 
 if command -v script >/dev/null; then
     truncate -s 32M t.img

@@ -2,7 +2,8 @@
 # Runs `examine`, `show` and `assemble` over disks as Linux's mdadm left them, and compares what they print with what an independent
 # reader found; and reads their arrays, whole and without each disk that the level can do without, and compares the checksum of all
 # blocks with the one that Linux found. Linux has resynced these arrays, so `scrub` finds them clean; a copy of one with a byte changed it doesn't.
-# Nothing may be written to an image, and an image that `label` made has the standard's checksums. The disks aren't part of
+# By these commands nothing may be written to an image. Then blocks are written to a copy of each set by `write`, and are read back with all others as they were, whole and
+# without each disk; a second resync of the array finds it as it was. An image that `label` made has the standard's checksums. The disks aren't part of
 # this repository: DDF_DISKS names a folder of NAME.tar.xz with the images, and NAME.examine.txt and NAME.assemble.txt with the
 # wanted texts; and DDF_MIDSYNC one with a mirror whose first resync Linux didn't finish. Where there is none, nothing is compared.
 set -eu
@@ -64,6 +65,40 @@ compare_copies() {
     [ "$found" = "differs element 0 row 0" ] || fail "scrub of a changed $label says $found"
 }
 
+# Reads the array of a set of images whole and without each disk, and compares the checksum of all blocks.
+compare_all() {
+    label=$1
+    blocks=$2
+    wanted=$3
+    shift 3
+    compare_blocks "$label" "$blocks" "$wanted" "$@"
+    all=$*
+    for left in $all; do
+        others=
+        for image in $all; do
+            [ "$image" = "$left" ] || others="$others $image"
+        done
+        # shellcheck disable=SC2086
+        compare_blocks "$label without $(basename "$left")" "$blocks" "$wanted" $others
+    done
+}
+
+# Gives blocks of the array `data` of a set of images other bytes, and resyncs it: all its blocks are then as they should be.
+write_blocks() {
+    label=$1
+    blocks=$2
+    shift 2
+    blocks_of "$blocks" "$@" >"$work/blocks"
+    head -c $((300 * 512)) /dev/urandom >"$work/new"
+    dd if="$work/new" of="$work/blocks" bs=512 seek=1000 conv=notrunc 2>/dev/null
+    wanted=$(sha256sum <"$work/blocks" | cut -d' ' -f1)
+    "$top/ddf" "$@" -- write data 1000 300 <"$work/new" >"$work/told" 2>/dev/null || fail "write of $label says $(cat "$work/told")"
+    compare_all "a written $label" "$blocks" "$wanted" "$@"
+    [ "$("$top/ddf" "$@" -- scrub data 2>/dev/null)" = clean ] || fail "scrub doesn't find a written $label clean"
+    "$top/ddf" "$@" -- resync data >"$work/told" 2>/dev/null || fail "resync of $label says $(cat "$work/told")"
+    compare_all "a resynced $label" "$blocks" "$wanted" "$@"
+}
+
 work=$(mktemp -d)
 trap 'rm -rf "$work"' EXIT
 for archive in "$disks"/*.tar.xz; do
@@ -82,22 +117,15 @@ for archive in "$disks"/*.tar.xz; do
     blocks=${sums% *}
     if [ "$blocks" -gt 0 ]; then
         compare_copies "$name" "$work/$name"/*.img
-        compare_blocks "$name" "$blocks" "${sums#* }" "$work/$name"/*.img
-        for left in "$work/$name"/*.img; do
-            others=
-            for image in "$work/$name"/*.img; do
-                [ "$image" = "$left" ] || others="$others $image"
-            done
-            # shellcheck disable=SC2086
-            compare_blocks "$name without $(basename "$left")" "$blocks" "${sums#* }" $others
-        done
+        compare_all "$name" "$blocks" "${sums#* }" "$work/$name"/*.img
     fi
     sha256sum "$work/$name"/*.img >"$work/after"
     cmp -s "$work/before" "$work/after" || fail "an image of $name was written to"
     slots=$(grep -c "^ddf: slot [0-9]*: checksums as Linux's mdadm counts them$" "$work/notes" || true)
     [ "$slots" -eq "$(wc -l <"$work/before")" ] || fail "$slots slots of $name are turned"
+    [ "$blocks" = 0 ] || write_blocks "$name" "$blocks" "$work/$name"/*.img
     rm -rf "${work:?}/$name"
-    echo "linux-disks: $name is as wanted, and no image was written to"
+    echo "linux-disks: $name is as wanted, and no image was written to but by write and resync"
 done
 
 # A mirror that Linux left within its first resync: its records call it consistent, and standard error names it.

@@ -1,8 +1,8 @@
 #!/usr/bin/env python3
 """Makes disks with `label linux` and changes them, and asks Linux's mdadm what they are.
 
-Before and behind each change mdadm names the container, the number of the change, each array with its level, size and disks, and the state of
-each disk, as was worked out by hand from the changes. Each record of each disk has the CRC that Linux counts, which is counted here, not by
+Behind each change of a group, from its label on, mdadm names the container, the number of the change, each array with its level, size and disks,
+and the state of each disk, as was worked out by hand from the changes: of each disk behind the first two, of one of each kind behind the others. Each record of each disk has the CRC that Linux counts, which is counted here, not by
 `ddf`. A disk that a plain `label` makes mdadm doesn't take. The program's standard error says what Linux doesn't take, and no more.
 
 Skipped where there is no mdadm: MDADM names one that stands in no folder of commands. It reads the images as files, so that nothing is
@@ -21,7 +21,40 @@ from pathlib import Path
 TOP = Path(__file__).resolve().parent.parent
 os.environ["PATH"] += os.pathsep + "/sbin:/usr/sbin"
 MDADM = os.environ.get("MDADM", "mdadm")
+PARTLY = "Linux doesn't start it with all its disks: it takes none of 65536 sectors or less"
 FORCED = "Linux doesn't start it without --force: nothing has made its parity agree with its data yet"
+
+# Arrays of the kinds that Linux starts: the words that make each, its state, and what mdadm tells of its element on these disks.
+PARITY = "0@18432K 1@18432K 2@16384K"
+FIXED = "0@26624K 1@26624K 2@24576K"
+STARTED = [
+    ("str", "raid0 3 single 2,3@16384", "Optimal, Consistent", {"d2.img": "RAID0; single; 16384K; 2 (2@0K 3@0K)"}),
+    (
+        "ten",
+        "raid1 7 striped 0,1@8192 2,3@8192",
+        "Optimal, Not Consistent",
+        {"d0.img": "RAID1; Striped; 8192K; 2 (0@10240K 1@10240K)", "d2.img": "RAID1; Striped; 8192K; 2 (2@8192K 3@8192K)"},
+    ),
+    (
+        "two",
+        "raid1 7 spanned 0,1@8192 2,3@8192",
+        "Optimal, Not Consistent",
+        {"d0.img": "RAID1; Spanned; 8192K; 2 (0@14336K 1@14336K)", "d2.img": "RAID1; Spanned; 8192K; 2 (2@12288K 3@12288K)"},
+    ),
+    (
+        "par",
+        "raid5.rn 7 single 0,1,2@16384",
+        "Optimal, Not Consistent",
+        {disk: f"RAID5; single; 16384K; 3 ({PARITY})" for disk in ("d0.img", "d2.img")},
+    ),
+    (
+        "fixed",
+        "raid4.last 7 single 0,1,2@4096",
+        "Optimal, Not Consistent",
+        {disk: f"RAID4; single; 4096K; 3 ({FIXED})" for disk in ("d0.img", "d2.img")},
+    ),
+]
+
 SIGNATURES = (0xAD111111, 0x22222222, 0xDDDDDDDD, 0xEEEEEEEE, 0x55555555, 0x88888888, 0x33333333, 0xABADB10C)
 
 
@@ -143,64 +176,48 @@ def follow_group():
 
     change(disks, 2, "create", "mir", "raid1", "0", "single", "0,1@20480")
     mir = "mir; Optimal, Not Consistent; Not Initialised"
+    own = "RAID1; single; 10240K; 2 (0@0K 1@0K)"
     states = [(size, "active/Online")] * 2 + [(size, "/Online")] * 3
     for disk in disks[:2]:
-        compare(disk, group, 2, 17, [mir + "; RAID1; single; 10240K; 2 (0@0K 1@0K)"], states)
+        compare(disk, group, 2, 17, [f"{mir}; {own}"], states)
     for disk in disks[2:]:
         compare(disk, group, 2, 17, [mir], states)
 
     # One array of each kind that Linux starts, each behind the one before it.
-    change(disks, 3, "create", "str", "raid0", "3", "single", "2,3@16384")
-    change(disks, 4, "create", "ten", "raid1", "7", "striped", "0,1@8192", "2,3@8192")
-    change(disks, 5, "create", "two", "raid1", "7", "spanned", "0,1@8192", "2,3@8192")
-    change(disks, 6, "create", "par", "raid5.rn", "7", "single", "0,1,2@16384", notes=[f"array par: {FORCED}"])
-    change(disks, 7, "create", "fixed", "raid4.last", "7", "single", "0,1,2@4096", notes=[f"array fixed: {FORCED}"])
+    arrays = {"mir": mir}
+    held = {"d0.img": {"mir": own}, "d2.img": {}, "d4.img": {}}
     states = [(size, "active/Online")] * 4 + [(size, "/Online")]
-    optimal = {
-        "mir": mir,
-        "str": "str; Optimal, Consistent; Not Initialised",
-        "ten": "ten; Optimal, Not Consistent; Not Initialised",
-        "two": "two; Optimal, Not Consistent; Not Initialised",
-        "par": "par; Optimal, Not Consistent; Not Initialised",
-        "fixed": "fixed; Optimal, Not Consistent; Not Initialised",
-    }
-    held = {
-        "d0.img": {
-            "mir": "RAID1; single; 10240K; 2 (0@0K 1@0K)",
-            "ten": "RAID1; Striped; 8192K; 2 (0@10240K 1@10240K)",
-            "two": "RAID1; Spanned; 8192K; 2 (0@14336K 1@14336K)",
-            "par": "RAID5; single; 16384K; 3 (0@18432K 1@18432K 2@16384K)",
-            "fixed": "RAID4; single; 4096K; 3 (0@26624K 1@26624K 2@24576K)",
-        },
-        "d2.img": {
-            "str": "RAID0; single; 16384K; 2 (2@0K 3@0K)",
-            "ten": "RAID1; Striped; 8192K; 2 (2@8192K 3@8192K)",
-            "two": "RAID1; Spanned; 8192K; 2 (2@12288K 3@12288K)",
-            "par": "RAID5; single; 16384K; 3 (0@18432K 1@18432K 2@16384K)",
-            "fixed": "RAID4; single; 4096K; 3 (0@26624K 1@26624K 2@24576K)",
-        },
-        "d4.img": {},
-    }
-    compare_arrays(group, 7, optimal, held, states)
+    for sequence, (name, words, state, elements) in enumerate(STARTED, 3):
+        notes = [f"array {name}: {FORCED}"] if name in ("par", "fixed") else []
+        change(disks, sequence, "create", name, *words.split(), notes=notes)
+        arrays[name] = f"{name}; {state}; Not Initialised"
+        for disk, element in elements.items():
+            held[disk][name] = element
+        compare_arrays(group, sequence, arrays, held, states)
+
+    # An array that is accepted is consistent, and nothing has initialised it.
+    change(disks, 8, "accept", "mir")
+    arrays["mir"] = "mir; Optimal, Consistent; Not Initialised"
+    compare_arrays(group, 8, arrays, held, states)
 
     # A spare is a record on each disk that is one.
-    change(disks, 8, "spare", "4", "global")
+    change(disks, 9, "spare", "4", "global")
     states[4] = (size, "Global-Spare/Online")
-    compare_arrays(group, 8, optimal, held, states, spares=["d4.img"])
+    compare_arrays(group, 9, arrays, held, states, spares=["d4.img"])
 
     # A member fails: the arrays that have it are degraded, and it keeps its records of before.
-    before = (group, 8, optimal, {"d1.img": held["d0.img"]}, list(states))
-    change(disks, 10, "fail", "1")
+    before = (group, 9, dict(arrays), {"d1.img": held["d0.img"]}, list(states))
+    change(disks, 11, "fail", "1")
     compare_arrays(*before)
     states[1] = (size, "active/Offline, Failed, Missing")
     for name in ("mir", "ten", "two", "par", "fixed"):
-        optimal[name] = optimal[name].replace("Optimal", "Degraded")
-    compare_arrays(group, 10, optimal, held, states, spares=["d4.img"])
+        arrays[name] = arrays[name].replace("Optimal", "Degraded")
+    compare_arrays(group, 11, arrays, held, states, spares=["d4.img"])
 
-    change(disks, 11, "delete", "ten")
-    for of_disk in [optimal, *held.values()]:
+    change(disks, 12, "delete", "ten")
+    for of_disk in [arrays, *held.values()]:
         of_disk.pop("ten", None)
-    compare_arrays(group, 11, optimal, held, states, spares=["d4.img"])
+    compare_arrays(group, 12, arrays, held, states, spares=["d4.img"])
 
 
 def compare_arrays(group, sequence, arrays, held, states, spares=()):
@@ -212,8 +229,8 @@ def compare_arrays(group, sequence, arrays, held, states, spares=()):
 
 
 def name_untaken():
-    """What Linux doesn't take is made, and named."""
-    small, large = make(["small.img"], 32), make(["l0.img", "l1.img", "l2.img", "l3.img"])
+    """What Linux doesn't take is made, and named. What mdadm doesn't take for its size alone isn't."""
+    small, large = make(["small.img"], 32), make([f"l{number}.img" for number in range(5)])
     printed, said = ddf(small, "label", "linux")
     if said != ["slot 0 (small.img): Linux doesn't take it: it has no more than 65536 sectors"]:
         stop(f"label of a small disk printed {printed} and said {said}")
@@ -227,9 +244,29 @@ def name_untaken():
         ("raid0 7 striped 0,1@128 2,3@128", ": of several elements it has those of RAID 1 alone, striped or spanned"),
         ("raid1 7 concat 0,1@128 2,3@128", ": of several elements it has those of RAID 1 alone, striped or spanned"),
         ("raid0 7 mirrored 0,1@128 2,3@128", ": of several elements it has those of RAID 1 alone, striped or spanned"),
+        ("raid1 7 striped 0,1@128 2,3,4@128", ": of several elements it has those of equally many disks alone"),
     ]
     for number, (words, why) in enumerate(untaken):
         change(large, 2 + number, "create", f"a{number}", *words.split(), notes=[f"array a{number}: Linux doesn't start it{why}"])
+
+    # A disk that is too small mdadm doesn't take, so that an array which lies on it isn't whole for it.
+    mixed = [*make(["m0.img"], 32), *make(["m1.img"])]
+    ddf(mixed, "label", "linux")
+    change(mixed, 2, "create", "mir", "raid1", "0", "single", "0,1@128", notes=[f"array mir: {PARTLY}"])
+    status, text = examine(mixed[0])
+    if status == 0 or "No md superblock" not in text:
+        stop(f"a small disk is taken: {text}")
+    if examine(mixed[1])[0] != 0:
+        stop("the disk beside a small one isn't taken")
+
+    # Of an image whose size is no multiple of 512 mdadm sees nothing, though its last whole sector is an anchor.
+    odd = make(["odd.img"])
+    with open(odd[0], "ab") as image:
+        image.write(bytes(100))
+    change(odd, 1, "label", "linux")
+    status, text = examine(odd[0])
+    if status == 0 or "No md superblock" not in text:
+        stop(f"an image with a part of a sector is taken: {text}")
 
 
 def refuse_plain():
@@ -252,7 +289,7 @@ def main():
         name_untaken()
         refuse_plain()
         os.chdir(TOP)
-    print("mdadm: disks of `label linux` are as they are to be, before and behind each change")
+    print("mdadm: disks of `label linux` are as they are to be, behind each change")
 
 
 main()

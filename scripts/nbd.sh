@@ -184,7 +184,7 @@ ddf d0.img d1.img d2.img -- label >/dev/null
 if ddf --help | grep -q '^  write '; then
     level="RAID 5"
     ddf d0.img d1.img d2.img -- create data raid5.rnc 7 single 0,1,2@12288 >/dev/null
-    ddf d0.img d1.img d2.img -- resync data >/dev/null
+    ddf d0.img d1.img d2.img -- resync data >/dev/null || fail "resync failed"
     put_file fs.img d0.img d1.img d2.img
 else
     # With no command that writes blocks they are put onto the disks of a mirror, whose extents begin with them.

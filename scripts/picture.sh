@@ -45,6 +45,8 @@ disks="d0.img d1.img d2.img d3.img"
     truncate -s 32M $disks
     ddf $disks -- label
     ddf $disks -- create home raid5.rnc 7 single 0,1,2@8192
+    ddf $disks -- resync home
+    head -c 1048576 /dev/zero | ddf $disks -- write home 0 2048
     ddf $disks -- create fast raid0 5 single 0,1@4096
     ddf $disks -- spare 3 for home
     draw $disks

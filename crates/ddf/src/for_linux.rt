@@ -44,7 +44,7 @@ pub fn name_untaken<R: Eprint, B: Bay + Drop>(
             slots,
         } => name_small(rt, bay, paths, slots.items()),
         Command::Change(Wish::Create(creation)) if is_on_linux(bay, creation) => {
-            name_unstarted(rt, creation);
+            name_unstarted(rt, creation, is_on_small(bay, creation));
         }
         _ => {}
     }
@@ -57,13 +57,29 @@ where
 {
     for (slot, path) in paths.iter().enumerate() {
         let is_named = slots.is_empty() || slots.iter().any(|other| usize::from(*other) == slot);
-        if is_named && slot < bay.slots() && bay.size(slot) <= TOO_SMALL {
+        if is_named && is_small(bay, slot) {
             let path = OneLine(path);
             let _ = eprintln!(rt;
                 "ddf: slot {slot} ({path}): Linux doesn't take it: it has no more than {TOO_SMALL} sectors"
             );
         }
     }
+}
+
+/// Whether the disk of a slot is too small for Linux, where there is such a slot.
+fn is_small<B: Bay + Drop>(bay: &Turned<B>, slot: usize) -> bool {
+    slot < bay.slots() && bay.size(slot) <= TOO_SMALL
+}
+
+/// Whether a new array has an element on a disk that is too small for Linux.
+fn is_on_small<B: Bay + Drop>(bay: &Turned<B>, creation: &Creation) -> bool {
+    let mut is_on = false;
+    for element in creation.elements.items() {
+        for slot in element.slots.items() {
+            is_on |= is_small(bay, usize::from(*slot));
+        }
+    }
+    is_on
 }
 
 /// Whether a new array has an element on a disk of Linux's kind.
@@ -82,9 +98,9 @@ fn turns<B: Bay + Drop>(bay: &Turned<B>, slot: usize) -> bool {
     slot < bay.slots() && bay.turns(slot)
 }
 
-/// Names a new array that Linux doesn't start, and why.
-fn name_unstarted<R: Eprint>(rt: &R, creation: &Creation) {
-    if let Some(why) = obstacle_of(creation) {
+/// Names a new array that Linux doesn't start, and why. A disk of it may be too small.
+fn name_unstarted<R: Eprint>(rt: &R, creation: &Creation, is_on_small: bool) {
+    if let Some(why) = obstacle_of(creation, is_on_small) {
         let mut padded = [b' '; 16];
         for (byte, character) in padded.iter_mut().zip(creation.name.items()) {
             *byte = *character;
@@ -94,8 +110,22 @@ fn name_unstarted<R: Eprint>(rt: &R, creation: &Creation) {
     }
 }
 
-/// Why Linux doesn't start a new array, if it doesn't.
-fn obstacle_of(creation: &Creation) -> Option<&'static str> {
+/// Why Linux doesn't start a new array, or not whole, if it doesn't.
+fn obstacle_of(creation: &Creation, is_on_small: bool) -> Option<&'static str> {
+    match (obstacle_of_shape(creation), creation.level) {
+        (Some(why), _) => Some(why),
+        (None, _) if is_on_small => {
+            Some(" with all its disks: it takes none of 65536 sectors or less")
+        }
+        (None, 0x04 | 0x05) => Some(
+            " without --force: nothing has made its parity agree with its data yet",
+        ),
+        (None, _) => None,
+    }
+}
+
+/// Why Linux starts no array of this shape, if it doesn't.
+fn obstacle_of_shape(creation: &Creation) -> Option<&'static str> {
     let elements = creation.elements.items();
     let is_single = elements.len() == 1;
     let is_wide = elements
@@ -110,10 +140,10 @@ fn obstacle_of(creation: &Creation) -> Option<&'static str> {
         _ if !is_single && is_foreign(creation) => {
             Some(": of several elements it has those of RAID 1 alone, striped or spanned")
         }
+        _ if !is_single && is_uneven(creation) => {
+            Some(": of several elements it has those of equally many disks alone")
+        }
         _ if creation.code < LEAST_CODE => Some(": it has no strips of less than 4 KiB (code 3)"),
-        (0x04 | 0x05, _) => Some(
-            " without --force: nothing has made its parity agree with its data yet",
-        ),
         _ => None,
     }
 }
@@ -121,6 +151,19 @@ fn obstacle_of(creation: &Creation) -> Option<&'static str> {
 /// Whether Linux doesn't take several elements so.
 fn is_foreign(creation: &Creation) -> bool {
     creation.level != 0x01 || !matches!(creation.secondary, Some(0x00 | 0x03))
+}
+
+/// Whether the elements have different numbers of disks.
+fn is_uneven(creation: &Creation) -> bool {
+    match creation.elements.items() {
+        [first, others @ ..] => {
+            let count = first.slots.items().len();
+            others
+                .iter()
+                .any(|element| element.slots.items().len() != count)
+        }
+        [] => false,
+    }
 }
 
 /// Names on standard error each array on disks of Linux's kind that Linux left before its first resync had ended: its records

@@ -20,10 +20,15 @@ Commands:
   read NAME START COUNT
                    print the bytes of so many blocks of an array, from one on, and
                    nothing else: at most 2048 of 512 bytes each; nothing is written
+  write NAME START COUNT
+                   give so many blocks of an array, from one on, the bytes of standard
+                   input: at most 2048 of 512 bytes each
   scrub NAME       tell whether the copies and the parity of an array agree, or the
                    first row that doesn't; nothing is written
   accept NAME      take the copies and the parity of a marked array to agree, on
                    your word
+  resync NAME      make the copies and the parity of an array agree, and take its
+                   mark away
   create NAME LEVEL CODE SECONDARY SLOT,SLOT..@BLOCKS..
                    make an array of these disks, with strips of 2^CODE sectors;
                    LEVEL is raid0, raid1, raid4.first, raid4.last, raid5.r0,

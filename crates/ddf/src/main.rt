@@ -90,12 +90,12 @@ where
 }
 
 /// The words behind the program's name.
-fn words<R: Env + AllocGlobal>(rt: &R) -> io::Result<Vec<String>> {
+fn words<R: Env + Eprint + AllocGlobal>(rt: &R) -> io::Result<Vec<String>> {
     let mut words = Vec::new(rt.alloc());
     for word in env::args(rt)?.skip(1) {
         words.push(word)?;
     }
-    number_slots(rt.alloc(), &mut words)?;
+    number_slots(rt, &mut words)?;
     Ok(words)
 }
 

@@ -92,8 +92,8 @@ fn explain_command(words: &[String], name: usize, place: usize) -> Wrong<'_> {
 fn wanted(command: &str, offset: usize) -> &'static str {
     match command {
         "create" => wanted_of_array(offset),
-        "read" => wanted_of_blocks(offset),
-        "delete" | "accept" | "scrub" if offset == 1 => "the name of an array",
+        "read" | "write" => wanted_of_blocks(offset),
+        "delete" | "accept" | "resync" | "scrub" if offset == 1 => "the name of an array",
         "spare" | "fail" if offset == 1 => "a slot's number from 0 to 63, or its image",
         "spare" if offset == 2 => "global, for or off",
         "spare" => "the name of an array behind for, and nothing behind global and off",
@@ -114,7 +114,7 @@ fn wanted_of_array(offset: usize) -> &'static str {
     }
 }
 
-/// What `read` wants so many words behind its name.
+/// What `read` and `write` want so many words behind their name.
 fn wanted_of_blocks(offset: usize) -> &'static str {
     match offset {
         1 => "the name of an array",
@@ -126,6 +126,13 @@ fn wanted_of_blocks(offset: usize) -> &'static str {
 
 /// What is wrong with a slot behind `label`.
 fn explain_slot<'a>(words: &'a [String], name: usize, word: &'a str) -> Wrong<'a> {
+    if word == "linux" {
+        return Wrong::Misplaced(
+            "label",
+            word,
+            "linux first and once, and a slot's number or image",
+        );
+    }
     let count = words
         .iter()
         .skip(name)

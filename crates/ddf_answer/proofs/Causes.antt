@@ -1,13 +1,13 @@
 -- The cause of a status, by what a command told.
-use Rattle.std.proofs.Common.{◌≡◌, ◌⊎◌, inl, inr, ⊎_elim, ℕ, List, true, false, refl, subst}
+use Rattle.std.proofs.Common.{◌≡◌, inl, inr, ⊎_elim, ℕ, List, true, false, refl, subst}
 use Rattle.std.specs.Prelude.{IsTrue}
-use Rattle.ddf_bytes.specs.Streams.{SinkRose}
+use Rattle.ddf_bytes.specs.Streams.{SourceState}
 use Rattle.ddf_words.specs.declared.traits.Traits.{Traits}
 use Rattle.ddf_group.specs.declared.answer.Assembly.{Assembly}
 use Rattle.ddf_group.specs.declared.answer.Assembly.TheVariants as faults
 use Rattle.ddf_answer.specs.Answers.{failure_of}
 use Rattle.ddf_answer.specs.Call.{Answer, Work}
-use Rattle.ddf_answer.specs.Ends.{HasCause, SomeSlotRose, is_unwritten}
+use Rattle.ddf_answer.specs.Ends.{Ends, EndsBy, HasCause, SomeSlotRose, StreamRose, is_unwritten}
 use Rattle.ddf_answer.specs.Tells.{ClosesWith, EndsWith, IsCutShort}
 use Rattle.ddf_answer.specs.declared.failure.Failure.TheVariants.{Disk}
 
@@ -32,32 +32,57 @@ no_disk (faults.Conflict i j sequence differ) slot e = cc
 no_disk (faults.Split i j) slot e = cc
 no_disk faults.Memory slot e = cc
 
-module _ {D : Type 0} (traits : Traits) (work : Work D) (answer : Answer) (stream : answer.status ≡ 6 → SinkRose answer.old answer.new) where
-  pub memory_cause : answer.status ≡ 5 → HasCause traits work answer
+module _ {D : Type 0} (traits : Traits) (work : Work D) (answer : Answer) {rose : Type 0} (stream : answer.status ≡ 6 → rose) where
+  pub memory_cause : answer.status ≡ 5 → HasCause traits work answer rose
   memory_cause five = inr (inl five)
 
-  pub fault_cause : SomeSlotRose work.old work.new → answer.status ≡ 3 → HasCause traits work answer
-  fault_cause rose three = inr (inr (inr (inr (inl (three, rose)))))
+  pub fault_cause : SomeSlotRose work.old work.new → answer.status ≡ 3 → HasCause traits work answer rose
+  fault_cause failed three = inr (inr (inr (inr (inl (three, failed)))))
 
-  pub stream_cause : answer.status ≡ 6 → HasCause traits work answer
+  pub stream_cause : answer.status ≡ 6 → HasCause traits work answer rose
   stream_cause six = inr (inr (inr (inr (inr (six, stream six)))))
 
-  pub short_cause : IsCutShort answer.status → HasCause traits work answer
+  pub short_cause : IsCutShort answer.status → HasCause traits work answer rose
   short_cause short = ⊎_elim memory_cause stream_cause short
 
   module _ {text : List ℕ} where
     -- it was done
-    pub done_told : ClosesWith 0 text answer → HasCause traits work answer
+    pub done_told : ClosesWith 0 text answer → HasCause traits work answer rose
     done_told closes = ⊎_elim inl stream_cause closes.ends
 
     -- it was refused
-    pub refused_told : traits.may_refuse ≡ true → EndsWith 1 text answer → HasCause traits work answer
+    pub refused_told : traits.may_refuse ≡ true → EndsWith 1 text answer → HasCause traits work answer rose
     refused_told may ends = ⊎_elim (λ one. inr (inr (inl (one, may)))) short_cause ends.ends
 
     -- records contradict each other
-    pub contradicted_told : traits.takes_group ≡ true → EndsWith 4 text answer → HasCause traits work answer
+    pub contradicted_told : traits.takes_group ≡ true → EndsWith 4 text answer → HasCause traits work answer rose
     contradicted_told takes ends = ⊎_elim (λ four. inr (inr (inr (inl (four, takes))))) short_cause ends.ends
 
     -- a call on a slot failed
-    pub fault_told : SomeSlotRose work.old work.new → ClosesWith 3 text answer → HasCause traits work answer
-    fault_told rose closes = ⊎_elim (fault_cause rose) stream_cause closes.ends
+    pub fault_told : SomeSlotRose work.old work.new → ClosesWith 3 text answer → HasCause traits work answer rose
+    fault_told failed closes = ⊎_elim (fault_cause failed) stream_cause closes.ends
+
+-- ---- streams
+
+cause_by : {D : Type 0} (traits : Traits) (work : Work D) (answer : Answer) {rose other : Type 0} → (rose → other) → HasCause traits work answer rose → HasCause traits work answer other
+cause_by traits work answer gives (inl done) = inl done
+cause_by traits work answer gives (inr (inl memory)) = inr (inl memory)
+cause_by traits work answer gives (inr (inr (inl refused))) = inr (inr (inl refused))
+cause_by traits work answer gives (inr (inr (inr (inl contradicted)))) = inr (inr (inr (inl contradicted)))
+cause_by traits work answer gives (inr (inr (inr (inr (inl fault))))) = inr (inr (inr (inr (inl fault))))
+cause_by traits work answer gives (inr (inr (inr (inr (inr stream))))) = inr (inr (inr (inr (inr (stream.0, gives stream.1)))))
+
+-- where one cause of status 6 gives another, a command that ends by the one ends by the other
+pub ends_by : {D : Type 0} (traits : Traits) (work : Work D) (answer : Answer) {rose other : Type 0} → (rose → other) → EndsBy traits work answer rose → EndsBy traits work answer other
+ends_by traits work answer gives ends = record {
+  cause = cause_by traits work answer gives ends.cause;
+  unwritten = ends.unwritten;
+  stays = ends.stays;
+  goes_on = ends.goes_on;
+  same_sizes = ends.same_sizes;
+}
+
+-- a command ends so whatever became of its input
+pub ends_with_input : {D : Type 0} (traits : Traits) (work : Work D) (answer : Answer) (input_old input_new : SourceState) → Ends traits work answer
+    → EndsBy traits work answer (StreamRose traits input_old input_new answer)
+ends_with_input traits work answer input_old input_new ends = ends_by traits work answer inl ends

@@ -1,5 +1,5 @@
 -- What a call tells.
-use Rattle.std.proofs.Common.{◌≡◌, ◌++◌, ⊎_elim, inl, inr, ℕ, List, Option, Some, None, refl, sym, arith, append-nil}
+use Rattle.std.proofs.Common.{◌++◌, ⊎_elim, inl, inr, ℕ, List, Option, Some, None, refl, sym, arith, append-nil}
 use Rattle.std.specs.Prelude.{IfSome, codes}
 use Rattle.ddf_bytes.specs.Streams.{SinkState}
 use Rattle.ddf_answer.specs.Call.{Answer, answer_of}

@@ -1,7 +1,8 @@
 -- How a command ends, by what it may do.
 use Rattle.std.specs.Prelude.{◌≡◌, ◌⊎◌, ℕ, ◌<◌, [], ◌∷◌, length, Bool, true, false, ◌==◌, IsTrue}
 use Rattle.std.specs.List.{list_any}
-use Rattle.ddf_bytes.specs.Streams.{SinkRose}
+use Rattle.ddf_bytes.specs.Counts.{Rose}
+use Rattle.ddf_bytes.specs.Streams.{SinkRose, SourceState}
 use Rattle.ddf_bay.specs.Moments.{GoesOn}
 use Rattle.ddf_bay.specs.ReadsOnly.{ReadsOnly, SlotRose}
 use Rattle.ddf_bay.specs.State.{BayState}
@@ -19,16 +20,24 @@ pub record SomeSlotRose {D : Type 0} (old new : BayState D) : Type 0 where
   pub rose : SlotRose old new slot
 
 -- Each status has its cause, of a command that may do this: it was done; memory ran out; it was refused, where it may be; records of the group
--- contradict each other, where it takes one; a call on a slot failed; or the output failed.
-abbrev pub HasCause : {D : Type 0} → Traits → Work D → Answer → Type 0
-HasCause traits work answer =
+-- contradict each other, where it takes one; a call on a slot failed; or a stream did, as `rose` says.
+abbrev pub HasCause : {D : Type 0} → Traits → Work D → Answer → (rose : Type 0) → Type 0
+HasCause traits work answer rose =
     (answer.status ≡ 0) ⊎ (answer.status ≡ 5) ⊎ ((answer.status ≡ 1) × (traits.may_refuse ≡ true)) ⊎ ((answer.status ≡ 4) × (traits.takes_group ≡ true))
-    ⊎ ((answer.status ≡ 3) × SomeSlotRose work.old work.new) ⊎ ((answer.status ≡ 6) × SinkRose answer.old answer.new)
+    ⊎ ((answer.status ≡ 3) × SomeSlotRose work.old work.new) ⊎ ((answer.status ≡ 6) × rose)
 
 -- How a command ends that may do this. At the statuses of calls that wrote nothing nothing was written, and where it may not write at none.
-pub record Ends {D : Type 0} (traits : Traits) (work : Work D) (answer : Answer) : Type 0 where
-  pub cause : HasCause traits work answer
+pub record EndsBy {D : Type 0} (traits : Traits) (work : Work D) (answer : Answer) (rose : Type 0) : Type 0 where
+  pub cause : HasCause traits work answer rose
   pub unwritten : IsTrue (is_unwritten answer.status) → ReadsOnly work.old work.new
   pub stays : traits.may_write ≡ false → ReadsOnly work.old work.new
   pub goes_on : GoesOn work.old work.new
   pub same_sizes : work.new.sizes ≡ work.old.sizes
+
+-- where it has no stream but its output
+abbrev pub Ends : {D : Type 0} → Traits → Work D → Answer → Type 0
+Ends traits work answer = EndsBy traits work answer (SinkRose answer.old answer.new)
+
+-- A stream of a command that may do this failed: its output, or its input where it takes bytes from it.
+abbrev pub StreamRose : Traits → (input_old input_new : SourceState) → Answer → Type 0
+StreamRose traits input_old input_new answer = SinkRose answer.old answer.new ⊎ ((traits.takes_input ≡ true) × Rose input_old.faults input_new.faults)

@@ -1,12 +1,17 @@
 -- What holds once calls gave sectors bytes, and the slots that were touched are synced.
 use Rattle.std.proofs.Common.{◌≡◌, ◌∙◌, ◌⊎◌, inl, inr, ⊎_elim, ℕ, ◌<◌, ◌≤◌, Bool, true, false, List, refl, sym, ap, subst, arith, length}
-use Rattle.std.specs.Prelude.{slice_index_or}
+use Rattle.std.specs.Prelude.{Result, Ok, Err, IfErr, slice_index_or}
 use Rattle.std.proofs.lemmas.Bool.{cases_lt}
 use Rattle.ddf_bay.specs.State.{BayState}
 use Rattle.ddf_bay.specs.Sectors.{Image, IsLeft}
 use Rattle.ddf_bay.specs.Moments.{IsSettled, Keeps, SpendsOver, StopsLeave}
 use Rattle.ddf_bay.proofs.Steps.{stops_then}
-use Rattle.ddf_cells.specs.Touching.{Giving, GoesBetween, IsAmongGiven, IsTouchedSlot, Writes}
+use Rattle.ddf_cells.specs.Touching.{Giving, GoesBetween, IsAmongGiven, IsGivenOn, IsTouchedSlot, Writes}
+
+-- two things of an error
+pub both_of_err : {T E : Type 0} (r : Result T E) (P Q : E → Type 0) → IfErr r P → IfErr r Q → IfErr r (λ e. P e × Q e)
+both_of_err (Ok x) P Q p q = p
+both_of_err (Err e) P Q p q = (p, q)
 
 module _ (May : Giving) (tells : Type 0) {D : Type 0} {old b : BayState D} {t u : List Bool} (w : Writes May tells old b t u) where
   pub held_by : tells → (s l : ℕ) → (b.held s l ≡ old.held s l) ⊎ May s l (b.held s l)
@@ -17,6 +22,10 @@ module _ (May : Giving) (tells : Type 0) {D : Type 0} {old b : BayState D} {t u 
 
   pub goes_by : GoesBetween old b
   goes_by = record { goes_on = w.goes_on; same_sizes = w.same_sizes; reads_rise = w.reads_rise; writes_rise = w.writes_rise }
+
+  -- a slot that is touched, where none was before
+  pub touched_by : ((s : ℕ) → IsTouchedSlot t s → ⊥) → (s : ℕ) → IsTouchedSlot u s → IsGivenOn May s
+  touched_by none s is = ⊎_elim (λ was. absurd (none s was)) (λ given. given) (w.touched_only s is)
 
   -- after the syncs
   module _ (n : BayState D) (keeps : Keeps b.may_hold n.may_hold) (same : n.held ≡ b.held) where

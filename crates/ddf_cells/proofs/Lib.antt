@@ -23,3 +23,4 @@ pub mod Whole
 pub mod Redundance
 pub mod ParityCells
 pub mod Ends
+pub mod FirstSlots

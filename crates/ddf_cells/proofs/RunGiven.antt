@@ -42,6 +42,9 @@ module _ (v : Volume) (known : IsVolume v) (e p start at n most : ℕ) (first : 
     pub piece_long : length piece ≡ n
     piece_long = let many : at + n - at ≡ n = omega arith in length-take-le (at + n - at) (drop at sectors) (omega (arith, length-drop at sectors, inside_is)) ∙ many
 
+    pub piece_some : 0 < length piece
+    piece_some = omega (arith, piece_long, run.some)
+
     in_piece : (k : ℕ) → k < n → slice_index_or piece k [] ≡ slice_index_or sectors (at + k) []
     in_piece k below = get_or-take (at + n - at) (drop at sectors) k [] (omega (arith, below)) ∙ get_or-drop at sectors k []
 

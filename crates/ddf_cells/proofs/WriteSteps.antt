@@ -1,5 +1,5 @@
 -- Writes of blocks, call by call.
-use Rattle.std.proofs.Common.{◌≡◌, ◌∙◌, inl, inr, ⊎_elim, ℕ, zero, suc, ◌+◌, ◌<◌, Bool, true, List, [], ◌∷◌, refl, sym, ap, subst, arith, length}
+use Rattle.std.proofs.Common.{◌≡◌, ◌∙◌, ◌⊎◌, inl, inr, ⊎_elim, ℕ, zero, suc, ◌+◌, ◌-◌, ◌<◌, Bool, true, false, List, [], ◌∷◌, refl, sym, ap, subst, arith, length, replicate}
 use Rattle.std.specs.Prelude.{slice_index_or, slice_set}
 use Rattle.ddf_bay.specs.State.{BayState}
 use Rattle.ddf_bay.specs.Sectors.{Image, InRun, IsLeft}
@@ -10,7 +10,7 @@ use Rattle.ddf_array.specs.Places.{site_on}
 use Rattle.ddf_array.specs.Volume.{Volume, IsVolume}
 use Rattle.ddf_volume.specs.Reading.{OnlyReads}
 use Rattle.ddf_cells.specs.CellsOn.{GivesCells}
-use Rattle.ddf_cells.specs.Touching.{Giving, IsAmongGiven, Writes, AreSet, IsTouchedSlot}
+use Rattle.ddf_cells.specs.Touching.{Giving, IsAmongGiven, IsGivenOn, Writes, AreSet, IsTouchedSlot}
 use Rattle.ddf_array.specs.Apart.{IsApart}
 use Rattle.ddf_cells.proofs.OnCells.{OnCell, on_cell, one_owner}
 use Rattle.ddf_cells.proofs.CopiesOn.{on_position}
@@ -28,10 +28,31 @@ touch_here [] slot below = absurd (omega (arith, below))
 touch_here (b ∷ bs) zero below = refl
 touch_here (b ∷ bs) (suc slot) below = touch_here bs slot (omega (arith, below))
 
+touch_only : (touched : List Bool) (slot s : ℕ) → IsTouchedSlot (slice_set touched slot true) s → IsTouchedSlot touched s ⊎ (s ≡ slot)
+touch_only [] slot s is = inl is
+touch_only (b ∷ bs) zero zero is = inr refl
+touch_only (b ∷ bs) zero (suc s) is = inl is
+touch_only (b ∷ bs) (suc slot) zero is = inl is
+touch_only (b ∷ bs) (suc slot) (suc s) is = ⊎_elim inl (λ same. inr (ap suc same)) (touch_only bs slot s is)
+
+-- none of so many is before the first
+pub none_touched : (n s : ℕ) → IsTouchedSlot (replicate n false) s → ⊥
+none_touched zero s is = cc
+none_touched (suc n) zero is = cc
+none_touched (suc n) (suc s) is = none_touched n s is
+
 touch_count : (touched : List Bool) (slot : ℕ) → length (slice_set touched slot true) ≡ length touched
 touch_count [] slot = refl
 touch_count (b ∷ bs) zero = refl
 touch_count (b ∷ bs) (suc slot) = ap suc (touch_count bs slot)
+
+-- the first sector of a run gets bytes
+given_first : (May : Giving) (slot lba : ℕ) (run : List (List ℕ)) → 0 < length run → ((l : ℕ) (bytes : List ℕ) → InRun lba run l bytes → May slot l bytes) → IsGivenOn May slot
+given_first May slot lba run some gives = record {
+  lba = lba;
+  bytes = slice_index_or run (lba - lba) [];
+  is_given = gives lba (slice_index_or run (lba - lba) []) (record { from = omega arith; below = omega (arith, some); are = refl });
+}
 
 module _ (May : Giving) (tells : Type 0) {D : Type 0} where
   -- before the first call
@@ -45,6 +66,7 @@ module _ (May : Giving) (tells : Type 0) {D : Type 0} where
     left = λ s l bytes left. inl left;
     any_moment = stops_start a (IsAmongGiven May a.may_hold);
     touched_up = λ s is. is;
+    touched_only = λ s is. inl is;
     same_count = refl;
   }
 
@@ -66,6 +88,7 @@ module _ (May : Giving) (tells : Type 0) {D : Type 0} where
     any_moment = stops_then {Q = IsAmongGiven May b.may_hold} first.any_moment next.any_moment
         (λ image among s l. ⊎_elim (λ may. ⊎_elim inl (λ given. inr given.0) (first.left s l (image s l) may)) inr (among s l));
     touched_up = λ s is. next.touched_up s (first.touched_up s is);
+    touched_only = λ s is. ⊎_elim (λ was. first.touched_only s was) inr (next.touched_only s is);
     same_count = next.same_count ∙ first.same_count;
   }
 
@@ -80,15 +103,16 @@ module _ (May : Giving) (tells : Type 0) {D : Type 0} where
     left = λ s l bytes left. inl (reads.reads.keeps s l bytes left);
     any_moment = stops_weaken {Q = IsLeft a.may_hold} reads.reads.any_moment (λ image left s l. inl (left s l));
     touched_up = λ s is. is;
+    touched_only = λ s is. inl is;
     same_count = refl;
   }
 
   -- a run is written to a touched slot
-  pub writes_run : {a b : BayState D} (slot lba : ℕ) (run : List (List ℕ)) (touched : List Bool) (n m : ℕ) → slot < length touched
+  pub writes_run : {a b : BayState D} (slot lba : ℕ) (run : List (List ℕ)) (touched : List Bool) (n m : ℕ) → slot < length touched → 0 < length run
       → ((l : ℕ) (bytes : List ℕ) → InRun lba run l bytes → May slot l bytes)
       → (tells → Mixes a.held b.held slot lba run) → Adds a.may_hold b.may_hold slot lba run → StopsLeave a b (IsAmong a.may_hold slot lba run) → SpendsWrites a b slot n m
       → Writes May tells a b touched (slice_set touched slot true)
-  writes_run {a = a} {b = b} slot lba run touched n m below gives mixes adds moments spends =
+  writes_run {a = a} {b = b} slot lba run touched n m below some gives mixes adds moments spends =
       let here = touch_here touched slot below in
       let given : (s l : ℕ) (bytes : List ℕ) → (s ≡ slot) × InRun lba run l bytes → May s l bytes =
       λ s l bytes new. subst (λ n. May n l bytes) (sym new.0) (gives l bytes new.1) in
@@ -101,6 +125,7 @@ module _ (May : Giving) (tells : Type 0) {D : Type 0} where
         left = λ s l bytes left. ⊎_elim inl (λ new. inr (given s l bytes new, subst (IsTouchedSlot (slice_set touched slot true)) (sym new.0) here)) (adds s l bytes left);
         any_moment = stops_weaken {Q = IsAmong a.may_hold slot lba run} moments (λ image among s l. ⊎_elim inl (λ new. inr (given s l (image s l) new)) (among s l));
         touched_up = λ s is. touch_up touched slot s below is;
+        touched_only = λ s is. ⊎_elim inl (λ same. inr (subst (IsGivenOn May) (sym same) (given_first May slot lba run some gives))) (touch_only touched slot s is);
         same_count = touch_count touched slot;
       }
 
@@ -116,6 +141,7 @@ writes_wider May Wide tells {a = a} {b = b} wide writes = record {
   left = λ s l bytes left. ⊎_elim inl (λ given. inr (wide s l bytes given.0, given.1)) (writes.left s l bytes left);
   any_moment = stops_weaken {Q = IsAmongGiven May a.may_hold} writes.any_moment (λ image among s l. ⊎_elim inl (λ given. inr (wide s l (image s l) given)) (among s l));
   touched_up = writes.touched_up;
+  touched_only = λ s is. ⊎_elim inl (λ given. inr (record { lba = given.lba; bytes = given.bytes; is_given = wide s given.lba given.bytes given.is_given })) (writes.touched_only s is);
   same_count = writes.same_count;
 }
 

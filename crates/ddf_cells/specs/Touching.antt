@@ -16,12 +16,18 @@ IsTouchedSlot touched slot = slice_index_or touched slot false ≡ true
 abbrev pub Giving : Type 1
 Giving = ℕ → ℕ → List ℕ → Type 0
 
+-- calls may give a sector of this slot bytes
+pub record IsGivenOn (May : Giving) (slot : ℕ) : Type 0 where
+  pub lba : ℕ
+  pub bytes : List ℕ
+  pub is_given : May slot lba bytes
+
 -- an image that has each sector by itself as a stop might leave it before, or with bytes that calls may give it
 abbrev pub IsAmongGiven : Giving → Outcomes → Image → Type 0
 IsAmongGiven May may image = (s l : ℕ) → may s l (image s l) ⊎ May s l (image s l)
 
 -- Any number of calls gave sectors only bytes that they may give, on touched slots. At each moment since the first a stop
--- leaves such an image.
+-- leaves such an image. A slot is touched only where they may give one of its sectors bytes.
 pub record Writes {D : Type 0} (May : Giving) (tells : Type 0) (old new : BayState D) (before after : List Bool) : Type 0 where
   pub goes_on : GoesOn old new
   pub same_sizes : new.sizes ≡ old.sizes
@@ -31,6 +37,7 @@ pub record Writes {D : Type 0} (May : Giving) (tells : Type 0) (old new : BaySta
   pub left : (s l : ℕ) (bytes : List ℕ) → new.may_hold s l bytes → old.may_hold s l bytes ⊎ (May s l bytes × IsTouchedSlot after s)
   pub any_moment : StopsLeave old new (IsAmongGiven May old.may_hold)
   pub touched_up : (s : ℕ) → IsTouchedSlot before s → IsTouchedSlot after s
+  pub touched_only : (s : ℕ) → IsTouchedSlot after s → IsTouchedSlot before s ⊎ IsGivenOn May s
   pub same_count : length after ≡ length before
 
 -- what calls on any slots leave of sizes and counts of faults: none of these falls

@@ -6,7 +6,7 @@ ghost use Rattle.ddf_bay.specs.Moments.{Costs};
 ghost use Rattle.ddf_array.specs.Apart.{IsApart};
 ghost use Rattle.ddf_array.specs.Volume.{Fits, IsVolume, capacity};
 ghost use Rattle.ddf_cells.specs.CellsOn.{GivesCells, cells_on, how_many, stretches_on, places_at, write_cells, write_stretches};
-ghost use Rattle.ddf_cells.specs.Touching.{Writes, AreSet};
+ghost use Rattle.ddf_cells.specs.Touching.{Writes, AreSet, IsTouchedSlot};
 
 use crate::cell::{cell_on, run_on};
 use crate::touched::touch;
@@ -37,7 +37,7 @@ fn write_first<B: Bay>(
     ensures set { B.tells → IfOk result (λ count. AreSet view.now element position start at (at + count) from.now (B.disks bay.new).held touched.new) }
     ensures writes { Writes (GivesCells view.now start from.now) B.tells (B.disks bay.old) (B.disks bay.new) touched.old touched.new }
     ensures failed { IfErr result (λ slot. Rose ((B.disks bay.old).failed_writes slot) ((B.disks bay.new).failed_writes slot)) }
-    ensures there { IfErr result (λ slot. slot < length (B.disks bay.old).sizes) }
+    ensures touched { IfErr result (IsTouchedSlot touched.new) }
     ensures reads { (B.disks bay.new).failed_reads ≡ (B.disks bay.old).failed_reads }
     ensures costs { Costs (B.disks bay.old) (B.disks bay.new) (how_many (cells_on view.now element position (start + at) (length from.now - at)))
         (stretches_on (cells_on view.now element position (start + at) (length from.now - at))) }
@@ -79,7 +79,7 @@ fn write_position<B: Bay>(
     ensures set { B.tells → OnOk result (AreSet view.now element position start 0 (length from.now) from.now (B.disks bay.new).held touched.new) }
     ensures writes { Writes (GivesCells view.now start from.now) B.tells (B.disks bay.old) (B.disks bay.new) touched.old touched.new }
     ensures failed { IfErr result (λ slot. Rose ((B.disks bay.old).failed_writes slot) ((B.disks bay.new).failed_writes slot)) }
-    ensures there { IfErr result (λ slot. slot < length (B.disks bay.old).sizes) }
+    ensures touched { IfErr result (IsTouchedSlot touched.new) }
     ensures reads { (B.disks bay.new).failed_reads ≡ (B.disks bay.old).failed_reads }
     ensures costs { Costs (B.disks bay.old) (B.disks bay.new) (how_many (cells_on view.now element position start (length from.now)))
         (stretches_on (cells_on view.now element position start (length from.now))) }
@@ -109,7 +109,7 @@ fn write_element<B: Bay>(
     ensures set { B.tells → OnOk result ((position : ℕ) → position < places → AreSet view.now element position start 0 (length from.now) from.now (B.disks bay.new).held touched.new) }
     ensures writes { Writes (GivesCells view.now start from.now) B.tells (B.disks bay.old) (B.disks bay.new) touched.old touched.new }
     ensures failed { IfErr result (λ slot. Rose ((B.disks bay.old).failed_writes slot) ((B.disks bay.new).failed_writes slot)) }
-    ensures there { IfErr result (λ slot. slot < length (B.disks bay.old).sizes) }
+    ensures touched { IfErr result (IsTouchedSlot touched.new) }
     ensures reads { (B.disks bay.new).failed_reads ≡ (B.disks bay.old).failed_reads }
     ensures costs { Costs (B.disks bay.old) (B.disks bay.new)
         (sum_by (λ position. how_many (cells_on view.now element position start (length from.now))) (range_with_len 0 places))
@@ -135,7 +135,7 @@ fn count_places(view: &View, element: usize) -> usize
 /// call where their cells on a position follow one another. The slots that are written to are noted, and none is synced.
 ///
 /// # Errors
-/// The slot of which a write failed in this call.
+/// The slot of which a write failed in this call: one that was noted.
 pub fn write_cells<B: Bay>(
     bay: &mut B,
     view: &View,
@@ -151,7 +151,7 @@ pub fn write_cells<B: Bay>(
     ensures set { B.tells → OnOk result ((element position : ℕ) → AreSet view.now element position start 0 (length from.now) from.now (B.disks bay.new).held touched.new) }
     ensures writes { Writes (GivesCells view.now start from.now) B.tells (B.disks bay.old) (B.disks bay.new) touched.old touched.new }
     ensures failed { IfErr result (λ slot. Rose ((B.disks bay.old).failed_writes slot) ((B.disks bay.new).failed_writes slot)) }
-    ensures there { IfErr result (λ slot. slot < length (B.disks bay.old).sizes) }
+    ensures touched { IfErr result (IsTouchedSlot touched.new) }
     ensures reads { (B.disks bay.new).failed_reads ≡ (B.disks bay.old).failed_reads }
     ensures costs { Costs (B.disks bay.old) (B.disks bay.new) (write_cells view.now start (length from.now)) (write_stretches view.now start (length from.now)) }
 {

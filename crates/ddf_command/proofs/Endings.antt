@@ -5,39 +5,50 @@ use Rattle.std.proofs.lemmas.Bool.{cases_lt}
 use Rattle.std.proofs.lemmas.List.{append-nil, length-replicate}
 use Rattle.ddf_bytes.specs.declared.stamp.Stamp.{Stamp}
 use Rattle.ddf_bytes.specs.Stamps.{timestamp_of}
-use Rattle.ddf_bytes.specs.Streams.{SinkRose, SinkState}
+use Rattle.ddf_bytes.specs.Streams.{SinkState, SourceState}
 use Rattle.ddf_bay.specs.State.{BayState}
 use Rattle.ddf_bay.proofs.Looks.{failed_padded, none_failed, reads_start}
 use Rattle.ddf_bay.proofs.Steps.{stops_start}
 use Rattle.ddf_update.specs.Group.{IsLeftFoundingAll}
-use Rattle.ddf_assembly.specs.Group.{group_of}
+use Rattle.ddf_group.specs.declared.answer.Assembly.{Assembly}
+use Rattle.ddf_assembly.specs.Committed.{slots_of}
+use Rattle.ddf_assembly.specs.Group.{GroupValue, group_of}
 use Rattle.ddf_assembly.specs.Slots.{IsLooked, newest_from}
 use Rattle.ddf_words.specs.declared.command.Asked.{Asked}
 use Rattle.ddf_words.specs.declared.command.Command.{Command}
-use Rattle.ddf_words.specs.declared.command.Command.TheVariants.{Assemble, Change, Examine, Label, Read, Scrub, Show}
+use Rattle.ddf_words.specs.declared.command.Command.TheVariants.{Assemble, Change, Examine, Label, Read, Resync, Scrub, Show, Write}
 use Rattle.ddf_words.specs.declared.traits.Traits.{Traits}
 use Rattle.ddf_words.specs.declared.words.WordFault.{WordFault}
 use Rattle.ddf_words.specs.declared.words.WordFault.TheVariants as words
 use Rattle.ddf_words.specs.Words.{Word, GoWrongAt}
 use Rattle.ddf_answer.specs.Call.{Answer, Work, answer_of, work_of}
-use Rattle.ddf_answer.specs.Ends.{Ends, HasCause, SomeSlotRose}
+use Rattle.ddf_answer.specs.Ends.{EndsBy, HasCause, SomeSlotRose}
 use Rattle.ddf_answer.specs.declared.failure.Failure.TheVariants.{Memory}
 use Rattle.ddf_disk_commands.specs.Examine.{IsExamined}
 use Rattle.ddf_disk_commands.specs.Label.{label_copy, label_slots, revision_of}
+use Rattle.ddf_group_commands.proofs.Beside.{reads_beside}
 use Rattle.ddf_group_commands.proofs.ChangeEnds.{assembled_nothing, changed_nothing}
+use Rattle.ddf_group_commands.proofs.Keeping.{reads_keep}
 use Rattle.ddf_group_commands.proofs.ShowEnds.{shown_nothing}
+use Rattle.ddf_group_commands.specs.Change.{Request, TakesGroup}
 use Rattle.ddf_group_commands.specs.Requests.{request_for}
 use Rattle.ddf_data_commands.proofs.LeftOut.{has_no_place}
 use Rattle.ddf_data_commands.proofs.ReadBlocks.{memory_in}
 use Rattle.ddf_data_commands.proofs.Scrubbed.{scrubbed_nothing}
 use Rattle.ddf_data_commands.specs.Read.{NotRead}
+use Rattle.ddf_write_commands.specs.Doing.{Doing}
+use Rattle.ddf_write_commands.specs.Payload.{input_of}
+use Rattle.ddf_write_commands.specs.Resync.{IsResyncDone, resync_request, resyncing}
+use Rattle.ddf_write_commands.specs.Worked.{IsWorkedIn}
+use Rattle.ddf_write_commands.specs.Write.{IsWriteDone, write_request, writing}
+use Rattle.ddf_write_commands.specs.Write.Outcome.{Unfit}
 use Rattle.ddf_command.specs.Run.{IsCommandDone, is_status}
 
 -- ---- what the cause of a status tells
 
-module _ {D : Type 0} (traits : Traits) (work : Work D) (answer : Answer) where
+module _ {D : Type 0} (traits : Traits) (work : Work D) (answer : Answer) (rose : Type 0) where
   -- it is one of those that a call may end with
-  status_by : HasCause traits work answer → IsTrue (is_status answer.status)
+  status_by : HasCause traits work answer rose → IsTrue (is_status answer.status)
   status_by (inl zero) = subst (λ (n : ℕ). IsTrue (is_status n)) (sym zero) refl
   status_by (inr (inl five)) = subst (λ (n : ℕ). IsTrue (is_status n)) (sym five) refl
   status_by (inr (inr (inl one))) = subst (λ (n : ℕ). IsTrue (is_status n)) (sym one.0) refl
@@ -46,7 +57,7 @@ module _ {D : Type 0} (traits : Traits) (work : Work D) (answer : Answer) where
   status_by (inr (inr (inr (inr (inr six))))) = subst (λ (n : ℕ). IsTrue (is_status n)) (sym six.0) refl
 
   -- the words were good
-  words_by : HasCause traits work answer → answer.status ≡ 2 → ⊥
+  words_by : HasCause traits work answer rose → answer.status ≡ 2 → ⊥
   words_by (inl zero) two = omega (arith, two, zero)
   words_by (inr (inl five)) two = omega (arith, two, five)
   words_by (inr (inr (inl one))) two = omega (arith, two, one.0)
@@ -55,7 +66,7 @@ module _ {D : Type 0} (traits : Traits) (work : Work D) (answer : Answer) where
   words_by (inr (inr (inr (inr (inr six))))) two = omega (arith, two, six.0)
 
   -- status 3 comes from a slot
-  slot_by : HasCause traits work answer → answer.status ≡ 3 → SomeSlotRose work.old work.new
+  slot_by : HasCause traits work answer rose → answer.status ≡ 3 → SomeSlotRose work.old work.new
   slot_by (inl zero) e = absurd (omega (arith, e, zero))
   slot_by (inr (inl five)) e = absurd (omega (arith, e, five))
   slot_by (inr (inr (inl one))) e = absurd (omega (arith, e, one.0))
@@ -63,17 +74,17 @@ module _ {D : Type 0} (traits : Traits) (work : Work D) (answer : Answer) where
   slot_by (inr (inr (inr (inr (inl three))))) e = three.1
   slot_by (inr (inr (inr (inr (inr six))))) e = absurd (omega (arith, e, six.0))
 
-  -- and status 6 from the output
-  sink_by : HasCause traits work answer → answer.status ≡ 6 → SinkRose answer.old answer.new
-  sink_by (inl zero) e = absurd (omega (arith, e, zero))
-  sink_by (inr (inl five)) e = absurd (omega (arith, e, five))
-  sink_by (inr (inr (inl one))) e = absurd (omega (arith, e, one.0))
-  sink_by (inr (inr (inr (inl four)))) e = absurd (omega (arith, e, four.0))
-  sink_by (inr (inr (inr (inr (inl three))))) e = absurd (omega (arith, e, three.0))
-  sink_by (inr (inr (inr (inr (inr six))))) e = six.1
+  -- and status 6 from a stream
+  stream_by : HasCause traits work answer rose → answer.status ≡ 6 → rose
+  stream_by (inl zero) e = absurd (omega (arith, e, zero))
+  stream_by (inr (inl five)) e = absurd (omega (arith, e, five))
+  stream_by (inr (inr (inl one))) e = absurd (omega (arith, e, one.0))
+  stream_by (inr (inr (inr (inl four)))) e = absurd (omega (arith, e, four.0))
+  stream_by (inr (inr (inr (inr (inl three))))) e = absurd (omega (arith, e, three.0))
+  stream_by (inr (inr (inr (inr (inr six))))) e = six.1
 
   -- where nothing failed it is done, or memory ran out, or it is refused, or records contradict each other
-  fault_by : HasCause traits work answer → (SomeSlotRose work.old work.new → ⊥) → (SinkRose answer.old answer.new → ⊥)
+  fault_by : HasCause traits work answer rose → (SomeSlotRose work.old work.new → ⊥) → (rose → ⊥)
       → (answer.status ≡ 0) ⊎ (answer.status ≡ 5) ⊎ ((answer.status ≡ 1) × (traits.may_refuse ≡ true)) ⊎ ((answer.status ≡ 4) × (traits.takes_group ≡ true))
   fault_by (inl zero) none good = inl zero
   fault_by (inr (inl five)) none good = inr (inl five)
@@ -82,22 +93,22 @@ module _ {D : Type 0} (traits : Traits) (work : Work D) (answer : Answer) where
   fault_by (inr (inr (inr (inr (inl three))))) none good = absurd (none three.1)
   fault_by (inr (inr (inr (inr (inr six))))) none good = absurd (good six.1)
 
-module _ {D : Type 0} {traits : Traits} {work : Work D} {answer : Answer} (ends : Ends traits work answer) where
+module _ {D : Type 0} {traits : Traits} {work : Work D} {answer : Answer} {rose : Type 0} (ends : EndsBy traits work answer rose) where
   pub status_of : IsTrue (is_status answer.status)
-  status_of = status_by traits work answer ends.cause
+  status_of = status_by traits work answer rose ends.cause
 
   pub good_words : answer.status ≡ 2 → ⊥
-  good_words = words_by traits work answer ends.cause
+  good_words = words_by traits work answer rose ends.cause
 
   pub slot_rose : answer.status ≡ 3 → SomeSlotRose work.old work.new
-  slot_rose = slot_by traits work answer ends.cause
+  slot_rose = slot_by traits work answer rose ends.cause
 
-  pub sink_rose : answer.status ≡ 6 → SinkRose answer.old answer.new
-  sink_rose = sink_by traits work answer ends.cause
+  pub stream_rose : answer.status ≡ 6 → rose
+  stream_rose = stream_by traits work answer rose ends.cause
 
-  pub no_fault : (SomeSlotRose work.old work.new → ⊥) → (SinkRose answer.old answer.new → ⊥)
+  pub no_fault : (SomeSlotRose work.old work.new → ⊥) → (rose → ⊥)
       → (answer.status ≡ 0) ⊎ (answer.status ≡ 5) ⊎ ((answer.status ≡ 1) × (traits.may_refuse ≡ true)) ⊎ ((answer.status ≡ 4) × (traits.takes_group ≡ true))
-  no_fault = fault_by traits work answer ends.cause
+  no_fault = fault_by traits work answer rose ends.cause
 
 -- ---- words
 
@@ -133,19 +144,65 @@ nothing_done old tells told before = record {
   tells = λ disks output. record { whole = λ low. absurd (omega (arith, low)); front = record { count = 0; within = omega arith; front = sym (append-nil before.taken) } };
 }
 
-pub done_nothing : {D : Type 0} (old : BayState D) (tells told : Type 0) (before : SinkState) (stamp : Stamp) (group : Option (List ℕ)) (command : Command)
-    → IsCommandDone (work_of tells old old) stamp group command (answer_of told before before 5)
-done_nothing old tells told before stamp group Examine = nothing_done old tells told before
-done_nothing old tells told before stamp group Assemble = assembled_nothing old tells told before group (timestamp_of stamp) (none_looked old)
-done_nothing old tells told before stamp group Show = shown_nothing old tells told before group (none_looked old)
-done_nothing old tells told before stamp group (Label style slots) = record {
+-- nothing of a group was changed
+taken_nothing : {D : Type 0} (old : BayState D) (tells : Type 0) (named : Option (List ℕ)) (timestamp : ℕ) (request : Request) → TakesGroup (work_of tells old old) named timestamp request false
+taken_nothing old tells named timestamp request = record {
+  left = (none_looked old).left;
+  every_slot = (none_looked old).every_slot;
+  failed = (none_looked old).are_failed.rose;
+  newest = newest_from old 0 (none_looked old).left;
+  read = λ tells. refl;
+  beside = λ told found is. reads_beside old old (slots_of found.seats) (reads_start old);
+  keeps = λ told found is steps asked. reads_keep old old (none_looked old).left found steps (reads_start old);
+}
+
+-- and no blocks were worked on
+worked_nothing : {D : Type 0} (doing : Doing) (old : BayState D) (tells : Type 0) (timestamp : ℕ) (word : List ℕ) (request : Request) (meaning : Result GroupValue Assembly)
+    → IsWorkedIn doing (work_of tells old old) timestamp word request meaning (Err Memory)
+worked_nothing doing old tells timestamp word request (Ok found) = reads_start old
+worked_nothing doing old tells timestamp word request (Err fault) = (inr refl, reads_start old)
+
+module _ {D : Type 0} (old : BayState D) (tells told : Type 0) (before : SinkState) (named : Option (List ℕ)) (timestamp : ℕ) (word : List ℕ) where
+  resynced_nothing : IsResyncDone (work_of tells old old) named timestamp word (answer_of told before before 5)
+  resynced_nothing =
+      let taken = taken_nothing old tells named timestamp (resync_request word) in
+      record {
+        outcome = Err Memory;
+        has = record {
+          taken = taken;
+          gives = worked_nothing resyncing old tells timestamp word (resync_request word) (group_of taken.newest named);
+          leaves = λ tells found is steps asked. stops_start old _;
+        };
+        ends = (refl, λ told. refl);
+      }
+
+  wrote_nothing : (reads : Type 0) (input : SourceState) (start count : ℕ) → IsWriteDone (work_of tells old old) (input_of reads input input) named timestamp word start count (answer_of told before before 5)
+  wrote_nothing reads input start count =
+      let request = write_request word start count in
+      let taken = taken_nothing old tells named timestamp request in
+      record {
+        outcome = Unfit Memory;
+        has = record {
+          taken = taken;
+          gives = (refl, reads_start old, worked_nothing (writing start []) old tells timestamp word request (group_of taken.newest named));
+          leaves = λ tells. tt;
+        };
+        ends = (refl, λ told. refl);
+      }
+
+pub done_nothing : {D : Type 0} (old : BayState D) (tells told : Type 0) (before : SinkState) (reads : Type 0) (input : SourceState) (stamp : Stamp) (group : Option (List ℕ)) (command : Command)
+    → IsCommandDone (work_of tells old old) (input_of reads input input) stamp group command (answer_of told before before 5)
+done_nothing old tells told before reads input stamp group Examine = nothing_done old tells told before
+done_nothing old tells told before reads input stamp group Assemble = assembled_nothing old tells told before group (timestamp_of stamp) (none_looked old)
+done_nothing old tells told before reads input stamp group Show = shown_nothing old tells told before group (none_looked old)
+done_nothing old tells told before reads input stamp group (Label style slots) = record {
   outcome = Err Memory;
   tried = reads_start old;
   ends = (refl, λ told. refl);
   any_moment = λ tells. stops_start old (IsLeftFoundingAll old (label_slots old.sizes slots) (label_copy (revision_of style) stamp old.sizes slots));
   refused = λ tells refusal is. reads_start old;
 }
-done_nothing old tells told before stamp group (Read name start count) = record {
+done_nothing old tells told before reads input stamp group (Read name start count) = record {
   outcome = NotRead Memory;
   has = record {
     left = (none_looked old).left;
@@ -158,5 +215,7 @@ done_nothing old tells told before stamp group (Read name start count) = record 
   };
   ends = (refl, λ told. refl);
 }
-done_nothing old tells told before stamp group (Scrub name) = scrubbed_nothing old tells told before group name (none_looked old)
-done_nothing old tells told before stamp group (Change wish) = changed_nothing old tells told before group (timestamp_of stamp) (none_looked old) (request_for (length old.sizes) stamp wish)
+done_nothing old tells told before reads input stamp group (Scrub name) = scrubbed_nothing old tells told before group name (none_looked old)
+done_nothing old tells told before reads input stamp group (Resync name) = resynced_nothing old tells told before group (timestamp_of stamp) name
+done_nothing old tells told before reads input stamp group (Write name start count) = wrote_nothing old tells told before group (timestamp_of stamp) name reads input start count
+done_nothing old tells told before reads input stamp group (Change wish) = changed_nothing old tells told before group (timestamp_of stamp) (none_looked old) (request_for (length old.sizes) stamp wish)

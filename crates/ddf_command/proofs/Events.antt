@@ -20,7 +20,6 @@ use Rattle.ddf_stops.specs.Kept.{AreAllKept, is_read, is_slot}
 use Rattle.ddf_stops.specs.Going.{Goes, changes_in}
 use Rattle.ddf_stops.proofs.Acked.{ends_keeps, goes_keeps}
 use Rattle.ddf_stops.proofs.Stops.{same_scene}
-use Rattle.ddf_group_commands.specs.Change.{is_done}
 use Rattle.ddf_command.specs.History.{IsCall, IsCut, IsEnd, IsOther, Leaves, OtherCall, kept_by, past_at}
 
 module _ {B : Type 0} {tells : Type 0} (told : tells) (disks : B → BayState B) (group : List ℕ)
@@ -37,7 +36,7 @@ module _ {B : Type 0} {tells : Type 0} (told : tells) (disks : B → BayState B)
             let last = end.is_left scene leaves in
             rw (end.is_past, last.is_shown) (keeps.2 last.image last.is_left),
         rw end.is_past
-            (ends_keeps group old.past keeps.0 (is_read end.call.taken.left) end.call.group (changes_in end.call.group end.call.steps) (is_done end.call.outcome) keeps.1),
+            (ends_keeps group old.past keeps.0 (is_read end.call.taken.left) end.call.group (changes_in end.call.group end.call.steps) end.call.done keeps.1),
       )
 
   abbrev past_in : {A : Type 0} (past : Past (groups group)) (readable : ℕ → Bool) (found : GroupValue) (changes : List Configuration) (scene : Scene View)

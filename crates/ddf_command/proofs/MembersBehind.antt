@@ -30,7 +30,6 @@ use Rattle.ddf_stops.proofs.Claimed as claims
 use Rattle.ddf_stops.proofs.LastIssued.{over_last, over_length}
 use Rattle.ddf_stops.proofs.SlotsKept.{ends_slots}
 use Rattle.ddf_stops.proofs.StepMembers.{AreMembers}
-use Rattle.ddf_group_commands.specs.Change.{is_done}
 use Rattle.ddf_command.specs.History.{GroupCall, IsEnd, Leaves, kept_by}
 use Rattle.ddf_group_commands.specs.Writing.{IsWrittenOn}
 use Rattle.ddf_command.proofs.AllSteps.{AllSteps, readied_all}
@@ -133,7 +132,7 @@ module _ {B : Type 0} {tells : Type 0} (told : tells) (disks : B → BayState B)
 -- ---- its end
 
 module _ {B : Type 0} {tells : Type 0} (told : tells) (disks : B → BayState B) (group : List ℕ) (old new : Moment (groups group) B) (end : IsEnd told disks group old new)
-    (done : is_done end.call.outcome ≡ true) where
+    (done : end.call.done ≡ true) where
   abbrev ended : GroupCall told disks group old
   ended = end.call
 
@@ -144,7 +143,7 @@ module _ {B : Type 0} {tells : Type 0} (told : tells) (disks : B → BayState B)
   abbrev issued : List Configuration
   issued = changes_in ended.group ended.steps
 
-  ends : (now : Past (groups group)) × Ends group old.past readable ended.group issued (is_done ended.outcome) now × AreAllKept group now (disks ended.exit)
+  ends : (now : Past (groups group)) × Ends group old.past readable ended.group issued ended.done now × AreAllKept group now (disks ended.exit)
   ends = (kept_by told disks group old ended end.kept).ends end.tells_left
 
   over : IsOver group old.past readable ended.group issued new.past

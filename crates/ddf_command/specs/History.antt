@@ -1,5 +1,5 @@
 -- Histories of a group: their calls are those that the program makes.
-use Rattle.std.specs.Prelude.{◌≡◌, ◌⊎◌, ℕ, ◌≤◌, true, List, Option, Result, Ok}
+use Rattle.std.specs.Prelude.{◌≡◌, ◌⊎◌, ℕ, ◌≤◌, Bool, true, List, Option, Ok}
 use Rattle.std.proofs.Common.{inl, inr}
 use Rattle.ddf_bay.specs.State.{BayState}
 use Rattle.ddf_bay.specs.Sectors.{Image, IsLeft}
@@ -15,9 +15,8 @@ use Rattle.ddf_history.specs.Scenes.{scene_of}
 use Rattle.ddf_history.specs.History.{Moment}
 use Rattle.ddf_stops.specs.Kept.{AreAllKept, is_read, is_slot}
 use Rattle.ddf_stops.specs.Going.{Goes, IsAdmitted, KeepsHistory, changes_in}
-use Rattle.ddf_answer.specs.declared.failure.Failure.{Failure}
 use Rattle.ddf_answer.specs.Call.{work_of}
-use Rattle.ddf_group_commands.specs.Change.{Request, TakesGroup, is_done, steps_of}
+use Rattle.ddf_group_commands.specs.Change.{Request, TakesGroup, steps_of}
 use Rattle.ddf_group_commands.specs.Others.{LeavesOthers}
 
 -- `disks` is what a bay of type B tells, and `told` that it tells what they hold.
@@ -37,8 +36,8 @@ module _ {B : Type 0} {tells : Type 0} (told : tells) (disks : B → BayState B)
     pub named : Option (List ℕ)
     pub timestamp : ℕ
     pub request : Request
-    pub outcome : Result ℕ Failure
-    pub taken : TakesGroup (work_of tells (disks old.bay) (disks exit)) named timestamp request outcome
+    pub done : Bool
+    pub taken : TakesGroup (work_of tells (disks old.bay) (disks exit)) named timestamp request done
     pub group : GroupValue
     pub is_group : group_of taken.newest named ≡ Ok group
     pub same_group : group.config.group ≡ guid
@@ -48,7 +47,7 @@ module _ {B : Type 0} {tells : Type 0} (told : tells) (disks : B → BayState B)
 
   -- what it promises of the history
   abbrev pub kept_by : (old : Moment (groups guid) B) (call : GroupCall old) → AreAllKept guid old.past (disks old.bay)
-      → KeepsHistory guid (disks old.bay) (disks call.exit) old.past call.taken.left call.group (changes_in call.group call.steps) (is_done call.outcome)
+      → KeepsHistory guid (disks old.bay) (disks call.exit) old.past call.taken.left call.group (changes_in call.group call.steps) call.done
   kept_by old call kept = call.taken.keeps told call.group call.is_group call.steps call.are_asked guid call.same_group old.past kept call.admitted
 
   -- The call came to its end, where the bay still tells what a stop may leave.

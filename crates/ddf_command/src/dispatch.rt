@@ -1,19 +1,21 @@
 // What a call of the program does, and what it promises.
-ghost use Rattle.std.specs.Prelude.{◌≡◌, ◌⊎◌, ℕ, true, length, IsTrue};
+ghost use Rattle.std.specs.Prelude.{◌≡◌, ◌⊎◌, ℕ, true, false, length, IsTrue};
 ghost use Rattle.ddf_bay.specs.Moments.{GoesOn};
 ghost use Rattle.ddf_bay.specs.ReadsOnly.{ReadsOnly};
 ghost use Rattle.ddf_config.specs.declared.refusal.Refusal.{Refusal};
 ghost use Rattle.ddf_words.specs.declared.command.Asked.{Asked};
 ghost use Rattle.ddf_text.specs.Refusal.{refusal_line};
+ghost use Rattle.ddf_bytes.specs.Counts.{Rose};
 ghost use Rattle.ddf_bytes.specs.Streams.{SinkRose};
 ghost use Rattle.ddf_answer.specs.Call.{answer_of, work_of};
-ghost use Rattle.ddf_answer.specs.Ends.{Ends, SomeSlotRose, is_unwritten};
+ghost use Rattle.ddf_answer.specs.Ends.{EndsBy, SomeSlotRose, StreamRose, is_unwritten};
 ghost use Rattle.ddf_answer.specs.Status.{code_of};
 ghost use Rattle.ddf_answer.specs.Tells.{EndsWith};
 ghost use Rattle.ddf_words.specs.Commands.{FitsCommand};
 ghost use Rattle.ddf_words.specs.Traits.{traits_of};
 ghost use Rattle.ddf_words.specs.Words.{words_of, slot_count, GoWrongAt, IsAccepted, IsAsked};
-ghost use Rattle.ddf_command.specs.Run.{AsksForNoWrite, IsCommandDone, IsDone, is_status};
+ghost use Rattle.ddf_write_commands.specs.Payload.{input_of};
+ghost use Rattle.ddf_command.specs.Run.{AsksForNoWrite, IsCommandDone, IsDone, TakesInput, TakesNoInput, is_status};
 
 use crate::refusing::refuse_words;
 use ddf_answer::Status;
@@ -23,6 +25,7 @@ use ddf_data_commands::{read, scrub_disks};
 use ddf_disk_commands::{examine, label};
 use ddf_group_commands::{assemble_disks, change, show};
 use ddf_words::{Command, WordFault, asked};
+use ddf_write_commands::{resync_disks, write};
 use std::alloc::Global;
 
 /// Does what the words ask for, over the bay of the images that they name, and answers the exit status:
@@ -42,8 +45,9 @@ pub fn run<B: Bay, S: Source, K: Sink>(
     ensures wrong_words { (place : ℕ) → GoWrongAt IsAccepted (words_of words.now) place → EndsWith 2 (refusal_line (Refusal.Words place)) (answer_of K.tells (K.output sink.old) (K.output sink.new) result) }
     ensures wrong_words_only { result ≡ 2 → (place : ℕ) × GoWrongAt IsAccepted (words_of words.now) place }
 
-    // What is told, and with which status.
-    ensures done { (asked : Asked) → IsAsked (words_of words.now) asked → IsDone (work_of B.tells (B.disks bay.old) (B.disks bay.new)) stamp asked (answer_of K.tells (K.output sink.old) (K.output sink.new) result) }
+    // What is told, and with which status, by what it made of the disks and took from the input.
+    ensures done { (asked : Asked) → IsAsked (words_of words.now) asked
+        → IsDone (work_of B.tells (B.disks bay.old) (B.disks bay.new)) (input_of S.tells (S.input source.old) (S.input source.new)) stamp asked (answer_of K.tells (K.output sink.old) (K.output sink.new) result) }
 
     // It ends with one of these statuses, and at those of these that are unwritten no sector was written.
     ensures status { IsTrue (is_status result) }
@@ -53,34 +57,38 @@ pub fn run<B: Bay, S: Source, K: Sink>(
     ensures stays { AsksForNoWrite (words_of words.now) → ReadsOnly (B.disks bay.old) (B.disks bay.new) }
     ensures goes_on { GoesOn (B.disks bay.old) (B.disks bay.new) }
     ensures same_sizes { (B.disks bay.new).sizes ≡ (B.disks bay.old).sizes }
-    ensures source { source.new ≡ source.old }
+    ensures source { TakesNoInput (words_of words.now) → source.new ≡ source.old }
 
     // Each status has its cause.
     ensures disk_fault { result ≡ 3 → SomeSlotRose (B.disks bay.old) (B.disks bay.new) }
-    ensures stream_fault { result ≡ 6 → SinkRose (K.output sink.old) (K.output sink.new) }
+    ensures stream_fault { result ≡ 6 → SinkRose (K.output sink.old) (K.output sink.new) ⊎ (TakesInput (words_of words.now) × Rose (S.input source.old).faults (S.input source.new).faults) }
     ensures complete { (asked : Asked) → IsAsked (words_of words.now) asked → (SomeSlotRose (B.disks bay.old) (B.disks bay.new) → ⊥)
         → (SinkRose (K.output sink.old) (K.output sink.new) → ⊥)
+        → ((traits_of asked.command).takes_input ≡ true → Rose (S.input source.old).faults (S.input source.new).faults → ⊥)
         → (result ≡ 0) ⊎ (result ≡ 5) ⊎ ((result ≡ 1) × ((traits_of asked.command).may_refuse ≡ true)) ⊎ ((result ≡ 4) × ((traits_of asked.command).takes_group ≡ true)) }
 {
     match asked(alloc, words) {
-        Ok(asked) => obey(alloc, asked.group, asked.command, bay, sink, &stamp).code(),
+        Ok(asked) => obey(alloc, asked.group, asked.command, bay, source, sink, &stamp).code(),
         Err(WordFault::Place(place)) => refuse_words(alloc, place, sink),
         Err(WordFault::Memory) => Status::Memory.code(),
     }
 }
 
 /// Does a command, over the named group or the only one.
-fn obey<B: Bay, K: Sink>(
+fn obey<B: Bay, S: Source, K: Sink>(
     alloc: Global,
     group: Option<Guid>,
     command: Command,
     bay: &mut B,
+    source: &mut S,
     sink: &mut K,
     stamp: &Stamp,
 ) -> Status
     requires { FitsCommand command }
-    ensures done { IsCommandDone (work_of B.tells (B.disks bay.old) (B.disks bay.new)) stamp.now group command (answer_of K.tells (K.output sink.old) (K.output sink.new) (code_of result)) }
-    ensures ends { Ends (traits_of command) (work_of B.tells (B.disks bay.old) (B.disks bay.new)) (answer_of K.tells (K.output sink.old) (K.output sink.new) (code_of result)) }
+    ensures done { IsCommandDone (work_of B.tells (B.disks bay.old) (B.disks bay.new)) (input_of S.tells (S.input source.old) (S.input source.new)) stamp.now group command (answer_of K.tells (K.output sink.old) (K.output sink.new) (code_of result)) }
+    ensures ends { EndsBy (traits_of command) (work_of B.tells (B.disks bay.old) (B.disks bay.new)) (answer_of K.tells (K.output sink.old) (K.output sink.new) (code_of result))
+        (StreamRose (traits_of command) (S.input source.old) (S.input source.new) (answer_of K.tells (K.output sink.old) (K.output sink.new) (code_of result))) }
+    ensures source { (traits_of command).takes_input ≡ false → source.new ≡ source.old }
 {
     match command {
         Command::Examine => examine(alloc, bay, sink),
@@ -91,6 +99,18 @@ fn obey<B: Bay, K: Sink>(
             read(alloc, group, name.items(), start, count, bay, sink)
         }
         Command::Scrub { name } => scrub_disks(alloc, group, name.items(), bay, sink),
+        Command::Resync { name } => resync_disks(alloc, group, name.items(), bay, sink, stamp),
+        Command::Write { name, start, count } => write(
+            alloc,
+            group,
+            name.items(),
+            start,
+            count,
+            bay,
+            source,
+            sink,
+            stamp,
+        ),
         Command::Change(wish) => change(alloc, group, &wish, bay, sink, stamp),
     }
 }

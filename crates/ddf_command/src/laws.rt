@@ -27,7 +27,7 @@ ghost use Rattle.ddf_stops.specs.Founding.{AreNamesNew, IsNewGroup, founding_con
 ghost use Rattle.ddf_stops.specs.Going.{Ends, changes_in};
 ghost use Rattle.ddf_stops.specs.Kept.{AreAllKept, is_read, is_slot};
 ghost use Rattle.ddf_answer.specs.Call.{work_of};
-ghost use Rattle.ddf_group_commands.specs.Change.{HasChanged, Request, is_done};
+ghost use Rattle.ddf_group_commands.specs.Change.{HasChanged, Request};
 ghost use Rattle.ddf_command.specs.Cut.{AreLabelled, Gives, IsLeftByLabel, IsNewLabel};
 ghost use Rattle.ddf_command.specs.History.{GroupCall, IsCall, IsCut, IsEnd, Leaves, OtherCall};
 ghost use Rattle.ddf_disk_commands.specs.Label.{IsTried, label_copy, label_slots};
@@ -133,10 +133,10 @@ pub fn a_calls_disks_are_current_members<B: Bay>()
 /// Behind a call that was done each disk that its last step was written to is a current member, as a history asks that one is read: in a group
 /// from elsewhere once a change of this engine is acknowledged. Where it issued no change each of its seats is one.
 pub fn a_call_that_was_done_leaves_current_members<B: Bay>()
-    ensures written { (told : B.tells) (group : List ℕ) (old new : Moment (groups group) B) (end : IsEnd told B.disks group old new) → is_done end.call.outcome ≡ true
+    ensures written { (told : B.tells) (group : List ℕ) (old new : Moment (groups group) B) (end : IsEnd told B.disks group old new) → end.call.done ≡ true
         → new.past.changes.own_from ≤ new.past.changes.acked → (scene : Scene View) → Leaves told B.disks group new.bay scene → (readable : ℕ → Bool)
         → (slot : ℕ) (on : IsWrittenOn end.call.steps slot) → on.number + 1 ≡ length end.call.steps → readable slot ≡ true → HasMember new.past scene readable }
-    ensures seated { (told : B.tells) (group : List ℕ) (old new : Moment (groups group) B) (end : IsEnd told B.disks group old new) → is_done end.call.outcome ≡ true
+    ensures seated { (told : B.tells) (group : List ℕ) (old new : Moment (groups group) B) (end : IsEnd told B.disks group old new) → end.call.done ≡ true
         → new.past.changes.own_from ≤ new.past.changes.acked → (scene : Scene View) → Leaves told B.disks group new.bay scene → (readable : ℕ → Bool)
         → (place : ℕ) (disk : Seated) → slice_get (seated end.call.group) place ≡ Some disk → changes_in end.call.group end.call.steps ≡ [] → readable disk.seat.slot ≡ true
         → HasMember new.past scene readable }
@@ -144,7 +144,7 @@ pub fn a_call_that_was_done_leaves_current_members<B: Bay>()
 
 /// Behind a call that was done each current member whose disk it didn't read is missing.
 pub fn a_member_that_was_left_out_is_missing<B: Bay>()
-    ensures { (told : B.tells) (group : List ℕ) (old new : Moment (groups group) B) (end : IsEnd told B.disks group old new) → is_done end.call.outcome ≡ true
+    ensures { (told : B.tells) (group : List ℕ) (old new : Moment (groups group) B) (end : IsEnd told B.disks group old new) → end.call.done ≡ true
         → (slot : ℕ) → is_read end.call.taken.left slot ≡ false → has_current end.call.group.config (old.past.disk slot) ≡ true
         → (number : ℕ) (config : Configuration) → IsSince new.past.changes number config → has_missing config (new.past.disk slot) ≡ true }
 {}

@@ -82,7 +82,7 @@ step_new timestamp config disks guid array none =
     (first_none (causes (Some (most_members disks)) config (Create guid array) (disk_seats disks)) (None ∷ room_if_step timestamp config disks (Create guid array) ∷ []) none)
 
 -- Behind a call that was done there is one configuration.
-done_is : (group : List ℕ) (past now : Past (groups group)) (readable : ℕ → Bool) (found : GroupValue) (changes : List Configuration) → IsDone group past readable found changes now
+pub done_is : (group : List ℕ) (past now : Past (groups group)) (readable : ℕ → Bool) (found : GroupValue) (changes : List Configuration) → IsDone group past readable found changes now
     → (number : ℕ) (config : Configuration) → IsSince now.changes number config → slice_get (found.config ∷ changes) (length changes) ≡ Some config
 done_is group past now readable found changes done number config since =
     let long = over_length group past readable found changes now done in
@@ -92,7 +92,7 @@ done_is group past now readable found changes done number config since =
     sym (over_last group past readable found changes now done) ∙ ap (slice_get now.changes.issued) (sym at) ∙ since.is_there
 
 -- where the changes are none behind a recovery, or one, it is what they make of it
-last_of : (found : GroupValue) (others : List Configuration) → slice_get (config_recovered found ∷ others) (length others)
+pub last_of : (found : GroupValue) (others : List Configuration) → slice_get (config_recovered found ∷ others) (length others)
     ≡ slice_get (found.config ∷ (if some found.absent then config_lost found ∷ others else others)) (length (if some found.absent then config_lost found ∷ others else others))
 unfolding config_recovered
 last_of found others = by (some found.absent)

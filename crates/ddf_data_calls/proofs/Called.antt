@@ -50,7 +50,7 @@ pub record TookGroup {D : Type 0} (old new : BayState D) (left : List Bool) (new
   pub read : newest ≡ newest_from old 0 left
   pub is_found : group_of newest named ≡ Ok found
   pub leaves : StopsLeave old new (IsLeftWriting old steps)
-  pub keeps : KeepsHistories old new left found steps outcome
+  pub keeps : KeepsHistories old new left found steps (is_done outcome)
 
 pub took_group : {D : Type 0} (tells : Type 0) → tells → (old new : BayState D) (named : Option (List ℕ)) (timestamp : ℕ) (request : Request) (outcome : Result ℕ Failure)
     → (changed : HasChanged (work_of tells old new) named timestamp request outcome) (found : GroupValue) → group_of changed.taken.newest named ≡ Ok found → (steps : List Step)

@@ -95,7 +95,7 @@ module _ (group : List ℕ) (floor : ℕ → ℕ) (small : (slot : ℕ) → floo
   within (y ∷ xs) zero x at = omega arith
   within (y ∷ xs) (suc k) x at = omega (arith, within xs k x at)
 
-  all_keep : (past : Past (groups group)) → AreAlone group past → (number : ℕ) (last : Configuration) → IsSince past.changes number last → (changes : List Configuration)
+  pub all_keep : (past : Past (groups group)) → AreAlone group past → (number : ℕ) (last : Configuration) → IsSince past.changes number last → (changes : List Configuration)
       → AreMade (seats_in group past floor) image promises last changes → KeepsData group past floor image promises → KeepsData group (issue_all group past changes) floor image promises
   all_keep past alone number last since [] made kept = kept
   all_keep past alone number last since (next ∷ others) made kept =

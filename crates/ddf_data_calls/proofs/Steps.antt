@@ -204,7 +204,7 @@ module _ (seats : List Seated) where
   renewed disk next slot floor from =
       record { place = from.place; before = from.before; is_there = from.is_there; same_slot = from.same_slot ∙ slot; same_floor = floor ∙ from.same_floor }
 
-  mapped : (f : Seated → Seated) (disks : List Seated) → ((disk : Seated) → (f disk).seat.slot ≡ disk.seat.slot) → ((disk : Seated) → floor_of (f disk).copy ≡ floor_of disk.copy)
+  pub mapped : (f : Seated → Seated) (disks : List Seated) → ((disk : Seated) → (f disk).seat.slot ≡ disk.seat.slot) → ((disk : Seated) → floor_of (f disk).copy ≡ floor_of disk.copy)
       → HaveFloorsOf seats disks → HaveFloorsOf seats (map f disks)
   mapped f disks slots floors from place disk at =
       let one = map_get f disks place disk at in
@@ -213,7 +213,7 @@ module _ (seats : List Seated) where
   filtered : (p : Seated → Bool) (disks : List Seated) → HaveFloorsOf seats disks → HaveFloorsOf seats (filter p disks)
   filtered p disks from place disk at = let there = filter_get p disks place disk at in from there.0 disk there.1
 
-  after_floors : (timestamp : ℕ) (leaders : Before) (config : Configuration) (disks : List Seated) → HaveFloorsOf seats disks → HaveFloorsOf seats (disks_after timestamp leaders config disks)
+  pub after_floors : (timestamp : ℕ) (leaders : Before) (config : Configuration) (disks : List Seated) → HaveFloorsOf seats disks → HaveFloorsOf seats (disks_after timestamp leaders config disks)
   unfolding disks_after
   after_floors timestamp leaders config disks from =
       mapped (rewritten leaders config timestamp) (filter (stays_in config) disks) (λ disk. refl) (λ disk. changed_floor leaders config timestamp disk.copy) (filtered (stays_in config) disks from)
@@ -230,7 +230,7 @@ module _ (found : GroupValue) (timestamp : ℕ) where
       mapped (seated found) (mended (leading found) found.config timestamp) (filter (lags found) (seated found)) (λ disk. refl) (λ disk. mended_floor (leading found) found.config timestamp disk.copy)
       (filtered (seated found) (lags found) (seated found) own_floors)
 
-  recovery_floors : (step : Step) → recovery_of timestamp found ≡ Some step → HaveFloorsOf (seated found) step.disks
+  pub recovery_floors : (step : Step) → recovery_of timestamp found ≡ Some step → HaveFloorsOf (seated found) step.disks
   unfolding recovery_of
   recovery_floors step is = by (some found.absent) (some found.lagging) is
     where
@@ -241,7 +241,7 @@ module _ (found : GroupValue) (timestamp : ℕ) where
       by false true is = let same : mending_step timestamp found ≡ step = cc in subst (λ (one : Step). HaveFloorsOf (seated found) one.disks) same mending_floors
       by false false is = absurd cc
 
-  recovered_floors : HaveFloorsOf (seated found) (disks_recovered timestamp found)
+  pub recovered_floors : HaveFloorsOf (seated found) (disks_recovered timestamp found)
   unfolding disks_recovered
   recovered_floors = by (some found.absent)
     where

@@ -27,7 +27,7 @@ module _ {D : Type 0} (work : Work D) (named : Option (List ℕ)) (word : List �
   rose_behind front slot (Err fault) is = absurd (⊎_elim (λ e. cc) (λ memory. cc) is)
 
   cause_by : (outcome : Outcome) (group : Result GroupValue Assembly) → IsReadIn work word start count group outcome → IsReadTold outcome answer
-      → HasCause (traits_of (commands.Read word start count)) work answer
+      → HasCause (traits_of (commands.Read word start count)) work answer (SinkRose answer.old answer.new)
   cause_by (Whole sectors) group is told = inl told.ends
   cause_by (NotRead (Refused refusal)) group is told = refused_told (traits_of (commands.Read word start count)) work answer stream refl told
   cause_by (NotRead (Disk slot)) group is told = fault_told (traits_of (commands.Read word start count)) work answer stream (rose_by slot group is) told

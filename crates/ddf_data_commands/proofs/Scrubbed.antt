@@ -177,7 +177,7 @@ module _ {D : Type 0} (work : Work D) (named : Option (List ℕ)) (word : List �
   rose_by slot (Err fault) is = absurd (⊎_elim (λ e. no_disk fault slot cc) (λ memory. cc) is)
 
   cause_by : (result : Result Scrub Failure) (group : Result GroupValue Assembly) → IsScrubIn work word group result → IsScrubTold result answer
-      → HasCause (traits_of (commands.Scrub word)) work answer
+      → HasCause (traits_of (commands.Scrub word)) work answer (SinkRose answer.old answer.new)
   cause_by (Ok found) group is told = ⊎_elim inl (short_cause (traits_of (commands.Scrub word)) work answer stream) told.ends
   cause_by (Err (Refused refusal)) group is told = refused_told (traits_of (commands.Scrub word)) work answer stream refl told
   cause_by (Err (Disk slot)) group is told = fault_told (traits_of (commands.Scrub word)) work answer stream (rose_by slot group is) told

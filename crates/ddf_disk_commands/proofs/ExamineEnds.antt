@@ -25,7 +25,7 @@ module _ {D : Type 0} (work : Work D) (answer : Answer) where
 
   -- all were shown
   cause_by : (stream : answer.status ≡ 6 → SinkRose answer.old answer.new) (examined : IsExamined work answer) (failed : Bool) → some_failed examined.failed ≡ failed
-      → answer.status ≡ (if failed then 3 else 0) → HasCause (traits_of commands.Examine) work answer
+      → answer.status ≡ (if failed then 3 else 0) → HasCause (traits_of commands.Examine) work answer (SinkRose answer.old answer.new)
   cause_by stream examined true is status = fault_cause (traits_of commands.Examine) work answer stream (slot_rose examined is) status
   cause_by stream examined false is status = inl status
 

@@ -18,7 +18,7 @@ use Rattle.ddf_disk_commands.specs.Label.{IsLabelled, IsToldLabel, IsTried}
 
 module _ {D : Type 0} (work : Work D) (style : DiskStyle) (revision : Revision) (stamp : Stamp) (named : List ℕ) (answer : Answer) where
   cause_of : (answer.status ≡ 6 → SinkRose answer.old answer.new) → (outcome : Result (Unit {0}) Failure) → IsTried work revision stamp named outcome → IsToldLabel outcome answer
-      → HasCause (traits_of (commands.Label style named)) work answer
+      → HasCause (traits_of (commands.Label style named)) work answer (SinkRose answer.old answer.new)
   cause_of stream (Ok done) tried told = done_told (traits_of (commands.Label style named)) work answer stream told
   cause_of stream (Err (Refused refusal)) tried told = refused_told (traits_of (commands.Label style named)) work answer stream refl told
   cause_of stream (Err (Disk slot)) tried told = fault_told (traits_of (commands.Label style named)) work answer stream (record { slot = slot; there = tried.0; rose = tried.1 }) told

@@ -50,7 +50,7 @@ module _ {D : Type 0} (traits : Traits) (may : traits.may_refuse ≡ true) (take
     (stream : answer.status ≡ 6 → SinkRose answer.old answer.new) (goes_on : GoesOn work.old work.new) (same_sizes : work.new.sizes ≡ work.old.sizes)
     (named : Option (List ℕ)) (timestamp : ℕ) where
   module _ (request : Request) where
-    cause_by : (outcome : Result ℕ Failure) (found : Result GroupValue Assembly) → IsChangedIn work timestamp request found outcome → IsClosing outcome answer → HasCause traits work answer
+    cause_by : (outcome : Result ℕ Failure) (found : Result GroupValue Assembly) → IsChangedIn work timestamp request found outcome → IsClosing outcome answer → HasCause traits work answer (SinkRose answer.old answer.new)
     cause_by (Ok sequence) found is told = ⊎_elim inl (stream_cause traits work answer stream) told
     cause_by (Err (Disk slot)) (Ok group) is told = fault_told traits work answer stream (record { slot = slot; there = is.there; rose = inr is.rose }) told
     cause_by (Err (Disk slot)) (Err fault) is told = absurd (⊎_elim (λ e. no_disk fault slot cc) (λ memory. cc) is.0)
@@ -104,7 +104,7 @@ spent_first old tells named timestamp request looked = record {
     newest = newest_from old 0 looked.left;
     read = λ tells. refl;
     beside = λ told found is. reads_beside old old (slots_of found.seats) (reads_start old);
-    keeps = λ told found is steps asked. reads_keep old old looked.left found steps Memory (reads_start old);
+    keeps = λ told found is steps asked. reads_keep old old looked.left found steps (reads_start old);
   };
   seen = λ slot below kept. refl;
   gives = nothing_in old tells timestamp request (group_of (newest_from old 0 looked.left) named);

@@ -1,5 +1,5 @@
 -- What the writing of a group's changes keeps of each history that lets the call in.
-use Rattle.std.proofs.Common.{◌≡◌, ◌⊎◌, ℕ, ◌≤◌, Bool, true, false, List, length, Option, None, Result, Ok, Err, sym, subst, ◌∙◌, arith}
+use Rattle.std.proofs.Common.{◌≡◌, ◌⊎◌, ℕ, ◌≤◌, Bool, true, false, List, length, Option, None, Result, Ok, sym, subst, ◌∙◌, arith}
 use Rattle.std.specs.List.{AllByRecursion}
 use Rattle.ddf_bay.specs.Moments.{StopsLeave}
 use Rattle.ddf_bay.specs.ReadsOnly.{ReadsOnly}
@@ -23,22 +23,21 @@ use Rattle.ddf_stops.specs.Kept.{AreAllKept, ReadsTrue}
 use Rattle.ddf_stops.proofs.Calling as calling
 use Rattle.ddf_stops.proofs.Calling.{only_reads}
 use Rattle.ddf_stops.proofs.Entering.{keeps_since_entry, keeps_where_told}
-use Rattle.ddf_answer.specs.declared.failure.Failure.{Failure}
-use Rattle.ddf_group_commands.specs.Change.{KeepsHistories, is_done}
+use Rattle.ddf_group_commands.specs.Change.{KeepsHistories}
 use Rattle.ddf_group_commands.specs.GroupRead.{IsFoundBy, IsReadFrom}
 use Rattle.ddf_group_commands.proofs.Recovering.{Commits, Recovers, Settles}
 use Rattle.ddf_group_commands.proofs.StepsWritten.{steps_in}
 
 -- A call that only reads keeps each history, whatever it was refused for.
-pub reads_keep : {D : Type 0} (old new : BayState D) (left : List Bool) (found : GroupValue) (steps : List Step) (failure : Failure) → ReadsOnly old new
-    → KeepsHistories old new left found steps (Err failure)
-reads_keep old new left found steps failure reads group same past kept admitted = only_reads group old new past left found (changes_in found steps) kept reads
+pub reads_keep : {D : Type 0} (old new : BayState D) (left : List Bool) (found : GroupValue) (steps : List Step) → ReadsOnly old new
+    → KeepsHistories old new left found steps false
+reads_keep old new left found steps reads group same past kept admitted = only_reads group old new past left found (changes_in found steps) kept reads
 
 -- What is kept since the disks were read is kept since the call's entry.
-pub since_entry : {D : Type 0} (old middle new : BayState D) (left : List Bool) (found : GroupValue) (steps : List Step) (outcome : Result ℕ Failure) → ReadsOnly old middle
-    → KeepsHistories middle new left found steps outcome → KeepsHistories old new left found steps outcome
-since_entry old middle new left found steps outcome reads keeps group same past kept admitted =
-    keeps_since_entry group past left found (changes_in found steps) (is_done outcome) old middle new reads (keeps group same past) kept admitted
+pub since_entry : {D : Type 0} (old middle new : BayState D) (left : List Bool) (found : GroupValue) (steps : List Step) (done : Bool) → ReadsOnly old middle
+    → KeepsHistories middle new left found steps done → KeepsHistories old new left found steps done
+since_entry old middle new left found steps done reads keeps group same past kept admitted =
+    keeps_since_entry group past left found (changes_in found steps) done old middle new reads (keeps group same past) kept admitted
 
 -- What `recover` and `commit` promise of the moments on their way.
 module _ {D : Type 0} (old : BayState D) (found : GroupValue) (ready : ReadyValue) where

@@ -1,5 +1,5 @@
 -- What a command that changes a group comes to.
-use Rattle.std.proofs.Common.{◌≡◌, ◌⊎◌, ℕ, suc, ◌≤◌, Bool, [], ◌∷◌, List, length, Option, Result, Ok, Err, refl, sym, ap, subst, ◌∙◌, inl, inr, ⊎_elim, arith}
+use Rattle.std.proofs.Common.{◌≡◌, ◌⊎◌, ℕ, suc, ◌≤◌, Bool, false, [], ◌∷◌, List, length, Option, Result, Ok, Err, refl, sym, ap, subst, ◌∙◌, inl, inr, ⊎_elim, arith}
 use Rattle.ddf_bay.specs.State.{BayState}
 use Rattle.ddf_bay.specs.Moments.{StopsLeave}
 use Rattle.ddf_bay.specs.ReadsOnly.{ReadsOnly}
@@ -26,7 +26,7 @@ use Rattle.ddf_answer.specs.declared.failure.Failure.{Failure}
 use Rattle.ddf_answer.specs.declared.failure.Failure.TheVariants.{Conflict, Disk, Memory, Refused, Split}
 use Rattle.ddf_answer.specs.Answers.{failure_of, failure_of_plan}
 use Rattle.ddf_answer.specs.Call.{Work, work_of}
-use Rattle.ddf_group_commands.specs.Change.{HasChanged, IsChanged, IsChangedIn, KeepsHistories, Request, TakesGroup, failure_of_group, steps_asked, steps_of, steps_or}
+use Rattle.ddf_group_commands.specs.Change.{HasChanged, IsChanged, IsChangedIn, KeepsHistories, Request, TakesGroup, failure_of_group, is_done, steps_asked, steps_of, steps_or}
 use Rattle.ddf_group_commands.specs.GroupRead.{IsFoundBy, IsGroupRead, IsReadFrom, group_or}
 use Rattle.ddf_group_commands.specs.Requests.{at_most_one}
 use Rattle.ddf_group_commands.specs.Others.{LeavesOthers}
@@ -113,16 +113,16 @@ none_in work timestamp request (Err fault) failure reads answer = (
 )
 
 -- A call that only reads, and was refused or cut short, took the group that it read, or found none.
-pub takes_reading : {D : Type 0} (work : Work D) (named : Option (List ℕ)) (timestamp : ℕ) (request : Request) (found : Result GroupValue Failure) (failure : Failure) → IsGroupRead work named found
-    → ReadsOnly work.old work.new → TakesGroup work named timestamp request (Err failure)
-takes_reading work named timestamp request found failure read reads = record {
+pub takes_reading : {D : Type 0} (work : Work D) (named : Option (List ℕ)) (timestamp : ℕ) (request : Request) (found : Result GroupValue Failure) → IsGroupRead work named found
+    → ReadsOnly work.old work.new → TakesGroup work named timestamp request false
+takes_reading work named timestamp request found read reads = record {
   left = read.left;
   every_slot = read.every_slot;
   failed = read.failed;
   newest = read.newest;
   read = read.read;
   beside = λ told one is. reads_beside work.old work.new (slots_of one.seats) reads;
-  keeps = λ told one is steps asked. reads_keep work.old work.new read.left one steps failure reads;
+  keeps = λ told one is steps asked. reads_keep work.old work.new read.left one steps reads;
 }
 
 -- where there is none, or memory ran out
@@ -130,7 +130,7 @@ pub none_read : {D : Type 0} (work : Work D) (named : Option (List ℕ)) (timest
     → ReadsOnly work.old work.new → HasChanged work named timestamp request (Err failure)
 unfolding takes_reading
 none_read work named timestamp request failure read reads = record {
-  taken = takes_reading work named timestamp request (Err failure) failure read reads;
+  taken = takes_reading work named timestamp request (Err failure) read reads;
   seen = λ slot below kept. (read.seen slot below kept).0;
   gives = none_in work timestamp request (group_of read.newest named) failure reads read.answer;
   leaves = λ told found is steps asked. reads_leave work.old work.new steps reads;
@@ -143,7 +143,7 @@ module _ {D : Type 0} (work : Work D) (named : Option (List ℕ)) (timestamp : �
   unwritten : (failure : Failure) → IsChanged work group (steps_of group timestamp request) (Err failure) → HasChanged work named timestamp request (Err failure)
   unfolding takes_reading
   unwritten failure is = record {
-    taken = takes_reading work named timestamp request (Ok group) failure read reads;
+    taken = takes_reading work named timestamp request (Ok group) read reads;
     seen = λ slot below kept. (read.seen slot below kept).0;
     gives = subst (λ (one : Result GroupValue Assembly). IsChangedIn work timestamp request one (Err failure)) (sym (group_read work named group read)) is;
     leaves = λ told found is steps asked. reads_leave work.old work.new steps reads;
@@ -176,7 +176,7 @@ pub record HasWritten {D : Type 0} (tells : Type 0) (middle new : BayState D) (g
   pub beside : tells → LeavesOthers middle new (slots_of group.seats)
   pub leaves : tells → (steps : List Step) → readied group changes timestamp ≡ Ok steps → StopsLeave middle new (IsLeftWriting middle steps)
   pub keeps : tells → (left : List Bool) (named : Option (List ℕ)) → IsFoundBy middle left named group → (steps : List Step) → readied group changes timestamp ≡ Ok steps
-      → KeepsHistories middle new left group steps outcome
+      → KeepsHistories middle new left group steps (is_done outcome)
   pub same_reads : new.failed_reads ≡ middle.failed_reads
   pub writes_rise : (slot : ℕ) → middle.failed_writes slot ≤ new.failed_writes slot
 
@@ -224,9 +224,9 @@ module _ {D : Type 0} (tells : Type 0) (old middle new : BayState D) (reads : Re
               (beside_since old middle new (slots_of group.seats) reads (written.beside told));
           keeps = λ told found is_found asked are_asked.
               let same = found_same group found (sym (group_read (work_of tells old middle) named group read) ∙ is_found) in
-              subst (λ (one : GroupValue). steps_of one timestamp request ≡ Ok asked → KeepsHistories old new read.left one asked outcome) same
+              subst (λ (one : GroupValue). steps_of one timestamp request ≡ Ok asked → KeepsHistories old new read.left one asked (is_done outcome)) same
               (λ now_asked.
-              since_entry old middle new read.left group asked outcome reads
+              since_entry old middle new read.left group asked (is_done outcome) reads
               (written.keeps told read.left named
               (record {
                 every_slot = rw reads.same_sizes read.every_slot;

@@ -22,7 +22,7 @@ no_slot (Ok group) slot e = cc
 no_slot (Err fault) slot e = no_disk fault slot cc
 
 module _ {D : Type 0} (work : Work D) (named : Option (List ℕ)) (answer : Answer) (stream : answer.status ≡ 6 → SinkRose answer.old answer.new) where
-  cause_by : (found : Result GroupValue Failure) → IsGroupRead work named found → IsShowTold found answer → HasCause (traits_of Show) work answer
+  cause_by : (found : Result GroupValue Failure) → IsGroupRead work named found → IsShowTold found answer → HasCause (traits_of Show) work answer (SinkRose answer.old answer.new)
   cause_by (Ok group) read told = ⊎_elim (done_told (traits_of Show) work answer stream) (λ spent. memory_cause (traits_of Show) work answer stream spent.0) told
   cause_by (Err (Refused refusal)) read told = refused_told (traits_of Show) work answer stream refl told
   cause_by (Err (Disk slot)) read told = absurd (⊎_elim (no_slot (group_of read.newest named) slot) (λ memory. cc) read.answer)

@@ -107,14 +107,14 @@ is_done (Err failure) = false
 
 -- Each history of the group that admits the call is kept: whatever a stop leaves, at any moment since the call's entry and at its end, shows
 -- what it should, for the changes as far as they are issued then; and where the call is done all of them are acknowledged.
-abbrev pub KeepsHistories : {D : Type 0} (old new : BayState D) → (left : List Bool) → GroupValue → List Step → Result ℕ Failure → Type 0
-KeepsHistories old new left found steps outcome =
+abbrev pub KeepsHistories : {D : Type 0} (old new : BayState D) → (left : List Bool) → GroupValue → List Step → (done : Bool) → Type 0
+KeepsHistories old new left found steps done =
     (group : List ℕ) → found.config.group ≡ group → (past : Past (groups group)) → AreAllKept group past old → IsAdmitted group past old left found
-    → KeepsHistory group old new past left found (changes_in found steps) (is_done outcome)
+    → KeepsHistory group old new past left found (changes_in found steps) done
 
 -- A call that came to this took the group, if there is one, that the newest copies of the slots give that aren't left out: it left slots that are no
 -- seats' as before, and keeps each history of the group that admits it. A slot is left out only where a call of this call failed on it.
-pub record TakesGroup {D : Type 0} (work : Work D) (named : Option (List ℕ)) (timestamp : ℕ) (request : Request) (outcome : Result ℕ Failure) : Type 0 where
+pub record TakesGroup {D : Type 0} (work : Work D) (named : Option (List ℕ)) (timestamp : ℕ) (request : Request) (done : Bool) : Type 0 where
   pub left : List Bool
   pub every_slot : length left ≡ length work.old.sizes
   pub failed : (slot : ℕ) → slot < length left → IsTrue (slice_index_or left slot false) → LookFailed work.old work.new slot
@@ -122,11 +122,11 @@ pub record TakesGroup {D : Type 0} (work : Work D) (named : Option (List ℕ)) (
   pub read : work.tells → newest ≡ newest_from work.old 0 left
   pub beside : work.tells → (found : GroupValue) → group_of newest named ≡ Ok found → LeavesOthers work.old work.new (slots_of found.seats)
   pub keeps : work.tells → (found : GroupValue) → group_of newest named ≡ Ok found → (steps : List Step) → steps_of found timestamp request ≡ Ok steps
-      → KeepsHistories work.old work.new left found steps outcome
+      → KeepsHistories work.old work.new left found steps done
 
 -- A call that reads and writes no blocks came to this: what it made of the group that it took. A slot that isn't left out was read without a failure.
 pub record HasChanged {D : Type 0} (work : Work D) (named : Option (List ℕ)) (timestamp : ℕ) (request : Request) (outcome : Result ℕ Failure) : Type 0 where
-  pub taken : TakesGroup work named timestamp request outcome
+  pub taken : TakesGroup work named timestamp request (is_done outcome)
   pub seen : (slot : ℕ) → slot < length taken.left → slice_index_or taken.left slot false ≡ false → work.new.failed_reads slot ≡ work.old.failed_reads slot
   pub gives : IsChangedIn work timestamp request (group_of taken.newest named) outcome
   pub leaves : work.tells → (found : GroupValue) → group_of taken.newest named ≡ Ok found → (steps : List Step) → steps_of found timestamp request ≡ Ok steps

@@ -9,7 +9,7 @@ ghost use Rattle.ddf_assembly.specs.Ready.{readied};
 ghost use Rattle.ddf_assembly.specs.Recovery.{config_recovered, loss_of};
 ghost use Rattle.ddf_assembly.specs.Steps.{Step};
 ghost use Rattle.ddf_answer.specs.Call.{work_of};
-ghost use Rattle.ddf_group_commands.specs.Change.{IsChanged, KeepsHistories, failure_of_group, steps_or};
+ghost use Rattle.ddf_group_commands.specs.Change.{IsChanged, KeepsHistories, failure_of_group, is_done, steps_or};
 ghost use Rattle.ddf_group_commands.specs.GroupRead.{IsFoundBy, IsGroupRead, IsReadFrom};
 ghost use Rattle.ddf_group_commands.specs.Others.{LeavesOthers};
 ghost use Rattle.ddf_group_commands.specs.Writing.{IsLeftWriting};
@@ -77,7 +77,7 @@ pub(crate) fn write_changes<B: Bay>(
     // is another than before but the copies that are written.
     ensures beside { B.tells → LeavesOthers (B.disks bay.old) (B.disks bay.new) (slots_of group.old.seats) }
     ensures keeps { B.tells → (left : List Bool) (named : Option (List ℕ)) → IsFoundBy (B.disks bay.old) left named group.old → (steps : List Step) → readied group.old changes.now timestamp ≡ Ok steps
-        → KeepsHistories (B.disks bay.old) (B.disks bay.new) left group.old steps result }
+        → KeepsHistories (B.disks bay.old) (B.disks bay.new) left group.old steps (is_done result) }
     ensures leaves { B.tells → (steps : List Step) → readied group.old changes.now timestamp ≡ Ok steps → StopsLeave (B.disks bay.old) (B.disks bay.new) (IsLeftWriting (B.disks bay.old) steps) }
     ensures goes_on { GoesOn (B.disks bay.old) (B.disks bay.new) }
     ensures same_sizes { (B.disks bay.new).sizes ≡ (B.disks bay.old).sizes }

@@ -22,7 +22,7 @@ use Rattle.ddf_linux.specs.declared.kind.SlotKind.TheVariants.{Turned}
 use Rattle.ddf_linux.specs.declared.places.Copies.{Copies}
 use Rattle.ddf_linux.specs.declared.places.Places.{Places}
 use Rattle.ddf_linux.specs.Crcs.{constant_of}
-use Rattle.ddf_linux.specs.Founded.{IsBlankOrWhole, IsOnNewDisk, below, seen_anew}
+use Rattle.ddf_linux.specs.Founded.{IsBlankOrWhole, IsOnNewDisk, IsWholeAnew, below, seen_anew}
 use Rattle.ddf_linux.specs.Kinds.{kind_by, kind_if, kind_of_sectors, may_be_founded, signature_of, turn, turned_by}
 use Rattle.ddf_linux.specs.Layouts.{layout_of}
 use Rattle.ddf_linux.specs.Places.{constant_at, copies_in, new_places, places_of}
@@ -136,11 +136,14 @@ module _ (size : ℕ) (large : 33000 ≤ size) (seen : ℕ → List ℕ) where
     pub same_anew : seen_anew size under ≡ seen
     same_anew = fun_ext (λ l. ap (λ (k : SlotKind). turn k l (under l)) kind_anew ∙ turn_twice kind l (seen l))
 
-  -- a copy in both places is
-  pub both_anew : (copy : DiskCopy) → IsOnNewDisk size copy.header → AreBoth size seen (anchor_header copy) copy → AreBoth size (seen_anew size under) (anchor_header copy) copy
+  -- a copy in both places is, and the slot is turned at the same places
+  pub both_anew : (copy : DiskCopy) → IsOnNewDisk size copy.header → AreBoth size seen (anchor_header copy) copy → IsWholeAnew size under copy
   both_anew copy on_disk both =
       let anchor_on : IsOnNewDisk size (anchor_header copy) = record { primary_is = on_disk.primary_is; secondary_is = on_disk.secondary_is; geometry_is = on_disk.geometry_is } in
-      subst (λ (sector : ℕ → List ℕ). AreBoth size sector (anchor_header copy) copy) (sym (same_anew (anchor_header copy) both.is_anchored anchor_on)) both
+      record {
+        is_turned = kind_anew (anchor_header copy) both.is_anchored anchor_on;
+        are_both = subst (λ (sector : ℕ → List ℕ). AreBoth size sector (anchor_header copy) copy) (sym (same_anew (anchor_header copy) both.is_anchored anchor_on)) both;
+      }
 
   pub whole_anew : (copy : DiskCopy) → IsOnNewDisk size copy.header → (anchor_at size seen ≡ Err Blank) ⊎ AreBoth size seen (anchor_header copy) copy → IsBlankOrWhole size under copy
   whole_anew copy on_disk (inl blank) = inl (blank_anew blank)

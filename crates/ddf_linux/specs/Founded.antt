@@ -19,8 +19,10 @@ use Rattle.ddf_copy.specs.Sections.{bytes_in, raw_at}
 use Rattle.ddf_update.specs.NewCopies.{new_geometry}
 use Rattle.ddf_update.specs.Update.{AreBoth}
 use Rattle.ddf_linux.specs.declared.kind.SlotKind.{SlotKind}
+use Rattle.ddf_linux.specs.declared.kind.SlotKind.TheVariants.{Turned}
 use Rattle.ddf_linux.specs.Crcs.{IsLinuxSealed}
 use Rattle.ddf_linux.specs.Kinds.{kind_of_sectors, turn}
+use Rattle.ddf_linux.specs.Places.{new_places}
 
 -- A header lies on a disk of so many sectors as those of a new one do.
 pub record IsOnNewDisk (size : ℕ) (header : Header) : Type 0 where
@@ -57,7 +59,12 @@ below kind sector l = turn kind l (sector l)
 abbrev pub seen_anew : (size : ℕ) → (ℕ → List ℕ) → (ℕ → List ℕ)
 seen_anew size sector l = turn (kind_of_sectors size sector) l (sector l)
 
--- Seen anew a slot is blank, or has a copy in both places.
+-- Seen anew a slot has a copy in both places, and is turned as a whole: at all places of a new disk, and nowhere else.
+pub record IsWholeAnew (size : ℕ) (sector : ℕ → List ℕ) (copy : DiskCopy) : Type 0 where
+  pub is_turned : kind_of_sectors size sector ≡ Turned (new_places size)
+  pub are_both : AreBoth size (seen_anew size sector) (anchor_header copy) copy
+
+-- Seen anew a slot is blank, or it is whole.
 abbrev pub IsBlankOrWhole : (size : ℕ) → (ℕ → List ℕ) → DiskCopy → Type 0
 IsBlankOrWhole size sector copy =
-    (anchor_at size (seen_anew size sector) ≡ Err Blank) ⊎ AreBoth size (seen_anew size sector) (anchor_header copy) copy
+    (anchor_at size (seen_anew size sector) ≡ Err Blank) ⊎ IsWholeAnew size sector copy

@@ -40,8 +40,8 @@ pub fn a_founded_disk_is_sealed_for_linux<B: Bay + Drop>()
         → IsDiskForLinux (size_of (B.disks (inner_of bay)) slot) (below (kind_of bay slot) (image slot)) }
 {}
 
-/// What a stop leaves of a founding, a bay that is made anew sees blank or with its copy in both places, turned as a whole, but for a slot that is
-/// as it might have been left before.
+/// What a stop leaves of a founding, a bay that is made anew sees blank, or with its copy in both places and turned at the places of a new disk, but
+/// for a slot that is as it might have been left before.
 pub fn a_founding_cut_short_is_seen_blank_or_whole<B: Bay + Drop>()
     ensures { (bay : Turned B) (slots : List ℕ) (copy : ℕ → DiskCopy) (image : Image) → IsLeftFoundingAll (disks_of B.disks bay) slots copy image
         → (place slot : ℕ) → slice_get slots place ≡ Some slot

@@ -15,7 +15,7 @@ use Rattle.ddf_cells.proofs.Writes.{adds_wider, asks_start, asks_then, stays_wid
 use Rattle.ddf_rebuild.specs.declared.aim.Aim.{Aim}
 use Rattle.ddf_rebuild.specs.Rebuilding.{HasRebuilt, NoneLeftInRows, sectors_of}
 use Rattle.ddf_rebuild.specs.Sectors.{AreRebuilt, NoneLeftIn}
-use Rattle.ddf_rebuild.specs.Target.{IsAim, IsInRows, IsTarget, IsTargetCell}
+use Rattle.ddf_rebuild.specs.Target.{IsAim, IsInRows, IsTarget, IsTargetCell, IsTargetSlot}
 use Rattle.ddf_rebuild.proofs.Aiming.{same_target}
 
 slots_are : (a b : ℕ) → Some a ≡ Some b → a ≡ b
@@ -37,6 +37,9 @@ module _ (v : Volume) (aim : Aim) (aims : IsAim v aim) (own : Part) (own_is : ow
     is_out = aims.is_target.is_out;
     is_there = aims.is_target.is_there;
   }
+
+  pub rows_slot : (slot : ℕ) → slot ≡ aim.slot → IsTargetSlot v element position slot
+  rows_slot slot same = record { part = aims.part; place = aims.place; is_target = subst (λ n. IsTarget v element position aims.part aims.place n) (sym same) target_is }
 
   in_rows : (sector : ℕ) → first ≤ sector → sector < end → IsInRows aims.part.shape from to sector
   in_rows sector from_is below = record {

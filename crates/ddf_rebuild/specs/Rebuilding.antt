@@ -14,7 +14,7 @@ use Rattle.ddf_volume.specs.declared.fault.VolumeFault.{VolumeFault}
 use Rattle.ddf_volume.specs.declared.fault.VolumeFault.TheVariants.{Range, Degraded, Lost, Unsure, Disk}
 use Rattle.ddf_volume.specs.Reading.{Failed, NoneLeft}
 use Rattle.ddf_cells.specs.CellSources.{cell_sources, needed_positions, wanted}
-use Rattle.ddf_rebuild.specs.Target.{IsInRows, IsTarget}
+use Rattle.ddf_rebuild.specs.Target.{IsInRows, IsTarget, IsTargetSlot}
 
 -- The target's sectors at these rows hold what they should by an image: the values of their cells, and the sums of rows
 -- where the position holds parity.
@@ -34,14 +34,16 @@ pub record NoneLeftInRows (failed : ℕ → Type 0) (volume : Volume) (element p
   pub is_needed : slice_get (needed_positions part sector position) number ≡ Some other
   pub none_left : NoneLeft failed (cell_sources volume element part sector other) slot
 
--- The cause of an answer other than Ok. Where the array isn't within its level no call is made, and nothing changes.
+-- The cause of an answer other than Ok. Where the array isn't within its level no call is made, and nothing changes. A slot of which
+-- a write or sync failed is the target's.
 abbrev pub IsRebuildFault : {D : Type 0} → (old new : BayState D) → Volume → (element position from to : ℕ) → VolumeFault → Type 0
 IsRebuildFault old new volume element position from to (Range most) = ⊥
 IsRebuildFault old new volume element position from to Degraded = ⊥
 IsRebuildFault old new volume element position from to Lost = (is_within volume ≡ false) × (ReadsOnly old new × (new.calls ≡ old.calls))
 IsRebuildFault old new volume element position from to Unsure = ⊥
 IsRebuildFault old new volume element position from to (Disk slot) =
-    (is_within volume ≡ true) × (Rose (old.failed_writes slot) (new.failed_writes slot) ⊎ NoneLeftInRows (Failed old new) volume element position from to slot)
+    (is_within volume ≡ true)
+    × ((IsTargetSlot volume element position slot × Rose (old.failed_writes slot) (new.failed_writes slot)) ⊎ NoneLeftInRows (Failed old new) volume element position from to slot)
 
 -- how many sectors these rows have
 abbrev pub sectors_of : Placement → (from to : ℕ) → ℕ

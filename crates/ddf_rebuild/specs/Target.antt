@@ -21,6 +21,12 @@ pub record IsOut (volume : Volume) (element position : ℕ) : Type 0 where
   pub slot : ℕ
   pub is_target : IsTarget volume element position part place slot
 
+-- a slot is that of such a position
+pub record IsTargetSlot (volume : Volume) (element position slot : ℕ) : Type 0 where
+  pub part : Part
+  pub place : Place
+  pub is_target : IsTarget volume element position part place slot
+
 -- the rows of an element, a last part strip a row of its own
 abbrev pub row_count : Placement → ℕ
 row_count shape = (depth_of shape + shape.strip - 1) / shape.strip

@@ -17,8 +17,8 @@ use ddf_array::View;
 use ddf_bay::Bay;
 use ddf_cells::{SECTORS, read_wanted, write_from};
 
-/// Reads what the target should hold at neighbouring sectors, and writes it there. After a failure, the slot that failed,
-/// or at which no source is left.
+/// Reads what the target should hold at neighbouring sectors, and writes it there. After a failure, the target's slot, if
+/// the write failed, or one at which no source is left.
 pub(crate) fn rebuild_piece<B: Bay>(
     bay: &mut B,
     view: &View,
@@ -40,7 +40,7 @@ pub(crate) fn rebuild_piece<B: Bay>(
     ensures held { B.tells → StaysBut (IsAmongSectors aim.slot (aim.start + sector) count) (B.disks bay.old).held (B.disks bay.new).held }
     ensures left { AddsBut (IsAmongSectors aim.slot (aim.start + sector) count) (B.disks bay.old).may_hold (B.disks bay.new).may_hold }
     ensures any_moment { StopsLeave (B.disks bay.old) (B.disks bay.new) (IsLeftBut (IsAmongSectors aim.slot (aim.start + sector) count) (B.disks bay.old).may_hold) }
-    ensures failed { IfErr result (λ slot. Rose ((B.disks bay.old).failed_writes slot) ((B.disks bay.new).failed_writes slot)
+    ensures failed { IfErr result (λ slot. ((slot ≡ aim.slot) × Rose ((B.disks bay.old).failed_writes slot) ((B.disks bay.new).failed_writes slot))
         ⊎ ((part : Part) → slice_get view.now.parts aim.element ≡ Some part → NoneLeftFor (Failed (B.disks bay.old) (B.disks bay.new)) view.now aim.element part sector count aim.position slot)) }
     ensures asks { AsksFor (B.disks bay.old) (B.disks bay.new) count }
 {

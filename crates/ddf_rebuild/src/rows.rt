@@ -25,8 +25,8 @@ use ddf_cells::{depth_of, piece_at};
 use ddf_repair::Target;
 use ddf_volume::{VolumeFault, strip_of};
 
-/// Rebuilds the target's sectors from one on, up to an end. After a failure, the slot that failed, or at which no source
-/// is left.
+/// Rebuilds the target's sectors from one on, up to an end. After a failure, the target's slot, if a write failed, or one at
+/// which no source is left.
 fn rebuild_sectors<B: Bay>(
     bay: &mut B,
     view: &View,
@@ -46,7 +46,7 @@ fn rebuild_sectors<B: Bay>(
     ensures held { B.tells → StaysBut (IsAmongSectors aim.slot (aim.start + from) (end - from)) (B.disks bay.old).held (B.disks bay.new).held }
     ensures left { AddsBut (IsAmongSectors aim.slot (aim.start + from) (end - from)) (B.disks bay.old).may_hold (B.disks bay.new).may_hold }
     ensures any_moment { StopsLeave (B.disks bay.old) (B.disks bay.new) (IsLeftBut (IsAmongSectors aim.slot (aim.start + from) (end - from)) (B.disks bay.old).may_hold) }
-    ensures failed { IfErr result (λ slot. Rose ((B.disks bay.old).failed_writes slot) ((B.disks bay.new).failed_writes slot)
+    ensures failed { IfErr result (λ slot. ((slot ≡ aim.slot) × Rose ((B.disks bay.old).failed_writes slot) ((B.disks bay.new).failed_writes slot))
         ⊎ NoneLeftIn (Failed (B.disks bay.old) (B.disks bay.new)) view.now aim from end slot) }
     ensures asks { AsksFor (B.disks bay.old) (B.disks bay.new) (end - from) }
 {
@@ -60,8 +60,8 @@ fn rebuild_sectors<B: Bay>(
     Ok(())
 }
 
-/// Rebuilds the target's sectors from one on, up to an end, and makes them sure. After a failure, the slot that failed, or
-/// at which no source is left.
+/// Rebuilds the target's sectors from one on, up to an end, and makes them sure. After a failure, the target's slot, if a
+/// write or the sync failed, or one at which no source is left.
 fn rebuild_surely<B: Bay>(
     bay: &mut B,
     view: &View,
@@ -82,7 +82,7 @@ fn rebuild_surely<B: Bay>(
     ensures held { B.tells → StaysBut (IsAmongSectors aim.slot (aim.start + from) (end - from)) (B.disks bay.old).held (B.disks bay.new).held }
     ensures left { AddsBut (IsAmongSectors aim.slot (aim.start + from) (end - from)) (B.disks bay.old).may_hold (B.disks bay.new).may_hold }
     ensures any_moment { StopsLeave (B.disks bay.old) (B.disks bay.new) (IsLeftBut (IsAmongSectors aim.slot (aim.start + from) (end - from)) (B.disks bay.old).may_hold) }
-    ensures failed { IfErr result (λ slot. Rose ((B.disks bay.old).failed_writes slot) ((B.disks bay.new).failed_writes slot)
+    ensures failed { IfErr result (λ slot. ((slot ≡ aim.slot) × Rose ((B.disks bay.old).failed_writes slot) ((B.disks bay.new).failed_writes slot))
         ⊎ NoneLeftIn (Failed (B.disks bay.old) (B.disks bay.new)) view.now aim from end slot) }
     ensures asks { AsksFor (B.disks bay.old) (B.disks bay.new) (end - from) }
 {

@@ -8,6 +8,7 @@ pub mod Extents
 pub mod Copied
 pub mod CopyStep
 pub mod Stops
+pub mod FaultSlots
 pub mod SetStep
 pub mod Resynced
 pub mod Leaves

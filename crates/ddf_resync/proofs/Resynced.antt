@@ -35,6 +35,7 @@ use Rattle.ddf_cells.specs.Parity.{IsParityCell}
 use Rattle.ddf_cells.proofs.AlongStrips.{first_spot}
 use Rattle.ddf_cells.proofs.CopiesOn.{on_position, sits_below}
 use Rattle.ddf_cells.proofs.DataCells.{keeps}
+use Rattle.ddf_cells.proofs.Ends.{touched_by}
 use Rattle.ddf_cells.proofs.Items.{any_at}
 use Rattle.ddf_cells.proofs.OnCells.{on_cell, spot_of}
 use Rattle.ddf_cells.proofs.ParityCells.{no_copy}
@@ -43,7 +44,7 @@ use Rattle.ddf_cells.proofs.RunGiven.{cell_there}
 use Rattle.ddf_resync.specs.Copying.{AreCopied, AreNoted, HasOneCopy}
 use Rattle.ddf_resync.specs.Resyncing.{HasResynced, IsSetOn, MayResync, resync_refusal}
 use Rattle.ddf_bay.specs.State.{BayState}
-use Rattle.ddf_cells.specs.Touching.{IsTouchedSlot, Writes}
+use Rattle.ddf_cells.specs.Touching.{IsGivenOn, IsTouchedSlot, Writes}
 use Rattle.ddf_resync.specs.Setting.{AreNotedIn, AreRightIn, SetsParity}
 use Rattle.ddf_resync.proofs.Copied.{given_alone}
 use Rattle.ddf_resync.proofs.SeveralCells.{not_several}
@@ -104,6 +105,16 @@ set_noted v known touched after slot up copies_noted parity_noted on = ⊎_elim
 -- and they are slots of the bay
 pub set_there : (v : Volume) → IsVolume v → (sizes : List ℕ) → Fits sizes v → (slot : ℕ) → IsSetOn v slot → slot < length sizes
 set_there v known sizes fits slot on = ⊎_elim (λ cell. copy_there v known sizes fits cell.block cell.i slot on.lba cell.is_cell) (λ of. parity_there v sizes fits slot on.lba of) on.is_set
+
+-- a slot that was noted, where none was before, is such a slot
+given_set : (v : Volume) (tells : Type 0) (before : Image) (slot : ℕ) → IsGivenOn (MayResync v tells before) slot → IsSetOn v slot
+given_set v tells before slot given = ⊎_elim
+    (λ taken. record { lba = given.lba; is_set = inl (record { block = taken.block; i = taken.i; is_cell = taken.is_cell; several = taken.several }) })
+    (λ of. record { lba = given.lba; is_set = inr of })
+    given.is_given
+
+pub noted_set : (v : Volume) (tells : Type 0) (before : Image) {D : Type 0} {old b : BayState D} {t u : List Bool} → Writes (MayResync v tells before) tells old b t u → ((s : ℕ) → IsTouchedSlot t s → ⊥) → (slot : ℕ) → IsTouchedSlot u slot → IsSetOn v slot
+noted_set v tells before w none slot is = given_set v tells before slot (touched_by (MayResync v tells before) tells w none slot is)
 
 -- copies that are equal stay so while parity is set
 pub equal_kept : (v : Volume) → IsVolume v → IsApart v → (tells : Type 0) {D : Type 0} {a b : BayState D} {t u : List Bool} → Writes (SetsParity v) tells a b t u → tells → HaveEqualCopies v a.held → HaveEqualCopies v b.held

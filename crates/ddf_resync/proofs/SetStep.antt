@@ -67,7 +67,7 @@ module _ (v : Volume) (known : IsVolume v) (element : ℕ) (part : Part) (is_par
       step_writes tells touched n m few mixes adds moments spends =
           writes_then (SetsParity v) tells
           (writes_read (SetsParity v) tells touched reads)
-          (writes_run (SetsParity v) tells first.slot first.lba sums touched n m few
+          (writes_run (SetsParity v) tells first.slot first.lba sums touched n m few (omega (arith, long, some))
           (run_gives v known apart element part is_part sector count parity parity_along inside first at sums long)
           mixes adds moments spends)
 

@@ -16,13 +16,13 @@ module _ {D : Type 0} (May Other : Giving) (tells : Type 0) {a b c : BayState D}
   pub failed_since : (slot : ℕ) → Failed b c slot → Failed a c slot
   failed_since slot rose = rose_since (a.failed_reads slot) (b.failed_reads slot) (c.failed_reads slot) (first.reads_rise slot) rose
 
-  pub block_since : (v : Volume) (slot : ℕ) → Rose (b.failed_writes slot) (c.failed_writes slot) ⊎ NoneLeftOfBlock (Failed b c) v slot → Rose (a.failed_writes slot) (c.failed_writes slot) ⊎ NoneLeftOfBlock (Failed a c) v slot
-  block_since v slot (inl rose) = inl (rose_since (a.failed_writes slot) (b.failed_writes slot) (c.failed_writes slot) (first.writes_rise slot) rose)
-  block_since v slot (inr left) = inr (record { block = left.block; below = left.below; several = left.several; none_left = NotRead-wider failed_since (sources v left.block) (Some slot) left.none_left })
+  pub block_since : (v : Volume) (Named : ℕ → Type 0) (slot : ℕ) → (Named slot × Rose (b.failed_writes slot) (c.failed_writes slot)) ⊎ NoneLeftOfBlock (Failed b c) v slot → (Named slot × Rose (a.failed_writes slot) (c.failed_writes slot)) ⊎ NoneLeftOfBlock (Failed a c) v slot
+  block_since v Named slot (inl (named, rose)) = inl (named, rose_since (a.failed_writes slot) (b.failed_writes slot) (c.failed_writes slot) (first.writes_rise slot) rose)
+  block_since v Named slot (inr left) = inr (record { block = left.block; below = left.below; several = left.several; none_left = NotRead-wider failed_since (sources v left.block) (Some slot) left.none_left })
 
-  pub row_since : (v : Volume) (slot : ℕ) → Rose (b.failed_writes slot) (c.failed_writes slot) ⊎ NoneLeftOfRow (Failed b c) v slot → Rose (a.failed_writes slot) (c.failed_writes slot) ⊎ NoneLeftOfRow (Failed a c) v slot
-  row_since v slot (inl rose) = inl (rose_since (a.failed_writes slot) (b.failed_writes slot) (c.failed_writes slot) (first.writes_rise slot) rose)
-  row_since v slot (inr left) =
+  pub row_since : (v : Volume) (Named : ℕ → Type 0) (slot : ℕ) → (Named slot × Rose (b.failed_writes slot) (c.failed_writes slot)) ⊎ NoneLeftOfRow (Failed b c) v slot → (Named slot × Rose (a.failed_writes slot) (c.failed_writes slot)) ⊎ NoneLeftOfRow (Failed a c) v slot
+  row_since v Named slot (inl (named, rose)) = inl (named, rose_since (a.failed_writes slot) (b.failed_writes slot) (c.failed_writes slot) (first.writes_rise slot) rose)
+  row_since v Named slot (inr left) =
       let of = left.for_sum in
       inr (record {
         element = left.element;

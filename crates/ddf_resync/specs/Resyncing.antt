@@ -89,9 +89,10 @@ pub record NoneLeftOfRow (failed : ℕ → Type 0) (volume : Volume) (slot : ℕ
   pub inside : sector + count ≤ depth_of part.shape
   pub for_sum : NoneLeftForSum failed volume element part sector count slot
 
--- the calls ended at a slot: a write or sync of it failed, or no source is left there
+-- the calls ended at a slot: a write or sync of it failed, and the resync sets sectors of it; or no source is left there
 abbrev pub IsStopped : {D : Type 0} (old new : BayState D) → Volume → (slot : ℕ) → Type 0
-IsStopped old new volume slot = Rose (old.failed_writes slot) (new.failed_writes slot) ⊎ (NoneLeftOfBlock (Failed old new) volume slot ⊎ NoneLeftOfRow (Failed old new) volume slot)
+IsStopped old new volume slot =
+    (IsSetOn volume slot × Rose (old.failed_writes slot) (new.failed_writes slot)) ⊎ (NoneLeftOfBlock (Failed old new) volume slot ⊎ NoneLeftOfRow (Failed old new) volume slot)
 
 -- no call is made, and nothing changes
 abbrev pub IsUntouched : {D : Type 0} (old new : BayState D) → Type 0

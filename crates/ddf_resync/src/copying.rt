@@ -6,7 +6,7 @@ ghost use Rattle.ddf_array.specs.Sources.{trusts_parity};
 ghost use Rattle.ddf_array.specs.Volume.{Fits, IsVolume, capacity};
 ghost use Rattle.ddf_volume.specs.Reading.{Failed};
 ghost use Rattle.ddf_cells.specs.CellSources.{IsReadable};
-ghost use Rattle.ddf_cells.specs.Touching.{Writes};
+ghost use Rattle.ddf_cells.specs.Touching.{IsTouchedSlot, Writes};
 ghost use Rattle.ddf_resync.specs.Copying.{AreAsBefore, AreCopied, AreNoted, Asks};
 ghost use Rattle.ddf_resync.specs.Resyncing.{MayResync, NoneLeftOfBlock};
 ghost use Rattle.ddf_resync.specs.Several.{copied_cells};
@@ -40,7 +40,7 @@ fn copy_first<B: Bay>(
     ensures noted { B.tells → IfOk result (λ count. AreNoted view.now touched.new block (block + count)) }
     ensures asks { IfOk result (λ count. Asks (B.disks bay.old) (B.disks bay.new) (copied_cells view.now block) (copied_cells view.now (block + count))) }
     ensures most { Asks (B.disks bay.old) (B.disks bay.new) (copied_cells view.now block) (copied_cells view.now (capacity view.now)) }
-    ensures cause { IfErr result (λ slot. Rose ((B.disks bay.old).failed_writes slot) ((B.disks bay.new).failed_writes slot)
+    ensures cause { IfErr result (λ slot. (IsTouchedSlot touched.new slot × Rose ((B.disks bay.old).failed_writes slot) ((B.disks bay.new).failed_writes slot))
         ⊎ NoneLeftOfBlock (Failed (B.disks bay.old) (B.disks bay.new)) view.now slot) }
 {
     let count = blocks_along(view, block, SECTORS);
@@ -69,7 +69,7 @@ pub(crate) fn copy_all<B: Bay>(
     ensures copied { B.tells → OnOk result (AreCopied (Failed (B.disks bay.old) (B.disks bay.new)) view.now (B.disks bay.old).held (B.disks bay.new).held 0 (capacity view.now)) }
     ensures noted { B.tells → OnOk result (AreNoted view.now touched.new 0 (capacity view.now)) }
     ensures asks { Asks (B.disks bay.old) (B.disks bay.new) 0 (copied_cells view.now (capacity view.now)) }
-    ensures cause { IfErr result (λ slot. Rose ((B.disks bay.old).failed_writes slot) ((B.disks bay.new).failed_writes slot)
+    ensures cause { IfErr result (λ slot. (IsTouchedSlot touched.new slot × Rose ((B.disks bay.old).failed_writes slot) ((B.disks bay.new).failed_writes slot))
         ⊎ NoneLeftOfBlock (Failed (B.disks bay.old) (B.disks bay.new)) view.now slot) }
 {
     let capacity = view.capacity();

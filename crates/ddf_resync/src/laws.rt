@@ -1,5 +1,5 @@
 // Laws of what a scrub compares and of what a resync leaves: functions that do nothing, whose contracts are the laws.
-ghost use Rattle.std.specs.Prelude.{◌≡◌, ◌⊎◌, ◌<◌, ◌≤◌, ℕ, Some, slice_get};
+ghost use Rattle.std.specs.Prelude.{◌≡◌, ◌⊎◌, ◌<◌, ◌≤◌, ℕ, Some, length, slice_get};
 ghost use Rattle.ddf_bay.specs.Moments.{IsSettled};
 ghost use Rattle.ddf_bay.specs.Sectors.{Image, IsLeft};
 ghost use Rattle.ddf_primary.specs.Cells.{depth_of};
@@ -10,10 +10,10 @@ ghost use Rattle.ddf_array.specs.Redundant.{IsRedundant};
 ghost use Rattle.ddf_array.specs.Sound.{AreSectors};
 ghost use Rattle.ddf_array.specs.Sources.{copies, first_copy};
 ghost use Rattle.ddf_array.specs.Values.{bytes_at};
-ghost use Rattle.ddf_array.specs.Volume.{IsVolume, Volume};
+ghost use Rattle.ddf_array.specs.Volume.{Fits, IsVolume, Volume};
 ghost use Rattle.ddf_volume.specs.Reading.{Failed, IsOn};
 ghost use Rattle.ddf_resync.specs.Agreeing.{Agrees};
-ghost use Rattle.ddf_resync.specs.Resyncing.{HasResynced, IsAmongResynced, IsHeld, IsLeftByResync, MayResync};
+ghost use Rattle.ddf_resync.specs.Resyncing.{HasResynced, IsAmongResynced, IsHeld, IsLeftByResync, IsStopped, MayResync};
 ghost use Rattle.ddf_resync.specs.Several.{extent_sectors, resync_sectors};
 
 use ddf_bay::Bay;
@@ -51,6 +51,13 @@ pub fn a_resync_takes_the_first_copy<B: Bay>(old: &B, new: &B)
         → slice_get (copies volume block) i ≡ Some one → IsHeld volume before block (bytes_at after one) }
     ensures first { (volume : Volume) (block i : ℕ) (before after : Image) (one first : Site) → HasResynced (Failed (B.disks old.now) (B.disks new.now)) volume before after
         → slice_get (copies volume block) i ≡ Some one → first_copy volume block ≡ Some first → (Failed (B.disks old.now) (B.disks new.now) first.slot → ⊥) → bytes_at after one ≡ bytes_at before first }
+{}
+
+/// A disk that a fault of a resync names is one of the array's available places, and of the bay.
+pub fn a_fault_of_a_resync_names_a_disk_of_the_array<B: Bay>(old: &B, new: &B)
+    ensures on { (volume : Volume) (slot : ℕ) → IsVolume volume → IsStopped (B.disks old.now) (B.disks new.now) volume slot → IsOn volume slot }
+    ensures there { (volume : Volume) (slot : ℕ) → IsVolume volume → Fits (B.disks old.now).sizes volume
+        → IsStopped (B.disks old.now) (B.disks new.now) volume slot → slot < length (B.disks old.now).sizes }
 {}
 
 /// Where nothing is pending on the slots of an array, it is resynced in every image that a stop may leave.

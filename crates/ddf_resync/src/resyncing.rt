@@ -35,7 +35,8 @@ pub fn resync_refusal(view: &View) -> Option<VolumeFault>
     None
 }
 
-/// Makes the copies of an array's blocks equal, then its parity right, and makes both sure.
+/// Makes the copies of an array's blocks equal, then its parity right, and makes both sure. After a failure, the slot that
+/// failed, of those that it writes to, or at which no source is left.
 fn resync_all<B: Bay>(bay: &mut B, view: &View) -> Result<(), usize>
     requires known { IsVolume view.now }
     requires apart { IsApart view.now }
@@ -68,8 +69,9 @@ fn resync_all<B: Bay>(bay: &mut B, view: &View) -> Result<(), usize>
 ///
 /// # Errors
 /// `Lost` where the array isn't within its level, `Unsure` where an element that keeps parity lacks a position; then no call
-/// is made. `Disk` where a write or sync of the slot failed, or each source of a block with several available cells, or of
-/// a data cell of a row whose parity is set, has a slot of which a read failed: it names such a slot of the first source.
+/// is made. `Disk` where a write or sync failed of the slot, which has an available cell of a block with several of them or
+/// a parity cell, or where each source of such a block, or of a data cell of a row whose parity is set, has a slot of which
+/// a read failed: it names such a slot of the first source.
 pub fn resync<B: Bay>(bay: &mut B, view: &View) -> Result<(), VolumeFault>
     requires apart { IsApart view.now }
     requires fits { Fits (B.disks bay.old).sizes view.now }

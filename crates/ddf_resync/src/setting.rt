@@ -8,7 +8,7 @@ ghost use Rattle.ddf_array.specs.Volume.{Fits, IsVolume};
 ghost use Rattle.ddf_volume.specs.Reading.{Failed};
 ghost use Rattle.ddf_cells.specs.CellSources.{HaveEqualCopies, IsInOneRow, IsReadable};
 ghost use Rattle.ddf_cells.specs.Degraded.{is_degraded};
-ghost use Rattle.ddf_cells.specs.Touching.{Writes};
+ghost use Rattle.ddf_cells.specs.Touching.{IsTouchedSlot, Writes};
 ghost use Rattle.ddf_resync.specs.Resyncing.{NoneLeftOfRow};
 ghost use Rattle.ddf_resync.specs.Setting.{AreNotedIn, AreNotedTo, AreRightIn, AreRightTo, IsNotedAt, IsRightAt, KeepsRight, SetsParity};
 ghost use Rattle.ddf_resync.specs.Copying.{Asks};
@@ -47,7 +47,7 @@ fn set_piece<B: Bay>(
     ensures kept { B.tells → HaveEqualCopies view.now (B.disks bay.old).held → OnOk result (KeepsRight view.now (B.disks bay.old).held (B.disks bay.new).held) }
     ensures noted { OnOk result ((j : ℕ) → j < count → IsNotedAt touched.new part.now (sector + j)) }
     ensures asks { Asks (B.disks bay.old) (B.disks bay.new) 0 count }
-    ensures cause { IfErr result (λ slot. Rose ((B.disks bay.old).failed_writes slot) ((B.disks bay.new).failed_writes slot)
+    ensures cause { IfErr result (λ slot. (IsTouchedSlot touched.new slot × Rose ((B.disks bay.old).failed_writes slot) ((B.disks bay.new).failed_writes slot))
         ⊎ NoneLeftOfRow (Failed (B.disks bay.old) (B.disks bay.new)) view.now slot) }
 {
     let Some(parity) = part.shape.parity_of(sector / strip_of(part)) else {
@@ -90,7 +90,7 @@ fn set_element<B: Bay>(
     ensures kept { B.tells → HaveEqualCopies view.now (B.disks bay.old).held → OnOk result (KeepsRight view.now (B.disks bay.old).held (B.disks bay.new).held) }
     ensures noted { OnOk result (AreNotedTo touched.new part.now (depth_of part.now.shape)) }
     ensures asks { Asks (B.disks bay.old) (B.disks bay.new) 0 (parity_of (Some part.now)) }
-    ensures cause { IfErr result (λ slot. Rose ((B.disks bay.old).failed_writes slot) ((B.disks bay.new).failed_writes slot)
+    ensures cause { IfErr result (λ slot. (IsTouchedSlot touched.new slot × Rose ((B.disks bay.old).failed_writes slot) ((B.disks bay.new).failed_writes slot))
         ⊎ NoneLeftOfRow (Failed (B.disks bay.old) (B.disks bay.new)) view.now slot) }
 {
     if !keeps_parity(part.shape.layout()) {
@@ -123,7 +123,7 @@ pub(crate) fn set_all<B: Bay>(
     ensures set { B.tells → HaveEqualCopies view.now (B.disks bay.old).held → OnOk result (AreRightIn view.now (B.disks bay.new).held (length view.now.parts)) }
     ensures noted { OnOk result (AreNotedIn view.now touched.new (length view.now.parts)) }
     ensures asks { Asks (B.disks bay.old) (B.disks bay.new) 0 (parity_cells view.now (length view.now.parts)) }
-    ensures cause { IfErr result (λ slot. Rose ((B.disks bay.old).failed_writes slot) ((B.disks bay.new).failed_writes slot)
+    ensures cause { IfErr result (λ slot. (IsTouchedSlot touched.new slot × Rose ((B.disks bay.old).failed_writes slot) ((B.disks bay.new).failed_writes slot))
         ⊎ NoneLeftOfRow (Failed (B.disks bay.old) (B.disks bay.new)) view.now slot) }
 {
     for element in 0..view.parts().len() {

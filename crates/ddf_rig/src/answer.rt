@@ -3,6 +3,7 @@ use crate::call::{command, command_alone};
 use crate::compare::{compare, look_for_linux};
 use crate::disks::Disks;
 use crate::edit::edit_disks;
+use crate::input::input_of;
 use crate::row::fill_row;
 use crate::vectors::vector;
 use anyhow::bail;
@@ -32,6 +33,7 @@ fn obeyed(alloc: Global, disks: &mut Disks, verb: &str, words: &[&str]) -> anyho
         "stop" => disks.stop(alloc, words)?,
         "unplug" => disks.unplug(words)?,
         "output" => disks.set_output(words)?,
+        "input" => disks.input = Some(input_of(alloc, words)?),
         "stamp" => disks.set_stamp(words)?,
         "vanish" => disks.loses_anchors = true,
         "write" => disks.write(alloc, words)?,

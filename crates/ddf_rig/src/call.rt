@@ -1,5 +1,6 @@
 // The call that the program makes, over the disks of a scenario.
 use crate::disks::{ALL, Disks, Output, new_bay};
+use crate::input::empty;
 use crate::run::{sync_slot, write_sectors};
 use crate::told::text_of;
 use crate::words::{push_words, words_over};
@@ -22,7 +23,18 @@ pub fn command(alloc: Global, disks: &mut Disks, text: &str) -> anyhow::Result<S
         lose_anchors(&mut bay)?;
         disks.loses_anchors = false;
     }
-    let answer = call(alloc, &mut bay, words.as_slice(), disks.stamp, disks.output)?;
+    let mut input = match disks.input.take() {
+        Some(input) => input,
+        None => empty(alloc),
+    };
+    let answer = call(
+        alloc,
+        &mut bay,
+        words.as_slice(),
+        disks.stamp,
+        &mut input,
+        disks.output,
+    )?;
     disks.bay = Some(bay.into_inner());
     Ok(answer)
 }
@@ -33,7 +45,14 @@ pub fn command_alone(alloc: Global, stamp: Stamp, text: &str) -> anyhow::Result<
     push_words(alloc, &mut words, text)?;
     let sizes = &SMALL[..slot_paths(words.as_slice()).len()];
     let mut bay = Turned::new(new_bay(alloc, sizes, 0)?, false);
-    call(alloc, &mut bay, words.as_slice(), stamp, ALL)
+    call(
+        alloc,
+        &mut bay,
+        words.as_slice(),
+        stamp,
+        &mut empty(alloc),
+        ALL,
+    )
 }
 
 /// Whether words ask for disks for Linux.
@@ -55,6 +74,7 @@ fn call(
     bay: &mut Turned<MemoryBay>,
     words: &[String],
     stamp: Stamp,
+    input: &mut MemorySource,
     output: Output,
 ) -> anyhow::Result<String> {
     if bay.slots() != slot_paths(words).len() {
@@ -64,11 +84,10 @@ fn call(
     if let Some(call) = output.failing {
         failing.push(call)?;
     }
-    let mut source = MemorySource::new(Vec::new(alloc), Vec::new(alloc));
     let Ok(mut sink) = MemorySink::new(alloc, output.room, failing) else {
         bail!("memory ran out");
     };
-    let status = serve(alloc, words, bay, &mut source, &mut sink, stamp);
+    let status = serve(alloc, words, bay, input, &mut sink, stamp);
     Ok(text_of(alloc, sink.bytes(), status)?)
 }
 

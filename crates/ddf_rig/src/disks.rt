@@ -7,7 +7,7 @@ use crate::run::{sync_slot, write_sectors};
 use crate::stop::{WRITES, stopped};
 use anyhow::bail;
 use ddf_bay::{Bay, MemoryBay};
-use ddf_bytes::{Sector, Stamp};
+use ddf_bytes::{MemorySource, Sector, Stamp};
 use ddf_linux::Turned;
 use std::alloc::Global;
 
@@ -34,6 +34,8 @@ pub struct Disks {
     /// The moment and the chance.
     pub stamp: Stamp,
     pub output: Output,
+    /// What the next command gets as its input, if that has any bytes.
+    pub input: Option<MemorySource>,
     /// Whether the anchors are lost behind the next command's first look at them.
     pub loses_anchors: bool,
     /// The calls of the bay when they were asked for last.
@@ -50,6 +52,7 @@ impl Disks {
                 salt: 6 * (1 << 64) + 7,
             },
             output: ALL,
+            input: None,
             loses_anchors: false,
             counted: 0,
         }
@@ -79,6 +82,7 @@ impl Disks {
         let sizes = numbers(alloc, sizes)?;
         self.bay = Some(new_bay(alloc, sizes.as_slice(), room)?);
         self.output = ALL;
+        self.input = None;
         self.counted = 0;
         Ok(())
     }

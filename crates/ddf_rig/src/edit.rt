@@ -112,7 +112,8 @@ fn seal_again(bytes: &mut [u8])
     seal(bytes, signature);
 }
 
-fn number_sectors(bytes: &mut [u8]) {
+/// Fills each sector N with N modulo 251.
+pub fn number_sectors(bytes: &mut [u8]) {
     for (place, sector) in bytes.chunks_mut(512).enumerate() {
         sector.fill((place % 251) as u8);
     }

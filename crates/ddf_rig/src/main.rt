@@ -6,6 +6,7 @@ mod call;
 mod compare;
 mod disks;
 mod edit;
+mod input;
 mod lines;
 mod numbers;
 mod outcomes;

@@ -6,7 +6,7 @@ use Rattle.ddf_words.proofs.Wishes.{accept, create, delete, fail, first_word, no
 use Rattle.ddf_words.specs.Traits.{traits_of}
 use Rattle.ddf_words.specs.Words.{Word, AreBlocks, NameDisks, Spells, SpellBlocks, SpellCreate, SpellFail, SpellNamed, SpellSpare, IsGroupCommand, IsNamed}
 use Rattle.ddf_words.specs.declared.command.Command.{Command}
-use Rattle.ddf_words.specs.declared.command.Command.TheVariants.{Examine, Label, Assemble, Show, Read, Scrub, Change}
+use Rattle.ddf_words.specs.declared.command.Command.TheVariants.{Examine, Label, Assemble, Show, Read, Scrub, Resync, Write, Change}
 use Rattle.ddf_words.specs.declared.command.Creation.{Creation}
 use Rattle.ddf_words.specs.declared.command.SpareWord.{SpareWord}
 use Rattle.ddf_words.specs.declared.command.Wish.TheVariants.{Create, Delete, Accept, Spare, Fail}
@@ -29,6 +29,12 @@ read = codes "read"
 abbrev pub scrub : Word
 scrub = codes "scrub"
 
+abbrev pub resync : Word
+resync = codes "resync"
+
+abbrev pub write : Word
+write = codes "write"
+
 -- the name of a command
 abbrev pub name_of : Command → Word
 name_of Examine = examine
@@ -37,6 +43,8 @@ name_of Assemble = assemble
 name_of Show = show
 name_of (Read name start count) = read
 name_of (Scrub name) = scrub
+name_of (Resync name) = resync
+name_of (Write name start count) = write
 name_of (Change wish) = wish_name wish
 
 -- with it the words begin
@@ -47,6 +55,8 @@ begins_with words Assemble spells = ap first_word spells
 begins_with words Show spells = ap first_word spells
 begins_with words (Read name start count) spells = ap first_word spells.parts
 begins_with words (Scrub name) spells = ap first_word spells.parts
+begins_with words (Resync name) spells = ap first_word spells.parts
+begins_with words (Write name start count) spells = ap first_word spells.parts
 begins_with words (Change wish) spells = wish_begins words wish spells
 
 -- no name begins with `@`
@@ -93,6 +103,16 @@ pub scrub_names : (rest : List Word) (command : Command) → Spells command (scr
 scrub_names rest (Scrub name) spells = record { name = name; spells = spells }
 scrub_names rest (Change wish) spells = absurd (no_wish scrub (refl, refl, refl, refl, refl) wish (wish_begins (scrub ∷ rest) wish spells))
 scrub_names rest command spells = absurd (unlike scrub (name_of command) refl (begins_with (scrub ∷ rest) command spells))
+
+pub resync_names : (rest : List Word) (command : Command) → Spells command (resync ∷ rest) → IsNamed resync (resync ∷ rest)
+resync_names rest (Resync name) spells = record { name = name; spells = spells }
+resync_names rest (Change wish) spells = absurd (no_wish resync (refl, refl, refl, refl, refl) wish (wish_begins (resync ∷ rest) wish spells))
+resync_names rest command spells = absurd (unlike resync (name_of command) refl (begins_with (resync ∷ rest) command spells))
+
+pub write_names : (rest : List Word) (command : Command) → Spells command (write ∷ rest) → AreBlocks write (write ∷ rest)
+write_names rest (Write name start count) spells = record { name = name; start = start; count = count; spells = spells }
+write_names rest (Change wish) spells = absurd (no_wish write (refl, refl, refl, refl, refl) wish (wish_begins (write ∷ rest) wish spells))
+write_names rest command spells = absurd (unlike write (name_of command) refl (begins_with (write ∷ rest) command spells))
 
 pub create_names : (rest : List Word) (command : Command) → Spells command (create ∷ rest) → (creation : Creation) × SpellCreate creation (create ∷ rest)
 create_names rest (Change (Create creation)) spells = (creation, spells)
@@ -149,6 +169,8 @@ same_command words (Label style slots) (Label style' slots') spells spells' =
     λ i. Label (same.0 i) (same.1 i)
 same_command words (Read name start count) (Read name' start' count') spells spells' = same_blocks read words name name' start start' count count' spells spells' Read
 same_command words (Scrub name) (Scrub name') spells spells' = ap Scrub (same_named scrub words name name' spells spells')
+same_command words (Resync name) (Resync name') spells spells' = ap Resync (same_named resync words name name' spells spells')
+same_command words (Write name start count) (Write name' start' count') spells spells' = same_blocks write words name name' start start' count count' spells spells' Write
 same_command words (Change wish) (Change wish') spells spells' = ap Change (same_wish words wish wish' spells spells')
 same_command words (Change wish) command' spells spells' =
     absurd (no_wish (name_of command') (refl, refl, refl, refl, refl) wish (sym (begins_with words command' spells') ∙ wish_begins words wish spells))
@@ -169,6 +191,8 @@ pub record IsOther (name : Word) : Type 0 where
   pub show : name ≢ codes "show"
   pub read : name ≢ codes "read"
   pub scrub : name ≢ codes "scrub"
+  pub resync : name ≢ codes "resync"
+  pub write : name ≢ codes "write"
   pub create : name ≢ codes "create"
   pub delete : name ≢ codes "delete"
   pub accept : name ≢ codes "accept"
@@ -182,6 +206,8 @@ other_name name other Assemble takes e = other.assemble e
 other_name name other Show takes e = other.show e
 other_name name other (Read array start count) takes e = other.read e
 other_name name other (Scrub array) takes e = other.scrub e
+other_name name other (Resync array) takes e = other.resync e
+other_name name other (Write array start count) takes e = other.write e
 other_name name other (Change (Create creation)) takes e = other.create e
 other_name name other (Change (Delete array)) takes e = other.delete e
 other_name name other (Change (Accept array)) takes e = other.accept e

@@ -1,8 +1,8 @@
 -- The words behind `label`.
-use Rattle.std.proofs.Common.{◌≡◌, ◌≢◌, ℕ, ◌+◌, ◌≤◌, ◌^◌, List, [], ◌∷◌, length, get_or, drop, map, refl, sym, ap, ◌∙◌, arith, codes}
+use Rattle.std.proofs.Common.{◌≡◌, ◌≢◌, ℕ, ◌+◌, ◌≤◌, List, [], ◌∷◌, length, get_or, drop, refl, sym, ap, ◌∙◌, arith, codes}
 use Rattle.std.specs.Fmt.{decimal}
 use Rattle.std.proofs.lemmas.Fmt.{length-decimal-le}
-use Rattle.ddf_words.proofs.Numbers.{many_slots, same_slots, small_slot, word_of_slot}
+use Rattle.ddf_words.proofs.Numbers.{same_slots, small_slot, word_of_slot}
 use Rattle.ddf_words.proofs.Places.{wrong_among, wrong_behind}
 use Rattle.ddf_words.specs.Words.{Word, AreSlotWords, GoWrongAt, NameDisks, NameSlots, SpellDisks}
 use Rattle.ddf_words.specs.declared.command.DiskStyle.{DiskStyle}

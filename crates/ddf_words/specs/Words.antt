@@ -9,7 +9,7 @@ use Rattle.hex.specs.Hex.{encode_lower}
 use Rattle.ddf_bytes.specs.Guids.{IsGuid}
 use Rattle.ddf_words.specs.declared.command.Asked.{Asked}
 use Rattle.ddf_words.specs.declared.command.Command.{Command}
-use Rattle.ddf_words.specs.declared.command.Command.TheVariants.{Examine, Label, Assemble, Show, Read, Scrub, Change}
+use Rattle.ddf_words.specs.declared.command.Command.TheVariants.{Examine, Label, Assemble, Show, Read, Scrub, Resync, Write, Change}
 use Rattle.ddf_words.specs.declared.command.CreateElement.{CreateElement}
 use Rattle.ddf_words.specs.declared.command.Creation.{Creation}
 use Rattle.ddf_words.specs.declared.command.DiskStyle.{DiskStyle}
@@ -238,6 +238,8 @@ Spells Assemble words = words ≡ codes "assemble" ∷ []
 Spells Show words = words ≡ codes "show" ∷ []
 Spells (Read name start count) words = SpellBlocks (codes "read") name start count words
 Spells (Scrub name) words = SpellNamed (codes "scrub") name words
+Spells (Resync name) words = SpellNamed (codes "resync") name words
+Spells (Write name start count) words = SpellBlocks (codes "write") name start count words
 Spells (Change wish) words = SpellsWish wish words
 
 -- The word is `@` and the 48 lower-case hexadecimal digits of the group's GUID.

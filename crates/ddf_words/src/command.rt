@@ -41,6 +41,20 @@ pub enum Command {
         /// The name of the array, as the words give it.
         name: Seq<u8>,
     },
+    /// Makes the copies and the parity of an array agree.
+    Resync {
+        /// The name of the array, as the words give it.
+        name: Seq<u8>,
+    },
+    /// Writes blocks of an array, with bytes that it takes from the input.
+    Write {
+        /// The name of the array, as the words give it.
+        name: Seq<u8>,
+        /// The first block, at most 2^60.
+        start: u64,
+        /// How many blocks, at most 2^60.
+        count: u64,
+    },
     /// Changes a group.
     Change(Wish),
 }

@@ -49,6 +49,14 @@ fn group_command_of(alloc: Global, words: &[String]) -> Result<Command, WordFaul
             let name = named_of(alloc, words)?;
             Ok(Command::Scrub { name })
         }
+        "resync" => {
+            let name = named_of(alloc, words)?;
+            Ok(Command::Resync { name })
+        }
+        "write" => {
+            let Blocks { name, start, count } = blocks_of(alloc, words)?;
+            Ok(Command::Write { name, start, count })
+        }
         "create" => create_of(alloc, words),
         "delete" => {
             let name = named_of(alloc, words)?;

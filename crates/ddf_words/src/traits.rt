@@ -14,6 +14,8 @@ pub struct Traits {
     pub may_refuse: bool,
     /// It makes new GUIDs, which takes chance.
     pub makes_names: bool,
+    /// It takes bytes from the input.
+    pub takes_input: bool,
 }
 
 impl Command {
@@ -29,30 +31,42 @@ impl Command {
                 may_write: false,
                 may_refuse: false,
                 makes_names: false,
+                takes_input: false,
             },
             Command::Label { .. } => Traits {
                 takes_group: false,
                 may_write: true,
                 may_refuse: true,
                 makes_names: true,
+                takes_input: false,
             },
             Command::Show | Command::Read { .. } | Command::Scrub { .. } => Traits {
                 takes_group: true,
                 may_write: false,
                 may_refuse: true,
                 makes_names: false,
+                takes_input: false,
             },
-            Command::Assemble => Traits {
+            Command::Assemble | Command::Resync { .. } => Traits {
                 takes_group: true,
                 may_write: true,
                 may_refuse: true,
                 makes_names: false,
+                takes_input: false,
+            },
+            Command::Write { .. } => Traits {
+                takes_group: true,
+                may_write: true,
+                may_refuse: true,
+                makes_names: false,
+                takes_input: true,
             },
             Command::Change(wish) => Traits {
                 takes_group: true,
                 may_write: true,
                 may_refuse: true,
                 makes_names: matches!(wish, Wish::Create(_)),
+                takes_input: false,
             },
         }
     }

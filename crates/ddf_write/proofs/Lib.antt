@@ -3,6 +3,7 @@ pub mod RowReads
 pub mod Gives
 pub mod RowSteps
 pub mod RowLoops
+pub mod FaultSlots
 pub mod WriteEnds
 pub mod WriteLeaves
 pub mod RedundantAfter

@@ -311,12 +311,13 @@ module _ {D : Type 0} {a b c : BayState D} {t u w x : List Bool} (v : Volume) (s
   failed_then slot rose = rose_then (a.failed_reads slot) (b.failed_reads slot) (c.failed_reads slot) (first.reads_rise slot) rose (next.reads_rise slot)
 
   pub stopped_since : (count slot : ℕ) → IsStopped b c v start count slot → IsStopped a c v start count slot
-  stopped_since count slot (inl rose) = inl (rose_since (a.failed_writes slot) (b.failed_writes slot) (c.failed_writes slot) (first.writes_rise slot) rose)
+  stopped_since count slot (inl (written, rose)) = inl (written, rose_since (a.failed_writes slot) (b.failed_writes slot) (c.failed_writes slot) (first.writes_rise slot) rose)
   stopped_since count slot (inr left) = inr (record {
     element = left.element;
     sector = left.sector;
     part = left.part;
     is_part = left.is_part;
+    keeps = left.keeps;
     touched = left.touched;
     position = left.position;
     is_position = left.is_position;

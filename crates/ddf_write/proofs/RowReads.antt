@@ -124,14 +124,15 @@ module _ {P Q : ℕ → Type 0} (within : (slot : ℕ) → P slot → Q slot) wh
             });
       }
 
-  pub left_of_row : (v : Volume) (start count element : ℕ) (part : Part) → slice_get v.parts element ≡ Some part → (sector many : ℕ) → AreTouched v start count element sector many
+  pub left_of_row : (v : Volume) (start count element : ℕ) (part : Part) → slice_get v.parts element ≡ Some part → keeps_parity part.shape.layout ≡ true → (sector many : ℕ) → AreTouched v start count element sector many
       → (parity : ℕ) → HoldsParityAlong part parity sector many → (position : ℕ) → position < length part.places → (position ≡ parity → ⊥)
       → (slot : ℕ) → NoneLeftOfCells P v start count element part sector many position slot → NoneLeftOfRow Q v start count slot
-  left_of_row v start count element part is_part sector many touched parity holds position below other slot left = record {
+  left_of_row v start count element part is_part keep sector many touched parity holds position below other slot left = record {
     element = element;
     sector = sector + left.cell;
     part = part;
     is_part = is_part;
+    keeps = keep;
     touched = touched left.cell left.is_in;
     position = position;
     is_position = below;

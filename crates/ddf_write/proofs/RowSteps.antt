@@ -18,7 +18,7 @@ use Rattle.ddf_array.specs.Values.{bytes_at}
 use Rattle.ddf_array.specs.Volume.{Volume, IsVolume}
 use Rattle.ddf_cells.specs.Degraded.{is_degraded}
 use Rattle.ddf_array.specs.Apart.{IsApart}
-use Rattle.ddf_write.specs.Writing.{IsParityOf, IsTouched, MayGive}
+use Rattle.ddf_write.specs.Writing.{IsParityOf, IsTouched, IsWritten, MayGive}
 use Rattle.ddf_write.proofs.RowsRight.{row_stays}
 
 some_is : {X : Type 0} {a b : X} → Some a ≡ Some b → a ≡ b
@@ -52,6 +52,10 @@ module _ (v : Volume) (element : ℕ) (part : Part) (is_part : slice_get v.parts
 
   pub run_gives : (l : ℕ) (bytes : List ℕ) → InRun first.lba sums l bytes → MayGive v start sectors first.slot l bytes
   run_gives l bytes in_run = inr (of_rows first.slot l (in_rows l bytes in_run))
+
+  -- their slot is one that the write gives bytes
+  pub run_written : 0 < count → IsWritten v start (length sectors) first.slot
+  run_written some = (first.lba + 0, inr (of_rows first.slot (first.lba + 0) (record { row = 0; is_in = some; is_there = site_of 0 })))
 
   pub run_only : (old new : Image) → Mixes old new first.slot first.lba sums → (s l : ℕ) → (new s l ≡ old s l) ⊎ IsOfRows part parity sector count s l
   run_only old new mixes s l =

@@ -7,12 +7,13 @@ ghost use Rattle.ddf_array.specs.Redundant.{IsRedundant};
 ghost use Rattle.ddf_array.specs.Sound.{AreSectors, IsSound};
 ghost use Rattle.ddf_array.specs.Sources.{copies};
 ghost use Rattle.ddf_array.specs.Values.{bytes_at, value};
-ghost use Rattle.ddf_array.specs.Volume.{Volume, IsVolume, volume, capacity};
+ghost use Rattle.ddf_array.specs.Volume.{Fits, Volume, IsVolume, volume, capacity};
 ghost use Rattle.ddf_cells.specs.CellsOn.{copy_cells, write_cells};
 ghost use Rattle.ddf_array.specs.Within.{is_within};
 ghost use Rattle.ddf_volume.specs.Reading.{IsOn};
 ghost use Rattle.ddf_cells.specs.Degraded.{is_degraded};
 ghost use Rattle.ddf_array.specs.Apart.{IsApart};
+ghost use Rattle.ddf_write.specs.WriteRefused.{IsStopped};
 ghost use Rattle.ddf_write.specs.Writing.{HasWritten, IsAmongWrites, IsLeftByWrite};
 
 use ddf_bay::Bay;
@@ -77,6 +78,13 @@ pub fn a_write_gives_values()
     ensures others { (volume : Volume) (start block i : ℕ) (sectors : List (List ℕ)) (before after : Image) (one : Site) → IsVolume volume → IsApart volume
         → IsLeftByWrite volume start sectors before after → ((k : ℕ) → k < length sectors → block ≢ start + k) → slice_get (copies volume block) i ≡ Some one
         → value volume after block ≡ value volume before block }
+{}
+
+/// A disk that a fault of a write names is one of the array's available places, and of the bay.
+pub fn a_fault_of_a_write_names_a_disk_of_the_array<B: Bay>(old: &B, new: &B)
+    ensures on { (volume : Volume) (start count slot : ℕ) → IsVolume volume → IsStopped (B.disks old.now) (B.disks new.now) volume start count slot → IsOn volume slot }
+    ensures there { (volume : Volume) (start count slot : ℕ) → IsVolume volume → Fits (B.disks old.now).sizes volume
+        → IsStopped (B.disks old.now) (B.disks new.now) volume start count slot → slot < length (B.disks old.now).sizes }
 {}
 
 /// A redundant array of which no element that keeps parity lacks a position is sound, whatever its mark.

@@ -43,7 +43,8 @@ pub fn write_refusal(view: &View, start: u64, count: usize) -> Option<VolumeFaul
     None
 }
 
-/// Writes the cells of these blocks, then the parity of the rows that they touch, and makes both sure.
+/// Writes the cells of these blocks, then the parity of the rows that they touch, and makes both sure. After a failure, the
+/// slot that failed, of those that it writes to, or at which no source of a data cell is left.
 fn write_all<B: Bay>(bay: &mut B, view: &View, start: u64, from: &[Sector]) -> Result<(), usize>
     requires known { IsVolume view.now }
     requires apart { IsApart view.now }
@@ -81,8 +82,9 @@ fn write_all<B: Bay>(bay: &mut B, view: &View, start: u64, from: &[Sector]) -> R
 ///
 /// # Errors
 /// `Range` where the range passes the capacity, `Lost` where the array isn't within its level, `Degraded` where an element that
-/// keeps parity lacks a position; then no call is made. `Disk` where a write or sync of the slot failed, or each source of
-/// a data cell that a sum needs has a slot of which a read failed: it names such a slot of the first source.
+/// keeps parity lacks a position; then no call is made. `Disk` where a write or sync failed of the slot, which has an
+/// available cell of these blocks or a parity cell of a row that they touch, or where each source of a data cell of such a row
+/// has a slot of which a read failed: it names such a slot of the first source.
 pub fn write_blocks<B: Bay>(
     bay: &mut B,
     view: &View,

@@ -77,7 +77,7 @@ loop-element-preserved g c =
       costs = costs_most _ _ (costs_then so_far.costs (rw c.count_places-places.ensures at next.costs)) (omega (arith, sum_more cells e)) (omega (arith, sum_more stretches e));
     }
 
-pub returns-in_err-write_element-clause-there : goal.returns-in_err-write_element-clause-there
-returns-in_err-write_element-clause-there g c =
+pub returns-in_err-write_element-clause-touched : goal.returns-in_err-write_element-clause-touched
+returns-in_err-write_element-clause-touched g c =
     let p = err_from_is_err_and c.from_residual.result c.from_residual.ensures.1 in
-    rw (p.1, p.2) (omega (arith, c.in_err-write_element.ensures.there, ap length c.loop-element.invariant.writes.same_sizes))
+    rw (p.1, p.2) c.in_err-write_element.ensures.touched

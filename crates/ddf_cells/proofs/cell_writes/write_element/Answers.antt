@@ -1,4 +1,4 @@
-use Rattle.std.proofs.Common.{ℕ, ◌≡◌, ◌∙◌, ◌+◌, ◌<◌, ◌≤◌, ⊎_elim, length, refl, ap, arith, subst}
+use Rattle.std.proofs.Common.{ℕ, ◌≡◌, ◌∙◌, ◌+◌, ◌<◌, ◌≤◌, ⊎_elim, length, refl, arith, subst}
 use Rattle.std.proofs.lemmas.Bool.{cases_lt}
 use Rattle.std.proofs.lemmas.Result.{err_from_is_err_and}
 use Rattle.ddf_bay.proofs.Steps.{costs_start, costs_then, costs_most, rose_since}
@@ -56,7 +56,7 @@ loop-position-preserved g c =
       costs = costs_most _ _ (costs_then so_far.costs next.costs) (omega (arith, sum_more cells p)) (omega (arith, sum_more stretches p));
     }
 
-pub returns-in_err-write_position-clause-there : goal.returns-in_err-write_position-clause-there
-returns-in_err-write_position-clause-there g c =
+pub returns-in_err-write_position-clause-touched : goal.returns-in_err-write_position-clause-touched
+returns-in_err-write_position-clause-touched g c =
     let p = err_from_is_err_and c.from_residual.result c.from_residual.ensures.1 in
-    rw (p.1, p.2) (omega (arith, c.in_err-write_position.ensures.there, ap length c.loop-position.invariant.writes.same_sizes))
+    rw (p.1, p.2) c.in_err-write_position.ensures.touched

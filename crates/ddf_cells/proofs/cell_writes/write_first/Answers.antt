@@ -7,7 +7,7 @@ use Rattle.ddf_array.specs.declared.site.Site.{Site}
 use Rattle.ddf_cells.specs.CellsOn.{GivesCells, cell_on, cells_on, how_many, stretches_on}
 use Rattle.ddf_cells.proofs.AlongStrips.{none_lie}
 use Rattle.ddf_cells.proofs.RunsOn.{passed}
-use Rattle.ddf_cells.proofs.RunGiven.{run_slot, run_end, run_gives, run_set, piece_long, left_cells, left_stretches}
+use Rattle.ddf_cells.proofs.RunGiven.{run_slot, run_end, run_gives, run_set, piece_long, piece_some, left_cells, left_stretches}
 use Rattle.ddf_cells.proofs.WriteSteps.{writes_run, touch_here}
 use Rattle.ddf_cells.proofs.cell_writes.write_first.Goals as goal
 
@@ -53,8 +53,9 @@ returns-in-Ok-clause-writes g c =
     let inside : c.args.at + n ≤ length c.args.from.now = omega (arith, run.within, c.requires.here) in
     let slot = run_slot c.args.view.now c.requires.known c.args.element c.args.position c.args.start c.args.at n (length c.args.from.now - c.args.at) c.in-Some.first run old.sizes c.requires.fits in
     let few : c.in-Some.first.slot < length c.args.touched.now = omega (arith, slot, g.met.B.Bay.few c.args.bay.now, c.told-touched) in
+    let some = piece_some c.args.view.now c.requires.known c.args.element c.args.position c.args.start c.args.at n (length c.args.from.now - c.args.at) c.in-Some.first run c.args.from.now inside in
     rw c.touch.ensures
-    (writes_run (GivesCells c.args.view.now c.args.start c.args.from.now) g.B.Bay.tells c.in-Some.first.slot c.in-Some.first.lba (take (c.args.at + n - c.args.at) (drop c.args.at c.args.from.now)) c.args.touched.now _ _ few
+    (writes_run (GivesCells c.args.view.now c.args.start c.args.from.now) g.B.Bay.tells c.in-Some.first.slot c.in-Some.first.lba (take (c.args.at + n - c.args.at) (drop c.args.at c.args.from.now)) c.args.touched.now _ _ few some
     (run_gives c.args.view.now c.requires.known c.args.element c.args.position c.args.start c.args.at n (length c.args.from.now - c.args.at) c.in-Some.first run c.args.from.now inside)
     (λ tells. subst (λ (f : Image). Mixes old.held f c.in-Some.first.slot c.in-Some.first.lba (take (c.args.at + n - c.args.at) (drop c.args.at c.args.from.now))) (sym (c.in-Ok.ensures.held tells)) (put_mixes old.held c.in-Some.first.slot c.in-Some.first.lba (take (c.args.at + n - c.args.at) (drop c.args.at c.args.from.now))))
     c.write_run.ensures.left c.write_run.ensures.any_moment c.write_run.ensures.spends)
@@ -67,8 +68,9 @@ returns-in-Err-clause-writes g c =
     let inside : c.args.at + n ≤ length c.args.from.now = omega (arith, run.within, c.requires.here) in
     let slot = run_slot c.args.view.now c.requires.known c.args.element c.args.position c.args.start c.args.at n (length c.args.from.now - c.args.at) c.in-Some.first run old.sizes c.requires.fits in
     let few : c.in-Some.first.slot < length c.args.touched.now = omega (arith, slot, g.met.B.Bay.few c.args.bay.now, c.told-touched) in
+    let some = piece_some c.args.view.now c.requires.known c.args.element c.args.position c.args.start c.args.at n (length c.args.from.now - c.args.at) c.in-Some.first run c.args.from.now inside in
     rw c.touch.ensures
-    (writes_run (GivesCells c.args.view.now c.args.start c.args.from.now) g.B.Bay.tells c.in-Some.first.slot c.in-Some.first.lba (take (c.args.at + n - c.args.at) (drop c.args.at c.args.from.now)) c.args.touched.now _ _ few
+    (writes_run (GivesCells c.args.view.now c.args.start c.args.from.now) g.B.Bay.tells c.in-Some.first.slot c.in-Some.first.lba (take (c.args.at + n - c.args.at) (drop c.args.at c.args.from.now)) c.args.touched.now _ _ few some
     (run_gives c.args.view.now c.requires.known c.args.element c.args.position c.args.start c.args.at n (length c.args.from.now - c.args.at) c.in-Some.first run c.args.from.now inside)
     (λ tells. c.in-Err.ensures.held_failed tells)
     c.write_run.ensures.left c.write_run.ensures.any_moment c.write_run.ensures.spends)
@@ -171,6 +173,8 @@ returns-in_default-clause-rest_stretches g c =
     ap (λ b. stretches_on (cells_on v c.args.element c.args.position b (most - n))) block ∙ ap (λ m. stretches_on (cells_on v c.args.element c.args.position (c.args.start + (c.args.at + n)) m)) left in
     omega (arith, rest.1, same)
 
-pub returns-in-Err-clause-there : goal.returns-in-Err-clause-there
-returns-in-Err-clause-there g c =
-    run_slot c.args.view.now c.requires.known c.args.element c.args.position c.args.start c.args.at c.run_on-count.result (length c.args.from.now - c.args.at) c.in-Some.first c.run_on-count.ensures (g.B.Bay.disks c.args.bay.now).sizes c.requires.fits
+pub returns-in-Err-clause-touched : goal.returns-in-Err-clause-touched
+returns-in-Err-clause-touched g c =
+    let slot = run_slot c.args.view.now c.requires.known c.args.element c.args.position c.args.start c.args.at c.run_on-count.result (length c.args.from.now - c.args.at) c.in-Some.first c.run_on-count.ensures (g.B.Bay.disks c.args.bay.now).sizes c.requires.fits in
+    let few : c.in-Some.first.slot < length c.args.touched.now = omega (arith, slot, g.met.B.Bay.few c.args.bay.now, c.told-touched) in
+    rw c.touch.ensures (touch_here c.args.touched.now c.in-Some.first.slot few)

@@ -1,4 +1,4 @@
-use Rattle.std.proofs.Common.{◌≡◌, ◌∙◌, ◌+◌, ◌-◌, ◌<◌, ◌≤◌, ⊎_elim, length, refl, ap, arith}
+use Rattle.std.proofs.Common.{◌≡◌, ◌∙◌, ◌+◌, ◌-◌, ◌<◌, ◌≤◌, ⊎_elim, length, refl, arith}
 use Rattle.std.proofs.lemmas.Bool.{cases_lt}
 use Rattle.std.proofs.lemmas.Result.{err_from_is_err_and}
 use Rattle.ddf_bay.proofs.Steps.{costs_start, costs_then, costs_most, rose_since}
@@ -60,7 +60,7 @@ loop-at-preserved g c =
           (omega (arith, next.rest_cells, so_far.cells)) (omega (arith, next.rest_stretches, so_far.stretches));
     }
 
-pub returns-in_err-at-clause-there : goal.returns-in_err-at-clause-there
-returns-in_err-at-clause-there g c =
+pub returns-in_err-at-clause-touched : goal.returns-in_err-at-clause-touched
+returns-in_err-at-clause-touched g c =
     let p = err_from_is_err_and c.from_residual.result c.from_residual.ensures.1 in
-    rw (p.1, p.2) (omega (arith, c.in_err-at.ensures.there, ap length c.loop-at.invariant.writes.same_sizes))
+    rw (p.1, p.2) c.in_err-at.ensures.touched

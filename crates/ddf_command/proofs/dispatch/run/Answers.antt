@@ -1,4 +1,4 @@
-use Rattle.std.proofs.Common.{◌≡◌, ◌∙◌, ℕ, Err, sym, ap, subst}
+use Rattle.std.proofs.Common.{◌≡◌, ◌∙◌, inl, inr, ⊎_elim, ℕ, Err, sym, ap, subst}
 use Rattle.ddf_words.specs.declared.command.Asked.{Asked}
 use Rattle.ddf_words.specs.Words.{words_of, IsAccepted}
 use Rattle.ddf_config.specs.declared.refusal.Refusal.TheVariants.{Words}
@@ -6,7 +6,8 @@ use Rattle.ddf_text.specs.Refusal.{refusal_line}
 use Rattle.ddf_answer.specs.Call.{answer_of, work_of}
 use Rattle.ddf_answer.specs.Tells.{EndsWith}
 use Rattle.ddf_command.specs.Run.{IsDone}
-use Rattle.ddf_command.proofs.Endings.{done_nothing, good_words, no_fault, one_place, same_asked, sink_rose, slot_rose, status_of}
+use Rattle.ddf_write_commands.specs.Payload.{input_of}
+use Rattle.ddf_command.proofs.Endings.{done_nothing, good_words, no_fault, one_place, same_asked, slot_rose, status_of, stream_rose}
 use Rattle.ddf_command.proofs.dispatch.run.Goals as goal
 
 -- ---- a command was asked for
@@ -21,7 +22,8 @@ pub returns-in-Ok-clause-done : goal.returns-in-Ok-clause-done
 returns-in-Ok-clause-done g c = λ asked is.
     let same : c.in-Ok.asked ≡ asked = same_asked c.asked.result c.in-Ok.asked asked c.in-Ok.is (c.asked.ensures.every asked is) in
     let work = work_of g.B.Bay.tells (g.B.Bay.disks c.args.bay.now) (g.B.Bay.disks c.obey.new.bay) in
-    subst (λ (one : Asked). IsDone work c.args.stamp one (answer_of g.K.Sink.tells (g.K.Sink.output c.args.sink.now) (g.K.Sink.output c.obey.new.sink) c.code.result)) same
+    let input = input_of g.S.Source.tells (g.S.Source.input c.args.source.now) (g.S.Source.input c.obey.new.source) in
+    subst (λ (one : Asked). IsDone work input c.args.stamp one (answer_of g.K.Sink.tells (g.K.Sink.output c.args.sink.now) (g.K.Sink.output c.obey.new.sink) c.code.result)) same
     (rw c.code.ensures c.obey.ensures.done)
 
 pub returns-in-Ok-clause-status : goal.returns-in-Ok-clause-status
@@ -37,12 +39,18 @@ pub returns-in-Ok-clause-disk_fault : goal.returns-in-Ok-clause-disk_fault
 returns-in-Ok-clause-disk_fault g c = λ e. slot_rose c.obey.ensures.ends (sym c.code.ensures ∙ e)
 
 pub returns-in-Ok-clause-stream_fault : goal.returns-in-Ok-clause-stream_fault
-returns-in-Ok-clause-stream_fault g c = λ e. sink_rose c.obey.ensures.ends (sym c.code.ensures ∙ e)
+returns-in-Ok-clause-stream_fault g c = λ e. elim (stream_rose c.obey.ensures.ends (sym c.code.ensures ∙ e)) [
+  | inl output ↦ inl output
+  | inr input ↦ inr (record { asked = c.in-Ok.asked; is_asked = c.in-Ok.ensures.ok; takes = input.0 }, input.1)
+]
+
+pub returns-in-Ok-clause-source : goal.returns-in-Ok-clause-source
+returns-in-Ok-clause-source g c = λ none. c.obey.ensures.source (none c.in-Ok.asked c.in-Ok.ensures.ok)
 
 pub returns-in-Ok-clause-complete : goal.returns-in-Ok-clause-complete
-returns-in-Ok-clause-complete g c = λ asked is none good.
+returns-in-Ok-clause-complete g c = λ asked is none good read.
     let same : c.in-Ok.asked ≡ asked = same_asked c.asked.result c.in-Ok.asked asked c.in-Ok.is (c.asked.ensures.every asked is) in
-    rw (c.code.ensures, ← same) (no_fault c.obey.ensures.ends none good)
+    rw (c.code.ensures, ← same) (no_fault c.obey.ensures.ends none (λ rose. ⊎_elim good (λ input. (rw (← same) at read) input.0 input.1) rose))
 
 -- ---- the words are no command's, or memory ran out
 
@@ -60,7 +68,7 @@ pub returns-in-Err-Place-clause-done : goal.returns-in-Err-Place-clause-done
 returns-in-Err-Place-clause-done g c = λ asked is. absurd ((c.asked.ensures.place c.in-Err-Place.place (c.in-Err-Place.is ∙ ap Err c.in-Err-Place.field-0-is)).refused (record { asked = asked; is_asked = is }))
 
 pub returns-in-Err-Place-clause-complete : goal.returns-in-Err-Place-clause-complete
-returns-in-Err-Place-clause-complete g c = λ asked is none good. absurd ((c.asked.ensures.place c.in-Err-Place.place (c.in-Err-Place.is ∙ ap Err c.in-Err-Place.field-0-is)).refused (record { asked = asked; is_asked = is }))
+returns-in-Err-Place-clause-complete g c = λ asked is none good read. absurd ((c.asked.ensures.place c.in-Err-Place.place (c.in-Err-Place.is ∙ ap Err c.in-Err-Place.field-0-is)).refused (record { asked = asked; is_asked = is }))
 
 pub returns-in-Err-Memory-clause-done : goal.returns-in-Err-Memory-clause-done
-returns-in-Err-Memory-clause-done g c = λ asked is. rw c.code-in-Err-Memory.ensures (done_nothing _ _ _ _ _ asked.group asked.command)
+returns-in-Err-Memory-clause-done g c = λ asked is. rw c.code-in-Err-Memory.ensures (done_nothing _ _ _ _ _ _ _ asked.group asked.command)

@@ -93,7 +93,7 @@ returns-in-Err-clause-changed g c =
 
 pub returns-in-Err-clause-keeps : goal.returns-in-Err-clause-keeps
 returns-in-Err-clause-keeps g c = λ told left named by steps asked.
-    reads_keep (g.B.Bay.disks c.args.bay.now) (g.B.Bay.disks c.args.bay.now) left c.args.group.now steps c.failure_of.result (reads_start (g.B.Bay.disks c.args.bay.now))
+    reads_keep (g.B.Bay.disks c.args.bay.now) (g.B.Bay.disks c.args.bay.now) left c.args.group.now steps (reads_start (g.B.Bay.disks c.args.bay.now))
 
 pub returns-in_err-recover-clause-keeps : goal.returns-in_err-recover-clause-keeps
 returns-in_err-recover-clause-keeps g c = λ told left named by steps asked.

@@ -1,6 +1,7 @@
 use Rattle.std.proofs.Common.{◌+◌, arith}
 use Rattle.std.proofs.lemmas.Result.{err_from_is_err_and}
 use Rattle.ddf_array.specs.Volume.{capacity}
+use Rattle.ddf_cells.specs.Touching.{IsTouchedSlot}
 use Rattle.ddf_cells.proofs.WriteSteps.{writes_start, writes_then}
 use Rattle.ddf_resync.specs.Resyncing.{MayResync}
 use Rattle.ddf_resync.specs.Several.{copied_cells}
@@ -40,7 +41,7 @@ returns-in_err-block-clause-cause g c =
     let p = err_from_is_err_and c.from_residual.result c.from_residual.ensures.1 in
     let old = g.B.Bay.disks c.args.bay.now in
     let May = MayResync c.args.view.now g.B.Bay.tells old.held in
-    rw (p.1, p.2) (block_since May May g.B.Bay.tells c.loop-block.invariant.writes (c.in_err-block.ensures.writes old.held (λ tells. (c.loop-block.invariant.copied tells).later)) c.args.view.now _ c.in_err-block.ensures.cause)
+    rw (p.1, p.2) (block_since May May g.B.Bay.tells c.loop-block.invariant.writes (c.in_err-block.ensures.writes old.held (λ tells. (c.loop-block.invariant.copied tells).later)) c.args.view.now (IsTouchedSlot c.copy_first.new.touched) _ c.in_err-block.ensures.cause)
 
 pub loop-block-preserved : goal.loop-block-preserved
 loop-block-preserved g c =

@@ -1,8 +1,11 @@
-use Rattle.std.proofs.Common.{◌≡◌, ◌∙◌, inr, false, ◌+◌, ◌-◌, true, sym, ap, arith, length, rules}
+use Rattle.std.proofs.Common.{◌≡◌, ◌∙◌, inl, inr, false, ℕ, ◌+◌, ◌-◌, true, sym, ap, subst, arith, length, rules}
 use Rattle.std.proofs.lemmas.Grind.{common_steps}
 use Rattle.std.proofs.lemmas.Result.{err_from_is_err_and}
+use Rattle.ddf_bytes.specs.Counts.{Rose}
 use Rattle.ddf_array.specs.Volume.{capacity}
 use Rattle.ddf_cells.specs.CellsOn.{write_cells}
+use Rattle.ddf_cells.proofs.WriteSteps.{writes_read}
+use Rattle.ddf_resync.specs.Resyncing.{MayResync}
 use Rattle.ddf_resync.specs.Several.{copied_cells, has_other}
 use Rattle.ddf_resync.proofs.Copied.{copied_alone}
 use Rattle.ddf_resync.proofs.CopyStep.{block_left, step_cells, step_copied, step_noted, step_writes}
@@ -128,3 +131,13 @@ returns-clause-most g c =
     let up = cells_up v (block + count) (capacity v) c.blocks_along-count.ensures.inside in
     asks_behind (copied_cells v block) (copied_cells v (capacity v)) (write_cells v block (length c.read_run.new.out)) c.in_ok-read_run.ensures.reads c.in_ok-write_cells.ensures.costs.asked c.in_ok-write_cells.ensures.costs.written
     (omega (arith, cells, up))
+
+pub returns-in_err-write_cells-clause-cause : goal.returns-in_err-write_cells-clause-cause
+returns-in_err-write_cells-clause-cause g c =
+    let p = err_from_is_err_and c.from_residual-in_err-write_cells.result c.from_residual-in_err-write_cells.ensures.1 in
+    let new = g.B.Bay.disks c.write_cells.new.bay in
+    let failed = c.in_err-write_cells.ensures.failed in
+    rw (p.1, p.2) (inl (c.in_err-write_cells.ensures.touched, subst (λ (f : ℕ → ℕ). Rose (f c.in_err-write_cells.field-0.0) (new.failed_writes c.in_err-write_cells.field-0.0)) c.in_ok-read_run.ensures.reads.same_writes failed))
+
+pub returns-in_err-read_run-clause-writes : goal.returns-in_err-read_run-clause-writes
+returns-in_err-read_run-clause-writes g c = λ before same. writes_read (MayResync c.args.view.now g.B.Bay.tells before) g.B.Bay.tells c.args.touched.now c.in_err-read_run.ensures.reads

@@ -1,19 +1,27 @@
 use Rattle.std.proofs.Common.{◌≡◌, ◌∙◌, ◌⊎◌, inl, inr, ⊎_elim, ℕ, ◌<◌, List, sym, ap, subst, arith, length}
-use Rattle.std.proofs.lemmas.Result.{err_from_is_err_and, on_ok_weaker}
+use Rattle.std.proofs.lemmas.Result.{err_from_is_err_and, IfErr-weaker, on_ok_weaker}
 use Rattle.ddf_bytes.specs.Counts.{Rose}
 use Rattle.ddf_bay.specs.Sectors.{Image}
+use Rattle.ddf_bay.proofs.Steps.{rose_since}
 use Rattle.ddf_array.specs.Volume.{capacity}
 use Rattle.ddf_volume.specs.Reading.{Failed}
 use Rattle.ddf_cells.specs.Parity.{IsParityCell}
-use Rattle.ddf_cells.proofs.Ends.{moments_end, settled_end}
-use Rattle.ddf_cells.proofs.WriteSteps.{writes_then, writes_wider}
+use Rattle.ddf_cells.specs.Touching.{IsTouchedSlot}
+use Rattle.ddf_cells.proofs.Ends.{both_of_err, moments_end, settled_end}
+use Rattle.ddf_cells.proofs.WriteSteps.{none_touched, writes_then, writes_wider}
 use Rattle.ddf_resync.specs.Copying.{AreCopied}
 use Rattle.ddf_resync.specs.Resyncing.{MayResync}
 use Rattle.ddf_resync.specs.Setting.{AreRightIn, SetsParity}
 use Rattle.ddf_resync.proofs.Copied.{copied_wider}
-use Rattle.ddf_resync.proofs.Resynced.{equal_mid, given_there, resynced, set_noted, set_there}
+use Rattle.ddf_resync.proofs.Resynced.{equal_mid, given_there, noted_set, resynced, set_noted, set_there}
 use Rattle.ddf_resync.proofs.Stops.{failed_before, row_since}
 use Rattle.ddf_resync.proofs.resyncing.resync_all.Goals as goal
+
+pub returns-in_err-copy_all-clause-cause : goal.returns-in_err-copy_all-clause-cause
+returns-in_err-copy_all-clause-cause g c =
+    let p = err_from_is_err_and c.from_residual.result c.from_residual.ensures.1 in
+    rw (p.1, p.2)
+    (⊎_elim (λ failed. inl (noted_set c.args.view.now g.B.Bay.tells (g.B.Bay.disks c.args.bay.now).held c.in_err-copy_all.ensures.writes (none_touched 64) _ failed.0, failed.1)) (λ block. inr (inl block)) c.in_err-copy_all.ensures.cause)
 
 pub set_all-requires-clause-fits : goal.set_all-requires-clause-fits
 set_all-requires-clause-fits g c = rw c.in_ok-copy_all.ensures.writes.same_sizes c.requires.fits
@@ -30,9 +38,20 @@ returns-in_err-set_all-clause-cause g c =
     let v = c.args.view.now in
     let May = MayResync v g.B.Bay.tells (g.B.Bay.disks c.args.bay.now).held in
     let p = err_from_is_err_and c.from_residual-in_err-set_all.result c.from_residual-in_err-set_all.ensures.1 in
+    let w = writes_then May g.B.Bay.tells c.in_ok-copy_all.ensures.writes (writes_wider (SetsParity v) May g.B.Bay.tells (λ s l bytes of. inr of) c.in_err-set_all.ensures.writes) in
     rw (p.1, p.2)
-    (⊎_elim inl (λ row. inr (inr row))
-    (row_since May (SetsParity v) g.B.Bay.tells c.in_ok-copy_all.ensures.writes c.in_err-set_all.ensures.writes v _ c.in_err-set_all.ensures.cause))
+    (⊎_elim (λ failed. inl (noted_set v g.B.Bay.tells (g.B.Bay.disks c.args.bay.now).held w (none_touched 64) _ failed.0, failed.1)) (λ row. inr (inr row))
+    (row_since May (SetsParity v) g.B.Bay.tells c.in_ok-copy_all.ensures.writes c.in_err-set_all.ensures.writes v (IsTouchedSlot c.set_all.new.touched) _ c.in_err-set_all.ensures.cause))
+
+pub returns-clause-cause : goal.returns-clause-cause
+returns-clause-cause g c =
+    let v = c.args.view.now in
+    let old = g.B.Bay.disks c.args.bay.now in
+    let May = MayResync v g.B.Bay.tells old.held in
+    let w = writes_then May g.B.Bay.tells c.in_ok-copy_all.ensures.writes (writes_wider (SetsParity v) May g.B.Bay.tells (λ s l bytes of. inr of) c.in_ok-set_all.ensures.writes) in
+    IfErr-weaker c.sync_touched.result _ _
+    (λ slot both. inl (noted_set v g.B.Bay.tells old.held w (none_touched 64) slot both.0, rose_since _ _ _ (w.writes_rise slot) both.1))
+    (both_of_err c.sync_touched.result _ _ c.sync_touched.ensures.touched c.sync_touched.ensures.failed)
 
 pub returns-clause-any_moment : goal.returns-clause-any_moment
 returns-clause-any_moment g c =

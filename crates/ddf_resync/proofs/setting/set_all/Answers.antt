@@ -4,6 +4,7 @@ use Rattle.std.proofs.lemmas.Option.{slice_get_read}
 use Rattle.std.proofs.lemmas.Result.{err_from_is_err_and}
 use Rattle.ddf_array.specs.declared.part.Part.{Part}
 use Rattle.ddf_primary.specs.Cells.{depth_of}
+use Rattle.ddf_cells.specs.Touching.{IsTouchedSlot}
 use Rattle.ddf_cells.proofs.WriteSteps.{writes_then}
 use Rattle.ddf_resync.specs.Setting.{IsNotedAt, IsRightAt, SetsParity}
 use Rattle.ddf_resync.specs.Several.{parity_cells, parity_of}
@@ -26,7 +27,7 @@ returns-in_err-set_element-clause-writes g c = writes_then (SetsParity c.args.vi
 pub returns-in_err-set_element-clause-cause : goal.returns-in_err-set_element-clause-cause
 returns-in_err-set_element-clause-cause g c =
     let p = err_from_is_err_and c.from_residual.result c.from_residual.ensures.1 in
-    rw (p.1, p.2) (row_since (SetsParity c.args.view.now) (SetsParity c.args.view.now) g.B.Bay.tells c.loop-element.invariant.writes c.in_err-set_element.ensures.writes c.args.view.now _ c.in_err-set_element.ensures.cause)
+    rw (p.1, p.2) (row_since (SetsParity c.args.view.now) (SetsParity c.args.view.now) g.B.Bay.tells c.loop-element.invariant.writes c.in_err-set_element.ensures.writes c.args.view.now (IsTouchedSlot c.set_element.new.touched) _ c.in_err-set_element.ensures.cause)
 
 pub returns-in_err-set_element-clause-asks : goal.returns-in_err-set_element-clause-asks
 returns-in_err-set_element-clause-asks g c =

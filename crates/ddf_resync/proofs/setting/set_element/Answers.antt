@@ -2,6 +2,7 @@ use Rattle.std.proofs.Common.{◌≡◌, ◌∙◌, ⊎_elim, ◌+◌, ◌-◌, 
 use Rattle.std.proofs.lemmas.Bool.{cases_lt}
 use Rattle.std.proofs.lemmas.Result.{err_from_is_err_and}
 use Rattle.ddf_array.specs.declared.part.Part.{Part}
+use Rattle.ddf_cells.specs.Touching.{IsTouchedSlot}
 use Rattle.ddf_cells.proofs.WriteSteps.{writes_then}
 use Rattle.ddf_resync.specs.Setting.{IsNotedAt, IsRightAt, SetsParity}
 use Rattle.ddf_resync.proofs.Stops.{asks_from, asks_then, row_since}
@@ -23,7 +24,7 @@ returns-in_err-set_piece-clause-writes g c = writes_then (SetsParity c.args.view
 pub returns-in_err-set_piece-clause-cause : goal.returns-in_err-set_piece-clause-cause
 returns-in_err-set_piece-clause-cause g c =
     let p = err_from_is_err_and c.from_residual.result c.from_residual.ensures.1 in
-    rw (p.1, p.2) (row_since (SetsParity c.args.view.now) (SetsParity c.args.view.now) g.B.Bay.tells c.loop-sector.invariant.writes c.in_err-set_piece.ensures.writes c.args.view.now _ c.in_err-set_piece.ensures.cause)
+    rw (p.1, p.2) (row_since (SetsParity c.args.view.now) (SetsParity c.args.view.now) g.B.Bay.tells c.loop-sector.invariant.writes c.in_err-set_piece.ensures.writes c.args.view.now (IsTouchedSlot c.set_piece.new.touched) _ c.in_err-set_piece.ensures.cause)
 
 pub loop-sector-preserved : goal.loop-sector-preserved
 loop-sector-preserved g c =

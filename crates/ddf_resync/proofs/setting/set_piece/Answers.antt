@@ -1,7 +1,8 @@
-use Rattle.std.proofs.Common.{◌≡◌, ◌∙◌, inr, ℕ, ◌+◌, ◌/◌, ◌<◌, ◌≤◌, ◌^◌, None, Some, sym, subst, arith, length, rules, []}
+use Rattle.std.proofs.Common.{◌≡◌, ◌∙◌, inl, inr, ℕ, ◌+◌, ◌/◌, ◌<◌, ◌≤◌, ◌^◌, None, Some, sym, ap, subst, arith, length, rules, []}
 use Rattle.std.specs.Prelude.{slice_index_or}
 use Rattle.std.proofs.lemmas.Grind.{common_steps}
 use Rattle.std.proofs.lemmas.Option.{slice_get_within}
+use Rattle.ddf_bytes.specs.Counts.{Rose}
 use Rattle.ddf_bay.specs.Sectors.{Image}
 use Rattle.ddf_bay.specs.Moments.{Mixes}
 use Rattle.ddf_bay.proofs.Runs.{put_mixes}
@@ -11,6 +12,8 @@ use Rattle.ddf_array.specs.declared.part.Part.{Part}
 use Rattle.ddf_array.specs.declared.site.Site.{Site}
 use Rattle.ddf_array.specs.Rows.{row_sum}
 use Rattle.ddf_cells.proofs.Depths.{blocks_small}
+use Rattle.ddf_cells.proofs.WriteSteps.{touch_here, writes_read}
+use Rattle.ddf_resync.specs.Setting.{SetsParity}
 use Rattle.ddf_resync.proofs.SetStep.{parity_along, parity_is, parity_slot, parity_there, step_kept, step_noted, step_right, step_writes}
 use Rattle.ddf_resync.proofs.Stops.{asks_behind, asks_read}
 use Rattle.ddf_resync.proofs.setting.set_piece.Goals as goal
@@ -141,3 +144,18 @@ returns-in-Err-clause-asks g c =
     let n : length c.read_sums.new.out ≡ c.args.count = first_of (grind (arith, common_steps), search rules) in
     let costs = c.write_run.ensures.spends.costs in
     asks_behind 0 c.args.count (length c.read_sums.new.out) c.in_ok-read_sums.ensures.reads costs.asked costs.written (omega (arith, n))
+
+pub returns-in-Err-clause-cause : goal.returns-in-Err-clause-cause
+returns-in-Err-clause-cause g c =
+    let is = parity_is c.args.part.now c.args.sector c.strip_of.result _ c.from-parity.result c.strip_of.ensures c.in-Some.ensures c.from-parity.ensures in
+    let first = c.in-Some-site_at.first in
+    let at = sym c.in-Some-site_at.ensures in
+    let old = g.B.Bay.disks c.args.bay.now in
+    let mid = g.B.Bay.disks c.read_sums.new.bay in
+    let new = g.B.Bay.disks c.write_run.new.self in
+    let few : first.slot < length c.args.touched.now = omega (arith, parity_slot c.args.view.now c.requires.known c.args.element c.args.part.now c.requires.is_part c.requires.keeps c.args.sector c.args.count c.requires.some c.requires.sectors c.requires.row c.from-parity.result is first at (g.B.Bay.disks c.args.bay.now).sizes c.requires.fits, g.met.B.Bay.few c.args.bay.now, c.told-touched) in
+    let same : mid.failed_writes first.slot ≡ old.failed_writes first.slot = ap (λ (f : ℕ → ℕ). f first.slot) c.in_ok-read_sums.ensures.reads.same_writes in
+    inl (rw c.touch.ensures (touch_here c.args.touched.now first.slot few), subst (λ (n : ℕ). Rose n (new.failed_writes first.slot)) same c.in-Err.ensures.failed)
+
+pub returns-in_err-read_sums-clause-writes : goal.returns-in_err-read_sums-clause-writes
+returns-in_err-read_sums-clause-writes g c = writes_read (SetsParity c.args.view.now) g.B.Bay.tells c.args.touched.now c.in_err-read_sums.ensures.reads

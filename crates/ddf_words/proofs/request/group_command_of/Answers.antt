@@ -1,8 +1,8 @@
 use Rattle.std.proofs.Common.{◌≡◌, ◌∷◌, ◌∙◌, List, drop, refl, sym, ap, string_bytes, arith}
 use Rattle.ddf_words.specs.Words.{Word, words_of, AreBlocks, IsGroupCommand, IsNamed}
-use Rattle.ddf_words.specs.declared.command.Command.TheVariants.{Assemble, Show, Read, Scrub, Change}
+use Rattle.ddf_words.specs.declared.command.Command.TheVariants.{Assemble, Show, Read, Scrub, Resync, Write, Change}
 use Rattle.ddf_words.specs.declared.command.Wish.TheVariants.{Delete, Accept}
-use Rattle.ddf_words.proofs.Commands.{accept_names, assemble, assemble_alone, delete_names, other_name, read, read_names, scrub, scrub_names, show, show_alone}
+use Rattle.ddf_words.proofs.Commands.{accept_names, assemble, assemble_alone, delete_names, other_name, read, read_names, resync, resync_names, scrub, scrub_names, show, show_alone, write, write_names}
 use Rattle.ddf_words.proofs.Faults.{passed_on}
 use Rattle.ddf_words.proofs.Places.{wrong_among}
 use Rattle.ddf_words.proofs.Requests.{no_group_command, other_group_command, more_group_words}
@@ -24,6 +24,8 @@ returns-in_default-as_str-clause-place c = λ place e.
       show = λ e. c.in_default-as_str.not-show (c.as_str.ensures.value ∙ e);
       read = λ e. c.in_default-as_str.not-read (c.as_str.ensures.value ∙ e);
       scrub = λ e. c.in_default-as_str.not-scrub (c.as_str.ensures.value ∙ e);
+      resync = λ e. c.in_default-as_str.not-resync (c.as_str.ensures.value ∙ e);
+      write = λ e. c.in_default-as_str.not-write (c.as_str.ensures.value ∙ e);
       create = λ e. c.in_default-as_str.not-create (c.as_str.ensures.value ∙ e);
       delete = λ e. c.in_default-as_str.not-delete (c.as_str.ensures.value ∙ e);
       accept = λ e. c.in_default-as_str.not-accept (c.as_str.ensures.value ∙ e);
@@ -87,6 +89,34 @@ pub returns-in_ok-name-in-scrub-clause-found : goal.returns-in_ok-name-in-scrub-
 returns-in_ok-name-in-scrub-clause-found c =
     rw (named_words (words_of c.args.words.now) (words_of c.in-Some.rest.now) (string_bytes c.in-Some.name.now) scrub (ap words_of c.in-Some.ensures.cases.0) (sym c.as_str.ensures.value ∙ c.in-scrub.is))
     (c.in_ok-name-in-scrub.ensures.found scrub)
+
+is_resync : (words : List Word) → IsNamed resync words → IsGroupCommand words
+is_resync words is = record { command = Resync is.name; takes_one = refl; spells = is.spells }
+
+pub returns-in_err-name-in-resync-clause-place : goal.returns-in_err-name-in-resync-clause-place
+returns-in_err-name-in-resync-clause-place c = λ place e.
+    rw (named_words (words_of c.args.words.now) (words_of c.in-Some.rest.now) (string_bytes c.in-Some.name.now) resync (ap words_of c.in-Some.ensures.cases.0) (sym c.as_str.ensures.value ∙ c.in-resync.is))
+    (wrong_among (IsNamed resync) IsGroupCommand resync (drop 1 (words_of c.args.words.now)) place is_resync (λ more is. resync_names more is.command is.spells)
+    (c.named_of-in-resync.ensures.place place (passed_on c.named_of-in-resync.result c.in_err-name-in-resync.field-0.0 c.from_residual-in_err-name-in-resync.result place c.in_err-name-in-resync.was c.from_residual-in_err-name-in-resync.ensures.1 e) resync))
+
+pub returns-in_ok-name-in-resync-clause-found : goal.returns-in_ok-name-in-resync-clause-found
+returns-in_ok-name-in-resync-clause-found c =
+    rw (named_words (words_of c.args.words.now) (words_of c.in-Some.rest.now) (string_bytes c.in-Some.name.now) resync (ap words_of c.in-Some.ensures.cases.0) (sym c.as_str.ensures.value ∙ c.in-resync.is))
+    (c.in_ok-name-in-resync.ensures.found resync)
+
+is_write : (words : List Word) → AreBlocks write words → IsGroupCommand words
+is_write words is = record { command = Write is.name is.start is.count; takes_one = refl; spells = is.spells }
+
+pub returns-in_err-name-in-write-clause-place : goal.returns-in_err-name-in-write-clause-place
+returns-in_err-name-in-write-clause-place c = λ place e.
+    rw (named_words (words_of c.args.words.now) (words_of c.in-Some.rest.now) (string_bytes c.in-Some.name.now) write (ap words_of c.in-Some.ensures.cases.0) (sym c.as_str.ensures.value ∙ c.in-write.is))
+    (wrong_among (AreBlocks write) IsGroupCommand write (drop 1 (words_of c.args.words.now)) place is_write (λ more is. write_names more is.command is.spells)
+    (c.blocks_of-in-write.ensures.place place (passed_on c.blocks_of-in-write.result c.in_err-name-in-write.field-0.0 c.from_residual-in_err-name-in-write.result place c.in_err-name-in-write.was c.from_residual-in_err-name-in-write.ensures.1 e) write))
+
+pub returns-in_ok-name-in-write-clause-found : goal.returns-in_ok-name-in-write-clause-found
+returns-in_ok-name-in-write-clause-found c =
+    rw (named_words (words_of c.args.words.now) (words_of c.in-Some.rest.now) (string_bytes c.in-Some.name.now) write (ap words_of c.in-Some.ensures.cases.0) (sym c.as_str.ensures.value ∙ c.in-write.is))
+    (c.in_ok-name-in-write.ensures.found write)
 
 is_delete : (words : List Word) → IsNamed delete words → IsGroupCommand words
 is_delete words is = record { command = Change (Delete is.name); takes_one = refl; spells = is.spells }

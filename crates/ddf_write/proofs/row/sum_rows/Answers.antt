@@ -18,7 +18,7 @@ pub returns-in-Err-clause-left : goal.returns-in-Err-clause-left
 returns-in-Err-clause-left g c =
     let n = ap length c.items-other-end.ensures in
     let left = c.in-Err.ensures.left in
-    left_of_row (failed_before c.loop-other.invariant.reads c.in-Err.ensures.reads) c.args.view.now c.args.start _ c.args.element c.args.part.now c.requires.is_part c.args.sector (length c.args.out.now) c.requires.touched
+    left_of_row (failed_before c.loop-other.invariant.reads c.in-Err.ensures.reads) c.args.view.now c.args.start _ c.args.element c.args.part.now c.requires.is_part c.requires.keeps c.args.sector (length c.args.out.now) c.requires.touched
     c.args.parity c.requires.parity c.loop-other.other (omega (arith, n, c.loop-other-test.true)) left.0 c.in-Err.slot (rw (c.loop-other.auto.out, c.clear.auto.into) at left.1)
 
 pub loop-other-preserved : goal.loop-other-preserved

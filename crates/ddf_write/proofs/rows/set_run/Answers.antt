@@ -17,7 +17,7 @@ use Rattle.ddf_write.specs.RowWrites.{IsSure}
 use Rattle.ddf_write.specs.Writing.{MayGive}
 use Rattle.ddf_write.proofs.RowReads.{never_some, sure_fewer}
 use Rattle.ddf_cells.proofs.Whole.{whole_site}
-use Rattle.ddf_write.proofs.RowSteps.{run_gives, run_only, run_set}
+use Rattle.ddf_write.proofs.RowSteps.{run_gives, run_only, run_set, run_written}
 use Rattle.ddf_write.proofs.rows.set_run.Goals as goal
 
 pub site_at-requires-clause-part : goal.site_at-requires-clause-part
@@ -50,7 +50,7 @@ returns-in-Ok-clause-writes g c =
     rw c.touch.ensures
     (writes_then (MayGive v c.args.start c.args.from.now) g.B.Bay.tells
     (writes_read (MayGive v c.args.start c.args.from.now) g.B.Bay.tells c.args.touched.now c.in_ok-sum_rows.ensures.reads)
-    (writes_run (MayGive v c.args.start c.args.from.now) g.B.Bay.tells one.slot one.lba sums c.args.touched.now _ _ few
+    (writes_run (MayGive v c.args.start c.args.from.now) g.B.Bay.tells one.slot one.lba sums c.args.touched.now _ _ few (omega (arith, n, c.requires.some))
     (run_gives v c.args.element c.args.part.now c.requires.is_part c.args.sector c.args.count c.args.parity c.requires.is_parity c.args.start c.args.from.now c.requires.rows_touched one (sym c.in-Some.ensures) sums n)
     (λ tells. subst (λ (f : Image). Mixes mid.held f one.slot one.lba sums) (sym (c.in-Ok.ensures.held tells)) (put_mixes mid.held one.slot one.lba sums))
     c.write_run.ensures.left c.write_run.ensures.any_moment c.write_run.ensures.spends))
@@ -66,7 +66,7 @@ returns-in-Err-clause-writes g c =
     rw c.touch.ensures
     (writes_then (MayGive v c.args.start c.args.from.now) g.B.Bay.tells
     (writes_read (MayGive v c.args.start c.args.from.now) g.B.Bay.tells c.args.touched.now c.in_ok-sum_rows.ensures.reads)
-    (writes_run (MayGive v c.args.start c.args.from.now) g.B.Bay.tells one.slot one.lba sums c.args.touched.now _ _ few
+    (writes_run (MayGive v c.args.start c.args.from.now) g.B.Bay.tells one.slot one.lba sums c.args.touched.now _ _ few (omega (arith, n, c.requires.some))
     (run_gives v c.args.element c.args.part.now c.requires.is_part c.args.sector c.args.count c.args.parity c.requires.is_parity c.args.start c.args.from.now c.requires.rows_touched one (sym c.in-Some.ensures) sums n)
     (λ tells. c.in-Err.ensures.held_failed tells)
     c.write_run.ensures.left c.write_run.ensures.any_moment c.write_run.ensures.spends))
@@ -121,3 +121,20 @@ returns-in-Ok-clause-noted g c = λ j other below at.
   where
     some_same : {X : Type 0} {a b : X} → Some a ≡ Some b → a ≡ b
     some_same e = cc
+
+pub returns-in-Err-clause-cause : goal.returns-in-Err-clause-cause
+returns-in-Err-clause-cause g c =
+    let v = c.args.view.now in
+    let one = c.in-Some.first in
+    let old = g.B.Bay.disks c.args.bay.now in
+    let mid = g.B.Bay.disks c.sum_rows.new.bay in
+    let new = g.B.Bay.disks c.write_run.new.self in
+    let sums = c.sum_rows.new.out in
+    let n : length c.sum_rows.new.out ≡ c.args.count = first_of (grind (arith, common_steps), search rules) in
+    let written = run_written v c.args.element c.args.part.now c.requires.is_part c.args.sector c.args.count c.args.parity c.requires.is_parity c.args.start c.args.from.now c.requires.rows_touched one (sym c.in-Some.ensures) sums n c.requires.some in
+    let same : mid.failed_writes one.slot ≡ old.failed_writes one.slot = ap (λ (f : ℕ → ℕ). f one.slot) c.in_ok-sum_rows.ensures.reads.same_writes in
+    inl (written, subst (λ (n : ℕ). Rose n (new.failed_writes one.slot)) same c.in-Err.ensures.failed)
+
+pub returns-in_err-sum_rows-clause-writes : goal.returns-in_err-sum_rows-clause-writes
+returns-in_err-sum_rows-clause-writes g c =
+    writes_read (MayGive c.args.view.now c.args.start c.args.from.now) g.B.Bay.tells c.args.touched.now c.in_err-sum_rows.ensures.reads

@@ -1,5 +1,5 @@
 use Rattle.std.proofs.Common.{inl, ℕ, length, sym, ap, subst, arith}
-use Rattle.std.proofs.lemmas.Result.{err_from_is_err_and, MatchResult-weaker, on_ok_weaker}
+use Rattle.std.proofs.lemmas.Result.{err_from_is_err_and, IfErr-weaker, on_ok_weaker}
 use Rattle.ddf_bytes.specs.Counts.{Rose}
 use Rattle.ddf_bay.proofs.Steps.{rose_since}
 use Rattle.ddf_volume.specs.Reading.{Failed}
@@ -7,11 +7,11 @@ use Rattle.ddf_write.specs.RowWrites.{AllSet, IsSure}
 use Rattle.ddf_write.proofs.CellsCount.{cells_are_copies}
 use Rattle.ddf_write.proofs.RowLoops.{failed_since, filled_then, stopped_since}
 use Rattle.ddf_write.proofs.RowReads.{sure_fewer}
-use Rattle.ddf_write.proofs.WriteEnds.{filled_by, given_there, written_end, written_noted, written_there}
+use Rattle.ddf_write.proofs.WriteEnds.{filled_by, given_there, noted_written, written_end, written_noted, written_there}
 use Rattle.ddf_write.specs.Writing.{MayGive}
 use Rattle.ddf_write.proofs.Gives.{both_written, cells_written, may_cell}
-use Rattle.ddf_cells.proofs.Ends.{goes_by, goes_end, held_by, held_end, left_by, left_end, moments_end, settled_end}
-use Rattle.ddf_cells.proofs.WriteSteps.{set_stays, writes_then}
+use Rattle.ddf_cells.proofs.Ends.{both_of_err, goes_by, goes_end, held_by, held_end, left_by, left_end, moments_end, settled_end}
+use Rattle.ddf_cells.proofs.WriteSteps.{none_touched, set_stays, writes_then}
 use Rattle.ddf_write.proofs.write.write_all.Goals as goal
 
 pub set_rows-requires-clause-fits : goal.set_rows-requires-clause-fits
@@ -30,7 +30,9 @@ returns-in_err-write_cells-clause-goes g c = goes_by (MayGive c.args.view.now c.
 pub returns-in_err-write_cells-clause-cause : goal.returns-in_err-write_cells-clause-cause
 returns-in_err-write_cells-clause-cause g c =
     let p = err_from_is_err_and c.from_residual.result c.from_residual.ensures.1 in
-    rw (p.1, p.2) (inl c.in_err-write_cells.ensures.failed)
+    let v = c.args.view.now in
+    let w = cells_written v c.args.start c.args.from.now g.B.Bay.tells c.in_err-write_cells.ensures.writes in
+    rw (p.1, p.2) (inl (noted_written v c.requires.known c.args.start c.args.from.now g.B.Bay.tells w (none_touched 64) _ c.in_err-write_cells.ensures.touched, c.in_err-write_cells.ensures.failed))
 
 -- the parity couldn't
 pub returns-in_err-set_rows-clause-any_moment : goal.returns-in_err-set_rows-clause-any_moment
@@ -86,8 +88,10 @@ returns-clause-goes g c =
 pub returns-clause-cause : goal.returns-clause-cause
 returns-clause-cause g c =
     let w = both_written c.args.view.now c.args.start c.args.from.now g.B.Bay.tells c.in_ok-write_cells.ensures.writes c.in_ok-set_rows.ensures.writes in
-    MatchResult-weaker c.sync_touched.result c.sync_touched.ensures.failed (λ done none. none)
-    (λ slot rose. inl (rose_since _ _ _ (w.writes_rise slot) rose))
+    let known = c.requires.known in
+    IfErr-weaker c.sync_touched.result _ _
+    (λ slot both. inl (noted_written c.args.view.now known c.args.start c.args.from.now g.B.Bay.tells w (none_touched 64) slot both.0, rose_since _ _ _ (w.writes_rise slot) both.1))
+    (both_of_err c.sync_touched.result _ _ c.sync_touched.ensures.touched c.sync_touched.ensures.failed)
 
 pub returns-clause-written : goal.returns-clause-written
 returns-clause-written g c = λ tells.

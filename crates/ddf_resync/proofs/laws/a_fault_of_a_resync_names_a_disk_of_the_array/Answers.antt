@@ -1,0 +1,10 @@
+use Rattle.ddf_cells.proofs.FirstSlots.{on_there}
+use Rattle.ddf_resync.proofs.FaultSlots.{stopped_on}
+use Rattle.ddf_resync.proofs.laws.a_fault_of_a_resync_names_a_disk_of_the_array.Goals as goal
+
+pub returns-clause-on : goal.returns-clause-on
+returns-clause-on g c = λ volume slot known stopped. stopped_on volume known (g.B.Bay.disks c.args.old.now) (g.B.Bay.disks c.args.new.now) slot stopped
+
+pub returns-clause-there : goal.returns-clause-there
+returns-clause-there g c = λ volume slot known fits stopped.
+    on_there (g.B.Bay.disks c.args.old.now).sizes volume fits slot (stopped_on volume known (g.B.Bay.disks c.args.old.now) (g.B.Bay.disks c.args.new.now) slot stopped)

@@ -1,0 +1,271 @@
+-- What a command over the blocks of an array comes to, since its entry: its group is read before.
+use Rattle.std.proofs.Common.{◌≡◌, ◌⊎◌, ℕ, suc, ◌≤◌, Bool, List, [], ◌∷◌, Option, Result, Ok, Err, refl, sym, ap, subst, ◌∙◌, inl, inr, ⊎_elim, arith}
+use Rattle.ddf_bay.specs.Moments.{StopsLeave}
+use Rattle.ddf_bay.specs.ReadsOnly.{ReadsOnly}
+use Rattle.ddf_bay.specs.Sectors.{Image, IsLeft}
+use Rattle.ddf_bay.specs.State.{BayState}
+use Rattle.ddf_bay.proofs.Looks.{reads_then}
+use Rattle.ddf_bay.proofs.Steps.{left_keeps, stops_then, stops_weaken}
+use Rattle.ddf_plan.specs.declared.change.Change.{Change}
+use Rattle.ddf_volume.specs.Reading.{Failed}
+use Rattle.ddf_cells.specs.Touching.{GoesBetween}
+use Rattle.ddf_copy.specs.declared.newest_copy.Newest.{Newest}
+use Rattle.ddf_group.specs.declared.answer.Assembly.{Assembly}
+use Rattle.ddf_assembly.specs.Committed.{slots_of}
+use Rattle.ddf_assembly.specs.Group.{GroupValue, group_of}
+use Rattle.ddf_assembly.specs.declared.fault.GroupFault.{GroupFault}
+use Rattle.ddf_assembly.specs.Recovery.{config_recovered}
+use Rattle.ddf_assembly.specs.Slots.{newest_from}
+use Rattle.ddf_assembly.specs.Steps.{Step}
+use Rattle.ddf_answer.specs.declared.failure.Failure.{Failure}
+use Rattle.ddf_answer.specs.declared.failure.Failure.TheVariants.{Conflict, Disk, Memory, Refused, Split}
+use Rattle.ddf_answer.specs.Answers.{failure_of}
+use Rattle.ddf_answer.specs.Call.{Work, work_of}
+use Rattle.ddf_answer.proofs.Rises.{look_still, rose_later}
+use Rattle.ddf_group_commands.specs.Change.{KeepsHistories, Request, TakesGroup, is_done, steps_asked, steps_of, steps_or}
+use Rattle.ddf_group_commands.specs.GroupRead.{IsFoundBy, IsGroupRead, group_or}
+use Rattle.ddf_group_commands.specs.Others.{LeavesOthers}
+use Rattle.ddf_group_commands.specs.Writing.{IsLeftWriting}
+use Rattle.ddf_group_commands.specs.Written.{AreWritten}
+use Rattle.ddf_group_commands.proofs.Beside.{beside_since, reads_beside}
+use Rattle.ddf_group_commands.proofs.Keeping.{reads_keep, since_entry}
+use Rattle.ddf_group_commands.proofs.Outcomes.{group_read}
+use Rattle.ddf_write_commands.specs.Doing.{Doing}
+use Rattle.ddf_write_commands.specs.Holding.{holding}
+use Rattle.ddf_write_commands.specs.Planned.{Entry, Refusing, request_around}
+use Rattle.ddf_write_commands.specs.Plans.{IsNotReadied, MayPlan}
+use Rattle.ddf_write_commands.specs.Worked.{IsLeftDoing, IsWorkedIn, IsWorkedOf, LeavesDoing}
+use Rattle.ddf_write_commands.proofs.Works.{IsSteady}
+
+-- ---- what the command promises of a group that was read
+
+-- What the calls between the steps promise, with the request that they are of.
+pub record HasDoneArray {D : Type 0} (doing : Doing) (tells : Type 0) (middle new : BayState D) (group : GroupValue) (timestamp : ℕ) (word : List ℕ) (request : Request) (outcome : Result ℕ Failure) : Type 0 where
+  pub worked : IsWorkedOf doing (work_of tells middle new) group timestamp word request outcome
+  pub leaves : tells → StopsLeave middle new (IsLeftDoing doing (work_of tells middle new) group timestamp word request)
+  pub beside : tells → LeavesOthers middle new (slots_of group.seats)
+  pub keeps : tells → (left : List Bool) (named : Option (List ℕ)) → IsFoundBy middle left named group → (steps : List Step) → steps_of group timestamp request ≡ Ok steps
+      → KeepsHistories middle new left group steps (is_done outcome)
+  pub goes : GoesBetween middle new
+
+-- A command came to this: what it made of the group that it took.
+pub record HasCome {D : Type 0} (doing : Doing) (work : Work D) (named : Option (List ℕ)) (timestamp : ℕ) (word : List ℕ) (request : Request) (outcome : Result ℕ Failure) : Type 0 where
+  pub taken : TakesGroup work named timestamp request (is_done outcome)
+  pub gives : IsWorkedIn doing work timestamp word request (group_of taken.newest named) outcome
+  pub leaves : work.tells → LeavesDoing doing work timestamp word request (group_of taken.newest named)
+
+found_same : (one other : GroupValue) → ◌≡◌ {A = Result GroupValue Assembly} (Ok one) (Ok other) → one ≡ other
+found_same one other is = cc
+
+-- What reads leave is what might have been left before.
+reads_left : {D : Type 0} (old new : BayState D) (P : Image → Type 0) → ReadsOnly old new → StopsLeave old new (λ image. IsLeft old.may_hold image ⊎ P image)
+reads_left old new P reads = stops_weaken reads.any_moment (λ image left. inl left)
+
+-- ---- nothing was done
+
+module _ {D : Type 0} (doing : Doing) (work : Work D) (named : Option (List ℕ)) (timestamp : ℕ) (word : List ℕ) (request : Request) (reads : ReadsOnly work.old work.new) where
+  nothing_left : (meaning : Result GroupValue Assembly) → LeavesDoing doing work timestamp word request meaning
+  nothing_left meaning found is steps asked = reads_left work.old work.new (IsLeftDoing doing work found timestamp word request) reads
+
+  none_in : (found : Result GroupValue Assembly) (failure : Failure)
+      → (◌≡◌ {A = Result GroupValue Failure} (Err failure) (group_or found)) ⊎ (◌≡◌ {A = Result GroupValue Failure} (Err failure) (Err Memory))
+      → IsWorkedIn doing work timestamp word request found (Err failure)
+  none_in (Ok group) failure answer = ⊎_elim
+      (λ none. absurd cc)
+      (λ memory. let same : Memory ≡ failure = cc in subst (λ (one : Failure). IsWorkedOf doing work group timestamp word request (Err one)) same reads)
+      answer
+  none_in (Err fault) failure answer = (
+    ⊎_elim
+        (λ none. let same : failure ≡ failure_of fault = cc in inl (ap (λ (one : Failure). Err one) same))
+        (λ memory. let same : failure ≡ Memory = cc in inr (ap (λ (one : Failure). Err one) same))
+        answer,
+    reads,
+  )
+
+  -- There is no group, or memory ran out.
+  pub none_come : (failure : Failure) → IsGroupRead work named (Err failure) → HasCome doing work named timestamp word request (Err failure)
+  none_come failure read = record {
+    taken = record {
+      left = read.left;
+      every_slot = read.every_slot;
+      failed = read.failed;
+      newest = read.newest;
+      read = read.read;
+      beside = λ told one is. reads_beside work.old work.new (slots_of one.seats) reads;
+      keeps = λ told one is steps asked. reads_keep work.old work.new read.left one steps reads;
+    };
+    gives = none_in (group_of read.newest named) failure read.answer;
+    leaves = λ told. nothing_left (group_of read.newest named);
+  }
+
+  -- It was refused, or memory ran out.
+  pub unwritten_come : (group : GroupValue) (failure : Failure) → IsGroupRead work named (Ok group) → IsWorkedOf doing work group timestamp word request (Err failure)
+      → HasCome doing work named timestamp word request (Err failure)
+  unwritten_come group failure read is = record {
+    taken = record {
+      left = read.left;
+      every_slot = read.every_slot;
+      failed = read.failed;
+      newest = read.newest;
+      read = read.read;
+      beside = λ told one is. reads_beside work.old work.new (slots_of one.seats) reads;
+      keeps = λ told one is steps asked. reads_keep work.old work.new read.left one steps reads;
+    };
+    gives = subst (λ (one : Result GroupValue Assembly). IsWorkedIn doing work timestamp word request one (Err failure)) (sym (group_read work named group read)) is;
+    leaves = λ told. nothing_left (group_of read.newest named);
+  }
+
+  -- and of which group
+  pub unwritten_found : (group : GroupValue) (failure : Failure) (read : IsGroupRead work named (Ok group)) (is : IsWorkedOf doing work group timestamp word request (Err failure))
+      → group_of (unwritten_come group failure read is).taken.newest named ≡ Ok group
+  unfolding unwritten_come
+  unwritten_found group failure read is = group_read work named group read
+
+  -- what it was refused for
+  pub not_planned : (refusing : Refusing) (behind : Entry → List Change) (group : GroupValue) (failure : Failure) → request ≡ request_around refusing behind word
+      → MayPlan refusing behind (config_recovered group) group.seats word (Err failure) → IsWorkedOf doing work group timestamp word request (Err failure)
+  not_planned refusing behind group (Refused refusal) same is =
+      (ap (λ (asks : Request). steps_of group timestamp asks) same ∙ ap (steps_asked group timestamp) is, reads)
+  not_planned refusing behind group (Disk slot) same is = absurd is
+  not_planned refusing behind group (Conflict i j sequence differ) same is = absurd is
+  not_planned refusing behind group (Split i j) same is = absurd is
+  not_planned refusing behind group Memory same is = reads
+
+  pub not_ready : (group : GroupValue) (failure : Failure) (answer : Result (List Step) GroupFault) → steps_of group timestamp request ≡ steps_or answer → IsNotReadied answer failure
+      → IsWorkedOf doing work group timestamp word request (Err failure)
+  not_ready group (Refused refusal) answer same is = (same ∙ is, reads)
+  not_ready group (Disk slot) answer same is = absurd is
+  not_ready group (Conflict i j sequence differ) answer same is = absurd is
+  not_ready group (Split i j) answer same is = absurd is
+  not_ready group Memory answer same is = reads
+
+-- ---- since the entry
+
+module _ {D : Type 0} (tells : Type 0) (doing : Doing) (steady : IsSteady doing) (old middle new : BayState D) (reads : ReadsOnly old middle)
+    (reads_rise : (slot : ℕ) → old.failed_reads slot ≤ middle.failed_reads slot) (writes_rise : (slot : ℕ) → old.failed_writes slot ≤ middle.failed_writes slot) where
+  more : (slot : ℕ) → Failed middle new slot → Failed old new slot
+  more slot failed = rose_later (old.failed_reads slot) (middle.failed_reads slot) (new.failed_reads slot) (reads_rise slot) failed
+
+  held_more : (slots : List ℕ) (image : Image) (s l : ℕ) (bytes : List ℕ) → (holding middle slots image).may_hold s l bytes → (holding old slots image).may_hold s l bytes
+  held_more slots image s l bytes left = ⊎_elim inl (λ other. inr (other.0, reads.keeps s l bytes other.1)) left
+
+  written_since : (steps : List Step) (image : Image) → AreWritten middle.sizes middle.held steps image → AreWritten old.sizes old.held steps image
+  written_since steps image written = rw (reads.same_sizes, reads.same_held) at written
+
+  -- what came of a group that was read before
+  worked_since : (group : GroupValue) (timestamp : ℕ) (word : List ℕ) (request : Request) (outcome : Result ℕ Failure) → IsWorkedOf doing (work_of tells middle new) group timestamp word request outcome
+      → IsWorkedOf doing (work_of tells old new) group timestamp word request outcome
+  worked_since group timestamp word request (Ok sequence) is = record {
+    plan = is.plan;
+    is_last = is.is_last;
+    done = λ told. let all = is.done told in record {
+      before = all.before;
+      behind = all.behind;
+      first_written = written_since is.plan.first all.before all.first_written;
+      has_done = steady.more_done (Failed middle new) (Failed old new) more is.plan.volume all.before all.behind all.has_done;
+      is_left = all.is_left;
+      last_written = rw reads.same_sizes at all.last_written;
+      are_sectors = all.are_sectors;
+      are_settled = all.are_settled;
+    };
+    few_asked = λ none. let few = is.few_asked none in let same = reads.none_asked in omega (arith, few, same);
+  }
+  worked_since group timestamp word request (Err (Refused refusal)) is = (is.0, reads_then reads is.1)
+  worked_since group timestamp word request (Err (Disk slot)) is = record {
+    plan = is.plan;
+    is_seat = is.is_seat;
+    there = rw reads.same_sizes at is.there;
+    stopped = ⊎_elim (λ rose. inl (rose_later (old.failed_writes slot) (middle.failed_writes slot) (new.failed_writes slot) (writes_rise slot) rose))
+        (λ none. inr (steady.more_left (Failed middle new) (Failed old new) more is.plan.volume slot none)) is.stopped;
+  }
+  worked_since group timestamp word request (Err Memory) is = reads_then reads is
+  worked_since group timestamp word request (Err (Conflict i j sequence differ)) is = absurd is
+  worked_since group timestamp word request (Err (Split i j)) is = absurd is
+
+  writing_since : (steps : List Step) (image : Image) → IsLeftWriting middle steps image → IsLeftWriting old steps image
+  writing_since steps image writing = record {
+    before = writing.before;
+    is_left = left_keeps old.may_hold middle.may_hold writing.before reads.keeps writing.is_left;
+    shows = rw reads.same_sizes at writing.shows;
+    outside = rw reads.same_sizes at writing.outside;
+  }
+
+  -- and what a stop left
+  left_since : (group : GroupValue) (timestamp : ℕ) (word : List ℕ) (request : Request) (image : Image) → IsLeftDoing doing (work_of tells middle new) group timestamp word request image
+      → IsLeftDoing doing (work_of tells old new) group timestamp word request image
+  left_since group timestamp word request image is = record {
+    plan = is.plan;
+    is_left = elim is.is_left [
+      | inl first ↦ inl (writing_since is.plan.first image first)
+      | inr (inl way) ↦ inr (inl (record {
+        before = way.before;
+        first_written = written_since is.plan.first way.before way.first_written;
+        is_among = steady.among_more is.plan.volume way.before (holding middle (slots_of group.seats) way.before).may_hold (holding old (slots_of group.seats) way.before).may_hold
+            (held_more (slots_of group.seats) way.before) image way.is_among;
+      }))
+      | inr (inr last) ↦ inr (inr (record {
+        before = last.before;
+        behind = last.behind;
+        first_written = written_since is.plan.first last.before last.first_written;
+        has_done = steady.more_done (Failed middle new) (Failed old new) more is.plan.volume last.before last.behind last.has_done;
+        is_left = last.is_left;
+        are_sectors = last.are_sectors;
+        is_writing = record {
+          before = last.is_writing.before;
+          is_left = λ s l. held_more (slots_of group.seats) last.behind s l (last.is_writing.before s l) (last.is_writing.is_left s l);
+          shows = rw reads.same_sizes at last.is_writing.shows;
+          outside = rw reads.same_sizes at last.is_writing.outside;
+        };
+      }))
+    ];
+  }
+
+  module _ (named : Option (List ℕ)) (timestamp : ℕ) (word : List ℕ) (request : Request) (group : GroupValue) (outcome : Result ℕ Failure)
+      (read : IsGroupRead (work_of tells old middle) named (Ok group)) (has : HasDoneArray doing tells middle new group timestamp word request outcome) where
+    is_group : group_of read.newest named ≡ Ok group
+    is_group = group_read (work_of tells old middle) named group read
+
+    newest_still : (slot : ℕ) (left : List Bool) → newest_from middle slot left ≡ newest_from old slot left
+    newest_still slot [] = refl
+    newest_still slot (out ∷ left) = rw (reads.same_sizes, reads.same_held, newest_still (suc slot) left) refl
+
+    found_still : tells → group_of (newest_from middle 0 read.left) named ≡ Ok group
+    found_still told =
+        subst (λ (newest : List (Option Newest)). group_of newest named ≡ Ok group) (sym (newest_still 0 read.left))
+        (subst (λ (newest : List (Option Newest)). group_of newest named ≡ Ok group) (read.read told) is_group)
+
+    leaves_since : tells → LeavesDoing doing (work_of tells old new) timestamp word request (group_of read.newest named)
+    leaves_since told found is_found steps asked =
+        subst (λ (one : GroupValue). StopsLeave old new (λ image. IsLeft old.may_hold image ⊎ IsLeftDoing doing (work_of tells old new) one timestamp word request image))
+        (found_same group found (sym is_group ∙ is_found))
+        (stops_then (reads_left old middle (IsLeftDoing doing (work_of tells old new) group timestamp word request) reads) (has.leaves told)
+        (λ image left. inr (left_since group timestamp word request image left)))
+
+    -- It came to this since its entry.
+    pub come_since : HasCome doing (work_of tells old new) named timestamp word request outcome
+    come_since = record {
+      taken = record {
+        left = read.left;
+        every_slot = read.every_slot;
+        failed = λ slot below out. look_still old middle new slot (reads_rise slot) (has.goes.reads_rise slot) (writes_rise slot) (has.goes.writes_rise slot) (read.failed slot below out);
+        newest = read.newest;
+        read = read.read;
+        beside = λ told found is_found.
+            subst (λ (one : GroupValue). LeavesOthers old new (slots_of one.seats)) (found_same group found (sym is_group ∙ is_found)) (beside_since old middle new (slots_of group.seats) reads (has.beside told));
+        keeps = λ told found is_found steps asked.
+            let same = found_same group found (sym is_group ∙ is_found) in
+            subst (λ (one : GroupValue). steps_of one timestamp request ≡ Ok steps → KeepsHistories old new read.left one steps (is_done outcome)) same
+            (λ now_asked.
+            since_entry old middle new read.left group steps (is_done outcome) reads
+            (has.keeps told read.left named (record { every_slot = rw reads.same_sizes read.every_slot; is_found = found_still told }) steps now_asked))
+            asked;
+      };
+      gives = subst (λ (one : Result GroupValue Assembly). IsWorkedIn doing (work_of tells old new) timestamp word request one outcome) (sym is_group)
+          (worked_since group timestamp word request outcome has.worked);
+      leaves = leaves_since;
+    }
+
+    -- and of which group
+    pub found_since : group_of come_since.taken.newest named ≡ Ok group
+    unfolding come_since
+    found_since = is_group

@@ -1,0 +1,13 @@
+pub mod Around
+pub mod Holding
+pub mod Opened
+pub mod Closed
+pub mod Marking
+pub mod Doing
+pub mod Planned
+pub mod Plans
+pub mod Worked
+pub mod Ending
+pub mod Resync
+pub mod Payload
+pub mod Write
