@@ -203,6 +203,28 @@ ends 0 "group" "" "./ddf k0.img k2.img -- assemble"
 [ ! -s err ] || fail "said $(cat err), where nothing was lost"
 echo "edge: what a command loses and does is told on standard error"
 
+# The input of `write`: a file, a pipe that gives its bytes slowly, one that ends too soon, none at all, and a folder, of which a read fails.
+truncate -s 32M w0.img w1.img
+ends 0 "ok sequence 1" "" "./ddf w0.img w1.img -- label"
+ends 0 "ok sequence 2" "" "./ddf w0.img w1.img -- create v raid1 0 single 0,1@4096"
+ends 1 "refused 24 marked" "" "./ddf w0.img w1.img -- write v 0 4 <d0.img"
+ends 0 "ok sequence 3" "" "./ddf w0.img w1.img -- resync v"
+head -c 1048576 /dev/urandom >bytes
+ends 0 "ok sequence 5" "" "./ddf w0.img w1.img -- write v 5 2048 <bytes"
+./ddf w0.img w1.img -- read v 5 2048 | cmp - bytes || fail "other bytes were written than a file has"
+ends 0 "ok sequence 7" "" "{ head -c 700; sleep 1; head -c 3396; } <bytes | ./ddf w0.img w1.img -- write v 0 8"
+./ddf w1.img -- read v 0 8 | cmp -n 4096 - bytes || fail "other bytes were written than a pipe gives"
+sum=$(cksum w0.img w1.img)
+ends 1 "refused 32 short payload 1000" "" "head -c 1000 bytes | ./ddf w0.img w1.img -- write v 0 2"
+ends 1 "refused 26 range 4096" "" "./ddf w0.img w1.img -- write v 4095 2 <bytes"
+for input in "<&-" "<."; do
+    ends 6 "" "" "./ddf w0.img w1.img -- write v 0 2 $input"
+done
+[ "$(cksum w0.img w1.img)" = "$sum" ] || fail "an image was written to without the bytes of its blocks"
+ends 0 "ok sequence 9" "" "{ ./ddf w0.img w1.img -- write v 0 1; cat >rest; } <bytes"
+[ "$(wc -c <rest)" = $((1048576 - 512)) ] || fail "write took other bytes than those of its block: $(wc -c <rest) were left"
+echo "edge: write takes the bytes of its blocks from files and pipes, and no more"
+
 # Disks for Linux.
 silent_on_linux() {
     case $(cat err) in *Linux*) fail "said $(cat err), where nothing is to be said of Linux" ;; esac

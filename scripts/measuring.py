@@ -15,16 +15,16 @@ class Times:
     processor: list = field(default_factory=list)
     clock: list = field(default_factory=list)
 
-    def add(self, command, output=os.devnull):
-        """One run. An output file is written over and never cut, so that no run pays for the blocks of the one before it."""
-        null, out = os.open(os.devnull, os.O_RDWR), os.open(output, os.O_WRONLY | os.O_CREAT)
-        places = [(os.POSIX_SPAWN_DUP2, out, 1), (os.POSIX_SPAWN_DUP2, null, 2)]
+    def add(self, command, output=os.devnull, given=os.devnull):
+        """One run, with the input of a file. An output file is written over and never cut, so that no run pays for the blocks of the one before it."""
+        null, out, into = os.open(os.devnull, os.O_RDWR), os.open(output, os.O_WRONLY | os.O_CREAT), os.open(given, os.O_RDONLY)
+        places = [(os.POSIX_SPAWN_DUP2, into, 0), (os.POSIX_SPAWN_DUP2, out, 1), (os.POSIX_SPAWN_DUP2, null, 2)]
         before = time.perf_counter()
         child = os.posix_spawnp(command[0], command, os.environ, file_actions=places)
         _, status, usage = os.wait4(child, 0)
         self.clock.append(1000 * (time.perf_counter() - before))
-        os.close(null)
-        os.close(out)
+        for each in (null, out, into):
+            os.close(each)
         if status:
             sys.exit(f"bench: status {status} of {' '.join(command[:3])}")
         self.processor.append(1000 * (usage.ru_utime + usage.ru_stime))

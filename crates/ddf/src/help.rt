@@ -33,7 +33,9 @@ Commands:
                    make an array of these disks, with strips of 2^CODE sectors;
                    LEVEL is raid0, raid1, raid4.first, raid4.last, raid5.r0,
                    raid5.rn, raid5.rnc, jbod or concat; SECONDARY is single, or
-                   striped, mirrored, concat or spanned over several elements
+                   striped, mirrored, concat or spanned over several elements;
+                   one that keeps its data twice is to be resynced, or accepted
+                   where its disks agree, before it can lose a disk
   delete NAME      remove an array from the records; its blocks stay as they are
   spare SLOT global | spare SLOT for NAME.. | spare SLOT off
                    say what a disk may stand in for
