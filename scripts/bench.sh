@@ -16,6 +16,8 @@
 #   of the rounds, and room for 1.4 GB in the folder of temporary files.
 # - `resync` of the same arrays, beside cat of what their members hold; and `write` of 1 MiB, the most of one call, with its start, the two changes of the group around
 #   it and their syncs, beside dd of as many bytes as reach the disks, with one sync.
+# - `rebuild` of the second disk of such arrays on a spare, with the loss, the notes of its progress and their syncs, beside cat of what it reads, to nowhere, and then dd
+#   of what it writes, with one sync.
 # - The exclusive-or of sectors in cache beside a copy of as many, in one small program (xor_speed.rt.txt: only a crate has files
 #   named .rt), which `rt` proves and builds first. That takes a minute or more.
 #

@@ -12,7 +12,7 @@ fail() {
 }
 
 # The commands that --help lists, one a line.
-sed -n '/^Commands:$/,/^$/s/^  \([a-z][a-z]*\).*/\1/p' "$top/crates/ddf/src/help.rt" | sort -u >"$work/commands"
+sed -n '/^Commands:$/,/^$/s/^  \([a-z][a-z]*\).*/\1/p' "$top/crates/ddf_edge/src/help.rt" | sort -u >"$work/commands"
 over=$(grep -v -x -e examine -e label "$work/commands" | tr '\n' ' ')
 all=$(tr '\n' ' ' <"$work/commands")
 for file in ddf.bash _ddf ddf.fish; do
@@ -22,7 +22,7 @@ for file in ddf.bash _ddf ddf.fish; do
 done
 levels="concat jbod raid0 raid1 raid4.first raid4.last raid5.r0 raid5.rn raid5.rnc"
 for level in $levels; do
-    grep -q -w "$level" "$top/crates/ddf/src/help.rt" || fail "--help knows no level $level"
+    grep -q -w "$level" "$top/crates/ddf_edge/src/help.rt" || fail "--help knows no level $level"
 done
 
 # A line, a bar, and what is offered at its end, in the order of sort.

@@ -46,7 +46,7 @@ for input in "" "<&-"; do
         ends 6 "" "" "./ddf missing.img d0.img -- examine $input >&- $error"
     done
 done
-ends 6 "" "ddf: the input or the output failed" "./ddf d0.img -- examine >&-"
+ends 6 "" "ddf: the output failed" "./ddf d0.img -- examine >&-"
 ./ddf d0.img -- examine >&- 2>err || true
 case $(cat err) in *"may have been done"*) fail "said that examine may have done something" ;; esac
 echo "edge: no image becomes a closed stream"
@@ -218,12 +218,28 @@ sum=$(cksum w0.img w1.img)
 ends 1 "refused 32 short payload 1000" "" "head -c 1000 bytes | ./ddf w0.img w1.img -- write v 0 2"
 ends 1 "refused 26 range 4096" "" "./ddf w0.img w1.img -- write v 4095 2 <bytes"
 for input in "<&-" "<."; do
-    ends 6 "" "" "./ddf w0.img w1.img -- write v 0 2 $input"
+    ends 6 "" "standard input failed, and nothing was written" "./ddf w0.img w1.img -- write v 0 2 $input"
 done
 [ "$(cksum w0.img w1.img)" = "$sum" ] || fail "an image was written to without the bytes of its blocks"
 ends 0 "ok sequence 9" "" "{ ./ddf w0.img w1.img -- write v 0 1; cat >rest; } <bytes"
 [ "$(wc -c <rest)" = $((1048576 - 512)) ] || fail "write took other bytes than those of its block: $(wc -c <rest) were left"
 echo "edge: write takes the bytes of its blocks from files and pipes, and no more"
+
+# A disk of an array is left out of the words, and a spare is filled in its place. Once more there is nothing to fill.
+truncate -s 32M r0.img r1.img r2.img
+ends 0 "ok sequence 1" "" "./ddf r0.img r1.img r2.img -- label"
+ends 0 "ok sequence 2" "" "./ddf r0.img r1.img r2.img -- create v raid1 3 single 0,1@4096"
+ends 0 "ok sequence 3" "" "./ddf r0.img r1.img r2.img -- resync v"
+ends 0 "ok sequence 5" "" "./ddf r0.img r1.img r2.img -- write v 0 2048 <bytes"
+ends 2 "refused 10 word 5" "the name of an array" "./ddf r0.img r1.img r2.img -- rebuild"
+ends 0 "ok sequence 6" "" "./ddf r0.img r1.img r2.img -- spare 2 global"
+ends 0 "ok sequence 10" "is absent, and the group goes on without it for good: no image of it was named" "./ddf r0.img r2.img -- rebuild v"
+./ddf r0.img r2.img -- show | grep -q "^array v blocks 4096 optimal$" || fail "an array isn't optimal once it was rebuilt"
+./ddf r2.img -- read v 0 2048 2>/dev/null | cmp - bytes || fail "a rebuilt disk holds other bytes than those that were written"
+sum=$(cksum r0.img r2.img)
+ends 0 "ok sequence 10" "" "./ddf r0.img r2.img -- rebuild v"
+[ "$(cksum r0.img r2.img)" = "$sum" ] || fail "an image was written to though there was nothing to rebuild"
+echo "edge: a spare is filled in the place of a disk that was left out of the words"
 
 # Disks for Linux.
 silent_on_linux() {

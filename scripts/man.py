@@ -178,7 +178,7 @@ def made() -> str:
 
 def commands_of_help() -> set[str]:
     """The commands that --help lists."""
-    text = (TOP / "crates/ddf/src/help.rt").read_text(encoding="utf-8")
+    text = (TOP / "crates/ddf_edge/src/help.rt").read_text(encoding="utf-8")
     part = re.search(r"^Commands:\n(.*?)\n\n", text, re.MULTILINE | re.DOTALL)
     if part is None:
         stop("--help lists no commands")

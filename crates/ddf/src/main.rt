@@ -1,50 +1,17 @@
 //! The program `ddf`: it opens the images that its words name, and does what they ask for.
 #![tactic(auto)]
 
-mod asking;
-mod claims;
-mod counting;
-mod device;
-mod disks;
-mod done;
-mod failure;
-mod filled;
-mod for_linux;
-mod help;
-mod in_use;
-mod losses;
-mod memory;
-mod no_text;
-mod one_line;
-mod risks;
-mod same_disk;
-mod silent;
-mod slot_images;
-mod stamp;
-mod streams;
-#[cfg(test)]
-mod tests;
-mod wrong_words;
-
-use crate::asking::agrees;
-use crate::counting::CountingSink;
-use crate::disks::{any_unopened, name_turned, open_disks};
-use crate::done::tell_end;
-use crate::failure::{Failure, NO_MEMORY, STREAM_FAULT};
-use crate::for_linux::{makes_for_linux, name_unfinished, name_untaken};
-use crate::help::{USAGE, answer};
-use crate::memory::keep_freed;
-use crate::no_text::name_no_texts;
-use crate::risks::is_risky;
-use crate::same_disk::same_disk;
-use crate::slot_images::number_slots;
-use crate::stamp::stamp_for;
-use crate::streams::hold_streams;
-use crate::wrong_words::explain;
 use ddf_bay::Bay;
 use ddf_bytes::{StdSink, StdSource};
 use ddf_command::{Asked, Command, WordFault, asked, refuse_words, serve, slot_paths};
+use ddf_edge::{
+    CountingSink, Failure, Meter, NO_MEMORY, NotingSource, STREAM_FAULT, USAGE, agrees, answer,
+    any_unopened, explain, hold_streams, is_risky, keep_freed, makes_for_linux, name_no_texts,
+    name_turned, name_unfinished, name_untaken, number_slots, open_disks, same_disk,
+    sectors_to_write, stamp_for, tell_end,
+};
 use ddf_linux::Turned;
+use ddf_progress::Watched;
 use std::fs::File;
 use std::io::IsTerminal;
 use std::process::ExitCode;
@@ -52,16 +19,26 @@ use std::rt::{Clock, Env, Files};
 use std::{env, io};
 
 fn main(rt: HostRuntime) -> ExitCode {
-    let asks = rt.stdin().is_terminal() && rt.stderr().is_terminal();
-    ExitCode::from(status(&rt, asks))
+    let sees = rt.stderr().is_terminal();
+    let answers = sees && rt.stdin().is_terminal();
+    ExitCode::from(status(&rt, Person { sees, answers }))
 }
 
-/// Does what the words ask for, or says on standard error why not. Somebody can be asked, or not.
-fn status<R>(rt: &R, asks: bool) -> u8
+/// Who started the program, as far as the standard streams tell.
+#[derive(Clone, Copy)]
+struct Person {
+    /// Standard error is a terminal.
+    sees: bool,
+    /// So is standard input.
+    answers: bool,
+}
+
+/// Does what the words ask for, or says on standard error why not.
+fn status<R>(rt: &R, person: Person) -> u8
 where
     R: Files<File = File> + Env + Clock + Input + Print + Eprint + AllocGlobal + Clone + Drop,
 {
-    match obey_words(rt, asks) {
+    match obey_words(rt, person) {
         Ok(status) => status,
         Err(failure) => {
             let _ = eprintln!(rt; "ddf: {failure}");
@@ -71,13 +48,13 @@ where
 }
 
 /// Reads the words, and does what they ask for. No disk is opened before the standard streams have their descriptors.
-fn obey_words<R>(rt: &R, asks: bool) -> Result<u8, Failure>
+fn obey_words<R>(rt: &R, person: Person) -> Result<u8, Failure>
 where
     R: Files<File = File> + Env + Clock + Input + Print + Eprint + AllocGlobal + Clone + Drop,
 {
     let held = hold_streams(rt).map_err(Failure::Streams)?;
     let outcome = match words(rt) {
-        Ok(words) => obey(rt, &words, asks),
+        Ok(words) => obey(rt, &words, person),
         Err(why) if why.kind() == io::ErrorKind::OutOfMemory => Err(Failure::Memory),
         Err(why) => {
             let _ = eprintln!(rt; "ddf: the words can't be read: {why}");
@@ -100,7 +77,7 @@ fn words<R: Env + Eprint + AllocGlobal>(rt: &R) -> io::Result<Vec<String>> {
 }
 
 /// Does what the words ask for.
-fn obey<R>(rt: &R, words: &[String], asks: bool) -> Result<u8, Failure>
+fn obey<R>(rt: &R, words: &[String], person: Person) -> Result<u8, Failure>
 where
     R: Files<File = File> + Clock + Input + Print + Eprint + AllocGlobal + Clone + Drop,
 {
@@ -111,7 +88,7 @@ where
         };
     }
     match asked(rt.alloc(), words) {
-        Ok(asked) => perform(rt, words, &asked, asks),
+        Ok(asked) => perform(rt, words, &asked, person),
         Err(WordFault::Place(place)) => explain_refusal(rt, words, place),
         Err(WordFault::Memory) => Err(Failure::Memory),
     }
@@ -154,7 +131,7 @@ fn changes_group(command: &Command) -> bool {
 }
 
 /// Opens the disks, and hands them to the command. A group isn't changed where a disk that is named can't be opened.
-fn perform<R>(rt: &R, words: &[String], asked: &Asked, asks: bool) -> Result<u8, Failure>
+fn perform<R>(rt: &R, words: &[String], asked: &Asked, person: Person) -> Result<u8, Failure>
 where
     R: Files<File = File> + Clock + Input + Print + Eprint + AllocGlobal + Clone + Drop,
 {
@@ -169,17 +146,25 @@ where
         return Err(Failure::Unopened);
     }
     let mut bay = Turned::new(files, makes_for_linux(&asked.command));
-    if is_risky(rt, &mut bay, paths, asked)? && asks && !agrees(rt) {
+    if is_risky(rt, &mut bay, paths, asked)? && person.answers && !agrees(rt) {
         return Err(Failure::Declined);
     }
+    let to_write = if person.sees {
+        sectors_to_write(rt, &mut bay, asked)
+    } else {
+        None
+    };
 
     // A look keeps the slots, and no clause of it says so.
     if bay.slots() != paths.len() {
         return Err(Failure::Unopened);
     }
-    let mut source = StdSource::new(rt.reader());
+    let mut bay = Watched::new(bay, Meter::new(rt, to_write));
+    let mut source = NotingSource::new(StdSource::new(rt.reader()));
     let mut sink = CountingSink::new(StdSink::new(io::writer(rt)));
     let status = serve(rt.alloc(), words, &mut bay, &mut source, &mut sink, stamp);
+    let (mut bay, meter) = bay.into_parts();
+    meter.end();
     if let Command::Examine | Command::Assemble | Command::Show = asked.command {
         name_turned(rt, &bay);
     }
@@ -189,6 +174,9 @@ where
     tell_end(rt, &asked.command, paths, status, sink.taken());
     if status == 0 {
         name_untaken(rt, &bay, paths, &asked.command);
+    }
+    if status == STREAM_FAULT && source.failed() {
+        return Err(Failure::Input);
     }
     answered(status, asked.command.traits().may_write)
 }

@@ -15,12 +15,14 @@ use Rattle.ddf_array.specs.Redundant.{IsRedundant}
 use Rattle.ddf_array.specs.Sound.{AreSectors}
 use Rattle.ddf_array.specs.Viewing.{is_array_redundant, view_of}
 use Rattle.ddf_array.specs.Volume.{IsVolume, Volume}
-use Rattle.ddf_array.specs.Within.{is_within}
+use Rattle.ddf_array.specs.Within.{is_redundant, is_within}
 use Rattle.ddf_array.proofs.Apart.{view_apart}
 use Rattle.ddf_cells.specs.Alike.{AreAlike}
 use Rattle.ddf_cells.specs.Degraded.{is_degraded}
 use Rattle.ddf_data.specs.Allowed.{Allowed}
-use Rattle.ddf_data.specs.Changing.{IsWritable}
+use Rattle.ddf_data.specs.Changing.{IsWritable, with_mark}
+use Rattle.ddf_data.specs.Rows.{AreRowsKept, HasNoRows}
+use Rattle.ddf_data.proofs.RowsKept.{no_rows_kept, writable_rows}
 use Rattle.ddf_keeping.specs.Clear.{IsItsCell}
 use Rattle.ddf_keeping.specs.Grouped.{MayChange, Promises}
 use Rattle.ddf_keeping.proofs.Clearly.{below_floor, lies_of, used}
@@ -108,10 +110,16 @@ pub record IsSplit (found : GroupValue) (timestamp : ℕ) (entry : Entry) (asked
   pub within : is_within v ≡ true
   pub undegraded : is_degraded v ≡ false
   pub writable : IsWritable v
+  pub no_rows : HasNoRows v ⊎ (is_redundant v ≡ false)
 
 module _ {D : Type 0} (group : List ℕ) (old : BayState D) (past : Past (groups group)) (floor : ℕ → ℕ) (promises : Promises) (left : List Bool) (newest : List (Option Newest)) (named : Option (List ℕ)) (found : GroupValue)
     (called : IsCalled group old past floor promises left newest named found) (timestamp : ℕ) (entry : Entry) (asked : List Change) (ask : Option Change) (first last : List Step) (v : Volume)
     (is : IsSplit found timestamp entry asked ask first last v) where
+  -- no rows count as rebuilt, or it has none that could
+  rows_kept : (mark : Bool) (is_absent : ℕ → ℕ → Bool) (image : Image) → AreRowsKept is_absent (with_mark mark v) image
+  rows_kept mark is_absent image =
+      ⊎_elim (λ none. no_rows_kept is_absent (with_mark mark v) image none) (λ plain. writable_rows is_absent (with_mark mark v) image (inr plain)) is.no_rows
+
   abbrev pub between : Configuration
   between = split.between found timestamp (mark_of entry) asked first last is.are_first is.are_all
 
@@ -302,7 +310,7 @@ module _ {D : Type 0} (group : List ℕ) (old : BayState D) (past : Past (groups
     -- and once the blocks count with what the disks hold
     pub count_keeps : (image : Image) (some : Promises) → KeepsData group now floor image some → AreSectors image → IsRedundant v image
         → KeepsData group now floor image (counted entry.0 v image some)
-    count_keeps image some kept are redundant = one.counts group floor called.small now between alone entry.0 v view is.known image some kept are is.undegraded redundant
+    count_keeps image some kept are redundant = one.counts group floor called.small now between alone entry.0 v view is.known image some (λ is_absent. rows_kept v.marked is_absent image) kept are is.undegraded redundant
 
     -- ---- behind them
 
@@ -311,7 +319,7 @@ module _ {D : Type 0} (group : List ℕ) (old : BayState D) (past : Past (groups
       may_unmark change asks =
           let unmark = is.unmarks change asks in
           subst (MayChange between (seats_in group now floor between) image some) (sym unmark.1)
-          (one.may_unmark group floor called.small now between alone entry.0 v view is.known image some kept now.changes.acked since is.within is.undegraded redundant unmark.0)
+          (one.may_unmark group floor called.small now between alone entry.0 v view is.known image some (λ is_absent. rows_kept false is_absent image) kept now.changes.acked since is.within is.undegraded redundant unmark.0)
 
       may_ask : MayAsk between (seats_in group now floor between) image some ask
       may_ask = by ask may_unmark

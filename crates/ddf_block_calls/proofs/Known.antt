@@ -83,7 +83,7 @@ same_parts (Some element ∷ known) =
   where
     positions : (all : List Position) → AreLessPositions all all
     positions [] = tt
-    positions (one ∷ all) = (inr (refl, refl, refl), positions all)
+    positions (one ∷ all) = (inr (refl, refl, refl, inr refl), positions all)
 
 -- Lost members leave arrays of as many positions,
 pub lost_few : (config : Configuration) (references : List ℕ) (sequence : ℕ) → ArraysFew config → ArraysFew (changed_at config (Lose references) sequence)

@@ -16,5 +16,3 @@ pub mod Prepared
 pub mod Resynced
 pub mod Taken
 pub mod Carries
-pub mod Parts
-pub mod Issues

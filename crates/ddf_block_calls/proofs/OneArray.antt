@@ -21,8 +21,9 @@ use Rattle.ddf_array.specs.Within.{is_within}
 use Rattle.ddf_array.proofs.Apart.{view_apart}
 use Rattle.ddf_cells.specs.Degraded.{is_degraded}
 use Rattle.ddf_data.specs.Allowed.{Allowed, May, any_bytes, once_consistent}
-use Rattle.ddf_data.specs.Changing.{IsWritable}
+use Rattle.ddf_data.specs.Changing.{IsWritable, with_mark}
 use Rattle.ddf_data.specs.Kept.{IsKeptData}
+use Rattle.ddf_data.specs.Rows.{AreRowsKept}
 use Rattle.ddf_data.proofs.Consistent.{kept_consistent, whole_consistent}
 use Rattle.ddf_data.proofs.Written.{kept_any}
 use Rattle.ddf_keeping.specs.Clear.{ChangesItsCells}
@@ -62,7 +63,7 @@ fewer_kept group past floor image promises fewer less kept number config since g
 module _ (next : Allowed → Allowed) (weaker : (allowed : Allowed) (block : ℕ) (bytes : List ℕ) → May (allowed block) bytes → May (next allowed block) bytes) where
   pub weaker_kept : (is_absent : ℕ → ℕ → Bool) (v : Volume) (image : Image) (allowed : Allowed) → IsKeptData is_absent v image allowed → IsKeptData is_absent v image (next allowed)
   weaker_kept is_absent v image allowed kept =
-      record { sound = kept.sound; reads = λ block k source at. weaker allowed block (given image source) (kept.reads block k source at) }
+      record { sound = kept.sound; reads = λ block k source at. weaker allowed block (given image source) (kept.reads block k source at); rows = kept.rows }
 
   pub weaker_promised : (group : List ℕ) (past : Past (groups group)) (floor : ℕ → ℕ) (image : Image) (promises : Promises) (guid : List ℕ)
       → KeepsData group past floor image promises → KeepsData group past floor image (with_allowed next guid promises)
@@ -136,19 +137,19 @@ module _ (group : List ℕ) (floor : ℕ → ℕ) (small : (slot : ℕ) → floo
             fewer_kept group past floor image (with_promise promises guid (Some any_bytes)) (with_promise promises guid None) (λ other allowed is. less_by (same_guid guid other) other allowed is)
             (gets any_bytes (kept_any absent v image are writable))
 
-  -- Where it is redundant it may be unmarked,
-  pub may_unmark : (image : Image) (promises : Promises) → KeepsData group past floor image promises → (number : ℕ) → IsSince past.changes number config → is_within v ≡ true → is_degraded v ≡ false
+  -- Where it is redundant it may be unmarked, with rows that hold what they should where any count as rebuilt,
+  pub may_unmark : (image : Image) (promises : Promises) → ((is_absent : ℕ → ℕ → Bool) → AreRowsKept is_absent (with_mark false v) image) → KeepsData group past floor image promises → (number : ℕ) → IsSince past.changes number config → is_within v ≡ true → is_degraded v ≡ false
       → ((allowed : Allowed) → promises guid ≡ Some allowed → IsRedundant v image) → (init : ℕ) → MayChange config (seats_in group past floor config) image promises (Unmark guid init)
-  may_unmark image promises kept number since within whole is init named allowed array promised found same w over =
+  may_unmark image promises rows kept number since within whole is init named allowed array promised found same w over =
       let found_own : lookup (same_guid guid) config.arrays ≡ Some array = ap (λ (name : List ℕ). lookup (same_guid name) config.arrays) (sym same) ∙ found in
       let one = one_of (lookup (same_guid guid) config.arrays) (use_of).array array (use_of).is_found found_own in
       let here : IsOver (seats_in group past floor config) array v = subst (λ (a : Array). IsOver (seats_in group past floor config) a v) one (use_of).over in
       let lacks = absent_in config.members (seats_in group past floor config) array.elements in
       subst (λ (x : Volume). MayBeCleared lacks x image allowed) (over_one (seats_in group past floor config) array v w here over)
-      (redundant_may lacks v image allowed known within whole (is allowed (ap promises (sym same) ∙ promised)) (kept number config since named allowed array promised found v here))
+      (redundant_may lacks v image allowed known within whole (is allowed (ap promises (sym same) ∙ promised)) (rows lacks) (kept number config since named allowed array promised found v here))
 
   -- and count with what it holds.
-  pub counts : (image : Image) (promises : Promises) → KeepsData group past floor image promises → AreSectors image → is_degraded v ≡ false → IsRedundant v image
+  pub counts : (image : Image) (promises : Promises) → ((is_absent : ℕ → ℕ → Bool) → AreRowsKept is_absent v image) → KeepsData group past floor image promises → AreSectors image → is_degraded v ≡ false → IsRedundant v image
       → KeepsData group past floor image (counted guid v image promises)
-  counts image promises kept are whole is =
-      gets image image promises kept are (λ slot lba. inl refl) (once_consistent v image) (kept_consistent absent v.marked v image are (whole_consistent absent v image whole is))
+  counts image promises rows kept are whole is =
+      gets image image promises kept are (λ slot lba. inl refl) (once_consistent v image) (kept_consistent absent v.marked v image are (whole_consistent absent v image whole is) (rows absent))

@@ -1,5 +1,5 @@
 -- A call that found a group, and what it asks of it: its steps, and the array between them.
-use Rattle.std.proofs.Common.{◌≡◌, ◌⊎◌, ◌∙◌, inl, inr, ⊎_elim, ℕ, ◌+◌, Bool, true, false, List, [], ◌∷◌, ◌++◌, length, Option, Some, Ok, refl, ap, sym, subst, if◌then◌else◌}
+use Rattle.std.proofs.Common.{◌≡◌, ◌⊎◌, ◌∙◌, inl, inr, ⊎_elim, ℕ, ◌+◌, Bool, true, false, List, [], ◌∷◌, ◌++◌, length, Option, Some, None, Ok, refl, ap, sym, subst, if◌then◌else◌}
 use Rattle.std.specs.Prelude.{option_to_list, slice_get}
 use Rattle.std.specs.Map.{lookup}
 use Rattle.ddf_bay.specs.Sectors.{Image}
@@ -20,7 +20,10 @@ use Rattle.ddf_array.specs.Within.{is_redundant, is_within}
 use Rattle.ddf_array.proofs.Viewed.{from_view}
 use Rattle.ddf_data.specs.Allowed.{Allowed}
 use Rattle.ddf_data.specs.Changing.{IsWritable}
+use Rattle.ddf_data.specs.Rows.{HasNoRows}
 use Rattle.ddf_keeping.specs.Grouped.{Promises}
+use Rattle.ddf_keeping.proofs.Clearly.{IsUsed, used}
+use Rattle.ddf_keeping.proofs.Marked.{no_rows_left, none_were}
 use Rattle.ddf_history.specs.Groups.{groups}
 use Rattle.ddf_history.specs.Issued.{Past, acknowledge}
 use Rattle.ddf_assembly.specs.Group.{GroupValue}
@@ -31,7 +34,7 @@ use Rattle.ddf_stops.specs.Going.{IsOver, begun, issue_all}
 use Rattle.ddf_stops.specs.Kept.{is_read}
 use Rattle.ddf_promise.specs.Promised.{seats_in}
 use Rattle.ddf_write_commands.specs.Planned.{Entry, IsPlanned, Refusing, request_around}
-use Rattle.ddf_write_commands.proofs.Marked.{with_mark}
+use Rattle.ddf_write_commands.proofs.Marked.{redundant_same, with_mark}
 use Rattle.ddf_data_calls.specs.Calls.{AreMade, left_over}
 use Rattle.ddf_data_calls.proofs.Few.{ArraysFew}
 use Rattle.ddf_data_calls.proofs.Seats as seating
@@ -152,6 +155,28 @@ module _ {D : Type 0} (group : List ℕ) (old : BayState D) (past : Past (groups
             (λ same. inr (ap is_redundant same ∙ plain_view (config_recovered found) found.seats plan.entry there has plain))
             (λ marked. inl (ap (λ (x : Volume). x.marked) marked)) view_is
 
+    -- Marked it counts no rows as rebuilt, whether the mark was set by these steps or stood there.
+    no_rows : HasNoRows plan.volume ⊎ (is_redundant plan.volume ≡ false)
+    unfolding between
+    no_rows = by (is_array_redundant plan.entry.1) refl
+      where
+        seen : IsUsed between plan.entry.0 found.seats plan.volume
+        seen = used between plan.entry.0 found.seats plan.volume is_view (is_known between few_between plan.entry.0 plan.volume is_view)
+
+        at_mark : is_array_redundant plan.entry.1 ≡ true → mark_of plan.entry ≡ Some (Mark plan.entry.0)
+        at_mark redundant = ap (λ (b : Bool). if b then Some (Mark plan.entry.0) else None) redundant
+
+        by : (b : Bool) → is_array_redundant plan.entry.1 ≡ b → HasNoRows plan.volume ⊎ (is_redundant plan.volume ≡ false)
+        by true redundant = inl (⊎_elim
+            (λ same. none_were (config_recovered found) plan.entry.0 (seen).array found.seats plan.volume
+            (ap (λ (c : Configuration). lookup (same_guid plan.entry.0) c.arrays) (sym same.0) ∙ (seen).is_found) (same.1 (Mark plan.entry.0) (at_mark redundant)) (seen).over)
+            (λ (made : (change : Change) × (mark_of plan.entry ≡ Some change)
+            × (split.between found timestamp (mark_of plan.entry) (behind plan.entry) plan.first plan.last are_first are_all ≡ config_after (config_recovered found) change)).
+            no_rows_left (config_recovered found) plan.entry.0 (seen).array (config_after (config_recovered found) (Mark plan.entry.0)).sequence found.seats plan.volume
+            (ap (λ (c : Configuration). lookup (same_guid plan.entry.0) c.arrays) (sym (made.2 ∙ ap (config_after (config_recovered found)) (mark_is plan.entry made.0 made.1).1)) ∙ (seen).is_found) (seen).over)
+            (split.between_steps found timestamp (mark_of plan.entry) (behind plan.entry) plan.first plan.last are_first are_all))
+        by false plain = inr (⊎_elim (λ same. ap is_redundant same) (λ marked. ap is_redundant marked ∙ redundant_same has.volume) view_is ∙ plain_view (config_recovered found) found.seats plan.entry there has plain)
+
     pub is_split : IsSplit found timestamp plan.entry (behind plan.entry) ask plan.first plan.last plan.volume
     unfolding between
     is_split =
@@ -166,4 +191,5 @@ module _ {D : Type 0} (group : List ℕ) (old : BayState D) (past : Past (groups
           within = ready.within;
           undegraded = ready.whole;
           writable = ready.writable;
+          no_rows = no_rows;
         }

@@ -38,7 +38,7 @@ use Rattle.ddf_write_commands.specs.Planned.{IsPlanned, lacks_position}
 use Rattle.ddf_write_commands.specs.Resync.{HasResyncedArray, resync_behind, resync_refusals, resync_request, resyncing, wholly}
 use Rattle.ddf_write_commands.specs.Worked.{IsWorkedIn}
 use Rattle.ddf_data_calls.specs.Calls.{AdmitsCall, AreBoth, KeepsBoth}
-use Rattle.ddf_block_calls.specs.Along.{ComesAlong, Stage}
+use Rattle.ddf_write_commands.specs.Along.{ComesAlong, Stage}
 use Rattle.ddf_block_calls.specs.Promised.{counted, with_allowed}
 use Rattle.ddf_block_calls.proofs.Accepted.{HasView, accepted_plan, has_view, named_is, two_pass}
 use Rattle.ddf_block_calls.proofs.Both as both

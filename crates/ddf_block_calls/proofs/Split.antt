@@ -1,5 +1,5 @@
 -- The steps of a call on the blocks of an array, those before the blocks and the one behind them, by what they make of the configuration.
-use Rattle.std.proofs.Common.{◌≡◌, ◌⊎◌, ◌∙◌, inl, inr, ⊎_elim, ℕ, ◌==◌, not, cond, Bool, true, false, List, [], ◌∷◌, ◌++◌, length, map, filter, Option, Some, None, Result, Ok, Err, if◌then◌else◌, refl, ap, sym, subst, arith, append_assoc}
+use Rattle.std.proofs.Common.{◌≡◌, ◌⊎◌, ◌∙◌, inl, inr, ⊎_elim, ℕ, Bool, true, false, List, [], ◌∷◌, ◌++◌, length, map, Option, Some, None, Result, Ok, Err, if◌then◌else◌, refl, ap, sym, subst, arith, append_assoc}
 use Rattle.std.proofs.lemmas.List.{append_cancel_left}
 use Rattle.std.specs.Prelude.{option_to_list, slice_get}
 use Rattle.ddf_bay.specs.Sectors.{Image}
@@ -21,6 +21,7 @@ use Rattle.ddf_assembly.proofs.ReadiedSteps.{are_tried, behind, steps_are}
 use Rattle.ddf_stops.specs.Going.{IsOver, changes_in}
 use Rattle.ddf_stops.proofs.LastIssued.{over_last}
 use Rattle.ddf_write_commands.specs.Around.{config_behind}
+use Rattle.ddf_write_commands.proofs.Parts.{issued_parts}
 use Rattle.ddf_data_calls.specs.Calls.{AreMade, MayAsk}
 use Rattle.ddf_data_calls.proofs.Begun.{done_is, last_of}
 use Rattle.ddf_data_calls.proofs.Steps.{asked_made, configs, issued_are}
@@ -37,20 +38,6 @@ configs_parts : (one other : List Step) → configs (one ++ other) ≡ configs o
 configs_parts [] other = refl
 configs_parts (step ∷ one) other = ap (λ (all : List Configuration). step.config ∷ all) (configs_parts one other)
 
--- what the steps issue is what the first of them issue, and then the others
--- a step that raises the sequence number
-abbrev raises : GroupValue → Step → Bool
-raises found step = not (step.config.sequence == found.config.sequence)
-
-pub issued_parts : (found : GroupValue) (one other : List Step) → changes_in found (one ++ other) ≡ changes_in found one ++ changes_in found other
-issued_parts found [] other = refl
-issued_parts found (step ∷ one) other = by (not (step.config.sequence == found.config.sequence)) (issued_parts found one other)
-  where
-    by : (b : Bool) → changes_in found (one ++ other) ≡ changes_in found one ++ changes_in found other
-        → configs (cond b (step ∷ filter (raises found) (one ++ other)) (filter (raises found) (one ++ other))) ≡ configs (cond b (step ∷ filter (raises found) one) (filter (raises found) one)) ++ configs (filter (raises found) other)
-    by true rest = ap (λ (all : List Configuration). step.config ∷ all) rest
-    by false rest = rest
-
 -- ---- the steps behind a recovery
 
 -- The changes behind a first one are made of what that one makes of the configuration, where it is a step.
@@ -58,7 +45,7 @@ pub record HasLast (timestamp : ℕ) (before : Configuration) (first_disks : Lis
   pub config : Configuration
   pub disks : List Seated
   pub from : steps_from timestamp None asked config disks ≡ Ok last
-  pub is_config : ((config ≡ before) × (one ≡ [])) ⊎ ((change : Change) × (mark ≡ Some change) × (config ≡ config_after before change) × (one ≡ step_of timestamp before first_disks change ∷ []))
+  pub is_config : ((config ≡ before) × (one ≡ []) × ((change : Change) → mark ≡ Some change → is_step before change ≡ false)) ⊎ ((change : Change) × (mark ≡ Some change) × (config ≡ config_after before change) × (one ≡ step_of timestamp before first_disks change ∷ []))
 
 module _ (timestamp : ℕ) (config : Configuration) (disks : List Seated) (asked : List Change) where
   none_first : (one last : List Step) → steps_from timestamp None [] config disks ≡ Ok one → steps_from timestamp None asked config disks ≡ Ok (one ++ last)
@@ -69,7 +56,7 @@ module _ (timestamp : ℕ) (config : Configuration) (disks : List Seated) (asked
         config = config;
         disks = disks;
         from = subst (λ (all : List Step). steps_from timestamp None asked config disks ≡ Ok (all ++ last)) (sym none) both;
-        is_config = inl (refl, sym none);
+        is_config = inl (refl, sym none, λ change none_marked. absurd cc);
       }
 
   module _ (change : Change) (one last : List Step) where
@@ -92,24 +79,30 @@ module _ (timestamp : ℕ) (config : Configuration) (disks : List Seated) (asked
           is_config = inr (change, refl, refl, sym own);
         }
 
-    by_step : (is : Bool)
+    by_step : (is : Bool) → is_step config change ≡ is
         → ◌≡◌ {A = Result (List Step) Refusal} (if is then with_step (step_of timestamp config disks change) (Ok []) else Ok []) (Ok one)
         → ◌≡◌ {A = Result (List Step) Refusal} (if is then with_step (step_of timestamp config disks change)
         (steps_from timestamp None asked (step_of timestamp config disks change).config (map levelled (step_of timestamp config disks change).disks))
         else steps_from timestamp None asked config disks) (Ok (one ++ last))
         → HasLast timestamp config disks (Some change) asked one last
-    by_step true first both =
+    by_step true stepped_is first both =
         stepped (steps_from timestamp None asked (step_of timestamp config disks change).config (map levelled (step_of timestamp config disks change).disks)) refl first both
-    by_step false first both =
+    by_step false unstepped first both =
         let none : ◌≡◌ {A = List Step} [] one = cc in
         record {
           config = config;
           disks = disks;
           from = subst (λ (all : List Step). steps_from timestamp None asked config disks ≡ Ok (all ++ last)) (sym none) both;
-          is_config = inl (refl, sym none);
+          is_config = inl (refl, sym none, λ other same. only_one other (some_change other same) unstepped);
         }
+      where
+        some_change : (other : Change) → Some change ≡ Some other → change ≡ other
+        some_change other e = cc
 
-    by_refusal : (refusal : Option Refusal) (is : Bool)
+        only_one : (other : Change) → change ≡ other → is_step config change ≡ false → is_step config other ≡ false
+        only_one other e is = ap (is_step config) (sym e) ∙ is
+
+    by_refusal : (refusal : Option Refusal) (is : Bool) → is_step config change ≡ is
         → ◌≡◌ {A = Result (List Step) Refusal} (elim refusal [ Some one ↦ Err one | None ↦ if is then with_step (step_of timestamp config disks change) (Ok []) else Ok [] ]) (Ok one)
         → ◌≡◌ {A = Result (List Step) Refusal} (elim refusal [
           | Some one ↦ Err one
@@ -118,13 +111,13 @@ module _ (timestamp : ℕ) (config : Configuration) (disks : List Seated) (asked
               else steps_from timestamp None asked config disks
         ]) (Ok (one ++ last))
         → HasLast timestamp config disks (Some change) asked one last
-    by_refusal (Some refusal) is first both = absurd cc
-    by_refusal None is first both = by_step is first both
+    by_refusal (Some refusal) is is_so first both = absurd cc
+    by_refusal None is is_so first both = by_step is is_so first both
 
   pub has_last : (mark : Option Change) (one last : List Step) → steps_from timestamp None (option_to_list mark) config disks ≡ Ok one
       → steps_from timestamp None (option_to_list mark ++ asked) config disks ≡ Ok (one ++ last) → HasLast timestamp config disks mark asked one last
   has_last None one last first both = none_first one last first both
-  has_last (Some change) one last first both = by_refusal change one last (step_refusal timestamp None config disks change) (is_step config change) first both
+  has_last (Some change) one last first both = by_refusal change one last (step_refusal timestamp None config disks change) (is_step config change) refl first both
 
 -- ---- the steps of a group
 
@@ -174,6 +167,12 @@ module _ (found : GroupValue) (timestamp : ℕ) (mark : Option Change) (asked : 
   pub between_config : (between ≡ config_recovered found) ⊎ ((change : Change) × (mark ≡ Some change) × (between ≡ config_after (config_recovered found) change))
   unfolding between
   between_config = ⊎_elim (λ same. inl same.0) (λ made. inr (made.0, made.1, made.2)) (split).is_config
+
+  -- where it is the recovered one, what stands before the blocks is no step
+  pub between_steps : ((between ≡ config_recovered found) × ((change : Change) → mark ≡ Some change → is_step (config_recovered found) change ≡ false))
+      ⊎ ((change : Change) × (mark ≡ Some change) × (between ≡ config_after (config_recovered found) change))
+  unfolding between
+  between_steps = ⊎_elim (λ same. inl (same.0, same.2)) (λ made. inr (made.0, made.1, made.2)) (split).is_config
 
   between_last : slice_get (config_recovered found ∷ configs (behind found (option_to_list mark) timestamp first are_first)) (length (configs (behind found (option_to_list mark) timestamp first are_first))) ≡ Some between
   unfolding between

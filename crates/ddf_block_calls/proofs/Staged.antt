@@ -29,8 +29,8 @@ use Rattle.ddf_write_commands.specs.Holding.{holding}
 use Rattle.ddf_write_commands.specs.Planned.{IsPlanned}
 use Rattle.ddf_write_commands.specs.Worked.{IsLeftClosing}
 use Rattle.ddf_data_calls.specs.Calls.{KeepsBoth}
-use Rattle.ddf_block_calls.specs.Along.{ComesAlong, EndsAlong, HasCome, IsLeftAt, Stage}
-use Rattle.ddf_block_calls.specs.Along.Stage.{Closing, Done, Opening, Working}
+use Rattle.ddf_write_commands.specs.Along.{ComesAlong, EndsAlong, HasCome, IsLeftAt, Stage}
+use Rattle.ddf_write_commands.specs.Along.Stage.{Closing, Done, Opening, Working}
 use Rattle.ddf_block_calls.specs.Promised.{counted, with_allowed}
 use Rattle.ddf_block_calls.proofs.Both as both
 use Rattle.ddf_block_calls.proofs.Both.{IsCalled, IsSplit, promised_back}
@@ -38,7 +38,7 @@ use Rattle.ddf_block_calls.proofs.Accepted.{mark_of}
 use Rattle.ddf_block_calls.proofs.Carried.{Carrying}
 use Rattle.ddf_block_calls.proofs.Gone.{acked_goes, acked_over, goes_more, issued_goes, over_goes, steps_lose}
 use Rattle.ddf_block_calls.proofs.OneArray.{weaker_promised}
-use Rattle.ddf_block_calls.proofs.Split.{issued_parts}
+use Rattle.ddf_write_commands.proofs.Parts.{issued_parts}
 
 -- How a command's work is one that carries data: what it may give sectors, and what is sure once it is done.
 pub record IsCarried {D : Type 0} (old new : BayState D) (promises : Promises) (guid : List ℕ) (doing : Doing) (carrying : Carrying) (v : Volume) : Type 1 where

@@ -33,8 +33,8 @@ use Rattle.ddf_write_commands.specs.Planned.{Entry, IsPlanned, lacks_position}
 use Rattle.ddf_write_commands.specs.Write.{HasWrittenArray, Outcome, write_behind, write_refusals, write_request, writing}
 use Rattle.ddf_write_commands.specs.Write.Outcome.{NotRead, Short, Taken, Unfit}
 use Rattle.ddf_data_calls.specs.Calls.{AdmitsCall, KeepsBoth}
-use Rattle.ddf_block_calls.specs.Along.{ComesAlong, EndsAlong, Stage}
-use Rattle.ddf_block_calls.specs.Along.Stage.{Closing, Done, Opening, Working}
+use Rattle.ddf_write_commands.specs.Along.{ComesAlong, EndsAlong, Stage}
+use Rattle.ddf_write_commands.specs.Along.Stage.{Closing, Done, Opening, Working}
 use Rattle.ddf_block_calls.specs.Promised.{IsWrittenOf, MayBeWritten, interrupted, written}
 use Rattle.ddf_block_calls.proofs.Accepted.{HasView, accepted_plan, has_view, named_is, three_pass}
 use Rattle.ddf_block_calls.proofs.Both as both

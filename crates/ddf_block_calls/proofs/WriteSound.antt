@@ -16,7 +16,7 @@ use Rattle.ddf_write.specs.Writing.{HasWritten, IsLeftByWrite}
 use Rattle.ddf_data.specs.Allowed.{Allowed}
 use Rattle.ddf_data.specs.Fewer.{AreFewerParts, ArePlaces, IsAlikePlace, IsFewer, IsFewerPlace, LeavesParity}
 use Rattle.ddf_data.specs.Kept.{IsKeptData}
-use Rattle.ddf_data.proofs.Lessened.{kept_less}
+use Rattle.ddf_data.proofs.Lessened.{sound_less}
 use Rattle.ddf_write_commands.proofs.Marked.{cleared, cleared_place, with_mark}
 
 -- ---- an array without the rows that were rebuilt
@@ -60,8 +60,8 @@ marked_redundant : (is_absent : ℕ → ℕ → Bool) (w : Volume) → IsVolume 
     → IsRedundant (with_mark w) image
 marked_redundant is_absent w known within mark image allowed kept =
     let known_unmarked : IsVolume (unmarked w) = record { array_is = known.array_is; has_sizes = known.has_sizes; are_parts = known.are_parts } in
-    let less = kept_less is_absent is_absent w (unmarked w) image allowed known_unmarked (is_fewer w mark) (leaves_parity is_absent w) kept in
-    let is = less.sound.redundant refl within in
+    let less = sound_less is_absent is_absent w (unmarked w) image allowed known_unmarked (is_fewer w mark) (leaves_parity is_absent w) kept in
+    let is = less.redundant refl within in
     record { agree = is.agree; sum_to_zero = is.sum_to_zero }
 
 -- An unmarked array that keeps what is promised of it is redundant, also once it is marked.

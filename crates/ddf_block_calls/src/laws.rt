@@ -1,33 +1,24 @@
 // Laws of calls on the blocks of arrays and of the data of groups: functions that do nothing, whose contracts are the laws.
-ghost use Rattle.std.specs.Prelude.{◌≡◌, ◌<◌, ◌≤◌, ◌^◌, ◌++◌, ℕ, Bool, List, Option, Result, Ok, false, length, map, true};
-ghost use Rattle.ddf_bay.specs.Moments.{StopsLeave};
+ghost use Rattle.std.specs.Prelude.{◌≡◌, ◌<◌, ◌^◌, ◌++◌, ℕ, List, Option, Result, Ok, true};
 ghost use Rattle.ddf_bay.specs.ReadsOnly.{ReadsOnly};
-ghost use Rattle.ddf_bay.specs.Sectors.{Image, IsLeft};
+ghost use Rattle.ddf_bay.specs.Sectors.{Image};
 ghost use Rattle.ddf_array.specs.Sound.{AreSectors};
 ghost use Rattle.ddf_keeping.specs.Grouped.{Promises};
 ghost use Rattle.ddf_history.specs.Groups.{groups};
 ghost use Rattle.ddf_history.specs.Issued.{Past};
 ghost use Rattle.ddf_assembly.specs.Group.{GroupValue, group_of};
-ghost use Rattle.ddf_assembly.specs.Ready.{ReadyValue};
-ghost use Rattle.ddf_assembly.specs.Seated.{seated};
-ghost use Rattle.ddf_stops.specs.Going.{Ends, Goes, KeepsHistory, changes_in};
+ghost use Rattle.ddf_stops.specs.Going.{Ends, Goes, changes_in};
 ghost use Rattle.ddf_stops.specs.Kept.{AreAllKept, is_read};
-ghost use Rattle.ddf_stops.specs.Steps.{IsCommit};
-ghost use Rattle.ddf_data_stops.specs.Course.{IsUnderWay};
-ghost use Rattle.ddf_data_stops.specs.Floors.{AreFloored, StaySettled, WritesBelow, floor_in};
 ghost use Rattle.ddf_promise.specs.Carried.{CarriesData, IsAllData, Stays};
 ghost use Rattle.ddf_answer.specs.declared.failure.Failure.{Failure};
 ghost use Rattle.ddf_answer.specs.Call.{work_of};
 ghost use Rattle.ddf_group_commands.specs.Change.{is_done};
-ghost use Rattle.ddf_group_commands.specs.Writing.{IsLeftWriting};
 ghost use Rattle.ddf_write_commands.specs.Payload.{input_of};
 ghost use Rattle.ddf_write_commands.specs.Planned.{IsPlanned};
-ghost use Rattle.ddf_write_commands.specs.Resync.{HasResyncedArray, resync_request, resyncing};
-ghost use Rattle.ddf_write_commands.specs.Write.{HasWrittenArray, Outcome, write_request, writing};
+ghost use Rattle.ddf_write_commands.specs.Resync.{HasResyncedArray, resync_request};
+ghost use Rattle.ddf_write_commands.specs.Write.{HasWrittenArray, Outcome, write_request};
 ghost use Rattle.ddf_write_commands.specs.Write.Outcome.{Taken};
-ghost use Rattle.ddf_write_commands.specs.Worked.{IsLeftClosing, IsLeftWorking};
 ghost use Rattle.ddf_data_calls.specs.Calls.{AdmitsCall, AreBoth, KeepsBoth};
-ghost use Rattle.ddf_block_calls.specs.Along.{ComesAlong};
 ghost use Rattle.ddf_block_calls.specs.Promised.{IsWrittenOf, MayBeWritten, counted};
 
 use ddf_bay::Bay;
@@ -42,7 +33,6 @@ pub fn a_resync_keeps_its_history_and_its_data<B: Bay>()
         → (called : HasResyncedArray (work_of B.tells (B.disks old) (B.disks new)) named timestamp word outcome)
         → (found : GroupValue) → group_of called.taken.newest named ≡ Ok found → found.config.group ≡ group → AdmitsCall group past floor promises (B.disks old) called.taken.left found
         → (plan : IsPlanned found timestamp word (resync_request word))
-        → ComesAlong group resyncing (work_of B.tells (B.disks old) (B.disks new)) past called.taken.left found plan (is_done outcome)
         → KeepsBoth group (B.disks old) (B.disks new) floor (Goes group past (is_read called.taken.left) found (changes_in found (plan.first ++ plan.last)))
         (Ends group past (is_read called.taken.left) found (changes_in found (plan.first ++ plan.last)) (is_done outcome)) (Stays promises) (Stays promises) }
 
@@ -52,7 +42,6 @@ pub fn a_resync_keeps_its_history_and_its_data<B: Bay>()
         → (called : HasResyncedArray (work_of B.tells (B.disks old) (B.disks new)) named timestamp word outcome)
         → (found : GroupValue) → group_of called.taken.newest named ≡ Ok found → found.config.group ≡ group → AdmitsCall group past floor promises (B.disks old) called.taken.left found
         → (plan : IsPlanned found timestamp word (resync_request word))
-        → ComesAlong group resyncing (work_of B.tells (B.disks old) (B.disks new)) past called.taken.left found plan (is_done outcome)
         → ((t : ℕ) (image : Image) → (B.disks new).left_since t image → AreSectors image)
         → CarriesData group (B.disks old) (B.disks new) floor promises (Goes group past (is_read called.taken.left) found (changes_in found (plan.first ++ plan.last)))
         (Ends group past (is_read called.taken.left) found (changes_in found (plan.first ++ plan.last)) (is_done outcome)) Stays Stays }
@@ -66,7 +55,7 @@ pub fn a_resynced_array_counts_with_what_it_holds<B: Bay>()
         → (called : HasResyncedArray (work_of B.tells (B.disks old) (B.disks new)) named timestamp word (Ok sequence))
         → (found : GroupValue) → group_of called.taken.newest named ≡ Ok found → found.config.group ≡ group → AdmitsCall group past floor promises (B.disks old) called.taken.left found
         → (plan : IsPlanned found timestamp word (resync_request word))
-        → ComesAlong group resyncing (work_of B.tells (B.disks old) (B.disks new)) past called.taken.left found plan true → (B.disks new).tells_left
+        → (B.disks new).tells_left
         → AreBoth group floor (B.disks new) (Ends group past (is_read called.taken.left) found (changes_in found (plan.first ++ plan.last)) true)
         (λ promised. promised ≡ counted plan.entry.0 plan.volume (B.disks new).held promises) }
 {}
@@ -81,7 +70,6 @@ pub fn a_write_keeps_its_history_and_its_data<B: Bay, S: Source>()
         → (called : HasWrittenArray (work_of B.tells (B.disks old) (B.disks new)) (input_of S.tells (S.input source_old) (S.input source_new)) named timestamp word start count (Taken sectors worked))
         → (found : GroupValue) → group_of called.taken.newest named ≡ Ok found → found.config.group ≡ group → AdmitsCall group past floor promises (B.disks old) called.taken.left found
         → (plan : IsPlanned found timestamp word (write_request word start count))
-        → ComesAlong group (writing start sectors) (work_of B.tells (B.disks old) (B.disks new)) past called.taken.left found plan (is_done worked)
         → KeepsBoth group (B.disks old) (B.disks new) floor (Goes group past (is_read called.taken.left) found (changes_in found (plan.first ++ plan.last)))
         (Ends group past (is_read called.taken.left) found (changes_in found (plan.first ++ plan.last)) (is_done worked))
         (MayBeWritten plan.entry.0 start sectors promises) (IsWrittenOf (is_done worked) plan.entry.0 start sectors promises) }
@@ -92,7 +80,6 @@ pub fn a_write_keeps_its_history_and_its_data<B: Bay, S: Source>()
         → (called : HasWrittenArray (work_of B.tells (B.disks old) (B.disks new)) (input_of S.tells (S.input source_old) (S.input source_new)) named timestamp word start count (Taken sectors worked))
         → (found : GroupValue) → group_of called.taken.newest named ≡ Ok found → found.config.group ≡ group → AdmitsCall group past floor promises (B.disks old) called.taken.left found
         → (plan : IsPlanned found timestamp word (write_request word start count))
-        → ComesAlong group (writing start sectors) (work_of B.tells (B.disks old) (B.disks new)) past called.taken.left found plan (is_done worked)
         → ((t : ℕ) (image : Image) → (B.disks new).left_since t image → AreSectors image)
         → CarriesData group (B.disks old) (B.disks new) floor promises (Goes group past (is_read called.taken.left) found (changes_in found (plan.first ++ plan.last)))
         (Ends group past (is_read called.taken.left) found (changes_in found (plan.first ++ plan.last)) (is_done worked))
@@ -111,59 +98,4 @@ pub fn a_call_that_only_reads_keeps_its_history_and_its_data<B: Bay>()
     ensures { (group : List ℕ) (past : Past (groups group)) (floor : ℕ → ℕ) (promises : Promises) (old new : B) → ReadsOnly (B.disks old) (B.disks new)
         → AreAllKept group past (B.disks old) → IsAllData group past floor (B.disks old) promises
         → KeepsBoth group (B.disks old) (B.disks new) floor (λ now. now ≡ past) (λ now. now ≡ past) (Stays promises) (Stays promises) }
-{}
-
-/// The history of a call of `resync` comes as far as the call, by what the calls promise that it is made of: those that write its first steps, those on blocks, and the one
-/// that writes its last step. One of these may fail, and the others aren't made then.
-pub fn a_resync_comes_along_with_its_history<B: Bay>()
-    ensures opening_fails { (old new : B) (group : List ℕ) (past : Past (groups group)) (left : List Bool) (found : GroupValue) (timestamp : ℕ) (word : List ℕ) (plan : IsPlanned found timestamp word (resync_request word))
-        → KeepsHistory group (B.disks old) (B.disks new) past left found (changes_in found plan.first) false → StopsLeave (B.disks old) (B.disks new) (IsLeftWriting (B.disks old) plan.first)
-        → ComesAlong group resyncing (work_of B.tells (B.disks old) (B.disks new)) past left found plan false }
-    ensures work_fails { (old opened new : B) (group : List ℕ) (past : Past (groups group)) (left : List Bool) (found : GroupValue) (timestamp : ℕ) (word : List ℕ) (plan : IsPlanned found timestamp word (resync_request word))
-        → (now_found : GroupValue) (ready : ReadyValue) → length ready.steps ≤ 1 → map (λ one. one.step) ready.steps ≡ plan.last
-        → IsUnderWay group (B.disks old) (B.disks opened) past left found (changes_in found (plan.first ++ plan.last)) now_found ready
-        → (first_found : GroupValue) (first_ready : ReadyValue) → IsUnderWay group (B.disks old) (B.disks opened) past left found (changes_in found plan.first) first_found first_ready
-        → StopsLeave (B.disks old) (B.disks opened) (IsLeftWriting (B.disks old) plan.first) → AreFloored (seated now_found)
-        → WritesBelow (floor_in now_found.seats) (B.disks opened) (B.disks new) → StaySettled (B.disks opened) (B.disks new)
-        → StopsLeave (B.disks opened) (B.disks new) (IsLeftWorking resyncing (work_of B.tells (B.disks old) (B.disks new)) found plan.first plan.volume)
-        → ((image : Image) → IsLeft (B.disks opened).may_hold image → IsLeftWorking resyncing (work_of B.tells (B.disks old) (B.disks new)) found plan.first plan.volume image)
-        → ComesAlong group resyncing (work_of B.tells (B.disks old) (B.disks new)) past left found plan false }
-    ensures closes { (old opened worked new : B) (group : List ℕ) (past : Past (groups group)) (left : List Bool) (found : GroupValue) (timestamp : ℕ) (word : List ℕ) (plan : IsPlanned found timestamp word (resync_request word))
-        → (now_found : GroupValue) (ready : ReadyValue) → length ready.steps ≤ 1 → map (λ one. one.step) ready.steps ≡ plan.last
-        → IsUnderWay group (B.disks old) (B.disks opened) past left found (changes_in found (plan.first ++ plan.last)) now_found ready
-        → (first_found : GroupValue) (first_ready : ReadyValue) → IsUnderWay group (B.disks old) (B.disks opened) past left found (changes_in found plan.first) first_found first_ready
-        → StopsLeave (B.disks old) (B.disks opened) (IsLeftWriting (B.disks old) plan.first) → AreFloored (seated now_found)
-        → WritesBelow (floor_in now_found.seats) (B.disks opened) (B.disks worked) → StaySettled (B.disks opened) (B.disks worked)
-        → StopsLeave (B.disks opened) (B.disks worked) (IsLeftWorking resyncing (work_of B.tells (B.disks old) (B.disks new)) found plan.first plan.volume)
-        → (done : Bool) → IsCommit (B.disks worked) (B.disks new) ready done
-        → StopsLeave (B.disks worked) (B.disks new) (IsLeftClosing resyncing (work_of B.tells (B.disks old) (B.disks new)) found plan.first plan.last plan.volume)
-        → ((image : Image) → IsLeft (B.disks worked).may_hold image → IsLeftClosing resyncing (work_of B.tells (B.disks old) (B.disks new)) found plan.first plan.last plan.volume image)
-        → ComesAlong group resyncing (work_of B.tells (B.disks old) (B.disks new)) past left found plan done }
-{}
-
-/// So does that of a call of `write`.
-pub fn a_write_comes_along_with_its_history<B: Bay>()
-    ensures opening_fails { (old new : B) (group : List ℕ) (past : Past (groups group)) (left : List Bool) (found : GroupValue) (timestamp : ℕ) (word : List ℕ) (start count : ℕ) (sectors : List (List ℕ)) (plan : IsPlanned found timestamp word (write_request word start count))
-        → KeepsHistory group (B.disks old) (B.disks new) past left found (changes_in found plan.first) false → StopsLeave (B.disks old) (B.disks new) (IsLeftWriting (B.disks old) plan.first)
-        → ComesAlong group (writing start sectors) (work_of B.tells (B.disks old) (B.disks new)) past left found plan false }
-    ensures work_fails { (old opened new : B) (group : List ℕ) (past : Past (groups group)) (left : List Bool) (found : GroupValue) (timestamp : ℕ) (word : List ℕ) (start count : ℕ) (sectors : List (List ℕ)) (plan : IsPlanned found timestamp word (write_request word start count))
-        → (now_found : GroupValue) (ready : ReadyValue) → length ready.steps ≤ 1 → map (λ one. one.step) ready.steps ≡ plan.last
-        → IsUnderWay group (B.disks old) (B.disks opened) past left found (changes_in found (plan.first ++ plan.last)) now_found ready
-        → (first_found : GroupValue) (first_ready : ReadyValue) → IsUnderWay group (B.disks old) (B.disks opened) past left found (changes_in found plan.first) first_found first_ready
-        → StopsLeave (B.disks old) (B.disks opened) (IsLeftWriting (B.disks old) plan.first) → AreFloored (seated now_found)
-        → WritesBelow (floor_in now_found.seats) (B.disks opened) (B.disks new) → StaySettled (B.disks opened) (B.disks new)
-        → StopsLeave (B.disks opened) (B.disks new) (IsLeftWorking (writing start sectors) (work_of B.tells (B.disks old) (B.disks new)) found plan.first plan.volume)
-        → ((image : Image) → IsLeft (B.disks opened).may_hold image → IsLeftWorking (writing start sectors) (work_of B.tells (B.disks old) (B.disks new)) found plan.first plan.volume image)
-        → ComesAlong group (writing start sectors) (work_of B.tells (B.disks old) (B.disks new)) past left found plan false }
-    ensures closes { (old opened worked new : B) (group : List ℕ) (past : Past (groups group)) (left : List Bool) (found : GroupValue) (timestamp : ℕ) (word : List ℕ) (start count : ℕ) (sectors : List (List ℕ)) (plan : IsPlanned found timestamp word (write_request word start count))
-        → (now_found : GroupValue) (ready : ReadyValue) → length ready.steps ≤ 1 → map (λ one. one.step) ready.steps ≡ plan.last
-        → IsUnderWay group (B.disks old) (B.disks opened) past left found (changes_in found (plan.first ++ plan.last)) now_found ready
-        → (first_found : GroupValue) (first_ready : ReadyValue) → IsUnderWay group (B.disks old) (B.disks opened) past left found (changes_in found plan.first) first_found first_ready
-        → StopsLeave (B.disks old) (B.disks opened) (IsLeftWriting (B.disks old) plan.first) → AreFloored (seated now_found)
-        → WritesBelow (floor_in now_found.seats) (B.disks opened) (B.disks worked) → StaySettled (B.disks opened) (B.disks worked)
-        → StopsLeave (B.disks opened) (B.disks worked) (IsLeftWorking (writing start sectors) (work_of B.tells (B.disks old) (B.disks new)) found plan.first plan.volume)
-        → (done : Bool) → IsCommit (B.disks worked) (B.disks new) ready done
-        → StopsLeave (B.disks worked) (B.disks new) (IsLeftClosing (writing start sectors) (work_of B.tells (B.disks old) (B.disks new)) found plan.first plan.last plan.volume)
-        → ((image : Image) → IsLeft (B.disks worked).may_hold image → IsLeftClosing (writing start sectors) (work_of B.tells (B.disks old) (B.disks new)) found plan.first plan.last plan.volume image)
-        → ComesAlong group (writing start sectors) (work_of B.tells (B.disks old) (B.disks new)) past left found plan done }
 {}

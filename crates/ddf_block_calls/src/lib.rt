@@ -4,8 +4,7 @@
 mod laws;
 
 pub use laws::{
-    a_call_that_only_reads_keeps_its_history_and_its_data, a_resync_comes_along_with_its_history,
-    a_resync_keeps_its_history_and_its_data, a_resynced_array_counts_with_what_it_holds,
-    a_write_comes_along_with_its_history, a_write_keeps_its_history_and_its_data,
+    a_call_that_only_reads_keeps_its_history_and_its_data, a_resync_keeps_its_history_and_its_data,
+    a_resynced_array_counts_with_what_it_holds, a_write_keeps_its_history_and_its_data,
     a_write_without_its_bytes_only_reads,
 };

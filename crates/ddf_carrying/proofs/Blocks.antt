@@ -24,6 +24,7 @@ use Rattle.ddf_rebuild.specs.Target.{IsTargetCell}
 use Rattle.ddf_rebuild.proofs.Kept as rebuilds
 use Rattle.ddf_data.specs.Allowed.{Allowed, once_consistent, once_written, while_written}
 use Rattle.ddf_data.specs.Changing.{IsWritable}
+use Rattle.ddf_data.specs.Rows.{GoesOnBehind}
 use Rattle.ddf_data.proofs.Consistent.{whole_consistent}
 use Rattle.ddf_assembly.specs.Group.{GroupValue}
 use Rattle.ddf_history.specs.Groups.{groups}
@@ -66,11 +67,11 @@ module _ (group : List ℕ) {D : Type 0} (past : Past (groups group)) (disks : B
       view_resync group floor small past found.config guid v listed known before.0 image promises allowed (all before.0 before.1) alone promised are disks.held (all disks.held end.is_left) writable
       (λ s l. ⊎_elim inl (λ given. inr (told_by v tells disks.held s l (image s l) told given)) (before.2 s l))
 
-  pub while_rebuilding : (element position from to : ℕ) (image : Image) → AreSectors image → IsLeftBut (IsTargetCell v element position from to) disks.may_hold image
+  pub while_rebuilding : (element position from to : ℕ) → GoesOnBehind v element position from → (image : Image) → AreSectors image → IsLeftBut (IsTargetCell v element position from to) disks.may_hold image
       → KeepsData group past floor image (with_promise promises guid (Some allowed))
-  while_rebuilding element position from to image are left =
+  while_rebuilding element position from to behind image are left =
       let before = rebuilds.image_before v element position from to disks.may_hold disks.held image end.is_left left in
-      view_rebuild group floor small past found.config guid v listed known before.0 image promises allowed (all before.0 before.1) alone promised are element position from to before.2
+      view_rebuild group floor small past found.config guid v listed known before.0 image promises allowed (all before.0 before.1) alone promised are element position from to behind before.2
 
 -- once nothing is pending on the array's slots, each image that is left is the same to it
 module _ (group : List ℕ) {D : Type 0} (past : Past (groups group)) (disks : BayState D) (config : Configuration) (floor : ℕ → ℕ) (small : (slot : ℕ) → floor slot < 2 ^ 64)

@@ -24,6 +24,7 @@ ghost use Rattle.ddf_resync.specs.Resyncing.{AddsResynced, IsAmongResynced, IsLe
 ghost use Rattle.ddf_rebuild.specs.Target.{IsTargetCell};
 ghost use Rattle.ddf_data.specs.Allowed.{Allowed, once_consistent, once_written, while_written};
 ghost use Rattle.ddf_data.specs.Changing.{IsWritable};
+ghost use Rattle.ddf_data.specs.Rows.{GoesOnBehind};
 ghost use Rattle.ddf_assembly.specs.Committed.{synced};
 ghost use Rattle.ddf_assembly.specs.Group.{GroupValue, floor_of};
 ghost use Rattle.ddf_assembly.specs.Ready.{ReadyValue};
@@ -109,7 +110,7 @@ pub fn writing_blocks_keeps_the_data<B: Bay>(bay: &B)
         → HasWritten volume start sectors ⊥ image → KeepsData group past floor image (with_promise promises guid (Some (once_written allowed start sectors))) }
 {}
 
-/// So does whatever a stop leaves while it is resynced, or rows of it are rebuilt.
+/// So does whatever a stop leaves while it is resynced, or rows of it are rebuilt behind those that count.
 pub fn setting_cells_keeps_the_data<B: Bay>(bay: &B)
     ensures resync { (group : List ℕ) (past : Past (groups group)) (floor : ℕ → ℕ) (found : GroupValue) → ((slot : ℕ) → floor slot < 2 ^ 64)
         → IsAtEnd group past (B.disks bay.now) found → AreOnSlots group past floor found.seats
@@ -121,7 +122,8 @@ pub fn setting_cells_keeps_the_data<B: Bay>(bay: &B)
         → IsAtEnd group past (B.disks bay.now) found → AreOnSlots group past floor found.seats
         → (guid : List ℕ) (volume : Volume) (promises : Promises) (allowed : Allowed) → view_of found.config guid found.seats ≡ Ok volume → IsVolume volume
         → promises guid ≡ Some allowed → IsAllData group past floor (B.disks bay.now) promises
-        → (element position from to : ℕ) (image : Image) → AreSectors image → IsLeftBut (IsTargetCell volume element position from to) (B.disks bay.now).may_hold image
+        → (element position from to : ℕ) → GoesOnBehind volume element position from
+        → (image : Image) → AreSectors image → IsLeftBut (IsTargetCell volume element position from to) (B.disks bay.now).may_hold image
         → KeepsData group past floor image (with_promise promises guid (Some allowed)) }
 {}
 

@@ -16,7 +16,7 @@ use Rattle.ddf_assembly.specs.Group.{GroupValue, group_of}
 use Rattle.ddf_assembly.specs.Slots.{IsLooked, newest_from}
 use Rattle.ddf_words.specs.declared.command.Asked.{Asked}
 use Rattle.ddf_words.specs.declared.command.Command.{Command}
-use Rattle.ddf_words.specs.declared.command.Command.TheVariants.{Assemble, Change, Examine, Label, Read, Resync, Scrub, Show, Write}
+use Rattle.ddf_words.specs.declared.command.Command.TheVariants.{Assemble, Change, Examine, Label, Read, Rebuild, Resync, Scrub, Show, Write}
 use Rattle.ddf_words.specs.declared.traits.Traits.{Traits}
 use Rattle.ddf_words.specs.declared.words.WordFault.{WordFault}
 use Rattle.ddf_words.specs.declared.words.WordFault.TheVariants as words
@@ -40,6 +40,9 @@ use Rattle.ddf_write_commands.specs.Doing.{Doing}
 use Rattle.ddf_write_commands.specs.Payload.{input_of}
 use Rattle.ddf_write_commands.specs.Resync.{IsResyncDone, resync_request, resyncing}
 use Rattle.ddf_write_commands.specs.Worked.{IsWorkedIn}
+use Rattle.ddf_write_commands.proofs.Since.{none_along}
+use Rattle.ddf_rebuild_command.specs.Asked.{rebuild_request}
+use Rattle.ddf_rebuild_command.specs.Rebuilt.{IsRebuildDone, IsRebuiltIn}
 use Rattle.ddf_write_commands.specs.Write.{IsWriteDone, write_request, writing}
 use Rattle.ddf_write_commands.specs.Write.Outcome.{Unfit}
 use Rattle.ddf_command.specs.Run.{IsCommandDone, is_status}
@@ -162,6 +165,12 @@ worked_nothing : {D : Type 0} (doing : Doing) (old : BayState D) (tells : Type 0
 worked_nothing doing old tells timestamp word request (Ok found) = reads_start old
 worked_nothing doing old tells timestamp word request (Err fault) = (inr refl, reads_start old)
 
+-- and no position was filled
+none_rebuilt : {D : Type 0} (old : BayState D) (tells : Type 0) (timestamp : ℕ) (word : List ℕ) (meaning : Result GroupValue Assembly)
+    → IsRebuiltIn (work_of tells old old) timestamp word meaning (Err Memory)
+none_rebuilt old tells timestamp word (Ok found) = reads_start old
+none_rebuilt old tells timestamp word (Err fault) = (inr refl, reads_start old)
+
 module _ {D : Type 0} (old : BayState D) (tells told : Type 0) (before : SinkState) (named : Option (List ℕ)) (timestamp : ℕ) (word : List ℕ) where
   resynced_nothing : IsResyncDone (work_of tells old old) named timestamp word (answer_of told before before 5)
   resynced_nothing =
@@ -172,6 +181,21 @@ module _ {D : Type 0} (old : BayState D) (tells told : Type 0) (before : SinkSta
           taken = taken;
           gives = worked_nothing resyncing old tells timestamp word (resync_request word) (group_of taken.newest named);
           leaves = λ tells found is steps asked. stops_start old _;
+          along = λ told. none_along resyncing (work_of tells old old) named timestamp word (resync_request word) (reads_start old) taken.left (group_of taken.newest named);
+        };
+        ends = (refl, λ told. refl);
+      }
+
+  rebuilt_nothing : IsRebuildDone (work_of tells old old) named timestamp word (answer_of told before before 5)
+  rebuilt_nothing =
+      let taken = taken_nothing old tells named timestamp (rebuild_request word) in
+      record {
+        outcome = Err Memory;
+        has = record {
+          taken = taken;
+          gives = none_rebuilt old tells timestamp word (group_of taken.newest named);
+          leaves = λ tells found is steps asked. stops_start old _;
+          along = λ tells found is steps asked group same past kept admitted. inl (refl, reads_start old);
         };
         ends = (refl, λ told. refl);
       }
@@ -186,6 +210,7 @@ module _ {D : Type 0} (old : BayState D) (tells told : Type 0) (before : SinkSta
           taken = taken;
           gives = (refl, reads_start old, worked_nothing (writing start []) old tells timestamp word request (group_of taken.newest named));
           leaves = λ tells. tt;
+          along = λ tells. tt;
         };
         ends = (refl, λ told. refl);
       }
@@ -217,5 +242,6 @@ done_nothing old tells told before reads input stamp group (Read name start coun
 }
 done_nothing old tells told before reads input stamp group (Scrub name) = scrubbed_nothing old tells told before group name (none_looked old)
 done_nothing old tells told before reads input stamp group (Resync name) = resynced_nothing old tells told before group (timestamp_of stamp) name
+done_nothing old tells told before reads input stamp group (Rebuild name) = rebuilt_nothing old tells told before group (timestamp_of stamp) name
 done_nothing old tells told before reads input stamp group (Write name start count) = wrote_nothing old tells told before group (timestamp_of stamp) name reads input start count
 done_nothing old tells told before reads input stamp group (Change wish) = changed_nothing old tells told before group (timestamp_of stamp) (none_looked old) (request_for (length old.sizes) stamp wish)

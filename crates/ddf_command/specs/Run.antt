@@ -5,7 +5,7 @@ use Rattle.ddf_bytes.specs.declared.stamp.Stamp.{Stamp}
 use Rattle.ddf_bytes.specs.Stamps.{timestamp_of}
 use Rattle.ddf_words.specs.declared.command.Asked.{Asked}
 use Rattle.ddf_words.specs.declared.command.Command.{Command}
-use Rattle.ddf_words.specs.declared.command.Command.TheVariants.{Assemble, Change, Examine, Label, Read, Resync, Scrub, Show, Write}
+use Rattle.ddf_words.specs.declared.command.Command.TheVariants.{Assemble, Change, Examine, Label, Read, Rebuild, Resync, Scrub, Show, Write}
 use Rattle.ddf_words.specs.Traits.{traits_of}
 use Rattle.ddf_words.specs.Words.{Word, IsAsked}
 use Rattle.ddf_answer.specs.Call.{Answer, Work}
@@ -20,6 +20,7 @@ use Rattle.ddf_data_commands.specs.Scrub.{IsScrubDone}
 use Rattle.ddf_write_commands.specs.Payload.{Input}
 use Rattle.ddf_write_commands.specs.Resync.{IsResyncDone}
 use Rattle.ddf_write_commands.specs.Write.{IsWriteDone}
+use Rattle.ddf_rebuild_command.specs.Rebuilt.{IsRebuildDone}
 
 -- The words ask for no command that may write to the disks.
 abbrev pub AsksForNoWrite : List Word → Type 0
@@ -44,6 +45,7 @@ IsCommandDone work input stamp group Show answer = IsShown work group answer
 IsCommandDone work input stamp group (Read name start count) answer = IsReadDone work group name start count answer
 IsCommandDone work input stamp group (Scrub name) answer = IsScrubDone work group name answer
 IsCommandDone work input stamp group (Resync name) answer = IsResyncDone work group (timestamp_of stamp) name answer
+IsCommandDone work input stamp group (Rebuild name) answer = IsRebuildDone work group (timestamp_of stamp) name answer
 IsCommandDone work input stamp group (Write name start count) answer = IsWriteDone work input group (timestamp_of stamp) name start count answer
 IsCommandDone work input stamp group (Change wish) answer = IsChangeDone work group (timestamp_of stamp) (request_for (length work.old.sizes) stamp wish) answer
 

@@ -24,6 +24,7 @@ use ddf_bytes::{Guid, Sink, Source, Stamp};
 use ddf_data_commands::{read, scrub_disks};
 use ddf_disk_commands::{examine, label};
 use ddf_group_commands::{assemble_disks, change, show};
+use ddf_rebuild_command::rebuild;
 use ddf_words::{Command, WordFault, asked};
 use ddf_write_commands::{resync_disks, write};
 use std::alloc::Global;
@@ -100,6 +101,7 @@ fn obey<B: Bay, S: Source, K: Sink>(
         }
         Command::Scrub { name } => scrub_disks(alloc, group, name.items(), bay, sink),
         Command::Resync { name } => resync_disks(alloc, group, name.items(), bay, sink, stamp),
+        Command::Rebuild { name } => rebuild(alloc, group, name.items(), bay, sink, stamp),
         Command::Write { name, start, count } => write(
             alloc,
             group,

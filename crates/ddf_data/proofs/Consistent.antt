@@ -21,6 +21,7 @@ use Rattle.ddf_cells.proofs.Whole.{whole_site}
 use Rattle.ddf_data.specs.Allowed.{Allowed, May, once_consistent}
 use Rattle.ddf_data.specs.Changing.{with_mark, HaveCells, IsConsistentNow, ValuesMay}
 use Rattle.ddf_data.specs.Kept.{IsKeptData}
+use Rattle.ddf_data.specs.Rows.{AreRowsKept}
 use Rattle.ddf_data.proofs.From.{HasCell, IsFrom, cell_of, source_at, source_from}
 use Rattle.ddf_data.proofs.Items.{is_there, none_away}
 
@@ -74,11 +75,12 @@ sound_now is_absent marked v image are is = record {
 }
 
 -- the mark is cleared
-pub kept_unmarked : (is_absent : ℕ → ℕ → Bool) (v : Volume) (image : Image) (allowed : Allowed) → AreSectors image → IsConsistentNow is_absent v image → ValuesMay v image allowed
-    → IsKeptData is_absent (with_mark false v) image allowed
-kept_unmarked is_absent v image allowed are is may = record {
+pub kept_unmarked : (is_absent : ℕ → ℕ → Bool) (v : Volume) (image : Image) (allowed : Allowed) → AreSectors image → IsConsistentNow is_absent v image → AreRowsKept is_absent (with_mark false v) image
+    → ValuesMay v image allowed → IsKeptData is_absent (with_mark false v) image allowed
+kept_unmarked is_absent v image allowed are is rows may = record {
   sound = sound_now is_absent false v image are is;
   reads = λ block k source at. may block (given image source) (is.redundant.agree block k source at);
+  rows = rows;
 }
 
 -- a redundant array of which no element with parity lacks a position
@@ -98,12 +100,13 @@ whole_consistent is_absent v image whole is = record { redundant = is; parity = 
 
 -- the bytes count that the blocks have
 pub kept_consistent : (is_absent : ℕ → ℕ → Bool) (marked : Bool) (v : Volume) (image : Image) → AreSectors image → IsConsistentNow is_absent v image
-    → IsKeptData is_absent (with_mark marked v) image (once_consistent v image)
-kept_consistent is_absent marked v image are is = record {
+    → AreRowsKept is_absent (with_mark marked v) image → IsKeptData is_absent (with_mark marked v) image (once_consistent v image)
+kept_consistent is_absent marked v image are is rows = record {
   sound = sound_now is_absent marked v image are is;
   reads = λ block k source at.
       let there = source_at (with_mark marked v) block k source at in
       subst (λ (o : Option (List ℕ)). May (option_map (λ bytes. bytes ∷ []) o) (given image source)) (sym (is.redundant.agree block there.0 source there.1)) (0, refl);
+  rows = rows;
 }
 
 -- and they are bytes that the blocks might have

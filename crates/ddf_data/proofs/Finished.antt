@@ -1,10 +1,9 @@
 -- An array keeps what it keeps with a position in sync again.
-use Rattle.std.proofs.Common.{◌≡◌, ◌≢◌, ◌∙◌, ⊎_elim, ℕ, zero, suc, ◌+◌, ◌-◌, ◌*◌, ◌/◌, ◌<◌, ◌≤◌, Bool, true, false, not, List, [], ◌∷◌, ◌++◌, Option, Some, None, refl, sym, ap, subst, arith, map, length, slice_get, ◌&&◌}
+use Rattle.std.proofs.Common.{◌≡◌, ◌≢◌, ◌∙◌, ⊎_elim, ℕ, zero, suc, ◌+◌, ◌/◌, ◌<◌, ◌≤◌, Bool, true, false, List, [], ◌∷◌, ◌++◌, Option, Some, None, refl, sym, ap, subst, arith, map, length, slice_get, ◌&&◌}
 use Rattle.std.proofs.Math.Path.{fun_ext}
 use Rattle.std.specs.Prelude.{find, is_some, option_map, option_and_then, option_to_list, unwrap_or, ◌==◌, if◌then◌else◌}
 use Rattle.std.specs.List.{range_with_len, list_any}
 use Rattle.std.proofs.lemmas.Bool.{cases_eq, cases_lt, eq-eqb, ne_eqb}
-use Rattle.std.proofs.lemmas.Nat.{div-add-mod', mod_below}
 use Rattle.std.proofs.lemmas.Option.{slice_get_within}
 use Rattle.ddf_bay.specs.Sectors.{Image}
 use Rattle.ddf_parity.specs.Xor.{xor_all, zeros}
@@ -16,12 +15,12 @@ use Rattle.ddf_secondary.specs.declared.spot.Spot.{Spot}
 use Rattle.ddf_array.specs.declared.part.Part.{Part}
 use Rattle.ddf_array.specs.declared.place.Place.{Place}
 use Rattle.ddf_array.specs.declared.site.Site.{Site}
-use Rattle.ddf_array.specs.Places.{site, site_at, site_on}
+use Rattle.ddf_array.specs.Places.{site, site_at}
 use Rattle.ddf_array.specs.Levels.{keeps_parity}
 use Rattle.ddf_array.specs.Volume.{Volume, IsVolume, capacity}
 use Rattle.ddf_array.specs.Cells.{element_cells, block_spots}
 use Rattle.ddf_array.specs.Within.{is_within}
-use Rattle.ddf_array.specs.Sources.{Source, copy, row, all_of, other_positions, row_without, copies, every_source}
+use Rattle.ddf_array.specs.Sources.{Source, copy, row, all_of, other_positions, row_without, every_source}
 use Rattle.ddf_array.specs.Values.{bytes_at, sum_at, given, value}
 use Rattle.ddf_array.specs.Redundant.{IsRedundant, whole_row}
 use Rattle.ddf_array.specs.Rows.{holds, block_at, cell_value, data_positions, row_sum, sources_without_block, value_without_block}
@@ -32,11 +31,9 @@ use Rattle.ddf_cells.proofs.BlockOf.{cell_in}
 use Rattle.ddf_cells.proofs.Lists.{any_passes}
 use Rattle.ddf_cells.proofs.Redundance.{parity_is}
 use Rattle.ddf_rebuild.specs.Target.{IsOut}
-use Rattle.ddf_data.specs.Allowed.{Allowed, May}
-use Rattle.ddf_data.specs.Changing.{IsRebuilt, changed_item, place_in_sync, part_in_sync, in_sync}
-use Rattle.ddf_data.specs.Kept.{IsKeptData}
+use Rattle.ddf_data.specs.Changing.{changed_item, place_in_sync, part_in_sync, in_sync}
 use Rattle.ddf_data.proofs.Ranges.{map_in}
-use Rattle.ddf_data.proofs.From.{Gives, IsFrom, HasCell, made_of, source_from, source_of, source_to}
+use Rattle.ddf_data.proofs.From.{Gives, IsFrom, HasCell, made_of, source_from, source_to}
 use Rattle.ddf_data.proofs.Fewer.{all_keep, away}
 use Rattle.ddf_data.proofs.Lessened.{first_item, first_of, found_below}
 use Rattle.ddf_data.proofs.Consistent.{some_item}
@@ -212,7 +209,7 @@ module _ (v : Volume) (known : IsVolume v) (image : Image) (are : AreSectors ima
       }) in
       is.agree block there.0 source there.1
 
-  claim : (block : ℕ) (source : Source) → IsFrom now block source → value v image block ≡ Some (given image source)
+  pub claim : (block : ℕ) (source : Source) → IsFrom now block source → value v image block ≡ Some (given image source)
   claim block (copy one) from =
       ⊎_elim (λ here. at_copy block one from here.0 here.1) (λ other. elsewhere block (copy one) from other.1)
       (part_cases v known image are is within e p target from.spot.element from.part from.is_part)
@@ -268,7 +265,7 @@ module _ (v : Volume) (known : IsVolume v) (image : Image) (are : AreSectors ima
 
   -- ---- parity of elements that lack more
 
-  block_same : (f position sector : ℕ) → block_at now f position sector ≡ block_at v f position sector
+  pub block_same : (f position sector : ℕ) → block_at now f position sector ≡ block_at v f position sector
   block_same f position sector = ap (λ (h : ℕ → Bool). find h (range_with_len 0 (capacity v))) (fun_ext same)
     where
       same : (block : ℕ) → holds now f position sector block ≡ holds v f position sector block
@@ -276,12 +273,12 @@ module _ (v : Volume) (known : IsVolume v) (image : Image) (are : AreSectors ima
           ap (λ (h : Spot → Bool). list_any h (block_spots now block)) (fun_ext (λ (spot : Spot). ap (λ (b : Bool). spot.element == f && b) (shapes_stay false (in_cells position sector spot.block) p e v.parts f)))
           ∙ ap (list_any (λ (spot : Spot). spot.element == f && elim (slice_get v.parts f) [ None ↦ false | Some part ↦ in_cells position sector spot.block part.shape ])) (spots_same v known image are is within e p target block)
 
-  value_in : (f position sector block : ℕ) → block_at now f position sector ≡ Some block → value now image block ≡ value v image block
+  pub value_in : (f position sector block : ℕ) → block_at now f position sector ≡ Some block → value now image block ≡ value v image block
   value_in f position sector block found =
       value_now block (omega (arith, found_below (holds now f position sector) 0 (capacity v) block found))
 
   -- another element's cells
-  cell_other : (f : ℕ) (part : Part) (sector position : ℕ) → cell_value now image f part sector position ≡ cell_value v image f part sector position
+  pub cell_other : (f : ℕ) (part : Part) (sector position : ℕ) → cell_value now image f part sector position ≡ cell_value v image f part sector position
   cell_other f part sector position =
       by (block_at now f position sector) refl
       ∙ ap (λ (o : Option ℕ). elim o [ None ↦ value_without_block image (sources_without_block part position sector) | Some block ↦ unwrap_or (value v image block) zeros ]) (block_same f position sector)
@@ -376,57 +373,3 @@ module _ (v : Volume) (known : IsVolume v) (image : Image) (are : AreSectors ima
       (ap (λ (h : ℕ → Option ℕ). list_any (λ position. is_some (h position)) (data_positions part.shape sector)) (sym (fun_ext (λ position. block_same element position sector))) ∙ block)
       ∙ ap (λ (h : ℕ → List ℕ). xor_all (map h (data_positions part.shape sector))) (sym (fun_ext (cell_other element part sector))))
       (part_cases v known image are is within e p target element part part_at)
-
--- ---- what is kept
-
-some_is : {X : Type 0} {a b : X} → Some a ≡ Some b → a ≡ b
-some_is e = cc
-
--- the rows of an element are all counted
-all_counted : (depth strip sector : ℕ) → 1 ≤ strip → sector < depth → sector < (depth + strip - 1) / strip * strip
-all_counted depth strip sector some below =
-    let whole = div-add-mod' (depth + strip - 1) strip in
-    let rest = mod_below (depth + strip - 1) strip (omega (arith, some)) in
-    omega (arith, whole, rest, below, some)
-
-rebuilt_at : (v : Volume) → IsVolume v → (image : Image) (e p : ℕ) (target : IsOut v e p) → IsRebuilt v e p image → (sector : ℕ) (one : Site) → sector < depth_of target.part.shape
-    → lies_at target.part.places p sector ≡ Some one → bytes_at image one ≡ wanted v image e target.part sector p
-rebuilt_at v known image e p target all sector one deep lies =
-    let shape_is = (known.are_parts e target.part target.is_target.is_part).shape_is in
-    let there : lies_at target.part.places p sector ≡ Some (site_on target.slot (target.place.start + sector)) =
-    ap (λ (o : Option Place). option_and_then (λ (place : Place). option_map (λ slot. site_on slot (place.start + sector)) place.slot) o) target.is_target.is_place
-    ∙ ap (λ (o : Option ℕ). option_map (λ slot. site_on slot (target.place.start + sector)) o) target.is_target.is_there in
-    ap (bytes_at image) (some_is (sym lies ∙ there))
-    ∙ all target.part target.is_target.is_part target.part target.place target.slot sector target.is_target
-    (record { from_is = omega arith; to_is = all_counted (depth_of target.part.shape) target.part.shape.strip sector shape_is.some_strip deep; below = deep })
-
-pub kept_finished : (is_absent : ℕ → ℕ → Bool) (v : Volume) (image : Image) (allowed : Allowed) (e p : ℕ) → IsVolume v → v.marked ≡ false → is_within v ≡ true → (target : IsOut v e p)
-    → ((other : ℕ) → is_absent e other ≡ false)
-    → IsRebuilt v e p image → IsKeptData is_absent v image allowed → IsKeptData is_absent (in_sync e p v) image allowed
-kept_finished is_absent v image allowed e p known unmarked within target none all kept =
-    let is = kept.sound.redundant unmarked within in
-    let has = kept.sound.parity unmarked within in
-    let are = kept.sound.are_sectors in
-    record {
-      sound = record {
-        are_sectors = are;
-        redundant = λ unmarked' within'. redundant_now v known image are is within e p target is_absent has none rebuilt;
-        parity = λ unmarked' within'. parity_now v known image are is within e p target is_absent has none rebuilt;
-      };
-      reads = λ block k source at. reads_by is has are block source (source_of (in_sync e p v) block k source at);
-    }
-  where
-    rebuilt : (sector : ℕ) (one : Site) → sector < depth_of target.part.shape → lies_at target.part.places p sector ≡ Some one → bytes_at image one ≡ wanted v image e target.part sector p
-    rebuilt = rebuilt_at v known image e p target all
-
-    reads_by : IsRedundant v image → HasParity is_absent v image → AreSectors image → (block : ℕ) (source : Source) → IsFrom (in_sync e p v) block source → May (allowed block) (given image source)
-    reads_by is has are block source from =
-        let gives = claim v known image are is within e p target is_absent has none rebuilt block source from in
-        by (slice_get (every_source v block) 0) refl gives
-      where
-        by : (found : Option Source) → slice_get (every_source v block) 0 ≡ found → option_map (given image) found ≡ Some (given image source) → May (allowed block) (given image source)
-        by None is_none e = absurd (cc)
-        by (Some first) is_first e =
-            let same : given image first ≡ given image source = cc in
-            subst (May (allowed block)) same
-            (kept.reads block 0 first (ap (λ (b : Bool). slice_get (if not b then every_source v block else map copy (copies v block)) 0) unmarked ∙ is_first))

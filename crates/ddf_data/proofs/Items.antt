@@ -56,6 +56,10 @@ changed_length f (suc k) (x ∷ xs) = ap suc (changed_length f k xs)
 
 -- ---- places
 
+pub none_where : {X : Type 0} (o : Option X) → ((x : X) → o ≡ Some x → ⊥) → o ≡ None
+none_where None never = refl
+none_where (Some x) never = absurd (never x refl)
+
 some_not_none : {X : Type 0} (o : Option X) (x : X) → o ≡ None → o ≡ Some x → ⊥
 some_not_none o x a b = cc
 

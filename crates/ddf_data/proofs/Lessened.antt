@@ -22,13 +22,15 @@ use Rattle.ddf_array.specs.Sources.{Source, copy, row, all_of, other_positions, 
 use Rattle.ddf_array.specs.Values.{given, value}
 use Rattle.ddf_array.specs.Redundant.{IsRedundant}
 use Rattle.ddf_array.specs.Rows.{holds, block_at, cell_value, data_positions, row_sum, sources_without_block, value_without_block}
-use Rattle.ddf_array.specs.Sound.{HasParity, has_block}
+use Rattle.ddf_array.specs.Sound.{HasParity, IsSound, has_block}
 use Rattle.ddf_array.proofs.Enough.{has_source}
+use Rattle.ddf_cells.specs.CellSources.{is_parity, wanted}
 use Rattle.ddf_cells.proofs.DataCells.{keeps}
 use Rattle.ddf_cells.proofs.Lists.{in_map}
 use Rattle.ddf_data.specs.Allowed.{Allowed}
-use Rattle.ddf_data.specs.Fewer.{IsAlikePlace, IsFewerPlace, ArePlaces, NoneAvailable, IsFewer, LeavesParity}
+use Rattle.ddf_data.specs.Fewer.{IsAlikePlace, IsFewerPlace, ArePlaces, NoneLeft, IsFewer, LeavesParity}
 use Rattle.ddf_data.specs.Kept.{IsKeptData}
+use Rattle.ddf_data.specs.Rows.{AreRowsKept}
 use Rattle.ddf_data.proofs.From.{copy_from, copy_to, source_from, source_to}
 use Rattle.ddf_data.proofs.Fewer.{all_keep, away_alike, from_before, none_there, part_before, same_count, site_keeps, sites_alike, spots_same, was_within}
 
@@ -51,6 +53,27 @@ found_by test a n x false rest e later = later e
 pub found_below : (test : ℕ → Bool) (a n x : ℕ) → find test (range_with_len a n) ≡ Some x → x < a + n
 found_below test a zero x e = absurd (cc)
 found_below test a (suc n) x e = found_by test a n x (test a) (find test (range_with_len (a + 1) n)) e (λ later. let rest = found_below test (a + 1) n x later in omega (arith, rest))
+
+-- without parity a cell that isn't available and carries no block is zeros
+pub no_source : (image : Image) (part : Part) (position sector : ℕ) → keeps_parity part.shape.layout ≡ false → site_at part.places position sector ≡ None
+    → value_without_block image (sources_without_block part position sector) ≡ zeros
+no_source image part position sector plain none =
+    ap (λ (o : Option Site). value_without_block image (map copy (option_to_list o) ++ (if keeps_parity part.shape.layout then map row (option_to_list (row_without part.places position sector)) else []))) none
+    ∙ ap (λ (b : Bool). value_without_block image (if b then map row (option_to_list (row_without part.places position sector)) else [])) plain
+
+-- and a position without parity holds the value of its cell
+pub wanted_cell : (v : Volume) (image : Image) (element : ℕ) (part : Part) (sector position : ℕ) → keeps_parity part.shape.layout ≡ false
+    → wanted v image element part sector position ≡ cell_value v image element part sector position
+wanted_cell v image element part sector position plain = by (parity_member part.shape (sector / part.shape.strip)) refl
+  where
+    both : (b : Bool) → b ≡ true → b ≡ false → ⊥
+    both b x y = cc
+
+    by : (o : Option ℕ) → parity_member part.shape (sector / part.shape.strip) ≡ o
+        → ◌≡◌ {A = List ℕ} (if elim o [ None ↦ false | Some member ↦ member == position ] then row_sum v image element part sector else cell_value v image element part sector position)
+        (cell_value v image element part sector position)
+    by None is = refl
+    by (Some member) is = absurd (both (keeps_parity part.shape.layout) (keeps part.shape.layout part.shape.members (sector / part.shape.strip) member is) plain)
 
 module _ (before after : Volume) (fewer : IsFewer before after) where
   -- in a redundant array what a source gave, it gives
@@ -103,17 +126,16 @@ module _ (before after : Volume) (fewer : IsFewer before after) where
   pub reads_less : (block k : ℕ) (source : Source) → slice_get (sources after block) k ≡ Some source → (j : ℕ) × (slice_get (sources before block) j ≡ Some source)
   reads_less block k source at = reads_by after.marked before.marked refl refl block k source at
 
-  unmarked_before : after.marked ≡ false → before.marked ≡ false
+  pub unmarked_before : after.marked ≡ false → before.marked ≡ false
   unmarked_before e = ⊎_elim (λ marked. absurd (true_false (sym marked ∙ e))) (λ same. sym same ∙ e) fewer.mark_is
     where
       true_false : true ≡ false → ⊥
       true_false e = cc
 
-  -- ---- an element whose places all stay
+  -- ---- the cells of an element
 
   module _ (known : IsVolume after) (within : is_within after ≡ true) (image : Image) (is : IsRedundant before image) (element : ℕ) (one other : Part)
-      (one_at : slice_get before.parts element ≡ Some one) (other_at : slice_get after.parts element ≡ Some other) (shape_is : other.shape ≡ one.shape)
-      (alike : ArePlaces IsAlikePlace one.places other.places) (sector : ℕ) where
+      (one_at : slice_get before.parts element ≡ Some one) (other_at : slice_get after.parts element ≡ Some other) (shape_is : other.shape ≡ one.shape) (sector : ℕ) where
     abbrev in_cells : Option Part → (position : ℕ) → Spot → Bool
     in_cells found position spot =
         spot.element == element && elim found [ None ↦ false | Some part ↦ list_any (λ (cell : ℕ × ℕ). cell.0 == position && cell.1 == sector) (element_cells part.shape spot.block) ]
@@ -130,46 +152,68 @@ module _ (before after : Volume) (fewer : IsFewer before after) where
         ap (λ (f : ℕ → Bool). find f (range_with_len 0 (capacity after))) (fun_ext (holds_same position))
         ∙ ap (λ (t : Arrangement). find (holds before element position sector) (range_with_len 0 (length (spots t)))) fewer.same_tiers
 
-    sites_same : ◌≡◌ {A = ℕ → Option Site} (λ position. site_at other.places position sector) (λ position. site_at one.places position sector)
-    sites_same = fun_ext (λ position. sites_alike one.places other.places alike position sector)
-
-    row_same : (position : ℕ) → row_without other.places position sector ≡ row_without one.places position sector
-    row_same position =
-        ap (λ (n : ℕ). all_of (map (λ position. site_at other.places position sector) (other_positions n position))) (same_count IsAlikePlace one.places other.places alike)
-        ∙ ap (λ (f : ℕ → Option Site). all_of (map f (other_positions (length one.places) position))) sites_same
-
-    without_same : (position : ℕ) → sources_without_block other position sector ≡ sources_without_block one position sector
-    without_same position =
-        ap (λ (o : Option Site). map copy (option_to_list o) ++ (if keeps_parity other.shape.layout then map row (option_to_list (row_without other.places position sector)) else []))
-        (sites_alike one.places other.places alike position sector)
-        ∙ ap (λ (o : Option (List Site)). map copy (option_to_list (site_at one.places position sector)) ++ (if keeps_parity other.shape.layout then map row (option_to_list o) else [])) (row_same position)
-        ∙ ap (λ (s : Placement). map copy (option_to_list (site_at one.places position sector)) ++ (if keeps_parity s.layout then map row (option_to_list (row_without one.places position sector)) else [])) shape_is
-
-    cell_by : (position : ℕ) (o : Option ℕ) → block_at after element position sector ≡ o
+    cell_by : (position : ℕ) → value_without_block image (sources_without_block other position sector) ≡ value_without_block image (sources_without_block one position sector)
+        → (o : Option ℕ) → block_at after element position sector ≡ o
         → ◌≡◌ {A = List ℕ} (elim o [ None ↦ value_without_block image (sources_without_block other position sector) | Some block ↦ unwrap_or (value after image block) zeros ])
         (elim o [ None ↦ value_without_block image (sources_without_block one position sector) | Some block ↦ unwrap_or (value before image block) zeros ])
-    cell_by position None found = ap (value_without_block image) (without_same position)
-    cell_by position (Some block) found =
+    cell_by position without None found = without
+    cell_by position without (Some block) found =
         let below : block < capacity after = omega (arith, found_below (holds after element position sector) 0 (capacity after) block found) in
         let first = first_item (every_source after block) (has_source after known block below within) in
         ap (λ (o : Option (List ℕ)). unwrap_or o zeros) (value_same image is block 0 first.0 first.1)
 
-    value_of_cell : (position : ℕ) → cell_value after image element other sector position ≡ cell_value before image element one sector position
-    value_of_cell position =
-        cell_by position (block_at after element position sector) refl
+    -- a cell's value stays where it does of one without a block
+    cell_same : (position : ℕ) → value_without_block image (sources_without_block other position sector) ≡ value_without_block image (sources_without_block one position sector)
+        → cell_value after image element other sector position ≡ cell_value before image element one sector position
+    cell_same position without =
+        cell_by position without (block_at after element position sector) refl
         ∙ ap (λ (o : Option ℕ). elim o [ None ↦ value_without_block image (sources_without_block one position sector) | Some block ↦ unwrap_or (value before image block) zeros ]) (block_same position)
 
-    pub row_sum_same : row_sum after image element other sector ≡ row_sum before image element one sector
-    row_sum_same =
-        ap (λ (f : ℕ → List ℕ). xor_all (map f (data_positions other.shape sector))) (fun_ext value_of_cell)
-        ∙ ap (λ (s : Placement). xor_all (map (cell_value before image element one sector) (data_positions s sector))) shape_is
+    -- a position that isn't available, of an element without parity
+    pub wanted_out : (position : ℕ) → keeps_parity one.shape.layout ≡ false → site_at other.places position sector ≡ None → site_at one.places position sector ≡ None
+        → wanted after image element other sector position ≡ wanted before image element one sector position
+    wanted_out position plain none_other none_one =
+        let other_plain : keeps_parity other.shape.layout ≡ false = ap (λ (s : Placement). keeps_parity s.layout) shape_is ∙ plain in
+        wanted_cell after image element other sector position other_plain
+        ∙ cell_same position (no_source image other position sector other_plain none_other ∙ sym (no_source image one position sector plain none_one))
+        ∙ sym (wanted_cell before image element one sector position plain)
 
-    pub has_block_same : has_block after element other sector ≡ has_block before element one sector
-    has_block_same =
-        ap (λ (f : ℕ → Option ℕ). list_any (λ position. is_some (f position)) (data_positions other.shape sector)) (fun_ext block_same)
-        ∙ ap (λ (s : Placement). list_any (λ position. is_some (block_at before element position sector)) (data_positions s sector)) shape_is
+    module _ (alike : ArePlaces IsAlikePlace one.places other.places) where
+      sites_same : ◌≡◌ {A = ℕ → Option Site} (λ position. site_at other.places position sector) (λ position. site_at one.places position sector)
+      sites_same = fun_ext (λ position. sites_alike one.places other.places alike position sector)
 
-  none_site : (places : List Place) → NoneAvailable places → (position sector : ℕ) (one : Site) → site_at places position sector ≡ Some one → ⊥
+      row_same : (position : ℕ) → row_without other.places position sector ≡ row_without one.places position sector
+      row_same position =
+          ap (λ (n : ℕ). all_of (map (λ position. site_at other.places position sector) (other_positions n position))) (same_count IsAlikePlace one.places other.places alike)
+          ∙ ap (λ (f : ℕ → Option Site). all_of (map f (other_positions (length one.places) position))) sites_same
+
+      without_same : (position : ℕ) → sources_without_block other position sector ≡ sources_without_block one position sector
+      without_same position =
+          ap (λ (o : Option Site). map copy (option_to_list o) ++ (if keeps_parity other.shape.layout then map row (option_to_list (row_without other.places position sector)) else []))
+          (sites_alike one.places other.places alike position sector)
+          ∙ ap (λ (o : Option (List Site)). map copy (option_to_list (site_at one.places position sector)) ++ (if keeps_parity other.shape.layout then map row (option_to_list o) else [])) (row_same position)
+          ∙ ap (λ (s : Placement). map copy (option_to_list (site_at one.places position sector)) ++ (if keeps_parity s.layout then map row (option_to_list (row_without one.places position sector)) else [])) shape_is
+
+      value_of_cell : (position : ℕ) → cell_value after image element other sector position ≡ cell_value before image element one sector position
+      value_of_cell position = cell_same position (ap (value_without_block image) (without_same position))
+
+      pub row_sum_same : row_sum after image element other sector ≡ row_sum before image element one sector
+      row_sum_same =
+          ap (λ (f : ℕ → List ℕ). xor_all (map f (data_positions other.shape sector))) (fun_ext value_of_cell)
+          ∙ ap (λ (s : Placement). xor_all (map (cell_value before image element one sector) (data_positions s sector))) shape_is
+
+      pub has_block_same : has_block after element other sector ≡ has_block before element one sector
+      has_block_same =
+          ap (λ (f : ℕ → Option ℕ). list_any (λ position. is_some (f position)) (data_positions other.shape sector)) (fun_ext block_same)
+          ∙ ap (λ (s : Placement). list_any (λ position. is_some (block_at before element position sector)) (data_positions s sector)) shape_is
+
+      pub wanted_alike : (position : ℕ) → wanted after image element other sector position ≡ wanted before image element one sector position
+      wanted_alike position =
+          ap (λ (s : Placement). if elim (parity_member s (sector / s.strip)) [ None ↦ false | Some member ↦ member == position ] then row_sum after image element other sector else cell_value after image element other sector position) shape_is
+          ∙ ap (λ (sum : List ℕ). if is_parity one position sector then sum else cell_value after image element other sector position) row_sum_same
+          ∙ ap (λ (bytes : List ℕ). if is_parity one position sector then row_sum before image element one sector else bytes) (value_of_cell position)
+
+  none_site : (places : List Place) → NoneLeft places → (position sector : ℕ) (one : Site) → site_at places position sector ≡ Some one → ⊥
   none_site places none position sector one e = by (slice_get places position) refl e
     where
       not_both : (o : Option Site) → o ≡ None → o ≡ Some one → ⊥
@@ -177,7 +221,7 @@ module _ (before after : Volume) (fewer : IsFewer before after) where
 
       by : (found : Option Place) → slice_get places position ≡ found → option_and_then (λ place. site place sector) found ≡ Some one → ⊥
       by None is e = not_both None refl e
-      by (Some place) is e = not_both (site place sector) (none_there place sector (none position place is)) e
+      by (Some place) is e = not_both (site place sector) (none_there place sector (none position place is).0) e
 
   pub parity_less : (absent_before absent_after : ℕ → ℕ → Bool) (image : Image) → IsVolume after → LeavesParity absent_before absent_after before after → after.marked ≡ false → is_within after ≡ true
       → IsRedundant before image → HasParity absent_before before image → HasParity absent_after after image
@@ -185,8 +229,8 @@ module _ (before after : Volume) (fewer : IsFewer before after) where
       let there = part_before before.parts after.parts fewer.fewer_parts element part part_at in
       ⊎_elim
       (λ stays.
-      let same = row_sum_same known within image is element there.before part there.is_part part_at there.same_shape stays.0 sector in
-      let blocks = has_block_same known within image is element there.before part there.is_part part_at there.same_shape stays.0 sector in
+      let same = row_sum_same known within image is element there.before part there.is_part part_at there.same_shape sector stays.0 in
+      let blocks = has_block_same known within image is element there.before part there.is_part part_at there.same_shape sector stays.0 in
       has element sector position there.before site there.is_part
       (subst (λ (n : ℕ). 2 ≤ n) (away_alike there.before.places part.places stays.0) lacks) stays.1
       (ap (λ (s : Placement). parity_member s (sector / s.strip)) (sym there.same_shape) ∙ parity)
@@ -196,16 +240,22 @@ module _ (before after : Volume) (fewer : IsFewer before after) where
       (λ gone. absurd (none_site part.places gone position sector site site_is))
       (leaves.stays unmarked within element there.before part there.is_part part_at (keeps part.shape.layout part.shape.members (sector / part.shape.strip) position parity) lacks none)
 
-pub kept_less : (absent_before absent_after : ℕ → ℕ → Bool) (before after : Volume) (image : Image) (allowed : Allowed) → IsVolume after → IsFewer before after → LeavesParity absent_before absent_after before after
-    → IsKeptData absent_before before image allowed → IsKeptData absent_after after image allowed
-kept_less absent_before absent_after before after image allowed known fewer leaves kept = record {
-  sound = record {
+-- what is left to read from is what might be read, and it is sound
+module _ (absent_before absent_after : ℕ → ℕ → Bool) (before after : Volume) (image : Image) (allowed : Allowed) (known : IsVolume after) (fewer : IsFewer before after)
+    (leaves : LeavesParity absent_before absent_after before after) (kept : IsKeptData absent_before before image allowed) where
+  pub sound_less : IsSound absent_after after image
+  sound_less = record {
     are_sectors = kept.sound.are_sectors;
     redundant = λ unmarked within. redundant_less before after fewer image (kept.sound.redundant (unmarked_before before after fewer unmarked) (was_within before after fewer within));
     parity = λ unmarked within.
         parity_less before after fewer absent_before absent_after image known leaves unmarked within
         (kept.sound.redundant (unmarked_before before after fewer unmarked) (was_within before after fewer within))
         (kept.sound.parity (unmarked_before before after fewer unmarked) (was_within before after fewer within));
-  };
-  reads = λ block k source at. let there = reads_less before after fewer block k source at in kept.reads block there.0 source there.1;
-}
+  }
+
+  pub kept_but_rows : AreRowsKept absent_after after image → IsKeptData absent_after after image allowed
+  kept_but_rows rows = record {
+    sound = sound_less;
+    reads = λ block k source at. let there = reads_less before after fewer block k source at in kept.reads block there.0 source there.1;
+    rows = rows;
+  }

@@ -23,7 +23,7 @@ use Rattle.ddf_array.specs.Sound.{AreSectors, HasParity, IsSound}
 use Rattle.ddf_cells.proofs.DataCells.{keeps}
 use Rattle.ddf_data.proofs.From.{IsFrom, source_from}
 
-or_none : (a b : Bool) → (a || b) ≡ false → (a ≡ false) × (b ≡ false)
+pub or_none : (a b : Bool) → (a || b) ≡ false → (a ≡ false) × (b ≡ false)
 or_none true b e = absurd (cc)
 or_none false b e = (refl, e)
 
@@ -74,10 +74,10 @@ few_spots v block alone = by_spot (slice_get (spots v.tiers) block)
         omega (arith, few, same)
 
 module _ (v : Volume) (plain : is_redundant v ≡ false) where
-  alone : is_mirrored v ≡ false
+  pub alone : is_mirrored v ≡ false
   alone = (or_none (is_mirrored v) (list_any keeps_more v.parts) plain).0
 
-  keeps_one : (element : ℕ) (part : Part) → slice_get v.parts element ≡ Some part → keeps_more part ≡ false
+  pub keeps_one : (element : ℕ) (part : Part) → slice_get v.parts element ≡ Some part → keeps_more part ≡ false
   keeps_one element part at = any_none keeps_more v.parts (or_none (is_mirrored v) (list_any keeps_more v.parts) plain).1 element part at
 
   pub no_rows : (element : ℕ) (part : Part) → slice_get v.parts element ≡ Some part → keeps_parity part.shape.layout ≡ true → ⊥

@@ -17,9 +17,11 @@ use Rattle.ddf_rebuild.proofs.Kept.{alike_rebuilding}
 use Rattle.ddf_data.specs.Allowed.{Allowed, May}
 use Rattle.ddf_data.specs.Changing.{IsWritable}
 use Rattle.ddf_data.specs.Kept.{IsKeptData}
+use Rattle.ddf_data.specs.Rows.{GoesOnBehind}
 use Rattle.ddf_data.proofs.From.{IsFrom, copy_to}
 use Rattle.ddf_data.proofs.Consistent.{copy_reads}
-use Rattle.ddf_data.proofs.Same.{kept_same}
+use Rattle.ddf_data.proofs.RowsKept.{rows_behind, writable_rows}
+use Rattle.ddf_data.proofs.Same.{kept_alike}
 use Rattle.ddf_data.proofs.Written.{only_copies, writable_sound}
 
 module _ (is_absent : ℕ → ℕ → Bool) (v : Volume) (known : IsVolume v) (apart : IsApart v) (first before image : Image) (allowed : Allowed)
@@ -50,9 +52,11 @@ module _ (is_absent : ℕ → ℕ → Bool) (v : Volume) (known : IsVolume v) (a
     reads = λ block k source at.
         let one = only_copies is_absent v writable block k source at in
         subst (λ (s : Source). May (allowed block) (given image s)) (sym one.1) (copy_may block one.0 one.2);
+    rows = writable_rows is_absent v image writable;
   }
 
 pub kept_rebuilding : (is_absent : ℕ → ℕ → Bool) (v : Volume) (element position from to : ℕ) (before image : Image) (allowed : Allowed) → IsVolume v → IsApart v → AreSectors image
-    → StaysBut (IsTargetCell v element position from to) before image → IsKeptData is_absent v before allowed → IsKeptData is_absent v image allowed
-kept_rebuilding is_absent v element position from to before image allowed known apart are left kept =
-    kept_same is_absent v before image allowed known are (alike_rebuilding v element position from to before image apart left) kept
+    → GoesOnBehind v element position from → StaysBut (IsTargetCell v element position from to) before image → IsKeptData is_absent v before allowed → IsKeptData is_absent v image allowed
+kept_rebuilding is_absent v element position from to before image allowed known apart are behind left kept =
+    kept_alike v known before image (alike_rebuilding v element position from to before image apart left) is_absent allowed are
+    (rows_behind is_absent v known apart element position from to before image behind left kept.rows) kept

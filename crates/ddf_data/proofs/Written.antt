@@ -20,6 +20,7 @@ use Rattle.ddf_data.specs.Kept.{IsKeptData}
 use Rattle.ddf_data.proofs.From.{IsFrom, copy_from, copy_to, source_of}
 use Rattle.ddf_data.proofs.Consistent.{copy_reads}
 use Rattle.ddf_data.proofs.Plain.{plain_copy, plain_sound}
+use Rattle.ddf_data.proofs.RowsKept.{writable_rows}
 
 true_false : (b : Bool) → b ≡ true → b ≡ false → ⊥
 true_false b a c = cc
@@ -143,6 +144,7 @@ module _ (is_absent : ℕ → ℕ → Bool) (v : Volume) (known : IsVolume v) (a
         let one = only_copies is_absent v writable block k source at in
         subst (λ (s : Source). May (while_written allowed start sectors block) (given image s)) (sym one.1)
         (copy_while block one.0 (becomes block one.0 one.2) (is_in start (length sectors) block) refl);
+    rows = writable_rows is_absent v image writable;
   }
 
   copy_once : HasWritten v start sectors ⊥ image → (block : ℕ) (one : Site) → Becomes block one → (b : Bool) → is_in start (length sectors) block ≡ b
@@ -159,8 +161,9 @@ module _ (is_absent : ℕ → ℕ → Bool) (v : Volume) (known : IsVolume v) (a
         let one = only_copies is_absent v writable block k source at in
         subst (λ (s : Source). May (once_written allowed start sectors block) (given image s)) (sym one.1)
         (copy_once written block one.0 (becomes block one.0 one.2) (is_in start (length sectors) block) refl);
+    rows = writable_rows is_absent v image writable;
   }
 
 -- nothing counts yet
 pub kept_any : (is_absent : ℕ → ℕ → Bool) (v : Volume) (image : Image) → AreSectors image → IsWritable v → IsKeptData is_absent v image any_bytes
-kept_any is_absent v image are writable = record { sound = writable_sound is_absent v writable image are; reads = λ block k source at. tt }
+kept_any is_absent v image are writable = record { sound = writable_sound is_absent v writable image are; reads = λ block k source at. tt; rows = writable_rows is_absent v image writable }

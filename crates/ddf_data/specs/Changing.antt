@@ -1,5 +1,5 @@
--- Changes of a group that give an array more to read from: its mark is cleared, or a position is in sync again.
-use Rattle.std.specs.Prelude.{◌≡◌, ◌⊎◌, ℕ, ◌<◌, Bool, true, false, List, [], ◌∷◌, is_some, Some, slice_get, zero, suc}
+-- Changes of a group that give an array more to read from: its mark is cleared, or a position is in sync again. And one that counts rows as rebuilt.
+use Rattle.std.specs.Prelude.{◌≡◌, ◌⊎◌, ℕ, ◌<◌, Bool, true, false, List, [], ◌∷◌, is_some, Some, map, slice_get, zero, suc}
 use Rattle.ddf_bay.specs.Sectors.{Image}
 use Rattle.ddf_array.specs.declared.place.Place.{Place}
 use Rattle.ddf_array.specs.declared.part.Part.{Part}
@@ -29,7 +29,7 @@ HaveCells volume = (block : ℕ) → block < capacity volume → is_some (first_
 abbrev pub ValuesMay : Volume → Image → Allowed → Type 0
 ValuesMay volume image allowed = (block : ℕ) (bytes : List ℕ) → value volume image block ≡ Some bytes → May (allowed block) bytes
 
--- what an array has to be for its mark to be cleared
+-- what an array has to be for its mark to be cleared, beside the rows that count as rebuilt
 pub record IsConsistentNow (is_absent : ℕ → ℕ → Bool) (volume : Volume) (image : Image) : Type 0 where
   pub redundant : IsRedundant volume image
   pub parity : HasParity is_absent volume image
@@ -38,10 +38,6 @@ pub record IsConsistentNow (is_absent : ℕ → ℕ → Bool) (volume : Volume) 
 abbrev pub IsRebuilt : Volume → (element position : ℕ) → Image → Type 0
 IsRebuilt volume element position image =
     (part : Part) → slice_get volume.parts element ≡ Some part → HasRebuilt volume element position 0 (row_count part.shape) image image
-
--- of an element no position lacks only a disk that isn't read
-abbrev pub NoneAbsent : (is_absent : ℕ → ℕ → Bool) → (element : ℕ) → Type 0
-NoneAbsent is_absent element = (position : ℕ) → is_absent element position ≡ false
 
 abbrev pub place_in_sync : Place → Place
 place_in_sync place = record place { synced = true; row = 0 }
@@ -58,3 +54,13 @@ part_in_sync position part = record part { places = changed_item place_in_sync p
 -- the array with a position in sync
 abbrev pub in_sync : (element position : ℕ) → Volume → Volume
 in_sync element position volume = record volume { parts = changed_item (part_in_sync position) element volume.parts }
+
+abbrev pub place_noted : ℕ → Place → Place
+place_noted row place = record place { row = row }
+
+abbrev pub part_noted : (position row : ℕ) → Part → Part
+part_noted position row part = record part { places = changed_item (place_noted row) position (map (place_noted 0) part.places) }
+
+-- the array with so many rows of a position that count as rebuilt, and none of the element's other positions
+abbrev pub noted : (element position row : ℕ) → Volume → Volume
+noted element position row volume = record volume { parts = changed_item (part_noted position row) element volume.parts }

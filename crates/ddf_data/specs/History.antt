@@ -5,15 +5,16 @@ use Rattle.ddf_array.specs.Apart.{IsApart}
 use Rattle.ddf_array.specs.Volume.{Volume, IsVolume}
 use Rattle.ddf_array.specs.Within.{is_within}
 use Rattle.ddf_array.specs.Sound.{AreSectors}
-use Rattle.ddf_cells.specs.Alike.{AreAlike}
 use Rattle.ddf_cells.specs.Writing.{StaysBut}
 use Rattle.ddf_write.specs.Writing.{HasWritten, IsLeftByWrite}
 use Rattle.ddf_resync.specs.Resyncing.{MayResync}
+use Rattle.ddf_rebuild.specs.Rebuilding.{HasRebuilt}
 use Rattle.ddf_rebuild.specs.Target.{IsOut, IsTargetCell}
 use Rattle.ddf_data.specs.Allowed.{Allowed, while_written, once_written, once_consistent}
-use Rattle.ddf_data.specs.Changing.{IsConsistentNow, IsRebuilt, IsWritable, NoneAbsent, ValuesMay, in_sync, with_mark}
-use Rattle.ddf_data.specs.Fewer.{IsFewer, LeavesParity}
+use Rattle.ddf_data.specs.Changing.{IsConsistentNow, IsRebuilt, IsWritable, ValuesMay, in_sync, noted, with_mark}
+use Rattle.ddf_data.specs.Fewer.{IsFewer, LeavesParity, LeavesRows}
 use Rattle.ddf_data.specs.Kept.{IsKeptData}
+use Rattle.ddf_data.specs.Rows.{AreAlikeThroughout, AreRowsKept, GoesOnBehind, IsFirstOut, NoneAbsent}
 
 -- One image of those that a stop may leave at a moment, the array as its configuration and the disks that aren't lost give it, and the bytes
 -- that its blocks may have. A stop changes none of this: the bay goes on as an image that it may leave.
@@ -38,7 +39,7 @@ pub record IsSameArray (old new : Moment) : Type 0 where
 pub record IsOther (old new : Moment) : Type 0 where
   pub same : IsSameArray old new
   pub same_allowed : new.allowed ≡ old.allowed
-  pub same_cells : AreAlike old.volume old.image new.image
+  pub same_cells : AreAlikeThroughout old.volume old.image new.image
 
 -- a disk is lost, or is counted as lost or failed; a spare takes the place of one; the array is marked
 pub record IsLess (old new : Moment) : Type 0 where
@@ -47,6 +48,7 @@ pub record IsLess (old new : Moment) : Type 0 where
   pub is_volume : IsVolume new.volume
   pub fewer : IsFewer old.volume new.volume
   pub parity : LeavesParity old.is_absent new.is_absent old.volume new.volume
+  pub rows : LeavesRows old.volume new.volume
 
 -- the mark is cleared
 pub record IsUnmarked (old new : Moment) : Type 0 where
@@ -55,6 +57,7 @@ pub record IsUnmarked (old new : Moment) : Type 0 where
   pub same_absent : new.is_absent ≡ old.is_absent
   pub is_unmarked : new.volume ≡ with_mark false old.volume
   pub consistent : IsConsistentNow old.is_absent old.volume old.image
+  pub rows : AreRowsKept old.is_absent (with_mark false old.volume) old.image
   pub may : ValuesMay old.volume old.image old.allowed
 
 -- the array is consistent, by a resync or the administrator's word: what its blocks have counts from now on
@@ -65,6 +68,7 @@ pub record IsCounted (old new : Moment) : Type 0 where
   pub is_marked : new.volume ≡ with_mark marked old.volume
   pub are_sectors : AreSectors old.image
   pub consistent : IsConsistentNow old.is_absent old.volume old.image
+  pub rows : AreRowsKept old.is_absent (with_mark marked old.volume) old.image
   pub counts : new.allowed ≡ once_consistent old.volume old.image
 
 -- blocks are written, or a write of them was interrupted
@@ -95,7 +99,7 @@ pub record IsResyncing (old new : Moment) : Type 0 where
   pub first_kept : IsKeptData old.is_absent old.volume first old.allowed
   pub left : (s l : ℕ) → (new.image s l ≡ old.image s l) ⊎ MayResync old.volume (Unit {0}) first s l (new.image s l)
 
--- the rows of a position that is out of sync are set
+-- rows of a position that is out of sync are set, behind those that are
 pub record IsRebuilding (old new : Moment) : Type 0 where
   pub same : IsSameArray old new
   pub same_allowed : new.allowed ≡ old.allowed
@@ -103,7 +107,21 @@ pub record IsRebuilding (old new : Moment) : Type 0 where
   pub position : ℕ
   pub from : ℕ
   pub to : ℕ
+  pub behind : GoesOnBehind old.volume element position from
   pub left : StaysBut (IsTargetCell old.volume element position from to) old.image new.image
+
+-- those that are set count, of the first position of the element that is out of sync: a rebuild that was interrupted goes on behind them
+pub record IsNoted (old new : Moment) : Type 0 where
+  pub same_image : new.image ≡ old.image
+  pub same_allowed : new.allowed ≡ old.allowed
+  pub same_absent : new.is_absent ≡ old.is_absent
+  pub is_volume : IsVolume old.volume
+  pub element : ℕ
+  pub position : ℕ
+  pub row : ℕ
+  pub first : IsFirstOut old.volume element position
+  pub rebuilt : HasRebuilt old.volume element position 0 row old.image old.image
+  pub is_noted : new.volume ≡ noted element position row old.volume
 
 -- once all are set the position is in sync
 pub record IsFinished (old new : Moment) : Type 0 where
@@ -117,12 +135,14 @@ pub record IsFinished (old new : Moment) : Type 0 where
   pub position : ℕ
   pub target : IsOut old.volume element position
   pub all_read : NoneAbsent old.is_absent element
+  pub first : IsFirstOut old.volume element position
   pub rebuilt : IsRebuilt old.volume element position old.image
   pub is_synced : new.volume ≡ in_sync element position old.volume
 
 abbrev pub IsStep : Moment → Moment → Type 0
 IsStep old new =
-    IsOther old new ⊎ IsLess old new ⊎ IsUnmarked old new ⊎ IsCounted old new ⊎ IsWriting old new ⊎ IsWritten old new ⊎ IsResyncing old new ⊎ IsRebuilding old new ⊎ IsFinished old new
+    IsOther old new ⊎ IsLess old new ⊎ IsUnmarked old new ⊎ IsCounted old new ⊎ IsWriting old new ⊎ IsWritten old new ⊎ IsResyncing old new ⊎ IsRebuilding old new
+    ⊎ IsNoted old new ⊎ IsFinished old new
 
 -- each moment follows the one before it
 abbrev pub IsHistory : Moment → List Moment → Type 0

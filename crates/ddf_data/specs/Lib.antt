@@ -1,5 +1,6 @@
 pub mod Allowed
+pub mod Rows
+pub mod Changing
 pub mod Kept
 pub mod Fewer
-pub mod Changing
 pub mod History

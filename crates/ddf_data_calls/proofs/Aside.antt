@@ -9,10 +9,10 @@ use Rattle.ddf_config.specs.Members.{same_guid}
 use Rattle.ddf_array.specs.Sound.{AreSectors}
 use Rattle.ddf_array.specs.Volume.{Volume}
 use Rattle.ddf_array.proofs.Bools.{and_second}
-use Rattle.ddf_cells.specs.Alike.{AreAlike}
+use Rattle.ddf_data.specs.Rows.{AreAlikeThroughout}
 use Rattle.ddf_keeping.specs.Grouped.{Promises}
 use Rattle.ddf_keeping.specs.Over.{IsOver}
-use Rattle.ddf_keeping.proofs.Clearly.{below_floor, lies_of}
+use Rattle.ddf_keeping.proofs.Clearly.{below_floor}
 use Rattle.ddf_history.specs.Groups.{groups, has_current}
 use Rattle.ddf_history.specs.Issued.{IsSince, Past}
 use Rattle.ddf_stops.specs.Kept.{is_slot}
@@ -37,12 +37,12 @@ module _ (group : List ℕ) (floor : ℕ → ℕ) (small : (slot : ℕ) → floo
       by true here = held s l
       by false other = others s l other
 
-  -- No cell of an array lies on a written slot.
+  -- No sector of an array lies on a written slot.
   alike : (number : ℕ) (config : Configuration) → IsSince past.changes number config → (guid : List ℕ) (array : Array) (volume : Volume) → lookup (same_guid guid) config.arrays ≡ Some array
-      → IsOver (seats_in group past floor config) array volume → AreAlike volume before image
+      → IsOver (seats_in group past floor config) array volume → AreAlikeThroughout volume before image
   unfolding before
-  alike number config since guid array volume found over slot lba cell =
-      let below = below_floor (seats_in group past floor config) array volume over cell.element cell.position cell.sector slot lba (lies_of volume slot lba cell) in
+  alike number config since guid array volume found over element position sector slot lba lies =
+      let below = below_floor (seats_in group past floor config) array volume over element position sector slot lba lies in
       let at = is_at floor past.disk (is_seat group past config) past.slots below.0 below.1 slot below.2 below.3 in
       by (is_slot written slot) refl (and_second (not (past.lost slot)) (has_current config (past.disk slot)) at.is_here)
     where

@@ -70,7 +70,8 @@ module _ (one other : List Seat) (alike : AreAlikeSeats one other) where
       subst (λ (is_absent : ℕ → ℕ → Bool). MayBeCleared is_absent volume image allowed) (absent_same config.members array.elements)
       (may guid allowed array promised found is volume (over_same array volume over))
   change_same config image promises (changes.Begin named element position reference start) may = may
-  change_same config image promises (changes.Progress named element position row) may = may
+  change_same config image promises (changes.Progress named element position row) may = λ guid allowed array promised found is volume over.
+      may guid allowed array promised found is volume (over_same array volume over)
   change_same config image promises (changes.Finish named element position) may = λ guid allowed array promised found is volume over.
       subst (λ (is_absent : ℕ → ℕ → Bool). MayBeInSync is_absent volume image element position) (absent_same config.members array.elements)
       (may guid allowed array promised found is volume (over_same array volume over))

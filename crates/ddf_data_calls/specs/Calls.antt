@@ -38,8 +38,8 @@ abbrev pub MayAsk : Configuration → List Seat → Image → Promises → Optio
 MayAsk config seats image promises None = Unit {0}
 MayAsk config seats image promises (Some change) = MayChange config seats image promises change
 
--- What a wish asks for: of a new array nothing was promised; one that is accepted is consistent, with values that its blocks may have, or nothing is
--- promised of it.
+-- What a wish asks for: of a new array nothing was promised; one that is accepted is consistent, with values that its blocks may have, and rows that hold
+-- what they should where any count as rebuilt, or nothing is promised of it.
 abbrev pub MayWish : Configuration → List Seat → Stamp → Image → Promises → Wish → Type 0
 MayWish config seats stamp image promises (Create creation) = promises (new_array_guid config stamp) ≡ None
 MayWish config seats stamp image promises (Accept name) =

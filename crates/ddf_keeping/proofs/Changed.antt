@@ -25,8 +25,8 @@ use Rattle.ddf_keeping.specs.Grouped.{KeepsArrays, MayChange, Promises}
 use Rattle.ddf_keeping.proofs.Cleared.{cleared, same_marked}
 use Rattle.ddf_keeping.proofs.Entries.{before, current_same, found_in, guid_is, never_drops, same_mark}
 use Rattle.ddf_keeping.proofs.Keeping.{kept_as, kept_lost, kept_marked, kept_staying}
-use Rattle.ddf_keeping.proofs.Named.{begun_less, begun_stays, finished_synced, marked_is, marked_less, progressed_less, progressed_stays, unmarked_is, unmarked_same}
-use Rattle.ddf_keeping.proofs.Synced.{finished}
+use Rattle.ddf_keeping.proofs.Named.{begun_less, begun_stays, finished_synced, marked_is, marked_less, progressed_noted, unmarked_is, unmarked_same}
+use Rattle.ddf_keeping.proofs.Synced.{finished, noted_rows}
 
 no_some : {X : Type 0} (o : Option X) (x : X) → o ≡ None → o ≡ Some x → ⊥
 no_some o x a b = cc
@@ -127,12 +127,13 @@ module _ (config : Configuration) (seats fewer : List Seat) (image : Image) (pro
       (begun_less named element position reference start array)
       (begun_stays (is_current config.members) named element position reference start array (may guid allowed array promised was here)) (kept guid allowed array promised was))
 
-  by_progress : (named : List ℕ) (element position row : ℕ) → Keeps (Progress named element position row)
-  by_progress named element position row =
+  by_progress : (named : List ℕ) (element position row : ℕ) → MayChange config seats image promises (Progress named element position row) → Keeps (Progress named element position row)
+  by_progress named element position row may =
       let current = current_is (Progress named element position row) (λ k m. refl) in
       by_named (members_after config (Progress named element position row)) current named (rebuilding (Progress named element position row) element) (λ guid allowed array promised was here.
-      kept_staying config.members (members_after config (Progress named element position row)) seats fewer array (rebuilding (Progress named element position row) element array) image allowed current are few
-      (progressed_less named element position row array) (progressed_stays (is_current config.members) named element position row array) (kept guid allowed array promised was))
+      kept_as config.members (members_after config (Progress named element position row)) seats fewer (rebuilding (Progress named element position row) element array) image allowed current are few
+      (noted_rows config.members seats element position row array (rebuilding (Progress named element position row) element array) image allowed (progressed_noted named element position row array)
+      (may guid allowed array promised was here) (kept guid allowed array promised was)))
 
   by_finish : (named : List ℕ) (element position : ℕ) → MayChange config seats image promises (Finish named element position) → Keeps (Finish named element position)
   by_finish named element position may =
@@ -151,7 +152,7 @@ module _ (config : Configuration) (seats fewer : List Seat) (image : Image) (pro
   by_change (Mark named) after_are may = by_mark named
   by_change (Unmark named init) after_are may = by_unmark named init may
   by_change (Begin named element position reference start) after_are may = by_begin named element position reference start may
-  by_change (Progress named element position row) after_are may = by_progress named element position row
+  by_change (Progress named element position row) after_are may = by_progress named element position row may
   by_change (Finish named element position) after_are may = by_finish named element position may
 
   -- nothing is promised of a created array

@@ -25,7 +25,7 @@ use Rattle.ddf_array.proofs.Enough.{all_pass}
 use Rattle.ddf_array.proofs.Losses.{mapped_at}
 use Rattle.ddf_array.proofs.Usable.{complete, lie_well, shapes}
 use Rattle.ddf_array.proofs.Viewed.{from_view}
-use Rattle.ddf_cells.specs.Alike.{AreAlike, IsCell}
+use Rattle.ddf_cells.specs.Alike.{IsCell}
 use Rattle.ddf_cells.specs.Apart.{LiesAt}
 use Rattle.ddf_cells.specs.Parity.{IsParityCell}
 use Rattle.ddf_cells.specs.Writing.{StaysBut}
@@ -35,6 +35,7 @@ use Rattle.ddf_cells.proofs.OnCells.{at_site, block_below}
 use Rattle.ddf_write.specs.Writing.{IsLeftByWrite, IsParityOf}
 use Rattle.ddf_resync.specs.Resyncing.{MayResync}
 use Rattle.ddf_rebuild.specs.Target.{IsTargetCell}
+use Rattle.ddf_data.specs.Rows.{AreAlikeThroughout}
 use Rattle.ddf_keeping.specs.Clear.{ChangesItsCells, IsItsCell}
 use Rattle.ddf_keeping.specs.Over.{AreCurrentSeats, IsOver}
 use Rattle.ddf_keeping.proofs.Apart.{HasExtent, count_in, count_in_two, count_one, entry_of, few, has_extent, meets_itself, own_slots, slot_is, they_meet}
@@ -115,12 +116,11 @@ module _ (config : Configuration) (guid : List ℕ) (seats : List Seat) (v : Vol
 
   -- what is written to it is no sector of another array
   pub others_same : (before image : Image) → ChangesItsCells v before image → (other_guid : List ℕ) (other : Array) (w : Volume) → other_guid ≢ guid → lookup (same_guid other_guid) config.arrays ≡ Some other
-      → IsOver seats other w → AreAlike w before image
-  others_same before image changes other_guid other w apart found over slot lba cell =
-      let there = lies_of w slot lba cell in
+      → IsOver seats other w → AreAlikeThroughout w before image
+  others_same before image changes other_guid other w apart found over f q y slot lba there =
       ⊎_elim (λ same. sym same)
       (λ its. absurd (not_other its.element its.position its.sector slot lba (has_extent seats use_of.array v use_of.over its.element its.position its.sector slot lba its.lies)
-      other_guid other apart found cell.element cell.position cell.sector (has_extent seats other w over cell.element cell.position cell.sector slot lba there)))
+      other_guid other apart found f q y (has_extent seats other w over f q y slot lba there)))
       (changes slot lba)
 
 -- ---- what writes, resyncs and rebuilds change

@@ -11,11 +11,12 @@ use Rattle.ddf_config.specs.States.{is_marked}
 use Rattle.ddf_plan.specs.Lose.{lost_array}
 use Rattle.ddf_array.specs.Losing.{AreFewer}
 use Rattle.ddf_data.specs.Allowed.{Allowed}
-use Rattle.ddf_data.proofs.Lessened.{kept_less}
+use Rattle.ddf_data.proofs.LessRows.{kept_less}
 use Rattle.ddf_keeping.specs.Over.{AreCurrentSeats, absent_in}
 use Rattle.ddf_keeping.specs.Kept.{KeepsArray}
 use Rattle.ddf_keeping.specs.Lessening.{AllStay, AreLessParts, AreLessPositions, AreStaying, IsLessArray}
 use Rattle.ddf_keeping.proofs.Lessened.{lessened}
+use Rattle.ddf_keeping.proofs.LessRows.{rows_left}
 use Rattle.ddf_keeping.proofs.Lost.{is_less, lost_parity}
 use Rattle.ddf_keeping.proofs.Staying.{leaves_parity}
 
@@ -27,7 +28,7 @@ pub kept_staying : (members after_members : List (ℕ × Member)) (seats fewer :
 kept_staying members after_members seats fewer before after image allowed current are few less stay kept v over =
     let old = lessened members seats fewer before after v are few less over in
     kept_less (absent_in members seats before.elements) (absent_in after_members fewer after.elements) old.0 v image allowed over.is_volume old.2
-    (leaves_parity members after_members current seats fewer are few before after old.0 v less.less stay old.1 over) (kept old.0 old.1)
+    (leaves_parity members after_members current seats fewer are few before after old.0 v less.less stay old.1 over) (rows_left seats fewer few before after old.0 v less.less old.1 over) (kept old.0 old.1)
 
 -- the same array
 
@@ -37,7 +38,7 @@ stay_position c (position ∷ positions) = (inr (refl, refl, refl), stay_positio
 
 less_position : (positions : List Position) → AreLessPositions positions positions
 less_position [] = tt
-less_position (position ∷ positions) = (inr (refl, refl, refl), less_position positions)
+less_position (position ∷ positions) = (inr (refl, refl, refl, inr refl), less_position positions)
 
 less_parts : (known : List (Option ElementValue)) → AreLessParts known known
 less_parts [] = tt
@@ -66,7 +67,8 @@ pub kept_lost : (members after_members : List (ℕ × Member)) (references : Lis
 kept_lost members after_members references seats fewer array image allowed are after_are few kept v over =
     let old = lessened members seats fewer array (lost_array after_members references array) v are few (is_less references after_members array) over in
     kept_less (absent_in members seats array.elements) (absent_in after_members fewer (lost_array after_members references array).elements) old.0 v image allowed over.is_volume old.2
-    (lost_parity (absent_in members seats array.elements) after_members fewer references array old.0 v after_are over) (kept old.0 old.1)
+    (lost_parity (absent_in members seats array.elements) after_members fewer references array old.0 v after_are over)
+    (rows_left seats fewer few array (lost_array after_members references array) old.0 v (is_less references after_members array).less old.1 over) (kept old.0 old.1)
 
 -- an array that is marked
 pub kept_marked : (members after_members : List (ℕ × Member)) (seats fewer : List Seat) (before after : Array) (image : Image) (allowed : Allowed) → AreCurrentSeats members seats → AreFewer seats fewer
@@ -75,7 +77,7 @@ kept_marked members after_members seats fewer before after image allowed are few
     let old = lessened members seats fewer before after v are few less over in
     let is_v = over.marked_is ∙ marked in
     kept_less (absent_in members seats before.elements) (absent_in after_members fewer after.elements) old.0 v image allowed over.is_volume old.2
-    (record { stays = λ unmarked within k one other one_at other_at parity lacks none. absurd (true_false (sym is_v ∙ unmarked)) }) (kept old.0 old.1)
+    (record { stays = λ unmarked within k one other one_at other_at parity lacks none. absurd (true_false (sym is_v ∙ unmarked)) }) (rows_left seats fewer few before after old.0 v less.less old.1 over) (kept old.0 old.1)
   where
     true_false : true ≡ false → ⊥
     true_false e = cc

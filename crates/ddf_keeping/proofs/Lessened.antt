@@ -53,7 +53,7 @@ module _ (seats fewer : List Seat) (few : AreFewer seats fewer) where
       ∙ ap (λ (s : ℕ). elim (floor_of seats one.reference) [ None ↦ None | Some floor ↦ if nat_le end floor then Some s else None ]) same.1))
       (few one.reference)
 
-  extent_same : (blocks blocks' : ℕ) (before after : Position) → blocks' ≡ blocks → after.reference ≡ before.reference → after.start ≡ before.start → extent blocks' after ≡ extent blocks before
+  pub extent_same : (blocks blocks' : ℕ) (before after : Position) → blocks' ≡ blocks → after.reference ≡ before.reference → after.start ≡ before.start → extent blocks' after ≡ extent blocks before
   extent_same blocks blocks' before after b r s =
       ap (λ (n : ℕ). record { reference = n; start = after.start; blocks = blocks' }) r
       ∙ ap (λ (n : ℕ). record { reference = before.reference; start = n; blocks = blocks' }) s
@@ -62,7 +62,7 @@ module _ (seats fewer : List Seat) (few : AreFewer seats fewer) where
   place_less : (blocks blocks' : ℕ) → blocks' ≡ blocks → (before after : Position) → IsLessPosition before after → IsFewerPlace (place_of seats blocks before) (place_of fewer blocks' after)
   place_less blocks blocks' b before after less =
       ⊎_elim
-      (λ out. inl (not_synced after.synced (seat_slot fewer (extent blocks' after)) out))
+      (λ out. inl (not_synced after.synced (seat_slot fewer (extent blocks' after)) out.0))
       (λ same.
       let one = extent_same blocks blocks' before after b same.1 same.2 in
       ⊎_elim

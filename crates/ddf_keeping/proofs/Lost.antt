@@ -19,7 +19,7 @@ use Rattle.ddf_array.specs.Viewing.{place_of}
 use Rattle.ddf_array.specs.Volume.{Volume}
 use Rattle.ddf_array.specs.Within.{is_mirrored, is_part_within, is_within}
 use Rattle.ddf_array.proofs.Enough.{all_pass}
-use Rattle.ddf_data.specs.Fewer.{NoneAvailable, LeavesParity}
+use Rattle.ddf_data.specs.Fewer.{NoneLeft, LeavesParity}
 use Rattle.ddf_keeping.specs.Over.{AreCurrentSeats, IsOver, absent_in}
 use Rattle.ddf_keeping.specs.Lessening.{IsLessPosition, AreLessPositions, IsLessElement, IsLessPart, AreLessParts, IsLessArray}
 use Rattle.ddf_keeping.proofs.Lessened.{parts_count}
@@ -33,8 +33,8 @@ true_false b a c = cc
 
 module _ (references : List ℕ) where
   less_lost : (b : Bool) (position : Position) → IsLessPosition position (if b then out_of_sync position else position)
-  less_lost true position = inl refl
-  less_lost false position = inr (refl, refl, refl)
+  less_lost true position = inl (refl, refl)
+  less_lost false position = inr (refl, refl, refl, inr refl)
 
   positions_lost : (positions : List Position) → AreLessPositions positions (map (lost_position references) positions)
   positions_lost [] = tt
@@ -42,7 +42,7 @@ module _ (references : List ℕ) where
 
   positions_out : (positions : List Position) → AreLessPositions positions (map out_of_sync (map (lost_position references) positions))
   positions_out [] = tt
-  positions_out (position ∷ positions) = (inl refl, positions_out positions)
+  positions_out (position ∷ positions) = (inl (refl, refl), positions_out positions)
 
   element_lost : (element : ElementValue) → IsLessElement element (lost_element references element)
   element_lost element = record { same_level = refl; same_qualifier = refl; same_strip = refl; same_blocks = refl; less = positions_lost element.positions }
@@ -87,10 +87,10 @@ mapped_from f [] k y e = absurd (cc)
 mapped_from f (x ∷ xs) zero y e = (x, cc)
 mapped_from f (x ∷ xs) (suc k) y e = mapped_from f xs k y e
 
-out_none : (seats : List Seat) (blocks : ℕ) (positions : List Position) (k : ℕ) (place : Place) → slice_get (map (place_of seats blocks) (map out_of_sync positions)) k ≡ Some place → is_available place ≡ false
+out_none : (seats : List Seat) (blocks : ℕ) (positions : List Position) (k : ℕ) (place : Place) → slice_get (map (place_of seats blocks) (map out_of_sync positions)) k ≡ Some place → (is_available place ≡ false) × (place.row ≡ 0)
 out_none seats blocks [] k place at = absurd (cc)
 out_none seats blocks (position ∷ positions) zero place at =
-    let same : place_of seats blocks (out_of_sync position) ≡ place = cc in subst (λ (x : Place). is_available x ≡ false) same refl
+    let same : place_of seats blocks (out_of_sync position) ≡ place = cc in subst (λ (x : Place). (is_available x ≡ false) × (x.row ≡ 0)) same (refl, refl)
 out_none seats blocks (position ∷ positions) (suc k) place at = out_none seats blocks positions k place at
 
 module _ (members : List (ℕ × Member)) (seats : List Seat) (are : AreCurrentSeats members seats) (references : List ℕ) (array : Array) (v : Volume) (over : IsOver seats (lost_array members references array) v)
@@ -131,7 +131,7 @@ module _ (members : List (ℕ × Member)) (seats : List Seat) (are : AreCurrentS
   level_of_part : level_of part.shape.layout ≡ (from).element.level
   level_of_part = shape_level (length (lost_array members references array).elements) (from).element part.shape (from).shape_is
 
-  gone_by : (found : Option ElementValue) (b : Bool) → config.is_part_within (config.is_available members) found ≡ b → (if b then found else option_map wholly_out found) ≡ Some (from).element → NoneAvailable part.places
+  gone_by : (found : Option ElementValue) (b : Bool) → config.is_part_within (config.is_available members) found ≡ b → (if b then found else option_map wholly_out found) ≡ Some (from).element → NoneLeft part.places
   gone_by found true is e =
       absurd (not_within (from).element (from).is_element level_of_part (from).places_are (ap (config.is_part_within (config.is_available members)) (sym e) ∙ is))
   gone_by None false is e = absurd (cc)
@@ -140,7 +140,7 @@ module _ (members : List (ℕ × Member)) (seats : List Seat) (are : AreCurrentS
       λ j place at. out_none seats one.blocks one.positions j place
       (ap (λ (l : List Place). slice_get l j) (ap (λ (x : ElementValue). map (place_of seats x.blocks) x.positions) same ∙ sym (from).places_are) ∙ at)
 
-  by_both : (mirrored has : Bool) → config.is_mirrored array ≡ mirrored → has_part_within members lost ≡ has → NoneAvailable part.places
+  by_both : (mirrored has : Bool) → config.is_mirrored array ≡ mirrored → has_part_within members lost ≡ has → NoneLeft part.places
   by_both true true is has_one =
       let elements_are : (lost_array members references array).elements ≡ map (out_beyond members) lost =
       ap (λ b. if b && has_part_within members lost then map (out_beyond members) lost else lost) is ∙ ap (λ b. if b then map (out_beyond members) lost else lost) has_one in
@@ -167,7 +167,7 @@ module _ (members : List (ℕ × Member)) (seats : List Seat) (are : AreCurrentS
       same_mirrored =
           ap (λ (n : ℕ). array.secondary == 0x01 && nat_le 2 n) (parts_count array.elements (lost_array members references array).elements (is_less references members array).less)
 
-  pub all_gone : NoneAvailable part.places
+  pub all_gone : NoneLeft part.places
   all_gone = by_both (config.is_mirrored array) (has_part_within members lost) refl refl
 
 pub lost_parity : (is_absent : ℕ → ℕ → Bool) (members : List (ℕ × Member)) (seats : List Seat) (references : List ℕ) (array : Array) (old v : Volume) → AreCurrentSeats members seats

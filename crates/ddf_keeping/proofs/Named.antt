@@ -11,9 +11,9 @@ use Rattle.ddf_plan.specs.declared.change.Change.{Change}
 use Rattle.ddf_plan.specs.declared.change.Change.TheVariants.{Begin, Progress, Finish}
 use Rattle.ddf_plan.specs.Arrays.{element_after, part_after, position_after, rebuilding}
 use Rattle.ddf_plan.specs.Mark.{mark, marked, unmarked, without_row, without_rows}
-use Rattle.ddf_plan.specs.Rebuild.{new_position}
+use Rattle.ddf_plan.specs.Rebuild.{new_position, progressed}
 use Rattle.ddf_data.specs.Changing.{changed_item}
-use Rattle.ddf_keeping.specs.Clearing.{IsInSync, IsSameButMark, element_in_sync, position_in_sync}
+use Rattle.ddf_keeping.specs.Clearing.{IsInSync, IsNotedArray, IsSameButMark, element_in_sync, element_noted, position_in_sync, position_noted}
 use Rattle.ddf_keeping.specs.Lessening.{AllStay, AreLessParts, AreLessPositions, AreStaying, IsLessArray, IsLessElement, IsLessPart, IsLessPosition, IsStaying}
 
 -- ---- the mark
@@ -47,7 +47,7 @@ unmarked_same init array = record { same_secondary = refl; same_elements = refl 
 
 positions_without : (positions : List Position) → AreLessPositions positions (map without_row positions)
 positions_without [] = tt
-positions_without (position ∷ positions) = (inr (refl, refl, refl), positions_without positions)
+positions_without (position ∷ positions) = (inr (refl, refl, refl, inl refl), positions_without positions)
 
 parts_without : (known : List (Option ElementValue)) → AreLessParts known (map (option_map without_rows) known)
 parts_without [] = tt
@@ -86,7 +86,7 @@ module _ (change : Change) where
     where
       same_positions : (positions : List Position) → AreLessPositions positions positions
       same_positions [] = tt
-      same_positions (position ∷ positions) = (inr (refl, refl, refl), same_positions positions)
+      same_positions (position ∷ positions) = (inr (refl, refl, refl, inr refl), same_positions positions)
 
   part_less : ((number : ℕ) (old : Position) → IsLessPosition old (position_after change number old)) → (b : Bool) (part : Option ElementValue) → IsLessPart part (if b then option_map (element_after change) part else part)
   part_less less true None = tt
@@ -139,8 +139,8 @@ module _ (change : Change) where
 -- ---- a rebuild begins
 
 begun_less_by : (b : Bool) (reference start : ℕ) (old : Position) → IsLessPosition old (if b then new_position reference start else old)
-begun_less_by true reference start old = inl refl
-begun_less_by false reference start old = inr (refl, refl, refl)
+begun_less_by true reference start old = inl (refl, refl)
+begun_less_by false reference start old = inr (refl, refl, refl, inr refl)
 
 pub begun_less : (guid : List ℕ) (element position reference start : ℕ) (array : Array) → IsLessArray array (rebuilding (Begin guid element position reference start) element array)
 begun_less guid element position reference start array =
@@ -156,14 +156,6 @@ pub begun_stays : (c : ℕ → Bool) (guid : List ℕ) (element position referen
 begun_stays c guid element position reference start array vacant =
     rebuilding_stays (Begin guid element position reference start) c element array (λ plan k old at is_old.
     begun_stays_by c (nat_eq position k) reference start old (λ same. vacant plan old at (ap (slice_get plan.positions) (eqb-true position k same) ∙ is_old)))
-
--- ---- it goes on
-
-pub progressed_less : (guid : List ℕ) (element position row : ℕ) (array : Array) → IsLessArray array (rebuilding (Progress guid element position row) element array)
-progressed_less guid element position row array = rebuilding_less (Progress guid element position row) (λ number old. inr (refl, refl, refl)) element array
-
-pub progressed_stays : (c : ℕ → Bool) (guid : List ℕ) (element position row : ℕ) (array : Array) → AllStay c array.elements (rebuilding (Progress guid element position row) element array).elements
-progressed_stays c guid element position row array = rebuilding_stays (Progress guid element position row) c element array (λ plan k old at is_old. inr (refl, refl, refl))
 
 -- ---- it is done
 
@@ -184,26 +176,57 @@ numbered_change f n a (suc k) (x ∷ xs) is =
     ap (λ (b : Bool). (if b then f x else x) ∷ map (λ (pair : ℕ × _). if nat_eq n pair.0 then f pair.1 else pair.1) (enumerate_from (a + 1) xs)) (ne_eqb n a (λ same. omega (arith, same, is)))
     ∙ ap (λ l. x ∷ l) (numbered_change f n (a + 1) k xs (omega (arith, is)))
 
+-- of the named element each position is made, and of no other
+module _ (change : Change) (g : ElementValue → ElementValue) (same : (plan : ElementValue) → element_after change plan ≡ g plan) where
+  part_by : (b : Bool) (part : Option ElementValue) → (if b then option_map (element_after change) part else part) ≡ (if b then option_map g part else part)
+  part_by true None = refl
+  part_by true (Some plan) = ap Some (same plan)
+  part_by false part = refl
+
+  each : (element : ℕ) (known : List (Option ElementValue)) (a : ℕ)
+      → map (part_after change element) (enumerate_from a known) ≡ map (λ (pair : ℕ × Option ElementValue). if nat_eq element pair.0 then option_map g pair.1 else pair.1) (enumerate_from a known)
+  each element [] a = refl
+  each element (part ∷ known) a =
+      ap (λ (x : Option ElementValue). x ∷ map (part_after change element) (enumerate_from (a + 1) known)) (part_by (nat_eq element a) part)
+      ∙ ap (λ l. (if nat_eq element a then option_map g part else part) ∷ l) (each element known (a + 1))
+
+  pub all_made : (element : ℕ) (known : List (Option ElementValue)) → map (part_after change element) (enumerate_from 0 known) ≡ changed_item (option_map g) element known
+  all_made element known = let first : element ≡ 0 + element = omega arith in each element known 0 ∙ numbered_change (option_map g) element 0 element known first
+
 pub finished_synced : (guid : List ℕ) (element position : ℕ) (array : Array) → IsInSync element position array (rebuilding (Finish guid element position) element array)
 finished_synced guid element position array = record {
   same_secondary = refl;
   same_mark = refl;
   elements_are =
-      let first : element ≡ 0 + element = omega arith in
       let own : position ≡ 0 + position = omega arith in
-      each (λ plan. ap (with_positions plan) (numbered_change position_in_sync position 0 position plan.positions own)) array.elements 0
-      ∙ numbered_change (option_map (element_in_sync position)) element 0 element array.elements first;
+      all_made (Finish guid element position) (element_in_sync position) (λ plan. ap (with_positions plan) (numbered_change position_in_sync position 0 position plan.positions own)) element array.elements;
 }
-  where
-    part_by : ((plan : ElementValue) → element_after (Finish guid element position) plan ≡ element_in_sync position plan) → (b : Bool) (part : Option ElementValue)
-        → (if b then option_map (element_after (Finish guid element position)) part else part) ≡ (if b then option_map (element_in_sync position) part else part)
-    part_by same true None = refl
-    part_by same true (Some plan) = ap Some (same plan)
-    part_by same false part = refl
 
-    each : ((plan : ElementValue) → element_after (Finish guid element position) plan ≡ element_in_sync position plan) → (known : List (Option ElementValue)) (a : ℕ)
-        → map (part_after (Finish guid element position) element) (enumerate_from a known) ≡ map (λ (pair : ℕ × Option ElementValue). if nat_eq element pair.0 then option_map (element_in_sync position) pair.1 else pair.1) (enumerate_from a known)
-    each same [] a = refl
-    each same (part ∷ known) a =
-        ap (λ (x : Option ElementValue). x ∷ map (part_after (Finish guid element position) element) (enumerate_from (a + 1) known)) (part_by same (nat_eq element a) part)
-        ∙ ap (λ l. (if nat_eq element a then option_map (element_in_sync position) part else part) ∷ l) (each same known (a + 1))
+-- ---- it goes on
+
+-- no rows count behind the position
+later_rows : (n row a : ℕ) (xs : List Position) → n < a → map (λ (pair : ℕ × Position). progressed n row pair.0 pair.1) (enumerate_from a xs) ≡ map (position_noted 0) xs
+later_rows n row a [] less = refl
+later_rows n row a (x ∷ xs) less =
+    ap (λ (b : Bool). position_noted (if b then row else 0) x ∷ map (λ (pair : ℕ × Position). progressed n row pair.0 pair.1) (enumerate_from (a + 1) xs)) (ne_eqb n a (λ same. omega (arith, same, less)))
+    ∙ ap (λ l. position_noted 0 x ∷ l) (later_rows n row (a + 1) xs (omega (arith, less)))
+
+rows_change : (n row a k : ℕ) (xs : List Position) → n ≡ a + k
+    → map (λ (pair : ℕ × Position). progressed n row pair.0 pair.1) (enumerate_from a xs) ≡ changed_item (position_noted row) k (map (position_noted 0) xs)
+rows_change n row a k [] is = refl
+rows_change n row a zero (x ∷ xs) is =
+    let here : n ≡ a = omega (arith, is) in
+    ap (λ (b : Bool). position_noted (if b then row else 0) x ∷ map (λ (pair : ℕ × Position). progressed n row pair.0 pair.1) (enumerate_from (a + 1) xs)) (eq-eqb n a here)
+    ∙ ap (λ l. position_noted row x ∷ l) (later_rows n row (a + 1) xs (omega (arith, here)))
+rows_change n row a (suc k) (x ∷ xs) is =
+    ap (λ (b : Bool). position_noted (if b then row else 0) x ∷ map (λ (pair : ℕ × Position). progressed n row pair.0 pair.1) (enumerate_from (a + 1) xs)) (ne_eqb n a (λ same. omega (arith, same, is)))
+    ∙ ap (λ l. position_noted 0 x ∷ l) (rows_change n row (a + 1) k xs (omega (arith, is)))
+
+pub progressed_noted : (guid : List ℕ) (element position row : ℕ) (array : Array) → IsNotedArray element position row array (rebuilding (Progress guid element position row) element array)
+progressed_noted guid element position row array = record {
+  same_secondary = refl;
+  same_mark = refl;
+  elements_are =
+      let own : position ≡ 0 + position = omega arith in
+      all_made (Progress guid element position row) (element_noted position row) (λ plan. ap (with_positions plan) (rows_change position row 0 position plan.positions own)) element array.elements;
+}

@@ -16,6 +16,7 @@ use Rattle.ddf_config.specs.Shapes.{element_shape, has_shape, secondary_level, s
 use Rattle.ddf_config.specs.Within as config
 use Rattle.ddf_config.specs.Within.{has_enough, has_parity, lacks_one}
 use Rattle.ddf_array.specs.declared.part.Part.{Part}
+use Rattle.ddf_array.specs.declared.place.Place.{Place}
 use Rattle.ddf_array.specs.Cells.{is_in_every}
 use Rattle.ddf_array.specs.Places.{is_available}
 use Rattle.ddf_array.specs.Viewing.{known_part, place_of, seat_slot}
@@ -74,6 +75,13 @@ module _ (seats : List Seat) (elements : ℕ) where
 pub of_part : (seats : List Seat) (array : Array) (v : Volume) → IsOver seats array v → (k : ℕ) (part : Part) → slice_get v.parts k ≡ Some part → IsPartOf seats (length array.elements) array.elements k part
 of_part seats array v over k part at =
     part_of_at seats (length array.elements) array.elements over.complete over.shapes k part (ap (λ (l : List Part). slice_get l k) (sym over.parts_are) ∙ at)
+
+-- the position of a place
+pub at_position : (seats : List Seat) (blocks : ℕ) (positions : List Position) (j : ℕ) (place : Place) → slice_get (map (place_of seats blocks) positions) j ≡ Some place
+    → (one : Position) × (slice_get positions j ≡ Some one) × (place ≡ place_of seats blocks one)
+at_position seats blocks [] j place at = absurd (cc)
+at_position seats blocks (one ∷ positions) zero place at = let same : place_of seats blocks one ≡ place = cc in (one, refl, sym same)
+at_position seats blocks (one ∷ positions) (suc j) place at = at_position seats blocks positions j place at
 
 -- ---- mirrored arrays
 

@@ -27,17 +27,18 @@ use Rattle.ddf_array.proofs.Usable.{below_floors}
 use Rattle.ddf_array.proofs.Viewed.{from_view}
 use Rattle.ddf_cells.specs.Degraded.{is_degraded}
 use Rattle.ddf_data.specs.Allowed.{Allowed}
-use Rattle.ddf_data.specs.Changing.{NoneAbsent}
+use Rattle.ddf_data.specs.Changing.{with_mark}
 use Rattle.ddf_data.specs.Kept.{IsKeptData}
+use Rattle.ddf_data.specs.Rows.{AreRowsKept, NoneAbsent}
 use Rattle.ddf_data.proofs.Consistent.{value_may, whole_consistent}
 use Rattle.ddf_data.proofs.Given.{have_cells}
 use Rattle.ddf_keeping.specs.Clearing.{MayBeCleared}
 use Rattle.ddf_keeping.specs.Over.{absent_in, lacks_disk, part_lacks}
 
 pub redundant_may : (is_absent : ℕ → ℕ → Bool) (v : Volume) (image : Image) (allowed : Allowed) → IsVolume v → is_within v ≡ true → is_degraded v ≡ false → IsRedundant v image
-    → IsKeptData is_absent v image allowed → MayBeCleared is_absent v image allowed
-redundant_may is_absent v image allowed known within whole is kept =
-    record { consistent = whole_consistent is_absent v image whole is; may = value_may is_absent v image allowed kept is (have_cells v known within whole) }
+    → AreRowsKept is_absent (with_mark false v) image → IsKeptData is_absent v image allowed → MayBeCleared is_absent v image allowed
+redundant_may is_absent v image allowed known within whole is rows kept =
+    record { consistent = whole_consistent is_absent v image whole is; rows = rows; may = value_may is_absent v image allowed kept is (have_cells v known within whole) }
 
 none_passes : {X : Type 0} (test : X → Bool) (xs : List X) → list_any test xs ≡ false → (k : ℕ) (x : X) → slice_get xs k ≡ Some x → test x ≡ false
 none_passes test [] none k x at = absurd (cc)

@@ -17,6 +17,7 @@ use Rattle.ddf_data.specs.Fewer.{IsAlikePlace, ArePlaces, LeavesParity}
 use Rattle.ddf_keeping.specs.Over.{AreCurrentSeats, IsOver, absent_in, lacks_disk, part_lacks}
 use Rattle.ddf_keeping.specs.Lessening.{AllStay, AreLessParts, AreStaying, IsStaying}
 use Rattle.ddf_keeping.proofs.Lessened.{slot_ends, slot_lost}
+use Rattle.ddf_keeping.proofs.LessRows.{element_less}
 use Rattle.ddf_keeping.proofs.Parts.{absent_is, of_part}
 
 true_false : (b : Bool) → b ≡ true → b ≡ false → ⊥
@@ -55,7 +56,7 @@ module _ (members after_members : List (ℕ × Member)) (same_current : (referen
         → IsAlikePlace (place_of seats one.blocks before) (place_of fewer other.blocks after)
     alike before after staying lacks =
         ⊎_elim
-        (λ out. inl (out_one after.synced (seat_slot fewer (extent other.blocks after)) out.0, out_one before.synced (seat_slot seats (extent one.blocks before)) out.1))
+        (λ out. inl (out_one after.synced (seat_slot fewer (extent other.blocks after)) out.0, out_one before.synced (seat_slot seats (extent one.blocks before)) out.1, out.0 ∙ sym out.1))
         (λ same. inr (
           same.0,
           same.2,
@@ -90,26 +91,13 @@ module _ (members after_members : List (ℕ × Member)) (same_current : (referen
         let same : b ≡ before = cc in subst (λ (x : Position). lacks_disk members seats one x ≡ false) same (had_disk b after staying.0 (none 0 after refl))
     all_had (b ∷ befores) (after ∷ afters) staying none (suc j) before at = all_had befores afters staying.1 (λ i x there. none (suc i) x there) j before at
 
-  blocks_same : (befores afters : List (Option ElementValue)) → AreLessParts befores afters → (k : ℕ) (one other : ElementValue) → slice_get befores k ≡ Some (Some one) → slice_get afters k ≡ Some (Some other)
-      → other.blocks ≡ one.blocks
-  blocks_same [] [] less k one other a b = absurd (cc)
-  blocks_same [] (y ∷ ys) less k one other a b = absurd less
-  blocks_same (x ∷ xs) [] less k one other a b = absurd less
-  blocks_same (None ∷ xs) (y ∷ ys) less zero one other a b = absurd (cc)
-  blocks_same (Some x ∷ xs) (None ∷ ys) less zero one other a b = absurd less.0
-  blocks_same (Some x ∷ xs) (Some y ∷ ys) less zero one other a b =
-      let first : x ≡ one = cc in
-      let second : y ≡ other = cc in
-      sym (ap (λ (z : ElementValue). z.blocks) second) ∙ less.0.same_blocks ∙ ap (λ (z : ElementValue). z.blocks) first
-  blocks_same (x ∷ xs) (y ∷ ys) less (suc k) one other a b = blocks_same xs ys less.1 k one other a b
-
   pub leaves_parity : (before after : Array) (old v : Volume) → AreLessParts before.elements after.elements → AllStay (is_current members) before.elements after.elements → IsOver seats before old → IsOver fewer after v
       → LeavesParity (absent_in members seats before.elements) (absent_in after_members fewer after.elements) old v
   leaves_parity before after old v less stay old_over over = record {
     stays = λ unmarked within k one other one_at other_at parity lacks none.
         let from = of_part seats before old old_over k one one_at in
         let to = of_part fewer after v over k other other_at in
-        let blocks = blocks_same before.elements after.elements less k from.element to.element from.is_element to.is_element in
+        let blocks = (element_less before.elements after.elements less k from.element to.element from.is_element to.is_element).same_blocks in
         let staying = stay k from.element to.element from.is_element to.is_element in
         let has : (j : ℕ) (position : Position) → slice_get to.element.positions j ≡ Some position → lacks_disk after_members fewer to.element position ≡ false =
         λ j position at. sym (absent_is after_members fewer after.elements k j to.element position to.is_element at) ∙ none j in

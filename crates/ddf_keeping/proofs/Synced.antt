@@ -1,137 +1,127 @@
--- An array of which a position is in sync again keeps what it keeps.
-use Rattle.std.proofs.Common.{◌≡◌, ◌∙◌, ⊎_elim, ℕ, zero, suc, Bool, true, false, List, [], ◌∷◌, Option, Some, None, refl, sym, ap, subst, map, filter_map, length, slice_get, ◌&&◌}
-use Rattle.std.proofs.Math.Path.{fun_ext}
-use Rattle.std.specs.Prelude.{is_some, option_map, ◌==◌, if◌then◌else◌}
-use Rattle.std.specs.Result.{result_ok}
-use Rattle.std.specs.List.{cons_option, list_all}
+-- An array of which a position is in sync again, or rows of a position count as rebuilt, keeps what it keeps.
+use Rattle.std.proofs.Common.{◌≡◌, ◌∙◌, ⊎_elim, ℕ, zero, suc, Bool, false, List, [], ◌∷◌, Some, None, refl, sym, ap, subst, map, length, slice_get}
 use Rattle.std.proofs.lemmas.Bool.{cases_eq}
 use Rattle.ddf_bay.specs.Sectors.{Image}
-use Rattle.ddf_secondary.specs.Arrangement.{tiers_of}
-use Rattle.ddf_secondary.specs.declared.element.ElementSize.{ElementSize}
 use Rattle.ddf_config.specs.declared.array.Array.{Array}
 use Rattle.ddf_config.specs.declared.element.Position.{Position}
 use Rattle.ddf_config.specs.declared.member.Member.{Member}
 use Rattle.ddf_config.specs.declared.seat.Seat.{Seat}
 use Rattle.ddf_config.specs.ElementValue.{ElementValue}
-use Rattle.ddf_config.specs.Shapes.{array_tiers, has_shape, part_size, shape_size}
-use Rattle.ddf_config.specs.States.{is_marked}
-use Rattle.ddf_array.specs.declared.part.Part.{Part}
-use Rattle.ddf_array.specs.Viewing.{known_part, parts_of}
-use Rattle.ddf_array.specs.Volume.{Volume, volume, IsPart, IsVolume, size_of}
+use Rattle.ddf_array.specs.declared.place.Place.{Place}
+use Rattle.ddf_array.specs.Viewing.{place_of}
+use Rattle.ddf_array.specs.Volume.{Volume}
 use Rattle.ddf_data.specs.Allowed.{Allowed}
-use Rattle.ddf_data.specs.Changing.{changed_item, in_sync, part_in_sync, place_in_sync}
+use Rattle.ddf_data.specs.Changing.{changed_item, place_in_sync, place_noted}
 use Rattle.ddf_data.specs.Kept.{IsKeptData}
-use Rattle.ddf_data.proofs.Finished.{kept_finished}
+use Rattle.ddf_data.proofs.FinishedRows.{kept_finished}
 use Rattle.ddf_data.proofs.Items.{changed_at, changed_length, unchanged_at}
-use Rattle.ddf_keeping.specs.Over.{IsOver, absent_in, lacks_disk, part_lacks}
+use Rattle.ddf_data.proofs.Noted.{kept_noted}
+use Rattle.ddf_keeping.specs.Over.{IsOver, absent_in, lacks_disk}
 use Rattle.ddf_keeping.specs.Kept.{KeepsArray}
-use Rattle.ddf_keeping.specs.Clearing.{IsInSync, MayBeInSync, element_in_sync, elements_in_sync, position_in_sync}
-use Rattle.ddf_keeping.proofs.Cleared.{parts_synced, shape_synced}
+use Rattle.ddf_keeping.specs.Clearing.{IsInSync, IsNotedArray, MayBeInSync, MayBeNoted, position_in_sync, position_noted}
+use Rattle.ddf_keeping.proofs.Remade.{Remakes, was}
 
-module _ (elements e p : ℕ) where
-  size_synced : (part : Option ElementValue) → part_size elements (option_map (element_in_sync p) part) ≡ part_size elements part
-  size_synced None = refl
-  size_synced (Some element) = ap (option_map shape_size) (shape_synced elements p element)
+-- ---- one position, on the extent that it was on
 
-  has_synced : (part : Option ElementValue) → has_shape elements (option_map (element_in_sync p) part) ≡ has_shape elements part
-  has_synced None = refl
-  has_synced (Some element) = ap is_some (shape_synced elements p element)
+module _ (f : Position → Position) (place_f : Place → Place) (follows : (seats : List Seat) (blocks : ℕ) (position : Position) → place_of seats blocks (f position) ≡ place_f (place_of seats blocks position))
+    (same_start : (place : Place) → (place_f place).start ≡ place.start) (same_slot : (place : Place) → (place_f place).slot ≡ place.slot)
+    (same_lack : (members : List (ℕ × Member)) (seats : List Seat) (element : ElementValue) (position : Position) → lacks_disk members seats element (f position) ≡ lacks_disk members seats element position) where
+  one_place : (seats : List Seat) (blocks p : ℕ) (positions : List Position) → map (place_of seats blocks) (changed_item f p positions) ≡ changed_item place_f p (map (place_of seats blocks) positions)
+  one_place seats blocks p [] = refl
+  one_place seats blocks zero (one ∷ positions) = ap (λ x. x ∷ map (place_of seats blocks) positions) (follows seats blocks one)
+  one_place seats blocks (suc p) (one ∷ positions) = ap (λ l. place_of seats blocks one ∷ l) (one_place seats blocks p positions)
 
-some_synced : (p : ℕ) (part : Option ElementValue) → is_some (option_map (element_in_sync p) part) ≡ is_some part
-some_synced p None = refl
-some_synced p (Some element) = refl
+  one_lies : (p : ℕ) (places : List Place) (j : ℕ) (place : Place) → slice_get places j ≡ Some place
+      → (other : Place) × (slice_get (changed_item place_f p places) j ≡ Some other) × (other.start ≡ place.start) × (other.slot ≡ place.slot)
+  one_lies p places j place at =
+      ⊎_elim
+      (λ here. (
+        place_f place,
+        ap (slice_get (changed_item place_f p places)) here ∙ changed_at place_f p places place (ap (slice_get places) (sym here) ∙ at),
+        same_start place,
+        same_slot place,
+      ))
+      (λ other. (place, unchanged_at place_f p places j place other at, refl, refl)) (cases_eq j p)
 
-sizes_synced : (elements p : ℕ) (known : List (Option ElementValue)) (e : ℕ) → filter_map (part_size elements) (elements_in_sync e p known) ≡ filter_map (part_size elements) known
-sizes_synced elements p [] e = refl
-sizes_synced elements p (part ∷ known) zero = ap (λ (o : Option ElementSize). cons_option o (filter_map (part_size elements) known)) (size_synced elements 0 p part)
-sizes_synced elements p (part ∷ known) (suc e) = ap (cons_option (part_size elements part)) (sizes_synced elements p known e)
-
-whole_synced : (p : ℕ) (known : List (Option ElementValue)) (e : ℕ) → list_all (λ (part : Option ElementValue). is_some part) (elements_in_sync e p known) ≡ list_all (λ (part : Option ElementValue). is_some part) known
-whole_synced p [] e = refl
-whole_synced p (part ∷ known) zero = ap (λ b. b && list_all (λ (part : Option ElementValue). is_some part) known) (some_synced p part)
-whole_synced p (part ∷ known) (suc e) = ap (λ b. is_some part && b) (whole_synced p known e)
-
-shapes_synced : (elements p : ℕ) (known : List (Option ElementValue)) (e : ℕ) → list_all (has_shape elements) (elements_in_sync e p known) ≡ list_all (has_shape elements) known
-shapes_synced elements p [] e = refl
-shapes_synced elements p (part ∷ known) zero = ap (λ b. b && list_all (has_shape elements) known) (has_synced elements 0 p part)
-shapes_synced elements p (part ∷ known) (suc e) = ap (λ b. has_shape elements part && b) (shapes_synced elements p known e)
-
--- ---- what lacks a disk
-
-module _ (members : List (ℕ × Member)) (seats : List Seat) where
-  lacks_at : List Position → ElementValue → ℕ → Bool
-  lacks_at positions element j = elim (slice_get positions j) [ None ↦ false | Some one ↦ lacks_disk members seats element one ]
-
-  positions_lack : (element : ElementValue) (p : ℕ) (positions : List Position) (j : ℕ)
-      → ◌≡◌ {A = Bool} (elim (slice_get (changed_item position_in_sync p positions) j) [ None ↦ false | Some one ↦ lacks_disk members seats element one ])
+  one_lacks : (members : List (ℕ × Member)) (seats : List Seat) (element : ElementValue) (p : ℕ) (positions : List Position) (j : ℕ)
+      → ◌≡◌ {A = Bool} (elim (slice_get (changed_item f p positions) j) [ None ↦ false | Some one ↦ lacks_disk members seats element one ])
       (elim (slice_get positions j) [ None ↦ false | Some one ↦ lacks_disk members seats element one ])
-  positions_lack element p [] j = refl
-  positions_lack element zero (one ∷ positions) zero = refl
-  positions_lack element zero (one ∷ positions) (suc j) = refl
-  positions_lack element (suc p) (one ∷ positions) zero = refl
-  positions_lack element (suc p) (one ∷ positions) (suc j) = positions_lack element p positions j
+  one_lacks members seats element p [] j = refl
+  one_lacks members seats element zero (one ∷ positions) zero = same_lack members seats element one
+  one_lacks members seats element zero (one ∷ positions) (suc j) = refl
+  one_lacks members seats element (suc p) (one ∷ positions) zero = refl
+  one_lacks members seats element (suc p) (one ∷ positions) (suc j) = one_lacks members seats element p positions j
 
-  part_synced : (p j : ℕ) (part : Option ElementValue) → part_lacks members seats j (option_map (element_in_sync p) part) ≡ part_lacks members seats j part
-  part_synced p j None = refl
-  part_synced p j (Some element) = positions_lack element p element.positions j
+-- ---- a position in sync
 
-  absent_synced : (p : ℕ) (known : List (Option ElementValue)) (e k j : ℕ) → absent_in members seats (elements_in_sync e p known) k j ≡ absent_in members seats known k j
-  absent_synced p [] e k j = refl
-  absent_synced p (part ∷ known) zero zero j = part_synced p j part
-  absent_synced p (part ∷ known) zero (suc k) j = refl
-  absent_synced p (part ∷ known) (suc e) zero j = refl
-  absent_synced p (part ∷ known) (suc e) (suc k) j = absent_synced p known e k j
-
--- ---- the volume before
-
-shape_sizes : (p : ℕ) (parts : List Part) (e : ℕ) → map size_of (changed_item (part_in_sync p) e parts) ≡ map size_of parts
-shape_sizes p [] e = refl
-shape_sizes p (part ∷ parts) zero = refl
-shape_sizes p (part ∷ parts) (suc e) = ap (λ l. size_of part ∷ l) (shape_sizes p parts e)
-
-part_was : (p : ℕ) (part : Part) → IsPart (part_in_sync p part) → IsPart part
-part_was p part is = record {
-  shape_is = is.shape_is;
-  has_places = sym (changed_length place_in_sync p part.places) ∙ is.has_places;
-  ends = λ j place at. ⊎_elim
-      (λ here. is.ends j (place_in_sync place)
-      (ap (slice_get (changed_item place_in_sync p part.places)) here ∙ changed_at place_in_sync p part.places place (ap (slice_get part.places) (sym here) ∙ at)))
-      (λ other. is.ends j place (unchanged_at place_in_sync p part.places j place other at)) (cases_eq j p);
+remakes_synced : (p : ℕ) → Remakes (changed_item position_in_sync p) (changed_item place_in_sync p)
+remakes_synced p = record {
+  as_many = λ positions. changed_length position_in_sync p positions;
+  as_many_places = λ places. changed_length place_in_sync p places;
+  same_places = λ seats blocks positions.
+      one_place position_in_sync place_in_sync (λ seats blocks position. refl) (λ place. refl) (λ place. refl) (λ members seats element position. refl) seats blocks p positions;
+  lies = one_lies position_in_sync place_in_sync (λ seats blocks position. refl) (λ place. refl) (λ place. refl) (λ members seats element position. refl) p;
+  lacks = λ members seats element positions j.
+      one_lacks position_in_sync place_in_sync (λ seats blocks position. refl) (λ place. refl) (λ place. refl) (λ members seats element position. refl) members seats element p positions j;
 }
 
 pub finished : (members : List (ℕ × Member)) (seats : List Seat) (e p : ℕ) (before after : Array) (image : Image) (allowed : Allowed) → IsInSync e p before after
     → ((v : Volume) → IsOver seats before v → MayBeInSync (absent_in members seats before.elements) v image e p)
     → KeepsArray members seats before image allowed → KeepsArray members seats after image allowed
 finished members seats e p before after image allowed is may kept v over =
-    let n = length before.elements in
-    let count : length after.elements ≡ n = ap length is.elements_are ∙ changed_length (option_map (element_in_sync p)) e before.elements in
-    let tiers : array_tiers after ≡ array_tiers before =
-    ap (λ (m : ℕ). result_ok (tiers_of (if m == 1 then 0x00 else after.secondary) (filter_map (part_size m) after.elements))) count
-    ∙ ap (λ (c : ℕ). result_ok (tiers_of (if n == 1 then 0x00 else c) (filter_map (part_size n) after.elements))) is.same_secondary
-    ∙ ap (λ (l : List (Option ElementValue)). result_ok (tiers_of (if n == 1 then 0x00 else before.secondary) (filter_map (part_size n) l))) is.elements_are
-    ∙ ap (λ (l : List ElementSize). result_ok (tiers_of (if n == 1 then 0x00 else before.secondary) l)) (sizes_synced n p before.elements e) in
-    let whole : list_all (λ (part : Option ElementValue). is_some part) before.elements ≡ true =
-    sym (whole_synced p before.elements e) ∙ ap (list_all (λ (part : Option ElementValue). is_some part)) (sym is.elements_are) ∙ over.complete in
-    let shaped : list_all (has_shape n) before.elements ≡ true =
-    sym (shapes_synced n p before.elements e) ∙ ap (list_all (has_shape n)) (sym is.elements_are) ∙ ap (λ (m : ℕ). list_all (has_shape m) after.elements) (sym count) ∙ over.shapes in
-    let old : Volume = volume (is_marked before) v.tiers (parts_of seats before.elements) in
-    let parts_are : v.parts ≡ changed_item (part_in_sync p) e (parts_of seats before.elements) =
-    over.parts_are ∙ ap (λ (m : ℕ). filter_map (known_part seats m) after.elements) count ∙ ap (filter_map (known_part seats n)) is.elements_are
-    ∙ parts_synced seats n p before.elements whole shaped e in
-    let v_is : in_sync e p old ≡ v =
-    ap (λ (l : List Part). volume (is_marked before) v.tiers l) (sym parts_are) ∙ ap (λ (b : Bool). volume b v.tiers v.parts) (sym is.same_mark ∙ sym over.marked_is) in
-    let known : IsVolume old = record {
-      array_is = over.is_volume.array_is;
-      has_sizes = over.is_volume.has_sizes ∙ ap (map size_of) parts_are ∙ shape_sizes p (parts_of seats before.elements) e;
-      are_parts = λ k part at. ⊎_elim
-          (λ here. part_was p part (over.is_volume.are_parts k (part_in_sync p part)
-          (ap (λ (l : List Part). slice_get l k) parts_are ∙ ap (slice_get (changed_item (part_in_sync p) e (parts_of seats before.elements))) here
-          ∙ changed_at (part_in_sync p) e (parts_of seats before.elements) part (ap (slice_get (parts_of seats before.elements)) (sym here) ∙ at))))
-          (λ other. over.is_volume.are_parts k part (ap (λ (l : List Part). slice_get l k) parts_are ∙ unchanged_at (part_in_sync p) e (parts_of seats before.elements) k part other at)) (cases_eq k e);
-    } in
-    let old_over : IsOver seats before old = record { tiers_are = sym tiers ∙ over.tiers_are; parts_are = refl; marked_is = refl; is_volume = known; complete = whole; shapes = shaped } in
-    let ready = may old old_over in
-    let done = kept_finished (absent_in members seats before.elements) old image allowed e p known ready.unmarked ready.within ready.target ready.all_read ready.rebuilt (kept old old_over) in
-    let absent : absent_in members seats before.elements ≡ absent_in members seats after.elements =
-    fun_ext (λ k. fun_ext (λ j. sym (absent_synced members seats p before.elements e k j))) ∙ ap (absent_in members seats) (sym is.elements_are) in
-    subst (λ (x : ℕ → ℕ → Bool). IsKeptData x v image allowed) absent (subst (λ (x : Volume). IsKeptData (absent_in members seats before.elements) x image allowed) v_is done)
+    let there = was (changed_item position_in_sync p) (changed_item place_in_sync p) (remakes_synced p) members seats e before after v is.same_secondary is.same_mark is.elements_are over in
+    let ready = may there.old there.over in
+    let done = kept_finished (absent_in members seats before.elements) there.old image allowed e p there.over.is_volume ready.unmarked ready.within ready.target ready.all_read ready.first ready.rebuilt (kept there.old there.over) in
+    subst (λ (x : ℕ → ℕ → Bool). IsKeptData x v image allowed) there.same_absent (subst (λ (x : Volume). IsKeptData (absent_in members seats before.elements) x image allowed) there.is_volume done)
+
+-- ---- rows that count
+
+module _ (p row : ℕ) where
+  abbrev positions_by : List Position → List Position
+  positions_by positions = changed_item (position_noted row) p (map (position_noted 0) positions)
+
+  abbrev places_by : List Place → List Place
+  places_by places = changed_item (place_noted row) p (map (place_noted 0) places)
+
+  length_mapped : {X : Type 0} (f : X → X) (xs : List X) → length (map f xs) ≡ length xs
+  length_mapped f [] = refl
+  length_mapped f (x ∷ xs) = ap suc (length_mapped f xs)
+
+  rest_places : (seats : List Seat) (blocks : ℕ) (positions : List Position) → map (place_of seats blocks) (map (position_noted 0) positions) ≡ map (place_noted 0) (map (place_of seats blocks) positions)
+  rest_places seats blocks [] = refl
+  rest_places seats blocks (one ∷ positions) = ap (λ l. place_of seats blocks (position_noted 0 one) ∷ l) (rest_places seats blocks positions)
+
+  rest_lies : (places : List Place) (j : ℕ) (place : Place) → slice_get places j ≡ Some place → slice_get (map (place_noted 0) places) j ≡ Some (place_noted 0 place)
+  rest_lies [] j place at = absurd (cc)
+  rest_lies (one ∷ places) zero place at = let same : one ≡ place = cc in ap (λ (x : Place). Some (place_noted 0 x)) same
+  rest_lies (one ∷ places) (suc j) place at = rest_lies places j place at
+
+  rest_lacks : (members : List (ℕ × Member)) (seats : List Seat) (element : ElementValue) (positions : List Position) (j : ℕ)
+      → ◌≡◌ {A = Bool} (elim (slice_get (map (position_noted 0) positions) j) [ None ↦ false | Some one ↦ lacks_disk members seats element one ])
+      (elim (slice_get positions j) [ None ↦ false | Some one ↦ lacks_disk members seats element one ])
+  rest_lacks members seats element [] j = refl
+  rest_lacks members seats element (one ∷ positions) zero = refl
+  rest_lacks members seats element (one ∷ positions) (suc j) = rest_lacks members seats element positions j
+
+  remakes_noted : Remakes positions_by places_by
+  remakes_noted = record {
+    as_many = λ positions. changed_length (position_noted row) p (map (position_noted 0) positions) ∙ length_mapped (position_noted 0) positions;
+    as_many_places = λ places. changed_length (place_noted row) p (map (place_noted 0) places) ∙ length_mapped (place_noted 0) places;
+    same_places = λ seats blocks positions.
+        one_place (position_noted row) (place_noted row) (λ seats blocks position. refl) (λ place. refl) (λ place. refl) (λ members seats element position. refl) seats blocks p (map (position_noted 0) positions)
+        ∙ ap (changed_item (place_noted row) p) (rest_places seats blocks positions);
+    lies = λ places j place at.
+        one_lies (position_noted row) (place_noted row) (λ seats blocks position. refl) (λ place. refl) (λ place. refl) (λ members seats element position. refl) p (map (place_noted 0) places) j (place_noted 0 place) (rest_lies places j place at);
+    lacks = λ members seats element positions j.
+        one_lacks (position_noted row) (place_noted row) (λ seats blocks position. refl) (λ place. refl) (λ place. refl) (λ members seats element position. refl) members seats element p (map (position_noted 0) positions) j
+        ∙ rest_lacks members seats element positions j;
+  }
+
+pub noted_rows : (members : List (ℕ × Member)) (seats : List Seat) (e p row : ℕ) (before after : Array) (image : Image) (allowed : Allowed) → IsNotedArray e p row before after
+    → ((v : Volume) → IsOver seats before v → MayBeNoted v image e p row)
+    → KeepsArray members seats before image allowed → KeepsArray members seats after image allowed
+noted_rows members seats e p row before after image allowed is may kept v over =
+    let there = was (positions_by p row) (places_by p row) (remakes_noted p row) members seats e before after v is.same_secondary is.same_mark is.elements_are over in
+    let ready = may there.old there.over in
+    let done = kept_noted (absent_in members seats before.elements) there.old image allowed e p row there.over.is_volume ready.first ready.rebuilt (kept there.old there.over) in
+    subst (λ (x : ℕ → ℕ → Bool). IsKeptData x v image allowed) there.same_absent (subst (λ (x : Volume). IsKeptData (absent_in members seats before.elements) x image allowed) there.is_volume done)

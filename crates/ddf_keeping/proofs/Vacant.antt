@@ -1,5 +1,5 @@
 -- The position at which a rebuild begins is out of sync, on a disk that is no current member's.
-use Rattle.std.proofs.Common.{◌≡◌, ◌∙◌, ℕ, suc, ◌+◌, Bool, true, false, not, List, [], ◌∷◌, Option, Some, None, Result, Ok, cond, find, refl, sym, ap, subst, arith, length, slice_get}
+use Rattle.std.proofs.Common.{◌≡◌, ◌∙◌, ℕ, zero, suc, ◌+◌, ◌<◌, Bool, true, false, not, List, [], ◌∷◌, Option, Some, None, Result, Ok, cond, find, refl, sym, ap, subst, arith, length, slice_get}
 use Rattle.std.specs.List.{enumerate_from}
 use Rattle.std.specs.Map.{lookup}
 use Rattle.ddf_bay.specs.Sectors.{Image}
@@ -28,6 +28,12 @@ record Numbered {X : Type 0} (test : X → Bool) (a : ℕ) (xs : List X) (at : �
   pub number : at.0 ≡ a + place
   pub there : slice_get xs place ≡ Some at.1
   pub passes : test at.1 ≡ true
+  pub first : (k : ℕ) (x : X) → k < place → slice_get xs k ≡ Some x → test x ≡ false
+
+fails_first : {X : Type 0} (test : X → Bool) (x : X) (xs : List X) (place : ℕ) → test x ≡ false → ((k : ℕ) (y : X) → k < place → slice_get xs k ≡ Some y → test y ≡ false)
+    → (k : ℕ) (y : X) → k < suc place → slice_get (x ∷ xs) k ≡ Some y → test y ≡ false
+fails_first test x xs place is later zero y less there = let same : x ≡ y = cc in ap test (sym same) ∙ is
+fails_first test x xs place is later (suc k) y less there = later k y (omega (arith, less)) there
 
 numbered : {X : Type 0} (test : X → Bool) (a : ℕ) (xs : List X) (at : ℕ × X) → find (λ (one : ℕ × X). test one.1) (enumerate_from a xs) ≡ Some at → Numbered test a xs at
 numbered test a [] at h = absurd (cc)
@@ -42,18 +48,27 @@ numbered {X = X} test a (x ∷ xs) at h = by (test x) refl h (numbered test (a +
           number = let number : a ≡ at.0 = ap (λ (one : ℕ × X). one.0) same in omega (arith, number);
           there = ap (λ (one : ℕ × X). Some one.1) same;
           passes = ap (λ (one : ℕ × X). test one.1) (sym same) ∙ is;
+          first = λ k y less there. absurd (omega (arith, less));
         }
-    by false is e rest = let later = rest e in record { place = suc later.place; number = omega (arith, later.number); there = later.there; passes = later.passes }
+    by false is e rest =
+        let later = rest e in
+        record {
+          place = suc later.place;
+          number = omega (arith, later.number);
+          there = later.there;
+          passes = later.passes;
+          first = fails_first test x xs later.place is later.first;
+        }
 
 -- the numbers of an element and of a position, and the reference of its disk
-abbrev Place : Type 0
+abbrev pub Place : Type 0
 Place = ℕ × ℕ × ℕ
 
 -- those of the first position that is out of sync
-abbrev first_place : (elements n : ℕ) → List (Option ElementValue) → Option Place
+abbrev pub first_place : (elements n : ℕ) → List (Option ElementValue) → Option Place
 first_place elements n parts = elim (out_from elements n parts) [ None ↦ None | Some out ↦ Some (out.target.element, out.target.position, out.reference) ]
 
-record IsFirst (n : ℕ) (parts : List (Option ElementValue)) (at : Place) : Type 0 where
+pub record IsFirst (n : ℕ) (parts : List (Option ElementValue)) (at : Place) : Type 0 where
   pub place : ℕ
   pub number : at.0 ≡ n + place
   pub plan : ElementValue
@@ -61,11 +76,16 @@ record IsFirst (n : ℕ) (parts : List (Option ElementValue)) (at : Place) : Typ
   pub held : Position
   pub is_held : slice_get plan.positions at.1 ≡ Some held
   pub is_out_of_sync : held.synced ≡ false
+  pub none_before : (earlier : ℕ) (one : Position) → earlier < at.1 → slice_get plan.positions earlier ≡ Some one → one.synced ≡ true
   pub same_reference : at.2 ≡ held.reference
 
 not_true : (b : Bool) → not b ≡ true → b ≡ false
 not_true true e = absurd (cc)
 not_true false e = refl
+
+not_false : (b : Bool) → not b ≡ false → b ≡ true
+not_false true e = refl
+not_false false e = absurd (cc)
 
 later_first : (n : ℕ) (part : Option ElementValue) (parts : List (Option ElementValue)) (at : Place) → IsFirst (n + 1) parts at → IsFirst n (part ∷ parts) at
 later_first n part parts at is = record {
@@ -76,10 +96,11 @@ later_first n part parts at is = record {
   held = is.held;
   is_held = is.is_held;
   is_out_of_sync = is.is_out_of_sync;
+  none_before = is.none_before;
   same_reference = is.same_reference;
 }
 
-out_first : (elements n : ℕ) (parts : List (Option ElementValue)) (at : Place) → first_place elements n parts ≡ Some at → IsFirst n parts at
+pub out_first : (elements n : ℕ) (parts : List (Option ElementValue)) (at : Place) → first_place elements n parts ≡ Some at → IsFirst n parts at
 out_first elements n [] at h = absurd (cc)
 out_first elements n (None ∷ parts) at h = later_first n None parts at (out_first elements (n + 1) parts at h)
 out_first elements n (Some plan ∷ parts) at h = by (out_in plan) refl (out_first elements (n + 1) parts at)
@@ -101,6 +122,7 @@ out_first elements n (Some plan ∷ parts) at h = by (out_in plan) refl (out_fir
           held = one.1;
           is_held = ap (slice_get plan.positions) (sym place) ∙ found.there;
           is_out_of_sync = not_true one.1.synced found.passes;
+          none_before = λ earlier before less is_before. not_false before.synced (found.first earlier before (omega (arith, less, place)) is_before);
           same_reference = ap (λ (p : Place). p.2) (sym same);
         }
 

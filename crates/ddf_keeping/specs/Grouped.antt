@@ -10,11 +10,11 @@ use Rattle.ddf_config.specs.ElementValue.{ElementValue}
 use Rattle.ddf_config.specs.Members.{is_current, same_guid}
 use Rattle.ddf_array.specs.Volume.{Volume}
 use Rattle.ddf_plan.specs.declared.change.Change.{Change}
-use Rattle.ddf_plan.specs.declared.change.Change.TheVariants.{Create, Unmark, Begin, Finish}
+use Rattle.ddf_plan.specs.declared.change.Change.TheVariants.{Create, Unmark, Begin, Progress, Finish}
 use Rattle.ddf_data.specs.Allowed.{Allowed}
 use Rattle.ddf_keeping.specs.Over.{IsOver, absent_in}
 use Rattle.ddf_keeping.specs.Kept.{KeepsArray}
-use Rattle.ddf_keeping.specs.Clearing.{MayBeCleared, MayBeInSync}
+use Rattle.ddf_keeping.specs.Clearing.{MayBeCleared, MayBeInSync, MayBeNoted}
 
 -- What is promised of arrays, by their GUIDs: the bytes that their blocks may have. None where nothing is, as of an array that was unmarked
 -- when it was not consistent.
@@ -37,8 +37,8 @@ IsVacant config array element position =
     → (old.synced ≡ false) × (is_current config.members old.reference ≡ false)
 
 -- What a change asks of what it is made over. Of an array that it creates nothing was promised. A mark is cleared of an array that is consistent, with
--- values that its blocks may have. A rebuild begins at a position without a current member's disk, and ends once all rows hold what they should.
--- Any other change asks for nothing.
+-- values that its blocks may have, and rows that hold what they should where any count as rebuilt. A rebuild begins at a position without a current
+-- member's disk, counts rows that hold what they should, and ends once all do. Any other change asks for nothing.
 abbrev pub MayChange : Configuration → List Seat → Image → Promises → Change → Type 0
 MayChange config seats image promises (Create created added) = promises created ≡ None
 MayChange config seats image promises (Unmark named init) =
@@ -46,6 +46,8 @@ MayChange config seats image promises (Unmark named init) =
     → MayBeCleared (absent_in config.members seats array.elements) volume image allowed)
 MayChange config seats image promises (Begin named element position reference start) =
     OfPromised config promises (λ guid allowed array. guid ≡ named → IsVacant config array element position)
+MayChange config seats image promises (Progress named element position row) =
+    OfPromised config promises (λ guid allowed array. guid ≡ named → (volume : Volume) → IsOver seats array volume → MayBeNoted volume image element position row)
 MayChange config seats image promises (Finish named element position) =
     OfPromised config promises (λ guid allowed array. guid ≡ named → (volume : Volume) → IsOver seats array volume
     → MayBeInSync (absent_in config.members seats array.elements) volume image element position)

@@ -10,11 +10,12 @@ ghost use Rattle.ddf_config.specs.Members.{is_current, same_guid};
 ghost use Rattle.ddf_config.specs.Seats.{floor_of, slot_of};
 ghost use Rattle.ddf_config.specs.States.{is_marked};
 ghost use Rattle.ddf_plan.specs.declared.change.Change.{Change};
-ghost use Rattle.ddf_plan.specs.declared.change.Change.TheVariants.{Create};
+ghost use Rattle.ddf_plan.specs.declared.change.Change.TheVariants.{Begin, Create, Mark, Progress};
 ghost use Rattle.ddf_plan.specs.Changes.{changed_at};
 ghost use Rattle.ddf_plan.specs.Lose.{lost_array};
 ghost use Rattle.ddf_plan.specs.Members.{members_after};
-ghost use Rattle.ddf_repair.specs.declared.beginning.Begun.TheVariants.{Fresh};
+ghost use Rattle.ddf_plan.specs.Same.{is_step};
+ghost use Rattle.ddf_repair.specs.declared.beginning.Begun.TheVariants.{Again, Fresh};
 ghost use Rattle.ddf_repair.specs.declared.first.Target.{Target};
 ghost use Rattle.ddf_repair.specs.Begin.{begun};
 ghost use Rattle.ddf_array.specs.Apart.{AreSeats};
@@ -23,7 +24,6 @@ ghost use Rattle.ddf_array.specs.Redundant.{IsRedundant};
 ghost use Rattle.ddf_array.specs.Viewing.{view_of};
 ghost use Rattle.ddf_array.specs.Volume.{Volume, IsVolume};
 ghost use Rattle.ddf_array.specs.Within.{is_within};
-ghost use Rattle.ddf_cells.specs.Alike.{AreAlike};
 ghost use Rattle.ddf_cells.specs.Apart.{LiesAt};
 ghost use Rattle.ddf_cells.specs.Degraded.{is_degraded};
 ghost use Rattle.ddf_cells.specs.Writing.{StaysBut};
@@ -31,12 +31,13 @@ ghost use Rattle.ddf_write.specs.Writing.{IsLeftByWrite};
 ghost use Rattle.ddf_resync.specs.Resyncing.{MayResync};
 ghost use Rattle.ddf_rebuild.specs.Target.{IsTargetCell};
 ghost use Rattle.ddf_data.specs.Allowed.{Allowed};
-ghost use Rattle.ddf_data.specs.Changing.{IsWritable, NoneAbsent};
-ghost use Rattle.ddf_data.specs.Fewer.{IsFewer};
+ghost use Rattle.ddf_data.specs.Changing.{IsWritable, with_mark};
+ghost use Rattle.ddf_data.specs.Fewer.{IsFewer, LeavesRows};
 ghost use Rattle.ddf_data.specs.Kept.{IsKeptData};
+ghost use Rattle.ddf_data.specs.Rows.{AreAlikeThroughout, AreRowsKept, GoesOnBehind, HasNoRows, IsFirstOut, NoneAbsent};
 ghost use Rattle.ddf_keeping.specs.Agreeing.{AgreeOn};
 ghost use Rattle.ddf_keeping.specs.Clear.{ChangesItsCells};
-ghost use Rattle.ddf_keeping.specs.Clearing.{IsInSync, IsSameButMark, MayBeCleared, MayBeInSync};
+ghost use Rattle.ddf_keeping.specs.Clearing.{HasRowsUpTo, IsFirstOf, IsInSync, IsNotedArray, IsSameButMark, MayBeCleared, MayBeInSync, MayBeNoted};
 ghost use Rattle.ddf_keeping.specs.Grouped.{KeepsArrays, MayChange, Promises};
 ghost use Rattle.ddf_keeping.specs.Kept.{KeepsArray};
 ghost use Rattle.ddf_keeping.specs.Lessening.{AllStay, IsLessArray};
@@ -46,7 +47,7 @@ ghost use Rattle.ddf_keeping.specs.Over.{AreCurrentSeats, IsOver, absent_in};
 pub fn a_lessened_array_is_one_with_fewer_places()
     ensures { (members : List (ℕ × Member)) (seats fewer : List Seat) (before after : Array) (volume : Volume) → AreCurrentSeats members seats → AreFewer seats fewer
         → IsLessArray before after → IsOver fewer after volume
-        → (old : Volume) × IsOver seats before old × IsFewer old volume }
+        → (old : Volume) × IsOver seats before old × IsFewer old volume × LeavesRows old volume }
 {}
 
 /// An array keeps its data through a loss of disks, marked or not, and however many.
@@ -63,7 +64,7 @@ pub fn counting_disks_as_lost_keeps_the_data()
 {}
 
 /// An array keeps its data where positions stay as they are, those aside that are out of sync: there a disk takes the place of one whose member is
-/// missing, or rows are counted as rebuilt.
+/// missing.
 pub fn a_disk_in_the_place_of_another_keeps_the_data()
     ensures { (members after_members : List (ℕ × Member)) (seats fewer : List Seat) (before after : Array) (image : Image) (allowed : Allowed)
         → ((reference : ℕ) → is_current after_members reference ≡ is_current members reference) → AreCurrentSeats members seats → AreFewer seats fewer
@@ -78,7 +79,8 @@ pub fn a_mark_keeps_the_data()
         → KeepsArray members seats before image allowed → KeepsArray after_members fewer after image allowed }
 {}
 
-/// An array keeps its data where its mark is cleared once it is consistent, and the value of each block is one that the block may have.
+/// An array keeps its data where its mark is cleared once it is consistent, the value of each block is one that the block may have, and the rows that
+/// count as rebuilt hold what they should.
 pub fn a_cleared_mark_keeps_the_data()
     ensures { (members : List (ℕ × Member)) (seats : List Seat) (before after : Array) (image : Image) (allowed : Allowed) → IsSameButMark before after
         → is_marked after ≡ false
@@ -102,6 +104,14 @@ pub fn a_position_in_sync_keeps_the_data()
         → KeepsArray members seats before image allowed → KeepsArray members seats after image allowed }
 {}
 
+/// An array keeps its data where rows of a position count as rebuilt that hold what they should.
+pub fn rebuilt_rows_keep_the_data()
+    ensures { (members : List (ℕ × Member)) (seats : List Seat) (element position row : ℕ) (before after : Array) (image : Image) (allowed : Allowed)
+        → IsNotedArray element position row before after
+        → ((volume : Volume) → IsOver seats before volume → MayBeNoted volume image element position row)
+        → KeepsArray members seats before image allowed → KeepsArray members seats after image allowed }
+{}
+
 /// The arrays of a group keep their data through each change of its configuration, where it has what it asks for.
 pub fn a_change_keeps_the_data_of_a_group()
     ensures { (config : Configuration) (change : Change) (sequence : ℕ) (seats fewer : List Seat) (image : Image) (promises : Promises)
@@ -110,10 +120,19 @@ pub fn a_change_keeps_the_data_of_a_group()
 {}
 
 /// The mark may be cleared of an array that is redundant and within its level, and of which no element that keeps parity lacks a position: as behind a
-/// resync, a write, and a scrub that finds nothing.
+/// resync, a write, and a scrub that finds nothing. Where rows count as rebuilt they hold what they should: behind a mark none do.
 pub fn a_redundant_array_may_be_unmarked()
     ensures { (is_absent : ℕ → ℕ → Bool) (volume : Volume) (image : Image) (allowed : Allowed) → IsVolume volume → is_within volume ≡ true
-        → is_degraded volume ≡ false → IsRedundant volume image → IsKeptData is_absent volume image allowed → MayBeCleared is_absent volume image allowed }
+        → is_degraded volume ≡ false → IsRedundant volume image → AreRowsKept is_absent (with_mark false volume) image
+        → IsKeptData is_absent volume image allowed → MayBeCleared is_absent volume image allowed }
+{}
+
+/// Of a marked array no rows count as rebuilt: once it is marked, or where marking it changes nothing.
+pub fn a_mark_leaves_no_rows()
+    ensures marked { (config : Configuration) (guid : List ℕ) (array : Array) (sequence : ℕ) (seats : List Seat) (volume : Volume)
+        → lookup (same_guid guid) (changed_at config (Mark guid) sequence).arrays ≡ Some array → IsOver seats array volume → HasNoRows volume }
+    ensures unchanged { (config : Configuration) (guid : List ℕ) (array : Array) (seats : List Seat) (volume : Volume)
+        → lookup (same_guid guid) config.arrays ≡ Some array → is_step config (Mark guid) ≡ false → IsOver seats array volume → HasNoRows volume }
 {}
 
 /// Where each current member has a seat, an array that can be used lacks no disk that a current member has.
@@ -130,6 +149,28 @@ pub fn a_rebuild_that_begins_has_what_it_asks_for()
         → begun config guid seats ≡ Ok (Fresh target change) → MayChange config all image promises change }
 {}
 
+/// A rebuild takes the positions of an element in order: no earlier one is out of sync, neither as it begins nor as it goes on.
+pub fn a_rebuild_takes_the_first_position()
+    ensures fresh { (config : Configuration) (guid : List ℕ) (seats : List Seat) (target : Target) (change : Change) (array : Array)
+        → lookup (same_guid guid) config.arrays ≡ Some array → begun config guid seats ≡ Ok (Fresh target change) → IsFirstOf array target.element target.position }
+    ensures again { (config : Configuration) (guid : List ℕ) (seats : List Seat) (target : Target) (array : Array)
+        → lookup (same_guid guid) config.arrays ≡ Some array → begun config guid seats ≡ Ok (Again target) → IsFirstOf array target.element target.position }
+    ensures begins { (config : Configuration) (guid : List ℕ) (element position reference start sequence : ℕ) (before after : Array)
+        → lookup (same_guid guid) config.arrays ≡ Some before
+        → lookup (same_guid guid) (changed_at config (Begin guid element position reference start) sequence).arrays ≡ Some after
+        → IsFirstOf before element position → IsFirstOf after element position }
+    ensures goes_on { (config : Configuration) (guid : List ℕ) (element position row sequence : ℕ) (before after : Array)
+        → lookup (same_guid guid) config.arrays ≡ Some before
+        → lookup (same_guid guid) (changed_at config (Progress guid element position row) sequence).arrays ≡ Some after
+        → IsFirstOf before element position → IsFirstOf after element position }
+    ensures over { (seats : List Seat) (array : Array) (volume : Volume) (element position : ℕ) → IsOver seats array volume
+        → IsFirstOf array element position → IsFirstOut volume element position }
+
+    // Where it goes on from a row on, no rows behind this one count.
+    ensures behind { (seats : List Seat) (array : Array) (volume : Volume) (element position row : ℕ) → IsOver seats array volume
+        → HasRowsUpTo array element position row → GoesOnBehind volume element position row }
+{}
+
 /// What an array keeps rests on its own members and their seats alone, whichever others there are.
 pub fn an_array_rests_on_its_own_members()
     ensures { (members after_members : List (ℕ × Member)) (seats other : List Seat) (array : Array) (image : Image) (allowed : Allowed)
@@ -142,7 +183,7 @@ pub fn an_arrays_cells_are_no_other_arrays()
     ensures { (config : Configuration) (guid other : List ℕ) (seats : List Seat) (volume other_volume : Volume) (array : Array) (before image : Image)
         → AreCurrentSeats config.members seats → AreSeats config.members seats → view_of config guid seats ≡ Ok volume → IsVolume volume
         → ChangesItsCells volume before image → other ≢ guid → lookup (same_guid other) config.arrays ≡ Some array → IsOver seats array other_volume
-        → AreAlike other_volume before image }
+        → AreAlikeThroughout other_volume before image }
 {}
 
 /// A write, a resync and a rebuild change only sectors of their array.

@@ -14,8 +14,8 @@ use Rattle.ddf_array.specs.Losing.{AreFewer}
 use Rattle.ddf_array.specs.Volume.{Volume}
 use Rattle.ddf_array.specs.Sound.{AreSectors}
 use Rattle.ddf_array.proofs.Bools.{and_first, and_second}
-use Rattle.ddf_cells.specs.Alike.{AreAlike}
 use Rattle.ddf_data.specs.Allowed.{Allowed}
+use Rattle.ddf_data.specs.Rows.{AreAlikeThroughout}
 use Rattle.ddf_data.proofs.Same.{kept_same}
 use Rattle.ddf_data.proofs.Histories.{by_step}
 use Rattle.ddf_keeping.specs.Over.{AreCurrentSeats, IsOver, absent_in}
@@ -23,7 +23,7 @@ use Rattle.ddf_keeping.specs.Kept.{KeepsArray}
 use Rattle.ddf_keeping.specs.Grouped.{KeepsArrays, Promises}
 use Rattle.ddf_keeping.proofs.Agreed.{agreed}
 use Rattle.ddf_keeping.proofs.Changed.{changed_keeps}
-use Rattle.ddf_keeping.proofs.Clearly.{below_floor, lies_of}
+use Rattle.ddf_keeping.proofs.Clearly.{below_floor}
 use Rattle.ddf_keeping.proofs.Cleared.{same_marked}
 use Rattle.ddf_keeping.proofs.Entries.{guid_is}
 use Rattle.ddf_keeping.proofs.Keeping.{kept_fewer}
@@ -135,20 +135,20 @@ module _ (group : List ℕ) (floor : ℕ → ℕ) (small : (slot : ℕ) → floo
     -- ---- sectors
 
     module _ (after : Image) (are : AreSectors after) where
-      same_array : (config : Configuration) (array : Array) (allowed : Allowed) → ((volume : Volume) → IsOver (seats_in group past floor config) array volume → AreAlike volume image after)
+      same_array : (config : Configuration) (array : Array) (allowed : Allowed) → ((volume : Volume) → IsOver (seats_in group past floor config) array volume → AreAlikeThroughout volume image after)
           → KeepsArray config.members (seats_in group past floor config) array image allowed → KeepsArray config.members (seats_in group past floor config) array after allowed
       same_array config array allowed same keeps volume over =
           kept_same (absent_in config.members (seats_in group past floor config) array.elements) volume image after allowed over.is_volume are (same volume over) (keeps volume over)
 
       pub by_records : ((number : ℕ) (config : Configuration) → IsSince past.changes number config → (guid : List ℕ) (array : Array) (volume : Volume) → lookup (same_guid guid) config.arrays ≡ Some array
-          → IsOver (seats_in group past floor config) array volume → AreAlike volume image after) → KeepsData group past floor after promises
+          → IsOver (seats_in group past floor config) array volume → AreAlikeThroughout volume image after) → KeepsData group past floor after promises
       by_records stay number config since guid allowed array promised found =
           same_array config array allowed (λ volume over. stay number config since guid array volume found over) (kept number config since guid allowed array promised found)
 
       -- records lie at or past the floors
       pub below_floors : SameBelow floor image after → KeepsData group past floor after promises
-      below_floors same = by_records (λ number config since guid array volume found over slot lba cell.
-          let below = below_floor (seats_in group past floor config) array volume over cell.element cell.position cell.sector slot lba (lies_of volume slot lba cell) in
+      below_floors same = by_records (λ number config since guid array volume found over element position sector slot lba lies.
+          let below = below_floor (seats_in group past floor config) array volume over element position sector slot lba lies in
           let at = is_at floor past.disk (is_seat group past config) past.slots below.0 below.1 slot below.2 below.3 in
           sym (same slot lba (subst (λ (n : ℕ). lba < n) at.is_floor below.4)))
 

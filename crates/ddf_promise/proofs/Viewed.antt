@@ -22,6 +22,7 @@ use Rattle.ddf_rebuild.specs.Target.{IsTargetCell}
 use Rattle.ddf_data.specs.Allowed.{Allowed, once_consistent, once_written, while_written}
 use Rattle.ddf_data.specs.Changing.{IsConsistentNow, IsWritable}
 use Rattle.ddf_data.specs.Kept.{IsKeptData}
+use Rattle.ddf_data.specs.Rows.{GoesOnBehind}
 use Rattle.ddf_data.proofs.Consistent.{kept_consistent}
 use Rattle.ddf_data.proofs.Resynced.{kept_rebuilding, kept_resyncing}
 use Rattle.ddf_data.proofs.Written.{kept_once, kept_while}
@@ -101,10 +102,10 @@ module _ (group : List ℕ) (floor : ℕ → ℕ) (small : (slot : ℕ) → floo
       by_view allowed (λ absent holds. kept_resyncing absent v known apart first before image allowed writable (holds first first_kept) (holds before kept) left are)
       (resync_changes v first before image known left)
 
-  pub view_rebuild : (element position from to : ℕ) → StaysBut (IsTargetCell v element position from to) before image
+  pub view_rebuild : (element position from to : ℕ) → GoesOnBehind v element position from → StaysBut (IsTargetCell v element position from to) before image
       → KeepsData group past floor image (with_promise promises guid (Some allowed))
-  view_rebuild element position from to left =
-      by_view allowed (λ absent holds. kept_rebuilding absent v element position from to before image allowed known apart are left (holds before kept))
+  view_rebuild element position from to behind left =
+      by_view allowed (λ absent holds. kept_rebuilding absent v element position from to before image allowed known apart are behind left (holds before kept))
       (rebuild_changes v element position from to before image left)
 
 -- an array counts as consistent
@@ -114,7 +115,7 @@ pub view_counts : (group : List ℕ) (floor : ℕ → ℕ) → ((slot : ℕ) →
     → ((is_absent : ℕ → ℕ → Bool) → IsConsistentNow is_absent v image) → KeepsData group past floor image (with_promise promises guid (Some (once_consistent v image)))
 view_counts group floor small past config guid v view known image promises allowed kept alone promised are consistent =
     by_view group floor small past config guid v view known image image promises allowed kept alone promised are (once_consistent v image)
-    (λ absent holds. kept_consistent absent v.marked v image are (consistent absent)) (λ slot lba. inl refl)
+    (λ absent holds. kept_consistent absent v.marked v image are (consistent absent) (holds image kept).rows) (λ slot lba. inl refl)
 
 -- where the last change is the last acknowledged one, there is no other since
 pub last_alone : (group : List ℕ) (past : Past (groups group)) (config : Configuration) → IsLast past.changes past.changes.acked config → IsAlone group past config

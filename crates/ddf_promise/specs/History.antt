@@ -10,9 +10,9 @@ use Rattle.ddf_plan.specs.declared.change.Change.{Change}
 use Rattle.ddf_plan.specs.Changes.{changed_at}
 use Rattle.ddf_array.specs.Volume.{Volume}
 use Rattle.ddf_array.specs.Sound.{AreSectors}
-use Rattle.ddf_cells.specs.Alike.{AreAlike}
 use Rattle.ddf_data.specs.Allowed.{Allowed}
 use Rattle.ddf_data.specs.History.{IsStep as IsArrayStep}
+use Rattle.ddf_data.specs.Rows.{AreAlikeThroughout}
 use Rattle.ddf_keeping.specs.Agreeing.{AgreeOn}
 use Rattle.ddf_keeping.specs.Kept.{KeepsArray}
 use Rattle.ddf_keeping.specs.Over.{IsOver, absent_in}
@@ -94,14 +94,14 @@ module _ (group : List ℕ) where
 
     -- ---- sectors
 
-    -- records are written: no cell of an array
+    -- records are written: no sector of an array
     pub record IsRecords (old new : Moment) : Type 0 where
       pub same_past : new.past ≡ old.past
       pub same_promises : new.promises ≡ old.promises
       pub are_sectors : AreSectors new.image
       pub stay : (number : ℕ) (config : Configuration) → IsSince old.past.changes number config
           → (guid : List ℕ) (array : Array) (volume : Volume) → lookup (same_guid guid) config.arrays ≡ Some array → IsOver (seats_in group old.past floor config) array volume
-          → AreAlike volume old.image new.image
+          → AreAlikeThroughout volume old.image new.image
 
     -- Blocks of an array are written, it is resynced or rebuilt, or counts as consistent, once all that was issued is acknowledged. Nothing else
     -- changes.

@@ -8,8 +8,8 @@ use Rattle.ddf_config.specs.declared.seat.Seat.{Seat}
 use Rattle.ddf_config.specs.Configuration.{Configuration}
 use Rattle.ddf_config.specs.Members.{same_guid}
 use Rattle.ddf_array.specs.Volume.{Volume}
-use Rattle.ddf_cells.specs.Alike.{AreAlike}
 use Rattle.ddf_data.specs.Allowed.{Allowed}
+use Rattle.ddf_data.specs.Rows.{AreAlikeThroughout}
 use Rattle.ddf_keeping.specs.Over.{IsOver}
 use Rattle.ddf_keeping.specs.Grouped.{KeepsArrays, Promises}
 use Rattle.ddf_history.specs.Issued.{Past, IsSince}
@@ -54,7 +54,7 @@ module _ (group : List ℕ) where
   abbrev pub OthersStay : Configuration → List Seat → Promises → (guid : List ℕ) → (before image : Image) → Type 0
   OthersStay config seats promises guid before image =
       (other : List ℕ) (array : Array) (volume : Volume) → other ≢ guid → lookup (same_guid other) config.arrays ≡ Some array → IsOver seats array volume
-      → AreAlike volume before image
+      → AreAlikeThroughout volume before image
 
 -- the promise of one array is another one now
 abbrev pub with_promise : Promises → List ℕ → Option Allowed → Promises

@@ -17,6 +17,7 @@ ghost use Rattle.ddf_resync.specs.Resyncing.{MayResync};
 ghost use Rattle.ddf_rebuild.specs.Target.{IsTargetCell};
 ghost use Rattle.ddf_data.specs.Allowed.{Allowed, May, once_consistent, once_written, while_written};
 ghost use Rattle.ddf_data.specs.Changing.{IsConsistentNow, IsWritable};
+ghost use Rattle.ddf_data.specs.Rows.{GoesOnBehind};
 ghost use Rattle.ddf_keeping.specs.Grouped.{Promises};
 ghost use Rattle.ddf_keeping.specs.Over.{AreCurrentSeats};
 ghost use Rattle.ddf_view.specs.View.{View};
@@ -92,7 +93,7 @@ pub fn a_write_keeps_the_data_of_the_group()
         → KeepsData group past floor image (with_promise promises guid (Some (once_written allowed start sectors))) }
 {}
 
-/// A resync, and a rebuild, under way keep the data of the whole group.
+/// A resync, and a rebuild that goes on behind the rows that count, keep the data of the whole group while they are under way.
 pub fn a_resync_keeps_the_data_of_the_group()
     ensures resync { (group : List ℕ) (floor : ℕ → ℕ) → ((slot : ℕ) → floor slot < 2 ^ 64) → (past : Past (groups group)) (config : Configuration) (guid : List ℕ) (volume : Volume)
         → view_of config guid (seats_in group past floor config) ≡ Ok volume → IsVolume volume → (first before image : Image) (promises : Promises) (allowed : Allowed)
@@ -101,7 +102,7 @@ pub fn a_resync_keeps_the_data_of_the_group()
     ensures rebuild { (group : List ℕ) (floor : ℕ → ℕ) → ((slot : ℕ) → floor slot < 2 ^ 64) → (past : Past (groups group)) (config : Configuration) (guid : List ℕ) (volume : Volume)
         → view_of config guid (seats_in group past floor config) ≡ Ok volume → IsVolume volume → (before image : Image) (promises : Promises) (allowed : Allowed)
         → KeepsData group past floor before promises → IsAlone group past config → promises guid ≡ Some allowed → AreSectors image
-        → (element position from to : ℕ) → StaysBut (IsTargetCell volume element position from to) before image
+        → (element position from to : ℕ) → GoesOnBehind volume element position from → StaysBut (IsTargetCell volume element position from to) before image
         → KeepsData group past floor image (with_promise promises guid (Some allowed)) }
 
     // Once the array is consistent, what its blocks have counts.

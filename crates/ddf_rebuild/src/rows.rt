@@ -167,7 +167,9 @@ pub fn rebuild_rows<B: Bay>(
     ensures left { AddsBut (IsTargetCell view.now target.now.element target.now.position from to) (B.disks bay.old).may_hold (B.disks bay.new).may_hold }
     ensures held { B.tells → StaysBut (IsTargetCell view.now target.now.element target.now.position from to) (B.disks bay.old).held (B.disks bay.new).held }
 
-    // At the end each image that a stop leaves has there what the target should hold.
+    // At the end the disks have there what the target should hold, and so has each image that a stop leaves.
+    ensures now { B.tells → OnOk result (IsSure view.now (B.disks bay.old) (B.disks bay.new)
+        → HasRebuilt view.now target.now.element target.now.position from to (B.disks bay.old).held (B.disks bay.new).held) }
     ensures rebuilt { B.tells → OnOk result (IsSure view.now (B.disks bay.old) (B.disks bay.new) → (image : Image) → IsLeft (B.disks bay.new).may_hold image
         → HasRebuilt view.now target.now.element target.now.position from to (B.disks bay.old).held image) }
     ensures durable { OnOk result ((part : Part) (place : Place) (slot : ℕ) → IsTarget view.now target.now.element target.now.position part place slot

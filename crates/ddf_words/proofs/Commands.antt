@@ -6,7 +6,7 @@ use Rattle.ddf_words.proofs.Wishes.{accept, create, delete, fail, first_word, no
 use Rattle.ddf_words.specs.Traits.{traits_of}
 use Rattle.ddf_words.specs.Words.{Word, AreBlocks, NameDisks, Spells, SpellBlocks, SpellCreate, SpellFail, SpellNamed, SpellSpare, IsGroupCommand, IsNamed}
 use Rattle.ddf_words.specs.declared.command.Command.{Command}
-use Rattle.ddf_words.specs.declared.command.Command.TheVariants.{Examine, Label, Assemble, Show, Read, Scrub, Resync, Write, Change}
+use Rattle.ddf_words.specs.declared.command.Command.TheVariants.{Examine, Label, Assemble, Show, Read, Scrub, Resync, Rebuild, Write, Change}
 use Rattle.ddf_words.specs.declared.command.Creation.{Creation}
 use Rattle.ddf_words.specs.declared.command.SpareWord.{SpareWord}
 use Rattle.ddf_words.specs.declared.command.Wish.TheVariants.{Create, Delete, Accept, Spare, Fail}
@@ -32,6 +32,9 @@ scrub = codes "scrub"
 abbrev pub resync : Word
 resync = codes "resync"
 
+abbrev pub rebuild : Word
+rebuild = codes "rebuild"
+
 abbrev pub write : Word
 write = codes "write"
 
@@ -44,6 +47,7 @@ name_of Show = show
 name_of (Read name start count) = read
 name_of (Scrub name) = scrub
 name_of (Resync name) = resync
+name_of (Rebuild name) = rebuild
 name_of (Write name start count) = write
 name_of (Change wish) = wish_name wish
 
@@ -56,6 +60,7 @@ begins_with words Show spells = ap first_word spells
 begins_with words (Read name start count) spells = ap first_word spells.parts
 begins_with words (Scrub name) spells = ap first_word spells.parts
 begins_with words (Resync name) spells = ap first_word spells.parts
+begins_with words (Rebuild name) spells = ap first_word spells.parts
 begins_with words (Write name start count) spells = ap first_word spells.parts
 begins_with words (Change wish) spells = wish_begins words wish spells
 
@@ -108,6 +113,11 @@ pub resync_names : (rest : List Word) (command : Command) → Spells command (re
 resync_names rest (Resync name) spells = record { name = name; spells = spells }
 resync_names rest (Change wish) spells = absurd (no_wish resync (refl, refl, refl, refl, refl) wish (wish_begins (resync ∷ rest) wish spells))
 resync_names rest command spells = absurd (unlike resync (name_of command) refl (begins_with (resync ∷ rest) command spells))
+
+pub rebuild_names : (rest : List Word) (command : Command) → Spells command (rebuild ∷ rest) → IsNamed rebuild (rebuild ∷ rest)
+rebuild_names rest (Rebuild name) spells = record { name = name; spells = spells }
+rebuild_names rest (Change wish) spells = absurd (no_wish rebuild (refl, refl, refl, refl, refl) wish (wish_begins (rebuild ∷ rest) wish spells))
+rebuild_names rest command spells = absurd (unlike rebuild (name_of command) refl (begins_with (rebuild ∷ rest) command spells))
 
 pub write_names : (rest : List Word) (command : Command) → Spells command (write ∷ rest) → AreBlocks write (write ∷ rest)
 write_names rest (Write name start count) spells = record { name = name; start = start; count = count; spells = spells }
@@ -170,6 +180,7 @@ same_command words (Label style slots) (Label style' slots') spells spells' =
 same_command words (Read name start count) (Read name' start' count') spells spells' = same_blocks read words name name' start start' count count' spells spells' Read
 same_command words (Scrub name) (Scrub name') spells spells' = ap Scrub (same_named scrub words name name' spells spells')
 same_command words (Resync name) (Resync name') spells spells' = ap Resync (same_named resync words name name' spells spells')
+same_command words (Rebuild name) (Rebuild name') spells spells' = ap Rebuild (same_named rebuild words name name' spells spells')
 same_command words (Write name start count) (Write name' start' count') spells spells' = same_blocks write words name name' start start' count count' spells spells' Write
 same_command words (Change wish) (Change wish') spells spells' = ap Change (same_wish words wish wish' spells spells')
 same_command words (Change wish) command' spells spells' =
@@ -192,6 +203,7 @@ pub record IsOther (name : Word) : Type 0 where
   pub read : name ≢ codes "read"
   pub scrub : name ≢ codes "scrub"
   pub resync : name ≢ codes "resync"
+  pub rebuild : name ≢ codes "rebuild"
   pub write : name ≢ codes "write"
   pub create : name ≢ codes "create"
   pub delete : name ≢ codes "delete"
@@ -207,6 +219,7 @@ other_name name other Show takes e = other.show e
 other_name name other (Read array start count) takes e = other.read e
 other_name name other (Scrub array) takes e = other.scrub e
 other_name name other (Resync array) takes e = other.resync e
+other_name name other (Rebuild array) takes e = other.rebuild e
 other_name name other (Write array start count) takes e = other.write e
 other_name name other (Change (Create creation)) takes e = other.create e
 other_name name other (Change (Delete array)) takes e = other.delete e

@@ -9,7 +9,7 @@ use Rattle.hex.specs.Hex.{encode_lower}
 use Rattle.ddf_bytes.specs.Guids.{IsGuid}
 use Rattle.ddf_words.specs.declared.command.Asked.{Asked}
 use Rattle.ddf_words.specs.declared.command.Command.{Command}
-use Rattle.ddf_words.specs.declared.command.Command.TheVariants.{Examine, Label, Assemble, Show, Read, Scrub, Resync, Write, Change}
+use Rattle.ddf_words.specs.declared.command.Command.TheVariants.{Examine, Label, Assemble, Show, Read, Scrub, Resync, Rebuild, Write, Change}
 use Rattle.ddf_words.specs.declared.command.CreateElement.{CreateElement}
 use Rattle.ddf_words.specs.declared.command.Creation.{Creation}
 use Rattle.ddf_words.specs.declared.command.DiskStyle.{DiskStyle}
@@ -239,6 +239,7 @@ Spells Show words = words ≡ codes "show" ∷ []
 Spells (Read name start count) words = SpellBlocks (codes "read") name start count words
 Spells (Scrub name) words = SpellNamed (codes "scrub") name words
 Spells (Resync name) words = SpellNamed (codes "resync") name words
+Spells (Rebuild name) words = SpellNamed (codes "rebuild") name words
 Spells (Write name start count) words = SpellBlocks (codes "write") name start count words
 Spells (Change wish) words = SpellsWish wish words
 

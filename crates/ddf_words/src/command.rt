@@ -46,6 +46,11 @@ pub enum Command {
         /// The name of the array, as the words give it.
         name: Seq<u8>,
     },
+    /// Fills a position of an array that is out of sync.
+    Rebuild {
+        /// The name of the array, as the words give it.
+        name: Seq<u8>,
+    },
     /// Writes blocks of an array, with bytes that it takes from the input.
     Write {
         /// The name of the array, as the words give it.

@@ -53,6 +53,10 @@ fn group_command_of(alloc: Global, words: &[String]) -> Result<Command, WordFaul
             let name = named_of(alloc, words)?;
             Ok(Command::Resync { name })
         }
+        "rebuild" => {
+            let name = named_of(alloc, words)?;
+            Ok(Command::Rebuild { name })
+        }
         "write" => {
             let Blocks { name, start, count } = blocks_of(alloc, words)?;
             Ok(Command::Write { name, start, count })

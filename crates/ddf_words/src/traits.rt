@@ -47,7 +47,7 @@ impl Command {
                 makes_names: false,
                 takes_input: false,
             },
-            Command::Assemble | Command::Resync { .. } => Traits {
+            Command::Assemble | Command::Resync { .. } | Command::Rebuild { .. } => Traits {
                 takes_group: true,
                 may_write: true,
                 may_refuse: true,

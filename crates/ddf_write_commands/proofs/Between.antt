@@ -19,6 +19,8 @@ use Rattle.ddf_volume.specs.Reading.{Failed}
 use Rattle.ddf_update.specs.Group.{IsOneOf}
 use Rattle.ddf_history.specs.Groups.{groups}
 use Rattle.ddf_history.specs.Issued.{Past}
+use Rattle.ddf_history.specs.Promise.{IsKept}
+use Rattle.ddf_history.specs.Scenes.{scene_of}
 use Rattle.ddf_assembly.specs.declared.fault.GroupFault.{GroupFault}
 use Rattle.ddf_assembly.specs.Committed.{AreSettled, slots_of}
 use Rattle.ddf_assembly.specs.Group.{GroupValue}
@@ -26,8 +28,9 @@ use Rattle.ddf_assembly.specs.Reading.{HaveAnchors}
 use Rattle.ddf_assembly.specs.Ready.{ReadyValue, readied}
 use Rattle.ddf_assembly.specs.Seated.{seated}
 use Rattle.ddf_assembly.specs.Steps.{Step}
-use Rattle.ddf_stops.specs.Going.{IsAdmitted, KeepsHistory, changes_in}
-use Rattle.ddf_stops.specs.Kept.{AreAllKept, is_slot}
+use Rattle.ddf_stops.specs.Going.{Goes, IsAdmitted, KeepsHistory, changes_in}
+use Rattle.ddf_stops.specs.Kept.{AreAllKept, is_read, is_slot}
+use Rattle.ddf_stops.specs.Steps.{IsCommit}
 use Rattle.ddf_stops.proofs.Slots.{slot_placed}
 use Rattle.ddf_data_stops.specs.Course.{IsUnderWay}
 use Rattle.ddf_data_stops.specs.Floors.{AreFloored, WritesBelow, floor_in}
@@ -40,15 +43,18 @@ use Rattle.ddf_group_commands.specs.GroupRead.{IsFoundBy, IsReadFrom}
 use Rattle.ddf_group_commands.specs.Others.{LeavesOthers}
 use Rattle.ddf_group_commands.specs.Writing.{IsLeftWriting}
 use Rattle.ddf_group_commands.specs.Written.{AreWritten}
+use Rattle.ddf_write_commands.specs.Along.{ComesAlong}
 use Rattle.ddf_write_commands.specs.Around.{config_behind}
 use Rattle.ddf_write_commands.specs.Closed.{IsClosed, IsLastWritten}
 use Rattle.ddf_write_commands.specs.Doing.{Doing}
 use Rattle.ddf_write_commands.specs.Holding.{holding}
 use Rattle.ddf_write_commands.specs.Opened.{CanGoOn, IsOpened, steps_left}
 use Rattle.ddf_write_commands.specs.Planned.{IsPlanned}
-use Rattle.ddf_write_commands.specs.Worked.{IsArrayDone, IsArrayStopped, IsLeftDoing, IsWorkedOf}
+use Rattle.ddf_write_commands.specs.Worked.{IsArrayDone, IsArrayStopped, IsLeftClosing, IsLeftDoing, IsLeftWorking, IsWorkedOf}
 use Rattle.ddf_write_commands.proofs.BelowFloors.{floor_slot}
+use Rattle.ddf_write_commands.proofs.Closing.{last_keeps}
 use Rattle.ddf_write_commands.proofs.Courses.{IsTold, write_fails, writes}
+use Rattle.ddf_write_commands.proofs.Parts.{comes_along, configs_of, not_begun, work_fails}
 use Rattle.ddf_write_commands.proofs.Unmoved.{have_floors, holds_still}
 use Rattle.ddf_write_commands.proofs.Works.{HasStopped, HasWorked, IsSteady}
 
@@ -163,16 +169,16 @@ module _ {D : Type 0} (tells : Type 0) (doing : Doing) (steady : IsSteady doing)
       first_written : tells → AreWritten old.sizes old.held plan.first opened.held
       first_written told = subst (λ (steps : List Step). AreWritten old.sizes old.held steps opened.held) (sym first_is) (opens.are_written told)
 
-      among_working : tells → (new : BayState D) (image : Image) → doing.IsAmong volume opened.held opened.may_hold image → IsLeftDoing doing (work_of tells old new) found timestamp word request image
-      among_working told new image among = record {
-        plan = plan;
-        is_left = inr (inl (record {
-          before = opened.held;
-          first_written = first_written told;
-          is_among = subst (λ (v : Volume). doing.IsAmong v opened.held (holding old slots opened.held).may_hold image) (sym volume_is)
-              (steady.among_more volume opened.held opened.may_hold (holding old slots opened.held).may_hold (left_opened told) image among);
-        }));
+      is_working : tells → (new : BayState D) (image : Image) → doing.IsAmong volume opened.held opened.may_hold image → IsLeftWorking doing (work_of tells old new) found plan.first plan.volume image
+      is_working told new image among = record {
+        before = opened.held;
+        first_written = first_written told;
+        is_among = subst (λ (v : Volume). doing.IsAmong v opened.held (holding old slots opened.held).may_hold image) (sym volume_is)
+            (steady.among_more volume opened.held opened.may_hold (holding old slots opened.held).may_hold (left_opened told) image among);
       }
+
+      among_working : tells → (new : BayState D) (image : Image) → doing.IsAmong volume opened.held opened.may_hold image → IsLeftDoing doing (work_of tells old new) found timestamp word request image
+      among_working told new image among = record { plan = plan; is_left = inr (inl (is_working told new image among)) }
 
       among_first : (new : BayState D) (image : Image) → IsLeftWriting old opens.steps image → IsLeftDoing doing (work_of tells old new) found timestamp word request image
       among_first new image writing = record { plan = plan; is_left = inl (subst (λ (steps : List Step). IsLeftWriting old steps image) (sym first_is) writing) }
@@ -185,6 +191,34 @@ module _ {D : Type 0} (tells : Type 0) (doing : Doing) (steady : IsSteady doing)
 
       pub work_leaves : tells → StopsLeave old behind (IsLeftDoing doing (work_of tells old behind) found timestamp word request)
       work_leaves told = work_leaves_in told behind
+
+      -- ---- its histories
+
+      both_steps : opens.steps ++ last ≡ plan.first ++ plan.last
+      both_steps = sym (ap (λ (steps : List Step). steps ++ plan.last) first_is ∙ ap (λ (steps : List Step). opens.steps ++ steps) last_is)
+
+      issues_last : changes_in found plan.last ≡ configs_of ready.steps
+      issues_last = ap (changes_in found) last_is ∙ opens.issues
+
+      module _ (left : List Bool) (named : Option (List ℕ)) (by : IsFoundBy old left named found) (told : tells) (group : List ℕ) (same : found.config.group ≡ group) (past : Past (groups group))
+          (kept : AreAllKept group past old) (admitted : IsAdmitted group past old left found) where
+        way_opened : IsUnderWay group old opened past left found (changes_in found (plan.first ++ plan.last)) now_found ready
+        way_opened =
+            subst (λ (steps : List Step). IsUnderWay group old opened past left found (changes_in found steps) now_found ready) both_steps (opens.under_way told left named by group same past kept admitted)
+
+        begun : StopsLeave old opened (λ image. (now : Past (groups group)) × Goes group past (is_read left) found (changes_in found plan.first) now × IsKept now (scene_of old.sizes image))
+        begun =
+            (subst (λ (steps : List Step). IsUnderWay group old opened past left found (changes_in found steps) now_found (record ready { steps = [] })) (sym first_is)
+            (opens.no_further told left named by group same past kept admitted)).any_moment
+
+        first_writing : StopsLeave old opened (IsLeftWriting old plan.first)
+        first_writing = subst (λ (steps : List Step). StopsLeave old opened (IsLeftWriting old steps)) (sym first_is) (leaves told)
+
+        pub work_along : ComesAlong group doing (work_of tells old behind) past left found plan false
+        work_along =
+            work_fails tells group past left found timestamp word request plan doing old opened behind behind tells_opened tells_behind now_found ready opens.can_go_on.few issues_last way_opened begun first_writing
+            now_floored (below_now told) (stops_weaken (works.among told) (is_working told behind)) refl
+            (λ image is_left. is_working told behind image (steady.among_first volume opened.held opened.may_hold image is_left))
 
     -- the histories
     module _ (left : List Bool) (named : Option (List ℕ)) (by : IsFoundBy old left named found) (steps : List Step) (are : readied found changes timestamp ≡ Ok steps) where
@@ -249,24 +283,24 @@ module _ {D : Type 0} (tells : Type 0) (doing : Doing) (steady : IsSteady doing)
           was_left : tells → doing.IsLeft plan.volume opened.held behind.held
           was_left told = subst (λ (v : Volume). doing.IsLeft v opened.held behind.held) (sym volume_is) (works.is_left told)
 
-          among_closing : tells → new.tells_left → (image : Image) → IsLeftWriting behind last image → IsLeftDoing doing all found timestamp word request image
-          among_closing told left image writing = record {
-            plan = plan;
-            is_left = inr (inr (record {
-              before = opened.held;
-              behind = behind.held;
-              first_written = first_written word request plan first_is last_is volume_is told;
-              has_done = was_done told;
-              is_left = was_left told;
-              are_sectors = sectors_behind left;
-              is_writing = subst (λ (steps : List Step). IsLeftWriting (holding old slots behind.held) steps image) (sym last_is) (record {
-                before = writing.before;
-                is_left = λ s l. left_behind told s l (writing.before s l) (writing.is_left s l);
-                shows = rw same_sizes_behind at writing.shows;
-                outside = rw same_sizes_behind at writing.outside;
-              });
-            }));
+          is_closing : tells → new.tells_left → (image : Image) → IsLeftWriting behind last image → IsLeftClosing doing all found plan.first plan.last plan.volume image
+          is_closing told left image writing = record {
+            before = opened.held;
+            behind = behind.held;
+            first_written = first_written word request plan first_is last_is volume_is told;
+            has_done = was_done told;
+            is_left = was_left told;
+            are_sectors = sectors_behind left;
+            is_writing = subst (λ (steps : List Step). IsLeftWriting (holding old slots behind.held) steps image) (sym last_is) (record {
+              before = writing.before;
+              is_left = λ s l. left_behind told s l (writing.before s l) (writing.is_left s l);
+              shows = rw same_sizes_behind at writing.shows;
+              outside = rw same_sizes_behind at writing.outside;
+            });
           }
+
+          among_closing : tells → new.tells_left → (image : Image) → IsLeftWriting behind last image → IsLeftDoing doing all found timestamp word request image
+          among_closing told left image writing = record { plan = plan; is_left = inr (inr (is_closing told left image writing)) }
 
           pub close_leaves : tells → StopsLeave old new (IsLeftDoing doing all found timestamp word request)
           close_leaves told =
@@ -323,3 +357,26 @@ module _ {D : Type 0} (tells : Type 0) (doing : Doing) (steady : IsSteady doing)
           closed (Err Memory) is = absurd is
           closed (Err (Conflict i j sequence differ)) is = absurd is
           closed (Err (Split i j)) is = absurd is
+
+          -- So far come the histories.
+          pub close_along : (done_all : Bool) → (tells → IsCommit behind new ready done_all) → (left : List Bool) (named : Option (List ℕ)) → IsFoundBy old left named found → tells → (group : List ℕ)
+              → found.config.group ≡ group → (past : Past (groups group)) → AreAllKept group past old → IsAdmitted group past old left found → ComesAlong group doing all past left found plan done_all
+          close_along done_all commits left named by told group same past kept admitted =
+              let last_writing = closing told in
+              comes_along tells group past left found timestamp word request plan doing old opened behind new tells_opened tells_behind now_found ready opens.can_go_on.few
+              (issues_last word request plan first_is last_is volume_is) (way_opened word request plan first_is last_is volume_is left named by told group same past kept admitted)
+              (begun word request plan first_is last_is volume_is left named by told group same past kept admitted)
+              (first_writing word request plan first_is last_is volume_is left named by told group same past kept admitted) now_floored (below_now told)
+              (stops_weaken (works.among told) (is_working word request plan first_is last_is volume_is told new)) (works.stays told is_done_so) tells_new done_all (commits told)
+              (record {
+                later = last_writing.later;
+                since = λ t image le was_left. ⊎_elim inl (λ writing. inr (is_closing told (tells_new.since t image was_left) image writing)) (last_writing.since t image le was_left);
+              })
+              (λ tells_left image is_left. is_closing told tells_left image (not_begun behind last image is_left))
+
+        -- and each of them is kept.
+        pub close_keeps : (done_all : Bool) → (tells → IsCommit behind new ready done_all) → (left : List Bool) (named : Option (List ℕ)) → IsFoundBy old left named found → (steps : List Step)
+            → readied found changes timestamp ≡ Ok steps → tells → KeepsHistories old new left found steps done_all
+        close_keeps done_all commits left named by steps are told group same past kept admitted =
+            last_keeps tells behind now_found ready can_close told tells_behind new tells_new group past old left found (changes_in found steps)
+            (work_way left named by steps are told is_done_so group same past kept admitted) done_all (commits told)

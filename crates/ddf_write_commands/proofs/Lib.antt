@@ -6,18 +6,20 @@ pub mod BelowFloors
 pub mod Courses
 pub mod Opening
 pub mod Closing
-mod SlotsThere
+pub mod SlotsThere
 mod PlanKept
 mod PlanMade
 mod Works
+pub mod Parts
+mod OnePlan
 mod ResyncWorks
 mod Between
-mod Arrays
+pub mod Arrays
 mod ResyncArray
 mod PlanWritten
 mod WriteWorks
 mod WriteArray
-mod Since
+pub mod Since
 pub mod Ended
 mod WriteCame
 mod Chunks

@@ -1,11 +1,13 @@
 -- A group that is recovered, and whose array is marked, by what the calls promise that write its records.
-use Rattle.std.proofs.Common.{◌≡◌, ◌≢◌, ℕ, ◌+◌, ◌≤◌, Bool, true, false, List, [], ◌∷◌, length, Option, None, Some, Result, Ok, refl, sym, ap, subst, ◌∙◌, arith}
+use Rattle.std.proofs.Common.{◌≡◌, ◌≢◌, ℕ, ◌+◌, ◌≤◌, Bool, true, false, List, [], ◌∷◌, ◌++◌, append_assoc, length, Option, None, Some, Result, Ok, refl, sym, ap, subst, ◌∙◌, arith}
 use Rattle.std.proofs.lemmas.Bool.{false≢true}
+use Rattle.std.proofs.lemmas.List.{append_cancel_left}
 use Rattle.std.specs.Prelude.{slice_get}
 use Rattle.std.specs.List.{AllByRecursion, list_any}
 use Rattle.ddf_bay.specs.Moments.{SpendsOver, StopsLeave}
 use Rattle.ddf_bay.specs.State.{BayState}
 use Rattle.ddf_bay.proofs.Steps.{over_start, stops_start}
+use Rattle.ddf_config.specs.Configuration.{Configuration}
 use Rattle.ddf_plan.specs.declared.change.Change.{Change}
 use Rattle.ddf_plan.specs.Same.{is_step}
 use Rattle.ddf_update.specs.Changes.{AreChanged}
@@ -27,11 +29,11 @@ use Rattle.ddf_assembly.proofs.RecoveredGroup.{recovered_ready}
 use Rattle.ddf_assembly.proofs.RecoveryWritten.{may_recover, recovered_anchored, recovered_held, recovery_on_seats}
 use Rattle.ddf_stops.specs.Going.{IsAdmitted, KeepsHistory, changes_in}
 use Rattle.ddf_stops.specs.Kept.{AreAllKept, is_slot}
-use Rattle.ddf_stops.specs.Steps.{IsCommit, IsRecovery, WasTaken}
+use Rattle.ddf_stops.specs.Steps.{IsCommit, IsRecovery, WasTaken, recovery_changes}
 use Rattle.ddf_stops.proofs.Slots.{slot_is}
 use Rattle.ddf_data_stops.specs.Course.{IsUnderWay, changes_ready}
+use Rattle.ddf_data_stops.proofs.Course.{changes_parts}
 use Rattle.ddf_data_stops.proofs.Floored.{next_floored, recovered_floored}
-use Rattle.ddf_answer.specs.declared.failure.Failure.{Failure}
 use Rattle.ddf_group_commands.specs.Change.{KeepsHistories}
 use Rattle.ddf_group_commands.specs.GroupRead.{IsFoundBy, IsReadFrom}
 use Rattle.ddf_group_commands.specs.Others.{LeavesOthers}
@@ -44,8 +46,9 @@ use Rattle.ddf_group_commands.proofs.Outcomes.{asked_of}
 use Rattle.ddf_group_commands.proofs.Recovering.{done_to, rest_on_seats}
 use Rattle.ddf_group_commands.proofs.StepsWritten.{none_asked, steps_in}
 use Rattle.ddf_write_commands.specs.Around.{IsMark, front, rest}
-use Rattle.ddf_write_commands.specs.Opened.{AreMembers, IsOpened}
+use Rattle.ddf_write_commands.specs.Opened.{AreMembers, AreUnderWay, IsOpened}
 use Rattle.ddf_write_commands.proofs.Courses.{IsTold, commit_fails, commits, recovers, recovery_fails}
+use Rattle.ddf_write_commands.proofs.Parts.{configs_of, issued_parts}
 use Rattle.ddf_write_commands.proofs.Splitting.{all_parts, all_readied, config_is, first_readied, seats_same, split, was_first}
 
 -- ---- one step, and those behind it
@@ -85,6 +88,21 @@ pub group_front : (found : GroupValue) (steps : List ReadyStep)
     → group_next found (record { recovery = None; steps = steps }) ≡ group_next found (record { recovery = None; steps = front true steps })
 group_front found [] = refl
 group_front found (one ∷ others) = refl
+
+front_spent : (b : Bool) (steps : List ReadyStep) → ◌≡◌ {A = ReadyValue} (left_behind (record { recovery = None; steps = front b steps })) (record { recovery = None; steps = [] })
+front_spent false steps = refl
+front_spent true [] = refl
+front_spent true (one ∷ others) = refl
+
+configs_split : (b : Bool) (steps : List ReadyStep) → configs_of steps ≡ configs_of (front b steps) ++ configs_of (rest b steps)
+configs_split false steps = refl
+configs_split true [] = refl
+configs_split true (one ∷ others) = refl
+
+front_asked : (b : Bool) (changes : List Change) → AllByRecursion CanBeAsked changes → AllByRecursion CanBeAsked (front b changes)
+front_asked false changes can = tt
+front_asked true [] can = tt
+front_asked true (change ∷ others) can = (can.0, tt)
 
 pub left_rest : (steps : List ReadyStep) → ◌≡◌ {A = ReadyValue} (left_behind (record { recovery = None; steps = steps })) (record { recovery = None; steps = rest true steps })
 left_rest [] = refl
@@ -128,6 +146,17 @@ module _ {D : Type 0} (tells : Type 0) (old : BayState D) (found : GroupValue) (
   is_ready : IsReadyFor recovered after
   is_ready = recovered_ready found (front redundant changes) timestamp before was_before
 
+  taken_first : tells → (left : List Bool) (named : Option (List ℕ)) → IsFoundBy old left named found → WasTaken old left named found (front redundant changes) timestamp before
+  taken_first told left named by = record {
+    every_slot = by.every_slot;
+    is_found = by.is_found;
+    stand = from.stand told;
+    under = from.under;
+    fit = from.seats;
+    can_be_asked = front_asked redundant changes can;
+    was_readied = was_before;
+  }
+
   taken : tells → (left : List Bool) (named : Option (List ℕ)) → IsFoundBy old left named found → WasTaken old left named found changes timestamp ready
   taken told left named by = record {
     every_slot = by.every_slot;
@@ -139,8 +168,19 @@ module _ {D : Type 0} (tells : Type 0) (old : BayState D) (found : GroupValue) (
     was_readied = was;
   }
 
-  same_steps : (steps : List Step) → readied found changes timestamp ≡ Ok steps → steps_in (all_ready ready) ≡ steps
-  same_steps steps is = let same : ◌≡◌ {A = Result (List Step) GroupFault} (Ok (steps_in (all_ready ready))) (Ok steps) = sym was.is_readied ∙ is in cc
+  same_steps : (steps : List Step) → readied found (front redundant changes) timestamp ≡ Ok steps → steps_in (all_ready before) ≡ steps
+  same_steps steps is = let same : ◌≡◌ {A = Result (List Step) GroupFault} (Ok (steps_in (all_ready before))) (Ok steps) = sym was_before.is_readied ∙ is in cc
+
+  -- Of the changes that all of it issues the last are those of the steps that are left.
+  issues_last : changes_in found (steps_in (rest marks ready.steps)) ≡ configs_of (rest marks ready.steps)
+  issues_last =
+      append_cancel_left (changes_ready found before) (changes_in found (steps_in (rest marks ready.steps))) (configs_of (rest marks ready.steps))
+      (sym (issued_parts found (steps_in (all_ready before)) (steps_in (rest marks ready.steps)))
+      ∙ ap (changes_in found) (sym (all_parts found changes timestamp ready was redundant marks marks_is mark few))
+      ∙ changes_parts found changes timestamp ready was
+      ∙ ap (λ (all : List Configuration). recovery_changes timestamp found ++ all) (configs_split marks ready.steps)
+      ∙ sym (append_assoc (recovery_changes timestamp found) (configs_of (front marks ready.steps)) (configs_of (rest marks ready.steps)))
+      ∙ ap (λ (all : List Configuration). all ++ configs_of (rest marks ready.steps)) (sym (changes_parts found (front redundant changes) timestamp before was_before)))
 
   may : tells → MayRecover old found before
   may told = may_recover found (front redundant changes) timestamp before was_before old (from.held told) (from.stand told)
@@ -149,11 +189,12 @@ module _ {D : Type 0} (tells : Type 0) (old : BayState D) (found : GroupValue) (
     -- ---- a recovery that failed
 
     module _ (told : tells) (is : IsRecovery old middle found ready false) where
-      pub recovery_keeps : (left : List Bool) (named : Option (List ℕ)) → IsFoundBy old left named found → (steps : List Step) → readied found changes timestamp ≡ Ok steps → (failure : Failure)
+      pub recovery_keeps : (left : List Bool) (named : Option (List ℕ)) → IsFoundBy old left named found → (steps : List Step) → readied found (front redundant changes) timestamp ≡ Ok steps
           → KeepsHistories old middle left found steps false
-      recovery_keeps left named by steps asked failure group same past kept admitted =
+      recovery_keeps left named by steps asked group same past kept admitted =
           subst (λ (all : List Step). KeepsHistory group old middle past left found (changes_in found all) false) (same_steps steps asked)
-          (recovery_fails group past old middle tells_old tells_middle left named found changes timestamp ready (taken told left named by) same kept admitted is)
+          (recovery_fails group past old middle tells_old tells_middle left named found (front redundant changes) timestamp before (taken_first told left named by) same kept admitted
+          (record { any_moment = is.any_moment; changed = is.changed; settled = is.settled; ends = is.ends; spends = is.spends }))
 
       pub recovery_leaves : (first : List Step) → readied found (front redundant changes) timestamp ≡ Ok first → StopsLeave old middle (IsLeftWriting old first)
       recovery_leaves first asked =
@@ -177,6 +218,15 @@ module _ {D : Type 0} (tells : Type 0) (old : BayState D) (found : GroupValue) (
       may_after : tells → MayWriteNext middle after
       may_after told = may_write_next middle recovered after (holds_recovered told) is_ready
 
+      -- the first steps alone
+      first_recovered : tells → IsRecovery old middle found before true
+      first_recovered told =
+          let is = recovers_is told in record { any_moment = is.any_moment; changed = is.changed; settled = is.settled; ends = is.ends; spends = is.spends }
+
+      way_first : tells → AreUnderWay old middle found (steps_in (all_ready before)) recovered after
+      way_first told left named by group same past kept admitted =
+          recovers group past old middle tells_old tells_middle left named found (front redundant changes) timestamp before (taken_first told left named by) same kept admitted (first_recovered told)
+
       way_recovered : (told : tells) (left : List Bool) (named : Option (List ℕ)) → IsFoundBy old left named found → (group : List ℕ) → found.config.group ≡ group → (past : Past (groups group))
           → AreAllKept group past old → IsAdmitted group past old left found
           → IsUnderWay group old middle past left found (changes_ready found ready) recovered (record { recovery = None; steps = ready.steps })
@@ -197,13 +247,13 @@ module _ {D : Type 0} (tells : Type 0) (old : BayState D) (found : GroupValue) (
             (first told) (may_after told).seat new ((commits_is told).any_moment (may_after told).seat (may_after told).may_change)
 
       -- a mark that failed
-      pub mark_keeps : (new : BayState D) → IsTold new → (told : tells) → (tells → IsCommit middle new after false) → IsCommit middle new (record { recovery = None; steps = ready.steps }) false
-          → (left : List Bool) (named : Option (List ℕ)) → IsFoundBy old left named found → (steps : List Step) → readied found changes timestamp ≡ Ok steps → (failure : Failure)
+      pub mark_keeps : (new : BayState D) → IsTold new → (told : tells) → (tells → IsCommit middle new after false)
+          → (left : List Bool) (named : Option (List ℕ)) → IsFoundBy old left named found → (steps : List Step) → readied found (front redundant changes) timestamp ≡ Ok steps
           → KeepsHistories old new left found steps false
-      mark_keeps new tells_new told commits_is is left named by steps asked failure group same past kept admitted =
+      mark_keeps new tells_new told commits_is left named by steps asked group same past kept admitted =
           subst (λ (all : List Step). KeepsHistory group old new past left found (changes_in found all) false) (same_steps steps asked)
-          (commit_fails group past old middle new tells_middle tells_new left found (changes_ready found ready) recovered (record { recovery = None; steps = ready.steps })
-          (way_recovered told left named by group same past kept admitted) ((commits_is told).any_moment (may_after told).seat (may_after told).may_change).later is)
+          (commit_fails group past old middle new tells_middle tells_new left found (changes_ready found before) recovered after
+          (way_first told left named by group same past kept admitted) ((commits_is told).any_moment (may_after told).seat (may_after told).may_change).later (commits_is told))
 
       -- ---- the group is opened
 
@@ -211,7 +261,7 @@ module _ {D : Type 0} (tells : Type 0) (old : BayState D) (found : GroupValue) (
       Way new = tells → (left : List Bool) (named : Option (List ℕ)) → IsFoundBy old left named found → (group : List ℕ) → found.config.group ≡ group → (past : Past (groups group))
           → AreAllKept group past old → IsAdmitted group past old left found → IsUnderWay group old new past left found (changes_ready found ready) now_found last
 
-      module _ (members : AreMembers (config_recovered found) found.seats) (new : BayState D) (recovers_spends : SpendsOver old middle (all_sectors (recovery_updates ready)) (length found.seats + all_calls (recovery_updates ready)))
+      module _ (members : AreMembers (config_recovered found) found.seats) (new : BayState D) (tells_new : IsTold new) (recovers_spends : SpendsOver old middle (all_sectors (recovery_updates ready)) (length found.seats + all_calls (recovery_updates ready)))
           (commits_is : tells → IsCommit middle new after true) (commits_spends : SpendsOver middle new (all_sectors (next_updates after)) (all_calls (next_updates after))) where
         abbrev second : (told : tells) → AreChanged middle new (next_slots after) (may_after told).seat (next_updates after) (length (next_slots after))
         second told = (commits_is told).changed refl (may_after told).seat (may_after told).may_change
@@ -232,6 +282,14 @@ module _ {D : Type 0} (tells : Type 0) (old : BayState D) (found : GroupValue) (
             (λ place below at. not_written (next_slots after) (rest_on_seats tells old found (front redundant changes) timestamp before from was_before) s other place at) left in
             ((first told).others_left s l bytes
             (λ place below at. not_written (recovery_slots before) (recovery_on_seats found (front redundant changes) timestamp before was_before) s other place at) behind).0
+
+        -- What is issued on the way are the changes of the first steps.
+        way_no_further : tells → AreUnderWay old new found (steps_in (all_ready before)) now_found (record last { steps = [] })
+        way_no_further told out named by group same past kept admitted =
+            let is = commits_is told in
+            let later = (is.any_moment (may_after told).seat (may_after told).may_change).later in
+            subst (λ (one : ReadyValue). IsUnderWay group old new past out found (changes_ready found before) now_found one) (front_spent marks ready.steps)
+            (commits group past old middle new tells_middle tells_new out found (changes_ready found before) recovered after (way_first told out named by group same past kept admitted) later is)
 
         pub opened : Way new → IsOpened tells old new found (front redundant changes) changes timestamp now_found last
         opened way =
@@ -261,8 +319,10 @@ module _ {D : Type 0} (tells : Type 0) (old : BayState D) (found : GroupValue) (
                   subst (λ (steps : List Step). AreWritten old.sizes old.held steps new.held) same (done.are_written told);
               none_asked = none_asked old middle new _ _ ready.recovery (front marks ready.steps) recovers_spends.costs commits_spends.costs;
               others_left = left_of_others;
+              issues = issues_last;
               under_way = λ told left named by group same past kept admitted.
                   subst (λ (steps : List Step). IsUnderWay group old new past left found (changes_in found steps) now_found last) parts (way told left named by group same past kept admitted);
+              no_further = way_no_further;
               told = λ left. recovers_spends.told (commits_spends.told left);
             }
 
@@ -314,7 +374,7 @@ module _ {D : Type 0} (tells : Type 0) (old : BayState D) (found : GroupValue) (
           opened_marked =
               subst (λ (one : GroupValue). IsOpened tells old new found (front redundant changes) changes timestamp one new_ready) (sym same_found)
               (subst (λ (one : ReadyValue). IsOpened tells old new found (front redundant changes) changes timestamp now_found one) (sym same_left)
-              (opened members new recovers_spends (λ told. is_step_after marked new true (commits_is told)) (spends_after marked new commits_spends) way_marked))
+              (opened members new tells_new recovers_spends (λ told. is_step_after marked new true (commits_is told)) (spends_after marked new commits_spends) way_marked))
 
         -- No mark is to be written.
         module _ (unmarked : marks ≡ false) where
@@ -327,7 +387,7 @@ module _ {D : Type 0} (tells : Type 0) (old : BayState D) (found : GroupValue) (
               let way : Way middle = λ told out named by group same past kept admitted.
               subst (λ (b : Bool). IsUnderWay group old middle past out found (changes_ready found ready) (group_next recovered (record { recovery = None; steps = front b ready.steps })) (record { recovery = None; steps = rest b ready.steps }))
               (sym unmarked) (way_recovered told out named by group same past kept admitted) in
-              let is = opened members middle recovers_spends (λ told. no_step_after) (no_step_after.spends) way in
+              let is = opened members middle tells_middle recovers_spends (λ told. no_step_after) (no_step_after.spends) way in
               let same_found : ◌≡◌ {A = GroupValue} now_found new_found =
               ap (λ (b : Bool). group_next recovered (record { recovery = None; steps = front b ready.steps })) unmarked ∙ sym found_is in
               let same_left : ◌≡◌ {A = ReadyValue} last left = ap (λ (b : Bool). rest_ready b ready.steps) unmarked ∙ sym left_is in

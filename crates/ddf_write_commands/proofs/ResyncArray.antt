@@ -24,7 +24,7 @@ use Rattle.ddf_write_commands.specs.Resync.{HasResyncedArray, resync_behind, res
 use Rattle.ddf_write_commands.proofs.BelowFloors.{given_below}
 use Rattle.ddf_write_commands.proofs.PlanMade.{resync_accepted}
 use Rattle.ddf_write_commands.proofs.ResyncWorks.{resync_stopped}
-use Rattle.ddf_write_commands.proofs.Since.{HasCome}
+use Rattle.ddf_write_commands.proofs.Since.{HasComeTo}
 use Rattle.ddf_write_commands.proofs.SlotsThere.{resync_on_seat}
 use Rattle.ddf_write_commands.proofs.Works.{HasStopped}
 
@@ -64,6 +64,6 @@ module _ {D : Type 0} (tells : Type 0) (old opened behind : BayState D) (found :
   }
 
 -- What the command came to.
-pub has_resynced : {D : Type 0} (work : Work D) (named : Option (List ℕ)) (timestamp : ℕ) (word : List ℕ) (outcome : Result ℕ Failure) → HasCome resyncing work named timestamp word (resync_request word) outcome
+pub has_resynced : {D : Type 0} (work : Work D) (named : Option (List ℕ)) (timestamp : ℕ) (word : List ℕ) (outcome : Result ℕ Failure) → HasComeTo resyncing work named timestamp word (resync_request word) outcome
     → HasResyncedArray work named timestamp word outcome
-has_resynced work named timestamp word outcome come = record { taken = come.taken; gives = come.gives; leaves = come.leaves }
+has_resynced work named timestamp word outcome come = record { taken = come.taken; gives = come.gives; leaves = come.leaves; along = come.along }

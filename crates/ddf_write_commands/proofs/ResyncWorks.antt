@@ -60,6 +60,7 @@ resync_steady = record {
   more_done = λ P Q more volume before image is. done_more P Q more volume before image is;
   more_left = λ P Q more volume slot none. left_more P Q more volume slot none;
   left_failed = λ P volume slot none. ⊎_elim (λ block. block.none_left.this_failed) (λ row. row.for_sum.none_left.this_failed) none;
+  among_first = λ volume before may image left s l. inl (left s l);
   among_more = λ volume before may further more image among s l. ⊎_elim (λ left. inl (more s l (image s l) left)) inr (among s l);
 }
 

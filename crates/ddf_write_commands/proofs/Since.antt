@@ -1,5 +1,5 @@
 -- What a command over the blocks of an array comes to, since its entry: its group is read before.
-use Rattle.std.proofs.Common.{◌≡◌, ◌⊎◌, ℕ, suc, ◌≤◌, Bool, List, [], ◌∷◌, Option, Result, Ok, Err, refl, sym, ap, subst, ◌∙◌, inl, inr, ⊎_elim, arith}
+use Rattle.std.proofs.Common.{◌≡◌, ◌⊎◌, ℕ, suc, ◌≤◌, Bool, false, List, [], ◌∷◌, Option, Result, Ok, Err, refl, sym, ap, subst, ◌∙◌, inl, inr, ⊎_elim, arith}
 use Rattle.ddf_bay.specs.Moments.{StopsLeave}
 use Rattle.ddf_bay.specs.ReadsOnly.{ReadsOnly}
 use Rattle.ddf_bay.specs.Sectors.{Image, IsLeft}
@@ -7,6 +7,7 @@ use Rattle.ddf_bay.specs.State.{BayState}
 use Rattle.ddf_bay.proofs.Looks.{reads_then}
 use Rattle.ddf_bay.proofs.Steps.{left_keeps, stops_then, stops_weaken}
 use Rattle.ddf_plan.specs.declared.change.Change.{Change}
+use Rattle.ddf_array.specs.Volume.{Volume}
 use Rattle.ddf_volume.specs.Reading.{Failed}
 use Rattle.ddf_cells.specs.Touching.{GoesBetween}
 use Rattle.ddf_copy.specs.declared.newest_copy.Newest.{Newest}
@@ -17,6 +18,12 @@ use Rattle.ddf_assembly.specs.declared.fault.GroupFault.{GroupFault}
 use Rattle.ddf_assembly.specs.Recovery.{config_recovered}
 use Rattle.ddf_assembly.specs.Slots.{newest_from}
 use Rattle.ddf_assembly.specs.Steps.{Step}
+use Rattle.ddf_history.specs.Groups.{groups}
+use Rattle.ddf_history.specs.Issued.{Past}
+use Rattle.ddf_history.specs.Promise.{IsKept}
+use Rattle.ddf_history.specs.Scenes.{scene_of}
+use Rattle.ddf_stops.specs.Going.{IsAdmitted}
+use Rattle.ddf_stops.specs.Kept.{AreAllKept}
 use Rattle.ddf_answer.specs.declared.failure.Failure.{Failure}
 use Rattle.ddf_answer.specs.declared.failure.Failure.TheVariants.{Conflict, Disk, Memory, Refused, Split}
 use Rattle.ddf_answer.specs.Answers.{failure_of}
@@ -30,11 +37,14 @@ use Rattle.ddf_group_commands.specs.Written.{AreWritten}
 use Rattle.ddf_group_commands.proofs.Beside.{beside_since, reads_beside}
 use Rattle.ddf_group_commands.proofs.Keeping.{reads_keep, since_entry}
 use Rattle.ddf_group_commands.proofs.Outcomes.{group_read}
+use Rattle.ddf_write_commands.specs.Along.{AllComeAlong, ComesAlong, GoesAlong, HasCome, IsAlong, IsLeftAt, Stage}
+use Rattle.ddf_write_commands.specs.Along.Stage.{Closing, Done, Opening, Working}
 use Rattle.ddf_write_commands.specs.Doing.{Doing}
 use Rattle.ddf_write_commands.specs.Holding.{holding}
-use Rattle.ddf_write_commands.specs.Planned.{Entry, Refusing, request_around}
+use Rattle.ddf_write_commands.specs.Planned.{Entry, IsPlanned, Refusing, request_around}
 use Rattle.ddf_write_commands.specs.Plans.{IsNotReadied, MayPlan}
-use Rattle.ddf_write_commands.specs.Worked.{IsLeftDoing, IsWorkedIn, IsWorkedOf, LeavesDoing}
+use Rattle.ddf_write_commands.specs.Worked.{IsLeftClosing, IsLeftDoing, IsLeftWorking, IsWorkedIn, IsWorkedOf, LeavesDoing}
+use Rattle.ddf_write_commands.proofs.Parts.{not_begun}
 use Rattle.ddf_write_commands.proofs.Works.{IsSteady}
 
 -- ---- what the command promises of a group that was read
@@ -46,13 +56,15 @@ pub record HasDoneArray {D : Type 0} (doing : Doing) (tells : Type 0) (middle ne
   pub beside : tells → LeavesOthers middle new (slots_of group.seats)
   pub keeps : tells → (left : List Bool) (named : Option (List ℕ)) → IsFoundBy middle left named group → (steps : List Step) → steps_of group timestamp request ≡ Ok steps
       → KeepsHistories middle new left group steps (is_done outcome)
+  pub along : tells → (left : List Bool) (named : Option (List ℕ)) → IsFoundBy middle left named group → AllComeAlong doing (work_of tells middle new) left group timestamp word request (is_done outcome)
   pub goes : GoesBetween middle new
 
 -- A command came to this: what it made of the group that it took.
-pub record HasCome {D : Type 0} (doing : Doing) (work : Work D) (named : Option (List ℕ)) (timestamp : ℕ) (word : List ℕ) (request : Request) (outcome : Result ℕ Failure) : Type 0 where
+pub record HasComeTo {D : Type 0} (doing : Doing) (work : Work D) (named : Option (List ℕ)) (timestamp : ℕ) (word : List ℕ) (request : Request) (outcome : Result ℕ Failure) : Type 0 where
   pub taken : TakesGroup work named timestamp request (is_done outcome)
   pub gives : IsWorkedIn doing work timestamp word request (group_of taken.newest named) outcome
   pub leaves : work.tells → LeavesDoing doing work timestamp word request (group_of taken.newest named)
+  pub along : work.tells → GoesAlong doing work taken.left timestamp word request (is_done outcome) (group_of taken.newest named)
 
 found_same : (one other : GroupValue) → ◌≡◌ {A = Result GroupValue Assembly} (Ok one) (Ok other) → one ≡ other
 found_same one other is = cc
@@ -66,6 +78,21 @@ reads_left old new P reads = stops_weaken reads.any_moment (λ image left. inl l
 module _ {D : Type 0} (doing : Doing) (work : Work D) (named : Option (List ℕ)) (timestamp : ℕ) (word : List ℕ) (request : Request) (reads : ReadsOnly work.old work.new) where
   nothing_left : (meaning : Result GroupValue Assembly) → LeavesDoing doing work timestamp word request meaning
   nothing_left meaning found is steps asked = reads_left work.old work.new (IsLeftDoing doing work found timestamp word request) reads
+
+  -- The histories stay as they are.
+  pub none_along : (left : List Bool) (meaning : Result GroupValue Assembly) → GoesAlong doing work left timestamp word request false meaning
+  none_along left meaning found is plan group same past kept admitted = record {
+    any_moment = stops_weaken reads.any_moment
+        (λ image was. record { stage = Opening; now = past; has_come = inl refl; is_left = not_begun work.old plan.first image was; is_kept = kept image was });
+    ends = λ tells_left. record {
+      stage = Opening;
+      now = past;
+      has_come = inl refl;
+      is_over = λ e. absurd cc;
+      is_left = λ image left. not_begun work.old plan.first image (left_keeps work.old.may_hold work.new.may_hold image reads.keeps left);
+      all_kept = λ image left. rw reads.same_sizes (kept image (left_keeps work.old.may_hold work.new.may_hold image reads.keeps left));
+    };
+  }
 
   none_in : (found : Result GroupValue Assembly) (failure : Failure)
       → (◌≡◌ {A = Result GroupValue Failure} (Err failure) (group_or found)) ⊎ (◌≡◌ {A = Result GroupValue Failure} (Err failure) (Err Memory))
@@ -83,7 +110,7 @@ module _ {D : Type 0} (doing : Doing) (work : Work D) (named : Option (List ℕ)
   )
 
   -- There is no group, or memory ran out.
-  pub none_come : (failure : Failure) → IsGroupRead work named (Err failure) → HasCome doing work named timestamp word request (Err failure)
+  pub none_come : (failure : Failure) → IsGroupRead work named (Err failure) → HasComeTo doing work named timestamp word request (Err failure)
   none_come failure read = record {
     taken = record {
       left = read.left;
@@ -96,11 +123,12 @@ module _ {D : Type 0} (doing : Doing) (work : Work D) (named : Option (List ℕ)
     };
     gives = none_in (group_of read.newest named) failure read.answer;
     leaves = λ told. nothing_left (group_of read.newest named);
+    along = λ told. none_along read.left (group_of read.newest named);
   }
 
   -- It was refused, or memory ran out.
   pub unwritten_come : (group : GroupValue) (failure : Failure) → IsGroupRead work named (Ok group) → IsWorkedOf doing work group timestamp word request (Err failure)
-      → HasCome doing work named timestamp word request (Err failure)
+      → HasComeTo doing work named timestamp word request (Err failure)
   unwritten_come group failure read is = record {
     taken = record {
       left = read.left;
@@ -113,6 +141,7 @@ module _ {D : Type 0} (doing : Doing) (work : Work D) (named : Option (List ℕ)
     };
     gives = subst (λ (one : Result GroupValue Assembly). IsWorkedIn doing work timestamp word request one (Err failure)) (sym (group_read work named group read)) is;
     leaves = λ told. nothing_left (group_of read.newest named);
+    along = λ told. none_along read.left (group_of read.newest named);
   }
 
   -- and of which group
@@ -190,6 +219,31 @@ module _ {D : Type 0} (tells : Type 0) (doing : Doing) (steady : IsSteady doing)
     outside = rw reads.same_sizes at writing.outside;
   }
 
+  module _ (group : GroupValue) (first : List Step) (volume : Volume) (image : Image) where
+    working_since : IsLeftWorking doing (work_of tells middle new) group first volume image → IsLeftWorking doing (work_of tells old new) group first volume image
+    working_since way = record {
+      before = way.before;
+      first_written = written_since first way.before way.first_written;
+      is_among = steady.among_more volume way.before (holding middle (slots_of group.seats) way.before).may_hold (holding old (slots_of group.seats) way.before).may_hold
+          (held_more (slots_of group.seats) way.before) image way.is_among;
+    }
+
+    closing_since : (last : List Step) → IsLeftClosing doing (work_of tells middle new) group first last volume image → IsLeftClosing doing (work_of tells old new) group first last volume image
+    closing_since last way = record {
+      before = way.before;
+      behind = way.behind;
+      first_written = written_since first way.before way.first_written;
+      has_done = steady.more_done (Failed middle new) (Failed old new) more volume way.before way.behind way.has_done;
+      is_left = way.is_left;
+      are_sectors = way.are_sectors;
+      is_writing = record {
+        before = way.is_writing.before;
+        is_left = λ s l. held_more (slots_of group.seats) way.behind s l (way.is_writing.before s l) (way.is_writing.is_left s l);
+        shows = rw reads.same_sizes at way.is_writing.shows;
+        outside = rw reads.same_sizes at way.is_writing.outside;
+      };
+    }
+
   -- and what a stop left
   left_since : (group : GroupValue) (timestamp : ℕ) (word : List ℕ) (request : Request) (image : Image) → IsLeftDoing doing (work_of tells middle new) group timestamp word request image
       → IsLeftDoing doing (work_of tells old new) group timestamp word request image
@@ -197,28 +251,58 @@ module _ {D : Type 0} (tells : Type 0) (doing : Doing) (steady : IsSteady doing)
     plan = is.plan;
     is_left = elim is.is_left [
       | inl first ↦ inl (writing_since is.plan.first image first)
-      | inr (inl way) ↦ inr (inl (record {
-        before = way.before;
-        first_written = written_since is.plan.first way.before way.first_written;
-        is_among = steady.among_more is.plan.volume way.before (holding middle (slots_of group.seats) way.before).may_hold (holding old (slots_of group.seats) way.before).may_hold
-            (held_more (slots_of group.seats) way.before) image way.is_among;
-      }))
-      | inr (inr last) ↦ inr (inr (record {
-        before = last.before;
-        behind = last.behind;
-        first_written = written_since is.plan.first last.before last.first_written;
-        has_done = steady.more_done (Failed middle new) (Failed old new) more is.plan.volume last.before last.behind last.has_done;
-        is_left = last.is_left;
-        are_sectors = last.are_sectors;
-        is_writing = record {
-          before = last.is_writing.before;
-          is_left = λ s l. held_more (slots_of group.seats) last.behind s l (last.is_writing.before s l) (last.is_writing.is_left s l);
-          shows = rw reads.same_sizes at last.is_writing.shows;
-          outside = rw reads.same_sizes at last.is_writing.outside;
-        };
-      }))
+      | inr (inl way) ↦ inr (inl (working_since group is.plan.first is.plan.volume image way))
+      | inr (inr last) ↦ inr (inr (closing_since group is.plan.first is.plan.volume image is.plan.last last))
     ];
   }
+
+  -- and how far its history came
+  module _ (guid : List ℕ) (past : Past (groups guid)) (left : List Bool) (group : GroupValue) (timestamp : ℕ) (word : List ℕ) (request : Request) (plan : IsPlanned group timestamp word request) where
+    come_still : (stage : Stage) (now : Past (groups guid)) → HasCome guid doing (work_of tells middle new) past left group plan stage now → HasCome guid doing (work_of tells old new) past left group plan stage now
+    come_still Opening now come = come
+    come_still Working now come = come
+    come_still Closing now come = come
+    come_still Done now come = come
+
+    stage_since : (stage : Stage) (image : Image) → IsLeftAt guid doing (work_of tells middle new) past left group plan stage image → IsLeftAt guid doing (work_of tells old new) past left group plan stage image
+    stage_since Opening image is = writing_since plan.first image is
+    stage_since Working image is = working_since group plan.first plan.volume image is
+    stage_since Closing image is = closing_since group plan.first plan.volume image plan.last is
+    stage_since Done image is = closing_since group plan.first plan.volume image plan.last is
+
+    kept_still : AreAllKept guid past old → AreAllKept guid past middle
+    kept_still kept image was_left = rw reads.same_sizes (kept image (left_keeps old.may_hold middle.may_hold image reads.keeps was_left))
+
+    admitted_still : IsAdmitted guid past old left group → IsAdmitted guid past middle left group
+    admitted_still admitted = record {
+      same_slots = rw reads.same_sizes admitted.same_slots;
+      may_read = rw (reads.same_sizes, reads.same_held) admitted.may_read;
+      member = rw (reads.same_sizes, reads.same_held) admitted.member;
+      all_present = admitted.all_present;
+      is_kept = rw (reads.same_sizes, reads.same_held) admitted.is_kept;
+    }
+
+    first_along : AreAllKept guid past old → (image : Image) → IsLeft old.may_hold image → IsAlong guid doing (work_of tells old new) past left group plan image
+    first_along kept image was = record { stage = Opening; now = past; has_come = inl refl; is_left = not_begun old plan.first image was; is_kept = kept image was }
+
+    along_since : (done : Bool) → AreAllKept guid past old → ComesAlong guid doing (work_of tells middle new) past left group plan done → ComesAlong guid doing (work_of tells old new) past left group plan done
+    along_since done kept along = record {
+      any_moment = stops_then (stops_weaken reads.any_moment (first_along kept)) along.any_moment (λ image is. record {
+        stage = is.stage;
+        now = is.now;
+        has_come = come_still is.stage is.now is.has_come;
+        is_left = stage_since is.stage image is.is_left;
+        is_kept = subst (λ (sizes : List ℕ). IsKept is.now (scene_of sizes image)) reads.same_sizes is.is_kept;
+      });
+      ends = λ tells_left. let end = along.ends tells_left in record {
+        stage = end.stage;
+        now = end.now;
+        has_come = come_still end.stage end.now end.has_come;
+        is_over = end.is_over;
+        is_left = λ image is_left. stage_since end.stage image (end.is_left image is_left);
+        all_kept = end.all_kept;
+      };
+    }
 
   module _ (named : Option (List ℕ)) (timestamp : ℕ) (word : List ℕ) (request : Request) (group : GroupValue) (outcome : Result ℕ Failure)
       (read : IsGroupRead (work_of tells old middle) named (Ok group)) (has : HasDoneArray doing tells middle new group timestamp word request outcome) where
@@ -234,6 +318,9 @@ module _ {D : Type 0} (tells : Type 0) (doing : Doing) (steady : IsSteady doing)
         subst (λ (newest : List (Option Newest)). group_of newest named ≡ Ok group) (sym (newest_still 0 read.left))
         (subst (λ (newest : List (Option Newest)). group_of newest named ≡ Ok group) (read.read told) is_group)
 
+    found_by : tells → IsFoundBy middle read.left named group
+    found_by told = record { every_slot = rw reads.same_sizes read.every_slot; is_found = found_still told }
+
     leaves_since : tells → LeavesDoing doing (work_of tells old new) timestamp word request (group_of read.newest named)
     leaves_since told found is_found steps asked =
         subst (λ (one : GroupValue). StopsLeave old new (λ image. IsLeft old.may_hold image ⊎ IsLeftDoing doing (work_of tells old new) one timestamp word request image))
@@ -242,7 +329,7 @@ module _ {D : Type 0} (tells : Type 0) (doing : Doing) (steady : IsSteady doing)
         (λ image left. inr (left_since group timestamp word request image left)))
 
     -- It came to this since its entry.
-    pub come_since : HasCome doing (work_of tells old new) named timestamp word request outcome
+    pub come_since : HasComeTo doing (work_of tells old new) named timestamp word request outcome
     come_since = record {
       taken = record {
         left = read.left;
@@ -257,12 +344,18 @@ module _ {D : Type 0} (tells : Type 0) (doing : Doing) (steady : IsSteady doing)
             subst (λ (one : GroupValue). steps_of one timestamp request ≡ Ok steps → KeepsHistories old new read.left one steps (is_done outcome)) same
             (λ now_asked.
             since_entry old middle new read.left group steps (is_done outcome) reads
-            (has.keeps told read.left named (record { every_slot = rw reads.same_sizes read.every_slot; is_found = found_still told }) steps now_asked))
+            (has.keeps told read.left named (found_by told) steps now_asked))
             asked;
       };
       gives = subst (λ (one : Result GroupValue Assembly). IsWorkedIn doing (work_of tells old new) timestamp word request one outcome) (sym is_group)
           (worked_since group timestamp word request outcome has.worked);
       leaves = leaves_since;
+      along = λ told found is_found.
+          subst (λ (one : GroupValue). AllComeAlong doing (work_of tells old new) read.left one timestamp word request (is_done outcome)) (found_same group found (sym is_group ∙ is_found))
+          (λ plan guid same past kept admitted.
+          along_since guid past read.left group timestamp word request plan (is_done outcome) kept
+          (has.along told read.left named (found_by told) plan guid same past (kept_still guid past read.left group timestamp word request plan kept)
+          (admitted_still guid past read.left group timestamp word request plan admitted)));
     }
 
     -- and of which group

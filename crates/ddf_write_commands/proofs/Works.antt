@@ -2,7 +2,7 @@
 use Rattle.std.proofs.Common.{◌≡◌, ◌⊎◌, ℕ, ◌+◌, ◌≤◌, Bool, true, List}
 use Rattle.ddf_bytes.specs.Counts.{Rose}
 use Rattle.ddf_bay.specs.Moments.{StopsLeave}
-use Rattle.ddf_bay.specs.Sectors.{Image, Outcomes}
+use Rattle.ddf_bay.specs.Sectors.{Image, IsLeft, Outcomes}
 use Rattle.ddf_bay.specs.State.{BayState}
 use Rattle.ddf_config.specs.declared.seat.Seat.{Seat}
 use Rattle.ddf_array.specs.Volume.{Volume}
@@ -13,11 +13,13 @@ use Rattle.ddf_assembly.specs.Committed.{slots_of}
 use Rattle.ddf_data_stops.specs.Floors.{StaySettled, WritesBelow}
 use Rattle.ddf_write_commands.specs.Doing.{Doing}
 
--- What is said of a work stays so where more reads failed; and an image that is left on its way is one of those that are left where more might be left before.
+-- What is said of a work stays so where more reads failed; what a stop might leave before it is left on its way; and an image that is left on its way is one of
+-- those that are left where more might be left before.
 pub record IsSteady (doing : Doing) : Type 1 where
   pub more_done : (P Q : ℕ → Type 0) → ((slot : ℕ) → P slot → Q slot) → (volume : Volume) (before image : Image) → doing.HasDone P volume before image → doing.HasDone Q volume before image
   pub more_left : (P Q : ℕ → Type 0) → ((slot : ℕ) → P slot → Q slot) → (volume : Volume) (slot : ℕ) → doing.NoneLeft P volume slot → doing.NoneLeft Q volume slot
   pub left_failed : (P : ℕ → Type 0) (volume : Volume) (slot : ℕ) → doing.NoneLeft P volume slot → P slot
+  pub among_first : (volume : Volume) (before : Image) (may : Outcomes) (image : Image) → IsLeft may image → doing.IsAmong volume before may image
   pub among_more : (volume : Volume) (before : Image) (may more : Outcomes) → ((s l : ℕ) (bytes : List ℕ) → may s l bytes → more s l bytes) → (image : Image)
       → doing.IsAmong volume before may image → doing.IsAmong volume before more image
 

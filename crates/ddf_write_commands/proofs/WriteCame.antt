@@ -26,7 +26,7 @@ use Rattle.ddf_write_commands.specs.Payload.{Input, InputRose, IsNoPayload, IsPa
 use Rattle.ddf_write_commands.specs.Write.{HasWrittenArray, IsWriteTold, IsWriteIn, IsWrittenAs, Outcome, answered, fault_of_payload, write_request, writing}
 use Rattle.ddf_write_commands.specs.Write.Outcome.{NotRead, Short, Taken, Unfit}
 use Rattle.ddf_write_commands.proofs.Ended.{Cause, failure_cause, work_cause, work_unwritten}
-use Rattle.ddf_write_commands.proofs.Since.{HasCome, unwritten_come, unwritten_found}
+use Rattle.ddf_write_commands.proofs.Since.{HasComeTo, unwritten_come, unwritten_found}
 use Rattle.ddf_write_commands.proofs.WriteWorks.{write_steady}
 
 module _ {D : Type 0} (work : Work D) (input : Input) (named : Option (List ℕ)) (timestamp : ℕ) (word : List ℕ) (start count : ℕ) where
@@ -34,13 +34,13 @@ module _ {D : Type 0} (work : Work D) (input : Input) (named : Option (List ℕ)
   request = write_request word start count
 
   -- nothing was taken from the input
-  pub unfit_came : IsUntaken input → ReadsOnly work.old work.new → (failure : Failure) → HasCome (writing start []) work named timestamp word request (Err failure)
+  pub unfit_came : IsUntaken input → ReadsOnly work.old work.new → (failure : Failure) → HasComeTo (writing start []) work named timestamp word request (Err failure)
       → HasWrittenArray work input named timestamp word start count (Unfit failure)
-  unfit_came untaken reads failure come = record { taken = come.taken; gives = (untaken, reads, come.gives); leaves = λ told. tt }
+  unfit_came untaken reads failure come = record { taken = come.taken; gives = (untaken, reads, come.gives); leaves = λ told. tt; along = λ told. tt }
 
   module _ (group : GroupValue) (steps : List Step) (are_asked : steps_of group timestamp request ≡ Ok steps) where
     module _ (read : IsGroupRead work named (Ok group)) (reads : ReadsOnly work.old work.new) where
-      abbrev come : HasCome (writing start []) work named timestamp word request (Err Memory)
+      abbrev come : HasComeTo (writing start []) work named timestamp word request (Err Memory)
       come = unwritten_come (writing start []) work named timestamp word request reads group Memory read reads
 
       is_group : group_of come.taken.newest named ≡ Ok group
@@ -48,17 +48,17 @@ module _ {D : Type 0} (work : Work D) (input : Input) (named : Option (List ℕ)
 
       -- the input ended before
       pub short_came : (found : ℕ) → IsShort input count found → HasWrittenArray work input named timestamp word start count (Short found)
-      short_came found short = record { taken = come.taken; gives = (short, record { found = group; is_found = is_group; steps = steps; are_asked = are_asked }, reads); leaves = λ told. tt }
+      short_came found short = record { taken = come.taken; gives = (short, record { found = group; is_found = is_group; steps = steps; are_asked = are_asked }, reads); leaves = λ told. tt; along = λ told. tt }
 
       -- it failed
       pub not_read_came : InputRose input → HasWrittenArray work input named timestamp word start count NotRead
-      not_read_came rose = record { taken = come.taken; gives = (rose, record { found = group; is_found = is_group; steps = steps; are_asked = are_asked }, reads); leaves = λ told. tt }
+      not_read_came rose = record { taken = come.taken; gives = (rose, record { found = group; is_found = is_group; steps = steps; are_asked = are_asked }, reads); leaves = λ told. tt; along = λ told. tt }
 
     -- all came
-    pub taken_came : (sectors : List (List ℕ)) → IsPayload input count sectors → (worked : Result ℕ Failure) → (come : HasCome (writing start sectors) work named timestamp word request worked)
+    pub taken_came : (sectors : List (List ℕ)) → IsPayload input count sectors → (worked : Result ℕ Failure) → (come : HasComeTo (writing start sectors) work named timestamp word request worked)
         → group_of come.taken.newest named ≡ Ok group → HasWrittenArray work input named timestamp word start count (Taken sectors worked)
     taken_came sectors payload worked come is_group =
-        record { taken = come.taken; gives = (payload, record { found = group; is_found = is_group; steps = steps; are_asked = are_asked }, come.gives); leaves = come.leaves }
+        record { taken = come.taken; gives = (payload, record { found = group; is_found = is_group; steps = steps; are_asked = are_asked }, come.gives); leaves = come.leaves; along = come.along }
 
   -- why there was nothing to write
   pub payload_came : (group : GroupValue) (steps : List Step) → steps_of group timestamp request ≡ Ok steps → IsGroupRead work named (Ok group) → ReadsOnly work.old work.new

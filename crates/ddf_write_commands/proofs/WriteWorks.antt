@@ -50,6 +50,7 @@ write_steady start sectors = record {
   more_done = λ P Q more volume before image is. done_more P Q more volume start sectors before image is;
   more_left = λ P Q more volume slot none. row_more P Q more volume start (length sectors) slot none;
   left_failed = λ P volume slot none. none.of_cell.none_left.this_failed;
+  among_first = λ volume before may image left s l. inl (left s l);
   among_more = λ volume before may further more image among s l. ⊎_elim (λ left. inl (more s l (image s l) left)) inr (among s l);
 }
 

@@ -7,6 +7,7 @@ pub mod Doing
 pub mod Planned
 pub mod Plans
 pub mod Worked
+pub mod Along
 pub mod Ending
 pub mod Resync
 pub mod Payload

@@ -36,8 +36,14 @@ pub record CanGoOn {D : Type 0} (tells : Type 0) (disks : BayState D) (found : G
   pub anchored : HaveAnchors disks.sizes found.newest
   pub holds : tells → HoldsGroup disks found
 
--- The group was recovered, and the first of the changes made, where it is a step; the step of the other is left. Of every slot that is no seat's a stop leaves
--- what it might leave before. Each history that admits the call has come as far.
+-- each history of a group that admits the call has come as far, of these steps, with those that are ready left
+abbrev pub AreUnderWay : {D : Type 0} (old new : BayState D) → (found : GroupValue) → List Step → (now_found : GroupValue) → ReadyValue → Type 0
+AreUnderWay old new found steps now_found ready =
+    (left : List Bool) (named : Option (List ℕ)) → IsFoundBy old left named found → (group : List ℕ) → found.config.group ≡ group → (past : Past (groups group))
+    → AreAllKept group past old → IsAdmitted group past old left found → IsUnderWay group old new past left found (changes_in found steps) now_found ready
+
+-- The group was recovered, and the first of the changes made, where it is a step; the step of the other is left, and issues its configuration. Of every slot that is
+-- no seat's a stop leaves what it might leave before. Each history that admits the call has come as far, and on its way no further.
 pub record IsOpened {D : Type 0} (tells : Type 0) (old new : BayState D) (found : GroupValue) (before changes : List Change) (timestamp : ℕ) (now_found : GroupValue) (ready : ReadyValue) : Type 0 where
   pub steps : List Step
   pub are_first : readied found before timestamp ≡ Ok steps
@@ -49,6 +55,7 @@ pub record IsOpened {D : Type 0} (tells : Type 0) (old new : BayState D) (found 
   pub are_written : tells → AreWritten old.sizes old.held steps new.held
   pub none_asked : steps ≡ [] → new.sectors_asked ≡ old.sectors_asked
   pub others_left : tells → (s l : ℕ) (bytes : List ℕ) → is_slot (slots_of found.seats) s ≡ false → new.may_hold s l bytes → old.may_hold s l bytes
-  pub under_way : tells → (left : List Bool) (named : Option (List ℕ)) → IsFoundBy old left named found → (group : List ℕ) → found.config.group ≡ group → (past : Past (groups group))
-      → AreAllKept group past old → IsAdmitted group past old left found → IsUnderWay group old new past left found (changes_in found (steps ++ steps_left ready)) now_found ready
+  pub issues : changes_in found (steps_left ready) ≡ map (λ one. one.step.config) ready.steps
+  pub under_way : tells → AreUnderWay old new found (steps ++ steps_left ready) now_found ready
+  pub no_further : tells → AreUnderWay old new found steps now_found (record ready { steps = [] })
   pub told : new.tells_left → old.tells_left

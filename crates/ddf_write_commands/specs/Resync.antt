@@ -17,6 +17,7 @@ use Rattle.ddf_answer.specs.Call.{Answer, Work}
 use Rattle.ddf_group_commands.specs.Change.{IsToldChange, Request, TakesGroup, is_done}
 use Rattle.ddf_data_commands.specs.declared.using.Access.TheVariants.{Reads}
 use Rattle.ddf_data_commands.specs.Use.{array_refusals}
+use Rattle.ddf_write_commands.specs.Along.{GoesAlong}
 use Rattle.ddf_write_commands.specs.Doing.{Doing}
 use Rattle.ddf_write_commands.specs.Planned.{Entry, lacks_position, request_around}
 use Rattle.ddf_write_commands.specs.Worked.{IsWorkedIn, LeavesDoing}
@@ -55,6 +56,7 @@ pub record HasResyncedArray {D : Type 0} (work : Work D) (named : Option (List �
   pub taken : TakesGroup work named timestamp (resync_request word) (is_done outcome)
   pub gives : IsWorkedIn resyncing work timestamp word (resync_request word) (group_of taken.newest named) outcome
   pub leaves : work.tells → LeavesDoing resyncing work timestamp word (resync_request word) (group_of taken.newest named)
+  pub along : work.tells → GoesAlong resyncing work taken.left timestamp word (resync_request word) (is_done outcome) (group_of taken.newest named)
 
 -- It came to this, and said so.
 pub record IsResyncDone {D : Type 0} (work : Work D) (named : Option (List ℕ)) (timestamp : ℕ) (word : List ℕ) (answer : Answer) : Type 0 where

@@ -21,6 +21,7 @@ use Rattle.ddf_answer.specs.Call.{Answer, Work}
 use Rattle.ddf_group_commands.specs.Change.{IsToldChange, Request, TakesGroup, is_done, steps_of}
 use Rattle.ddf_data_commands.specs.declared.using.Access.TheVariants.{Writes}
 use Rattle.ddf_data_commands.specs.Use.{array_refusals}
+use Rattle.ddf_write_commands.specs.Along.{GoesAlong}
 use Rattle.ddf_write_commands.specs.Doing.{Doing}
 use Rattle.ddf_write_commands.specs.declared.payload.PayloadFault.{PayloadFault}
 use Rattle.ddf_write_commands.specs.declared.payload.PayloadFault.TheVariants as payloads
@@ -101,11 +102,19 @@ module _ {D : Type 0} (work : Work D) (input : Input) (timestamp : ℕ) (word : 
   LeavesWriting meaning NotRead = Unit {0}
   LeavesWriting meaning (Unfit failure) = Unit {0}
 
+  -- how far the histories come meanwhile: without the bytes, nowhere
+  abbrev pub GoesAlongWriting : (left : List Bool) → Result GroupValue Assembly → Outcome → Type 0
+  GoesAlongWriting left meaning (Taken sectors worked) = GoesAlong (writing start sectors) work left timestamp word request (is_done worked) meaning
+  GoesAlongWriting left meaning (Short found) = Unit {0}
+  GoesAlongWriting left meaning NotRead = Unit {0}
+  GoesAlongWriting left meaning (Unfit failure) = Unit {0}
+
 -- A call came to this: what it made of the group that it took, and of its input.
 pub record HasWrittenArray {D : Type 0} (work : Work D) (input : Input) (named : Option (List ℕ)) (timestamp : ℕ) (word : List ℕ) (start count : ℕ) (outcome : Outcome) : Type 0 where
   pub taken : TakesGroup work named timestamp (write_request word start count) (is_written outcome)
   pub gives : IsWriteIn work input timestamp word start count (group_of taken.newest named) outcome
   pub leaves : work.tells → LeavesWriting work input timestamp word start count (group_of taken.newest named) outcome
+  pub along : work.tells → GoesAlongWriting work input timestamp word start count taken.left (group_of taken.newest named) outcome
 
 -- what is told of it, and with which status
 abbrev pub IsWriteTold : Outcome → Answer → Type 0

@@ -3,18 +3,13 @@ ghost use Rattle.std.specs.Prelude.{◌≡◌, ◌≤◌, ℕ, List, Bool, false
 ghost use Rattle.std.specs.List.{AllByRecursion, list_any};
 ghost use Rattle.ddf_bay.specs.Moments.{GoesOn, StopsLeave};
 ghost use Rattle.ddf_plan.specs.Same.{is_step};
-ghost use Rattle.ddf_config.specs.Configuration.{Configuration};
-ghost use Rattle.ddf_history.specs.Groups.{groups};
-ghost use Rattle.ddf_history.specs.Issued.{Past};
 ghost use Rattle.ddf_assembly.specs.Asked.{CanBeAsked};
 ghost use Rattle.ddf_assembly.specs.Assembled.{IsAssembledGroup};
 ghost use Rattle.ddf_assembly.specs.Committed.{WasReadied, slots_of};
-ghost use Rattle.ddf_assembly.specs.Group.{GroupValue};
 ghost use Rattle.ddf_assembly.specs.Ready.{readied};
 ghost use Rattle.ddf_assembly.specs.Recovery.{config_recovered};
 ghost use Rattle.ddf_assembly.specs.Steps.{Step};
-ghost use Rattle.ddf_stops.specs.Going.{KeepsHistory};
-ghost use Rattle.ddf_data_stops.specs.Course.{IsUnderWay};
+ghost use Rattle.ddf_stops.specs.Steps.{IsCommit};
 ghost use Rattle.ddf_answer.specs.Call.{work_of};
 ghost use Rattle.ddf_group_commands.specs.Change.{IsChanged, KeepsHistories, is_done, steps_or};
 ghost use Rattle.ddf_group_commands.specs.GroupRead.{IsFoundBy, IsReadFrom};
@@ -72,10 +67,10 @@ pub(crate) fn open_blocks<B: Bay>(
     ensures opened { OnOk result (IsOpened B.tells (B.disks bay.old) (B.disks bay.new) group.old (front plan.now.redundant plan.now.changes) plan.now.changes timestamp group.new ready.new) }
     ensures failed { IfErr result (λ failure. IsChanged (work_of B.tells (B.disks bay.old) (B.disks bay.new)) group.old (steps_or (readied group.old plan.now.changes timestamp)) (Err failure)) }
 
-    // From entry to exit slots that are no seats' are left as before, each history that admits the call is kept, and of the seats' slots nothing
-    // is another than before but the copies that are written.
+    // From entry to exit slots that are no seats' are left as before, each history that admits the call is kept by the first steps, and of the seats'
+    // slots nothing is another than before but the copies that are written.
     ensures beside { B.tells → LeavesOthers (B.disks bay.old) (B.disks bay.new) (slots_of group.old.seats) }
-    ensures keeps { B.tells → (left : List Bool) (named : Option (List ℕ)) → IsFoundBy (B.disks bay.old) left named group.old → (steps : List Step) → readied group.old plan.now.changes timestamp ≡ Ok steps
+    ensures keeps { B.tells → (left : List Bool) (named : Option (List ℕ)) → IsFoundBy (B.disks bay.old) left named group.old → (steps : List Step) → readied group.old (front plan.now.redundant plan.now.changes) timestamp ≡ Ok steps
         → IfErr result (λ failure. KeepsHistories (B.disks bay.old) (B.disks bay.new) left group.old steps false) }
     ensures leaves { B.tells → (steps : List Step) → readied group.old (front plan.now.redundant plan.now.changes) timestamp ≡ Ok steps → StopsLeave (B.disks bay.old) (B.disks bay.new) (IsLeftWriting (B.disks bay.old) steps) }
     ensures goes_on { GoesOn (B.disks bay.old) (B.disks bay.new) }
@@ -101,10 +96,7 @@ pub(crate) fn close_blocks<B: Bay>(
     ensures beside { B.tells → LeavesOthers (B.disks bay.old) (B.disks bay.new) (slots_of group.old.seats) }
     ensures leaves { B.tells → StopsLeave (B.disks bay.old) (B.disks bay.new) (IsLeftWriting (B.disks bay.old) (steps_left ready.old)) }
 
-    // Each history in which the group stands with this step ready is kept.
-    ensures keeps { B.tells → (guid : List ℕ) (past : Past (groups guid)) (entry : B) (left : List Bool) (found : GroupValue) (changes : List Configuration)
-        → IsUnderWay guid (B.disks entry) (B.disks bay.old) past left found changes group.old ready.old
-        → KeepsHistory guid (B.disks entry) (B.disks bay.new) past left found changes (is_done result) }
+    ensures commits { B.tells → IsCommit (B.disks bay.old) (B.disks bay.new) ready.old (is_done result) }
     ensures goes_on { GoesOn (B.disks bay.old) (B.disks bay.new) }
     ensures same_sizes { (B.disks bay.new).sizes ≡ (B.disks bay.old).sizes }
     ensures reads { (B.disks bay.new).failed_reads ≡ (B.disks bay.old).failed_reads }

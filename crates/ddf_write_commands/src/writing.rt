@@ -15,6 +15,7 @@ ghost use Rattle.ddf_answer.specs.Status.{code_of};
 ghost use Rattle.ddf_group_commands.specs.Change.{KeepsHistories, is_done};
 ghost use Rattle.ddf_group_commands.specs.GroupRead.{IsFoundBy, IsReadFrom};
 ghost use Rattle.ddf_group_commands.specs.Others.{LeavesOthers};
+ghost use Rattle.ddf_write_commands.specs.Along.{AllComeAlong};
 ghost use Rattle.ddf_write_commands.specs.Ending.{EndsSo};
 ghost use Rattle.ddf_write_commands.specs.Opened.{AreMembers};
 ghost use Rattle.ddf_write_commands.specs.Payload.{InputRose, input_of};
@@ -144,6 +145,9 @@ fn write_array<B: Bay>(
     ensures beside { B.tells → LeavesOthers (B.disks bay.old) (B.disks bay.new) (slots_of group.old.seats) }
     ensures keeps { B.tells → (left : List Bool) (named : Option (List ℕ)) → IsFoundBy (B.disks bay.old) left named group.old → (steps : List Step) → readied group.old plan.now.changes timestamp ≡ Ok steps
         → KeepsHistories (B.disks bay.old) (B.disks bay.new) left group.old steps (is_done result) }
+    ensures along { B.tells → (left : List Bool) (named : Option (List ℕ)) → IsFoundBy (B.disks bay.old) left named group.old
+        → (word : List ℕ) → IsPlanOf (write_refusals start (length from.now)) write_behind (config_recovered group.old) group.old.seats word plan.now
+        → AllComeAlong (writing start from.now) (work_of B.tells (B.disks bay.old) (B.disks bay.new)) left group.old timestamp word (write_request word start (length from.now)) (is_done result) }
     ensures goes { GoesBetween (B.disks bay.old) (B.disks bay.new) }
 {
     open_blocks(group, ready, plan, timestamp, bay)?;

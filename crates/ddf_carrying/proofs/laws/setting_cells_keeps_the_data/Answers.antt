@@ -6,5 +6,5 @@ returns-clause-resync g c = λ group past floor found small end on guid volume p
     while_resyncing group past (g.B.Bay.disks c.args.bay.now) found end floor small on guid volume view known promises allowed promised all g.B.Bay.tells tells writable image are among
 
 pub returns-clause-rebuild : goal.returns-clause-rebuild
-returns-clause-rebuild g c = λ group past floor found small end on guid volume promises allowed view known promised all element position from to image are left.
-    while_rebuilding group past (g.B.Bay.disks c.args.bay.now) found end floor small on guid volume view known promises allowed promised all element position from to image are left
+returns-clause-rebuild g c = λ group past floor found small end on guid volume promises allowed view known promised all element position from to behind image are left.
+    while_rebuilding group past (g.B.Bay.disks c.args.bay.now) found end floor small on guid volume view known promises allowed promised all element position from to behind image are left

@@ -45,6 +45,12 @@ returns-in-Resync-clause-done g c = rw c.in-Resync.is (rw c.items-in-Resync.ensu
 pub returns-in-Resync-clause-ends : goal.returns-in-Resync-clause-ends
 returns-in-Resync-clause-ends g c = rw c.in-Resync.is (ends_for _ refl refl refl _ _ _ _ inl c.resync_disks.ensures.ends)
 
+pub returns-in-Rebuild-clause-done : goal.returns-in-Rebuild-clause-done
+returns-in-Rebuild-clause-done g c = rw c.in-Rebuild.is (rw c.items-in-Rebuild.ensures at c.rebuild.ensures.done)
+
+pub returns-in-Rebuild-clause-ends : goal.returns-in-Rebuild-clause-ends
+returns-in-Rebuild-clause-ends g c = rw c.in-Rebuild.is (ends_for _ refl refl refl _ _ _ _ inl c.rebuild.ensures.ends)
+
 pub returns-in-Write-clause-done : goal.returns-in-Write-clause-done
 returns-in-Write-clause-done g c = rw c.in-Write.is (rw c.items-in-Write.ensures at c.write.ensures.done)
 

@@ -6,8 +6,8 @@ returns-clause-resync c = λ group floor small past config guid volume view know
     view_resync group floor small past config guid volume view known before image promises allowed kept alone promised are first first_kept writable left
 
 pub returns-clause-rebuild : goal.returns-clause-rebuild
-returns-clause-rebuild c = λ group floor small past config guid volume view known before image promises allowed kept alone promised are element position from to left.
-    view_rebuild group floor small past config guid volume view known before image promises allowed kept alone promised are element position from to left
+returns-clause-rebuild c = λ group floor small past config guid volume view known before image promises allowed kept alone promised are element position from to behind left.
+    view_rebuild group floor small past config guid volume view known before image promises allowed kept alone promised are element position from to behind left
 
 pub returns-clause-counts : goal.returns-clause-counts
 returns-clause-counts c = view_counts

@@ -1,8 +1,8 @@
 use Rattle.std.proofs.Common.{◌≡◌, ◌∷◌, ◌∙◌, List, drop, refl, sym, ap, string_bytes, arith}
 use Rattle.ddf_words.specs.Words.{Word, words_of, AreBlocks, IsGroupCommand, IsNamed}
-use Rattle.ddf_words.specs.declared.command.Command.TheVariants.{Assemble, Show, Read, Scrub, Resync, Write, Change}
+use Rattle.ddf_words.specs.declared.command.Command.TheVariants.{Assemble, Show, Read, Scrub, Resync, Rebuild, Write, Change}
 use Rattle.ddf_words.specs.declared.command.Wish.TheVariants.{Delete, Accept}
-use Rattle.ddf_words.proofs.Commands.{accept_names, assemble, assemble_alone, delete_names, other_name, read, read_names, resync, resync_names, scrub, scrub_names, show, show_alone, write, write_names}
+use Rattle.ddf_words.proofs.Commands.{accept_names, assemble, assemble_alone, delete_names, other_name, read, read_names, rebuild, rebuild_names, resync, resync_names, scrub, scrub_names, show, show_alone, write, write_names}
 use Rattle.ddf_words.proofs.Faults.{passed_on}
 use Rattle.ddf_words.proofs.Places.{wrong_among}
 use Rattle.ddf_words.proofs.Requests.{no_group_command, other_group_command, more_group_words}
@@ -25,6 +25,7 @@ returns-in_default-as_str-clause-place c = λ place e.
       read = λ e. c.in_default-as_str.not-read (c.as_str.ensures.value ∙ e);
       scrub = λ e. c.in_default-as_str.not-scrub (c.as_str.ensures.value ∙ e);
       resync = λ e. c.in_default-as_str.not-resync (c.as_str.ensures.value ∙ e);
+      rebuild = λ e. c.in_default-as_str.not-rebuild (c.as_str.ensures.value ∙ e);
       write = λ e. c.in_default-as_str.not-write (c.as_str.ensures.value ∙ e);
       create = λ e. c.in_default-as_str.not-create (c.as_str.ensures.value ∙ e);
       delete = λ e. c.in_default-as_str.not-delete (c.as_str.ensures.value ∙ e);
@@ -103,6 +104,20 @@ pub returns-in_ok-name-in-resync-clause-found : goal.returns-in_ok-name-in-resyn
 returns-in_ok-name-in-resync-clause-found c =
     rw (named_words (words_of c.args.words.now) (words_of c.in-Some.rest.now) (string_bytes c.in-Some.name.now) resync (ap words_of c.in-Some.ensures.cases.0) (sym c.as_str.ensures.value ∙ c.in-resync.is))
     (c.in_ok-name-in-resync.ensures.found resync)
+
+is_rebuild : (words : List Word) → IsNamed rebuild words → IsGroupCommand words
+is_rebuild words is = record { command = Rebuild is.name; takes_one = refl; spells = is.spells }
+
+pub returns-in_err-name-in-rebuild-clause-place : goal.returns-in_err-name-in-rebuild-clause-place
+returns-in_err-name-in-rebuild-clause-place c = λ place e.
+    rw (named_words (words_of c.args.words.now) (words_of c.in-Some.rest.now) (string_bytes c.in-Some.name.now) rebuild (ap words_of c.in-Some.ensures.cases.0) (sym c.as_str.ensures.value ∙ c.in-rebuild.is))
+    (wrong_among (IsNamed rebuild) IsGroupCommand rebuild (drop 1 (words_of c.args.words.now)) place is_rebuild (λ more is. rebuild_names more is.command is.spells)
+    (c.named_of-in-rebuild.ensures.place place (passed_on c.named_of-in-rebuild.result c.in_err-name-in-rebuild.field-0.0 c.from_residual-in_err-name-in-rebuild.result place c.in_err-name-in-rebuild.was c.from_residual-in_err-name-in-rebuild.ensures.1 e) rebuild))
+
+pub returns-in_ok-name-in-rebuild-clause-found : goal.returns-in_ok-name-in-rebuild-clause-found
+returns-in_ok-name-in-rebuild-clause-found c =
+    rw (named_words (words_of c.args.words.now) (words_of c.in-Some.rest.now) (string_bytes c.in-Some.name.now) rebuild (ap words_of c.in-Some.ensures.cases.0) (sym c.as_str.ensures.value ∙ c.in-rebuild.is))
+    (c.in_ok-name-in-rebuild.ensures.found rebuild)
 
 is_write : (words : List Word) → AreBlocks write words → IsGroupCommand words
 is_write words is = record { command = Write is.name is.start is.count; takes_one = refl; spells = is.spells }

@@ -4,7 +4,7 @@ use Rattle.ddf_config.specs.Configuration.{Configuration}
 use Rattle.ddf_assembly.specs.Group.{GroupValue}
 use Rattle.ddf_stops.specs.Steps.{IsCommit}
 use Rattle.ddf_write_commands.specs.Closed.{IsLastWritten}
-use Rattle.ddf_write_commands.proofs.Closing.{last_aside, last_keeps, last_leaves, last_written, lies_next, on_seats}
+use Rattle.ddf_write_commands.proofs.Closing.{last_aside, last_leaves, last_written, lies_next, on_seats}
 use Rattle.ddf_write_commands.proofs.Courses.{IsTold}
 use Rattle.ddf_write_commands.proofs.around.close_blocks.Goals as goal
 
@@ -71,32 +71,15 @@ returns-in_err-commit-clause-leaves g c = λ told.
     } in
     last_leaves g.B.Bay.tells old c.args.group.now c.args.ready.now c.requires tells_old new tells_new false told is
 
-pub returns-in_err-commit-clause-keeps : goal.returns-in_err-commit-clause-keeps
-returns-in_err-commit-clause-keeps g c = λ told guid past entry left found changes way.
+pub returns-in_err-commit-clause-commits : goal.returns-in_err-commit-clause-commits
+returns-in_err-commit-clause-commits g c = λ told.
     let failed = err_from_is_err_and c.from_residual.result c.from_residual.ensures.1 in
-    let old = g.B.Bay.disks c.args.bay.now in
-    let new = g.B.Bay.disks c.commit.new.bay in
-    let is : IsCommit old new c.args.ready.now false = record {
+    let is : IsCommit (g.B.Bay.disks c.args.bay.now) (g.B.Bay.disks c.commit.new.bay) c.args.ready.now false = record {
       any_moment = c.commit.ensures.any_moment told;
       changed = λ done. absurd cc;
       spends = c.commit.ensures.spends;
     } in
-    let tells_old : IsTold old = record {
-      held = g.met.B.Bay.held_is_left c.args.bay.now;
-      whole = g.met.B.Bay.whole c.args.bay.now;
-      only_now = g.met.B.Bay.only_now c.args.bay.now;
-      counts = g.met.B.Bay.counts_now c.args.bay.now;
-      since = g.met.B.Bay.told_since c.args.bay.now;
-    } in
-    let tells_new : IsTold new = record {
-      held = g.met.B.Bay.held_is_left c.commit.new.bay;
-      whole = g.met.B.Bay.whole c.commit.new.bay;
-      only_now = g.met.B.Bay.only_now c.commit.new.bay;
-      counts = g.met.B.Bay.counts_now c.commit.new.bay;
-      since = g.met.B.Bay.told_since c.commit.new.bay;
-    } in
-    rw failed.1
-    (last_keeps g.B.Bay.tells old c.args.group.now c.args.ready.now c.requires told tells_old new tells_new guid past (g.B.Bay.disks entry) left found changes way false is)
+    rw failed.1 is
 
 pub returns-clause-closed : goal.returns-clause-closed
 returns-clause-closed g c =
@@ -161,27 +144,9 @@ returns-clause-leaves g c = λ told.
     } in
     last_leaves g.B.Bay.tells old c.args.group.now c.args.ready.now c.requires tells_old new tells_new true told is
 
-pub returns-clause-keeps : goal.returns-clause-keeps
-returns-clause-keeps g c = λ told guid past entry left found changes way.
-    let old = g.B.Bay.disks c.args.bay.now in
-    let new = g.B.Bay.disks c.commit.new.bay in
-    let is : IsCommit old new c.args.ready.now true = record {
-      any_moment = c.commit.ensures.any_moment told;
-      changed = λ done. c.in_ok-commit.ensures.changed told;
-      spends = c.commit.ensures.spends;
-    } in
-    let tells_old : IsTold old = record {
-      held = g.met.B.Bay.held_is_left c.args.bay.now;
-      whole = g.met.B.Bay.whole c.args.bay.now;
-      only_now = g.met.B.Bay.only_now c.args.bay.now;
-      counts = g.met.B.Bay.counts_now c.args.bay.now;
-      since = g.met.B.Bay.told_since c.args.bay.now;
-    } in
-    let tells_new : IsTold new = record {
-      held = g.met.B.Bay.held_is_left c.commit.new.bay;
-      whole = g.met.B.Bay.whole c.commit.new.bay;
-      only_now = g.met.B.Bay.only_now c.commit.new.bay;
-      counts = g.met.B.Bay.counts_now c.commit.new.bay;
-      since = g.met.B.Bay.told_since c.commit.new.bay;
-    } in
-    last_keeps g.B.Bay.tells old c.args.group.now c.args.ready.now c.requires told tells_old new tells_new guid past (g.B.Bay.disks entry) left found changes way true is
+pub returns-clause-commits : goal.returns-clause-commits
+returns-clause-commits g c = λ told. record {
+  any_moment = c.commit.ensures.any_moment told;
+  changed = λ done. c.in_ok-commit.ensures.changed told;
+  spends = c.commit.ensures.spends;
+}

@@ -82,7 +82,7 @@ returns-in_err-recover-clause-keeps g c = λ told left named by steps asked.
       ends = λ done. c.in_err-recover.ensures.ends told;
       spends = c.recover.ensures.spends;
     } in
-    rw failed.1 (recovery_keeps g.B.Bay.tells old c.args.group.now c.args.plan.now.changes c.args.timestamp c.args.ready.now c.requires.from was c.args.plan.now.redundant c.args.plan.now.marks c.requires.steps c.requires.mark c.requires.few c.requires.asked tells_old middle tells_middle told recovers left named by steps asked failed.0)
+    rw failed.1 (recovery_keeps g.B.Bay.tells old c.args.group.now c.args.plan.now.changes c.args.timestamp c.args.ready.now c.requires.from was c.args.plan.now.redundant c.args.plan.now.marks c.requires.steps c.requires.mark c.requires.few c.requires.asked tells_old middle tells_middle told recovers left named by steps asked)
 
 pub returns-in_err-recover-clause-leaves : goal.returns-in_err-recover-clause-leaves
 returns-in_err-recover-clause-leaves g c = λ told steps asked.
@@ -250,9 +250,8 @@ returns-in_err-commit-clause-keeps g c = λ told left named by steps asked.
       spends = c.commit.ensures.spends;
     } in
     let failed = err_from_is_err_and c.from_residual-in_err-commit.result c.from_residual-in_err-commit.ensures.1 in
-    let plain = subst (λ (one : ReadyValue). IsCommit middle new one false) c.recover.ensures.left (commits told) in
     let after = λ (told : g.B.Bay.tells). is_step_after g.B.Bay.tells old c.args.group.now c.args.plan.now.changes c.args.timestamp c.args.ready.now c.requires.from was c.args.plan.now.redundant c.args.plan.now.marks c.requires.steps c.requires.mark c.requires.few c.requires.asked tells_old middle tells_middle recovers c.recover.ensures.spends.same_sizes c.recover.new.ready c.recover.ensures.left c.if-plan.true new false (commits told) in
-    rw failed.1 (mark_keeps g.B.Bay.tells old c.args.group.now c.args.plan.now.changes c.args.timestamp c.args.ready.now c.requires.from was c.args.plan.now.redundant c.args.plan.now.marks c.requires.steps c.requires.mark c.requires.few c.requires.asked tells_old middle tells_middle recovers c.recover.ensures.spends.same_sizes new tells_new told after plain left named by steps asked failed.0)
+    rw failed.1 (mark_keeps g.B.Bay.tells old c.args.group.now c.args.plan.now.changes c.args.timestamp c.args.ready.now c.requires.from was c.args.plan.now.redundant c.args.plan.now.marks c.requires.steps c.requires.mark c.requires.few c.requires.asked tells_old middle tells_middle recovers c.recover.ensures.spends.same_sizes new tells_new told after left named by steps asked)
 
 pub returns-clause-opened : goal.returns-clause-opened
 returns-clause-opened g c =

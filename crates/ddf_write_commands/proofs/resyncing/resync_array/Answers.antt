@@ -3,13 +3,13 @@ use Rattle.std.proofs.lemmas.Bool.{false≢true}
 use Rattle.std.proofs.lemmas.Result.{err_from_is_err_and}
 use Rattle.ddf_config.specs.Seats.{SeatsFit}
 use Rattle.ddf_assembly.specs.Recovery.{config_recovered}
-use Rattle.ddf_stops.specs.Going.{changes_in}
 use Rattle.ddf_data_stops.specs.Floors.{floor_in}
 use Rattle.ddf_answer.specs.declared.failure.Failure.{Failure}
 use Rattle.ddf_answer.specs.Call.{work_of}
+use Rattle.ddf_group_commands.specs.Change.{is_done}
 use Rattle.ddf_write_commands.specs.Resync.{resync_behind, resync_refusals, resync_request, resyncing}
 use Rattle.ddf_write_commands.specs.Worked.{IsWorkedOf}
-use Rattle.ddf_write_commands.proofs.Arrays.{aside_of, can_close_of, closed_aside, closed_leaves, closed_of, keeps_of, not_opened_leaves, not_opened_of, stopped_leaves, stopped_of, way_of}
+use Rattle.ddf_write_commands.proofs.Arrays.{along_of, aside_of, can_close_of, closed_along, closed_aside, closed_keeps, closed_leaves, closed_of, keeps_of, not_opened_along, not_opened_keeps, not_opened_leaves, not_opened_of, stopped_leaves, stopped_of}
 use Rattle.ddf_write_commands.proofs.Courses.{IsTold}
 use Rattle.ddf_write_commands.proofs.PlanKept.{apart_there, fits_there, named_is, none_trusted}
 use Rattle.ddf_write_commands.proofs.ResyncArray.{ended, under}
@@ -32,8 +32,31 @@ returns-in_err-open_blocks-clause-leaves g c = λ told word is.
 
 pub returns-in_err-open_blocks-clause-keeps : goal.returns-in_err-open_blocks-clause-keeps
 returns-in_err-open_blocks-clause-keeps g c = λ told left named by steps asked.
+    let old = g.B.Bay.disks c.args.bay.now in
+    let opened = g.B.Bay.disks c.open_blocks.new.bay in
     let failed = err_from_is_err_and c.from_residual.result c.from_residual.ensures.1 in
-    rw failed.1 (c.in_err-open_blocks.ensures.keeps told left named by steps asked)
+    rw failed.1 (not_opened_keeps g.B.Bay.tells resyncing resync_steady old c.args.group.now resync_refusals resync_behind c.args.plan.now c.args.timestamp c.args.ready.now c.requires.was c.requires.planned.0 c.requires.planned.1 (omega arith) opened left (c.in_err-open_blocks.ensures.keeps told left named by) steps asked)
+
+pub returns-in_err-open_blocks-clause-along : goal.returns-in_err-open_blocks-clause-along
+returns-in_err-open_blocks-clause-along g c = λ told left named by word is.
+    let old = g.B.Bay.disks c.args.bay.now in
+    let opened = g.B.Bay.disks c.open_blocks.new.bay in
+    let failed = err_from_is_err_and c.from_residual.result c.from_residual.ensures.1 in
+    let tells_old : IsTold (g.B.Bay.disks c.args.bay.now) = record {
+      held = g.met.B.Bay.held_is_left c.args.bay.now;
+      whole = g.met.B.Bay.whole c.args.bay.now;
+      only_now = g.met.B.Bay.only_now c.args.bay.now;
+      counts = g.met.B.Bay.counts_now c.args.bay.now;
+      since = g.met.B.Bay.told_since c.args.bay.now;
+    } in
+    let tells_opened : IsTold (g.B.Bay.disks c.open_blocks.new.bay) = record {
+      held = g.met.B.Bay.held_is_left c.open_blocks.new.bay;
+      whole = g.met.B.Bay.whole c.open_blocks.new.bay;
+      only_now = g.met.B.Bay.only_now c.open_blocks.new.bay;
+      counts = g.met.B.Bay.counts_now c.open_blocks.new.bay;
+      since = g.met.B.Bay.told_since c.open_blocks.new.bay;
+    } in
+    rw failed.1 (not_opened_along g.B.Bay.tells resyncing resync_steady old c.args.group.now resync_refusals resync_behind c.args.plan.now c.args.timestamp c.args.ready.now c.requires.was word is (omega arith) opened left (c.in_err-open_blocks.ensures.keeps told left named by) (c.open_blocks.ensures.leaves told) tells_old tells_opened)
 
 pub resync-requires-clause-apart : goal.resync-requires-clause-apart
 resync-requires-clause-apart g c =
@@ -198,7 +221,7 @@ returns-in-Ok-clause-beside g c = λ told.
     c.close_blocks.ensures.beside c.close_blocks.ensures.leaves c.close_blocks.ensures.reads told
 
 pub returns-in-Ok-clause-keeps : goal.returns-in-Ok-clause-keeps
-returns-in-Ok-clause-keeps g c = λ told left named by steps asked group same past kept admitted.
+returns-in-Ok-clause-keeps g c = λ told left named by steps asked.
     let old = g.B.Bay.disks c.args.bay.now in
     let opened = g.B.Bay.disks c.open_blocks.new.bay in
     let behind = g.B.Bay.disks c.resync.new.bay in
@@ -222,9 +245,56 @@ returns-in-Ok-clause-keeps g c = λ told left named by steps asked group same pa
     (under g.B.Bay.tells old opened behind c.args.group.now c.requires.planned.0 c.args.plan.now c.requires.planned.1 c.requires.from opens.same_sizes opened.held) true
     (g.met.B.Bay.told_before c.open_blocks.new.bay c.resync.new.bay (c.resync.ensures.goes.goes_on c.resync.new.bay (g.met.B.Bay.leads c.resync.new.bay)))
     c.resync.ensures.any_moment c.resync.ensures.left c.resync.ensures.held (λ told so. c.in-Ok.ensures.resynced told) (λ told so. c.in-Ok.ensures.settled told) c.resync.ensures.goes c.resync.ensures.asked c.resync.ensures.idle in
-    c.close_blocks.ensures.keeps told group past c.args.bay.now left c.args.group.now (changes_in c.args.group.now steps)
-    (way_of g.B.Bay.tells resyncing resync_steady old c.args.group.now resync_refusals resync_behind c.args.plan.now c.args.timestamp c.args.ready.now c.requires.was c.requires.planned.0 c.requires.planned.1 (omega arith) opened c.open_blocks.new.group c.open_blocks.new.ready c.requires.from opens.opened c.requires.floored opens.beside opens.leaves opens.goes_on opens.same_sizes opens.reads
-    opens.writes_rise tells_opened behind tells_behind true works left named by steps asked told refl group same past kept admitted)
+    let new = g.B.Bay.disks c.close_blocks.new.bay in
+    let tells_new : IsTold (g.B.Bay.disks c.close_blocks.new.bay) = record {
+      held = g.met.B.Bay.held_is_left c.close_blocks.new.bay;
+      whole = g.met.B.Bay.whole c.close_blocks.new.bay;
+      only_now = g.met.B.Bay.only_now c.close_blocks.new.bay;
+      counts = g.met.B.Bay.counts_now c.close_blocks.new.bay;
+      since = g.met.B.Bay.told_since c.close_blocks.new.bay;
+    } in
+    closed_keeps g.B.Bay.tells resyncing resync_steady old c.args.group.now resync_refusals resync_behind c.args.plan.now c.args.timestamp c.args.ready.now c.requires.was c.requires.planned.0 c.requires.planned.1 (omega arith) opened c.open_blocks.new.group c.open_blocks.new.ready c.requires.from opens.opened c.requires.floored opens.beside opens.leaves opens.goes_on opens.same_sizes opens.reads
+    opens.writes_rise tells_opened behind tells_behind true works refl new tells_new
+    (g.met.B.Bay.told_before c.resync.new.bay c.close_blocks.new.bay (c.close_blocks.ensures.goes_on c.close_blocks.new.bay (g.met.B.Bay.leads c.close_blocks.new.bay)))
+    c.close_blocks.ensures.beside c.close_blocks.ensures.leaves c.close_blocks.ensures.reads (is_done c.close_blocks.result) c.close_blocks.ensures.commits told left named by steps asked
+
+pub returns-in-Ok-clause-along : goal.returns-in-Ok-clause-along
+returns-in-Ok-clause-along g c = λ told left named by word is.
+    let old = g.B.Bay.disks c.args.bay.now in
+    let opened = g.B.Bay.disks c.open_blocks.new.bay in
+    let behind = g.B.Bay.disks c.resync.new.bay in
+    let opens = c.in_ok-open_blocks.ensures in
+    let tells_opened : IsTold (g.B.Bay.disks c.open_blocks.new.bay) = record {
+      held = g.met.B.Bay.held_is_left c.open_blocks.new.bay;
+      whole = g.met.B.Bay.whole c.open_blocks.new.bay;
+      only_now = g.met.B.Bay.only_now c.open_blocks.new.bay;
+      counts = g.met.B.Bay.counts_now c.open_blocks.new.bay;
+      since = g.met.B.Bay.told_since c.open_blocks.new.bay;
+    } in
+    let tells_behind : IsTold (g.B.Bay.disks c.resync.new.bay) = record {
+      held = g.met.B.Bay.held_is_left c.resync.new.bay;
+      whole = g.met.B.Bay.whole c.resync.new.bay;
+      only_now = g.met.B.Bay.only_now c.resync.new.bay;
+      counts = g.met.B.Bay.counts_now c.resync.new.bay;
+      since = g.met.B.Bay.told_since c.resync.new.bay;
+    } in
+    let works : HasWorked resyncing g.B.Bay.tells (floor_in c.args.group.now.seats) c.args.plan.now.view opened behind true =
+    resync_worked g.B.Bay.tells c.args.plan.now.view opened behind (floor_in c.args.group.now.seats)
+    (under g.B.Bay.tells old opened behind c.args.group.now word c.args.plan.now is c.requires.from opens.same_sizes opened.held) true
+    (g.met.B.Bay.told_before c.open_blocks.new.bay c.resync.new.bay (c.resync.ensures.goes.goes_on c.resync.new.bay (g.met.B.Bay.leads c.resync.new.bay)))
+    c.resync.ensures.any_moment c.resync.ensures.left c.resync.ensures.held (λ told so. c.in-Ok.ensures.resynced told) (λ told so. c.in-Ok.ensures.settled told) c.resync.ensures.goes c.resync.ensures.asked c.resync.ensures.idle in
+    let new = g.B.Bay.disks c.close_blocks.new.bay in
+    let tells_new : IsTold (g.B.Bay.disks c.close_blocks.new.bay) = record {
+      held = g.met.B.Bay.held_is_left c.close_blocks.new.bay;
+      whole = g.met.B.Bay.whole c.close_blocks.new.bay;
+      only_now = g.met.B.Bay.only_now c.close_blocks.new.bay;
+      counts = g.met.B.Bay.counts_now c.close_blocks.new.bay;
+      since = g.met.B.Bay.told_since c.close_blocks.new.bay;
+    } in
+    closed_along g.B.Bay.tells resyncing resync_steady old c.args.group.now resync_refusals resync_behind c.args.plan.now c.args.timestamp c.args.ready.now c.requires.was word is (omega arith) opened c.open_blocks.new.group c.open_blocks.new.ready c.requires.from opens.opened c.requires.floored opens.beside opens.leaves opens.goes_on opens.same_sizes opens.reads
+    opens.writes_rise tells_opened behind tells_behind true works refl new tells_new
+    (g.met.B.Bay.told_before c.resync.new.bay c.close_blocks.new.bay (c.close_blocks.ensures.goes_on c.close_blocks.new.bay (g.met.B.Bay.leads c.close_blocks.new.bay)))
+    c.close_blocks.ensures.beside c.close_blocks.ensures.leaves c.close_blocks.ensures.reads (is_done c.close_blocks.result) c.close_blocks.ensures.commits told left named by
 
 pub returns-in-Err-clause-worked : goal.returns-in-Err-clause-worked
 returns-in-Err-clause-worked g c = λ word is.
@@ -339,3 +409,31 @@ returns-in-Err-clause-keeps g c = λ told left named by steps asked.
     c.resync.ensures.any_moment c.resync.ensures.left c.resync.ensures.held (λ told so. absurd (false≢true so)) (λ told so. absurd (false≢true so)) c.resync.ensures.goes c.resync.ensures.asked c.resync.ensures.idle in
     keeps_of g.B.Bay.tells resyncing resync_steady old c.args.group.now resync_refusals resync_behind c.args.plan.now c.args.timestamp c.args.ready.now c.requires.was c.requires.planned.0 c.requires.planned.1 (omega arith) opened c.open_blocks.new.group c.open_blocks.new.ready c.requires.from opens.opened c.requires.floored opens.beside opens.leaves opens.goes_on opens.same_sizes opens.reads
     opens.writes_rise tells_opened behind tells_behind false works left named by steps asked told
+
+pub returns-in-Err-clause-along : goal.returns-in-Err-clause-along
+returns-in-Err-clause-along g c = λ told left named by word is.
+    let old = g.B.Bay.disks c.args.bay.now in
+    let opened = g.B.Bay.disks c.open_blocks.new.bay in
+    let behind = g.B.Bay.disks c.resync.new.bay in
+    let opens = c.in_ok-open_blocks.ensures in
+    let tells_opened : IsTold (g.B.Bay.disks c.open_blocks.new.bay) = record {
+      held = g.met.B.Bay.held_is_left c.open_blocks.new.bay;
+      whole = g.met.B.Bay.whole c.open_blocks.new.bay;
+      only_now = g.met.B.Bay.only_now c.open_blocks.new.bay;
+      counts = g.met.B.Bay.counts_now c.open_blocks.new.bay;
+      since = g.met.B.Bay.told_since c.open_blocks.new.bay;
+    } in
+    let tells_behind : IsTold (g.B.Bay.disks c.resync.new.bay) = record {
+      held = g.met.B.Bay.held_is_left c.resync.new.bay;
+      whole = g.met.B.Bay.whole c.resync.new.bay;
+      only_now = g.met.B.Bay.only_now c.resync.new.bay;
+      counts = g.met.B.Bay.counts_now c.resync.new.bay;
+      since = g.met.B.Bay.told_since c.resync.new.bay;
+    } in
+    let works : HasWorked resyncing g.B.Bay.tells (floor_in c.args.group.now.seats) c.args.plan.now.view opened behind false =
+    resync_worked g.B.Bay.tells c.args.plan.now.view opened behind (floor_in c.args.group.now.seats)
+    (under g.B.Bay.tells old opened behind c.args.group.now word c.args.plan.now is c.requires.from opens.same_sizes opened.held) false
+    (g.met.B.Bay.told_before c.open_blocks.new.bay c.resync.new.bay (c.resync.ensures.goes.goes_on c.resync.new.bay (g.met.B.Bay.leads c.resync.new.bay)))
+    c.resync.ensures.any_moment c.resync.ensures.left c.resync.ensures.held (λ told so. absurd (false≢true so)) (λ told so. absurd (false≢true so)) c.resync.ensures.goes c.resync.ensures.asked c.resync.ensures.idle in
+    along_of g.B.Bay.tells resyncing resync_steady old c.args.group.now resync_refusals resync_behind c.args.plan.now c.args.timestamp c.args.ready.now c.requires.was word is (omega arith) opened c.open_blocks.new.group c.open_blocks.new.ready c.requires.from opens.opened c.requires.floored opens.beside opens.leaves opens.goes_on opens.same_sizes opens.reads
+    opens.writes_rise tells_opened behind tells_behind false works told left named by

@@ -79,6 +79,7 @@ returns-clause-resynced g c =
       keeps = λ told left named by steps asked.
           array.keeps told left named by steps
           (asked_of (readied group plan.changes c.timestamp-timestamp.result) steps (sym (steps_are group resync_refusals resync_behind word plan c.timestamp-timestamp.result c.in_ok-plan.ensures (omega arith)) ∙ asked));
+      along = λ told left named by. array.along told left named by word c.in_ok-plan.ensures;
       goes = array.goes;
     }) in
     has_resynced (work_of g.B.Bay.tells old new) c.args.named timestamp word c.resync_array.result

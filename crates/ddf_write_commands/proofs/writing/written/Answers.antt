@@ -109,6 +109,7 @@ returns-in_err-sequence-clause-written g c =
           array.keeps told left named by steps
           (asked_of (readied group plan.changes c.timestamp-timestamp.result) steps
           (sym (steps_are group (write_refusals c.args.start (length c.sectors_in-sectors.result.now)) write_behind word plan c.timestamp-timestamp.result same (few_behind same.entry)) ∙ asked));
+      along = λ told left named by. array.along told left named by word same;
       goes = array.goes;
     })) in
     let made = planned group (write_refusals c.args.start c.args.count) write_behind word plan timestamp is (few_behind is.entry) c.in_ok-ready.ready (rw c.timestamp-timestamp.ensures at c.in_ok-ready.ensures.was) in
@@ -153,6 +154,7 @@ returns-clause-written g c =
           array.keeps told left named by steps
           (asked_of (readied group plan.changes c.timestamp-timestamp.result) steps
           (sym (steps_are group (write_refusals c.args.start (length c.sectors_in-sectors.result.now)) write_behind word plan c.timestamp-timestamp.result same (few_behind same.entry)) ∙ asked));
+      along = λ told left named by. array.along told left named by word same;
       goes = array.goes;
     })) in
     let made = planned group (write_refusals c.args.start c.args.count) write_behind word plan timestamp is (few_behind is.entry) c.in_ok-ready.ready (rw c.timestamp-timestamp.ensures at c.in_ok-ready.ensures.was) in

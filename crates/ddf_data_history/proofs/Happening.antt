@@ -1,0 +1,129 @@
+-- Behind each event all is kept that was kept before it.
+use Rattle.std.proofs.Common.{◌≡◌, ℕ, zero, suc, Bool, true, false, not, ◌||◌, ◌==◌, List, Option, Some, refl, sym, ap, subst, arith}
+use Rattle.std.proofs.Math.Path.{fun_ext}
+use Rattle.std.specs.Prelude.{filter_map}
+use Rattle.std.specs.List.{range_with_len}
+use Rattle.ddf_bytes.specs.Streams.{SourceState}
+use Rattle.ddf_bay.specs.Sectors.{Image, IsLeft}
+use Rattle.ddf_bay.specs.State.{BayState}
+use Rattle.ddf_array.specs.Sound.{AreSectors}
+use Rattle.ddf_array.proofs.Bools.{and_first, and_second, not_true}
+use Rattle.ddf_config.specs.declared.seat.Seat.{Seat}
+use Rattle.ddf_config.specs.Configuration.{Configuration}
+use Rattle.ddf_keeping.specs.Grouped.{KeepsArrays, Promises}
+use Rattle.ddf_history.specs.Groups.{groups, has_current}
+use Rattle.ddf_history.specs.History.{KeepsAcked}
+use Rattle.ddf_history.specs.Issued.{IsSince, Past, give_back, lose}
+use Rattle.ddf_history.specs.Promise.{IsKept}
+use Rattle.ddf_history.specs.Scenes.{scene_of}
+use Rattle.ddf_history.proofs.Cutting.{given_back_kept, lost_kept}
+use Rattle.ddf_promise.specs.Promised.{KeepsData, is_seat, seat_if}
+use Rattle.ddf_promise.proofs.Steps.{by_loss, by_return}
+use Rattle.ddf_data_history.specs.Calls.{exit_of}
+use Rattle.ddf_data_history.specs.Events.{Event, Follows, KeepsOn, Resumes}
+use Rattle.ddf_data_history.specs.Events.Event.{Cut, Ended, Forgotten, Lost, Refloored, Returned, Stopped}
+use Rattle.ddf_data_history.specs.Moments.{KeepsAll, Moment}
+use Rattle.ddf_data_history.proofs.Bays.{AreBays, held_sectors}
+use Rattle.ddf_data_history.proofs.Calls.{cuts, cuts_acked, ends, ends_acked}
+
+-- Data are kept where no current member's floor is another one.
+floors_keep : (guid : List ℕ) (past : Past (groups guid)) (floor other : ℕ → ℕ)
+    → ((slot number : ℕ) (config : Configuration) → IsSince past.changes number config → past.lost slot ≡ false → has_current config (past.disk slot) ≡ true → other slot ≡ floor slot)
+    → (image : Image) (promises : Promises) → KeepsData guid past floor image promises → KeepsData guid past other image promises
+floors_keep guid past floor other same image promises keeps number config since =
+    subst (λ (seat : ℕ → Option Seat). KeepsArrays config (filter_map seat (range_with_len 0 past.slots)) image promises) (fun_ext (λ (slot : ℕ). seat_same slot)) (keeps number config since)
+  where
+    seat_same : (slot : ℕ) → seat_if (is_seat guid past config slot) floor (past.disk slot) slot ≡ seat_if (is_seat guid past config slot) other (past.disk slot) slot
+    seat_same slot = by (is_seat guid past config slot) refl
+      where
+        by : (here : Bool) → is_seat guid past config slot ≡ here → seat_if here floor (past.disk slot) slot ≡ seat_if here other (past.disk slot) slot
+        by true is =
+            ap (λ (f : ℕ). Some (record { reference = (past.disk slot).reference; slot = slot; floor = f; bad = 0 }))
+            (sym (same slot number config since (not_true (past.lost slot) (and_first (not (past.lost slot)) (has_current config (past.disk slot)) is))
+            (and_second (not (past.lost slot)) (has_current config (past.disk slot)) is)))
+        by false is = refl
+
+module _ {B : Type 0} {tells : Type 0} (told : tells) (disks : B → BayState B) {S : Type 0} (tells_bytes : Type 0) (streams : S → SourceState) (guid : List ℕ) (are : AreBays disks) where
+  -- a moment that follows an event, at which all is kept
+  record HasNext (old : Moment guid B) (event : Event told disks tells_bytes streams guid old) : Type 0 where
+    pub next : Moment guid B
+    pub follows : Follows told disks tells_bytes streams guid old event next
+    pub acked : KeepsAcked old.past next.past
+    pub keeps : KeepsAll disks next
+
+  resumed : (old : Moment guid B) (bay : B) (Left : Image → Type 0) → Resumes (disks old.bay) (disks bay) Left → (past : Past (groups guid)) (promises : Promises)
+      → ((image : Image) → Left image → IsKept past (scene_of (disks old.bay).sizes image)) → ((image : Image) → Left image → KeepsData guid past old.floor image promises)
+      → KeepsAll disks (record { past = past; bay = bay; promises = promises; floor = old.floor; small = old.small })
+  resumed old bay Left resumes past promises shows keeps = record {
+    shows = λ image left. subst (λ (sizes : List ℕ). IsKept past (scene_of sizes image)) (sym resumes.same_sizes) (shows image (resumes.is_left image left));
+    keeps = λ image left. keeps image (resumes.is_left image left);
+  }
+
+  happens : (old : Moment guid B) → KeepsAll disks old → (event : Event told disks tells_bytes streams guid old) → HasNext old event
+  happens old all (Ended call tells_left) =
+      let both = ends told disks tells_bytes streams guid are old all call tells_left in
+      record {
+        next = record { past = both.now; bay = exit_of told disks tells_bytes streams guid call; promises = both.promised; floor = old.floor; small = old.small };
+        follows = record { comes = both.ends; is_bay = refl; is_promised = both.is_so; is_floor = refl };
+        acked = ends_acked told disks tells_bytes streams guid are old all call both.now both.ends;
+        keeps = record { shows = both.all_kept; keeps = both.all_data };
+      }
+  happens old all (Cut call image was_left bay resumes) =
+      let held_is : (disks bay).held ≡ image = resumes.is_left (disks bay).held (are.held bay resumes.tells_left) in
+      let sound : AreSectors image = subst AreSectors held_is (held_sectors disks are bay resumes.tells_left) in
+      let both = cuts told disks tells_bytes streams guid are old all call image was_left sound in
+      record {
+        next = record { past = both.now; bay = bay; promises = both.promised; floor = old.floor; small = old.small };
+        follows = record { comes = both.goes; is_bay = refl; is_promised = both.may; is_floor = refl };
+        acked = cuts_acked told disks tells_bytes streams guid are old all call both.now both.goes;
+        keeps = resumed old bay (λ left. left ≡ image) resumes both.now both.promised
+            (λ left same. subst (λ (one : Image). IsKept both.now (scene_of (disks old.bay).sizes one)) (sym same) both.is_kept)
+            (λ left same. subst (λ (one : Image). KeepsData guid both.now old.floor one both.promised) (sym same) both.keeps);
+      }
+  happens old all (Stopped bay resumes) = record {
+    next = record { past = old.past; bay = bay; promises = old.promises; floor = old.floor; small = old.small };
+    follows = record { comes = refl; is_bay = refl; is_promised = refl; is_floor = refl };
+    acked = record { later = omega arith; same = λ i config le at. at };
+    keeps = resumed old bay (IsLeft (disks old.bay).may_hold) resumes old.past old.promises all.shows all.keeps;
+  }
+  happens old all (Lost slot own) = record {
+    next = record { past = lose old.past slot; bay = old.bay; promises = old.promises; floor = old.floor; small = old.small };
+    follows = record { comes = refl; is_bay = refl; is_promised = refl; is_floor = refl };
+    acked = record { later = omega arith; same = λ i config le at. at };
+    keeps = record {
+      shows = λ image left. lost_kept old.past (scene_of (disks old.bay).sizes image) slot own (all.shows image left);
+      keeps = λ image left.
+          let after = lose old.past slot in
+          by_loss guid old.floor old.small old.past image old.promises (all.keeps image left) (all.shows image left).alone after.lost after.returned (λ other gone. still (old.past.lost other) (other == slot) gone);
+    };
+  }
+    where
+      still : (b c : Bool) → b ≡ true → (b || c) ≡ true
+      still true c gone = refl
+      still false c gone = absurd cc
+  happens old all (Returned slot own missing) = record {
+    next = record { past = give_back old.past slot; bay = old.bay; promises = old.promises; floor = old.floor; small = old.small };
+    follows = record { comes = refl; is_bay = refl; is_promised = refl; is_floor = refl };
+    acked = record { later = omega arith; same = λ i config le at. at };
+    keeps = record {
+      shows = λ image left. given_back_kept old.past (scene_of (disks old.bay).sizes image) slot own (all.shows image left) missing;
+      keeps = λ image left. by_return guid old.floor old.small old.past image old.promises (all.keeps image left) slot missing;
+    };
+  }
+  happens old all (Forgotten fewer less) = record {
+    next = record { past = old.past; bay = old.bay; promises = fewer; floor = old.floor; small = old.small };
+    follows = record { comes = refl; is_bay = refl; is_promised = refl; is_floor = refl };
+    acked = record { later = omega arith; same = λ i config le at. at };
+    keeps = record { shows = all.shows; keeps = λ image left number config since array allowed value promised. all.keeps image left number config since array allowed value (less array allowed promised) };
+  }
+  happens old all (Refloored floor small same) = record {
+    next = record { past = old.past; bay = old.bay; promises = old.promises; floor = floor; small = small };
+    follows = record { comes = refl; is_bay = refl; is_promised = refl; is_floor = refl };
+    acked = record { later = omega arith; same = λ i config le at. at };
+    keeps = record { shows = all.shows; keeps = λ image left. floors_keep guid old.past old.floor floor same image old.promises (all.keeps image left) };
+  }
+
+  -- So it goes on.
+  pub keeps_on : (events : ℕ) (moment : Moment guid B) → KeepsAll disks moment → KeepsOn told disks tells_bytes streams guid events moment
+  keeps_on zero moment all = all
+  keeps_on (suc more) moment all = (all, λ event. let on = happens moment all event in (on.next, on.follows, on.acked, keeps_on more on.next on.keeps))

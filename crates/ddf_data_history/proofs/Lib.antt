@@ -1,0 +1,6 @@
+pub mod Bays
+pub mod Others
+pub mod Changed
+pub mod Blocks
+pub mod Calls
+pub mod Happening

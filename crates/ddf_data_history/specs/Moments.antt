@@ -1,0 +1,21 @@
+-- Moments in the history of a group and of its data.
+use Rattle.std.specs.Prelude.{ℕ, ◌<◌, ◌^◌, List}
+use Rattle.ddf_bay.specs.State.{BayState}
+use Rattle.ddf_keeping.specs.Grouped.{Promises}
+use Rattle.ddf_history.specs.Groups.{groups}
+use Rattle.ddf_history.specs.Issued.{Past}
+use Rattle.ddf_stops.specs.Kept.{AreAllKept}
+use Rattle.ddf_promise.specs.Carried.{IsAllData}
+
+-- A moment: what was issued and lost by then, the bay with what a stop may leave of it, what is promised of the group's arrays, and the floor of each slot's disk.
+pub record Moment (group : List ℕ) (B : Type 0) : Type 0 where
+  pub past : Past (groups group)
+  pub bay : B
+  pub promises : Promises
+  pub floor : ℕ → ℕ
+  pub small : (slot : ℕ) → floor slot < 2 ^ 64
+
+-- Whatever a stop may leave then shows what it should, and keeps the data that are promised.
+pub record KeepsAll {group : List ℕ} {B : Type 0} (disks : B → BayState B) (moment : Moment group B) : Type 0 where
+  pub shows : AreAllKept group moment.past (disks moment.bay)
+  pub keeps : IsAllData group moment.past moment.floor (disks moment.bay) moment.promises

@@ -1,0 +1,8 @@
+//! Whole histories of a group and of its data, whose calls are those that the program makes: laws from what it promises of them.
+#![tactic(auto)]
+
+mod laws;
+
+pub use laws::{
+    a_group_keeps_its_history_and_its_data_at_every_moment, a_read_prints_what_its_moment_promises,
+};

@@ -1,0 +1,33 @@
+pub mod Noting
+pub mod Positions
+pub mod Steps
+pub mod Views
+pub mod Targets
+pub mod Begun
+pub mod Beginnings
+mod PlanMade
+mod SpareViews
+pub mod SeatsThere
+pub mod SeatsKept
+mod PlanFits
+mod PlanFitted
+mod PlanKept
+mod Examples
+mod Coming
+mod NextStep
+mod Recovery
+mod Writings
+mod Further
+mod TargetCells
+mod RoundsMore
+mod OneRound
+mod NextRound
+mod RoundsThen
+mod PositionRun
+mod OpeningRun
+mod RunCame
+mod Ran
+mod AllRounds
+mod FillRan
+mod PlanRan
+mod RebuildEnds

@@ -1,0 +1,99 @@
+-- A rebuild that was planned of a group, readied and run.
+use Rattle.std.proofs.Common.{◌≡◌, ℕ, ◌≤◌, List, [], ◌++◌, map, Option, None, Some, Result, Ok, refl, ap, subst, ◌∙◌}
+use Rattle.std.specs.Prelude.{option_to_list}
+use Rattle.ddf_bay.specs.ReadsOnly.{ReadsOnly}
+use Rattle.ddf_bay.specs.Sectors.{Image}
+use Rattle.ddf_bay.specs.State.{BayState}
+use Rattle.ddf_config.specs.Seats.{SeatsFit}
+use Rattle.ddf_assembly.specs.Committed.{WasReadied}
+use Rattle.ddf_assembly.specs.Group.{GroupValue}
+use Rattle.ddf_assembly.specs.Ready.{ReadyStep, ReadyValue}
+use Rattle.ddf_assembly.specs.Recovery.{config_recovered}
+use Rattle.ddf_assembly.specs.Seated.{seated}
+use Rattle.ddf_assembly.specs.Steps.{Step}
+use Rattle.ddf_data_stops.specs.Floors.{AreFloored}
+use Rattle.ddf_answer.specs.declared.failure.Failure.{Failure}
+use Rattle.ddf_group_commands.specs.Change.{steps_of as steps_asked, steps_or}
+use Rattle.ddf_group_commands.specs.GroupRead.{IsReadFrom}
+use Rattle.ddf_write_commands.specs.Opened.{AreMembers}
+use Rattle.ddf_rebuild_command.specs.declared.planning.Filling.{Filling}
+use Rattle.ddf_rebuild_command.specs.declared.planning.Plan.{Plan}
+use Rattle.ddf_rebuild_command.specs.Asked.{rebuild_request, rows_in}
+use Rattle.ddf_rebuild_command.specs.Filled.{CanFill}
+use Rattle.ddf_rebuild_command.specs.Opened.{CanOpen}
+use Rattle.ddf_rebuild_command.specs.Plans.{IsFillingIn, IsFillingOf, IsPlanOf, begun_config}
+use Rattle.ddf_rebuild_command.specs.Run.{CanFillBehind, IsRun}
+use Rattle.ddf_rebuild_command.specs.Standing.{recovery_in}
+use Rattle.ddf_rebuild_command.proofs.PlanFits.{IsPlannedFor}
+use Rattle.ddf_rebuild_command.proofs.PlanKept as plans
+use Rattle.ddf_rebuild_command.proofs.Ran.{ran_filling, ran_idle}
+use Rattle.ddf_rebuild_command.proofs.Recovery.{alone}
+use Rattle.ddf_rebuild_command.proofs.RunCame.{HasRun}
+
+module _ (found : GroupValue) (word : List ℕ) (plan : Plan) (timestamp : ℕ) (is : IsPlanOf (config_recovered found) found.seats word plan) (members : AreMembers (config_recovered found) found.seats)
+    (ready : ReadyValue) (was : WasReadied found plan.changes timestamp ready) where
+  planned : (filling : Filling) → plan.filling ≡ Some filling → IsPlannedFor found timestamp word filling ready
+  planned filling e = plans.planned found word plan timestamp is members ready was filling e
+
+  -- the steps, where none is left behind the recovery
+  recovery_asked : ready.steps ≡ [] → steps_asked found timestamp (rebuild_request word) ≡ Ok (recovery_in ready.recovery)
+  recovery_asked none =
+      plans.steps_are found word plan timestamp is ∙ ap steps_or was.is_readied
+      ∙ ap (λ (steps : List ReadyStep). Ok (map (λ (one : ReadyStep). one.step) (option_to_list ready.recovery ++ steps))) none ∙ ap (λ (steps : List Step). Ok steps) (alone ready.recovery)
+
+  module _ (sizes : List ℕ) (fit : SeatsFit sizes found.seats) where
+    can_fill : (filling : Filling) (e : plan.filling ≡ Some filling)
+        → CanFill sizes found.seats filling.view filling.target (rows_in (planned filling e).planned.entry.1 (planned filling e).planned.target.element) filling.from filling.rows
+    can_fill filling e =
+        let fills : IsFillingOf (config_recovered found) found.seats is.entry plan.changes filling = subst (IsFillingIn (config_recovered found) found.seats is.entry plan.changes) e is.fills in
+        let for = planned filling e in
+        record {
+          config = begun_config (config_recovered found) fills.before;
+          guid = is.entry.0;
+          is_view = fills.is_view;
+          fit = fit;
+          apart = for.apart;
+          unmarked = fills.unmarked;
+          is_within = for.is_within;
+          is_out = fills.is_out;
+          rise = for.rise;
+          ends = for.ends;
+        }
+
+    -- What is planned can be filled behind the first steps.
+    pub can_fill_behind : (filling : Filling) → plan.filling ≡ Some filling → CanFillBehind sizes found filling ready
+    can_fill_behind filling e = record {
+      end = rows_in (planned filling e).planned.entry.1 (planned filling e).planned.target.element;
+      can_fill = can_fill filling e;
+      many = (planned filling e).many;
+    }
+
+  -- The group can be recovered, and each step be written.
+  pub can_open : {D : Type 0} (tells : Type 0) (start : BayState D) → IsReadFrom tells start found → AreFloored (seated found) → CanOpen tells start found ready
+  can_open tells start from floored = record {
+    from = from;
+    changes = plan.changes;
+    timestamp = timestamp;
+    was = was;
+    can_be_asked = plans.can_be_asked found word plan timestamp is;
+    members = members;
+    floored = floored;
+    keep_seats = plans.keep_seats found word plan timestamp is members ready was;
+  }
+
+  module _ {B : Type 0} (disks : B → BayState B) (tells : Type 0) (entry start new : BayState B) (reads : ReadsOnly entry start) (reads_rise : (slot : ℕ) → entry.failed_reads slot ≤ start.failed_reads slot)
+      (writes_rise : (slot : ℕ) → entry.failed_writes slot ≤ start.failed_writes slot) (told_since : (t : ℕ) (image : Image) → new.left_since t image → new.tells_left)
+      (from : IsReadFrom tells start found) where
+    fit : SeatsFit entry.sizes found.seats
+    fit = subst (λ (sizes : List ℕ). SeatsFit sizes found.seats) reads.same_sizes from.seats
+
+    ran_by : (filling : Option Filling) → plan.filling ≡ filling → (outcome : Result ℕ Failure) → IsRun disks tells start new found ready filling outcome → HasRun tells entry start new found timestamp word outcome
+    ran_by None e outcome run =
+        let idle = plans.idle found word plan timestamp is members ready was e in
+        ran_idle disks tells entry start new reads reads_rise writes_rise told_since found timestamp word fit ready idle.0 (recovery_asked idle.1) outcome run
+    ran_by (Some filling) e outcome run =
+        ran_filling disks tells entry start new reads reads_rise writes_rise told_since found timestamp word fit ready filling (planned filling e) (can_fill start.sizes from.seats filling e) outcome run
+
+    -- What the run comes to.
+    pub ran : (outcome : Result ℕ Failure) → IsRun disks tells start new found ready plan.filling outcome → HasRun tells entry start new found timestamp word outcome
+    ran outcome run = ran_by plan.filling refl outcome run

@@ -1,0 +1,67 @@
+-- How the rebuild of an array ends.
+use Rattle.std.proofs.Common.{◌≡◌, inl, inr, ⊎_elim, ℕ, Result, Ok, Err, List, refl}
+use Rattle.std.specs.Prelude.{IsTrue}
+use Rattle.ddf_bay.specs.Moments.{GoesOn}
+use Rattle.ddf_bay.specs.ReadsOnly.{ReadsOnly}
+use Rattle.ddf_group.specs.declared.answer.Assembly.{Assembly}
+use Rattle.ddf_assembly.specs.Group.{GroupValue}
+use Rattle.ddf_answer.specs.declared.failure.Failure.{Failure}
+use Rattle.ddf_answer.specs.declared.failure.Failure.TheVariants.{Conflict, Disk, Memory, Refused, Split}
+use Rattle.ddf_answer.specs.Answers.{IsToldFailure}
+use Rattle.ddf_answer.specs.Call.{Answer, Work}
+use Rattle.ddf_answer.specs.Ends.{SomeSlotRose, is_unwritten}
+use Rattle.ddf_answer.specs.Tells.{IsCutShort}
+use Rattle.ddf_answer.proofs.Causes.{closes_wrote, no_disk, wrote}
+use Rattle.ddf_group_commands.specs.Change.{IsToldChange}
+use Rattle.ddf_write_commands.specs.Ending.{EndsSo}
+use Rattle.ddf_write_commands.proofs.Ended.{Cause}
+use Rattle.ddf_rebuild_command.specs.Rebuilt.{IsRebuiltIn, IsRebuiltOf}
+
+module _ {D : Type 0} (work : Work D) (answer : Answer) (rose : Type 0) (stream : answer.status ≡ 6 → rose) (timestamp : ℕ) (word : List ℕ) where
+  six : answer.status ≡ 6 → Cause work answer rose
+  six is = inr (inr (inr (inr (inr (is, stream is)))))
+
+  short : IsCutShort answer.status → Cause work answer rose
+  short cut = ⊎_elim (λ five. inr (inl five)) six cut
+
+  slot_rose : (found : GroupValue) (slot : ℕ) → IsRebuiltOf work found timestamp word (Err (Disk slot)) → SomeSlotRose work.old work.new
+  slot_rose found slot is = ⊎_elim
+      (λ wrote. record { slot = slot; there = wrote.there; rose = inr wrote.rose })
+      (λ stopped. record { slot = slot; there = stopped.there; rose = inl stopped.none_left.none_left.this_failed })
+      is
+
+  failure_cause : (failure : Failure) (found : Result GroupValue Assembly) → IsRebuiltIn work timestamp word found (Err failure) → IsToldFailure failure answer → Cause work answer rose
+  failure_cause (Disk slot) (Ok group) is told = ⊎_elim (λ three. inr (inr (inr (inr (inl (three, slot_rose group slot is)))))) six told.ends
+  failure_cause (Disk slot) (Err fault) is told = absurd (⊎_elim (λ e. no_disk fault slot cc) (λ memory. cc) is.0)
+  failure_cause (Refused refusal) found is told = ⊎_elim (λ one. inr (inr (inl one))) short told.ends
+  failure_cause Memory found is told = inr (inl told.0)
+  failure_cause (Conflict i j sequence differ) found is told = ⊎_elim (λ four. inr (inr (inr (inl four)))) short told.ends
+  failure_cause (Split i j) found is told = ⊎_elim (λ four. inr (inr (inr (inl four)))) short told.ends
+
+  failure_unwritten : (failure : Failure) (found : Result GroupValue Assembly) → IsRebuiltIn work timestamp word found (Err failure) → IsToldFailure failure answer
+      → IsTrue (is_unwritten answer.status) → ReadsOnly work.old work.new
+  failure_unwritten (Disk slot) found is told un = absurd (closes_wrote refl told un)
+  failure_unwritten Memory (Ok group) is told un = is
+  failure_unwritten (Refused refusal) (Ok group) is told un = is.1
+  failure_unwritten (Conflict i j sequence differ) (Ok group) is told un = absurd is
+  failure_unwritten (Split i j) (Ok group) is told un = absurd is
+  failure_unwritten failure (Err fault) is told un = is.1
+
+  cause_by : (outcome : Result ℕ Failure) (found : Result GroupValue Assembly) → IsRebuiltIn work timestamp word found outcome → IsToldChange outcome answer → Cause work answer rose
+  cause_by (Ok sequence) found is told = ⊎_elim inl six told.ends
+  cause_by (Err failure) found is told = failure_cause failure found is told
+
+  unwritten_by : (outcome : Result ℕ Failure) (found : Result GroupValue Assembly) → IsRebuiltIn work timestamp word found outcome → IsToldChange outcome answer
+      → IsTrue (is_unwritten answer.status) → ReadsOnly work.old work.new
+  unwritten_by (Ok sequence) found is told un = absurd (⊎_elim (λ zero. wrote answer.status 0 refl zero un) (λ last. wrote answer.status 6 refl last un) told.ends)
+  unwritten_by (Err failure) found is told un = failure_unwritten failure found is told un
+
+  -- Each status has its cause.
+  pub rebuild_ends : GoesOn work.old work.new → work.new.sizes ≡ work.old.sizes → (outcome : Result ℕ Failure) (found : Result GroupValue Assembly) → IsRebuiltIn work timestamp word found outcome
+      → IsToldChange outcome answer → EndsSo work answer rose
+  rebuild_ends goes_on same_sizes outcome found is told = record {
+    cause = cause_by outcome found is told;
+    unwritten = unwritten_by outcome found is told;
+    goes_on = goes_on;
+    same_sizes = same_sizes;
+  }

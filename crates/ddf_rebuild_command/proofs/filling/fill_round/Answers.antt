@@ -1,0 +1,179 @@
+use Rattle.std.proofs.Common.{[], ◌∷◌, true, false, refl, subst, sym}
+use Rattle.std.proofs.lemmas.Bool.{false≢true}
+use Rattle.std.proofs.lemmas.Result.{IfErr-weaker, on_ok_weaker}
+use Rattle.std.specs.Prelude.{is_ok}
+use Rattle.ddf_array.proofs.Fits.{view_fits}
+use Rattle.ddf_assembly.specs.Committed.{slots_of}
+use Rattle.ddf_answer.specs.declared.failure.Failure.{Failure}
+use Rattle.ddf_write_commands.proofs.Courses.{IsTold}
+use Rattle.ddf_rebuild_command.specs.Filled.{IsFillFault, rounds_in}
+use Rattle.ddf_rebuild_command.specs.Standing.{IsSlotFault}
+use Rattle.ddf_rebuild_command.proofs.NextRound.{round_fault, round_filled, round_goes, rows_failed, rows_fault, stands_behind}
+use Rattle.ddf_rebuild_command.proofs.OneRound.{FillsRows}
+use Rattle.ddf_rebuild_command.proofs.filling.fill_round.Goals as goal
+
+pub rebuild_rows-requires-clause-fits : goal.rebuild_rows-requires-clause-fits
+rebuild_rows-requires-clause-fits g c =
+    let can = c.requires.fills.1 in
+    view_fits can.config can.guid c.args.group.now.seats c.args.filling.now.view (g.B.Bay.disks c.args.bay.now).sizes can.is_view can.fit
+
+pub write_step-requires : goal.write_step-requires
+write_step-requires g c =
+    let old = g.B.Bay.disks c.args.bay.now in
+    let middle = g.B.Bay.disks c.rebuild_rows.new.bay in
+    let filling = c.args.filling.now in
+    let can = c.requires.fills.1 in
+    let asks = c.rebuild_rows.ensures.asks can.is_out.part can.is_out.is_target.is_part in
+    let rows : FillsRows g.B.Bay.tells old middle filling.view filling.target c.args.from c.args.row true = record {
+      goes = record { goes_on = asks.goes_on; same_sizes = asks.same_sizes; reads_rise = asks.reads_rise; writes_rise = asks.writes_rise };
+      told = g.met.B.Bay.told_before c.args.bay.now c.rebuild_rows.new.bay (asks.goes_on c.rebuild_rows.new.bay (g.met.B.Bay.leads c.rebuild_rows.new.bay));
+      any_moment = c.rebuild_rows.ensures.any_moment;
+      left = c.rebuild_rows.ensures.left;
+      held = c.rebuild_rows.ensures.held;
+      stays = λ told so. c.in-Ok.ensures.settled told;
+      rebuilt = λ told so. c.in-Ok.ensures.now told;
+    } in
+    stands_behind g.B.Bay.tells old middle filling.view filling.target c.args.from c.args.row c.requires.fills.0 c.args.group.now can c.args.ready.now.recovery true rows refl c.args.ready.now.steps c.requires.many c.requires.stands
+
+pub returns-in-Ok-clause-goes : goal.returns-in-Ok-clause-goes
+returns-in-Ok-clause-goes g c =
+    let old = g.B.Bay.disks c.args.bay.now in
+    let middle = g.B.Bay.disks c.rebuild_rows.new.bay in
+    let filling = c.args.filling.now in
+    let can = c.requires.fills.1 in
+    let asks = c.rebuild_rows.ensures.asks can.is_out.part can.is_out.is_target.is_part in
+    let rows : FillsRows g.B.Bay.tells old middle filling.view filling.target c.args.from c.args.row true = record {
+      goes = record { goes_on = asks.goes_on; same_sizes = asks.same_sizes; reads_rise = asks.reads_rise; writes_rise = asks.writes_rise };
+      told = g.met.B.Bay.told_before c.args.bay.now c.rebuild_rows.new.bay (asks.goes_on c.rebuild_rows.new.bay (g.met.B.Bay.leads c.rebuild_rows.new.bay));
+      any_moment = c.rebuild_rows.ensures.any_moment;
+      left = c.rebuild_rows.ensures.left;
+      held = c.rebuild_rows.ensures.held;
+      stays = λ told so. c.in-Ok.ensures.settled told;
+      rebuilt = λ told so. c.in-Ok.ensures.now told;
+    } in
+    let new = g.B.Bay.disks c.write_step.new.bay in
+    let tells_middle : IsTold (g.B.Bay.disks c.rebuild_rows.new.bay) = record {
+      held = g.met.B.Bay.held_is_left c.rebuild_rows.new.bay;
+      whole = g.met.B.Bay.whole c.rebuild_rows.new.bay;
+      only_now = g.met.B.Bay.only_now c.rebuild_rows.new.bay;
+      counts = g.met.B.Bay.counts_now c.rebuild_rows.new.bay;
+      since = g.met.B.Bay.told_since c.rebuild_rows.new.bay;
+    } in
+    let tells_new : IsTold (g.B.Bay.disks c.write_step.new.bay) = record {
+      held = g.met.B.Bay.held_is_left c.write_step.new.bay;
+      whole = g.met.B.Bay.whole c.write_step.new.bay;
+      only_now = g.met.B.Bay.only_now c.write_step.new.bay;
+      counts = g.met.B.Bay.counts_now c.write_step.new.bay;
+      since = g.met.B.Bay.told_since c.write_step.new.bay;
+    } in
+    round_goes g.B.Bay.tells old middle filling.view filling.target c.args.from c.args.row c.requires.fills.0 c.args.group.now can c.args.ready.now.recovery true rows refl tells_middle new tells_new (is_ok c.write_step.result) c.args.ready.now.steps c.requires.many c.requires.stands c.write_step.ensures.goes
+
+pub returns-in-Ok-clause-filled : goal.returns-in-Ok-clause-filled
+returns-in-Ok-clause-filled g c =
+    let old = g.B.Bay.disks c.args.bay.now in
+    let middle = g.B.Bay.disks c.rebuild_rows.new.bay in
+    let filling = c.args.filling.now in
+    let can = c.requires.fills.1 in
+    let asks = c.rebuild_rows.ensures.asks can.is_out.part can.is_out.is_target.is_part in
+    let rows : FillsRows g.B.Bay.tells old middle filling.view filling.target c.args.from c.args.row true = record {
+      goes = record { goes_on = asks.goes_on; same_sizes = asks.same_sizes; reads_rise = asks.reads_rise; writes_rise = asks.writes_rise };
+      told = g.met.B.Bay.told_before c.args.bay.now c.rebuild_rows.new.bay (asks.goes_on c.rebuild_rows.new.bay (g.met.B.Bay.leads c.rebuild_rows.new.bay));
+      any_moment = c.rebuild_rows.ensures.any_moment;
+      left = c.rebuild_rows.ensures.left;
+      held = c.rebuild_rows.ensures.held;
+      stays = λ told so. c.in-Ok.ensures.settled told;
+      rebuilt = λ told so. c.in-Ok.ensures.now told;
+    } in
+    let new = g.B.Bay.disks c.write_step.new.bay in
+    let tells_middle : IsTold (g.B.Bay.disks c.rebuild_rows.new.bay) = record {
+      held = g.met.B.Bay.held_is_left c.rebuild_rows.new.bay;
+      whole = g.met.B.Bay.whole c.rebuild_rows.new.bay;
+      only_now = g.met.B.Bay.only_now c.rebuild_rows.new.bay;
+      counts = g.met.B.Bay.counts_now c.rebuild_rows.new.bay;
+      since = g.met.B.Bay.told_since c.rebuild_rows.new.bay;
+    } in
+    let tells_new : IsTold (g.B.Bay.disks c.write_step.new.bay) = record {
+      held = g.met.B.Bay.held_is_left c.write_step.new.bay;
+      whole = g.met.B.Bay.whole c.write_step.new.bay;
+      only_now = g.met.B.Bay.only_now c.write_step.new.bay;
+      counts = g.met.B.Bay.counts_now c.write_step.new.bay;
+      since = g.met.B.Bay.told_since c.write_step.new.bay;
+    } in
+    on_ok_weaker c.write_step.result
+    (λ written. round_filled g.B.Bay.tells old middle filling.view filling.target c.args.from c.args.row c.requires.fills.0 c.args.group.now can c.args.ready.now.recovery true rows refl tells_middle new tells_new (is_ok c.write_step.result) c.args.ready.now.steps c.requires.many c.requires.stands c.write_step.ensures.goes c.write_step.new.group c.write_step.new.ready
+    written)
+    c.write_step.ensures.written
+
+pub returns-in-Ok-clause-failed : goal.returns-in-Ok-clause-failed
+returns-in-Ok-clause-failed g c =
+    let old = g.B.Bay.disks c.args.bay.now in
+    let middle = g.B.Bay.disks c.rebuild_rows.new.bay in
+    let filling = c.args.filling.now in
+    let can = c.requires.fills.1 in
+    let asks = c.rebuild_rows.ensures.asks can.is_out.part can.is_out.is_target.is_part in
+    let rows : FillsRows g.B.Bay.tells old middle filling.view filling.target c.args.from c.args.row true = record {
+      goes = record { goes_on = asks.goes_on; same_sizes = asks.same_sizes; reads_rise = asks.reads_rise; writes_rise = asks.writes_rise };
+      told = g.met.B.Bay.told_before c.args.bay.now c.rebuild_rows.new.bay (asks.goes_on c.rebuild_rows.new.bay (g.met.B.Bay.leads c.rebuild_rows.new.bay));
+      any_moment = c.rebuild_rows.ensures.any_moment;
+      left = c.rebuild_rows.ensures.left;
+      held = c.rebuild_rows.ensures.held;
+      stays = λ told so. c.in-Ok.ensures.settled told;
+      rebuilt = λ told so. c.in-Ok.ensures.now told;
+    } in
+    let new = g.B.Bay.disks c.write_step.new.bay in
+    let tells_middle : IsTold (g.B.Bay.disks c.rebuild_rows.new.bay) = record {
+      held = g.met.B.Bay.held_is_left c.rebuild_rows.new.bay;
+      whole = g.met.B.Bay.whole c.rebuild_rows.new.bay;
+      only_now = g.met.B.Bay.only_now c.rebuild_rows.new.bay;
+      counts = g.met.B.Bay.counts_now c.rebuild_rows.new.bay;
+      since = g.met.B.Bay.told_since c.rebuild_rows.new.bay;
+    } in
+    let tells_new : IsTold (g.B.Bay.disks c.write_step.new.bay) = record {
+      held = g.met.B.Bay.held_is_left c.write_step.new.bay;
+      whole = g.met.B.Bay.whole c.write_step.new.bay;
+      only_now = g.met.B.Bay.only_now c.write_step.new.bay;
+      counts = g.met.B.Bay.counts_now c.write_step.new.bay;
+      since = g.met.B.Bay.told_since c.write_step.new.bay;
+    } in
+    IfErr-weaker c.write_step.result (IsSlotFault middle new (slots_of c.args.group.now.seats))
+    (IsFillFault g.B.Bay.tells old new filling.view filling.target c.args.from (rounds_in (c.args.row ∷ []) c.args.ready.now.steps) c.args.group.now c.args.ready.now c.args.row)
+    (λ failure fault. round_fault g.B.Bay.tells old middle filling.view filling.target c.args.from c.args.row c.requires.fills.0 c.args.group.now can c.args.ready.now.recovery true rows refl tells_middle new tells_new (is_ok c.write_step.result) c.args.ready.now.steps c.requires.many c.requires.stands c.write_step.ensures.goes failure fault)
+    c.write_step.ensures.failed
+
+pub returns-in-Err-clause-goes : goal.returns-in-Err-clause-goes
+returns-in-Err-clause-goes g c =
+    let old = g.B.Bay.disks c.args.bay.now in
+    let middle = g.B.Bay.disks c.rebuild_rows.new.bay in
+    let filling = c.args.filling.now in
+    let can = c.requires.fills.1 in
+    let asks = c.rebuild_rows.ensures.asks can.is_out.part can.is_out.is_target.is_part in
+    let rows : FillsRows g.B.Bay.tells old middle filling.view filling.target c.args.from c.args.row false = record {
+      goes = record { goes_on = asks.goes_on; same_sizes = asks.same_sizes; reads_rise = asks.reads_rise; writes_rise = asks.writes_rise };
+      told = g.met.B.Bay.told_before c.args.bay.now c.rebuild_rows.new.bay (asks.goes_on c.rebuild_rows.new.bay (g.met.B.Bay.leads c.rebuild_rows.new.bay));
+      any_moment = c.rebuild_rows.ensures.any_moment;
+      left = c.rebuild_rows.ensures.left;
+      held = c.rebuild_rows.ensures.held;
+      stays = λ told so. absurd (false≢true so);
+      rebuilt = λ told so. absurd (false≢true so);
+    } in
+    rows_failed g.B.Bay.tells old middle filling.view filling.target c.args.from c.args.row c.requires.fills.0 c.args.group.now can c.args.ready.now.recovery false rows c.args.ready.now.steps c.requires.many c.requires.stands
+
+pub returns-in-Err-clause-failed : goal.returns-in-Err-clause-failed
+returns-in-Err-clause-failed g c =
+    let old = g.B.Bay.disks c.args.bay.now in
+    let middle = g.B.Bay.disks c.rebuild_rows.new.bay in
+    let filling = c.args.filling.now in
+    let can = c.requires.fills.1 in
+    let asks = c.rebuild_rows.ensures.asks can.is_out.part can.is_out.is_target.is_part in
+    let rows : FillsRows g.B.Bay.tells old middle filling.view filling.target c.args.from c.args.row false = record {
+      goes = record { goes_on = asks.goes_on; same_sizes = asks.same_sizes; reads_rise = asks.reads_rise; writes_rise = asks.writes_rise };
+      told = g.met.B.Bay.told_before c.args.bay.now c.rebuild_rows.new.bay (asks.goes_on c.rebuild_rows.new.bay (g.met.B.Bay.leads c.rebuild_rows.new.bay));
+      any_moment = c.rebuild_rows.ensures.any_moment;
+      left = c.rebuild_rows.ensures.left;
+      held = c.rebuild_rows.ensures.held;
+      stays = λ told so. absurd (false≢true so);
+      rebuilt = λ told so. absurd (false≢true so);
+    } in
+    subst (λ (failure : Failure). IsFillFault g.B.Bay.tells old middle filling.view filling.target c.args.from (rounds_in (c.args.row ∷ []) c.args.ready.now.steps) c.args.group.now c.args.ready.now c.args.row failure)
+    (sym c.failure_of.ensures)
+    (rows_fault g.B.Bay.tells old middle filling.view filling.target c.args.from c.args.row c.requires.fills.0 c.args.group.now can c.args.ready.now.recovery false rows c.args.ready.now.steps c.requires.many c.requires.stands c.in-Err.fault c.in-Err.ensures.fault)

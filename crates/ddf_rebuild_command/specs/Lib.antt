@@ -1,0 +1,12 @@
+pub mod Notes
+pub mod Asked
+pub mod Rounds
+pub mod Planned
+pub mod Stages
+pub mod Along
+pub mod Rebuilt
+pub mod Plans
+pub mod Standing
+pub mod Opened
+pub mod Filled
+pub mod Run

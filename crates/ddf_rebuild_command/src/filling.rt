@@ -1,0 +1,66 @@
+// The rounds of a rebuild: rows of a position are filled, and then a step of its group is written that tells of them.
+ghost use Rattle.std.specs.Prelude.{◌≡◌, ◌≤◌, ℕ, ◌∷◌, [], length, IfErr, OnOk, is_ok};
+ghost use Rattle.ddf_assembly.specs.Committed.{left_behind};
+ghost use Rattle.ddf_rebuild_command.specs.Filled.{AreFilled, CanFill, GoesFilling, IsFillFault, rounds_in};
+ghost use Rattle.ddf_rebuild_command.specs.Standing.{Stands};
+
+use crate::planning::Filling;
+use crate::stepping::write_step;
+use ddf_answer::Failure;
+use ddf_assembly::{Group, Ready};
+use ddf_bay::Bay;
+use ddf_data_commands::failure_of;
+use ddf_rebuild::rebuild_rows;
+
+/// Fills the rows of a position from one on up to another, and writes the step that tells of them.
+///
+/// # Errors
+/// `Disk` where a write or a sync of a seat's slot failed, or a read of it, and no source is left of what a row needs.
+fn fill_round<B: Bay>(
+    group: &mut Group,
+    ready: &mut Ready,
+    filling: &Filling,
+    from: u64,
+    row: u64,
+    bay: &mut B,
+) -> Result<(), Failure>
+    requires stands { Stands B.tells (B.disks bay.old) group.old ready.old }
+    requires fills { (end : ℕ) × CanFill (B.disks bay.old).sizes group.old.seats filling.now.view filling.now.target end from (row ∷ []) }
+    requires many { 1 ≤ length ready.old.steps }
+    ensures goes { GoesFilling B.tells (B.disks bay.old) (B.disks bay.new) filling.now.view filling.now.target from (rounds_in (row ∷ []) ready.old.steps) group.old ready.old (is_ok result) }
+    ensures filled { OnOk result (AreFilled B.tells (B.disks bay.old) (B.disks bay.new) filling.now.view filling.now.target from (rounds_in (row ∷ []) ready.old.steps) group.old ready.old group.new ready.new) }
+    ensures failed { IfErr result (IsFillFault B.tells (B.disks bay.old) (B.disks bay.new) filling.now.view filling.now.target from (rounds_in (row ∷ []) ready.old.steps) group.old ready.old row) }
+    ensures left { OnOk result (ready.new ≡ left_behind ready.old) }
+{
+    match rebuild_rows(bay, &filling.view, &filling.target, from, row) {
+        Ok(()) => write_step(group, ready, bay),
+        Err(fault) => Err(failure_of(fault)),
+    }
+}
+
+/// Fills the rows of a position from one on up to each of these, one after another, and writes behind each the step that tells of it.
+///
+/// # Errors
+/// `Disk` where a write or a sync of a seat's slot failed, or a read of it, and no source is left of what a row needs.
+pub(crate) fn fill<B: Bay>(
+    group: &mut Group,
+    ready: &mut Ready,
+    filling: &Filling,
+    from: u64,
+    rows: &[u64],
+    bay: &mut B,
+) -> Result<(), Failure>
+    requires stands { Stands B.tells (B.disks bay.old) group.old ready.old }
+    requires fills { (end : ℕ) × CanFill (B.disks bay.old).sizes group.old.seats filling.now.view filling.now.target end from rows.now }
+    requires many { length ready.old.steps ≡ length rows.now }
+    ensures goes { GoesFilling B.tells (B.disks bay.old) (B.disks bay.new) filling.now.view filling.now.target from (rounds_in rows.now ready.old.steps) group.old ready.old (is_ok result) }
+    ensures filled { OnOk result (AreFilled B.tells (B.disks bay.old) (B.disks bay.new) filling.now.view filling.now.target from (rounds_in rows.now ready.old.steps) group.old ready.old group.new ready.new) }
+    ensures failed { IfErr result (λ failure. (end : ℕ) → CanFill (B.disks bay.old).sizes group.old.seats filling.now.view filling.now.target end from rows.now
+        → IsFillFault B.tells (B.disks bay.old) (B.disks bay.new) filling.now.view filling.now.target from (rounds_in rows.now ready.old.steps) group.old ready.old end failure) }
+{
+    let Some((row, later)) = rows.split_first() else {
+        return Ok(());
+    };
+    fill_round(group, ready, filling, from, *row, bay)?;
+    fill(group, ready, filling, *row, later, bay)
+}

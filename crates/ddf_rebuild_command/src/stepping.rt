@@ -1,0 +1,100 @@
+// The steps of a group that is rebuilt: made ready before the first write, and written one after another.
+ghost use Rattle.std.specs.Prelude.{◌≡◌, None, IfErr, IfOk, OnOk, is_ok};
+ghost use Rattle.std.specs.List.{AllByRecursion};
+ghost use Rattle.ddf_assembly.specs.Asked.{CanBeAsked};
+ghost use Rattle.ddf_assembly.specs.Assembled.{IsAssembledGroup};
+ghost use Rattle.ddf_assembly.specs.Committed.{WasReadied, slots_of};
+ghost use Rattle.ddf_assembly.specs.Ready.{readied};
+ghost use Rattle.ddf_write_commands.specs.Around.{rest};
+ghost use Rattle.ddf_write_commands.specs.Plans.{IsNotReadied};
+ghost use Rattle.ddf_rebuild_command.specs.Opened.{CanOpen, GoesOpening, IsOpened, steps_before};
+ghost use Rattle.ddf_rebuild_command.specs.Standing.{GoesNext, IsNextWritten, IsSlotFault, Stands, recovery_in};
+
+use crate::planning::Plan;
+use ddf_answer::Failure;
+use ddf_assembly::{Group, Ready};
+use ddf_bay::Bay;
+use ddf_group_commands::failure_of;
+use std::alloc::Global;
+
+/// All that the steps of a rebuild take: it is made before anything is written.
+///
+/// # Errors
+/// `Refused` where the group can't be recovered or changed so; `Memory` where memory ran out.
+pub(crate) fn ready_rebuild(
+    alloc: Global,
+    group: &Group,
+    plan: &Plan,
+    timestamp: u32,
+) -> Result<Ready, Failure>
+    requires assembled { IsAssembledGroup group.now }
+    requires asked { AllByRecursion CanBeAsked plan.now.changes }
+    ensures was { IfOk result (WasReadied group.now plan.now.changes timestamp) }
+    ensures refused { IfErr result (IsNotReadied (readied group.now plan.now.changes timestamp)) }
+{
+    match group.ready(alloc, plan.changes.items(), timestamp) {
+        Ok(ready) => Ok(ready),
+        Err(fault) => Err(failure_of(fault)),
+    }
+}
+
+/// Recovers a group by what was readied of it.
+///
+/// # Errors
+/// `Disk` where a write or a sync of a seat's slot failed.
+pub(crate) fn recover_group<B: Bay>(
+    group: &mut Group,
+    ready: &mut Ready,
+    bay: &mut B,
+) -> Result<(), Failure>
+    requires { CanOpen B.tells (B.disks bay.old) group.old ready.old }
+    ensures goes { GoesOpening B.tells (B.disks bay.old) (B.disks bay.new) group.old (recovery_in ready.old.recovery) }
+    ensures opened { OnOk result (IsOpened B.tells (B.disks bay.old) (B.disks bay.new) group.old (recovery_in ready.old.recovery) group.new ready.new) }
+    ensures failed { IfErr result (IsSlotFault (B.disks bay.old) (B.disks bay.new) (slots_of group.old.seats)) }
+    ensures left { ready.new ≡ record ready.old { recovery = None } }
+{
+    group.recover(bay, ready)?;
+    Ok(())
+}
+
+/// Writes the next step of a group that stands on its disks.
+///
+/// # Errors
+/// `Disk` where a write or a sync of a seat's slot failed.
+pub(crate) fn write_step<B: Bay>(
+    group: &mut Group,
+    ready: &mut Ready,
+    bay: &mut B,
+) -> Result<(), Failure>
+    requires { Stands B.tells (B.disks bay.old) group.old ready.old }
+    ensures goes { GoesNext B.tells (B.disks bay.old) (B.disks bay.new) group.old ready.old (is_ok result) }
+    ensures written { OnOk result (IsNextWritten B.tells (B.disks bay.old) (B.disks bay.new) group.old ready.old group.new ready.new) }
+    ensures failed { IfErr result (IsSlotFault (B.disks bay.old) (B.disks bay.new) (slots_of group.old.seats)) }
+{
+    group.commit(bay, ready)?;
+    Ok(())
+}
+
+/// Recovers a group, and gives the position that is to be filled a spare, where it gets one: that is the first of the steps.
+///
+/// # Errors
+/// `Disk` where a write or a sync of a seat's slot failed.
+pub(crate) fn open_position<B: Bay>(
+    group: &mut Group,
+    ready: &mut Ready,
+    begins: bool,
+    bay: &mut B,
+) -> Result<(), Failure>
+    requires { CanOpen B.tells (B.disks bay.old) group.old ready.old }
+    ensures goes { GoesOpening B.tells (B.disks bay.old) (B.disks bay.new) group.old (steps_before begins ready.old) }
+    ensures opened { OnOk result (IsOpened B.tells (B.disks bay.old) (B.disks bay.new) group.old (steps_before begins ready.old) group.new ready.new) }
+    ensures failed { IfErr result (IsSlotFault (B.disks bay.old) (B.disks bay.new) (slots_of group.old.seats)) }
+    ensures left { OnOk result (ready.new ≡ record { recovery = None; steps = rest begins ready.old.steps }) }
+{
+    recover_group(group, ready, bay)?;
+    if begins {
+        write_step(group, ready, bay)
+    } else {
+        Ok(())
+    }
+}
