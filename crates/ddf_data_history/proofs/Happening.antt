@@ -1,5 +1,5 @@
 -- Behind each event all is kept that was kept before it.
-use Rattle.std.proofs.Common.{◌≡◌, ℕ, zero, suc, Bool, true, false, not, ◌||◌, ◌==◌, List, Option, Some, refl, sym, ap, subst, arith}
+use Rattle.std.proofs.Common.{◌≡◌, ℕ, zero, suc, Bool, true, false, not, ◌||◌, ◌==◌, List, Option, Some, refl, sym, ap, subst, ◌∙◌, arith, if◌then◌else◌}
 use Rattle.std.proofs.Math.Path.{fun_ext}
 use Rattle.std.specs.Prelude.{filter_map}
 use Rattle.std.specs.List.{range_with_len}
@@ -8,22 +8,33 @@ use Rattle.ddf_bay.specs.Sectors.{Image, IsLeft}
 use Rattle.ddf_bay.specs.State.{BayState}
 use Rattle.ddf_array.specs.Sound.{AreSectors}
 use Rattle.ddf_array.proofs.Bools.{and_first, and_second, not_true}
+use Rattle.std.specs.Map.{lookup}
+use Rattle.ddf_config.specs.declared.array.Array.{Array}
+use Rattle.ddf_config.specs.Members.{same_guid}
+use Rattle.ddf_array.specs.Volume.{Volume}
+use Rattle.ddf_data.specs.Allowed.{Allowed, any_bytes}
+use Rattle.ddf_data.specs.Changing.{IsWritable}
+use Rattle.ddf_data.proofs.Written.{kept_any}
 use Rattle.ddf_config.specs.declared.seat.Seat.{Seat}
 use Rattle.ddf_config.specs.Configuration.{Configuration}
 use Rattle.ddf_keeping.specs.Grouped.{KeepsArrays, Promises}
+use Rattle.ddf_keeping.specs.Kept.{KeepsArray}
+use Rattle.ddf_keeping.proofs.Entries.{guid_is}
+use Rattle.ddf_rewrite.proofs.Lists.{some_same}
+use Rattle.ddf_keeping.specs.Over.{IsOver, absent_in}
 use Rattle.ddf_history.specs.Groups.{groups, has_current}
 use Rattle.ddf_history.specs.History.{KeepsAcked}
 use Rattle.ddf_history.specs.Issued.{IsSince, Past, give_back, lose}
 use Rattle.ddf_history.specs.Promise.{IsKept}
 use Rattle.ddf_history.specs.Scenes.{scene_of}
 use Rattle.ddf_history.proofs.Cutting.{given_back_kept, lost_kept}
-use Rattle.ddf_promise.specs.Promised.{KeepsData, is_seat, seat_if}
+use Rattle.ddf_promise.specs.Promised.{KeepsData, is_seat, seat_if, seats_in, with_promise}
 use Rattle.ddf_promise.proofs.Steps.{by_loss, by_return}
 use Rattle.ddf_data_history.specs.Calls.{exit_of}
 use Rattle.ddf_data_history.specs.Events.{Event, Follows, KeepsOn, Resumes}
-use Rattle.ddf_data_history.specs.Events.Event.{Cut, Ended, Forgotten, Lost, Refloored, Returned, Stopped}
+use Rattle.ddf_data_history.specs.Events.Event.{Cut, Ended, Forgotten, Lost, Noticed, Refloored, Returned, Stopped}
 use Rattle.ddf_data_history.specs.Moments.{KeepsAll, Moment}
-use Rattle.ddf_data_history.proofs.Bays.{AreBays, held_sectors}
+use Rattle.ddf_data_history.proofs.Bays.{AreBays, held_sectors, sectors}
 use Rattle.ddf_data_history.proofs.Calls.{cuts, cuts_acked, ends, ends_acked}
 
 -- Data are kept where no current member's floor is another one.
@@ -42,6 +53,24 @@ floors_keep guid past floor other same image promises keeps number config since 
             (sym (same slot number config since (not_true (past.lost slot) (and_first (not (past.lost slot)) (has_current config (past.disk slot)) is))
             (and_second (not (past.lost slot)) (has_current config (past.disk slot)) is)))
         by false is = refl
+
+-- Data are kept where of an array it is promised alone that its blocks may have any bytes.
+any_kept : (guid : List ℕ) (past : Past (groups guid)) (floor : ℕ → ℕ) (array : List ℕ)
+    → ((number : ℕ) (config : Configuration) (entry : Array) → IsSince past.changes number config → lookup (same_guid array) config.arrays ≡ Some entry
+    → (seats : List Seat) (volume : Volume) → IsOver seats entry volume → IsWritable volume)
+    → (image : Image) → AreSectors image → (promises : Promises) → KeepsData guid past floor image promises → KeepsData guid past floor image (with_promise promises array (Some any_bytes))
+any_kept guid past floor array writable image sound promises kept number config since other allowed made promised there = by (same_guid array other) refl promised
+  where
+    by : (b : Bool) → same_guid array other ≡ b → ◌≡◌ {A = Option Allowed} (if b then Some any_bytes else promises other) (Some allowed)
+        → KeepsArray config.members (seats_in guid past floor config) made image allowed
+    by true same e =
+        let one = guid_is array other same in
+        let allowed_is : any_bytes ≡ allowed = sym (some_same e refl) in
+        let here : lookup (same_guid array) config.arrays ≡ Some made = ap (λ (g : List ℕ). lookup (same_guid g) config.arrays) one ∙ there in
+        subst (KeepsArray config.members (seats_in guid past floor config) made image) allowed_is
+        (λ volume over. kept_any (absent_in config.members (seats_in guid past floor config) made.elements) volume image sound
+        (writable number config made since here (seats_in guid past floor config) volume over))
+    by false differs e = kept number config since other allowed made e there
 
 module _ {B : Type 0} {tells : Type 0} (told : tells) (disks : B → BayState B) {S : Type 0} (tells_bytes : Type 0) (streams : S → SourceState) (guid : List ℕ) (are : AreBays disks) where
   -- a moment that follows an event, at which all is kept
@@ -115,6 +144,15 @@ module _ {B : Type 0} {tells : Type 0} (told : tells) (disks : B → BayState B)
     follows = record { comes = refl; is_bay = refl; is_promised = refl; is_floor = refl };
     acked = record { later = omega arith; same = λ i config le at. at };
     keeps = record { shows = all.shows; keeps = λ image left number config since array allowed value promised. all.keeps image left number config since array allowed value (less array allowed promised) };
+  }
+  happens old all (Noticed array writable) = record {
+    next = record { past = old.past; bay = old.bay; promises = with_promise old.promises array (Some any_bytes); floor = old.floor; small = old.small };
+    follows = record { comes = refl; is_bay = refl; is_promised = refl; is_floor = refl };
+    acked = record { later = omega arith; same = λ i config le at. at };
+    keeps = record {
+      shows = all.shows;
+      keeps = λ image left. any_kept guid old.past old.floor array writable image (sectors disks are old.bay image left) old.promises (all.keeps image left);
+    };
   }
   happens old all (Refloored floor small same) = record {
     next = record { past = old.past; bay = old.bay; promises = old.promises; floor = floor; small = small };

@@ -3,9 +3,17 @@ use Rattle.std.specs.Prelude.{◌≡◌, ℕ, zero, suc, ◌<◌, ◌≤◌, ◌
 use Rattle.ddf_bytes.specs.Streams.{SourceState}
 use Rattle.ddf_bay.specs.Sectors.{Image, IsLeft}
 use Rattle.ddf_bay.specs.State.{BayState}
+use Rattle.std.specs.Map.{lookup}
+use Rattle.ddf_config.specs.declared.array.Array.{Array}
+use Rattle.ddf_config.specs.declared.seat.Seat.{Seat}
 use Rattle.ddf_config.specs.Configuration.{Configuration}
-use Rattle.ddf_data.specs.Allowed.{Allowed}
+use Rattle.ddf_config.specs.Members.{same_guid}
+use Rattle.ddf_array.specs.Volume.{Volume}
+use Rattle.ddf_data.specs.Allowed.{Allowed, any_bytes}
+use Rattle.ddf_data.specs.Changing.{IsWritable}
 use Rattle.ddf_keeping.specs.Grouped.{Promises}
+use Rattle.ddf_keeping.specs.Over.{IsOver}
+use Rattle.ddf_promise.specs.Promised.{with_promise}
 use Rattle.ddf_history.specs.Groups.{groups, has_current, has_missing}
 use Rattle.ddf_history.specs.History.{KeepsAcked}
 use Rattle.ddf_history.specs.Issued.{IsSince, Past, give_back, lose}
@@ -34,6 +42,11 @@ module _ {B : Type 0} {tells : Type 0} (told : tells) (disks : B → BayState B)
         → ((number : ℕ) (config : Configuration) → IsSince old.past.changes number config → has_missing config (old.past.disk slot) ≡ true) → Event old
     -- Less is promised from now on: of an array that is to be deleted, or accepted though it isn't consistent, nothing.
     Forgotten : (fewer : Promises) → ((array : List ℕ) (allowed : Allowed) → fewer array ≡ Some allowed → old.promises array ≡ Some allowed) → Event old
+    -- Of an array it is promised from now on that its blocks may have any bytes. Under each configuration since the last acknowledged one that has it, and over whichever seats, it is marked, or
+    -- keeps each block in one place alone: as one that was created, also where a stop cut the call short, or a disk failed in it.
+    Noticed : (array : List ℕ)
+        → ((number : ℕ) (config : Configuration) (entry : Array) → IsSince old.past.changes number config → lookup (same_guid array) config.arrays ≡ Some entry
+        → (seats : List Seat) (volume : Volume) → IsOver seats entry volume → IsWritable volume) → Event old
     -- Slots have other floors, whose disks are no current members or are lost.
     Refloored : (floor : ℕ → ℕ) → ((slot : ℕ) → floor slot < 2 ^ 64)
         → ((slot number : ℕ) (config : Configuration) → IsSince old.past.changes number config → old.past.lost slot ≡ false → has_current config (old.past.disk slot) ≡ true → floor slot ≡ old.floor slot)
@@ -55,6 +68,8 @@ module _ {B : Type 0} {tells : Type 0} (told : tells) (disks : B → BayState B)
   Follows old (Lost slot own) new = IsBehind new (λ now. now ≡ lose old.past slot) old.bay (λ promised. promised ≡ old.promises) old.floor
   Follows old (Returned slot own missing) new = IsBehind new (λ now. now ≡ give_back old.past slot) old.bay (λ promised. promised ≡ old.promises) old.floor
   Follows old (Forgotten fewer are) new = IsBehind new (λ now. now ≡ old.past) old.bay (λ promised. promised ≡ fewer) old.floor
+  Follows old (Noticed array writable) new =
+      IsBehind new (λ now. now ≡ old.past) old.bay (λ promised. promised ≡ with_promise old.promises array (Some any_bytes)) old.floor
   Follows old (Refloored floor small same) new = IsBehind new (λ now. now ≡ old.past) old.bay (λ promised. promised ≡ old.promises) floor
 
   -- All is kept at a moment, and stays so however it goes on, for so many events: whichever comes that the moment admits, a moment follows it to which what was

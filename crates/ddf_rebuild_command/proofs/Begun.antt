@@ -1,7 +1,7 @@
 -- What holds where a rebuild begins: the view of its array exists, with the position out of sync on a disk that has a seat.
 use Rattle.std.proofs.Common.{◌≡◌, ◌∙◌, ℕ, true, false, List, Some, Ok, refl, sym, ap, subst}
 use Rattle.std.proofs.lemmas.Bool.{false≢true}
-use Rattle.std.specs.Prelude.{is_some, slice_get}
+use Rattle.std.specs.Prelude.{is_some}
 use Rattle.std.specs.List.{IsDistinct}
 use Rattle.std.specs.Map.{keys_of, lookup}
 use Rattle.ddf_config.specs.declared.element.Position.{Position}
@@ -20,31 +20,26 @@ use Rattle.ddf_repair.specs.declared.beginning.Begun.TheVariants.{Fresh}
 use Rattle.ddf_repair.specs.Begin.{begun}
 use Rattle.ddf_repair.proofs.Begins.{is_fresh}
 use Rattle.ddf_repair.proofs.BegunUsable.{fresh_usable}
-use Rattle.ddf_array.specs.declared.part.Part.{Part}
-use Rattle.ddf_array.specs.declared.place.Place.{Place}
 use Rattle.ddf_array.specs.Viewing.{view_of}
 use Rattle.ddf_array.specs.Volume.{Volume}
 use Rattle.ddf_array.proofs.Viewed.{from_view, has_view}
+use Rattle.ddf_rebuild.specs.Target.{IsOut}
 use Rattle.ddf_rebuild_command.proofs.Positions.{IsHeld, begins, marked_after}
 use Rattle.ddf_rebuild_command.proofs.Steps.{IsOutAt, begin_steps, held_begun, out_begun}
 use Rattle.ddf_rebuild_command.proofs.Targets.{IsFreshAt}
 use Rattle.ddf_rebuild_command.proofs.Views.{is_at}
 
--- A view has a position out of sync, on this slot.
-pub record IsOutIn (volume : Volume) (element position slot : ℕ) : Type 0 where
-  pub part : Part
-  pub is_part : slice_get volume.parts element ≡ Some part
-  pub place : Place
-  pub is_place : slice_get part.places position ≡ Some place
-  pub is_out : place.synced ≡ false
-  pub is_there : place.slot ≡ Some slot
-
 module _ (config : Configuration) (guid : List ℕ) (seats : List Seat) (volume : Volume) (is : view_of config guid seats ≡ Ok volume) where
-  pub out_in : (element position : ℕ) (held : Position) → IsHeld config guid element position held → held.synced ≡ false → is_some (floor_of seats held.reference) ≡ true
-      → IsOutIn volume element position (slot_of seats held.reference)
+  -- A position that is out of sync can be rebuilt where its disk has a seat.
+  pub out_in : (element position : ℕ) (held : Position) → IsHeld config guid element position held → held.synced ≡ false → is_some (floor_of seats held.reference) ≡ true → IsOut volume element position
   out_in element position held before out has =
       let at = is_at config guid seats volume is element position held before in
-      record { part = at.part; is_part = at.is_part; place = at.place; is_place = at.is_place; is_out = at.synced_is ∙ out; is_there = at.is_there has }
+      record {
+        part = at.part;
+        place = at.place;
+        slot = slot_of seats held.reference;
+        is_target = record { is_part = at.is_part; is_place = at.is_place; is_out = at.synced_is ∙ out; is_there = at.is_there has };
+      }
 
 -- ---- on a spare
 
@@ -71,7 +66,7 @@ module _ (config : Configuration) (guid : List ℕ) (seats : List Seat) (target 
 
   module _ (sequence : ℕ) (next : Volume) (viewed : view_of (changed_at config change sequence) guid seats ≡ Ok next) where
     -- on the spare,
-    pub fresh_there : IsOutIn next target.element target.position (slot_of seats fresh.reference)
+    pub fresh_there : IsOut next target.element target.position
     fresh_there =
         out_in (changed_at config change sequence) guid seats next viewed target.element target.position (new_position fresh.reference fresh.start) (fresh_held sequence) refl fresh.has_seat
 

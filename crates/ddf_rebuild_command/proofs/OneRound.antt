@@ -173,7 +173,7 @@ module _ {D : Type 0} (tells : Type 0) (old middle : BayState D) (volume : Volum
       to_new slot failed = rose_still (old.failed_reads slot) (middle.failed_reads slot) (new.failed_reads slot) (rows.goes.reads_rise slot) (next.goes.reads_rise slot) failed
 
       sure_by : IsSure (Failed old new) volume old.held → cells.IsSure volume old middle
-      sure_by (inl none) = inl (λ slot on failed. none slot (to_new slot failed))
+      sure_by (inl none) = inl (λ slot on failed. none slot on (to_new slot failed))
       sure_by (inr redundant) = inr (inl redundant)
 
       is_filled : tells → IsFilled (Failed old new) volume target from row old.held middle.held

@@ -14,7 +14,6 @@ use Rattle.ddf_config.specs.Configuration.{Configuration}
 use Rattle.ddf_config.specs.Members.{same_guid}
 use Rattle.ddf_config.specs.Refusals.{first_refusal, refuse_if}
 use Rattle.ddf_config.specs.Shapes.{element_shape}
-use Rattle.ddf_config.specs.Seats.{slot_of}
 use Rattle.ddf_config.specs.States.{is_marked}
 use Rattle.ddf_config.proofs.Firsts.{first_append}
 use Rattle.ddf_plan.specs.declared.change.Change.{Change}
@@ -32,7 +31,7 @@ use Rattle.ddf_array.specs.Volume.{IsPart, IsVolume, Volume}
 use Rattle.ddf_array.specs.Within.{is_within}
 use Rattle.ddf_array.proofs.Told.{told_within}
 use Rattle.ddf_array.proofs.Viewed.{from_view}
-use Rattle.ddf_rebuild.specs.Target.{IsOut, row_count}
+use Rattle.ddf_rebuild.specs.Target.{row_count}
 use Rattle.ddf_assembly.specs.Asked.{CanBeAsked}
 use Rattle.ddf_request.specs.Named.{named_array, named_guid, with_array}
 use Rattle.ddf_answer.specs.declared.failure.Failure.{Failure}
@@ -48,7 +47,7 @@ use Rattle.ddf_rebuild_command.specs.Plans.{FitsBegin, HaveSeats, IsFillingIn, I
 use Rattle.ddf_rebuild_command.proofs.Noting.{notes_below}
 use Rattle.ddf_rebuild_command.proofs.Targets.{IsFirst, IsFreshAt, is_again, is_fresh_at}
 use Rattle.ddf_rebuild_command.proofs.Views.{IsAt, few_rows, is_at, rows_by}
-use Rattle.ddf_rebuild_command.proofs.Begun.{IsOutIn, fresh_marked, fresh_there, fresh_viewed, out_in}
+use Rattle.ddf_rebuild_command.proofs.Begun.{fresh_marked, fresh_there, fresh_viewed, out_in}
 
 -- ---- small things
 
@@ -115,14 +114,6 @@ notes_asked guid target most (row ∷ rows) few below = (omega (arith, few, belo
 pub behind_asked : (guid : List ℕ) (target : Target) (kept rows : ℕ) → rows ≤ 2 ^ 48 → AllByRecursion CanBeAsked (notes_and_end guid target (notes kept rows))
 behind_asked guid target kept rows few = notes_asked guid target rows (notes kept rows) few (notes_below kept rows)
 
-out_is : (volume : Volume) (element position slot : ℕ) → IsOutIn volume element position slot → IsOut volume element position
-out_is volume element position slot out = record {
-  part = out.part;
-  place = out.place;
-  slot = slot;
-  is_target = record { is_part = out.is_part; is_place = out.is_place; is_out = out.is_out; is_there = out.is_there };
-}
-
 -- A change that gives a position a spare adds no array.
 pub has_new : (config : Configuration) (guid : List ℕ) (seats : List Seat) (target : Target) (change : Change) → begun config guid seats ≡ Ok (Fresh target change) → HasNewGuid config.arrays change
 has_new config guid seats target change h = subst (HasNewGuid config.arrays) (sym (is_fresh_at config guid seats target change h).change_is) tt
@@ -149,7 +140,6 @@ module _ (config : Configuration) (seats : List Seat) (guid : List ℕ) (array :
   again_planned view is known unmarked seated target h rows kept rows_is kept_are few plan made =
       let again = is_again config guid seats target h in
       let first = again.first in
-      let out = out_in config guid seats view is target.element target.position first.held first.is_held first.is_out (seated first.held.reference again.here) in
       subst (λ (one : Plan). IsFillingIn config seats entry one.changes one.filling) (sym made)
       (subst (λ (n : ℕ). IsFillingOf config seats entry (notes_and_end guid target (notes kept n))
       (record { begins = false; target = target; from = min kept n; rows = notes kept n ++ n ∷ []; view = view })) (sym rows_is) (record {
@@ -164,7 +154,7 @@ module _ (config : Configuration) (seats : List Seat) (guid : List ℕ) (array :
         rows_are = refl;
         is_view = is;
         known = known;
-        is_out = out_is view target.element target.position (slot_of seats first.held.reference) out;
+        is_out = out_in config guid seats view is target.element target.position first.held first.is_held first.is_out (seated first.held.reference again.here);
         unmarked = unmarked;
       }))
 
@@ -233,7 +223,7 @@ module _ (config : Configuration) (seats : List Seat) (guid : List ℕ) (array :
             rows_are = refl;
             is_view = both.1;
             known = known;
-            is_out = out_is next target.element target.position (slot_of seats fresh.reference) (fresh_there config guid seats target change fresh config.sequence next both.1);
+            is_out = fresh_there config guid seats target change fresh config.sequence next both.1;
             unmarked = fresh_marked config guid seats target change fresh config.sequence next both.1 view is ∙ unmarked;
           }))
         where

@@ -1,6 +1,6 @@
 -- The recovery of a group that was read from disks, by what the call promises that writes it.
-use Rattle.std.proofs.Common.{◌≡◌, ℕ, ◌≤◌, Bool, true, false, List, [], ◌∷◌, ◌++◌, length, map, Option, None, Some, if◌then◌else◌, append-nil, refl, sym, ap, subst, ◌∙◌, inl, inr, ⊎_elim}
-use Rattle.std.specs.Prelude.{option_map, option_to_list, slice_get}
+use Rattle.std.proofs.Common.{◌≡◌, ℕ, ◌≤◌, Bool, true, false, List, [], ◌∷◌, ◌++◌, length, map, Option, None, Some, append-nil, refl, sym, ap, subst, ◌∙◌, inl, inr, ⊎_elim}
+use Rattle.std.specs.Prelude.{option_map, option_to_list}
 use Rattle.ddf_bay.specs.Moments.{Costs, StopsLeave}
 use Rattle.ddf_bay.specs.Sectors.{Image}
 use Rattle.ddf_bay.specs.State.{BayState}
@@ -8,21 +8,18 @@ use Rattle.ddf_bay.proofs.Steps.{costs_start}
 use Rattle.ddf_cells.specs.Touching.{GoesBetween}
 use Rattle.ddf_config.specs.declared.seat.Seat.{Seat}
 use Rattle.ddf_config.specs.Configuration.{Configuration}
-use Rattle.ddf_config.specs.Members.{is_current}
-use Rattle.ddf_rewrite.proofs.Lists.{get_map}
 use Rattle.ddf_update.specs.Changes.{AreChanged, IsLeftChangingAll}
 use Rattle.ddf_update.specs.Group.{IsOneOf, LieOnSlots}
 use Rattle.ddf_update.specs.Prepared.{all_sectors}
 use Rattle.ddf_history.specs.Groups.{groups}
 use Rattle.ddf_history.specs.Issued.{Past}
-use Rattle.ddf_assembly.specs.declared.seated.Seated.{Seated}
 use Rattle.ddf_assembly.specs.Committed.{HaveSlots, MayRecover, group_recovered, recovery_slots, recovery_updates, slots_of, slots_written, synced, updates_written}
 use Rattle.ddf_assembly.specs.Group.{GroupValue}
 use Rattle.ddf_assembly.specs.Reading.{HaveAnchors}
 use Rattle.ddf_assembly.specs.Ready.{ReadyStep, ReadyValue}
-use Rattle.ddf_assembly.specs.Recovery.{config_lost, config_recovered, leading, lost_step, mending_step, recovery_of, some}
-use Rattle.ddf_assembly.specs.Seated.{seated, seats_in}
-use Rattle.ddf_assembly.specs.Steps.{Step, stays_in}
+use Rattle.ddf_assembly.specs.Recovery.{some}
+use Rattle.ddf_assembly.specs.Seated.{seated}
+use Rattle.ddf_assembly.specs.Steps.{Step}
 use Rattle.ddf_assembly.proofs.RecoveredGroup.{is_recovered, recovered_ready, recovery_follows}
 use Rattle.ddf_assembly.proofs.RecoveryWritten.{may_recover, recovered_anchored, recovered_held, recovery_lies, recovery_on_seats}
 use Rattle.ddf_stops.specs.Going.{Goes, IsAdmitted, IsOver, KeepsHistory, changes_in}
@@ -43,10 +40,10 @@ use Rattle.ddf_group_commands.proofs.LeftWriting.{left_still, says_one, step_lea
 use Rattle.ddf_group_commands.proofs.Recovering.{first_lies, slots_there}
 use Rattle.ddf_group_commands.proofs.StepsWritten.{none_asked, recovery_written}
 use Rattle.ddf_write_commands.proofs.Courses.{IsTold}
-use Rattle.ddf_write_commands.proofs.Staying.{seats_stay}
 use Rattle.ddf_rebuild_command.specs.Opened.{CanOpen, GoesOpening, IsOpened}
 use Rattle.ddf_rebuild_command.specs.Standing.{AddsNothing, KeepSeats, Stands, recovery_in}
 use Rattle.ddf_rebuild_command.proofs.Coming.{over_goes}
+use Rattle.ddf_rebuild_command.proofs.SeatsKept.{recovered_seats}
 use Rattle.ddf_rebuild_command.proofs.NextStep.{left_at_end, not_among}
 
 -- ---- the step of a recovery
@@ -106,28 +103,9 @@ module _ {D : Type 0} (tells : Type 0) (old : BayState D) (found : GroupValue) (
   changes_same =
       ap (λ (step : Option Step). changes_in found (option_to_list step)) (sym can.was.is_recovery) ∙ ap (changes_in found) (sym (recovery_is ready.recovery))
 
-  -- ---- the seats stay
-
-  seats_by : (recovery : Option ReadyStep) → option_map (λ (one : ReadyStep). one.step) recovery ≡ recovery_of can.timestamp found → (group_recovered found recovery).seats ≡ found.seats
-  unfolding recovery_of config_recovered
-  seats_by None is = refl
-  seats_by (Some one) is = lost (some found.absent) refl
-    where
-      stay : some found.absent ≡ true → (k : ℕ) (disk : Seated) → slice_get (seated found) k ≡ Some disk → stays_in (config_lost found) disk ≡ true
-      stay absent k disk at =
-          let seat : slice_get found.seats k ≡ Some disk.seat = ap (λ (seats : List Seat). slice_get seats k) (sym can.was.assembled.are_seated) ∙ get_map (λ (one : Seated). one.seat) (seated found) k disk at in
-          subst (λ (b : Bool). is_current (if b then config_lost found else found.config).members disk.seat.reference ≡ true) absent (can.members k disk.seat seat)
-
-      lost : (b : Bool) → some found.absent ≡ b → (if b then seats_in one.step.disks else found.seats) ≡ found.seats
-      lost false e = refl
-      lost true e =
-          let step : one.step ≡ lost_step can.timestamp found =
-          let whole : Some one.step ≡ Some (lost_step can.timestamp found) =
-          is ∙ ap (λ (b : Bool). if b then Some (lost_step can.timestamp found) else if some found.lagging then Some (mending_step can.timestamp found) else None) e in cc in
-          ap (λ (one : Step). seats_in one.disks) step ∙ seats_stay can.timestamp (leading found) (config_lost found) (seated found) (stay e) ∙ can.was.assembled.are_seated
-
+  -- the seats stay
   seats_same : recovered.seats ≡ found.seats
-  seats_same = seats_by ready.recovery can.was.is_recovery
+  seats_same = recovered_seats found can.changes can.timestamp ready can.was can.members
 
   -- ---- what a stop leaves
 

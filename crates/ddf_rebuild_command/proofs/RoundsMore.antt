@@ -31,7 +31,7 @@ use Rattle.ddf_rebuild_command.specs.Standing.{AddsNothing}
 
 module _ (P Q : ℕ → Type 0) (more : (slot : ℕ) → P slot → Q slot) (volume : Volume) (target : Target) where
   sure_less : (image : Image) → IsSure Q volume image → IsSure P volume image
-  sure_less image (inl none) = inl (λ slot failed. none slot (more slot failed))
+  sure_less image (inl none) = inl (λ slot on failed. none slot on (more slot failed))
   sure_less image (inr redundant) = inr redundant
 
   pub filled_more : (from to : ℕ) (before after : Image) → IsFilled P volume target from to before after → IsFilled Q volume target from to before after

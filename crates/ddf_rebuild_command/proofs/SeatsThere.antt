@@ -25,7 +25,7 @@ use Rattle.ddf_group.specs.Shown.{shown_of}
 use Rattle.ddf_group.specs.Slots.{claimed, claims, numbers, slot_at, view_in}
 use Rattle.ddf_rewrite.proofs.AllWanted.{get_filter_map}
 use Rattle.ddf_rewrite.proofs.Lists.{get_map, get_range}
-use Rattle.ddf_assembly.specs.Group.{GroupValue, group_of, seat_at, seat_of}
+use Rattle.ddf_assembly.specs.Group.{GroupValue, copy_at, group_of, seat_at, seat_of}
 use Rattle.ddf_assembly.specs.Recovery.{config_lost, config_recovered, some}
 use Rattle.ddf_assembly.proofs.LeftBefore.{kept_at}
 use Rattle.ddf_stops.proofs.Begun.{IsMadeOf, found_named}
@@ -142,17 +142,23 @@ module _ (newest : List (Option Newest)) (named : Option (List ℕ)) (g : GroupV
   unfolding view_of
   reference_is copy view e = ap (λ (one : View). one.reference) e
 
-  -- So it has a seat.
+  -- A slot that the group claims has a seat, that of its copy.
+  seat_there : (slot : ℕ) (view : View) (copy : DiskCopy) → claims slots own slot ≡ true → view_in (slot_at slots slot) ≡ Some view → copy_at newest slot ≡ Some copy
+      → (place : ℕ) × (slice_get g.seats place ≡ Some (seat_of slot copy))
+  seat_there slot view copy claimed at has =
+      let kept = passes_kept (claims slots own) (numbers slots) slot slot (number_at slot (within slot view at)) claimed in
+      let seat = get_filter_map (seat_at newest) seated_slots kept.0 slot (seat_of slot copy) kept.1 (ap (option_map (seat_of slot)) has) in
+      (seat.0, subst (λ (seats : List Seat). slice_get seats seat.0 ≡ Some (seat_of slot copy)) (sym seats_are) seat.1)
+
+  -- So the member has a seat.
   has_seat : (reference : ℕ) (member : Member) → lookup (nat_eq reference) g.config.members ≡ Some member → member.missing ≡ false → is_among g.absent reference ≡ false
       → is_some (floor_of g.seats reference) ≡ true
   has_seat reference member found here there =
       let slot = any_kept (claims slots own) (has_reference slots reference) (numbers slots) (has_slot reference member found here there) in
       let shown = shows_it reference slot.0 slot.2 in
       let copy = copy_there newest slot.0 shown.0 shown.1 in
-      let number = number_at slot.0 (within slot.0 shown.0 shown.1) in
-      let kept = passes_kept (claims slots own) (numbers slots) slot.0 slot.0 number slot.1 in
-      let seat = get_filter_map (seat_at newest) seated_slots kept.0 slot.0 (seat_of slot.0 copy.0) kept.1 (ap (option_map (seat_of slot.0)) copy.1) in
-      found_there g.seats seat.0 reference (seat_of slot.0 copy.0) (ap (λ (seats : List Seat). slice_get seats seat.0) seats_are ∙ seat.1) (reference_is copy.0 shown.0 copy.2 ∙ shown.2)
+      let seat = seat_there slot.0 shown.0 copy.0 slot.1 shown.1 copy.1 in
+      found_there g.seats seat.0 reference (seat_of slot.0 copy.0) seat.1 (subst (λ (n : ℕ). copy.0.disk_data.reference ≡ n) shown.2 (reference_is copy.0 shown.0 copy.2))
 
   -- Once the group is recovered each current member does.
   by_loss : (lost : Bool) → some g.absent ≡ lost → (reference : ℕ) → is_current (if lost then config_lost g else g.config).members reference ≡ true → is_some (floor_of g.seats reference) ≡ true

@@ -4,6 +4,7 @@ use Rattle.ddf_bay.specs.Sectors.{Image}
 use Rattle.ddf_array.specs.Redundant.{IsRedundant}
 use Rattle.ddf_array.specs.Sound.{AreSectors}
 use Rattle.ddf_array.specs.Volume.{Volume}
+use Rattle.ddf_volume.specs.Reading.{IsOn}
 use Rattle.ddf_cells.specs.Writing.{StaysBut}
 use Rattle.ddf_rebuild.specs.Rebuilding.{HasRebuilt}
 use Rattle.ddf_rebuild.specs.Target.{IsTargetCell}
@@ -28,10 +29,10 @@ row_before from rounds zero = from
 row_before from [] (suc number) = from
 row_before from (round ∷ rounds) (suc number) = row_before round.row rounds number
 
--- What is read of an array is sure: no read failed, so that each block is read from its first source; or the array is redundant, so that each source gives
--- the same.
+-- What is read of an array is sure: no read failed on a slot of its available places, so that each block is read from its first source; or the array is redundant, so that each
+-- source gives the same.
 abbrev pub IsSure : (failed : ℕ → Type 0) → Volume → Image → Type 0
-IsSure failed volume image = ((slot : ℕ) → failed slot → ⊥) ⊎ (AreSectors image × IsRedundant volume image)
+IsSure failed volume image = ((slot : ℕ) → IsOn volume slot → failed slot → ⊥) ⊎ (AreSectors image × IsRedundant volume image)
 
 -- The position's sectors at these rows hold what they should by an image, where what is read of it is sure, and nothing else is another one than in it.
 pub record IsFilled (failed : ℕ → Type 0) (volume : Volume) (target : Target) (from to : ℕ) (before after : Image) : Type 0 where

@@ -82,4 +82,5 @@ module _ {D : Type 0} (tells : Type 0) (old new : BayState D) (found : GroupValu
     pub same_seats : now_found.seats ≡ found.seats
     pub are_written : tells → AreWritten old.sizes old.held (next_in ready.steps) new.held
     pub others_left : tells → AddsNothing old new (slots_of found.seats)
-    pub at_end : tells → (group : List ℕ) (past : Past (groups group)) → StandsReady group past old found ready → new.tells_left → StandsReady group (behind_next group past ready) new now_found now_ready
+    pub at_end : tells → (group : List ℕ) (past : Past (groups group)) → StandsReady group past old found ready → new.tells_left
+        → StandsReady group (behind_next group past ready) new now_found now_ready
