@@ -367,6 +367,30 @@ if command -v script >/dev/null; then
     ends 0 "" "" "(sleep 1; echo y) | script -qec './ddf t.img -- label' /dev/null"
     case $(cat out) in *"ok sequence 1"*) ;; *) fail "answered $(cat out)" ;; esac
     echo "edge: on a terminal it asks before it labels a disk that isn't empty"
+
+    # A command that writes for some seconds tells how far it is.
+    far() {
+        begun=$(date +%s)
+        ends 0 "" "" "script -qec './ddf far0.img far1.img far2.img -- $1' /dev/null"
+        if [ $(($(date +%s) - begun)) -ge 3 ]; then
+            case $(cat out) in *"ddf: "*" %, "*" of "*" MiB, "*" MiB/s"*"ok sequence"*) ;; *) fail "$1 told $(cat out)" ;; esac
+            echo "edge: $1 tells on a terminal how far it is"
+        else
+            echo "edge: $1 took too short a time to tell how far it was"
+        fi
+    }
+    if [ "$(df --output=avail -m . | tail -1)" -gt 8000 ]; then
+        truncate -s 2G far0.img far1.img far2.img
+        ./ddf far0.img far1.img far2.img -- label >/dev/null 2>&1
+        ./ddf far0.img far1.img far2.img -- create far raid1 0 single 0,1@4000000 >/dev/null 2>&1
+        far "resync far"
+        ./ddf far0.img far1.img far2.img -- spare 2 global >/dev/null 2>&1
+        ./ddf far0.img far1.img far2.img -- fail 1 >/dev/null 2>&1
+        far "rebuild far"
+        rm far0.img far1.img far2.img
+    else
+        echo "edge: no room here for a command that takes some seconds"
+    fi
 else
     echo "edge: no script here, so nothing was asked on a terminal"
 fi

@@ -62,7 +62,7 @@ count_map p (x ∷ xs) =
     ∙ sym (sum_by-cons (λ b. if not b then 1 else 0) (p x) (map p xs))
 
 -- a level asks only which positions are available
-enough_map : {X : Type 0} (level : ℕ) (p : X → Bool) (xs : List X) → has_enough level p xs ≡ has_enough level (λ b. b) (map p xs)
+pub enough_map : {X : Type 0} (level : ℕ) (p : X → Bool) (xs : List X) → has_enough level p xs ≡ has_enough level (λ b. b) (map p xs)
 enough_map level p xs =
     ap (λ b. if level == 0x01 then b else (if has_parity level then lacks_one p xs else list_all p xs)) (any_map p xs)
     ∙ ap (λ n. if level == 0x01 then list_any (λ b. b) (map p xs) else (if has_parity level then nat_le n 1 else list_all p xs)) (count_map p xs)

@@ -37,7 +37,7 @@ use Rattle.ddf_answer.specs.declared.failure.Failure.{Failure}
 use Rattle.ddf_group_commands.specs.Change.{steps_asked}
 use Rattle.ddf_group_commands.proofs.Outcomes.{asked_of as readied_of}
 use Rattle.ddf_data_commands.specs.declared.using.Access.{Access}
-use Rattle.ddf_request.specs.Named.{named_array, named_guid, with_array}
+use Rattle.ddf_request.specs.Named.{with_array}
 use Rattle.ddf_request.specs.Usable.{bad_blocks, useless}
 use Rattle.ddf_data_commands.specs.Use.{array_refusals, is_forbidden, is_out_of_range}
 use Rattle.ddf_write_commands.specs.Around.{marking}
@@ -149,9 +149,6 @@ named_in arrays entry None e = absurd cc
 named_in arrays entry (Some guid) e = named_by arrays guid entry (lookup (same_guid guid) arrays) refl e
 
 -- It is the one of its GUID.
-pub named_is : (arrays : List (List ℕ × Array)) (word : List ℕ) (entry : Entry) → named_array arrays word ≡ Some entry → lookup (same_guid entry.0) arrays ≡ Some entry.1
-named_is arrays word entry e = named_in arrays entry (named_guid arrays word) e
-
 none_of_three : (a b c : Option Refusal) → first_refusal (a ∷ b ∷ []) ≡ None → c ≡ None → first_refusal (a ∷ b ∷ c ∷ []) ≡ None
 none_of_three (Some x) b c two one = absurd cc
 none_of_three None (Some x) c two one = absurd cc

@@ -1,12 +1,10 @@
 -- A call on the blocks of an array, its first steps, its work and its last step, keeps the data of its group wherever it stops.
-use Rattle.std.proofs.Common.{◌≡◌, ◌⊎◌, ◌∙◌, inl, inr, ⊎_elim, ℕ, ◌+◌, ◌<◌, ◌^◌, Bool, true, false, List, [], ◌∷◌, ◌++◌, length, Option, Some, None, Ok, refl, ap, sym, subst, arith, if◌then◌else◌}
-use Rattle.std.specs.Prelude.{find, nat_eq, option_map, option_to_list, slice_get}
+use Rattle.std.proofs.Common.{◌≡◌, ◌⊎◌, ◌∙◌, inl, inr, ⊎_elim, ℕ, ◌+◌, ◌<◌, Bool, true, false, List, [], ◌∷◌, ◌++◌, length, Option, Some, None, Ok, refl, ap, sym, subst, arith, if◌then◌else◌}
+use Rattle.std.specs.Prelude.{option_map, option_to_list, slice_get}
 use Rattle.ddf_bay.specs.Sectors.{Image, IsLeft}
 use Rattle.ddf_bay.specs.State.{BayState}
-use Rattle.ddf_config.specs.declared.seat.Seat.{Seat}
 use Rattle.ddf_config.specs.Configuration.{Configuration}
 use Rattle.ddf_config.specs.Members.{same_guid}
-use Rattle.ddf_config.specs.Seats.{floor_of, slot_of}
 use Rattle.ddf_copy.specs.declared.newest_copy.Newest.{Newest}
 use Rattle.ddf_plan.specs.declared.change.Change.{Change}
 use Rattle.ddf_plan.specs.declared.change.Change.TheVariants.{Mark, Unmark}
@@ -25,45 +23,38 @@ use Rattle.ddf_data.specs.Rows.{AreRowsKept, HasNoRows}
 use Rattle.ddf_data.proofs.RowsKept.{no_rows_kept, writable_rows}
 use Rattle.ddf_keeping.specs.Clear.{IsItsCell}
 use Rattle.ddf_keeping.specs.Grouped.{MayChange, Promises}
-use Rattle.ddf_keeping.proofs.Clearly.{below_floor, lies_of, used}
-use Rattle.ddf_rewrite.proofs.Lists.{get_map}
+use Rattle.ddf_keeping.proofs.Clearly.{lies_of}
 use Rattle.ddf_history.specs.Groups.{Disk, groups, has_current}
 use Rattle.ddf_history.specs.Issued.{IsSince, Past, acknowledge, issue}
 use Rattle.ddf_assembly.specs.Committed.{slots_of}
-use Rattle.ddf_assembly.specs.Group.{GroupValue, group_of}
+use Rattle.ddf_assembly.specs.Group.{GroupValue}
 use Rattle.ddf_assembly.specs.Ready.{readied}
 use Rattle.ddf_assembly.specs.Recovery.{config_recovered}
-use Rattle.ddf_assembly.specs.Seated.{seated}
-use Rattle.ddf_assembly.specs.Slots.{newest_from}
 use Rattle.ddf_assembly.specs.Steps.{Step, config_after}
-use Rattle.ddf_stops.specs.Going.{Goes, IsAdmitted, IsOver, begun, changes_in, issue_all}
+use Rattle.ddf_stops.specs.Going.{Goes, IsOver, begun, changes_in, issue_all}
 use Rattle.ddf_stops.specs.Kept.{is_read, is_slot}
-use Rattle.ddf_stops.proofs.Slots.{slot_is}
-use Rattle.ddf_promise.specs.Carried.{IsAllData}
 use Rattle.ddf_promise.specs.Promised.{AreAlone, IsAlone, KeepsData, seats_in}
-use Rattle.ddf_promise.proofs.Steps.{below_floors, by_acknowledge}
+use Rattle.ddf_promise.proofs.Steps.{by_acknowledge}
 use Rattle.ddf_promise.proofs.Viewed.{are_members}
-use Rattle.ddf_carrying.specs.Seats.{AreOnSlots}
 use Rattle.ddf_group_commands.specs.Writing.{IsLeftWriting}
 use Rattle.ddf_group_commands.specs.Written.{AreWritten}
 use Rattle.ddf_write_commands.specs.Holding.{holding}
 use Rattle.ddf_write_commands.specs.Planned.{Entry}
 use Rattle.ddf_data_calls.specs.Calls.{AreMade, MayAsk, left_over}
-use Rattle.ddf_data_calls.specs.Floors.{HaveFloors}
-use Rattle.ddf_data_calls.proofs.Issued.{all_keep, ends_keep}
+use Rattle.ddf_data_calls.proofs.Issued.{all_keep}
 use Rattle.ddf_data_calls.proofs.Seats as seating
 use Rattle.ddf_data_calls.proofs.Seats.{found_at}
-use Rattle.ddf_data_calls.proofs.Steps.{issued_made}
 use Rattle.ddf_block_calls.specs.Promised.{counted, with_allowed}
 use Rattle.ddf_block_calls.proofs.Accepted.{mark_is, mark_of}
 use Rattle.ddf_block_calls.proofs.Amid as amid
 use Rattle.ddf_block_calls.proofs.Carried.{Carrying}
+use Rattle.ddf_block_calls.proofs.First as start
+use Rattle.ddf_block_calls.proofs.First.{IsCalled}
 use Rattle.ddf_block_calls.proofs.OneArray as one
 use Rattle.ddf_block_calls.proofs.OneArray.{weaker_promised}
 use Rattle.ddf_block_calls.proofs.Split as split
 use Rattle.ddf_block_calls.proofs.Standing as standing
 use Rattle.ddf_block_calls.proofs.Standing.{mark_current}
-use Rattle.ddf_block_calls.proofs.Untouched.{floors_first, floors_last, readied_floors, seated_floor, writing_same, written_same}
 
 true_false : (b : Bool) → b ≡ true → b ≡ false → ⊥
 true_false b x y = cc
@@ -84,20 +75,6 @@ promised_back next guid promises allowed is = by (same_guid guid guid) is
 same_acked : (group : List ℕ) (past : Past (groups group)) (changes : List Configuration) → (issue_all group past changes).changes.acked ≡ past.changes.acked
 same_acked group past [] = refl
 same_acked group past (next ∷ others) = same_acked group (issue past next) others
-
--- ---- what a call found
-
-pub record IsCalled {D : Type 0} (group : List ℕ) (old : BayState D) (past : Past (groups group)) (floor : ℕ → ℕ) (promises : Promises) (left : List Bool) (newest : List (Option Newest)) (named : Option (List ℕ)) (found : GroupValue) : Type 0 where
-  pub small : (slot : ℕ) → floor slot < 2 ^ 64
-  pub long : length left ≡ length old.sizes
-  pub read : newest ≡ newest_from old 0 left
-  pub is_found : group_of newest named ≡ Ok found
-  pub own : found.config.group ≡ group
-  pub admitted : IsAdmitted group past old left found
-  pub floors : HaveFloors old floor
-  pub all : IsAllData group past floor old promises
-  pub told : IsLeft old.may_hold old.held
-  pub whole : AreSectors old.held
 
 -- its steps, and the array between them
 pub record IsSplit (found : GroupValue) (timestamp : ℕ) (entry : Entry) (asked : List Change) (ask : Option Change) (first last : List Step) (v : Volume) : Type 0 where
@@ -134,57 +111,17 @@ module _ {D : Type 0} (group : List ℕ) (old : BayState D) (past : Past (groups
 
   -- ---- the array's sectors
 
-  on_slots : AreOnSlots group past floor found.seats
-  on_slots =
-      seating.seats_on_slots group old left newest called.long called.read past called.admitted.same_slots called.admitted.is_kept called.admitted.may_read called.admitted.member named found called.is_found
-      called.own floor called.floors
-
-  abbrev pub here : ℕ → Bool
-  here slot = is_slot (slots_of found.seats) slot
-
   -- Each is on the slot of a seat, below its floor.
   pub cells_on : (s l : ℕ) → IsItsCell v s l → (is_slot (slots_of found.seats) s ≡ true) × (l < floor s)
-  cells_on s l its =
-      let use_of = used between entry.0 found.seats v is.is_view is.known in
-      let below = below_floor found.seats use_of.array v use_of.over its.element its.position its.sector s l its.lies in
-      by below.0 below.1 below.2 below.3 below.4
-    where
-      at : (reference f : ℕ) (seat : Seat) → find (λ (one : Seat). nat_eq one.reference reference) found.seats ≡ Some seat → seat.floor ≡ f → seat.slot ≡ s → l < f
-          → (is_slot (slots_of found.seats) s ≡ true) × (l < floor s)
-      at reference f seat found_seat floor_is slot_same low =
-          let there = found_at found.seats reference seat found_seat in
-          let on = on_slots.same_floor there.place seat there.is_at in (
-            slot_is (slots_of found.seats) there.place s (get_map (λ (one : Seat). one.slot) found.seats there.place seat there.is_at ∙ ap Some slot_same),
-            let same : floor s ≡ f = ap floor (sym slot_same) ∙ sym on ∙ floor_is in omega (arith, low, same),
-          )
-
-      by : (reference f : ℕ) → floor_of found.seats reference ≡ Some f → slot_of found.seats reference ≡ s → l < f → (is_slot (slots_of found.seats) s ≡ true) × (l < floor s)
-      by reference f floor_is slot_same low = by_found (find (λ (one : Seat). nat_eq one.reference reference) found.seats) refl floor_is slot_same
-        where
-          by_found : (o : Option Seat) → find (λ (one : Seat). nat_eq one.reference reference) found.seats ≡ o
-              → option_map (λ (one : Seat). one.floor) o ≡ Some f → ◌≡◌ {A = ℕ} (elim o [ None ↦ 64 | Some one ↦ one.slot ]) s → (is_slot (slots_of found.seats) s ≡ true) × (l < floor s)
-          by_found None e floor_is slot_same = absurd cc
-          by_found (Some seat) e floor_is slot_same = at reference f seat e (let same : seat.floor ≡ f = cc in same) slot_same low
+  cells_on s l its = start.cells_on group old past floor promises left newest named found called between entry.0 v is.is_view is.known s l its
 
   -- ---- nothing is written below the floors but blocks
 
   floored_first : (s l : ℕ) (before : Image) → AreWritten old.sizes old.held first before → l < floor s → before s l ≡ old.held s l
-  floored_first s l before written low =
-      written_same old floor (seated found)
-      (seated_floor group old past floor left newest named found called.long called.read called.is_found called.own called.admitted called.floors)
-      first (floors_first (seated found) first last (readied_floors found timestamp (option_to_list (mark_of entry) ++ asked) (first ++ last) is.are_all)) old.held before written s l low
-
-  first_same : (image : Image) (writing : IsLeftWriting old first image) (s l : ℕ) → l < floor s → image s l ≡ writing.before s l
-  first_same image writing s l low =
-      writing_same old floor (seated found)
-      (seated_floor group old past floor left newest named found called.long called.read called.is_found called.own called.admitted called.floors)
-      first (floors_first (seated found) first last (readied_floors found timestamp (option_to_list (mark_of entry) ++ asked) (first ++ last) is.are_all)) writing.before image writing.outside s l low
+  floored_first = start.floored_first group old past floor promises left newest named found called timestamp (mark_of entry) asked first last is.are_first is.are_all
 
   last_same : (behind image : Image) (writing : IsLeftWriting (holding old (slots_of found.seats) behind) last image) (s l : ℕ) → l < floor s → image s l ≡ writing.before s l
-  last_same behind image writing s l low =
-      writing_same old floor (seated found)
-      (seated_floor group old past floor left newest named found called.long called.read called.is_found called.own called.admitted called.floors)
-      last (floors_last (seated found) first last (readied_floors found timestamp (option_to_list (mark_of entry) ++ asked) (first ++ last) is.are_all)) writing.before image writing.outside s l low
+  last_same = start.last_same group old past floor promises left newest named found called timestamp (mark_of entry) asked first last is.are_first is.are_all
 
   -- What the disks held is the same of the array once the first steps are written.
   pub before_alike : (before : Image) → AreWritten old.sizes old.held first before → AreAlike v before old.held
@@ -202,16 +139,12 @@ module _ {D : Type 0} (group : List ℕ) (old : BayState D) (past : Past (groups
       by false = tt
 
   made_first : (image : Image) → AreMade (seats_in group (left_over group past (is_read left) found) floor) image promises found.config (changes_in found first)
-  made_first image = issued_made found (mark_of entry) timestamp first is.are_first (seats_in group (left_over group past (is_read left) found) floor) image promises (may_mark image)
+  made_first = start.made_first group old past floor promises left newest named found called timestamp (mark_of entry) asked first last is.are_first is.are_all may_mark
 
   -- While they are written the data are kept, however far the changes have come.
   pub opening_keeps : (image : Image) → AreSectors image → IsLeftWriting old first image → (now : Past (groups group)) → Goes group past (is_read left) found (changes_in found first) now
       → KeepsData group now floor image promises
-  opening_keeps image are writing now goes =
-      below_floors group floor called.small now writing.before promises
-      (ends_keep group floor called.small writing.before promises past called.admitted.is_kept.alone (called.all writing.before writing.is_left) (is_read left) found (changes_in found first)
-      (made_first writing.before) false now goes)
-      image are (λ s l low. first_same image writing s l low)
+  opening_keeps = start.opening_keeps group old past floor promises left newest named found called timestamp (mark_of entry) asked first last is.are_first is.are_all may_mark
 
   -- ---- once they are acknowledged
 

@@ -117,7 +117,7 @@ recovered_few found few = by (some found.absent)
 
 module _ (group : List ℕ) {D : Type 0} (old : BayState D) (past : Past (groups group)) (floor : ℕ → ℕ) (small : (slot : ℕ) → floor slot < 2 ^ 64) (left : List Bool) (newest : List (Option Newest)) (named : Option (List ℕ)) (found : GroupValue)
     (long : length left ≡ length old.sizes) (read : newest ≡ newest_from old 0 left) (is_found : group_of newest named ≡ Ok found) (own : found.config.group ≡ group)
-    (admitted : IsAdmitted group past old left found) (floors : HaveFloors old floor) where
+    (admitted : IsAdmitted group past old left found) (floors : HaveFloors group past old floor) where
   pub found_few : ArraysFew found.config
   found_few =
       let assembled = assembled_kept group old left newest long read past admitted.same_slots admitted.is_kept admitted.may_read admitted.member named found is_found own in

@@ -1,5 +1,6 @@
 -- An array of the one configuration that a group has: what becomes of its blocks keeps the data of the group.
-use Rattle.std.proofs.Common.{◌≡◌, ◌∙◌, inl, ℕ, ◌<◌, ◌^◌, Bool, true, false, List, Option, Some, None, Ok, refl, sym, ap, subst}
+use Rattle.std.proofs.Common.{◌≡◌, ◌∙◌, inl, ℕ, ◌<◌, ◌^◌, Bool, true, false, ◌&&◌, nat_eq, List, [], ◌∷◌, Option, Some, None, Ok, refl, sym, ap, subst}
+use Rattle.std.proofs.lemmas.Bool.{eq-eqb}
 use Rattle.std.specs.Prelude.{option_map, if◌then◌else◌}
 use Rattle.std.specs.Map.{lookup}
 use Rattle.ddf_bay.specs.Sectors.{Image}
@@ -25,6 +26,7 @@ use Rattle.ddf_data.specs.Changing.{IsWritable, with_mark}
 use Rattle.ddf_data.specs.Kept.{IsKeptData}
 use Rattle.ddf_data.specs.Rows.{AreRowsKept}
 use Rattle.ddf_data.proofs.Consistent.{kept_consistent, whole_consistent}
+use Rattle.ddf_data.proofs.Same.{kept_same}
 use Rattle.ddf_data.proofs.Written.{kept_any}
 use Rattle.ddf_keeping.specs.Clear.{ChangesItsCells}
 use Rattle.ddf_keeping.specs.Clearing.{MayBeCleared}
@@ -52,6 +54,20 @@ over_one seats array v w one other =
     ap (λ (b : Bool). volume b v.tiers v.parts) (one.marked_is ∙ sym other.marked_is)
     ∙ ap (λ (t : Arrangement). volume w.marked t v.parts) (one_of (array_tiers array) v.tiers w.tiers one.tiers_are other.tiers_are)
     ∙ ap (λ (l : List Part). volume w.marked w.tiers l) (one.parts_are ∙ sym other.parts_are)
+
+-- ---- GUIDs
+
+true_false : (b : Bool) → b ≡ true → b ≡ false → ⊥
+true_false b x y = cc
+
+and_both : (a b : Bool) → a ≡ true → b ≡ true → (a && b) ≡ true
+and_both true b e f = f
+and_both false b e f = absurd cc
+
+-- one is the same as itself
+same_self : (xs : List ℕ) → same_guid xs xs ≡ true
+same_self [] = refl
+same_self (x ∷ xs) = and_both (nat_eq x x) (same_guid xs xs) (eq-eqb x x refl) (same_self xs)
 
 -- ---- promises that say less
 
@@ -136,6 +152,25 @@ module _ (group : List ℕ) (floor : ℕ → ℕ) (small : (slot : ℕ) → floo
         by None e =
             fewer_kept group past floor image (with_promise promises guid (Some any_bytes)) (with_promise promises guid None) (λ other allowed is. less_by (same_guid guid other) other allowed is)
             (gets any_bytes (kept_any absent v image are writable))
+
+    -- or keeps what is promised of it.
+    pub stays : ((allowed : Allowed) → promises guid ≡ Some allowed → IsKeptData absent v image allowed) → KeepsData group past floor image promises
+    stays is number other_config since other allowed array promised found =
+        by (alone number other_config since) (same_guid guid other) refl
+      where
+        kept_at : (b : Bool) → same_guid guid other ≡ b → IsSince past.changes number config → lookup (same_guid other) config.arrays ≡ Some array
+            → KeepsArray config.members (seats_in group past floor config) array image allowed
+        kept_at true same here there =
+            let one = guid_is guid other same in
+            own allowed (is allowed (ap promises one ∙ promised)) array (ap (λ (g : List ℕ). lookup (same_guid g) config.arrays) one ∙ there) number here
+        kept_at false differs here there = λ w over.
+            kept_same (absent_in config.members (seats_in group past floor config) array.elements) w before image allowed over.is_volume are
+            (others other array w (λ same. true_false (same_guid guid other) (ap (same_guid guid) same ∙ same_self guid) differs) there over) (kept number config here other allowed array promised there w over)
+
+        by : other_config ≡ config → (b : Bool) → same_guid guid other ≡ b → KeepsArray other_config.members (seats_in group past floor other_config) array image allowed
+        by same b e =
+            subst (λ (c : Configuration). KeepsArray c.members (seats_in group past floor c) array image allowed) (sym same)
+            (kept_at b e (subst (IsSince past.changes number) same since) (subst (λ (c : Configuration). lookup (same_guid other) c.arrays ≡ Some array) same found))
 
   -- Where it is redundant it may be unmarked, with rows that hold what they should where any count as rebuilt,
   pub may_unmark : (image : Image) (promises : Promises) → ((is_absent : ℕ → ℕ → Bool) → AreRowsKept is_absent (with_mark false v) image) → KeepsData group past floor image promises → (number : ℕ) → IsSince past.changes number config → is_within v ≡ true → is_degraded v ≡ false

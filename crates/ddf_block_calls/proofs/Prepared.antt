@@ -38,13 +38,15 @@ use Rattle.ddf_write_commands.proofs.Marked.{redundant_same, with_mark}
 use Rattle.ddf_data_calls.specs.Calls.{AreMade, left_over}
 use Rattle.ddf_data_calls.proofs.Few.{ArraysFew}
 use Rattle.ddf_data_calls.proofs.Seats as seating
-use Rattle.ddf_block_calls.proofs.Accepted.{HasView, accepted_plan, between_view, mark_is, mark_of, marking_is, named_is, plain_view, readied_view}
-use Rattle.ddf_block_calls.proofs.Both.{IsCalled, IsSplit}
+use Rattle.ddf_block_calls.proofs.Accepted.{HasView, accepted_plan, between_view, mark_is, mark_of, marking_is, plain_view, readied_view}
+use Rattle.ddf_block_calls.proofs.Both.{IsSplit}
+use Rattle.ddf_block_calls.proofs.First.{IsCalled}
 use Rattle.ddf_block_calls.proofs.Known.{found_few, known, marked_few, recovered_few}
 use Rattle.ddf_block_calls.proofs.OneArray as one
 use Rattle.ddf_block_calls.proofs.Split as split
 use Rattle.ddf_block_calls.proofs.Standing as standing
 use Rattle.ddf_block_calls.proofs.WriteSound.{before_redundant}
+use Rattle.ddf_data_commands.proofs.ArrayUse.{named_is}
 
 module _ {D : Type 0} (group : List ℕ) (old : BayState D) (past : Past (groups group)) (floor : ℕ → ℕ) (promises : Promises) (left : List Bool) (newest : List (Option Newest)) (named : Option (List ℕ)) (found : GroupValue)
     (called : IsCalled group old past floor promises left newest named found) where

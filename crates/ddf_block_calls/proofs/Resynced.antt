@@ -2,7 +2,7 @@
 use Rattle.std.proofs.Common.{◌≡◌, ◌∙◌, ℕ, ◌<◌, ◌^◌, Bool, true, false, List, [], ◌∷◌, ◌++◌, length, Option, Some, None, Result, Ok, refl, ap, sym, subst, if◌then◌else◌}
 use Rattle.std.proofs.Math.Path.{fun_ext}
 use Rattle.std.proofs.lemmas.Option.{slice_get_within}
-use Rattle.std.specs.Prelude.{option_map}
+use Rattle.std.specs.Prelude.{option_map, option_to_list}
 use Rattle.ddf_bay.specs.Sectors.{Image, IsLeft}
 use Rattle.ddf_bay.specs.State.{BayState}
 use Rattle.ddf_config.specs.declared.seat.Seat.{Seat}
@@ -40,14 +40,20 @@ use Rattle.ddf_write_commands.specs.Worked.{IsWorkedIn}
 use Rattle.ddf_data_calls.specs.Calls.{AdmitsCall, AreBoth, KeepsBoth}
 use Rattle.ddf_write_commands.specs.Along.{ComesAlong, Stage}
 use Rattle.ddf_block_calls.specs.Promised.{counted, with_allowed}
-use Rattle.ddf_block_calls.proofs.Accepted.{HasView, accepted_plan, has_view, named_is, two_pass}
+use Rattle.ddf_block_calls.proofs.Accepted.{HasView, accepted_plan, has_view, mark_of, two_pass}
 use Rattle.ddf_block_calls.proofs.Both as both
-use Rattle.ddf_block_calls.proofs.Both.{IsCalled, IsSplit}
+use Rattle.ddf_block_calls.proofs.Both.{IsSplit}
+use Rattle.ddf_block_calls.proofs.First.{IsCalled}
 use Rattle.ddf_block_calls.proofs.ByWrite.{by_resync}
 use Rattle.ddf_block_calls.proofs.OneArray.{fewer_kept}
 use Rattle.ddf_block_calls.proofs.Prepared as prepared
 use Rattle.ddf_block_calls.proofs.Staged as staged
 use Rattle.ddf_block_calls.proofs.Staged.{IsCarried}
+use Rattle.ddf_data_commands.proofs.ArrayUse.{named_is}
+use Rattle.ddf_bay.specs.Moments.{StopsLeave}
+use Rattle.ddf_assembly.specs.Ready.{readied}
+use Rattle.ddf_data_calls.specs.Floors.{AllHaveFloors, HaveFloorsIn}
+use Rattle.ddf_block_calls.proofs.Floored.{floors_along}
 
 -- ---- promises that stay
 
@@ -130,6 +136,16 @@ module _ {D : Type 0} (tells : Type 0) (told : tells) (old new : BayState D) (gr
           fewer_kept group now floor image (with_allowed by_resync.next plan.entry.0 promises) promises (same_allowed plan.entry.0 promises)
           (staged.stage_keeps tells old new group past floor promises resynced.taken.left resynced.taken.newest named found called timestamp word (resync_request word) plan (resync_behind plan.entry)
           (Some (Unmark plan.entry.0 wholly)) is_split resyncing by_resync carried image are stage now come left_at)
+
+  -- The disks of members keep their floors.
+  pub floors_kept : AllHaveFloors group past old floor → ComesAlong group resyncing (work_of tells old new) past resynced.taken.left found plan (is_done outcome)
+      → StopsLeave old new (λ image. HaveFloorsIn group past old.sizes image floor)
+  floors_kept floored along =
+      floors_along tells old new group past floor promises resynced.taken.left resynced.taken.newest named found called floored timestamp word (resync_request word) plan (resync_behind plan.entry)
+      (Some (Unmark plan.entry.0 wholly)) is_split resyncing by_resync carried (is_done outcome) along
+
+  pub are_readied : readied found (option_to_list (mark_of plan.entry) ++ resync_behind plan.entry) timestamp ≡ Ok (plan.first ++ plan.last)
+  are_readied = (is_split).are_all
 
   -- ---- once it was done
 

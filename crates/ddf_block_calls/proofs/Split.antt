@@ -163,6 +163,11 @@ module _ (found : GroupValue) (timestamp : ℕ) (mark : Option Change) (asked : 
   pub between : Configuration
   between = (split).config
 
+  -- from which the last steps go on,
+  pub steps_last : steps_from timestamp None asked between (split).disks ≡ Ok last
+  unfolding between
+  steps_last = (split).from
+
   -- is the recovered one, or what a change of that is
   pub between_config : (between ≡ config_recovered found) ⊎ ((change : Change) × (mark ≡ Some change) × (between ≡ config_after (config_recovered found) change))
   unfolding between

@@ -33,7 +33,8 @@ use Rattle.ddf_write_commands.specs.Along.{ComesAlong, EndsAlong, HasCome, IsLef
 use Rattle.ddf_write_commands.specs.Along.Stage.{Closing, Done, Opening, Working}
 use Rattle.ddf_block_calls.specs.Promised.{counted, with_allowed}
 use Rattle.ddf_block_calls.proofs.Both as both
-use Rattle.ddf_block_calls.proofs.Both.{IsCalled, IsSplit, promised_back}
+use Rattle.ddf_block_calls.proofs.Both.{IsSplit, promised_back}
+use Rattle.ddf_block_calls.proofs.First.{IsCalled}
 use Rattle.ddf_block_calls.proofs.Accepted.{mark_of}
 use Rattle.ddf_block_calls.proofs.Carried.{Carrying}
 use Rattle.ddf_block_calls.proofs.Gone.{acked_goes, acked_over, goes_more, issued_goes, over_goes, steps_lose}

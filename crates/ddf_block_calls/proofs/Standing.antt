@@ -5,9 +5,11 @@ use Rattle.std.specs.Prelude.{slice_get}
 use Rattle.std.specs.List.{range_with_len}
 use Rattle.ddf_bay.specs.Sectors.{Image, IsLeft}
 use Rattle.ddf_bay.specs.State.{BayState}
+use Rattle.ddf_config.specs.declared.member.Member.{Member}
 use Rattle.ddf_config.specs.declared.seat.Seat.{Seat}
 use Rattle.ddf_config.specs.Configuration.{Configuration}
 use Rattle.ddf_copy.specs.declared.newest_copy.Newest.{Newest}
+use Rattle.ddf_plan.specs.declared.change.Change.{Change}
 use Rattle.ddf_plan.specs.declared.change.Change.TheVariants.{Lose, Mark}
 use Rattle.ddf_plan.specs.Changes.{changed_at}
 use Rattle.ddf_plan.specs.Members.{member_after}
@@ -44,13 +46,18 @@ same_bool true false to back = sym (to refl)
 same_bool false true to back = back refl
 same_bool false false to back = refl
 
--- a mark makes no member current, nor loses one
+-- a change that loses no member makes none current either
+pub kept_current : (group : List ℕ) (config : Configuration) (change : Change) → ((reference : ℕ) (member : Member) → (member_after config change reference member).missing ≡ member.missing) → (sequence : ℕ) (disk : Disk)
+    → has_current (changed_at config change sequence) disk ≡ has_current config disk
+kept_current group config change same sequence disk =
+    same_bool (has_current (changed_at config change sequence) disk) (has_current config disk)
+    (λ is. let follow = changes_follow group config change (config.sequence + 1) (omega arith) in follow.no_more disk is)
+    (λ was. stays_current config change sequence disk was
+    (current_same (member_after config change) same config.members disk.reference ∙ is_current_by config disk was))
+
+-- so does a mark
 pub mark_current : (group : List ℕ) (config : Configuration) (guid : List ℕ) (sequence : ℕ) (disk : Disk) → has_current (changed_at config (Mark guid) sequence) disk ≡ has_current config disk
-mark_current group config guid sequence disk =
-    same_bool (has_current (changed_at config (Mark guid) sequence) disk) (has_current config disk)
-    (λ is. let follow = changes_follow group config (Mark guid) (config.sequence + 1) (omega arith) in follow.no_more disk is)
-    (λ was. stays_current config (Mark guid) sequence disk was
-    (current_same (member_after config (Mark guid)) (λ reference member. refl) config.members disk.reference ∙ is_current_by config disk was))
+mark_current group config guid sequence disk = kept_current group config (Mark guid) (λ reference member. refl) sequence disk
 
 -- a member that is current once absent ones are lost was so before
 pub recovered_was : (group : List ℕ) (found : GroupValue) (disk : Disk) → has_current (config_recovered found) disk ≡ true → has_current found.config disk ≡ true
@@ -112,7 +119,7 @@ seats_same group floor one other same config last current =
 
 module _ (group : List ℕ) {D : Type 0} (old : BayState D) (past : Past (groups group)) (floor : ℕ → ℕ) (small : (slot : ℕ) → floor slot < 2 ^ 64) (left : List Bool) (newest : List (Option Newest)) (named : Option (List ℕ)) (found : GroupValue)
     (long : length left ≡ length old.sizes) (read : newest ≡ newest_from old 0 left) (is_found : group_of newest named ≡ Ok found) (own : found.config.group ≡ group)
-    (admitted : IsAdmitted group past old left found) (floors : HaveFloors old floor)
+    (admitted : IsAdmitted group past old left found) (floors : HaveFloors group past old floor)
     (changes : List Configuration) (config : Configuration) (last : slice_get (found.config ∷ changes) (length changes) ≡ Some config)
     (current : (disk : Disk) → has_current config disk ≡ has_current (config_recovered found) disk)
     (now : Past (groups group)) (over : IsOver group past (is_read left) found changes now) where

@@ -36,14 +36,20 @@ use Rattle.ddf_data_calls.specs.Calls.{AdmitsCall, KeepsBoth}
 use Rattle.ddf_write_commands.specs.Along.{ComesAlong, EndsAlong, Stage}
 use Rattle.ddf_write_commands.specs.Along.Stage.{Closing, Done, Opening, Working}
 use Rattle.ddf_block_calls.specs.Promised.{IsWrittenOf, MayBeWritten, interrupted, written}
-use Rattle.ddf_block_calls.proofs.Accepted.{HasView, accepted_plan, has_view, named_is, three_pass}
+use Rattle.ddf_block_calls.proofs.Accepted.{HasView, accepted_plan, has_view, mark_of, three_pass}
 use Rattle.ddf_block_calls.proofs.Both as both
-use Rattle.ddf_block_calls.proofs.Both.{IsCalled, IsSplit}
+use Rattle.ddf_block_calls.proofs.Both.{IsSplit}
+use Rattle.ddf_block_calls.proofs.First.{IsCalled}
 use Rattle.ddf_block_calls.proofs.ByWrite.{by_write}
 use Rattle.ddf_block_calls.proofs.Prepared as prepared
 use Rattle.ddf_block_calls.proofs.Staged as staged
 use Rattle.ddf_block_calls.proofs.Staged.{IsCarried}
 use Rattle.ddf_block_calls.proofs.WriteSound.{behind_redundant}
+use Rattle.ddf_data_commands.proofs.ArrayUse.{named_is}
+use Rattle.ddf_bay.specs.Moments.{StopsLeave}
+use Rattle.ddf_assembly.specs.Ready.{readied}
+use Rattle.ddf_data_calls.specs.Floors.{AllHaveFloors, HaveFloorsIn}
+use Rattle.ddf_block_calls.proofs.Floored.{floors_along}
 
 -- ---- calls that only read
 
@@ -148,6 +154,16 @@ module _ {D : Type 0} (tells : Type 0) (told : tells) (old new : BayState D) (gr
         left done;
     holds = λ before behind done. record { cells = done.cells; parity = λ none. absurd none };
   }
+
+  -- The disks of members keep their floors.
+  pub floors_kept : AllHaveFloors group past old floor → ComesAlong group (writing start sectors) (work_of tells old new) past wrote.taken.left found plan (is_done worked)
+      → StopsLeave old new (λ image. HaveFloorsIn group past old.sizes image floor)
+  floors_kept floored along =
+      floors_along tells old new group past floor promises wrote.taken.left wrote.taken.newest named found called floored timestamp word (write_request word start count) plan (write_behind plan.entry)
+      (ask_of plan.entry) is_split (writing start sectors) (by_write start sectors) carried (is_done worked) along
+
+  pub are_readied : readied found (option_to_list (mark_of plan.entry) ++ write_behind plan.entry) timestamp ≡ Ok (plan.first ++ plan.last)
+  are_readied = (is_split).are_all
 
   -- on the way
   amid : (image : Image) → AreSectors image → (stage : Stage) (now : Past (groups group)) → staged.Come tells old new group past floor promises wrote.taken.left wrote.taken.newest named found called timestamp word

@@ -1,13 +1,12 @@
 -- The steps of a group write nothing below the floors of the slots.
-use Rattle.std.proofs.Common.{◌≡◌, ◌≢◌, ◌⊎◌, ◌∙◌, inl, inr, ⊎_elim, ℕ, zero, suc, ◌+◌, ◌<◌, ◌≤◌, Bool, true, false, List, [], ◌∷◌, ◌++◌, length, map, Option, Some, None, Result, Ok, Err, refl, ap, sym, subst, arith, if◌then◌else◌}
+use Rattle.std.proofs.Common.{◌≡◌, ◌≢◌, ◌⊎◌, ◌∙◌, inl, inr, ⊎_elim, ℕ, zero, suc, ◌<◌, ◌≤◌, Bool, true, false, List, [], ◌∷◌, ◌++◌, length, map, Option, Some, None, Result, Ok, Err, refl, ap, sym, subst, arith, if◌then◌else◌}
 use Rattle.std.proofs.lemmas.Bool.{cases_eq}
 use Rattle.std.specs.Prelude.{option_to_list, slice_get, slice_index}
 use Rattle.ddf_bay.specs.Sectors.{Image}
-use Rattle.ddf_bay.specs.State.{BayState, on_slot, size_of}
+use Rattle.ddf_bay.specs.State.{BayState, size_of}
 use Rattle.ddf_config.specs.declared.refusal.Refusal.{Refusal}
 use Rattle.ddf_config.specs.Configuration.{Configuration}
 use Rattle.ddf_copy.specs.declared.newest_copy.Newest.{Newest}
-use Rattle.ddf_copy.specs.Copies.{newest_at}
 use Rattle.ddf_plan.specs.declared.change.Change.{Change}
 use Rattle.ddf_plan.specs.Same.{is_step}
 use Rattle.ddf_update.specs.declared.prepared.Prepared.{Prepared}
@@ -17,7 +16,7 @@ use Rattle.ddf_rewrite.specs.Before.{before}
 use Rattle.ddf_history.specs.Groups.{groups}
 use Rattle.ddf_history.specs.Issued.{Past}
 use Rattle.ddf_assembly.specs.declared.seated.Seated.{Seated}
-use Rattle.ddf_assembly.specs.Group.{GroupValue, copy_at, floor_of, group_of}
+use Rattle.ddf_assembly.specs.Group.{GroupValue, floor_of, group_of}
 use Rattle.ddf_assembly.specs.Ready.{readied, steps_from, with_step}
 use Rattle.ddf_assembly.specs.Recovery.{config_recovered, disks_recovered, recovery_of}
 use Rattle.ddf_assembly.specs.Refusing.{step_refusal}
@@ -26,12 +25,11 @@ use Rattle.ddf_assembly.specs.Slots.{newest_from}
 use Rattle.ddf_assembly.specs.Steps.{Step, config_after, levelled, step_of}
 use Rattle.ddf_assembly.proofs.ReadiedSteps.{are_tried, behind, steps_are}
 use Rattle.ddf_stops.specs.Going.{IsAdmitted}
-use Rattle.ddf_stops.proofs.Claimed as claims
 use Rattle.ddf_carrying.proofs.Records.{written_past}
-use Rattle.ddf_group_commands.specs.Writing.{IsStepsSector}
+use Rattle.ddf_group_commands.specs.Writing.{IsStepsSector, IsWrittenOn}
 use Rattle.ddf_group_commands.specs.Written.{AreWritten, IsWritten}
 use Rattle.ddf_data_calls.specs.Floors.{HaveFloors}
-use Rattle.ddf_data_calls.proofs.Seats.{newest_there, standing}
+use Rattle.ddf_data_calls.proofs.Seats.{IsFloored, seated_floor as floor_of_seat}
 use Rattle.ddf_data_calls.proofs.Steps.{HaveFloorsOf, after_floors, mapped, recovered_floors, recovery_floors}
 
 -- ---- the floors of the disks that steps write
@@ -105,7 +103,7 @@ floors_last seats (one ∷ first) last all = floors_last seats first last (λ k 
 -- ---- what is written
 
 -- a disk of a step on a slot, or none
-on_step : (disks : List Seated) (slot : ℕ) → ((place : ℕ) × (disk : Seated) × (slice_get disks place ≡ Some disk) × (disk.seat.slot ≡ slot))
+pub on_step : (disks : List Seated) (slot : ℕ) → ((place : ℕ) × (disk : Seated) × (slice_get disks place ≡ Some disk) × (disk.seat.slot ≡ slot))
     ⊎ ((place : ℕ) (disk : Seated) → slice_get disks place ≡ Some disk → disk.seat.slot ≢ slot)
 on_step [] slot = inr (λ place disk at. absurd cc)
 on_step (first ∷ disks) slot = by (cases_eq first.seat.slot slot) (on_step disks slot)
@@ -122,11 +120,6 @@ on_step (first ∷ disks) slot = by (cases_eq first.seat.slot slot) (on_step dis
         beside zero disk at same = let one : first ≡ disk = cc in differs (ap (λ (d : Seated). d.seat.slot) one ∙ same)
         beside (suc place) disk at same = none place disk at same
 
--- each disk of the group has the floor of its slot, and it lies on the disk
-pub record IsFloored (size : ℕ) (floor : ℕ → ℕ) (disk : Seated) : Type 0 where
-  pub same : floor_of disk.copy ≡ floor disk.seat.slot
-  pub within : floor disk.seat.slot < size
-
 module _ {D : Type 0} (old : BayState D) (floor : ℕ → ℕ) (seats : List Seated) (seat_floor : (place : ℕ) (disk : Seated) → slice_get seats place ≡ Some disk → IsFloored (size_of old disk.seat.slot) floor disk) where
   disk_low : (disks : List Seated) → HaveFloorsOf seats disks → (place : ℕ) (disk : Seated) → slice_get disks place ≡ Some disk → (slot : ℕ) → disk.seat.slot ≡ slot → (update : Prepared) (l : ℕ)
       → IsPrepared disk.copy disk.last disk.mode update → IsUpdateSector (size_of old slot) update l → floor slot ≤ l
@@ -138,6 +131,13 @@ module _ {D : Type 0} (old : BayState D) (floor : ℕ → ℕ) (seats : List Sea
       let within : floor slot < size_of old slot = subst (λ (s : ℕ). floor s < size_of old s) slot_is was.within in
       ⊎_elim (λ past. omega (arith, past, same)) (λ anchor. let last = anchor.1 in omega (arith, last, within))
       (written_past disk.copy disk.last disk.mode update (size_of old slot) l prepared written)
+
+  -- the copy that a disk of a step gets has the floor of its slot
+  pub on_floor : (steps : List Step) → AllFloored seats steps → (slot : ℕ) (on : IsWrittenOn steps slot) → floor_of on.disk.copy ≡ floor slot
+  on_floor steps floors slot on =
+      let from = floors on.number on.step on.is_step on.place on.disk on.is_disk in
+      let was = seat_floor from.place from.before from.is_there in
+      from.same_floor ∙ was.same ∙ ap floor (from.same_slot ∙ on.on_slot)
 
   -- While steps are written nothing changes below the floors,
   pub writing_same : (steps : List Step) → AllFloored seats steps → (before image : Image) → ((slot l : ℕ) → (image slot l ≡ before slot l) ⊎ IsStepsSector (size_of old slot) steps slot l)
@@ -169,18 +169,6 @@ module _ {D : Type 0} (old : BayState D) (floor : ℕ → ℕ) (seats : List Sea
 
 module _ (group : List ℕ) {D : Type 0} (old : BayState D) (past : Past (groups group)) (floor : ℕ → ℕ) (left : List Bool) (newest : List (Option Newest)) (named : Option (List ℕ)) (found : GroupValue)
     (long : length left ≡ length old.sizes) (read : newest ≡ newest_from old 0 left) (is_found : group_of newest named ≡ Ok found) (own : found.config.group ≡ group)
-    (admitted : IsAdmitted group past old left found) (floors : HaveFloors old floor) where
-  seated_newest : (place : ℕ) (disk : Seated) → slice_get (seated found) place ≡ Some disk → copy_at newest disk.seat.slot ≡ Some disk.copy
-  seated_newest place disk there =
-      ap (λ (all : List (Option Newest)). copy_at all disk.seat.slot)
-      (sym (claims.newest_is group old left newest long read past admitted.same_slots admitted.is_kept admitted.may_read admitted.member named found is_found own))
-      ∙ claims.disk_copy group old left newest long read past admitted.same_slots admitted.is_kept admitted.may_read admitted.member named found is_found own place disk there
-
+    (admitted : IsAdmitted group past old left found) (floors : HaveFloors group past old floor) where
   pub seated_floor : (place : ℕ) (disk : Seated) → slice_get (seated found) place ≡ Some disk → IsFloored (size_of old disk.seat.slot) floor disk
-  seated_floor place disk there =
-      let is = standing newest disk.seat.slot disk.copy (seated_newest place disk there) in
-      let at : slice_get (newest_from old 0 left) disk.seat.slot ≡ Some (Some is.own) =
-      ap (λ (all : List (Option Newest)). slice_get all disk.seat.slot) (sym read) ∙ is.is_own in
-      let slot_is : 0 + disk.seat.slot ≡ disk.seat.slot = omega arith in
-      let here = subst (λ (n : ℕ). on_slot newest_at old n ≡ Some is.own) slot_is (newest_there old left 0 disk.seat.slot is.own at) in
-      record { same = (floors disk.seat.slot).same_floor is.own disk.copy here is.stands; within = (floors disk.seat.slot).within is.own here }
+  seated_floor = floor_of_seat group old left newest long read past admitted.same_slots admitted.is_kept admitted.may_read admitted.member named found is_found own floor floors

@@ -8,7 +8,7 @@ mod AnotherGroup
 mod Cut
 mod FoundedMember
 mod LabelAside
-mod MembersKept
+pub mod MembersKept
 mod LastStep
 mod StepsMembers
 mod MembersBehind

@@ -69,12 +69,12 @@ module _ (found : GroupValue) (timestamp : ℕ) where
 
 module _ (group : List ℕ) where
   -- The configuration is made of one since the last acknowledged one: it is that one, or one of these changes.
-  record HadMembers (past : Past (groups group)) (changes : List Configuration) (config : Configuration) : Type 0 where
-    number : ℕ
-    earlier : Configuration
-    since : IsSince past.changes number earlier
-    within : IsFrom earlier config
-    origin : (earlier ≡ config) ⊎ ((i : ℕ) × (slice_get changes i ≡ Some config))
+  pub record HadMembers (past : Past (groups group)) (changes : List Configuration) (config : Configuration) : Type 0 where
+    pub number : ℕ
+    pub earlier : Configuration
+    pub since : IsSince past.changes number earlier
+    pub within : IsFrom earlier config
+    pub origin : (earlier ≡ config) ⊎ ((i : ℕ) × (slice_get changes i ≡ Some config))
 
   -- An issued change is an earlier one, or one of these.
   issued_one : (past : Past (groups group)) (changes : List Configuration) (n : ℕ) (config : Configuration) → slice_get (issue_all group past changes).changes.issued n ≡ Some config
@@ -155,7 +155,7 @@ module _ (group : List ℕ) where
     abbrev within : (i : ℕ) (config : Configuration) → slice_get (changes_in found steps) i ≡ Some config → IsFrom found.config config
     within = changed_within found steps (steps_from_found found timestamp asked steps are)
 
-    had : (done : Bool) → Ends group past readable found (changes_in found steps) done now → (n : ℕ) (config : Configuration) → IsSince now.changes n config → HadMembers past (changes_in found steps) config
+    pub had : (done : Bool) → Ends group past readable found (changes_in found steps) done now → (n : ℕ) (config : Configuration) → IsSince now.changes n config → HadMembers past (changes_in found steps) config
     had true over = over_had past readable found (changes_in found steps) within now over
     had false goes = goes_had past readable found (changes_in found steps) within now goes
 

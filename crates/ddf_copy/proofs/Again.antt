@@ -1,5 +1,5 @@
 -- A copy that has room in one place can be written in both.
-use Rattle.std.proofs.Common.{◌≡◌, ◌⊎◌, ℕ, zero, suc, ◌+◌, ◌-◌, ◌<◌, ◌≤◌, Bool, true, false, not, ◌&&◌, ◌||◌, eqb, leb, ltb, List, [], ◌∷◌, length, Option, Some, None, refl, sym, ap, ◌∙◌, eq-eqb, inl, inr, arith}
+use Rattle.std.proofs.Common.{◌≡◌, ◌⊎◌, ℕ, zero, suc, ◌+◌, ◌-◌, ◌<◌, ◌≤◌, Bool, true, false, not, ◌&&◌, ◌||◌, eqb, leb, ltb, List, [], ◌∷◌, Option, Some, None, refl, sym, ap, ◌∙◌, eq-eqb, inl, inr, arith}
 use Rattle.std.proofs.lemmas.Bool.{cases_lt, le-ltb, ne_eqb}
 use Rattle.std.proofs.lemmas.Bool.Decides.{leb_tells}
 use Rattle.std.proofs.lemmas.Iterator.Adapters.{position_from-zero}
@@ -17,9 +17,8 @@ use Rattle.ddf_copy.specs.Room.{has_no_room, has_sector_of, is_out_of_room, meet
 use Rattle.ddf_copy.specs.Which.{other_of, place_of}
 use Rattle.ddf_copy.specs.Written.{CanBeCopy}
 use Rattle.ddf_copy.proofs.Gates.{gate_from, headers_in_room, section_in_room}
-use Rattle.ddf_copy.proofs.Shared.{bytes_same, same_at}
+use Rattle.ddf_copy.proofs.Shared.{bytes_same, same_at, shared_middle}
 use Rattle.std.proofs.Common.{subst}
-use Rattle.std.proofs.lemmas.Bool.{le-leb, lt-ltb}
 use Rattle.std.specs.Int.{from_be_bytes, w64}
 use Rattle.ddf_bytes.specs.Bytes.{number_at}
 use Rattle.ddf_header.specs.declared.kind.HeaderKind.{HeaderKind}
@@ -190,13 +189,6 @@ under_again size anchor which copy is places gate =
     }
 
 -- ---- a copy that was read
-
-or_middle : (a c : Bool) → ((a || true) || c) ≡ true
-or_middle true c = refl
-or_middle false c = refl
-
-shared_middle : (at : ℕ) → 96 ≤ at → at < 112 → is_shared at ≡ true
-shared_middle at from below = rw (le-leb 96 at from, lt-ltb at 112 below) (or_middle _ _)
 
 number_same : (one other : List ℕ) → first_difference one other ≡ None → (at : ℕ) → 96 ≤ at → at + 8 ≤ 112 → number_at w64 one at ≡ number_at w64 other at
 number_same one other same at from fits =

@@ -6,7 +6,8 @@ use Rattle.std.proofs.lemmas.Bool.{leb-false, ne_eqb, ltb-false, eqb-true}
 use Rattle.std.proofs.lemmas.Iterator.Adapters.{position_from-zero}
 use Rattle.ddf_header.specs.declared.geometry.Section.{Section}
 use Rattle.ddf_header.specs.declared.reading.Header.{Header}
-use Rattle.ddf_bytes.specs.Bytes.{bytes_at}
+use Rattle.std.specs.Int.{w64}
+use Rattle.ddf_bytes.specs.Bytes.{bytes_at, number_at}
 use Rattle.ddf_bytes.specs.Choices.{first_of, ok_unless, when}
 use Rattle.ddf_header.specs.declared.fault.HeaderFault.{HeaderFault}
 use Rattle.ddf_header.specs.declared.kind.HeaderKind.{HeaderKind}
@@ -136,6 +137,8 @@ placed_parts false found header h = absurd cc
 pub record IsFound (size : ℕ) (sector : ℕ → List ℕ) (anchor : Header) (which : Which) (header : Header) : Type 0 where
   pub geometry_is : header.geometry ≡ geometry_at (sector (place_of which anchor))
   pub guid_is : header.guid ≡ bytes_at (sector (place_of which anchor)) 8 24
+  pub primary_is : header.primary_lba ≡ number_at w64 (sector (place_of which anchor)) 96
+  pub secondary_is : header.secondary_lba ≡ number_at w64 (sector (place_of which anchor)) 104
   pub is_gate : IsGate size anchor which header (sector (place_of which anchor))
 
 pub found_is : (size : ℕ) (sector : ℕ → List ℕ) (anchor : Header) (which : Which) (header : Header) → header_of size sector anchor which ≡ Ok header → IsFound size sector anchor which header
@@ -147,6 +150,8 @@ found_is size sector anchor which header h =
     record {
       geometry_is = ap (λ (found : Header). found.geometry) (sym value);
       guid_is = ap (λ (found : Header). found.guid) (sym value);
+      primary_is = ap (λ (found : Header). found.primary_lba) (sym value);
+      secondary_is = ap (λ (found : Header). found.secondary_lba) (sym value);
       is_gate = gate_from size anchor which header bytes parts.1;
     }
 

@@ -63,12 +63,12 @@ behind size sector anchor which copy (Ok header) is =
     rw same refl
 behind size sector anchor which copy (Err fault) is = absurd cc
 
-header_is : (size : ℕ) (sector : ℕ → List ℕ) (anchor : Header) (which : Which) (copy : DiskCopy) → copy_of size sector anchor which ≡ Ok copy → header_of size sector anchor which ≡ Ok copy.header
+pub header_is : (size : ℕ) (sector : ℕ → List ℕ) (anchor : Header) (which : Which) (copy : DiskCopy) → copy_of size sector anchor which ≡ Ok copy → header_of size sector anchor which ≡ Ok copy.header
 unfolding copy_of
 header_is size sector anchor which copy is = behind size sector anchor which copy (header_of size sector anchor which) is
 
 -- two copies under one anchor are of one group
-one_group : (size : ℕ) (sector : ℕ → List ℕ) (anchor : Header) (one other : Which) (first second : DiskCopy) → copy_of size sector anchor one ≡ Ok first → copy_of size sector anchor other ≡ Ok second
+pub one_group : (size : ℕ) (sector : ℕ → List ℕ) (anchor : Header) (one other : Which) (first second : DiskCopy) → copy_of size sector anchor one ≡ Ok first → copy_of size sector anchor other ≡ Ok second
     → first.header.guid ≡ second.header.guid
 one_group size sector anchor one other first second is also =
     let found = found_is size sector anchor one first.header (header_is size sector anchor one first is) in

@@ -10,6 +10,7 @@ pub mod LevelCopies
 pub mod Levels
 pub mod NewestUnder
 pub mod Newests
+pub mod Places
 pub mod RunsRead
 pub mod Sectors
 pub mod Shared

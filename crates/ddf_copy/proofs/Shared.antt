@@ -71,6 +71,13 @@ shared_head at from below = rw (le-leb 8 at from, lt-ltb at 40 below) refl
 shared_tail : (at : ℕ) → 116 ≤ at → at < 512 → is_shared at ≡ true
 shared_tail at from below = rw (le-leb 116 at from, lt-ltb at 512 below) (or_true _)
 
+or_middle : (a c : Bool) → ((a || true) || c) ≡ true
+or_middle true c = refl
+or_middle false c = refl
+
+pub shared_middle : (at : ℕ) → 96 ≤ at → at < 112 → is_shared at ≡ true
+shared_middle at from below = rw (le-leb 96 at from, lt-ltb at 112 below) (or_middle _ _)
+
 -- Two sectors that both share these bytes with an anchor.
 pub record AreShared (anchor one other : List ℕ) : Type 0 where
   pub one_is : first_difference anchor one ≡ None
@@ -81,6 +88,10 @@ same_here anchor one other are at lt shared = sym (same_at anchor one are.one_is
 
 pub shared_guid : (anchor one other : List ℕ) → AreShared anchor one other → bytes_at one 8 24 ≡ bytes_at other 8 24
 shared_guid anchor one other are = bytes_same one other 8 24 (λ i from below. same_here anchor one other are i (omega (arith, below)) (shared_head i from (omega (arith, below))))
+
+pub shared_place : (anchor one other : List ℕ) → AreShared anchor one other → (at : ℕ) → 96 ≤ at → at + 8 ≤ 112 → number_at w64 one at ≡ number_at w64 other at
+shared_place anchor one other are at from fits =
+    ap (from_be_bytes w64) (bytes_same one other at 8 (λ i low below. same_here anchor one other are i (omega (arith, below, fits)) (shared_middle i (omega (arith, from, low)) (omega (arith, below, fits)))))
 
 number_same : (anchor one other : List ℕ) → AreShared anchor one other → (width : Width) (at : ℕ) → 116 ≤ at → at + byte_len width ≤ 512 → number_at width one at ≡ number_at width other at
 number_same anchor one other are width at from fits =

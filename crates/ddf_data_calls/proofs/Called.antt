@@ -40,7 +40,7 @@ use Rattle.ddf_data_calls.specs.Floors.{HaveFloors}
 use Rattle.ddf_data_calls.proofs.Asked.{ask_same}
 use Rattle.ddf_data_calls.proofs.Issued.{ends_keep}
 use Rattle.ddf_data_calls.proofs.Recovered.{recovered_alike}
-use Rattle.ddf_data_calls.proofs.Seats.{newest_there, standing}
+use Rattle.ddf_data_calls.proofs.Seats.{IsFloored, seated_floor}
 use Rattle.ddf_data_calls.proofs.Steps.{issued_made, step_floors}
 
 -- What a call that changes a group tells of it, as far as it matters to the group's history and its data.
@@ -65,7 +65,7 @@ took_group tells told old new named timestamp request outcome changed found is_f
 
 module _ (group : List ℕ) {D : Type 0} (old new : BayState D) (past : Past (groups group)) (floor : ℕ → ℕ) (small : (slot : ℕ) → floor slot < 2 ^ 64)
     (left : List Bool) (newest : List (Option Newest)) (named : Option (List ℕ)) (found : GroupValue) (steps : List Step) (outcome : Result ℕ Failure)
-    (took : TookGroup old new left newest named found steps outcome) (own : found.config.group ≡ group) (admitted : IsAdmitted group past old left found) (floors : HaveFloors old floor)
+    (took : TookGroup old new left newest named found steps outcome) (own : found.config.group ≡ group) (admitted : IsAdmitted group past old left found) (floors : HaveFloors group past old floor)
     (timestamp : ℕ) (request : Request) (are_asked : steps_of found timestamp request ≡ Ok steps) (asked : Option Change) (asks : request (config_recovered found) found.seats ≡ Ok (option_to_list asked)) where
   pub are : readied found (option_to_list asked) timestamp ≡ Ok steps
   are = asked_of (readied found (option_to_list asked) timestamp) steps (sym (ap (steps_asked found timestamp) asks) ∙ are_asked)
@@ -73,30 +73,14 @@ module _ (group : List ℕ) {D : Type 0} (old new : BayState D) (past : Past (gr
   -- ---- what is written lies at or past the floors
 
   -- the disk of a seat has the floor of its slot
-  seated_newest : (place : ℕ) (disk : Seated) → slice_get (seated found) place ≡ Some disk → copy_at newest disk.seat.slot ≡ Some disk.copy
-  seated_newest place disk there =
-      ap (λ (all : List (Option Newest)). copy_at all disk.seat.slot)
-      (sym (claims.newest_is group old left newest took.every_slot took.read past admitted.same_slots admitted.is_kept admitted.may_read admitted.member named found took.is_found own))
-      ∙ claims.disk_copy group old left newest took.every_slot took.read past admitted.same_slots admitted.is_kept admitted.may_read admitted.member named found took.is_found own
-      place disk there
-
-  record IsFloored (disk : Seated) : Type 0 where
-    pub same : floor_of disk.copy ≡ floor disk.seat.slot
-    pub within : floor disk.seat.slot < size_of old disk.seat.slot
-
-  seated_floor : (place : ℕ) (disk : Seated) → slice_get (seated found) place ≡ Some disk → IsFloored disk
-  seated_floor place disk there =
-      let is = standing newest disk.seat.slot disk.copy (seated_newest place disk there) in
-      let at : slice_get (newest_from old 0 left) disk.seat.slot ≡ Some (Some is.own) =
-      ap (λ (all : List (Option Newest)). slice_get all disk.seat.slot) (sym took.read) ∙ is.is_own in
-      let slot_is : 0 + disk.seat.slot ≡ disk.seat.slot = omega arith in
-      let here = subst (λ (n : ℕ). on_slot newest_at old n ≡ Some is.own) slot_is (newest_there old left 0 disk.seat.slot is.own at) in
-      record { same = (floors disk.seat.slot).same_floor is.own disk.copy here is.stands; within = (floors disk.seat.slot).within is.own here }
+  own_floor : (place : ℕ) (disk : Seated) → slice_get (seated found) place ≡ Some disk → IsFloored (size_of old disk.seat.slot) floor disk
+  own_floor =
+      seated_floor group old left newest took.every_slot took.read past admitted.same_slots admitted.is_kept admitted.may_read admitted.member named found took.is_found own floor floors
 
   step_past : (slot l : ℕ) → IsStepsSector (size_of old slot) steps slot l → floor slot ≤ l
   step_past slot l is =
       let from = step_floors found timestamp asked steps are is.on.number is.on.step is.on.is_step is.on.place is.on.disk is.on.is_disk in
-      let before = seated_floor from.place from.before from.is_there in
+      let before = own_floor from.place from.before from.is_there in
       let slot_is : from.before.seat.slot ≡ slot = from.same_slot ∙ is.on.on_slot in
       let same : floor_of is.on.disk.copy ≡ floor slot = from.same_floor ∙ before.same ∙ ap floor slot_is in
       let within : floor slot < size_of old slot = subst (λ (s : ℕ). floor s < size_of old s) slot_is before.within in

@@ -160,7 +160,7 @@ module _ (group : List ℕ) {D : Type 0} (state : BayState D) (left : List Bool)
           claims.current_seated group state left newest long is past counted kept may member named g at own (none_some g.absent none) slot
           (and_second (not (past.lost slot)) (has_current g.config (past.disk slot)) here)
 
-  module _ (floor : ℕ → ℕ) (floors : HaveFloors state floor) where
+  module _ (floor : ℕ → ℕ) (floors : HaveFloors group past state floor) where
     -- Each seat is listed then.
     pub recovered_listed : AreListed group (left_over group past (is_read left) g) (config_recovered g) floor g.seats
     unfolding config_recovered

@@ -3,7 +3,7 @@ use Rattle.std.proofs.Common.{◌≡◌, ◌∙◌, ◌⊎◌, inl, inr, ℕ, ze
 use Rattle.std.proofs.lemmas.Bool.{eqb-true}
 use Rattle.std.specs.Prelude.{option_map, slice_get}
 use Rattle.std.specs.Option.{option_and_then}
-use Rattle.ddf_bay.specs.State.{BayState, on_slot}
+use Rattle.ddf_bay.specs.State.{BayState, on_slot, size_of}
 use Rattle.ddf_config.specs.declared.seat.Seat.{Seat}
 use Rattle.ddf_config.specs.Configuration.{Configuration}
 use Rattle.ddf_config.specs.Seats.{floor_of, slot_of}
@@ -26,7 +26,10 @@ use Rattle.ddf_history.proofs.AnsweredLists.{map_some}
 use Rattle.ddf_history.proofs.Calls.{seen_copy, seen_read}
 use Rattle.ddf_history.proofs.Since.{first_is_copy}
 use Rattle.ddf_history.proofs.Sound.{groups_are_sound}
-use Rattle.ddf_assembly.specs.Group.{GroupValue, copy_at, group_as, group_of, seat_at, seat_of}
+use Rattle.ddf_assembly.specs.declared.seated.Seated.{Seated}
+use Rattle.ddf_assembly.specs.Group.{GroupValue, copy_at, floor_of as copy_floor, group_as, group_of, seat_at, seat_of}
+use Rattle.ddf_assembly.specs.Seated.{seated}
+use Rattle.ddf_assembly.proofs.CommittedSeats.{seated_is}
 use Rattle.ddf_assembly.specs.Slots.{newest_from, newest_or}
 use Rattle.ddf_stops.specs.Kept.{is_read}
 use Rattle.ddf_stops.proofs.Begun.{IsMadeOf, assembled_since}
@@ -34,7 +37,13 @@ use Rattle.ddf_stops.proofs.Claimed as claims
 use Rattle.ddf_promise.specs.Promised.{AreAlone, is_seat, seats_in}
 use Rattle.ddf_promise.proofs.Seats.{found, has_seat, is_found, seat_of as listed_seat}
 use Rattle.ddf_carrying.specs.Seats.{AreOnSlots}
+use Rattle.ddf_stops.specs.Floors.{HasFloor}
 use Rattle.ddf_data_calls.specs.Floors.{HaveFloors}
+
+-- a disk of a group has the floor of its slot, and it lies on the disk
+pub record IsFloored (size : ℕ) (floor : ℕ → ℕ) (disk : Seated) : Type 0 where
+  pub same : copy_floor disk.copy ≡ floor disk.seat.slot
+  pub within : floor disk.seat.slot < size
 
 -- ---- seats of a history
 
@@ -203,14 +212,18 @@ module _ (group : List ℕ) {D : Type 0} (state : BayState D) (left : List Bool)
         ∙ claims.claimed_not_absent group state left newest long is past counted kept may member named g at own seat.slot (view_of (copy_is).0)
         (claims.seats_claimed group state left newest long is past counted kept may member named g at own place seat (copy_is).0 there (copy_is).1)
 
-    module _ (floor : ℕ → ℕ) (floors : HaveFloors state floor) where
+    module _ (floor : ℕ → ℕ) (floors : HaveFloors group past state floor) where
+      -- The disk has the slot's floor.
+      pub seat_floor : HasFloor (size_of state seat.slot) (state.held seat.slot) (floor seat.slot)
+      seat_floor = floors seat.slot (since).0 g.config (since).1 (may.not_lost seat.slot seat_read) (ap (has_current g.config) (sym copy_names) ∙ copy_current)
+
       floor_is : seat.floor ≡ floor seat.slot
       floor_is =
           let standing_is = standing newest seat.slot (copy_is).0 (copy_is).1 in
           let there : slice_get (newest_from state 0 left) seat.slot ≡ Some (Some standing_is.own) = ap (λ (all : List (Option Newest)). slice_get all seat.slot) (sym is) ∙ standing_is.is_own in
           let slot_is : 0 + seat.slot ≡ seat.slot = omega arith in
           let here = subst (λ (n : ℕ). on_slot newest_at state n ≡ Some standing_is.own) slot_is (newest_there state left 0 seat.slot standing_is.own there) in
-          ap (λ (one : Seat). one.floor) (sym (copy_is).2) ∙ (floors seat.slot).same_floor standing_is.own (copy_is).0 here standing_is.stands
+          ap (λ (one : Seat). one.floor) (sym (copy_is).2) ∙ (seat_floor).same_floor standing_is.own (copy_is).0 here standing_is.stands
 
       pub seat_listed : IsListed group past g.config floor seat
       seat_listed = record {
@@ -221,7 +234,7 @@ module _ (group : List ℕ) {D : Type 0} (state : BayState D) (left : List Bool)
         same_floor = floor_is;
       }
 
-  module _ (floor : ℕ → ℕ) (floors : HaveFloors state floor) where
+  module _ (floor : ℕ → ℕ) (floors : HaveFloors group past state floor) where
     pub seats_listed : AreListed group past g.config floor g.seats
     seats_listed place seat there = seat_listed place seat there floor floors
 
@@ -231,6 +244,20 @@ module _ (group : List ℕ) {D : Type 0} (state : BayState D) (left : List Bool)
       not_lost = λ place seat there. (seats_listed place seat there).not_lost;
       same_floor = λ place seat there. (seats_listed place seat there).same_floor;
     }
+
+    -- The copy that the group has of a disk has that floor too, which lies on the disk.
+    pub seated_floor : (place : ℕ) (disk : Seated) → slice_get (seated g) place ≡ Some disk → IsFloored (size_of state disk.seat.slot) floor disk
+    seated_floor place disk there =
+        let sits = seated_is g place disk there in
+        let has = seat_floor sits.place disk.seat sits.is_seat floor floors in
+        let copy_there : copy_at newest disk.seat.slot ≡ Some disk.copy =
+        ap (λ (all : List (Option Newest)). copy_at all disk.seat.slot) (sym (claims.newest_is group state left newest long is past counted kept may member named g at own))
+        ∙ claims.disk_copy group state left newest long is past counted kept may member named g at own place disk there in
+        let stands = standing newest disk.seat.slot disk.copy copy_there in
+        let listed : slice_get (newest_from state 0 left) disk.seat.slot ≡ Some (Some stands.own) = ap (λ (all : List (Option Newest)). slice_get all disk.seat.slot) (sym is) ∙ stands.is_own in
+        let slot_is : 0 + disk.seat.slot ≡ disk.seat.slot = omega arith in
+        let here = subst (λ (n : ℕ). on_slot newest_at state n ≡ Some stands.own) slot_is (newest_there state left 0 disk.seat.slot stands.own listed) in
+        record { same = has.same_floor stands.own disk.copy here stands.stands; within = has.within }
 
     pub seats_fewer : AreFewer (seats_in group past floor g.config) g.seats
     seats_fewer = some_listed group past g.config (in_one group past kept.alone (since).0 g.config (since).1) floor g.seats seats_listed

@@ -65,12 +65,12 @@ module _ (group : List ℕ) where
   left_over past readable found = if some found.absent then leave_out past readable found.config else past
 
   -- A history of a group and of its data admits a call that found this group and leaves these slots out: whatever a stop might have left shows what it
-  -- should and keeps the data, and each slot has its floor.
+  -- should and keeps the data, and each slot of a member has its floor.
   pub record AdmitsCall {D : Type 0} (past : Past (groups group)) (floor : ℕ → ℕ) (promises : Promises) (disks : BayState D) (left : List Bool) (found : GroupValue) : Type 0 where
     pub all_kept : AreAllKept group past disks
     pub admitted : IsAdmitted group past disks left found
     pub all_data : IsAllData group past floor disks promises
-    pub have_floors : HaveFloors disks floor
+    pub have_floors : HaveFloors group past disks floor
 
   -- ---- both promises
 

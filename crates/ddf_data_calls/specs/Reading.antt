@@ -29,14 +29,14 @@ Means group newest None = is_absorbed (map shown_of newest) group ≡ false
 Means group newest (Some name) = bytes_eq name group ≡ true
 
 -- A history of a group and of its data admits a read that leaves these slots out. A current member is among the slots that it reads. The disks
--- show what they should, and keep the data, and each slot has its floor.
+-- show what they should, and keep the data, and each slot of a member has its floor.
 pub record AdmitsRead (group : List ℕ) {D : Type 0} (past : Past (groups group)) (floor : ℕ → ℕ) (promises : Promises) (disks : BayState D) (left : List Bool) : Type 0 where
   pub same_slots : past.slots ≡ length disks.sizes
   pub may_read : IsReadable past (scene_of disks.sizes disks.held) (is_read left)
   pub member : HasMember past (scene_of disks.sizes disks.held) (is_read left)
   pub is_kept : IsKept past (scene_of disks.sizes disks.held)
   pub keeps : KeepsData group past floor disks.held promises
-  pub have_floors : HaveFloors disks floor
+  pub have_floors : HaveFloors group past disks floor
 
 -- the blocks that were printed: where the output gave out, those of which a front was
 abbrev pub blocks_printed : Outcome → List (List ℕ)

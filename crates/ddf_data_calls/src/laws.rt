@@ -143,12 +143,12 @@ pub fn what_a_stop_leaves_has_whole_sectors<B: Bay>(bay: &B)
 pub fn a_calls_seats_are_those_of_its_history<B: Bay>()
     ensures on_slots { (group : List ℕ) (past : Past (groups group)) (floor : ℕ → ℕ) (bay : B) (left : List Bool) (named : Option (List ℕ)) (found : GroupValue)
         → length left ≡ length (B.disks bay).sizes → group_of (newest_from (B.disks bay) 0 left) named ≡ Ok found → found.config.group ≡ group
-        → IsAdmitted group past (B.disks bay) left found → HaveFloors (B.disks bay) floor → AreOnSlots group past floor found.seats }
+        → IsAdmitted group past (B.disks bay) left found → HaveFloors group past (B.disks bay) floor → AreOnSlots group past floor found.seats }
     ensures fewer { (group : List ℕ) (past : Past (groups group)) (floor : ℕ → ℕ) (bay : B) (left : List Bool) (named : Option (List ℕ)) (found : GroupValue)
         → length left ≡ length (B.disks bay).sizes → group_of (newest_from (B.disks bay) 0 left) named ≡ Ok found → found.config.group ≡ group
-        → IsAdmitted group past (B.disks bay) left found → HaveFloors (B.disks bay) floor → AreFewer (seats_in group past floor found.config) found.seats }
+        → IsAdmitted group past (B.disks bay) left found → HaveFloors group past (B.disks bay) floor → AreFewer (seats_in group past floor found.config) found.seats }
     ensures recovered { (group : List ℕ) (past : Past (groups group)) (floor : ℕ → ℕ) (bay : B) (left : List Bool) (named : Option (List ℕ)) (found : GroupValue)
         → length left ≡ length (B.disks bay).sizes → group_of (newest_from (B.disks bay) 0 left) named ≡ Ok found → found.config.group ≡ group
-        → IsAdmitted group past (B.disks bay) left found → HaveFloors (B.disks bay) floor
+        → IsAdmitted group past (B.disks bay) left found → HaveFloors group past (B.disks bay) floor
         → AreAlikeSeats found.seats (seats_in group (left_over group past (is_read left) found) floor (config_recovered found)) }
 {}

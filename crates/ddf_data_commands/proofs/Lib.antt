@@ -1,4 +1,4 @@
-mod ArrayUse
+pub mod ArrayUse
 pub mod ReadBlocks
 pub mod LeftOut
 mod Printing

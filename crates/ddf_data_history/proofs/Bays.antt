@@ -8,6 +8,7 @@ pub record AreBays {B : Type 0} (disks : B → BayState B) : Type 0 where
   pub only_now : (bay : B) (image : Image) → (disks bay).left_since (disks bay).moment image → IsLeft (disks bay).may_hold image
   pub counts : (bay : B) (t : ℕ) (image : Image) → t ≤ (disks bay).moment → IsLeft (disks bay).may_hold image → (disks bay).left_since t image
   pub held : (bay : B) → (disks bay).tells_left → IsLeft (disks bay).may_hold (disks bay).held
+  pub since : (bay : B) (t : ℕ) (image : Image) → (disks bay).left_since t image → (disks bay).tells_left
   pub whole : (bay : B) (s l : ℕ) (bytes : List ℕ) → (disks bay).may_hold s l bytes → IsWhole bytes
 
 module _ {B : Type 0} (disks : B → BayState B) (are : AreBays disks) where

@@ -2,6 +2,7 @@
 use Rattle.std.proofs.Common.{◌≡◌, ◌&&◌, ℕ, Bool, true, false, List, ◌++◌, Option, Result, Ok, Err, refl}
 use Rattle.ddf_bytes.specs.Streams.{SourceState}
 use Rattle.ddf_bay.specs.State.{BayState}
+use Rattle.ddf_plan.specs.declared.change.Change.{Change}
 use Rattle.ddf_copy.specs.declared.newest_copy.Newest.{Newest}
 use Rattle.ddf_history.specs.Groups.{groups}
 use Rattle.ddf_history.specs.Issued.{Past}
@@ -16,18 +17,29 @@ use Rattle.ddf_write_commands.specs.Planned.{IsPlanned}
 use Rattle.ddf_write_commands.specs.Resync.{HasResyncedArray, resync_request}
 use Rattle.ddf_data_calls.specs.Calls.{AdmitsCall, AreBoth, KeepsBoth}
 use Rattle.ddf_block_calls.specs.Promised.{IsWrittenOf, MayBeWritten, counted}
+use Rattle.ddf_rebuild_command.specs.Asked.{rebuild_request}
+use Rattle.ddf_block_calls.proofs.Rebuilt as rebuilds
+use Rattle.ddf_block_calls.proofs.Rebuilt.{asked_changes}
 use Rattle.ddf_block_calls.proofs.Resynced as resyncs
 use Rattle.ddf_block_calls.proofs.Resynced.{then_settled}
 use Rattle.ddf_block_calls.proofs.Taken as writes
-use Rattle.ddf_data_history.specs.Calls.{Finds, ResyncCall, WriteCall, once_resynced}
+use Rattle.ddf_data_history.specs.Calls.{Finds, RebuildCall, ResyncCall, WriteCall, once_resynced}
 use Rattle.ddf_data_history.specs.Moments.{KeepsAll, Moment}
 use Rattle.ddf_data_history.proofs.Bays.{AreBays, held_sectors, sectors}
+use Rattle.std.specs.Prelude.{option_to_list}
+use Rattle.ddf_bay.specs.Moments.{StopsLeave}
+use Rattle.ddf_assembly.specs.Ready.{readied}
+use Rattle.ddf_write_commands.specs.Resync.{resync_behind}
+use Rattle.ddf_write_commands.specs.Write.{write_behind}
+use Rattle.ddf_data_calls.specs.Floors.{HaveFloorsIn}
+use Rattle.ddf_block_calls.proofs.Accepted.{mark_of}
+use Rattle.ddf_data_history.proofs.Floors.{by_held}
 
 module _ {B : Type 0} {tells : Type 0} (told : tells) (disks : B → BayState B) {S : Type 0} (tells_bytes : Type 0) (streams : S → SourceState) (guid : List ℕ) (are : AreBays disks)
     (old : Moment guid B) (all : KeepsAll disks old) where
   admits : (left : List Bool) (newest : List (Option Newest)) (named : Option (List ℕ)) (finds : Finds told disks tells_bytes streams guid old left newest named)
       → AdmitsCall guid old.past old.floor old.promises (disks old.bay) left finds.found
-  admits left newest named finds = record { all_kept = all.shows; admitted = finds.admitted; all_data = all.keeps; have_floors = finds.have_floors }
+  admits left newest named finds = record { all_kept = all.shows; admitted = finds.admitted; all_data = all.keeps; have_floors = by_held guid disks are old.past old.floor old.bay all.floored finds.tells_left }
 
   -- ---- `resync`
 
@@ -42,6 +54,20 @@ module _ {B : Type 0} {tells : Type 0} (told : tells) (disks : B → BayState B)
         call.finds.is_found call.finds.own (admits call.resynced.taken.left call.resynced.taken.newest call.named call.finds) (are.held old.bay call.finds.tells_left)
         (held_sectors disks are old.bay call.finds.tells_left) call.plan (λ image left. sectors disks are call.exit image left)
         (call.resynced.along told call.finds.found call.finds.is_found call.plan guid call.finds.own old.past all.shows call.finds.admitted)
+
+    -- The disks of members keep their floors.
+    pub resync_floors : StopsLeave (disks old.bay) (disks call.exit) (λ image. HaveFloorsIn guid old.past (disks old.bay).sizes image old.floor)
+    resync_floors =
+        resyncs.floors_kept tells told (disks old.bay) (disks call.exit) guid old.past old.floor old.small old.promises call.named call.timestamp call.word call.outcome call.resynced call.finds.found
+        call.finds.is_found call.finds.own (admits call.resynced.taken.left call.resynced.taken.newest call.named call.finds) (are.held old.bay call.finds.tells_left)
+        (held_sectors disks are old.bay call.finds.tells_left) call.plan (λ image left. sectors disks are call.exit image left) all.floored
+        (call.resynced.along told call.finds.found call.finds.is_found call.plan guid call.finds.own old.past all.shows call.finds.admitted)
+
+    pub resync_readied : readied call.finds.found (option_to_list (mark_of call.plan.entry) ++ resync_behind call.plan.entry) call.timestamp ≡ Ok (call.plan.first ++ call.plan.last)
+    resync_readied =
+        resyncs.are_readied tells told (disks old.bay) (disks call.exit) guid old.past old.floor old.small old.promises call.named call.timestamp call.word call.outcome call.resynced call.finds.found
+        call.finds.is_found call.finds.own (admits call.resynced.taken.left call.resynced.taken.newest call.named call.finds) (are.held old.bay call.finds.tells_left)
+        (held_sectors disks are old.bay call.finds.tells_left) call.plan (λ image left. sectors disks are call.exit image left)
 
   -- where it was done, and what its blocks have counts
   counts_by : (exit : B) (named : Option (List ℕ)) (timestamp : ℕ) (word : List ℕ) (outcome : Result ℕ Failure) (resynced : HasResyncedArray (work_of tells (disks old.bay) (disks exit)) named timestamp word outcome)
@@ -81,3 +107,42 @@ module _ {B : Type 0} {tells : Type 0} (told : tells) (disks : B → BayState B)
       call.finds.is_found call.finds.own (admits call.wrote.taken.left call.wrote.taken.newest call.named call.finds) (are.held old.bay call.finds.tells_left)
       (held_sectors disks are old.bay call.finds.tells_left) call.plan (λ image left. sectors disks are call.exit image left)
       (call.wrote.along told call.finds.found call.finds.is_found call.plan guid call.finds.own old.past all.shows call.finds.admitted)
+
+  -- The disks of members keep their floors.
+  pub write_floors : (call : WriteCall told disks tells_bytes streams guid old) → StopsLeave (disks old.bay) (disks call.exit) (λ image. HaveFloorsIn guid old.past (disks old.bay).sizes image old.floor)
+  write_floors call =
+      writes.floors_kept tells told (disks old.bay) (disks call.exit) guid old.past old.floor old.small old.promises (input_of tells_bytes (streams call.source_old) (streams call.source_new))
+      call.named call.timestamp call.word call.start call.count call.sectors call.worked call.wrote call.finds.found
+      call.finds.is_found call.finds.own (admits call.wrote.taken.left call.wrote.taken.newest call.named call.finds) (are.held old.bay call.finds.tells_left)
+      (held_sectors disks are old.bay call.finds.tells_left) call.plan (λ image left. sectors disks are call.exit image left) all.floored
+      (call.wrote.along told call.finds.found call.finds.is_found call.plan guid call.finds.own old.past all.shows call.finds.admitted)
+
+  pub write_readied : (call : WriteCall told disks tells_bytes streams guid old)
+      → readied call.finds.found (option_to_list (mark_of call.plan.entry) ++ write_behind call.plan.entry) call.timestamp ≡ Ok (call.plan.first ++ call.plan.last)
+  write_readied call =
+      writes.are_readied tells told (disks old.bay) (disks call.exit) guid old.past old.floor old.small old.promises (input_of tells_bytes (streams call.source_old) (streams call.source_new))
+      call.named call.timestamp call.word call.start call.count call.sectors call.worked call.wrote call.finds.found
+      call.finds.is_found call.finds.own (admits call.wrote.taken.left call.wrote.taken.newest call.named call.finds) (are.held old.bay call.finds.tells_left)
+      (held_sectors disks are old.bay call.finds.tells_left) call.plan (λ image left. sectors disks are call.exit image left)
+
+  -- ---- `rebuild`
+
+  module _ (call : RebuildCall told disks tells_bytes streams guid old) where
+    pub rebuild_keeps : KeepsBoth guid (disks old.bay) (disks call.exit) old.floor (Goes guid old.past (is_read call.rebuilt.taken.left) call.finds.found (changes_in call.finds.found call.steps))
+        (Ends guid old.past (is_read call.rebuilt.taken.left) call.finds.found (changes_in call.finds.found call.steps) (is_done call.outcome)) (Stays old.promises) (Stays old.promises)
+    rebuild_keeps =
+        rebuilds.both_kept tells told (disks old.bay) (disks call.exit) guid old.past old.floor old.small old.promises call.named call.timestamp call.word call.outcome call.rebuilt call.finds.found
+        call.finds.is_found call.finds.own (admits call.rebuilt.taken.left call.rebuilt.taken.newest call.named call.finds) (are.held old.bay call.finds.tells_left)
+        (held_sectors disks are old.bay call.finds.tells_left) (are.only_now old.bay) (are.counts old.bay) (are.counts call.exit) (λ image left. sectors disks are call.exit image left) (are.since call.exit)
+        call.steps call.are_asked
+
+    -- The disks of members keep their floors.
+    pub rebuild_floors : StopsLeave (disks old.bay) (disks call.exit) (λ image. HaveFloorsIn guid old.past (disks old.bay).sizes image old.floor)
+    rebuild_floors =
+        rebuilds.floors_kept tells told (disks old.bay) (disks call.exit) guid old.past old.floor old.small old.promises call.named call.timestamp call.word call.outcome call.rebuilt call.finds.found
+        call.finds.is_found call.finds.own (admits call.rebuilt.taken.left call.rebuilt.taken.newest call.named call.finds) (are.held old.bay call.finds.tells_left)
+        (held_sectors disks are old.bay call.finds.tells_left) (are.only_now old.bay) (are.counts old.bay) (are.counts call.exit) (λ image left. sectors disks are call.exit image left) (are.since call.exit)
+        call.steps call.are_asked all.floored
+
+    pub rebuild_readied : (changes : List Change) × (readied call.finds.found changes call.timestamp ≡ Ok call.steps)
+    rebuild_readied = asked_changes call.finds.found call.timestamp (rebuild_request call.word) call.steps call.are_asked

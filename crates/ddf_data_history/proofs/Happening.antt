@@ -1,5 +1,5 @@
 -- Behind each event all is kept that was kept before it.
-use Rattle.std.proofs.Common.{◌≡◌, ℕ, zero, suc, Bool, true, false, not, ◌||◌, ◌==◌, List, Option, Some, refl, sym, ap, subst, ◌∙◌, arith, if◌then◌else◌}
+use Rattle.std.proofs.Common.{◌≡◌, ℕ, zero, suc, Bool, true, false, not, ◌&&◌, ◌||◌, ◌==◌, List, Option, Some, refl, sym, ap, subst, ◌∙◌, arith, if◌then◌else◌}
 use Rattle.std.proofs.Math.Path.{fun_ext}
 use Rattle.std.specs.Prelude.{filter_map}
 use Rattle.std.specs.List.{range_with_len}
@@ -35,7 +35,13 @@ use Rattle.ddf_data_history.specs.Events.{Event, Follows, KeepsOn, Resumes}
 use Rattle.ddf_data_history.specs.Events.Event.{Cut, Ended, Forgotten, Lost, Noticed, Refloored, Returned, Stopped}
 use Rattle.ddf_data_history.specs.Moments.{KeepsAll, Moment}
 use Rattle.ddf_data_history.proofs.Bays.{AreBays, held_sectors, sectors}
-use Rattle.ddf_data_history.proofs.Calls.{cuts, cuts_acked, ends, ends_acked}
+use Rattle.ddf_data_history.proofs.Calls.{call_later, cuts, cuts_acked, cuts_floored, ends, ends_acked, ends_floored}
+use Rattle.ddf_data_history.proofs.Floors.{by_image, by_slots}
+use Rattle.std.proofs.lemmas.Bool.{eqb-true}
+use Rattle.std.specs.Prelude.{slice_index}
+use Rattle.ddf_history.proofs.Sound.{groups_are_sound}
+use Rattle.ddf_stops.specs.Floors.{HasFloor}
+use Rattle.ddf_data_calls.specs.Floors.{HaveFloorsIn}
 
 -- Data are kept where no current member's floor is another one.
 floors_keep : (guid : List ℕ) (past : Past (groups guid)) (floor other : ℕ → ℕ)
@@ -82,20 +88,28 @@ module _ {B : Type 0} {tells : Type 0} (told : tells) (disks : B → BayState B)
 
   resumed : (old : Moment guid B) (bay : B) (Left : Image → Type 0) → Resumes (disks old.bay) (disks bay) Left → (past : Past (groups guid)) (promises : Promises)
       → ((image : Image) → Left image → IsKept past (scene_of (disks old.bay).sizes image)) → ((image : Image) → Left image → KeepsData guid past old.floor image promises)
+      → ((image : Image) → Left image → HaveFloorsIn guid past (disks old.bay).sizes image old.floor)
       → KeepsAll disks (record { past = past; bay = bay; promises = promises; floor = old.floor; small = old.small })
-  resumed old bay Left resumes past promises shows keeps = record {
+  resumed old bay Left resumes past promises shows keeps floored = record {
     shows = λ image left. subst (λ (sizes : List ℕ). IsKept past (scene_of sizes image)) (sym resumes.same_sizes) (shows image (resumes.is_left image left));
     keeps = λ image left. keeps image (resumes.is_left image left);
+    floored = by_slots guid disks are past old.floor bay resumes.tells_left (disks old.bay).sizes resumes.same_sizes (λ image left. floored image (resumes.is_left image left));
   }
 
   happens : (old : Moment guid B) → KeepsAll disks old → (event : Event told disks tells_bytes streams guid old) → HasNext old event
-  happens old all (Ended call tells_left) =
+  happens old all (Ended call tells_left same_sizes) =
       let both = ends told disks tells_bytes streams guid are old all call tells_left in
       record {
         next = record { past = both.now; bay = exit_of told disks tells_bytes streams guid call; promises = both.promised; floor = old.floor; small = old.small };
         follows = record { comes = both.ends; is_bay = refl; is_promised = both.is_so; is_floor = refl };
         acked = ends_acked told disks tells_bytes streams guid are old all call both.now both.ends;
-        keeps = record { shows = both.all_kept; keeps = both.all_data };
+        keeps = record {
+          shows = both.all_kept;
+          keeps = both.all_data;
+          floored = by_slots guid disks are both.now old.floor (exit_of told disks tells_bytes streams guid call) tells_left (disks old.bay).sizes same_sizes
+              (λ image left. ends_floored told disks tells_bytes streams guid are old all call both.now both.ends image
+              (are.counts (exit_of told disks tells_bytes streams guid call) (disks old.bay).moment image (call_later told disks tells_bytes streams guid are old all call) left));
+        };
       }
   happens old all (Cut call image was_left bay resumes) =
       let held_is : (disks bay).held ≡ image = resumes.is_left (disks bay).held (are.held bay resumes.tells_left) in
@@ -107,13 +121,15 @@ module _ {B : Type 0} {tells : Type 0} (told : tells) (disks : B → BayState B)
         acked = cuts_acked told disks tells_bytes streams guid are old all call both.now both.goes;
         keeps = resumed old bay (λ left. left ≡ image) resumes both.now both.promised
             (λ left same. subst (λ (one : Image). IsKept both.now (scene_of (disks old.bay).sizes one)) (sym same) both.is_kept)
-            (λ left same. subst (λ (one : Image). KeepsData guid both.now old.floor one both.promised) (sym same) both.keeps);
+            (λ left same. subst (λ (one : Image). KeepsData guid both.now old.floor one both.promised) (sym same) both.keeps)
+            (λ left same. subst (λ (one : Image). HaveFloorsIn guid both.now (disks old.bay).sizes one old.floor) (sym same)
+            (cuts_floored told disks tells_bytes streams guid are old all call both.now both.goes image was_left));
       }
   happens old all (Stopped bay resumes) = record {
     next = record { past = old.past; bay = bay; promises = old.promises; floor = old.floor; small = old.small };
     follows = record { comes = refl; is_bay = refl; is_promised = refl; is_floor = refl };
     acked = record { later = omega arith; same = λ i config le at. at };
-    keeps = resumed old bay (IsLeft (disks old.bay).may_hold) resumes old.past old.promises all.shows all.keeps;
+    keeps = resumed old bay (IsLeft (disks old.bay).may_hold) resumes old.past old.promises all.shows all.keeps (by_image guid disks are old.past old.floor old.bay all.floored);
   }
   happens old all (Lost slot own) = record {
     next = record { past = lose old.past slot; bay = old.bay; promises = old.promises; floor = old.floor; small = old.small };
@@ -124,12 +140,17 @@ module _ {B : Type 0} {tells : Type 0} (told : tells) (disks : B → BayState B)
       keeps = λ image left.
           let after = lose old.past slot in
           by_loss guid old.floor old.small old.past image old.promises (all.keeps image left) (all.shows image left).alone after.lost after.returned (λ other gone. still (old.past.lost other) (other == slot) gone);
+      floored = λ other number config since stays current. all.floored other number config (record { late = since.late; is_there = since.is_there }) (not_either (old.past.lost other) (other == slot) stays) current;
     };
   }
     where
       still : (b c : Bool) → b ≡ true → (b || c) ≡ true
       still true c gone = refl
       still false c gone = absurd cc
+
+      not_either : (b c : Bool) → (b || c) ≡ false → b ≡ false
+      not_either true c stays = absurd cc
+      not_either false c stays = refl
   happens old all (Returned slot own missing) = record {
     next = record { past = give_back old.past slot; bay = old.bay; promises = old.promises; floor = old.floor; small = old.small };
     follows = record { comes = refl; is_bay = refl; is_promised = refl; is_floor = refl };
@@ -137,13 +158,24 @@ module _ {B : Type 0} {tells : Type 0} (told : tells) (disks : B → BayState B)
     keeps = record {
       shows = λ image left. given_back_kept old.past (scene_of (disks old.bay).sizes image) slot own (all.shows image left) missing;
       keeps = λ image left. by_return guid old.floor old.small old.past image old.promises (all.keeps image left) slot missing;
+      floored = λ other number config since stays current. by_slot other number config (record { late = since.late; is_there = since.is_there }) stays current (other == slot) refl;
     };
   }
+    where
+      was_not : (b c : Bool) → c ≡ false → (b && not c) ≡ false → b ≡ false
+      was_not true c is stays = cc
+      was_not false c is stays = refl
+
+      by_slot : (other number : ℕ) (config : Configuration) → IsSince old.past.changes number config → (old.past.lost other && not (other == slot)) ≡ false → has_current config (old.past.disk other) ≡ true
+          → (b : Bool) → (other == slot) ≡ b → (sector : ℕ → List ℕ) → ((l : ℕ) → (disks old.bay).may_hold other l (sector l)) → HasFloor (slice_index (disks old.bay).sizes other) sector (old.floor other)
+      by_slot other number config since stays current true here =
+          absurd ((groups_are_sound guid).not_both config (old.past.disk slot) (subst (λ (n : ℕ). has_current config (old.past.disk n) ≡ true) (eqb-true other slot here) current) (missing number config since))
+      by_slot other number config since stays current false differs = all.floored other number config since (was_not (old.past.lost other) (other == slot) differs stays) current
   happens old all (Forgotten fewer less) = record {
     next = record { past = old.past; bay = old.bay; promises = fewer; floor = old.floor; small = old.small };
     follows = record { comes = refl; is_bay = refl; is_promised = refl; is_floor = refl };
     acked = record { later = omega arith; same = λ i config le at. at };
-    keeps = record { shows = all.shows; keeps = λ image left number config since array allowed value promised. all.keeps image left number config since array allowed value (less array allowed promised) };
+    keeps = record { shows = all.shows; keeps = λ image left number config since array allowed value promised. all.keeps image left number config since array allowed value (less array allowed promised); floored = all.floored };
   }
   happens old all (Noticed array writable) = record {
     next = record { past = old.past; bay = old.bay; promises = with_promise old.promises array (Some any_bytes); floor = old.floor; small = old.small };
@@ -152,13 +184,19 @@ module _ {B : Type 0} {tells : Type 0} (told : tells) (disks : B → BayState B)
     keeps = record {
       shows = all.shows;
       keeps = λ image left. any_kept guid old.past old.floor array writable image (sectors disks are old.bay image left) old.promises (all.keeps image left);
+      floored = all.floored;
     };
   }
   happens old all (Refloored floor small same) = record {
     next = record { past = old.past; bay = old.bay; promises = old.promises; floor = floor; small = small };
     follows = record { comes = refl; is_bay = refl; is_promised = refl; is_floor = refl };
     acked = record { later = omega arith; same = λ i config le at. at };
-    keeps = record { shows = all.shows; keeps = λ image left. floors_keep guid old.past old.floor floor same image old.promises (all.keeps image left) };
+    keeps = record {
+      shows = all.shows;
+      keeps = λ image left. floors_keep guid old.past old.floor floor same image old.promises (all.keeps image left);
+      floored = λ slot number config since stays current sector left.
+          subst (HasFloor (slice_index (disks old.bay).sizes slot) sector) (sym (same slot number config since stays current)) (all.floored slot number config since stays current sector left);
+    };
   }
 
   -- So it goes on.

@@ -1,4 +1,5 @@
 pub mod Bays
+pub mod Floors
 pub mod Others
 pub mod Changed
 pub mod Blocks

@@ -25,7 +25,7 @@ module _ {B : Type 0} {tells : Type 0} (told : tells) (disks : B → BayState B)
   entry = disks old.bay
 
   -- what isn't written might have been left before
-  others : (s l : ℕ) → is_slot call.beside.written s ≡ false → entry.may_hold s l (image s l)
+  pub others : (s l : ℕ) → is_slot call.beside.written s ≡ false → entry.may_hold s l (image s l)
   others s l other = ⊎_elim (λ first. only_now old.bay image first s l) (λ left. left s l other) (call.beside.leaves_others.since entry.moment image (omega arith) was_left)
 
   -- what stands in the other slots then, with what the written ones held

@@ -7,7 +7,7 @@ use Rattle.ddf_bay.specs.State.{BayState}
 use Rattle.ddf_config.specs.Configuration.{Configuration}
 use Rattle.ddf_copy.specs.declared.newest_copy.Newest.{Newest}
 use Rattle.ddf_plan.specs.declared.change.Change.{Change}
-use Rattle.ddf_plan.specs.declared.change.Change.TheVariants.{Create}
+use Rattle.ddf_plan.specs.declared.change.Change.TheVariants.{Create, Unmark}
 use Rattle.ddf_data.specs.Allowed.{any_bytes}
 use Rattle.ddf_keeping.specs.Grouped.{Promises}
 use Rattle.ddf_history.specs.Groups.{groups, has_current}
@@ -27,22 +27,23 @@ use Rattle.ddf_write_commands.specs.Planned.{IsPlanned}
 use Rattle.ddf_write_commands.specs.Resync.{HasResyncedArray, resync_request}
 use Rattle.ddf_write_commands.specs.Write.{HasWrittenArray, write_request}
 use Rattle.ddf_write_commands.specs.Write.Outcome.{Taken}
+use Rattle.ddf_rebuild_command.specs.Asked.{rebuild_request}
+use Rattle.ddf_rebuild_command.specs.Rebuilt.{HasRebuiltArray}
 use Rattle.ddf_data_calls.specs.Calls.{MayAsk}
-use Rattle.ddf_data_calls.specs.Floors.{HaveFloors}
+use Rattle.ddf_block_calls.specs.Agreed.{DoDisksAgree}
 use Rattle.ddf_block_calls.specs.Promised.{IsWrittenOf, MayBeWritten, counted}
 use Rattle.ddf_command.specs.History.{OtherCall as CallBeside}
 use Rattle.ddf_data_history.specs.Moments.{Moment}
 
 -- `disks` is what a bay of type B tells, and `told` that it tells what they hold; `streams` is what an input of type S tells.
 module _ {B : Type 0} {tells : Type 0} (told : tells) (disks : B → BayState B) {S : Type 0} (tells_bytes : Type 0) (streams : S → SourceState) (guid : List ℕ) where
-  -- A call that left these slots out found the group, and the history admits it: it was told what a stop may leave, and each slot has its floor.
+  -- A call that left these slots out found the group, and the history admits it: it was told what a stop may leave.
   pub record Finds (old : Moment guid B) (left : List Bool) (newest : List (Option Newest)) (named : Option (List ℕ)) : Type 0 where
     pub tells_left : (disks old.bay).tells_left
     pub found : GroupValue
     pub is_found : group_of newest named ≡ Ok found
     pub own : found.config.group ≡ guid
     pub admitted : IsAdmitted guid old.past (disks old.bay) left found
-    pub have_floors : HaveFloors (disks old.bay) old.floor
 
   -- ---- a command that changes the group
 
@@ -65,6 +66,18 @@ module _ {B : Type 0} {tells : Type 0} (told : tells) (disks : B → BayState B)
   abbrev pub once_changed : Option Change → (done : Bool) → Promises → Promises
   once_changed (Some (Create created array)) true promises = with_promise promises created (Some any_bytes)
   once_changed change done promises = promises
+
+  -- An `accept` of an array of which the bytes agree: once it is done, what its blocks have counts from then on.
+  pub record AcceptCall (old : Moment guid B) : Type 0 where
+    pub call : ChangeCall old
+    pub array : List ℕ
+    pub init : ℕ
+    pub is_accept : call.change ≡ Some (Unmark array init)
+    pub agree : DoDisksAgree call.finds.found array (disks old.bay).held
+
+  abbrev pub once_accepted : {old : Moment guid B} → (accept : AcceptCall old) → (done : Bool) → Promises
+  once_accepted {old = old} accept true = counted accept.array accept.agree.volume (disks accept.call.exit).held old.promises
+  once_accepted {old = old} accept false = old.promises
 
   -- ---- commands on the blocks of an array
 
@@ -100,6 +113,18 @@ module _ {B : Type 0} {tells : Type 0} (told : tells) (disks : B → BayState B)
     pub finds : Finds old wrote.taken.left wrote.taken.newest named
     pub plan : IsPlanned finds.found timestamp word (write_request word start count)
 
+  -- A call of `rebuild` that wasn't refused, whether a position of its array was out of sync or none.
+  pub record RebuildCall (old : Moment guid B) : Type 0 where
+    pub exit : B
+    pub named : Option (List ℕ)
+    pub timestamp : ℕ
+    pub word : List ℕ
+    pub outcome : Result ℕ Failure
+    pub rebuilt : HasRebuiltArray (work_of tells (disks old.bay) (disks exit)) named timestamp word outcome
+    pub finds : Finds old rebuilt.taken.left rebuilt.taken.newest named
+    pub steps : List Step
+    pub are_asked : steps_of finds.found timestamp (rebuild_request word) ≡ Ok steps
+
   -- ---- calls that don't change the group
 
   -- A call that doesn't take the group, as its histories have it: one that changes another group, or labels disks. None of the slots that it may write has the
@@ -114,45 +139,59 @@ module _ {B : Type 0} {tells : Type 0} (told : tells) (disks : B → BayState B)
   -- The last only reads: one that was refused does so too.
   pub data Call (old : Moment guid B) : Type 0 where
     Changes : ChangeCall old → Call old
+    Accepts : AcceptCall old → Call old
     Resyncs : ResyncCall old → Call old
     Writes : WriteCall old → Call old
+    Rebuilds : RebuildCall old → Call old
     Others : OtherCall old → Call old
     Reads : (exit : B) → ReadsOnly (disks old.bay) (disks exit) → Call old
 
   module _ {old : Moment guid B} where
     abbrev pub exit_of : Call old → B
     exit_of (Changes call) = call.exit
+    exit_of (Accepts accept) = accept.call.exit
     exit_of (Resyncs call) = call.exit
     exit_of (Writes call) = call.exit
+    exit_of (Rebuilds call) = call.exit
     exit_of (Others call) = call.beside.exit
     exit_of (Reads exit reads) = exit
 
     -- how far its changes may have come at a moment since its entry, and what may be promised then
     abbrev pub HasComeTo : Call old → Past (groups guid) → Type 0
     HasComeTo (Changes call) now = Goes guid old.past (is_read call.changed.taken.left) call.finds.found (changes_in call.finds.found call.steps) now
+    HasComeTo (Accepts accept) now =
+        Goes guid old.past (is_read accept.call.changed.taken.left) accept.call.finds.found (changes_in accept.call.finds.found accept.call.steps) now
     HasComeTo (Resyncs call) now = Goes guid old.past (is_read call.resynced.taken.left) call.finds.found (changes_in call.finds.found (call.plan.first ++ call.plan.last)) now
     HasComeTo (Writes call) now = Goes guid old.past (is_read call.wrote.taken.left) call.finds.found (changes_in call.finds.found (call.plan.first ++ call.plan.last)) now
+    HasComeTo (Rebuilds call) now = Goes guid old.past (is_read call.rebuilt.taken.left) call.finds.found (changes_in call.finds.found call.steps) now
     HasComeTo (Others call) now = now ≡ old.past
     HasComeTo (Reads exit reads) now = now ≡ old.past
 
     abbrev pub MayPromise : Call old → Promises → Type 0
     MayPromise (Changes call) promised = Stays old.promises promised
+    MayPromise (Accepts accept) promised = Stays old.promises promised
     MayPromise (Resyncs call) promised = Stays old.promises promised
     MayPromise (Writes call) promised = MayBeWritten call.plan.entry.0 call.start call.sectors old.promises promised
+    MayPromise (Rebuilds call) promised = Stays old.promises promised
     MayPromise (Others call) promised = Stays old.promises promised
     MayPromise (Reads exit reads) promised = Stays old.promises promised
 
     -- where they end
     abbrev pub EndsAt : Call old → Past (groups guid) → Type 0
     EndsAt (Changes call) now = Ends guid old.past (is_read call.changed.taken.left) call.finds.found (changes_in call.finds.found call.steps) (is_done call.outcome) now
+    EndsAt (Accepts accept) now =
+        Ends guid old.past (is_read accept.call.changed.taken.left) accept.call.finds.found (changes_in accept.call.finds.found accept.call.steps) (is_done accept.call.outcome) now
     EndsAt (Resyncs call) now = Ends guid old.past (is_read call.resynced.taken.left) call.finds.found (changes_in call.finds.found (call.plan.first ++ call.plan.last)) (is_done call.outcome) now
     EndsAt (Writes call) now = Ends guid old.past (is_read call.wrote.taken.left) call.finds.found (changes_in call.finds.found (call.plan.first ++ call.plan.last)) (is_done call.worked) now
+    EndsAt (Rebuilds call) now = Ends guid old.past (is_read call.rebuilt.taken.left) call.finds.found (changes_in call.finds.found call.steps) (is_done call.outcome) now
     EndsAt (Others call) now = now ≡ old.past
     EndsAt (Reads exit reads) now = now ≡ old.past
 
     abbrev pub PromisesThen : Call old → Promises → Type 0
     PromisesThen (Changes call) promised = promised ≡ once_changed call.change (is_done call.outcome) old.promises
+    PromisesThen (Accepts accept) promised = promised ≡ once_accepted accept (is_done accept.call.outcome)
     PromisesThen (Resyncs call) promised = promised ≡ once_resynced call (call.counts && is_done call.outcome)
     PromisesThen (Writes call) promised = IsWrittenOf (is_done call.worked) call.plan.entry.0 call.start call.sectors old.promises promised
+    PromisesThen (Rebuilds call) promised = Stays old.promises promised
     PromisesThen (Others call) promised = Stays old.promises promised
     PromisesThen (Reads exit reads) promised = Stays old.promises promised

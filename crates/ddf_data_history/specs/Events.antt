@@ -28,8 +28,9 @@ pub record Resumes {D : Type 0} (old new : BayState D) (Left : Image → Type 0)
 
 module _ {B : Type 0} {tells : Type 0} (told : tells) (disks : B → BayState B) {S : Type 0} (tells_bytes : Type 0) (streams : S → SourceState) (guid : List ℕ) where
   pub data Event (old : Moment guid B) : Type 0 where
-    -- A call comes to its end, where the bay still tells what a stop may leave.
-    Ended : (call : Call told disks tells_bytes streams guid old) → (disks (exit_of told disks tells_bytes streams guid call)).tells_left → Event old
+    -- A call comes to its end, where the bay still tells what a stop may leave. Its slots stay what they are.
+    Ended : (call : Call told disks tells_bytes streams guid old) → (disks (exit_of told disks tells_bytes streams guid call)).tells_left
+        → (disks (exit_of told disks tells_bytes streams guid call)).sizes ≡ (disks old.bay).sizes → Event old
     -- A stop within a call leaves an image, and the bay goes on as this.
     Cut : (call : Call told disks tells_bytes streams guid old) (image : Image) → (disks (exit_of told disks tells_bytes streams guid call)).left_since (disks old.bay).moment image
         → (bay : B) → Resumes (disks old.bay) (disks bay) (λ left. left ≡ image) → Event old
@@ -61,7 +62,7 @@ module _ {B : Type 0} {tells : Type 0} (told : tells) (disks : B → BayState B)
 
   -- the moment behind an event
   abbrev pub Follows : (old : Moment guid B) → Event old → Moment guid B → Type 0
-  Follows old (Ended call told_left) new =
+  Follows old (Ended call told_left same_sizes) new =
       IsBehind new (EndsAt told disks tells_bytes streams guid call) (exit_of told disks tells_bytes streams guid call) (PromisesThen told disks tells_bytes streams guid call) old.floor
   Follows old (Cut call image was_left bay resumes) new = IsBehind new (HasComeTo told disks tells_bytes streams guid call) bay (MayPromise told disks tells_bytes streams guid call) old.floor
   Follows old (Stopped bay resumes) new = IsBehind new (λ now. now ≡ old.past) bay (λ promised. promised ≡ old.promises) old.floor

@@ -9,7 +9,6 @@ ghost use Rattle.ddf_stops.specs.Kept.{is_read};
 ghost use Rattle.ddf_request.specs.Named.{named_array};
 ghost use Rattle.ddf_answer.specs.Call.{work_of};
 ghost use Rattle.ddf_data_commands.specs.Read.{HasRead, Outcome};
-ghost use Rattle.ddf_data_calls.specs.Floors.{HaveFloors};
 ghost use Rattle.ddf_data_calls.specs.Reading.{MayBe, Means, blocks_printed};
 ghost use Rattle.ddf_data_history.specs.Events.{KeepsOn};
 ghost use Rattle.ddf_data_history.specs.Moments.{KeepsAll, Moment};
@@ -32,7 +31,7 @@ pub fn a_read_prints_what_its_moment_promises<B: Bay>()
         → (new : B) (named : Option (List ℕ)) (word : List ℕ) (start count : ℕ) (outcome : Outcome)
         → (read : HasRead (work_of B.tells (B.disks moment.bay) (B.disks new)) named word start count outcome) → Means group read.newest named
         → moment.past.slots ≡ length (B.disks moment.bay).sizes → IsReadable moment.past (scene_of (B.disks moment.bay).sizes (B.disks moment.bay).held) (is_read read.left)
-        → HasMember moment.past (scene_of (B.disks moment.bay).sizes (B.disks moment.bay).held) (is_read read.left) → HaveFloors (B.disks moment.bay) moment.floor
+        → HasMember moment.past (scene_of (B.disks moment.bay).sizes (B.disks moment.bay).held) (is_read read.left)
         → (found : GroupValue) → group_of read.newest named ≡ Ok found → (guid : List ℕ) (array : Array) (allowed : Allowed)
         → named_array found.config.arrays word ≡ Some (guid, array) → moment.promises guid ≡ Some allowed → MayBe allowed start (blocks_printed outcome) }
 {}

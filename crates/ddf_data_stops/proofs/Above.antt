@@ -1,5 +1,5 @@
 -- The records of a disk are read from its floor on: sectors below it change none of them.
-use Rattle.std.proofs.Common.{◌≡◌, ℕ, zero, suc, ◌+◌, ◌-◌, ◌<◌, ◌≤◌, nat_lt, ◌==◌, List, ◌∷◌, map, Some, Ok, Err, if◌then◌else◌, refl, sym, ap, ◌∙◌, arith}
+use Rattle.std.proofs.Common.{◌≡◌, ℕ, zero, suc, ◌+◌, ◌-◌, ◌<◌, ◌≤◌, nat_lt, ◌==◌, List, ◌∷◌, map, Option, Some, None, Result, Ok, Err, if◌then◌else◌, refl, sym, ap, ◌∙◌, arith}
 use Rattle.std.specs.List.{range_with_len}
 use Rattle.ddf_header.specs.declared.reading.Header.{Header}
 use Rattle.ddf_header.specs.declared.geometry.Section.{Section}
@@ -7,7 +7,9 @@ use Rattle.ddf_header.specs.declared.geometry.Geometry.{Geometry}
 use Rattle.ddf_header.specs.Geometry.{section_of}
 use Rattle.ddf_copy.specs.declared.which.Which.{Which}
 use Rattle.ddf_copy.specs.declared.which.Which.TheVariants.{Primary, Secondary}
+use Rattle.ddf_copy.specs.declared.fault.AnchorFault.{AnchorFault}
 use Rattle.ddf_copy.specs.declared.fault.AnchorFault.TheVariants.{Blank}
+use Rattle.ddf_copy.specs.declared.newest_copy.Newest.{Newest}
 use Rattle.ddf_copy.specs.declared.fault.CopyFault.TheVariants as faults
 use Rattle.ddf_copy.specs.Anchor.{anchor_at, anchor_in}
 use Rattle.ddf_copy.specs.Copies.{copy_of, newest_at, newest_of, newest_under}
@@ -15,6 +17,7 @@ use Rattle.ddf_copy.specs.Gate.{header_in, header_of}
 use Rattle.ddf_copy.specs.Sections.{and_then, copy_in, raw_at, sectors_at, whole_slots}
 use Rattle.ddf_copy.specs.Which.{place_of}
 use Rattle.ddf_copy.proofs.Newests.{newest_same}
+use Rattle.ddf_stops.specs.Floors.{HasFloor as DiskFloor}
 
 -- Two disks hold the same from an LBA on.
 abbrev pub AreSameFrom : (floor : ℕ) → (one other : ℕ → List ℕ) → Type 0
@@ -26,6 +29,14 @@ range_same floor one other same from zero le = refl
 range_same floor one other same from (suc count) le =
     ap (λ (first : List ℕ). first ∷ map one (range_with_len (from + 1) count)) (same from le)
     ∙ ap (λ (rest : List (List ℕ)). other from ∷ rest) (range_same floor one other same (from + 1) count (omega (arith, le)))
+
+-- A disk whose copies are read has an anchor.
+anchor_there : (size : ℕ) (sector : ℕ → List ℕ) (newest : Newest) → newest_at size sector ≡ Some newest → (anchor : Header) × (anchor_at size sector ≡ Ok anchor)
+anchor_there size sector newest is = by (anchor_at size sector) refl is
+  where
+    by : (found : Result Header AnchorFault) → anchor_at size sector ≡ found → newest_under size sector found ≡ Some newest → (anchor : Header) × (anchor_at size sector ≡ Ok anchor)
+    by (Ok anchor) here there = (anchor, here)
+    by (Err fault) here there = absurd cc
 
 module _ (floor : ℕ) (one other : ℕ → List ℕ) (same : AreSameFrom floor one other) where
   section_same : (lba : ℕ) → floor ≤ lba → (section : Section) → sectors_at one lba section ≡ sectors_at other lba section
@@ -78,3 +89,15 @@ module _ (floor : ℕ) (one other : ℕ → List ℕ) (same : AreSameFrom floor 
       ap (newest_under size one) is
       ∙ ap Some (newest_of_same size anchor primary secondary)
       ∙ sym (ap (newest_under size other) (sym (anchor_same size within) ∙ is))
+
+  -- So it has its floor.
+  pub floor_same : (size : ℕ) → DiskFloor size one floor → DiskFloor size other floor
+  floor_same size has = record {
+    same_floor = λ newest copy here stands.
+        let found = anchor_there size other newest here in
+        let anchored = anchor_same size has.within ∙ found.1 in
+        let read = newest_at_same size found.0 has.within anchored (has.below found.0 anchored Primary) (has.below found.0 anchored Secondary) in
+        has.same_floor newest copy (read ∙ here) stands;
+    below = λ anchor is. has.below anchor (anchor_same size has.within ∙ is);
+    within = has.within;
+  }

@@ -40,31 +40,43 @@ use Rattle.ddf_group_commands.specs.Writing.{IsLeftWriting, IsStepsSector, IsWri
 use Rattle.ddf_group_commands.proofs.Keeping.{MayLeave, Moments, Tells}
 use Rattle.ddf_group_commands.proofs.Recovering.{rest_lies}
 use Rattle.ddf_group_commands.proofs.StepsWritten.{steps_in}
+use Rattle.ddf_assembly.specs.Group.{floor_of}
+use Rattle.ddf_stops.specs.Floors.{HasFloor}
+use Rattle.ddf_stops.proofs.Placed.{each_floor}
 
 -- ---- nothing was written
 
 -- An image that a stop might have left before is left.
 pub left_still : {D : Type 0} (start : BayState D) (steps : List Step) (image : Image) → IsLeft start.may_hold image → IsLeftWriting start steps image
-left_still start steps image left = record { before = image; is_left = left; shows = λ slot. inl refl; outside = λ slot l. inl refl }
+left_still start steps image left = record { before = image; is_left = left; shows = λ slot. inl refl; outside = λ slot l. inl refl; floors = λ slot floor has own. has }
 
 -- A call that only reads leaves nothing else.
 pub reads_leave : {D : Type 0} (old new : BayState D) (steps : List Step) → ReadsOnly old new → StopsLeave old new (IsLeftWriting old steps)
 reads_leave old new steps reads = stops_weaken reads.any_moment (left_still old steps)
 
--- What is left since the disks were read is left since the call's entry.
+-- What is left of some disks is left of others of which more might be left before.
+pub writing_more : {D : Type 0} (one other : BayState D) → one.sizes ≡ other.sizes → ((s l : ℕ) (bytes : List ℕ) → one.may_hold s l bytes → other.may_hold s l bytes) → (steps : List Step) (image : Image)
+    → IsLeftWriting one steps image → IsLeftWriting other steps image
+writing_more one other same_sizes more steps image writing = record {
+  before = writing.before;
+  is_left = λ s l. more s l (writing.before s l) (writing.is_left s l);
+  shows = rw same_sizes at writing.shows;
+  outside = rw same_sizes at writing.outside;
+  floors = rw same_sizes at writing.floors;
+}
+
+-- So what is left since the disks were read is left since the call's entry.
+pub writing_since : {D : Type 0} (old middle : BayState D) → ReadsOnly old middle → (steps : List Step) (image : Image) → IsLeftWriting middle steps image → IsLeftWriting old steps image
+writing_since old middle reads steps image writing = writing_more middle old reads.same_sizes reads.keeps steps image writing
+
 pub leaves_since : {D : Type 0} (old middle new : BayState D) (steps : List Step) → ReadsOnly old middle → StopsLeave middle new (IsLeftWriting middle steps)
     → StopsLeave old new (IsLeftWriting old steps)
-leaves_since old middle new steps reads leaves = stops_then (reads_leave old middle steps reads) leaves (λ image writing. record {
-  before = writing.before;
-  is_left = left_keeps old.may_hold middle.may_hold writing.before reads.keeps writing.is_left;
-  shows = rw reads.same_sizes at writing.shows;
-  outside = rw reads.same_sizes at writing.outside;
-})
+leaves_since old middle new steps reads leaves = stops_then (reads_leave old middle steps reads) leaves (writing_since old middle reads steps)
 
 -- ---- what a slot shows
 
 -- what it shows after another thing: that, of two copies that differ one alone, or the copy of a step
-abbrev ShowsFrom : List Step → (slot : ℕ) → (before after : Shown View) → Type 0
+abbrev pub ShowsFrom : List Step → (slot : ℕ) → (before after : Shown View) → Type 0
 ShowsFrom steps slot before after = (after ≡ before) ⊎ IsPart before after ⊎ ShowsStep steps slot after
 
 -- What shows one of two copies that differ shows that one behind a single copy too.
@@ -131,6 +143,13 @@ module _ {D : Type 0} (start : BayState D) (one : ReadyStep) (seat : ℕ → Slo
       (λ is. inr (record { on = on.0; update = update.0; is_prepared = prepared.each place on.0.disk update.0 on.1 update.1; is_in = is }))
       (each_outside start slots seat one.updates image lies.are_slots lies.counted may (λ other its there. says its) changing place slot update.0 at update.1 l)
 
+  floors_here : (place slot : ℕ) → slice_get slots place ≡ Some slot → is_slot slots slot ≡ true → (floor : ℕ) → HasFloor (size_of start slot) (unwritten start slots image slot) floor
+      → ((on : IsWrittenOn steps slot) → floor_of on.disk.copy ≡ floor) → HasFloor (size_of start slot) (image slot) floor
+  floors_here place slot at here floor has own =
+      let on = written_at place slot at in
+      each_floor start slots seat one.updates image lies.counted may changing place slot at floor (ap floor_of (news place on.0.disk on.1) ∙ own on.0)
+      (subst (λ (sector : ℕ → List ℕ). HasFloor (size_of start slot) sector floor) (unwritten_here start slots image slot here) has)
+
   -- A stop while it is written leaves its copies, and what might be left before.
   pub step_leaves : IsLeftWriting start steps image
   step_leaves = record {
@@ -144,21 +163,32 @@ module _ {D : Type 0} (start : BayState D) (one : ReadyStep) (seat : ℕ → Slo
       | inl here ↦ let at = slot_placed slots slot here in outside_here at.0 slot l at.1 here
       | inr none ↦ inl (ap (λ (sector : ℕ → List ℕ). sector l) (sym (unwritten_else start slots image slot none)))
     ];
+    floors = λ slot floor has own. elim (which (is_slot slots slot)) [
+      | inl here ↦ let at = slot_placed slots slot here in floors_here at.0 slot at.1 here floor has own
+      | inr none ↦ subst (λ (sector : ℕ → List ℕ). HasFloor (size_of start slot) sector floor) (unwritten_else start slots image slot none) has
+    ];
   }
 
--- What is left behind another step.
-writing_then : {D : Type 0} (old middle : BayState D) (steps : List Step) (image : Image) → middle.sizes ≡ old.sizes → IsLeftWriting middle steps image
-    → ((before : Image) → IsLeft middle.may_hold before → IsLeftWriting old steps before) → IsLeftWriting old steps image
-writing_then old middle steps image same_sizes now earlier =
-    let first = earlier now.before now.is_left in
+-- What is left behind what was left of these steps.
+pub writing_by : {D : Type 0} (old middle : BayState D) (steps : List Step) (image : Image) → middle.sizes ≡ old.sizes → (now : IsLeftWriting middle steps image) → IsLeftWriting old steps now.before
+    → IsLeftWriting old steps image
+writing_by old middle steps image same_sizes now first =
     let shows = rw same_sizes at now.shows in
     let outside : (slot l : ℕ) → (image slot l ≡ now.before slot l) ⊎ IsStepsSector (size_of old slot) steps slot l = rw same_sizes at now.outside in
+    let floors : (slot floor : ℕ) → HasFloor (size_of old slot) (now.before slot) floor → ((on : IsWrittenOn steps slot) → floor_of on.disk.copy ≡ floor) → HasFloor (size_of old slot) (image slot) floor =
+    rw same_sizes at now.floors in
     record {
       before = first.before;
       is_left = first.is_left;
       shows = λ slot. shows_then steps slot _ _ _ (first.shows slot) (shows slot);
       outside = λ slot l. ⊎_elim (λ same. ⊎_elim (λ also. inl (same ∙ also)) inr (first.outside slot l)) inr (outside slot l);
+      floors = λ slot floor has own. floors slot floor (first.floors slot floor has own) own;
     }
+
+-- What is left behind another step.
+writing_then : {D : Type 0} (old middle : BayState D) (steps : List Step) (image : Image) → middle.sizes ≡ old.sizes → IsLeftWriting middle steps image
+    → ((before : Image) → IsLeft middle.may_hold before → IsLeftWriting old steps before) → IsLeftWriting old steps image
+writing_then old middle steps image same_sizes now earlier = writing_by old middle steps image same_sizes now (earlier now.before now.is_left)
 
 -- The next step is one of those that are left, also behind a recovery.
 next_in : (next : Option ReadyStep) (one : ReadyStep) (others : List ReadyStep) → (number : ℕ) × (slice_get (steps_in (option_to_list next ++ one ∷ others)) number ≡ Some one.step)
@@ -197,7 +227,7 @@ module _ {D : Type 0} (tells : Type 0) (old : BayState D) (found : GroupValue) (
       let follows = recovery_follows found changes timestamp ready was one is in
       let leaves = step_leaves sure one can.seat image lies can.may_change can.news follows.are_prepared (λ s l. (reads.is_left s l, λ place at. refl))
       (says_one old reads) changing (one.step ∷ steps_in rest) 0 refl in
-      record { before = leaves.before; is_left = λ s l. (leaves.is_left s l).0; shows = leaves.shows; outside = leaves.outside }
+      record { before = leaves.before; is_left = λ s l. (leaves.is_left s l).0; shows = leaves.shows; outside = leaves.outside; floors = leaves.floors }
 
   recovery_leaves : ReadsTrue old → (image : Image) → MayLeave old found ready may.seat image → IsLeftWriting old own_steps image
   recovery_leaves reads image (inl before) = left_still old own_steps image before

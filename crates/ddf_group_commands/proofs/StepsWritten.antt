@@ -12,12 +12,12 @@ use Rattle.ddf_copy.specs.declared.copy.DiskCopy.{DiskCopy}
 use Rattle.ddf_plan.specs.declared.change.Change.{Change}
 use Rattle.ddf_plan.specs.Same.{is_step}
 use Rattle.ddf_rewrite.proofs.Lists.{get_map, map_get}
-use Rattle.ddf_update.specs.Changes.{AreChanged, SlotChange, anchor_after}
+use Rattle.ddf_update.specs.Changes.{AreChanged, MayChangeAll, SlotChange, anchor_after}
 use Rattle.ddf_update.specs.Prepared.{all_sectors}
 use Rattle.ddf_update.specs.Update.{AreBoth}
 use Rattle.ddf_assembly.specs.declared.seated.Seated.{Seated}
 use Rattle.ddf_assembly.specs.Committed.{MayRecover, MayWriteNext, group_next, group_recovered, next_slots, next_updates, slots_of, slots_written, synced, updates_written}
-use Rattle.ddf_assembly.specs.Group.{GroupValue}
+use Rattle.ddf_assembly.specs.Group.{GroupValue, floor_of}
 use Rattle.ddf_assembly.specs.Ready.{ReadyStep, steps_from}
 use Rattle.ddf_assembly.specs.Refusing.{step_refusal}
 use Rattle.ddf_assembly.specs.Seated.{slots_in}
@@ -28,6 +28,7 @@ use Rattle.ddf_assembly.proofs.CommittedSeats.{get_there}
 use Rattle.ddf_assembly.proofs.Ordered.{order_at, order_from}
 use Rattle.ddf_group_commands.specs.Change.{last_sequence}
 use Rattle.ddf_group_commands.specs.Written.{AreWritten, HasCopy, IsWritten}
+use Rattle.ddf_stops.proofs.Placed.{got_floor}
 
 abbrev pub steps_in : List ReadyStep → List Step
 steps_in steps = map (λ one. one.step) steps
@@ -52,6 +53,7 @@ few_steps timestamp (change ∷ other ∷ others) config disks steps few h = abs
 
 module _ {D : Type 0} (old new : BayState D) (disks : List Seated) (one : ReadyStep) (follows : Follows disks one) (seat : ℕ → SlotChange)
     (news : (place : ℕ) (disk : Seated) → slice_get (in_order one.step.disks) place ≡ Some disk → (seat place).new ≡ disk.copy)
+    (may : MayChangeAll old (slots_in (in_order one.step.disks)) seat one.updates)
     (changed : AreChanged old new (slots_in (in_order one.step.disks)) seat one.updates (length (slots_in (in_order one.step.disks)))) where
   -- the disk at a place has its copy
   copy_of : (place : ℕ) (disk : Seated) → slice_get one.step.disks place ≡ Some disk → HasCopy old.sizes old.held new.held disk
@@ -71,6 +73,7 @@ module _ {D : Type 0} (old new : BayState D) (disks : List Seated) (one : ReadyS
         are_both = subst (λ (copy : DiskCopy). AreBoth (slice_index old.sizes slot) (new.held slot) (anchor_after (seat place)) copy) (news place disk at) is.are_both;
         is_prepared = follows.are_prepared.each place disk update.0 at update.1;
         outside = is.outside;
+        floors = λ floor has same. got_floor old slot (seat place) floor (ap floor_of (news place disk at) ∙ same) has (new.held slot) (seat place).mode (may.may_change place slot here) is.are_both;
       }
 
   -- The step was written.
@@ -90,7 +93,7 @@ pub committed_written : {D : Type 0} (old new : BayState D) (disks : List Seated
     → AreChanged old new (next_slots (record { recovery = None; steps = steps })) may.seat (next_updates (record { recovery = None; steps = steps })) (length (next_slots (record { recovery = None; steps = steps })))
     → AreWritten old.sizes old.held (steps_in steps) new.held
 committed_written old new disks [] few follows may changed = λ slot l. changed.others slot l (λ place below at. absurd (omega (arith, below)))
-committed_written old new disks (one ∷ []) few follows may changed = (new.held, step_written old new disks one follows.0 may.seat may.news changed, λ slot l. refl)
+committed_written old new disks (one ∷ []) few follows may changed = (new.held, step_written old new disks one follows.0 may.seat may.news may.may_change changed, λ slot l. refl)
 committed_written old new disks (one ∷ other ∷ others) few follows may changed = absurd (omega (arith, few))
 
 -- The recovery was written before the steps behind it.
@@ -102,7 +105,7 @@ recovery_written old middle group disks None steps after follows may changed wri
     let same : middle.held ≡ old.held = fun_ext (λ slot. fun_ext (λ l. changed.others slot l (λ place below at. absurd (omega (arith, below))))) in
     subst (λ (image : Image). AreWritten old.sizes image (steps_in steps) after) same written
 recovery_written old middle group disks (Some one) steps after follows may changed written =
-    (middle.held, step_written (synced old (slots_of group.seats)) middle disks one follows may.seat may.news changed, written)
+    (middle.held, step_written (synced old (slots_of group.seats)) middle disks one follows may.seat may.news may.may_change changed, written)
 
 -- A slot that was settled is settled once the next step was written.
 pub settled_still : {D : Type 0} (middle new : BayState D) (steps : List ReadyStep) (seat : ℕ → SlotChange)

@@ -11,7 +11,9 @@ use Rattle.ddf_history.specs.Reading.Shown.{One}
 use Rattle.ddf_history.specs.Scenes.{scene_of}
 use Rattle.ddf_history.specs.Steps.{IsPart}
 use Rattle.ddf_assembly.specs.declared.seated.Seated.{Seated}
+use Rattle.ddf_assembly.specs.Group.{floor_of}
 use Rattle.ddf_assembly.specs.Steps.{Step}
+use Rattle.ddf_stops.specs.Floors.{HasFloor}
 
 -- One of these steps writes a disk on a slot.
 pub record IsWrittenOn (steps : List Step) (slot : ℕ) : Type 0 where
@@ -35,10 +37,13 @@ pub record IsStepsSector (size : ℕ) (steps : List Step) (slot l : ℕ) : Type 
   pub is_in : IsUpdateSector size update l
 
 -- It is an image that a stop might have left before, but for copies that the steps write: each slot shows what it showed before, perhaps of two
--- copies that differ one alone, or such a copy alone, and no sector outside the places of these is another one.
+-- copies that differ one alone, or such a copy alone, and no sector outside the places of these is another one. So each disk keeps its floor, where the copies
+-- that it gets have that.
 pub record IsLeftWriting {D : Type 0} (start : BayState D) (steps : List Step) (image : Image) : Type 0 where
   pub before : Image
   pub is_left : IsLeft start.may_hold before
   pub shows : (slot : ℕ) → (scene_of start.sizes image slot ≡ scene_of start.sizes before slot) ⊎ IsPart (scene_of start.sizes before slot) (scene_of start.sizes image slot)
       ⊎ ShowsStep steps slot (scene_of start.sizes image slot)
   pub outside : (slot l : ℕ) → (image slot l ≡ before slot l) ⊎ IsStepsSector (size_of start slot) steps slot l
+  pub floors : (slot floor : ℕ) → HasFloor (size_of start slot) (before slot) floor → ((on : IsWrittenOn steps slot) → floor_of on.disk.copy ≡ floor)
+      → HasFloor (size_of start slot) (image slot) floor

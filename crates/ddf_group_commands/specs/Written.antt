@@ -7,14 +7,17 @@ use Rattle.ddf_update.specs.Prepared.{IsPrepared}
 use Rattle.ddf_update.specs.Update.{AreBoth, IsWritten as IsUpdateSector}
 use Rattle.ddf_assembly.specs.declared.seated.Seated.{Seated}
 use Rattle.ddf_assembly.specs.Steps.{Step}
+use Rattle.ddf_assembly.specs.Group.{floor_of}
+use Rattle.ddf_stops.specs.Floors.{HasFloor}
 
--- A disk has its copy in both places, and all outside what it writes is as it was.
+-- A disk has its copy in both places, and all outside what it writes is as it was. It has the floor that it had, where that is the copy's.
 pub record HasCopy (sizes : List ℕ) (before after : Image) (disk : Seated) : Type 0 where
   pub anchor : Header
   pub update : Prepared
   pub are_both : AreBoth (slice_index sizes disk.seat.slot) (after disk.seat.slot) anchor disk.copy
   pub is_prepared : IsPrepared disk.copy disk.last disk.mode update
   pub outside : (l : ℕ) → (after disk.seat.slot l ≡ before disk.seat.slot l) ⊎ IsUpdateSector (slice_index sizes disk.seat.slot) update l
+  pub floors : (floor : ℕ) → HasFloor (slice_index sizes disk.seat.slot) (before disk.seat.slot) floor → floor_of disk.copy ≡ floor → HasFloor (slice_index sizes disk.seat.slot) (after disk.seat.slot) floor
 
 -- no disk of a step lies on a slot
 abbrev pub IsBeside : Step → (slot : ℕ) → Type 0

@@ -1,64 +1,18 @@
 -- Two copies of one disk that differ are of one group and one sequence.
 use Rattle.std.proofs.Common.{◌≡◌, ℕ, Bool, true, false, List, if◌then◌else◌, Some, Result, Ok, Err, refl, ap, sym, ◌∙◌, inl, inr, arith, subst}
 use Rattle.std.proofs.lemmas.Bool.{cases_lt, lt-ltb, le-ltb}
-use Rattle.std.specs.Prelude.{IfOk}
 use Rattle.ddf_copy.specs.declared.copy.DiskCopy.{DiskCopy}
 use Rattle.ddf_copy.specs.declared.fault.CopyFault.{CopyFault}
 use Rattle.ddf_copy.specs.declared.newest_copy.Newest.{Newest}
 use Rattle.ddf_copy.specs.declared.newest_copy.Newest.TheVariants as newests
-use Rattle.ddf_copy.specs.declared.raw.Raw.{Raw}
 use Rattle.ddf_copy.specs.declared.which.Which.{Which}
 use Rattle.ddf_copy.specs.declared.which.Which.TheVariants.{Primary, Secondary}
 use Rattle.ddf_copy.specs.Anchor.{anchor_at}
 use Rattle.ddf_copy.specs.Copies.{are_level, copy_of, newest_at, newest_in, newest_of, newest_of_both, newest_under}
-use Rattle.ddf_copy.specs.Gate.{header_bytes, header_of}
-use Rattle.ddf_copy.specs.Sections.{and_then, copy_in, raw_at}
-use Rattle.ddf_copy.specs.Which.{place_of}
-use Rattle.ddf_copy.proofs.Gates.{found_is}
-use Rattle.ddf_copy.proofs.Shared.{shared_guid}
 use Rattle.ddf_view.specs.View.{view_of}
 use Rattle.ddf_group.specs.Shown.{shown_of}
 use Rattle.ddf_history.specs.Answered.{IsOfOneGroup}
-
--- What the second of two steps gives has what is asked of it.
-both_steps : {A B : Type 0} (P : B → Type 0) (first : Result A CopyFault) (next : A → Result B CopyFault) → ((part : A) → IfOk (next part) P) → IfOk (and_then first next) P
-both_steps P (Ok part) next has = has part
-both_steps P (Err fault) next has = tt
-
--- A copy has the header that it is read behind.
-header_read : (header : _) (raw : Raw) → IfOk (copy_in header raw) (λ copy. copy.header ≡ header)
-unfolding copy_in
-header_read header raw = search both_steps depth 9
-
--- What follows of what a good reading gives has that too.
-if_ok : {A : Type 0} {P Q : A → Type 0} (read : Result A CopyFault) → ((value : A) → P value → Q value) → IfOk read P → IfOk read Q
-if_ok (Ok value) more has = more value has
-if_ok (Err fault) more has = tt
-
--- What a good reading gives has what is asked of it.
-good_has : {A : Type 0} (P : A → Type 0) (read : Result A CopyFault) (value : A) → read ≡ Ok value → IfOk read P → P value
-good_has P (Ok other) value is has = let same : other ≡ value = cc in subst P same has
-good_has P (Err fault) value is has = absurd cc
-
--- The header of a copy is the one that stands in its place.
-header_there : (size : ℕ) (sector : ℕ → List ℕ) (anchor : _) (which : Which) (copy : DiskCopy) → copy_of size sector anchor which ≡ Ok copy → header_of size sector anchor which ≡ Ok copy.header
-unfolding copy_of
-header_there size sector anchor which copy is =
-    good_has (λ (copy : DiskCopy). header_of size sector anchor which ≡ Ok copy.header) (copy_of size sector anchor which) copy is (by_header (header_of size sector anchor which) refl)
-  where
-    by_header : (read : _) → header_of size sector anchor which ≡ read
-        → IfOk (and_then read (λ header. copy_in header (raw_at sector (place_of which anchor) header.geometry))) (λ copy. header_of size sector anchor which ≡ Ok copy.header)
-    by_header (Ok header) found = if_ok (copy_in header (raw_at sector (place_of which anchor) header.geometry)) (λ copy same. found ∙ ap Ok (sym same)) (header_read header (raw_at sector (place_of which anchor) header.geometry))
-    by_header (Err fault) found = tt
-
--- Two copies under one anchor are of one group.
-one_group : (size : ℕ) (sector : ℕ → List ℕ) (anchor : _) (primary secondary : DiskCopy) → copy_of size sector anchor Primary ≡ Ok primary → copy_of size sector anchor Secondary ≡ Ok secondary → primary.header.guid ≡ secondary.header.guid
-one_group size sector anchor primary secondary is also =
-    let one = found_is size sector anchor Primary primary.header (header_there size sector anchor Primary primary is) in
-    let other = found_is size sector anchor Secondary secondary.header (header_there size sector anchor Secondary secondary also) in
-    one.guid_is
-    ∙ shared_guid (header_bytes anchor) (sector (place_of Primary anchor)) (sector (place_of Secondary anchor)) (record { one_is = one.is_gate.is_shared; other_is = other.is_gate.is_shared })
-    ∙ sym other.guid_is
+use Rattle.ddf_copy.proofs.LastCopies.{one_group}
 
 -- Two copies are of one group and one sequence.
 record AreAlike (one other : DiskCopy) : Type 0 where
@@ -88,7 +42,7 @@ differing_alike size sector anchor primary secondary is = by_copies (copy_of siz
     by_copies (Ok first) (Ok second) one other newest =
         let both = both_newest (are_level (Ok first) (Ok second)) first second primary secondary newest in
         record {
-          group = ap (λ (copy : DiskCopy). copy.header.guid) (sym both.0) ∙ one_group size sector anchor first second one other ∙ ap (λ (copy : DiskCopy). copy.header.guid) both.1;
+          group = ap (λ (copy : DiskCopy). copy.header.guid) (sym both.0) ∙ one_group size sector anchor Primary Secondary first second one other ∙ ap (λ (copy : DiskCopy). copy.header.guid) both.1;
           sequence = ap (λ (copy : DiskCopy). copy.header.sequence) (sym both.0) ∙ both.2 ∙ ap (λ (copy : DiskCopy). copy.header.sequence) both.1;
         }
     by_copies (Ok first) (Err fault) one other newest = absurd cc

@@ -5,13 +5,13 @@ pub mod Views
 pub mod Targets
 pub mod Begun
 pub mod Beginnings
-mod PlanMade
+pub mod PlanMade
 mod SpareViews
 pub mod SeatsThere
 pub mod SeatsKept
 mod PlanFits
-mod PlanFitted
-mod PlanKept
+pub mod PlanFitted
+pub mod PlanKept
 mod Examples
 mod Coming
 mod NextStep

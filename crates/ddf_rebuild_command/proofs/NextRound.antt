@@ -39,23 +39,23 @@ module _ {D : Type 0} (tells : Type 0) (old middle : BayState D) (volume : Volum
     stands_behind [] many stands = absurd (omega (arith, many))
     stands_behind (one ∷ others) many stands = one_round.stands_behind tells old middle volume target from row end found can recovery one others stands done rows is_so
 
-    module _ (tells_middle : IsTold middle) (new : BayState D) (tells_new : IsTold new) (noted : Bool) where
+    module _ (tells_old : IsTold old) (tells_middle : IsTold middle) (new : BayState D) (tells_new : IsTold new) (noted : Bool) where
       pub round_goes : (steps : List ReadyStep) → 1 ≤ length steps → Stands tells old found (with_steps recovery steps) → GoesNext tells middle new found (with_steps recovery steps) noted
           → GoesFilling tells old new volume target from (rounds_in (row ∷ []) steps) found (with_steps recovery steps) noted
       round_goes [] many stands next = absurd (omega (arith, many))
       round_goes (one ∷ others) many stands next =
-          one_round.round_goes tells old middle volume target from row end found can recovery one others stands done rows is_so tells_middle new tells_new noted next
+          one_round.round_goes tells old middle volume target from row end found can recovery one others stands done rows is_so tells_old tells_middle new tells_new noted next
 
       pub round_filled : (steps : List ReadyStep) → 1 ≤ length steps → Stands tells old found (with_steps recovery steps) → GoesNext tells middle new found (with_steps recovery steps) noted
           → (now_found : GroupValue) (now_ready : ReadyValue) → IsNextWritten tells middle new found (with_steps recovery steps) now_found now_ready
           → AreFilled tells old new volume target from (rounds_in (row ∷ []) steps) found (with_steps recovery steps) now_found now_ready
       round_filled [] many stands next now_found now_ready written = absurd (omega (arith, many))
       round_filled (one ∷ others) many stands next now_found now_ready written =
-          one_round.round_filled tells old middle volume target from row end found can recovery one others stands done rows is_so tells_middle new tells_new noted next now_found now_ready written
+          one_round.round_filled tells old middle volume target from row end found can recovery one others stands done rows is_so tells_old tells_middle new tells_new noted next now_found now_ready written
 
       pub round_fault : (steps : List ReadyStep) → 1 ≤ length steps → Stands tells old found (with_steps recovery steps) → GoesNext tells middle new found (with_steps recovery steps) noted
           → (failure : Failure) → IsSlotFault middle new (slots_of found.seats) failure
           → IsFillFault tells old new volume target from (rounds_in (row ∷ []) steps) found (with_steps recovery steps) row failure
       round_fault [] many stands next failure fault = absurd (omega (arith, many))
       round_fault (one ∷ others) many stands next failure fault =
-          one_round.round_fault tells old middle volume target from row end found can recovery one others stands done rows is_so tells_middle new tells_new noted next failure fault
+          one_round.round_fault tells old middle volume target from row end found can recovery one others stands done rows is_so tells_old tells_middle new tells_new noted next failure fault

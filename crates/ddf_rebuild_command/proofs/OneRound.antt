@@ -45,8 +45,9 @@ use Rattle.ddf_rebuild_command.specs.Filled.{AreFilled, CanFill, EndsAmidst, Goe
 use Rattle.ddf_rebuild_command.specs.Rounds.{IsFilled, IsSure, Round}
 use Rattle.ddf_rebuild_command.specs.Stages.Stage.{Filling, Noting}
 use Rattle.ddf_rebuild_command.specs.Standing.{AddsNothing, GoesNext, IsNextWritten, IsSlotFault, Stands}
-use Rattle.ddf_rebuild_command.proofs.RoundsMore.{left_holding, writing_more}
+use Rattle.ddf_rebuild_command.proofs.RoundsMore.{left_holding}
 use Rattle.ddf_rebuild_command.proofs.TargetCells.{cell_below, none_left_seat, not_cell, target_seat}
+use Rattle.ddf_group_commands.proofs.LeftWriting.{writing_more}
 
 -- What the filling of rows promises, done or not.
 pub record FillsRows {D : Type 0} (tells : Type 0) (old new : BayState D) (volume : Volume) (target : Target) (from row : ℕ) (done : Bool) : Type 0 where
@@ -107,8 +108,8 @@ module _ {D : Type 0} (tells : Type 0) (old middle : BayState D) (volume : Volum
 
   -- ---- while the rows are filled
 
-  filling_left : tells → (failed : ℕ → Type 0) (image : Image) → IsLeftBut Cells old.may_hold image → IsLeftIn failed old slots volume target from rounds (Filling 0) image
-  filling_left told failed image but = record {
+  filling_left : tells → (failed : ℕ → Type 0) (whole : Type 0) (image : Image) → IsLeftBut Cells old.may_hold image → IsLeftIn failed whole old slots volume target from rounds (Filling 0) image
+  filling_left told failed whole image but = record {
     before = old.held;
     rounds_done = λ s l. refl;
     round = round;
@@ -128,13 +129,13 @@ module _ {D : Type 0} (tells : Type 0) (old middle : BayState D) (volume : Volum
 
   module _ (new : BayState D) where
     rows_leave : tells → StopsLeave old middle (IsAmidst tells old new volume target from rounds found ready (λ stage image. Unit {0}))
-    rows_leave told = stops_weaken rows.any_moment (λ image but. record { stage = Filling 0; is_left = filling_left told (Failed old new) image but; shows = tt })
+    rows_leave told = stops_weaken rows.any_moment (λ image but. record { stage = Filling 0; is_left = filling_left told (Failed old new) new.tells_left image but; shows = tt })
 
     rows_moments : tells → (group : List ℕ) (past : Past (groups group)) → StandsReady group past old found ready
         → StopsLeave old middle (IsAmidst tells old new volume target from rounds found ready (ShowsIn tells old new volume target from rounds found ready group past))
     rows_moments told group past at =
         stops_weaken (stops_both old middle (IsLeftBut Cells old.may_hold) (λ image. IsKept past (scene_of old.sizes image)) rows.any_moment (rows_kept told group past at))
-        (λ image both. record { stage = Filling 0; is_left = filling_left told (Failed old new) image both.0; shows = (past, refl, both.1) })
+        (λ image both. record { stage = Filling 0; is_left = filling_left told (Failed old new) new.tells_left image both.0; shows = (past, refl, both.1) })
 
   -- They weren't.
   pub rows_failed : GoesFilling tells old middle volume target from rounds found ready false
@@ -149,7 +150,7 @@ module _ {D : Type 0} (tells : Type 0) (old middle : BayState D) (volume : Volum
       now = past;
       has_come = refl;
       is_over = λ e. absurd (false≢true e);
-      is_left = λ image left. filling_left told (Failed old middle) image (λ s l. rows.left s l (image s l) (left s l));
+      is_left = λ image left. filling_left told (Failed old middle) middle.tells_left image (λ s l. rows.left s l (image s l) (left s l));
       all_kept = rows_all_kept told group past at;
     });
   }
@@ -168,7 +169,7 @@ module _ {D : Type 0} (tells : Type 0) (old middle : BayState D) (volume : Volum
       keep_seats = stands.keep_seats;
     }
 
-    module _ (tells_middle : IsTold middle) (new : BayState D) (tells_new : IsTold new) (noted : Bool) (next : GoesNext tells middle new found ready noted) where
+    module _ (tells_old : IsTold old) (tells_middle : IsTold middle) (new : BayState D) (tells_new : IsTold new) (noted : Bool) (next : GoesNext tells middle new found ready noted) where
       to_new : (slot : ℕ) → Failed old middle slot → Failed old new slot
       to_new slot failed = rose_still (old.failed_reads slot) (middle.failed_reads slot) (new.failed_reads slot) (rows.goes.reads_rise slot) (next.goes.reads_rise slot) failed
 
@@ -176,10 +177,14 @@ module _ {D : Type 0} (tells : Type 0) (old middle : BayState D) (volume : Volum
       sure_by (inl none) = inl (λ slot on failed. none slot on (to_new slot failed))
       sure_by (inr redundant) = inr (inl redundant)
 
-      is_filled : tells → IsFilled (Failed old new) volume target from row old.held middle.held
-      is_filled told = record { rebuilt = λ sure. rows.rebuilt told is_so (sure_by sure); stays = rows.held told }
+      is_filled : tells → IsFilled (Failed old new) new.tells_left volume target from row old.held middle.held
+      is_filled told = record {
+        rebuilt = λ sure. rows.rebuilt told is_so (sure_by sure);
+        stays = rows.held told;
+        are_sectors = λ left_told s l. (tells_old.whole s l (old.held s l) (tells_old.held (rows.told (next.told left_told)) s l)).size;
+      }
 
-      noting_left : tells → (image : Image) → IsLeftWriting middle (one.step ∷ []) image → IsLeftIn (Failed old new) old slots volume target from rounds (Noting 0) image
+      noting_left : tells → (image : Image) → IsLeftWriting middle (one.step ∷ []) image → IsLeftIn (Failed old new) new.tells_left old slots volume target from rounds (Noting 0) image
       noting_left told image writing = record {
         before = old.held;
         rounds_done = λ s l. refl;

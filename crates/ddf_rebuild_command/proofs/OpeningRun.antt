@@ -39,7 +39,9 @@ use Rattle.ddf_rebuild_command.specs.Stages.Stage.{Opening}
 use Rattle.ddf_rebuild_command.specs.Standing.{IsSlotFault}
 use Rattle.ddf_rebuild_command.proofs.Coming.{changes_both, goes_more}
 use Rattle.ddf_rebuild_command.proofs.OneRound.{stops_both}
-use Rattle.ddf_rebuild_command.proofs.PositionRun.{admitted_still, kept_still, seat_there, writing_since, written_since}
+use Rattle.ddf_rebuild_command.proofs.PositionRun.{seat_there, written_since}
+use Rattle.ddf_stops.proofs.Entering.{admitted_still, kept_still}
+use Rattle.ddf_group_commands.proofs.LeftWriting.{writing_since}
 
 module _ {D : Type 0} (tells : Type 0) (entry start new : BayState D) (reads : ReadsOnly entry start) (writes_rise : (slot : ℕ) → entry.failed_writes slot ≤ start.failed_writes slot)
     (found : GroupValue) (timestamp : ℕ) (word : List ℕ) (fit : SeatsFit entry.sizes found.seats) (first : List Step) (opens : GoesOpening tells start new found first) where
@@ -66,7 +68,7 @@ module _ {D : Type 0} (tells : Type 0) (entry start new : BayState D) (reads : R
     kept_start = kept_still group past entry start reads kept
 
     admitted_start : IsAdmitted group past start left found
-    admitted_start = admitted_still group past entry start left found reads admitted
+    admitted_start = admitted_still group past entry start reads left found admitted
 
     abbrev GoesTo : List Step → Past (groups group) → Type 0
     GoesTo steps now = Goes group past (is_read left) found (changes_in found steps) now

@@ -41,17 +41,18 @@ use Rattle.ddf_rebuild_command.specs.Notes.{notes}
 use Rattle.ddf_rebuild_command.specs.Plans.{IsFillingIn, IsFillingOf, IsPlanOf, begun_config}
 use Rattle.ddf_rebuild_command.proofs.Beginnings.{Beginning, beginning, goes_on, spares}
 use Rattle.ddf_rebuild_command.proofs.Noting.{Rise, notes_below, notes_rise}
-use Rattle.ddf_rebuild_command.proofs.PlanMade.{named_is, place_at, rows_are}
+use Rattle.ddf_rebuild_command.proofs.PlanMade.{place_at, rows_are}
 use Rattle.ddf_rebuild_command.proofs.SeatsKept.{still_current}
 use Rattle.ddf_rebuild_command.proofs.SpareViews.{still_rows, still_within}
 use Rattle.ddf_rebuild_command.proofs.Targets.{is_again, is_fresh_at}
+use Rattle.ddf_data_commands.proofs.ArrayUse.{named_is}
 
 -- A position can be filled over these seats.
 pub record CanFill (config : Configuration) (seats : List Seat) (entry : Entry) (filling : Filling) : Type 0 where
   pub apart : IsApart filling.view
   pub is_within : is_within filling.view ≡ true
   pub rise : RiseTo (rows_in entry.1 filling.target.element) filling.from filling.rows
-  pub ends : (part : Part) → slice_get filling.view.parts filling.target.element ≡ Some part → rows_in entry.1 filling.target.element ≤ row_count part.shape
+  pub all_rows : (part : Part) → slice_get filling.view.parts filling.target.element ≡ Some part → rows_in entry.1 filling.target.element ≡ row_count part.shape
 
 -- ---- seats
 
@@ -78,14 +79,14 @@ are_seats members seats current rise = record {
 
 -- ---- rows
 
-rise_to : (end from low : ℕ) (rows : List ℕ) → Rise low rows → AllByRecursion (λ row. row < end) rows → from ≤ low → from ≤ end → RiseTo end from (rows ++ end ∷ [])
+pub rise_to : (end from low : ℕ) (rows : List ℕ) → Rise low rows → AllByRecursion (λ row. row < end) rows → from ≤ low → from ≤ end → RiseTo end from (rows ++ end ∷ [])
 rise_to end from low [] rise below some most = (most, omega arith)
 rise_to end from low (row ∷ rows) rise below some most =
     let less = rise.0 in
     let within = below.0 in
     (omega (arith, less, some), rise_to end row row rows rise.1 below.1 (omega arith) (omega (arith, within)))
 
-least : (kept end : ℕ) → (min kept end ≤ kept) × (min kept end ≤ end)
+pub least : (kept end : ℕ) → (min kept end ≤ kept) × (min kept end ≤ end)
 least kept end = (omega arith, omega arith)
 
 -- ---- what the refusals tell
@@ -140,10 +141,10 @@ module _ (config : Configuration) (seats : List Seat) (word : List ℕ) (plan : 
         apart = view_apart config entry.0 seats filling.view is_view (are_seats config.members seats members slots);
         is_within = told_within config entry.0 seats filling.view entry.1 is_view found ∙ within;
         rise = rises;
-        ends = λ part at.
+        all_rows = λ part at.
             let both : Some place.part ≡ Some part = sym place.is_part ∙ at in
             let equal : place.part ≡ part = cc in
-            omega (arith, same, ap (λ (one : Part). row_count one.shape) equal);
+            same ∙ ap (λ (one : Part). row_count one.shape) equal;
       }
   by (spares change h kept before) =
       let fresh = is_fresh_at config entry.0 seats target change h in
@@ -161,9 +162,9 @@ module _ (config : Configuration) (seats : List Seat) (word : List ℕ) (plan : 
         is_within = still_within config entry.0 target.element target.position reference start seats fresh.first.held held fresh.first.is_out config.sequence filling.view is_view
             ∙ ap (is_array_within seats) array ∙ within;
         rise = rises;
-        ends = λ part at.
-            let same = still_rows config entry.0 target.element target.position reference start seats fresh.first.held held fresh.first.is_out config.sequence filling.view is_view part at in
-            omega (arith, same, ap (λ (one : Array). rows_in one target.element) array);
+        all_rows = λ part at.
+            sym (ap (λ (one : Array). rows_in one target.element) array)
+            ∙ still_rows config entry.0 target.element target.position reference start seats fresh.first.held held fresh.first.is_out config.sequence filling.view is_view part at;
       }
 
   pub can_fill : CanFill config seats entry filling

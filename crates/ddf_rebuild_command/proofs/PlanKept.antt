@@ -45,19 +45,21 @@ use Rattle.ddf_rebuild_command.proofs.Begun.{fresh_out, fresh_steps}
 use Rattle.ddf_rebuild_command.proofs.Noting.{Rise, notes_rise}
 use Rattle.ddf_rebuild_command.proofs.PlanFits.{IsPlannedFor}
 use Rattle.ddf_rebuild_command.proofs.PlanFitted.{CanFill, can_fill}
-use Rattle.ddf_rebuild_command.proofs.PlanMade.{kept_is, named_is}
+use Rattle.ddf_rebuild_command.proofs.PlanMade.{kept_is}
 use Rattle.ddf_rebuild_command.proofs.SeatsKept.{LosesNone, seats_kept}
 use Rattle.ddf_rebuild_command.proofs.Steps.{IsOutAt, finish_steps, out_progressed, progress_steps}
 use Rattle.ddf_rebuild_command.proofs.Targets.{is_again, is_fresh_at}
+use Rattle.ddf_data_commands.proofs.ArrayUse.{named_is}
+use Rattle.ddf_write_commands.proofs.Splitting.{with_others}
 
 -- ---- the steps of changes, taken apart
 
 -- the first change is a step, and the others are steps behind it
-record HasFirst (timestamp : ℕ) (config : Configuration) (disks : List Seated) (change : Change) (changes : List Change) (steps : List Step) : Type 0 where
-  behind : List Step
-  steps_are : steps ≡ step_of timestamp config disks change ∷ behind
-  alone : steps_from timestamp None (change ∷ []) config disks ≡ Ok (step_of timestamp config disks change ∷ [])
-  behind_are : steps_from timestamp None changes (step_of timestamp config disks change).config (map levelled (step_of timestamp config disks change).disks) ≡ Ok behind
+pub record HasFirst (timestamp : ℕ) (config : Configuration) (disks : List Seated) (change : Change) (changes : List Change) (steps : List Step) : Type 0 where
+  pub behind : List Step
+  pub steps_are : steps ≡ step_of timestamp config disks change ∷ behind
+  pub alone : steps_from timestamp None (change ∷ []) config disks ≡ Ok (step_of timestamp config disks change ∷ [])
+  pub behind_are : steps_from timestamp None changes (step_of timestamp config disks change).config (map levelled (step_of timestamp config disks change).disks) ≡ Ok behind
 
 module _ (timestamp : ℕ) (config : Configuration) (disks : List Seated) (change : Change) (changes : List Change) where
   abbrev first : Step
@@ -69,7 +71,7 @@ module _ (timestamp : ℕ) (config : Configuration) (disks : List Seated) (chang
   abbrev answer : Option Refusal → Bool → (then_after beside : Result (List Step) Refusal) → Result (List Step) Refusal
   answer refusal is then_after beside = elim refusal [ Some one ↦ Err one | None ↦ if is then with_step first then_after else beside ]
 
-  has_first : is_step config change ≡ true → (steps : List Step) → steps_from timestamp None (change ∷ changes) config disks ≡ Ok steps → HasFirst timestamp config disks change changes steps
+  pub has_first : is_step config change ≡ true → (steps : List Step) → steps_from timestamp None (change ∷ changes) config disks ≡ Ok steps → HasFirst timestamp config disks change changes steps
   has_first stepped steps h =
       by (step_refusal timestamp None config disks change) refl after refl
       (sym (ap (λ (b : Bool). answer (step_refusal timestamp None config disks change) b after (steps_from timestamp None changes config disks)) stepped) ∙ h)
@@ -135,13 +137,6 @@ all_parts None begins steps = parts_in begins steps
 all_parts (Some one) begins steps = ap (λ (behind : List Step). one.step ∷ behind) (parts_in begins steps)
 
 -- what is readied behind a recovery, where other steps could be
-with_others : (spent : Bool) (next : Option Step) (answer other : Result (List Step) GroupFault) (all behind steps : List Step) → with_recovery spent next answer ≡ Ok all → answer ≡ Ok behind
-    → other ≡ Ok steps → with_recovery spent next other ≡ Ok (option_to_list next ++ steps)
-with_others spent None answer other all behind steps is first second = second
-with_others true (Some step) answer other all behind steps is first second =
-    let no : with_recovery true (Some step) (Ok behind) ≡ Ok all = sym (ap (with_recovery true (Some step)) first) ∙ is in absurd cc
-with_others false (Some step) answer other all behind steps is first second = ap (with_recovery false (Some step)) second
-
 recovery_is : (recovery : Option ReadyStep) (next : Option Step) → option_map (λ (one : ReadyStep). one.step) recovery ≡ next → option_to_list next ≡ recovery_in recovery
 recovery_is None None is = refl
 recovery_is None (Some step) is = absurd cc
@@ -362,6 +357,14 @@ module _ (found : GroupValue) (word : List ℕ) (plan : Plan) (timestamp : ℕ) 
       many : length (rest filling.begins ready.steps) ≡ length filling.rows
       many = steps.many ∙ sym (ap length fills.rows_are ∙ length-append noted (rows ∷ []))
 
+      behind_are : readied found plan.changes timestamp ≡ Ok (steps_before filling.begins ready ++ steps_of (rounds_in filling.rows (rest filling.begins ready.steps)))
+      behind_are =
+          all_readied found plan.changes timestamp ready was filling.begins
+          ∙ ap (λ (behind : List Step). Ok (steps_before filling.begins ready ++ behind)) (sym (steps_zipped filling.rows (rest filling.begins ready.steps) many))
+
+      fit : CanFill config found.seats entry filling
+      fit = can_fill config found.seats word plan is members was.assembled.slots_rise filling e
+
       plan_is : IsPlanned found timestamp word
       plan_is = record {
         entry = entry;
@@ -373,17 +376,18 @@ module _ (found : GroupValue) (word : List ℕ) (plan : Plan) (timestamp : ℕ) 
         first = steps_before filling.begins ready;
         are_first = first_readied found plan.changes timestamp ready was fills.before filling.begins steps.alone;
         rounds = rounds_in filling.rows (rest filling.begins ready.steps);
-        are_asked = steps_are ∙ ap steps_or (all_readied found plan.changes timestamp ready was filling.begins
-            ∙ ap (λ (behind : List Step). Ok (steps_before filling.begins ready ++ behind)) (sym (steps_zipped filling.rows (rest filling.begins ready.steps) many)));
+        are_asked = steps_are ∙ ap steps_or behind_are;
+        are_readied = ap (λ (changes : List Change). readied found changes timestamp) (sym fills.changes_are) ∙ behind_are;
         rows_are = rows_zipped filling.rows (rest filling.begins ready.steps) many ∙ fills.rows_are;
         volume = filling.view;
         is_view = ap (λ (one : Configuration). view_of one entry.0 found.seats) (config_first found plan.changes timestamp ready was filling.begins) ∙ steps.shown;
+        known = fills.known;
+        apart = fit.apart;
         is_out = fills.is_out;
         unmarked = fills.unmarked;
+        within = fit.is_within;
+        all_rows = fit.all_rows;
       }
-
-      fit : CanFill config found.seats entry filling
-      fit = can_fill config found.seats word plan is members was.assembled.slots_rise filling e
 
       -- What is planned is what was readied, and its rows can be filled.
       pub planned : IsPlannedFor found timestamp word filling ready
@@ -399,5 +403,5 @@ module _ (found : GroupValue) (word : List ℕ) (plan : Plan) (timestamp : ℕ) 
         apart = fit.apart;
         is_within = fit.is_within;
         rise = fit.rise;
-        ends = fit.ends;
+        ends = λ part at. let all = fit.all_rows part at in omega (arith, all);
       }

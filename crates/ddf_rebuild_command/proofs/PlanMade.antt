@@ -48,6 +48,7 @@ use Rattle.ddf_rebuild_command.proofs.Noting.{notes_below}
 use Rattle.ddf_rebuild_command.proofs.Targets.{IsFirst, IsFreshAt, is_again, is_fresh_at}
 use Rattle.ddf_rebuild_command.proofs.Views.{IsAt, few_rows, is_at, rows_by}
 use Rattle.ddf_rebuild_command.proofs.Begun.{fresh_marked, fresh_there, fresh_viewed, out_in}
+use Rattle.ddf_data_commands.proofs.ArrayUse.{named_is}
 
 -- ---- small things
 
@@ -245,9 +246,6 @@ named_in : (arrays : List (List ℕ × Array)) (entry : Entry) (guid : Option (L
     → lookup (same_guid entry.0) arrays ≡ Some entry.1
 named_in arrays entry None e = absurd cc
 named_in arrays entry (Some guid) e = named_by arrays guid entry (lookup (same_guid guid) arrays) refl e
-
-pub named_is : (arrays : List (List ℕ × Array)) (word : List ℕ) (entry : Entry) → named_array arrays word ≡ Some entry → lookup (same_guid entry.0) arrays ≡ Some entry.1
-named_is arrays word entry e = named_in arrays entry (named_guid arrays word) e
 
 abbrev more : (within marked : Bool) → List (Option Refusal)
 more within marked = refuse_if (not within) Lost ∷ refuse_if marked Marked ∷ []

@@ -46,27 +46,12 @@ use Rattle.ddf_rebuild_command.specs.Stages.Stage.{Filling, Noting, Opening}
 use Rattle.ddf_rebuild_command.specs.Standing.{AddsNothing}
 use Rattle.ddf_rebuild_command.proofs.Coming.{AreAbove, above_at, above_first, change_of, changes_both, goes_more, over_counts, over_rounds, rounds_goes}
 use Rattle.ddf_rebuild_command.proofs.OneRound.{stops_both}
-use Rattle.ddf_rebuild_command.proofs.RoundsMore.{left_more, none_left_more, rounds_more, writing_more}
+use Rattle.ddf_rebuild_command.proofs.RoundsMore.{left_more, none_left_more, rounds_more}
 use Rattle.ddf_rebuild_command.proofs.Writings.{last_then}
+use Rattle.ddf_stops.proofs.Entering.{admitted_still, kept_still}
+use Rattle.ddf_group_commands.proofs.LeftWriting.{writing_since}
 
 -- ---- since the entry of a call that read its group
-
--- What holds of disks that were only read holds of what they were.
-pub kept_still : (group : List ℕ) {D : Type 0} (past : Past (groups group)) (entry start : BayState D) → ReadsOnly entry start → AreAllKept group past entry → AreAllKept group past start
-kept_still group past entry start reads kept image was_left = rw reads.same_sizes (kept image (left_keeps entry.may_hold start.may_hold image reads.keeps was_left))
-
-pub admitted_still : (group : List ℕ) {D : Type 0} (past : Past (groups group)) (entry start : BayState D) (left : List Bool) (found : GroupValue) → ReadsOnly entry start
-    → IsAdmitted group past entry left found → IsAdmitted group past start left found
-admitted_still group past entry start left found reads admitted = record {
-  same_slots = rw reads.same_sizes admitted.same_slots;
-  may_read = rw (reads.same_sizes, reads.same_held) admitted.may_read;
-  member = rw (reads.same_sizes, reads.same_held) admitted.member;
-  all_present = admitted.all_present;
-  is_kept = rw (reads.same_sizes, reads.same_held) admitted.is_kept;
-}
-
-pub writing_since : {D : Type 0} (entry start : BayState D) → ReadsOnly entry start → (steps : List Step) (image : Image) → IsLeftWriting start steps image → IsLeftWriting entry steps image
-writing_since entry start reads steps image writing = writing_more start entry reads.same_sizes reads.keeps steps image writing
 
 pub written_since : {D : Type 0} (entry start : BayState D) → ReadsOnly entry start → (steps : List Step) (image : Image) → AreWritten start.sizes start.held steps image
     → AreWritten entry.sizes entry.held steps image
@@ -110,7 +95,7 @@ module _ {D : Type 0} (tells : Type 0) (entry start mid new : BayState D) (reads
   first_written : tells → AreWritten entry.sizes entry.held plan.first mid.held
   first_written told = written_since entry start reads plan.first mid.held (opened.are_written told)
 
-  at_stage : tells → (stage : Stage) (image : Image) → IsLeftIn (Failed entry new) (record entry { held = mid.held }) slots plan.volume plan.target (first_row plan) plan.rounds stage image
+  at_stage : tells → (stage : Stage) (image : Image) → IsLeftIn (Failed entry new) new.tells_left (record entry { held = mid.held }) slots plan.volume plan.target (first_row plan) plan.rounds stage image
       → IsLeftAt work found plan stage image
   at_stage told Opening image left = absurd left
   at_stage told (Filling number) image left = record {
@@ -130,12 +115,12 @@ module _ {D : Type 0} (tells : Type 0) (entry start mid new : BayState D) (reads
     is_left = left.is_left;
   }
 
-  round_left : tells → (stage : Stage) (image : Image) → IsLeftIn (Failed mid new) mid (slots_of opened_found.seats) plan.volume plan.target (first_row plan) plan.rounds stage image
+  round_left : tells → (stage : Stage) (image : Image) → IsLeftIn (Failed mid new) new.tells_left mid (slots_of opened_found.seats) plan.volume plan.target (first_row plan) plan.rounds stage image
       → IsLeftAt work found plan stage image
   round_left told stage image left =
       at_stage told stage image
-      (left_more (Failed mid new) (Failed entry new) since_entry mid (record entry { held = mid.held }) sizes_mid refl slots (adds_mid told) plan.volume plan.target (first_row plan) plan.rounds stage image
-      (subst (λ (seats : List Seat). IsLeftIn (Failed mid new) mid (slots_of seats) plan.volume plan.target (first_row plan) plan.rounds stage image) opened.same_seats left))
+      (left_more (Failed mid new) (Failed entry new) since_entry new.tells_left new.tells_left (λ told. told) mid (record entry { held = mid.held }) sizes_mid refl slots (adds_mid told) plan.volume plan.target (first_row plan) plan.rounds stage image
+      (subst (λ (seats : List Seat). IsLeftIn (Failed mid new) new.tells_left mid (slots_of seats) plan.volume plan.target (first_row plan) plan.rounds stage image) opened.same_seats left))
 
   pub run_leaves : tells → (steps : List Step) → StopsLeave entry new (MayBeLeft work found timestamp word steps)
   run_leaves told steps =
@@ -156,7 +141,7 @@ module _ {D : Type 0} (tells : Type 0) (entry start mid new : BayState D) (reads
     kept_start = kept_still group past entry start reads kept
 
     admitted_start : IsAdmitted group past start left found
-    admitted_start = admitted_still group past entry start left found reads admitted
+    admitted_start = admitted_still group past entry start reads left found admitted
 
     abbrev First : Type 0
     First = (now : Past (groups group)) × IsOver group past (is_read left) found (changes_in found plan.first) now × StandsReady group now mid opened_found opened_ready
@@ -281,8 +266,8 @@ module _ {D : Type 0} (tells : Type 0) (entry start mid new : BayState D) (reads
     done = λ told. record {
       before = mid.held;
       first_written = first_written told;
-      rounds_done = subst (λ (sizes : List ℕ). AreRounds (Failed entry new) sizes plan.volume plan.target (first_row plan) mid.held plan.rounds new.held) sizes_mid
-          (rounds_more (Failed mid new) (Failed entry new) since_entry plan.volume plan.target mid.sizes (first_row plan) mid.held plan.rounds new.held (filled.are_done told));
+      rounds_done = subst (λ (sizes : List ℕ). AreRounds (Failed entry new) new.tells_left sizes plan.volume plan.target (first_row plan) mid.held plan.rounds new.held) sizes_mid
+          (rounds_more (Failed mid new) (Failed entry new) since_entry new.tells_left new.tells_left (λ told. told) plan.volume plan.target mid.sizes (first_row plan) mid.held plan.rounds new.held (filled.are_done told));
       are_settled = subst (λ (seats : List Seat). AreSettled new seats (length seats)) (filled.same_seats ∙ opened.same_seats) (filled.stands.holds told).are_settled;
     };
   })

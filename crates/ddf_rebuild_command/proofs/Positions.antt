@@ -30,6 +30,7 @@ use Rattle.ddf_plan.specs.Members.{members_after}
 use Rattle.ddf_plan.specs.Rebuild.{element_at}
 use Rattle.ddf_plan.specs.Same.{same_array, same_element, same_member, same_position, same_tables}
 use Rattle.ddf_repair.proofs.Usable.{both_changed, one_after}
+use Rattle.ddf_repair.proofs.Marks.{keeps_mark}
 
 -- ---- lists
 
@@ -87,26 +88,6 @@ found_at made test (entry ∷ entries) array found = by (test entry.0) refl (fou
           next_found = ap (λ (b : Bool). cond b (Some (made entry.0 entry.1)) (lookup test (changed_entries (λ g a. Some (made g a)) entries))) e ∙ rest.next_found;
           next_at = rest.next_at;
         }
-
--- ---- the low state of an array leaves its mark
-
-same_bit : (state low : ℕ) → low ≤ 4 → (state / 8 * 8 + low) / 16 ≡ state / 16
-same_bit state low small = omega (arith, small)
-
-low_small : (members : List (ℕ × Member)) (array : Array) → low_state members array ≤ 4
-low_small members array = by (not (is_within (is_available members) array)) (list_any has_position_out array.elements)
-  where
-    by : (a b : Bool) → (if a then 4 else (if b then 1 else 0)) ≤ 4
-    by true b = omega arith
-    by false true = omega arith
-    by false false = omega arith
-
-keeps_mark : (members : List (ℕ × Member)) (all : List Extent) (array : Array) → is_marked (array_with_low members all array) ≡ is_marked array
-keeps_mark members all array = by (takes_low_state members all array)
-  where
-    by : (b : Bool) → eqb ((if b then array.state / 8 * 8 + low_state members array else array.state) / 16 % 2) 1 ≡ eqb (array.state / 16 % 2) 1
-    by true = ap (λ n. eqb (n % 2) 1) (same_bit array.state (low_state members array) (low_small members array))
-    by false = refl
 
 -- ---- a position
 

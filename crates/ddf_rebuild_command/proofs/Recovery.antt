@@ -119,7 +119,7 @@ module _ {D : Type 0} (tells : Type 0) (old : BayState D) (found : GroupValue) (
   leaves_by reads (Some one) is to on image changing =
       let follows = recovery_follows found can.changes can.timestamp ready can.was one is in
       let leaves = step_leaves sure one to.seat image on to.may_change to.news follows.are_prepared (λ s l. (reads.is_left s l, λ place at. refl)) (says_one old reads) changing (one.step ∷ []) 0 refl in
-      record { before = leaves.before; is_left = λ s l. (leaves.is_left s l).0; shows = leaves.shows; outside = leaves.outside }
+      record { before = leaves.before; is_left = λ s l. (leaves.is_left s l).0; shows = leaves.shows; outside = leaves.outside; floors = leaves.floors }
 
   module _ (tells_old : IsTold old) (new : BayState D) (tells_new : IsTold new) where
     module _ (done : Bool) (is : tells → IsRecovery old new found ready done) where

@@ -26,29 +26,30 @@ use Rattle.ddf_rebuild_command.specs.Rounds.{AreRounds, IsFilled, IsSure, Round,
 use Rattle.ddf_rebuild_command.specs.Stages.{Stage}
 use Rattle.ddf_rebuild_command.specs.Stages.Stage.{Filling, Noting, Opening}
 use Rattle.ddf_rebuild_command.specs.Standing.{AddsNothing}
+use Rattle.ddf_group_commands.proofs.LeftWriting.{writing_more}
 
 -- ---- more failures
 
-module _ (P Q : ℕ → Type 0) (more : (slot : ℕ) → P slot → Q slot) (volume : Volume) (target : Target) where
+module _ (P Q : ℕ → Type 0) (more : (slot : ℕ) → P slot → Q slot) (early late : Type 0) (back : late → early) (volume : Volume) (target : Target) where
   sure_less : (image : Image) → IsSure Q volume image → IsSure P volume image
   sure_less image (inl none) = inl (λ slot on failed. none slot on (more slot failed))
   sure_less image (inr redundant) = inr redundant
 
-  pub filled_more : (from to : ℕ) (before after : Image) → IsFilled P volume target from to before after → IsFilled Q volume target from to before after
-  filled_more from to before after is = record { rebuilt = λ sure. is.rebuilt (sure_less before sure); stays = is.stays }
+  pub filled_more : (from to : ℕ) (before after : Image) → IsFilled P early volume target from to before after → IsFilled Q late volume target from to before after
+  filled_more from to before after is = record { rebuilt = λ sure. is.rebuilt (sure_less before sure); stays = is.stays; are_sectors = λ told. is.are_sectors (back told) }
 
-  pub rounds_more : (sizes : List ℕ) (from : ℕ) (before : Image) (rounds : List Round) (after : Image) → AreRounds P sizes volume target from before rounds after
-      → AreRounds Q sizes volume target from before rounds after
+  pub rounds_more : (sizes : List ℕ) (from : ℕ) (before : Image) (rounds : List Round) (after : Image) → AreRounds P early sizes volume target from before rounds after
+      → AreRounds Q late sizes volume target from before rounds after
   rounds_more sizes from before [] after done = done
   rounds_more sizes from before (round ∷ others) after done =
       (done.0, filled_more from round.row before done.0 done.1, done.2, done.3, rounds_more sizes round.row done.2 others after done.4)
 
 -- ---- rounds behind rounds
 
-pub rounds_from : (failed : ℕ → Type 0) (sizes : List ℕ) (volume : Volume) (target : Target) (from : ℕ) (one other after : Image) (rounds : List Round) → ((s l : ℕ) → one s l ≡ other s l)
-    → AreRounds failed sizes volume target from one rounds after → AreRounds failed sizes volume target from other rounds after
-rounds_from failed sizes volume target from one other after rounds same done =
-    subst (λ (image : Image). AreRounds failed sizes volume target from image rounds after) (fun_ext (λ s. fun_ext (λ l. same s l))) done
+pub rounds_from : (failed : ℕ → Type 0) (told : Type 0) (sizes : List ℕ) (volume : Volume) (target : Target) (from : ℕ) (one other after : Image) (rounds : List Round) → ((s l : ℕ) → one s l ≡ other s l)
+    → AreRounds failed told sizes volume target from one rounds after → AreRounds failed told sizes volume target from other rounds after
+rounds_from failed told sizes volume target from one other after rounds same done =
+    subst (λ (image : Image). AreRounds failed told sizes volume target from image rounds after) (fun_ext (λ s. fun_ext (λ l. same s l))) done
 
 -- ---- what a slot holds for sure
 
@@ -75,25 +76,16 @@ left_holding start disks found holds adds s l bytes left = by (is_slot (slots_of
 
 -- ---- more that might be left before
 
-pub writing_more : {D : Type 0} (one other : BayState D) → one.sizes ≡ other.sizes → ((s l : ℕ) (bytes : List ℕ) → one.may_hold s l bytes → other.may_hold s l bytes) → (steps : List Step) (image : Image)
-    → IsLeftWriting one steps image → IsLeftWriting other steps image
-writing_more one other same_sizes more steps image writing = record {
-  before = writing.before;
-  is_left = λ s l. more s l (writing.before s l) (writing.is_left s l);
-  shows = rw same_sizes at writing.shows;
-  outside = rw same_sizes at writing.outside;
-}
-
-module _ (P Q : ℕ → Type 0) (more : (slot : ℕ) → P slot → Q slot) {D : Type 0} (one other : BayState D) (same_sizes : one.sizes ≡ other.sizes) (same_held : one.held ≡ other.held)
+module _ (P Q : ℕ → Type 0) (more : (slot : ℕ) → P slot → Q slot) (early late : Type 0) (back : late → early) {D : Type 0} (one other : BayState D) (same_sizes : one.sizes ≡ other.sizes) (same_held : one.held ≡ other.held)
     (slots : List ℕ) (adds : AddsNothing other one slots) (volume : Volume) (target : Target) (from : ℕ) (rounds : List Round) where
-  before_more : (number : ℕ) (before : Image) → AreRounds P one.sizes volume target from one.held (take number rounds) before → AreRounds Q other.sizes volume target from other.held (take number rounds) before
+  before_more : (number : ℕ) (before : Image) → AreRounds P early one.sizes volume target from one.held (take number rounds) before → AreRounds Q late other.sizes volume target from other.held (take number rounds) before
   before_more number before done =
-      subst (λ (sizes : List ℕ). AreRounds Q sizes volume target from other.held (take number rounds) before) same_sizes
-      (subst (λ (held : Image). AreRounds Q one.sizes volume target from held (take number rounds) before) same_held
-      (rounds_more P Q more volume target one.sizes from one.held (take number rounds) before done))
+      subst (λ (sizes : List ℕ). AreRounds Q late sizes volume target from other.held (take number rounds) before) same_sizes
+      (subst (λ (held : Image). AreRounds Q late one.sizes volume target from held (take number rounds) before) same_held
+      (rounds_more P Q more early late back volume target one.sizes from one.held (take number rounds) before done))
 
   -- So is what a stop leaves at a stage.
-  pub left_more : (stage : Stage) (image : Image) → IsLeftIn P one slots volume target from rounds stage image → IsLeftIn Q other slots volume target from rounds stage image
+  pub left_more : (stage : Stage) (image : Image) → IsLeftIn P early one slots volume target from rounds stage image → IsLeftIn Q late other slots volume target from rounds stage image
   left_more Opening image left = left
   left_more (Filling number) image left = record {
     before = left.before;
@@ -108,7 +100,7 @@ module _ (P Q : ℕ → Type 0) (more : (slot : ℕ) → P slot → Q slot) {D :
     round = left.round;
     is_round = left.is_round;
     filled = left.filled;
-    is_filled = filled_more P Q more volume target (row_before from rounds number) left.round.row left.before left.filled left.is_filled;
+    is_filled = filled_more P Q more early late back volume target (row_before from rounds number) left.round.row left.before left.filled left.is_filled;
     is_left = writing_more (holding one slots left.filled) (holding other slots left.filled) same_sizes (holding_more one other slots adds left.filled) (left.round.step ∷ []) image left.is_left;
   }
 

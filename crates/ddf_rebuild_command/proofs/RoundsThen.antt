@@ -64,8 +64,8 @@ module _ {D : Type 0} (tells : Type 0) (state : BayState D) (volume : Volume) (t
 -- ---- a stage of the first round is one of all
 
 module _ (round : Round) (rest : List Round) where
-  module _ {D : Type 0} (failed : ℕ → Type 0) (start : BayState D) (slots : List ℕ) (volume : Volume) (target : Target) (from : ℕ) where
-    one_left : (stage : Stage) (image : Image) → IsLeftIn failed start slots volume target from (round ∷ []) stage image → IsLeftIn failed start slots volume target from (round ∷ rest) stage image
+  module _ {D : Type 0} (failed : ℕ → Type 0) (told : Type 0) (start : BayState D) (slots : List ℕ) (volume : Volume) (target : Target) (from : ℕ) where
+    one_left : (stage : Stage) (image : Image) → IsLeftIn failed told start slots volume target from (round ∷ []) stage image → IsLeftIn failed told start slots volume target from (round ∷ rest) stage image
     one_left Opening image left = left
     one_left (Filling zero) image left =
         record { before = left.before; rounds_done = left.rounds_done; round = left.round; is_round = left.is_round; is_left = left.is_left }
@@ -81,7 +81,7 @@ module _ (round : Round) (rest : List Round) where
     }
     one_left (Noting (suc number)) image left = let none = left.is_round in absurd cc
 
-    one_come : (stage : Stage) (image : Image) → IsLeftIn failed start slots volume target from (round ∷ []) stage image → (group : List ℕ) (past now : Past (groups group))
+    one_come : (stage : Stage) (image : Image) → IsLeftIn failed told start slots volume target from (round ∷ []) stage image → (group : List ℕ) (past now : Past (groups group))
         → HasComeIn group past (round ∷ []) stage now → HasComeIn group past (round ∷ rest) stage now
     one_come Opening image left group past now come = come
     one_come (Filling zero) image left group past now come = come
@@ -102,25 +102,25 @@ module _ (round : Round) (rest : List Round) where
   later_come (Noting number) group past now come = come
 
   -- the rounds before it are done behind the first
-  module _ (failed : ℕ → Type 0) (sizes : List ℕ) (volume : Volume) (target : Target) (from : ℕ) (before between : Image) (first : AreRounds failed sizes volume target from before (round ∷ []) between) where
-    behind_first : (others : List Round) (after : Image) → AreRounds failed sizes volume target round.row between others after → AreRounds failed sizes volume target from before (round ∷ others) after
-    behind_first others after done = (first.0, first.1, first.2, first.3, rounds_from failed sizes volume target round.row between first.2 after others first.4 done)
+  module _ (failed : ℕ → Type 0) (told : Type 0) (sizes : List ℕ) (volume : Volume) (target : Target) (from : ℕ) (before between : Image) (first : AreRounds failed told sizes volume target from before (round ∷ []) between) where
+    behind_first : (others : List Round) (after : Image) → AreRounds failed told sizes volume target round.row between others after → AreRounds failed told sizes volume target from before (round ∷ others) after
+    behind_first others after done = (first.0, first.1, first.2, first.3, rounds_from failed told sizes volume target round.row between first.2 after others first.4 done)
 
-  module _ {D : Type 0} (failed : ℕ → Type 0) (start : BayState D) (slots : List ℕ) (volume : Volume) (target : Target) (from : ℕ) (between : Image)
-      (first : AreRounds failed start.sizes volume target from start.held (round ∷ []) between) where
-    later_left : (stage : Stage) (image : Image) → IsLeftIn failed (record start { held = between }) slots volume target round.row rest stage image
-        → IsLeftIn failed start slots volume target from (round ∷ rest) (later stage) image
+  module _ {D : Type 0} (failed : ℕ → Type 0) (told : Type 0) (start : BayState D) (slots : List ℕ) (volume : Volume) (target : Target) (from : ℕ) (between : Image)
+      (first : AreRounds failed told start.sizes volume target from start.held (round ∷ []) between) where
+    later_left : (stage : Stage) (image : Image) → IsLeftIn failed told (record start { held = between }) slots volume target round.row rest stage image
+        → IsLeftIn failed told start slots volume target from (round ∷ rest) (later stage) image
     later_left Opening image left = left
     later_left (Filling number) image left = record {
       before = left.before;
-      rounds_done = behind_first failed start.sizes volume target from start.held between first (take number rest) left.before left.rounds_done;
+      rounds_done = behind_first failed told start.sizes volume target from start.held between first (take number rest) left.before left.rounds_done;
       round = left.round;
       is_round = left.is_round;
       is_left = left.is_left;
     }
     later_left (Noting number) image left = record {
       before = left.before;
-      rounds_done = behind_first failed start.sizes volume target from start.held between first (take number rest) left.before left.rounds_done;
+      rounds_done = behind_first failed told start.sizes volume target from start.held between first (take number rest) left.before left.rounds_done;
       round = left.round;
       is_round = left.is_round;
       filled = left.filled;
@@ -138,19 +138,19 @@ module _ {D : Type 0} (tells : Type 0) (old new : BayState D) (tells_new : IsTol
     told = first.told;
     beside = first.beside;
     leaves = λ told. stops_weaken (first.leaves told)
-        (λ image at. record { stage = at.stage; is_left = one_left round rest (Failed old new) old (slots_of found.seats) volume target from at.stage image at.is_left; shows = tt });
+        (λ image at. record { stage = at.stage; is_left = one_left round rest (Failed old new) new.tells_left old (slots_of found.seats) volume target from at.stage image at.is_left; shows = tt });
     any_moment = λ told group past at. stops_weaken (first.any_moment told group past at) (λ image now. record {
       stage = now.stage;
-      is_left = one_left round rest (Failed old new) old (slots_of found.seats) volume target from now.stage image now.is_left;
-      shows = (now.shows.0, one_come round rest (Failed old new) old (slots_of found.seats) volume target from now.stage image now.is_left group past now.shows.0 now.shows.1, now.shows.2);
+      is_left = one_left round rest (Failed old new) new.tells_left old (slots_of found.seats) volume target from now.stage image now.is_left;
+      shows = (now.shows.0, one_come round rest (Failed old new) new.tells_left old (slots_of found.seats) volume target from now.stage image now.is_left group past now.shows.0 now.shows.1, now.shows.2);
     });
     ends = λ told left_told group past at. ⊎_elim
         (λ ends. inl (record {
           stage = ends.stage;
           now = ends.now;
-          has_come = one_come round rest (Failed old new) old (slots_of found.seats) volume target from ends.stage new.held (ends.is_left new.held (tells_new.held left_told)) group past ends.now ends.has_come;
+          has_come = one_come round rest (Failed old new) new.tells_left old (slots_of found.seats) volume target from ends.stage new.held (ends.is_left new.held (tells_new.held left_told)) group past ends.now ends.has_come;
           is_over = λ so. absurd (false≢true so);
-          is_left = λ image left. one_left round rest (Failed old new) old (slots_of found.seats) volume target from ends.stage image (ends.is_left image left);
+          is_left = λ image left. one_left round rest (Failed old new) new.tells_left old (slots_of found.seats) volume target from ends.stage image (ends.is_left image left);
           all_kept = ends.all_kept;
         }))
         (λ none. let no = none.0 in absurd cc)
@@ -188,26 +188,26 @@ module _ {D : Type 0} (tells : Type 0) (old middle new : BayState D) (tells_midd
   since_old : (slot : ℕ) → Failed middle new slot → Failed old new slot
   since_old slot failed = rose_later (old.failed_reads slot) (middle.failed_reads slot) (new.failed_reads slot) (first.goes.reads_rise slot) failed
 
-  first_done : tells → AreRounds (Failed old new) old.sizes volume target from old.held (round ∷ []) middle.held
-  first_done told = rounds_more (Failed old middle) (Failed old new) before_new volume target old.sizes from old.held (round ∷ []) middle.held (filled.are_done told)
+  first_done : tells → AreRounds (Failed old new) new.tells_left old.sizes volume target from old.held (round ∷ []) middle.held
+  first_done told = rounds_more (Failed old middle) (Failed old new) before_new middle.tells_left new.tells_left last.told volume target old.sizes from old.held (round ∷ []) middle.held (filled.are_done told)
 
   adds_now : tells → AddsNothing old middle (slots_of mid_found.seats)
   adds_now told = subst (λ (seats : List Seat). AddsNothing old middle (slots_of seats)) (sym filled.same_seats) (filled.others_left told)
 
   -- what a stop leaves in the first, and behind it
-  first_left : (stage : Stage) (image : Image) → IsLeftIn (Failed old middle) old slots volume target from (round ∷ []) stage image
-      → IsLeftIn (Failed old new) old slots volume target from all stage image
+  first_left : (stage : Stage) (image : Image) → IsLeftIn (Failed old middle) middle.tells_left old slots volume target from (round ∷ []) stage image
+      → IsLeftIn (Failed old new) new.tells_left old slots volume target from all stage image
   first_left stage image left =
-      one_left round rest (Failed old new) old slots volume target from stage image
-      (left_more (Failed old middle) (Failed old new) before_new old old refl refl slots (λ s l bytes other may. may) volume target from (round ∷ []) stage image left)
+      one_left round rest (Failed old new) new.tells_left old slots volume target from stage image
+      (left_more (Failed old middle) (Failed old new) before_new middle.tells_left new.tells_left last.told old old refl refl slots (λ s l bytes other may. may) volume target from (round ∷ []) stage image left)
 
-  last_left : tells → (stage : Stage) (image : Image) → IsLeftIn (Failed middle new) middle (slots_of mid_found.seats) volume target round.row rest stage image
-      → IsLeftIn (Failed old new) old slots volume target from all (later round rest stage) image
+  last_left : tells → (stage : Stage) (image : Image) → IsLeftIn (Failed middle new) new.tells_left middle (slots_of mid_found.seats) volume target round.row rest stage image
+      → IsLeftIn (Failed old new) new.tells_left old slots volume target from all (later round rest stage) image
   last_left told stage image left =
-      let more = left_more (Failed middle new) (Failed old new) since_old middle (record old { held = middle.held }) first.goes.same_sizes refl (slots_of mid_found.seats) (adds_now told) volume target round.row
+      let more = left_more (Failed middle new) (Failed old new) since_old new.tells_left new.tells_left (λ told. told) middle (record old { held = middle.held }) first.goes.same_sizes refl (slots_of mid_found.seats) (adds_now told) volume target round.row
       rest stage image left in
-      later_left round rest (Failed old new) old slots volume target from middle.held (first_done told) stage image
-      (subst (λ (seats : List Seat). IsLeftIn (Failed old new) (record old { held = middle.held }) (slots_of seats) volume target round.row rest stage image) filled.same_seats more)
+      later_left round rest (Failed old new) new.tells_left old slots volume target from middle.held (first_done told) stage image
+      (subst (λ (seats : List Seat). IsLeftIn (Failed old new) new.tells_left (record old { held = middle.held }) (slots_of seats) volume target round.row rest stage image) filled.same_seats more)
 
   module _ (told : tells) (group : List ℕ) (past : Past (groups group)) (at : StandsReady group past old found ready) where
     abbrev mid_past : Past (groups group)
@@ -228,7 +228,7 @@ module _ {D : Type 0} (tells : Type 0) (old middle new : BayState D) (tells_midd
               (λ now. inr (record {
                 stage = now.stage;
                 is_left = first_left now.stage image now.is_left;
-                shows = (now.shows.0, one_come round rest (Failed old middle) old slots volume target from now.stage image now.is_left group past now.shows.0 now.shows.1, now.shows.2);
+                shows = (now.shows.0, one_come round rest (Failed old middle) middle.tells_left old slots volume target from now.stage image now.is_left group past now.shows.0 now.shows.1, now.shows.2);
               }))
               (one.since t image le earlier))
               (λ now. inr (record {
@@ -249,7 +249,7 @@ module _ {D : Type 0} (tells : Type 0) (old middle new : BayState D) (tells_midd
     carried none keeps left_told ends = record {
       stage = ends.stage;
       now = ends.now;
-      has_come = one_come round rest (Failed old middle) old slots volume target from ends.stage middle.held (ends.is_left middle.held (tells_middle.held (last.told left_told))) group past ends.now ends.has_come;
+      has_come = one_come round rest (Failed old middle) middle.tells_left old slots volume target from ends.stage middle.held (ends.is_left middle.held (tells_middle.held (last.told left_told))) group past ends.now ends.has_come;
       is_over = λ so. ends.is_over refl ∙ ap (λ (others : List Round). behind_rounds group past (round ∷ others)) (sym none);
       is_left = λ image left. first_left ends.stage image (ends.is_left image (λ s l. keeps s l (image s l) (left s l)));
       all_kept = λ image left. rw last.goes.same_sizes (ends.all_kept image (λ s l. keeps s l (image s l) (left s l)));
@@ -290,9 +290,9 @@ module _ {D : Type 0} (tells : Type 0) (old middle new : BayState D) (tells_midd
     same_seats = others.same_seats ∙ filled.same_seats;
     is_last = others.is_last ∙ ap (λ (n : ℕ). last_sequence n (steps_of rest)) filled.is_last;
     are_done = λ told.
-        behind_first round rest (Failed old new) old.sizes volume target from old.held middle.held (first_done told) rest new.held
-        (subst (λ (sizes : List ℕ). AreRounds (Failed old new) sizes volume target round.row middle.held rest new.held) first.goes.same_sizes
-        (rounds_more (Failed middle new) (Failed old new) since_old volume target middle.sizes round.row middle.held rest new.held (others.are_done told)));
+        behind_first round rest (Failed old new) new.tells_left old.sizes volume target from old.held middle.held (first_done told) rest new.held
+        (subst (λ (sizes : List ℕ). AreRounds (Failed old new) new.tells_left sizes volume target round.row middle.held rest new.held) first.goes.same_sizes
+        (rounds_more (Failed middle new) (Failed old new) since_old new.tells_left new.tells_left (λ told. told) volume target middle.sizes round.row middle.held rest new.held (others.are_done told)));
     others_left = λ told s l bytes other left.
         filled.others_left told s l bytes other
         (others.others_left told s l bytes (subst (λ (seats : List Seat). is_slot (slots_of seats) s ≡ false) (sym filled.same_seats) other) left);

@@ -29,6 +29,7 @@ use Rattle.ddf_rebuild_command.specs.Asked.{rows_in}
 use Rattle.ddf_rebuild_command.proofs.Positions.{IsHeld, array_after_is, begins, element_there, shape_after}
 use Rattle.ddf_rebuild_command.proofs.Steps.{held_begun}
 use Rattle.ddf_rebuild_command.proofs.Views.{IsAt, is_at, rows_by}
+use Rattle.ddf_array.proofs.Told.{enough_map}
 
 -- ---- lists of answers
 
@@ -47,12 +48,6 @@ count_map test (x ∷ xs) =
     ∙ sym (sum_by-cons (λ b. if not b then 1 else 0) (test x) (map test xs))
 
 -- a level asks only which positions are available
-enough_map : {X : Type 0} (level : ℕ) (test : X → Bool) (xs : List X) → has_enough level test xs ≡ has_enough level (λ b. b) (map test xs)
-enough_map level test xs =
-    ap (λ (b : Bool). if level == 0x01 then b else (if has_parity level then lacks_one test xs else list_all test xs)) (any_map test xs)
-    ∙ ap (λ (n : ℕ). if level == 0x01 then list_any (λ b. b) (map test xs) else (if has_parity level then nat_le n 1 else list_all test xs)) (count_map test xs)
-    ∙ ap (λ (b : Bool). if level == 0x01 then list_any (λ b. b) (map test xs) else (if has_parity level then lacks_one (λ b. b) (map test xs) else b)) (all_map test xs)
-
 enough_parts : {X : Type 0} (mirrored : Bool) (test : X → Bool) (xs ys : List X) → map test xs ≡ map test ys → has_enough_parts mirrored test xs ≡ has_enough_parts mirrored test ys
 enough_parts true test xs ys same = any_map test xs ∙ ap (list_any (λ b. b)) same ∙ sym (any_map test ys)
 enough_parts false test xs ys same = all_map test xs ∙ ap (list_all (λ b. b)) same ∙ sym (all_map test ys)

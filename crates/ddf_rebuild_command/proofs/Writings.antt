@@ -12,6 +12,9 @@ use Rattle.ddf_assembly.specs.Steps.{Step}
 use Rattle.ddf_group_commands.specs.Change.{last_sequence}
 use Rattle.ddf_group_commands.specs.Writing.{IsLeftWriting, IsStepsSector, IsWrittenOn, ShowsStep}
 use Rattle.ddf_group_commands.specs.Written.{AreWritten}
+use Rattle.ddf_group_commands.proofs.LeftWriting.{ShowsFrom, writing_by}
+use Rattle.ddf_assembly.specs.Group.{floor_of}
+use Rattle.ddf_assembly.specs.declared.seated.Seated.{Seated}
 
 -- ---- lists
 
@@ -42,9 +45,6 @@ on_last steps more slot on =
     let at = in_last steps more on.number on.step on.is_step in
     record { number = at.0; step = on.step; is_step = at.1; place = on.place; disk = on.disk; is_disk = on.is_disk; on_slot = on.on_slot }
 
-abbrev ShowsFrom : List Step → (slot : ℕ) → (before after : Shown View) → Type 0
-ShowsFrom steps slot before after = (after ≡ before) ⊎ IsPart before after ⊎ ShowsStep steps slot after
-
 -- Where each slot that some steps write is one that others write too.
 module _ (steps more : List Step) (each : (slot : ℕ) → IsWrittenOn steps slot → IsWrittenOn more slot)
     (same : (slot : ℕ) (on : IsWrittenOn steps slot) → (each slot on).disk ≡ on.disk) where
@@ -63,6 +63,7 @@ module _ (steps more : List Step) (each : (slot : ℕ) → IsWrittenOn steps slo
     is_left = writing.is_left;
     shows = λ slot. shows_more slot _ _ (writing.shows slot);
     outside = λ slot l. ⊎_elim inl (λ is. inr (sector_more (size_of start slot) slot l is)) (writing.outside slot l);
+    floors = λ slot floor has own. writing.floors slot floor has (λ on. ap (λ (disk : Seated). floor_of disk.copy) (sym (same slot on)) ∙ own (each slot on));
   }
 
 pub writing_first : {D : Type 0} (start : BayState D) (steps more : List Step) (image : Image) → IsLeftWriting start steps image → IsLeftWriting start (steps ++ more) image
@@ -74,33 +75,6 @@ unfolding on_last
 writing_last start steps more image writing = left_more more (steps ++ more) (on_last steps more) (λ slot on. refl) start image writing
 
 -- ---- one behind another
-
--- What shows one of two copies that differ shows that one behind a single copy too.
-part_of_one : (before after : Shown View) (only : View) → IsPart before after → before ≡ One only → after ≡ before
-part_of_one before after only part is =
-    let same : part.copy ≡ only = subst (λ (shown : Shown View). IsCopyOf shown part.copy) is part.is_copy in
-    part.is_only ∙ ap (λ (view : View). One view) same ∙ sym is
-
-shows_then : (steps : List Step) (slot : ℕ) (before middle after : Shown View) → ShowsFrom steps slot before middle → ShowsFrom steps slot middle after → ShowsFrom steps slot before after
-shows_then steps slot before middle after first (inl same) = subst (ShowsFrom steps slot before) (sym same) first
-shows_then steps slot before middle after (inl same) (inr (inl part)) = inr (inl (subst (λ (shown : Shown View). IsPart shown after) same part))
-shows_then steps slot before middle after (inr (inl one)) (inr (inl part)) =
-    inr (inl (subst (IsPart before) (sym (part_of_one middle after one.copy part one.is_only)) one))
-shows_then steps slot before middle after (inr (inr new)) (inr (inl part)) =
-    inr (inr (subst (ShowsStep steps slot) (sym (part_of_one middle after (view_of new.0.disk.copy) part new.1)) new))
-shows_then steps slot before middle after first (inr (inr new)) = inr (inr new)
-
-writing_by : {D : Type 0} (old middle : BayState D) (steps : List Step) (image : Image) → middle.sizes ≡ old.sizes → (now : IsLeftWriting middle steps image)
-    → IsLeftWriting old steps now.before → IsLeftWriting old steps image
-writing_by old middle steps image same_sizes now first =
-    let shows = rw same_sizes at now.shows in
-    let outside : (slot l : ℕ) → (image slot l ≡ now.before slot l) ⊎ IsStepsSector (size_of old slot) steps slot l = rw same_sizes at now.outside in
-    record {
-      before = first.before;
-      is_left = first.is_left;
-      shows = λ slot. shows_then steps slot _ _ _ (first.shows slot) (shows slot);
-      outside = λ slot l. ⊎_elim (λ same. ⊎_elim (λ also. inl (same ∙ also)) inr (first.outside slot l)) inr (outside slot l);
-    }
 
 -- What is left behind other steps.
 pub writing_then : {D : Type 0} (old middle : BayState D) (steps more : List Step) (image : Image) → middle.sizes ≡ old.sizes → IsLeftWriting middle more image

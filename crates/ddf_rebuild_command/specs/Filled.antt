@@ -68,11 +68,11 @@ pub record CanFill (sizes : List ℕ) (seats : List Seat) (volume : Volume) (tar
 
 -- ---- what a stop leaves on their way
 
-module _ {D : Type 0} (failed : ℕ → Type 0) (start : BayState D) (slots : List ℕ) (volume : Volume) (target : Target) (from : ℕ) (rounds : List Round) where
+module _ {D : Type 0} (failed : ℕ → Type 0) (told : Type 0) (start : BayState D) (slots : List ℕ) (volume : Volume) (target : Target) (from : ℕ) (rounds : List Round) where
   -- The first rounds are done, so many, and the rows of the next one are filled.
   pub record IsLeftFillingIn (number : ℕ) (image : Image) : Type 0 where
     pub before : Image
-    pub rounds_done : AreRounds failed start.sizes volume target from start.held (take number rounds) before
+    pub rounds_done : AreRounds failed told start.sizes volume target from start.held (take number rounds) before
     pub round : Round
     pub is_round : slice_get rounds number ≡ Some round
     pub is_left : IsLeftBut (IsTargetCell volume target.element target.position (row_before from rounds number) round.row) (holding start slots before).may_hold image
@@ -80,11 +80,11 @@ module _ {D : Type 0} (failed : ℕ → Type 0) (start : BayState D) (slots : Li
   -- So are these rows, and the step is written that tells of them.
   pub record IsLeftNotingIn (number : ℕ) (image : Image) : Type 0 where
     pub before : Image
-    pub rounds_done : AreRounds failed start.sizes volume target from start.held (take number rounds) before
+    pub rounds_done : AreRounds failed told start.sizes volume target from start.held (take number rounds) before
     pub round : Round
     pub is_round : slice_get rounds number ≡ Some round
     pub filled : Image
-    pub is_filled : IsFilled failed volume target (row_before from rounds number) round.row before filled
+    pub is_filled : IsFilled failed told volume target (row_before from rounds number) round.row before filled
     pub is_left : IsLeftWriting (holding start slots filled) (round.step ∷ []) image
 
   abbrev pub IsLeftIn : Stage → Image → Type 0
@@ -116,7 +116,7 @@ module _ (group : List ℕ) where
 
 module _ {D : Type 0} (tells : Type 0) (old new : BayState D) (volume : Volume) (target : Target) (from : ℕ) (rounds : List Round) (found : GroupValue) (ready : ReadyValue) where
   abbrev pub IsLeftOf : Stage → Image → Type 0
-  IsLeftOf stage image = IsLeftIn (Failed old new) old (slots_of found.seats) volume target from rounds stage image
+  IsLeftOf stage image = IsLeftIn (Failed old new) new.tells_left old (slots_of found.seats) volume target from rounds stage image
 
   -- A stop left this at a stage, at which this holds of it.
   pub record IsAmidst (Shows : Stage → Image → Type 0) (image : Image) : Type 0 where
@@ -152,7 +152,7 @@ module _ {D : Type 0} (tells : Type 0) (old new : BayState D) (volume : Volume) 
     pub stands : Stands tells new now_found now_ready
     pub same_seats : now_found.seats ≡ found.seats
     pub is_last : now_found.config.sequence ≡ last_sequence found.config.sequence (steps_of rounds)
-    pub are_done : tells → AreRounds (Failed old new) old.sizes volume target from old.held rounds new.held
+    pub are_done : tells → AreRounds (Failed old new) new.tells_left old.sizes volume target from old.held rounds new.held
     pub others_left : tells → AddsNothing old new (slots_of found.seats)
     pub at_end : tells → (group : List ℕ) (past : Past (groups group)) → StandsReady group past old found ready → new.tells_left
         → StandsReady group (behind_rounds group past rounds) new now_found now_ready

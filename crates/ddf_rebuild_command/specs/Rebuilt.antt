@@ -33,7 +33,7 @@ use Rattle.ddf_rebuild_command.specs.Stages.{IsLeftRebuilding}
 pub record AreRoundsDone {D : Type 0} (work : Work D) (found : GroupValue) {timestamp : ℕ} {word : List ℕ} (plan : IsPlanned found timestamp word) : Type 0 where
   pub before : Image
   pub first_written : AreWritten work.old.sizes work.old.held plan.first before
-  pub rounds_done : AreRounds (Failed work.old work.new) work.old.sizes plan.volume plan.target (first_row plan) before plan.rounds work.new.held
+  pub rounds_done : AreRounds (Failed work.old work.new) work.new.tells_left work.old.sizes plan.volume plan.target (first_row plan) before plan.rounds work.new.held
   pub are_settled : AreSettled work.new found.seats (length found.seats)
 
 -- A position was filled and is in sync, and this is the group's sequence number behind it.

@@ -34,14 +34,16 @@ row_before from (round ∷ rounds) (suc number) = row_before round.row rounds nu
 abbrev pub IsSure : (failed : ℕ → Type 0) → Volume → Image → Type 0
 IsSure failed volume image = ((slot : ℕ) → IsOn volume slot → failed slot → ⊥) ⊎ (AreSectors image × IsRedundant volume image)
 
--- The position's sectors at these rows hold what they should by an image, where what is read of it is sure, and nothing else is another one than in it.
-pub record IsFilled (failed : ℕ → Type 0) (volume : Volume) (target : Target) (from to : ℕ) (before after : Image) : Type 0 where
+-- The position's sectors at these rows hold what they should by an image, where what is read of it is sure, and nothing else is another one than in it. The sectors of that
+-- image have 512 bytes, where the bay still tells what a stop may leave.
+pub record IsFilled (failed : ℕ → Type 0) (told : Type 0) (volume : Volume) (target : Target) (from to : ℕ) (before after : Image) : Type 0 where
   pub rebuilt : IsSure failed volume before → HasRebuilt volume target.element target.position from to before after
   pub stays : StaysBut (IsTargetCell volume target.element target.position from to) before after
+  pub are_sectors : told → AreSectors before
 
 -- The rounds were done, one after another.
-abbrev pub AreRounds : (failed : ℕ → Type 0) → (sizes : List ℕ) → Volume → Target → (from : ℕ) → (before : Image) → List Round → (after : Image) → Type 0
-AreRounds failed sizes volume target from before [] after = (slot l : ℕ) → after slot l ≡ before slot l
-AreRounds failed sizes volume target from before (round ∷ others) after =
-    (filled : Image) × IsFilled failed volume target from round.row before filled
-    × (written : Image) × AreWritten sizes filled (round.step ∷ []) written × AreRounds failed sizes volume target round.row written others after
+abbrev pub AreRounds : (failed : ℕ → Type 0) → (told : Type 0) → (sizes : List ℕ) → Volume → Target → (from : ℕ) → (before : Image) → List Round → (after : Image) → Type 0
+AreRounds failed told sizes volume target from before [] after = (slot l : ℕ) → after slot l ≡ before slot l
+AreRounds failed told sizes volume target from before (round ∷ others) after =
+    (filled : Image) × IsFilled failed told volume target from round.row before filled
+    × (written : Image) × AreWritten sizes filled (round.step ∷ []) written × AreRounds failed told sizes volume target round.row written others after

@@ -24,7 +24,7 @@ module _ {D : Type 0} (work : Work D) (found : GroupValue) {timestamp : ℕ} {wo
   pub record IsBehind (number : ℕ) (image : Image) : Type 0 where
     pub opened : Image
     pub first_written : AreWritten work.old.sizes work.old.held plan.first opened
-    pub rounds_done : AreRounds (Failed work.old work.new) work.old.sizes plan.volume plan.target (first_row plan) opened (take number plan.rounds) image
+    pub rounds_done : AreRounds (Failed work.old work.new) work.new.tells_left work.old.sizes plan.volume plan.target (first_row plan) opened (take number plan.rounds) image
 
   -- Of the disks behind these rounds only the position's sectors at the rows of the next one are others.
   pub record IsLeftFilling (number : ℕ) (image : Image) : Type 0 where
@@ -42,7 +42,7 @@ module _ {D : Type 0} (work : Work D) (found : GroupValue) {timestamp : ℕ} {wo
     pub round : Round
     pub is_round : slice_get plan.rounds number ≡ Some round
     pub filled : Image
-    pub is_filled : IsFilled (Failed work.old work.new) plan.volume plan.target (row_before (first_row plan) plan.rounds number) round.row before filled
+    pub is_filled : IsFilled (Failed work.old work.new) work.new.tells_left plan.volume plan.target (row_before (first_row plan) plan.rounds number) round.row before filled
     pub is_left : IsLeftWriting (holding work.old (slots_of found.seats) filled) (round.step ∷ []) image
 
   abbrev pub IsLeftAt : Stage → Image → Type 0

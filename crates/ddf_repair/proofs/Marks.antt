@@ -29,7 +29,7 @@ same_bit : (state low : ℕ) → low ≤ 4 → (state / 8 * 8 + low) / 16 ≡ st
 same_bit state low small = omega (arith, small)
 
 -- the low state leaves the mark
-keeps_mark : (members : List (ℕ × Member)) (all : List Extent) (array : Array) → is_marked (array_with_low members all array) ≡ is_marked array
+pub keeps_mark : (members : List (ℕ × Member)) (all : List Extent) (array : Array) → is_marked (array_with_low members all array) ≡ is_marked array
 keeps_mark members all array = by (takes_low_state members all array)
   where
     by : (b : Bool) → eqb ((if b then array.state / 8 * 8 + low_state members array else array.state) / 16 % 2) 1 ≡ eqb (array.state / 16 % 2) 1

@@ -13,6 +13,20 @@ use Rattle.ddf_assembly.specs.Group.{GroupValue}
 use Rattle.ddf_stops.specs.Going.{IsAdmitted, KeepsHistory}
 use Rattle.ddf_stops.specs.Kept.{AreAllKept, ReadsTrue}
 
+-- What holds of disks that were only read holds of what they were.
+module _ (group : List ℕ) {D : Type 0} (past : Past (groups group)) (old middle : BayState D) (reads : ReadsOnly old middle) where
+  pub kept_still : AreAllKept group past old → AreAllKept group past middle
+  kept_still kept image was_left = rw reads.same_sizes (kept image (left_keeps old.may_hold middle.may_hold image reads.keeps was_left))
+
+  pub admitted_still : (left : List Bool) (found : GroupValue) → IsAdmitted group past old left found → IsAdmitted group past middle left found
+  admitted_still left found admitted = record {
+    same_slots = rw reads.same_sizes admitted.same_slots;
+    may_read = rw (reads.same_sizes, reads.same_held) admitted.may_read;
+    member = rw (reads.same_sizes, reads.same_held) admitted.member;
+    all_present = admitted.all_present;
+    is_kept = rw (reads.same_sizes, reads.same_held) admitted.is_kept;
+  }
+
 module _ (group : List ℕ) {D : Type 0} (past : Past (groups group)) (left : List Bool) (found : GroupValue) (changes : List Configuration) (done : Bool) where
   -- What is kept where the disks read as they are is kept: a bay that tells of an image tells so.
   pub keeps_where_told : (old new : BayState D) → old.moment ≤ new.moment → ((t : ℕ) (image : Image) → new.left_since t image → new.tells_left)
@@ -23,26 +37,12 @@ module _ (group : List ℕ) {D : Type 0} (past : Past (groups group)) (left : Li
     ends = λ tells. (keeps (back tells)).ends tells;
   }
 
-  -- What holds of disks that were only read holds of what they were.
-  kept_still : (old middle : BayState D) → ReadsOnly old middle → AreAllKept group past old → AreAllKept group past middle
-  kept_still old middle reads kept image was_left =
-      rw reads.same_sizes (kept image (left_keeps old.may_hold middle.may_hold image reads.keeps was_left))
-
-  admitted_still : (old middle : BayState D) → ReadsOnly old middle → IsAdmitted group past old left found → IsAdmitted group past middle left found
-  admitted_still old middle reads admitted = record {
-    same_slots = rw reads.same_sizes admitted.same_slots;
-    may_read = rw (reads.same_sizes, reads.same_held) admitted.may_read;
-    member = rw (reads.same_sizes, reads.same_held) admitted.member;
-    all_present = admitted.all_present;
-    is_kept = rw (reads.same_sizes, reads.same_held) admitted.is_kept;
-  }
-
   -- What a call keeps since it had read its disks it keeps since its entry.
   pub keeps_since_entry : (old middle new : BayState D) → ReadsOnly old middle
       → (AreAllKept group past middle → IsAdmitted group past middle left found → KeepsHistory group middle new past left found changes done)
       → AreAllKept group past old → IsAdmitted group past old left found → KeepsHistory group old new past left found changes done
   keeps_since_entry old middle new reads keeps kept admitted =
-      let since = keeps (kept_still old middle reads kept) (admitted_still old middle reads admitted) in
+      let since = keeps (kept_still group past old middle reads kept) (admitted_still group past old middle reads left found admitted) in
       record {
         any_moment = record {
           later = let one = reads.any_moment.later in let other = since.any_moment.later in omega (arith, one, other);

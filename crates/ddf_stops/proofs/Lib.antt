@@ -2,6 +2,7 @@ pub mod Slots
 pub mod Again
 pub mod ShownCopies
 pub mod Stops
+pub mod Placed
 pub mod Told
 pub mod Begun
 pub mod Alone

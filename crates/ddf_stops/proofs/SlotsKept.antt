@@ -52,6 +52,7 @@ module _ (group : List ℕ) (past : Past (groups group)) (readable : ℕ → Boo
             same_disks = same.same_disks;
             same_returned = same.same_returned;
             same_own = same.same_own;
+            still_lost = λ slot was. ap (λ (lost : ℕ → Bool). lost slot) same.same_lost ∙ rw was refl;
             not_lost = λ slot read. ap (λ (lost : ℕ → Bool). lost slot) same.same_lost ∙ rw read (or_false (past.lost slot));
             lost_one = λ slot lost. left_lost slot (sym (ap (λ (all : ℕ → Bool). all slot) same.same_lost) ∙ lost);
           }
@@ -62,6 +63,7 @@ module _ (group : List ℕ) (past : Past (groups group)) (readable : ℕ → Boo
             same_disks = same.same_disks;
             same_returned = same.same_returned;
             same_own = same.same_own;
+            still_lost = λ slot was. ap (λ (lost : ℕ → Bool). lost slot) same.same_lost ∙ was;
             not_lost = λ slot read. ap (λ (lost : ℕ → Bool). lost slot) same.same_lost;
             lost_one = λ slot lost. inl (sym (ap (λ (all : ℕ → Bool). all slot) same.same_lost) ∙ lost);
           }
@@ -71,5 +73,5 @@ module _ (group : List ℕ) (past : Past (groups group)) (readable : ℕ → Boo
   ends_slots changes true now over = subst Keeps (sym over.is_now) (under_slots over.number (over.number + length changes) changes)
   ends_slots changes false now (inl same) =
       subst Keeps (sym same)
-      (record { same_slots = refl; same_disks = refl; same_returned = refl; same_own = refl; not_lost = λ slot read. refl; lost_one = λ slot lost. inl lost })
+      (record { same_slots = refl; same_disks = refl; same_returned = refl; same_own = refl; still_lost = λ slot was. was; not_lost = λ slot read. refl; lost_one = λ slot lost. inl lost })
   ends_slots changes false now (inr is) = subst Keeps (sym is.is_now) (under_slots is.number is.acked (take is.issued changes))

@@ -59,13 +59,14 @@ module _ (group : List ℕ) where
   Ends past readable found changes true now = IsOver past readable found changes now
   Ends past readable found changes false now = Goes past readable found changes now
 
-  -- The slots stay: the disk in each, and which of them have returned. None is lost that the call reads, and of the others a current member's
-  -- alone.
+  -- The slots stay: the disk in each, and which of them are lost and have returned. Besides, none is lost that the call reads, and of the others a
+  -- current member's alone.
   pub record KeepsSlots (past now : Past (groups group)) (readable : ℕ → Bool) (found : GroupValue) : Type 0 where
     pub same_slots : now.slots ≡ past.slots
     pub same_disks : now.disk ≡ past.disk
     pub same_returned : now.returned ≡ past.returned
     pub same_own : now.changes.own_from ≡ past.changes.own_from
+    pub still_lost : (slot : ℕ) → past.lost slot ≡ true → now.lost slot ≡ true
     pub not_lost : (slot : ℕ) → readable slot ≡ true → now.lost slot ≡ past.lost slot
     pub lost_one : (slot : ℕ) → now.lost slot ≡ true → (past.lost slot ≡ true) ⊎ ((readable slot ≡ false) × (has_current found.config (past.disk slot) ≡ true))
 

@@ -3,3 +3,4 @@ pub mod Going
 pub mod AtEnd
 pub mod Steps
 pub mod Founding
+pub mod Floors

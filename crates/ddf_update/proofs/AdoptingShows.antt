@@ -16,10 +16,9 @@ use Rattle.ddf_copy.specs.declared.which.Which.{Which}
 use Rattle.ddf_copy.specs.declared.which.Which.TheVariants.{Primary, Secondary}
 use Rattle.ddf_copy.specs.Anchor.{anchor_at}
 use Rattle.ddf_copy.specs.Copies.{copy_of, newest_at, newest_of}
-use Rattle.ddf_copy.specs.Gate.{first_difference, header_bytes, header_of}
+use Rattle.ddf_copy.specs.Gate.{first_difference, header_bytes}
 use Rattle.ddf_copy.specs.Headers.{anchor_header, written_as}
 use Rattle.ddf_copy.specs.Runs.{AreApart, HasCopy, IsInCopy}
-use Rattle.ddf_copy.specs.Sections.{and_then, copy_in, raw_at}
 use Rattle.ddf_copy.specs.Shows.{IsNewest}
 use Rattle.ddf_copy.specs.Which.{other_of, place_of}
 use Rattle.ddf_copy.proofs.Gates.{found_is}
@@ -37,31 +36,10 @@ use Rattle.ddf_update.specs.Update.{AreBoth, IsAdopted, IsAdopting, IsFormerOrNe
 use Rattle.ddf_update.specs.Adopting.{IsAdoptionWritten, IsLeftTakingOver, IsTakingOver}
 use Rattle.ddf_update.proofs.Changing.{are_apart, both_are_apart, both_stand, new_copy_stands, not_last, open_is_not_whole, other_other, same_anchor}
 use Rattle.ddf_update.proofs.FoundingShows.{anchor_stands, since_weaken}
+use Rattle.ddf_copy.proofs.LastCopies.{header_is, one_group}
+use Rattle.ddf_copy.proofs.Places.{alike}
 
 -- ---- a header under an anchor
-
--- what the second of two steps gives has what is asked of it
-both_steps : {A B : Type 0} (P : B → Type 0) (first : Result A CopyFault) (next : A → Result B CopyFault) → ((part : A) → IfOk (next part) P) → IfOk (and_then first next) P
-both_steps P (Ok part) next has = has part
-both_steps P (Err fault) next has = tt
-
-header_read : (header : Header) (raw : _) → IfOk (copy_in header raw) (λ copy. copy.header ≡ header)
-unfolding copy_in
-header_read header raw = search both_steps depth 9
-
-good_has : {A : Type 0} (P : A → Type 0) (read : Result A CopyFault) (value : A) → read ≡ Ok value → IfOk read P → P value
-good_has P (Ok other) value is has = let same : other ≡ value = cc in subst P same has
-good_has P (Err fault) value is has = absurd cc
-
-header_behind : (read : Result Header CopyFault) (next : Header → Result DiskCopy CopyFault) (copy : DiskCopy) → ((header : Header) → IfOk (next header) (λ found. found.header ≡ header)) → and_then read next ≡ Ok copy → read ≡ Ok copy.header
-header_behind (Ok header) next copy has is = ap Ok (sym (good_has (λ found. found.header ≡ header) (next header) copy is (has header)))
-header_behind (Err fault) next copy has is = absurd cc
-
-header_there : (size : ℕ) (sector : ℕ → List ℕ) (anchor : Header) (which : Which) (copy : DiskCopy) → copy_of size sector anchor which ≡ Ok copy → header_of size sector anchor which ≡ Ok copy.header
-unfolding copy_of
-header_there size sector anchor which copy is =
-    header_behind (header_of size sector anchor which) (λ header. copy_in header (raw_at sector (place_of which anchor) header.geometry)) copy
-    (λ header. header_read header (raw_at sector (place_of which anchor) header.geometry)) is
 
 -- The header of a copy that is read has what the anchor has.
 record IsShared (sector : ℕ → List ℕ) (anchor : Header) (which : Which) (copy : DiskCopy) : Type 0 where
@@ -71,19 +49,14 @@ record IsShared (sector : ℕ → List ℕ) (anchor : Header) (which : Which) (c
 
 shared_of : (size : ℕ) (sector : ℕ → List ℕ) (anchor : Header) (which : Which) (copy : DiskCopy) → copy_of size sector anchor which ≡ Ok copy → IsShared sector anchor which copy
 shared_of size sector anchor which copy is =
-    let found = found_is size sector anchor which copy.header (header_there size sector anchor which copy is) in
+    let found = found_is size sector anchor which copy.header (header_is size sector anchor which copy is) in
     record { shared = found.is_gate.is_shared; guid = found.guid_is; geometry = found.geometry_is }
 
 -- Two copies under one anchor are of one group, and have the same sections.
 pub one_kind : (size : ℕ) (sector : ℕ → List ℕ) (anchor : Header) (one other : Which) (first second : DiskCopy) → copy_of size sector anchor one ≡ Ok first → copy_of size sector anchor other ≡ Ok second
     → (first.header.guid ≡ second.header.guid) × (first.header.geometry ≡ second.header.geometry)
 one_kind size sector anchor one other first second is also =
-    let own = shared_of size sector anchor one first is in
-    let its = shared_of size sector anchor other second also in
-    let both : AreShared (header_bytes anchor) (sector (place_of one anchor)) (sector (place_of other anchor)) = record { one_is = own.shared; other_is = its.shared } in (
-      own.guid ∙ shared_guid (header_bytes anchor) (sector (place_of one anchor)) (sector (place_of other anchor)) both ∙ sym its.guid,
-      own.geometry ∙ shared_geometry (header_bytes anchor) (sector (place_of one anchor)) (sector (place_of other anchor)) both ∙ sym its.geometry,
-    )
+    (one_group size sector anchor one other first second is also, (alike size anchor sector sector one other first second is also).same_sections)
 
 ok_or : {A : Type 0} (read : Result A CopyFault) → ((value : A) × (read ≡ Ok value)) ⊎ ((fault : CopyFault) × (read ≡ Err fault))
 ok_or (Ok value) = inl (value, refl)
@@ -237,6 +210,7 @@ module _ {D : Type 0} (disks : BayState D) (slot : ℕ) (anchor : Header) (last 
               (λ same. inl (under_is size now anchor here ∙ ap Some same ∙ sym (under_is size before anchor can.is_anchored)))
               (λ one. inr (inl (under_is size now anchor here ∙ ap Some one)))
               reads;
+          anchored = inl (here ∙ sym can.is_anchored);
           outside = outside_either now taking.outside;
         }
     | inr turn ↦
@@ -255,6 +229,7 @@ module _ {D : Type 0} (disks : BayState D) (slot : ℕ) (anchor : Header) (last 
               (λ one. inr (inr (inl (under_is size now own here ∙ ap Some one))))
               (λ level. inr (inr (inr (under_is size now own here ∙ ap Some level))))
               reads;
+          anchored = inr here;
           outside = outside_either now taking.outside;
         }
   ]

@@ -128,11 +128,12 @@ IsReadAdopting size before now last old new =
     ⊎ (newest_at size now ≡ Some (One (other_of last) (written_as new (other_of last))))
     ⊎ (newest_at size now ≡ Some (Level (written_as new Primary)))
 
--- What a stop leaves of the sectors of a slot that is adopted: it shows the former group's copy or the new one, and all outside the two
--- copies and the anchor is as it was.
+-- What a stop leaves of the sectors of a slot that is adopted: it shows the former group's copy or the new one, its anchor is what it was or the
+-- new one, and all outside the two copies and the anchor is as it was.
 pub record IsAdopting (size : ℕ) (before now : ℕ → List ℕ) (prepared : Prepared) (last : Which) (old new : DiskCopy) : Type 0 where
   pub shows : Shows size now old ⊎ Shows size now new
   pub newest : IsReadAdopting size before now last old new
+  pub anchored : (anchor_at size now ≡ anchor_at size before) ⊎ (anchor_at size now ≡ Ok (anchor_header new))
   pub outside : (l : ℕ) → (now l ≡ before l) ⊎ IsInEither prepared l ⊎ (l ≡ size - 1)
 
 -- A stop leaves a slot that shows the former group's copy or the new one, and other slots as they might be left before.

@@ -12,7 +12,7 @@ use Rattle.ddf_array.specs.Sources.{Source, copy, copies, sources, trusts_parity
 use Rattle.ddf_array.specs.Values.{bytes_at, given, value}
 use Rattle.ddf_array.specs.Rows.{block_at, cell_value, row_sum, sources_without_block, value_without_block}
 use Rattle.ddf_array.proofs.Consistent.{copy_gives}
-use Rattle.ddf_volume.specs.Reading.{FirstHasSlot, IsGivenBy}
+use Rattle.ddf_volume.specs.Reading.{FirstHasSlot, IsGivenBy, IsOn}
 use Rattle.ddf_write.specs.RowWrites.{IsFilled, IsSure}
 use Rattle.ddf_cells.specs.Degraded.{is_degraded}
 use Rattle.ddf_write.specs.WriteRefused.{sources_in_write}
@@ -21,6 +21,7 @@ use Rattle.ddf_write.specs.Writing.{IsParityOf}
 use Rattle.ddf_volume.proofs.BlockSources.{sources_untrusted}
 use Rattle.ddf_cells.proofs.CopiesOn.{block_at_sits, in_copies, on_position}
 use Rattle.ddf_volume.proofs.GivenLaws.{one_of, first_of}
+use Rattle.ddf_volume.proofs.SourceSlots.{first_on}
 use Rattle.ddf_cells.proofs.OnCells.{OnCell, block_below, no_parity, on_cell, one_owner, one_place}
 use Rattle.ddf_cells.proofs.DataCells as cells
 use Rattle.ddf_cells.proofs.DataCells.{IsReadFrom, at_first, keeps, row_is, same_sums, value_first}
@@ -110,9 +111,10 @@ module _ (v : Volume) (known : IsVolume v) (apart : IsApart v) (element : ℕ) (
     copy_in (x ∷ xs) (suc k) source e = copy_in xs k source e
 
     module _ (marked : trusts_parity v ≡ false) (failed : ℕ → Type 0) (sure : IsSure failed v entry) where
-      never_first : ((slot : ℕ) → failed slot → ⊥) → (all : List Site) → FirstHasSlot failed (map copy all) → ⊥
-      never_first never [] has = has
-      never_first never (one ∷ all) has = never one.slot has
+      never_first : ((slot : ℕ) → IsOn v slot → failed slot → ⊥) → (block : ℕ) → FirstHasSlot failed (map copy (copies v block)) → ⊥
+      never_first never block has =
+          let found = first_on v failed block (subst (FirstHasSlot failed) (sym (sources_untrusted v block marked)) has) in
+          never found.0 found.1.0 found.1.1
 
       -- any other block is read as its value
       read_other : (block : ℕ) (bytes : List ℕ) (rep : Site) → ((k : ℕ) → k < length sectors → block ≢ start + k) → slice_get (copies v block) 0 ≡ Some rep
@@ -124,7 +126,7 @@ module _ (v : Volume) (known : IsVolume v) (apart : IsApart v) (element : ℕ) (
 
           by : IsSure failed v entry → bytes ≡ bytes_at image rep
           by (inl never) =
-              let from = first_of failed image (map copy (copies v block)) bytes (never_first never (copies v block)) is_copied in
+              let from = first_of failed image (map copy (copies v block)) bytes (never_first never block) is_copied in
               let its = copy_in (copies v block) 0 from.0 from.1 in
               let same : its.0 ≡ rep = some_is (sym its.1 ∙ first) in
               from.2 ∙ ap (given image) (sym its.2) ∙ ap (bytes_at image) same

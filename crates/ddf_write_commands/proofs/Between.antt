@@ -54,9 +54,10 @@ use Rattle.ddf_write_commands.specs.Worked.{IsArrayDone, IsArrayStopped, IsLeftC
 use Rattle.ddf_write_commands.proofs.BelowFloors.{floor_slot}
 use Rattle.ddf_write_commands.proofs.Closing.{last_keeps}
 use Rattle.ddf_write_commands.proofs.Courses.{IsTold, write_fails, writes}
-use Rattle.ddf_write_commands.proofs.Parts.{comes_along, configs_of, not_begun, work_fails}
+use Rattle.ddf_write_commands.proofs.Parts.{comes_along, configs_of, work_fails}
 use Rattle.ddf_write_commands.proofs.Unmoved.{have_floors, holds_still}
 use Rattle.ddf_write_commands.proofs.Works.{HasStopped, HasWorked, IsSteady}
+use Rattle.ddf_group_commands.proofs.LeftWriting.{left_still, writing_more}
 
 -- ---- small things
 
@@ -291,12 +292,8 @@ module _ {D : Type 0} (tells : Type 0) (doing : Doing) (steady : IsSteady doing)
             has_done = was_done told;
             is_left = was_left told;
             are_sectors = sectors_behind left;
-            is_writing = subst (λ (steps : List Step). IsLeftWriting (holding old slots behind.held) steps image) (sym last_is) (record {
-              before = writing.before;
-              is_left = λ s l. left_behind told s l (writing.before s l) (writing.is_left s l);
-              shows = rw same_sizes_behind at writing.shows;
-              outside = rw same_sizes_behind at writing.outside;
-            });
+            is_writing = subst (λ (steps : List Step). IsLeftWriting (holding old slots behind.held) steps image) (sym last_is)
+                (writing_more behind (holding old slots behind.held) same_sizes_behind (left_behind told) last image writing);
           }
 
           among_closing : tells → new.tells_left → (image : Image) → IsLeftWriting behind last image → IsLeftDoing doing all found timestamp word request image
@@ -372,7 +369,7 @@ module _ {D : Type 0} (tells : Type 0) (doing : Doing) (steady : IsSteady doing)
                 later = last_writing.later;
                 since = λ t image le was_left. ⊎_elim inl (λ writing. inr (is_closing told (tells_new.since t image was_left) image writing)) (last_writing.since t image le was_left);
               })
-              (λ tells_left image is_left. is_closing told tells_left image (not_begun behind last image is_left))
+              (λ tells_left image is_left. is_closing told tells_left image (left_still behind last image is_left))
 
         -- and each of them is kept.
         pub close_keeps : (done_all : Bool) → (tells → IsCommit behind new ready done_all) → (left : List Bool) (named : Option (List ℕ)) → IsFoundBy old left named found → (steps : List Step)

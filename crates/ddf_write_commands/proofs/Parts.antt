@@ -33,6 +33,7 @@ use Rattle.ddf_write_commands.specs.Doing.{Doing}
 use Rattle.ddf_write_commands.specs.Planned.{IsPlanned}
 use Rattle.ddf_write_commands.specs.Worked.{IsLeftClosing, IsLeftWorking}
 use Rattle.ddf_write_commands.proofs.Courses.{IsTold, writes}
+use Rattle.ddf_group_commands.proofs.LeftWriting.{left_still}
 
 -- what the steps issue is what the first of them issue, and then the others
 pub issued_parts : (found : GroupValue) (one other : List Step) → changes_in found (one ++ other) ≡ changes_in found one ++ changes_in found other
@@ -43,10 +44,6 @@ issued_parts found one other =
 -- the configurations that steps that are ready make
 abbrev pub configs_of : List ReadyStep → List Configuration
 configs_of steps = map (λ (one : ReadyStep). one.step.config) steps
-
--- a writing of steps that has not begun
-pub not_begun : {D : Type 0} (old : BayState D) (steps : List Step) (image : Image) → IsLeft old.may_hold image → IsLeftWriting old steps image
-not_begun old steps image is_left = record { before = image; is_left = is_left; shows = λ slot. inl refl; outside = λ slot l. inl refl }
 
 -- the next step, issued and acknowledged, where at most one is left
 module _ (group : List ℕ) (past : Past (groups group)) where
@@ -88,7 +85,7 @@ module _ {D : Type 0} (tells : Type 0) (group : List ℕ) (past : Past (groups g
           has_come = last.1;
           is_over = λ e. absurd cc;
           is_left = λ image is_left. ⊎_elim
-              (λ was. not_begun old plan.first image (tells_old.only_now image was))
+              (λ was. left_still old plan.first image (tells_old.only_now image was))
               (λ writing. writing)
               (first.since old.moment image (omega arith) (tells_new.counts old.moment image first.later is_left));
           all_kept = last.2;

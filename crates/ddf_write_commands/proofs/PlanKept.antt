@@ -65,9 +65,6 @@ named_in : (arrays : List (List ℕ × Array)) (entry : Entry) (guid : Option (L
 named_in arrays entry None e = absurd cc
 named_in arrays entry (Some guid) e = named_by arrays guid entry (lookup (same_guid guid) arrays) refl e
 
-pub named_is : (arrays : List (List ℕ × Array)) (word : List ℕ) (entry : Entry) → named_array arrays word ≡ Some entry → lookup (same_guid entry.0) arrays ≡ Some entry.1
-named_is arrays word entry e = named_in arrays entry (named_guid arrays word) e
-
 -- No slot has two seats.
 rise_apart : (seats : List Seat) → SlotsRise seats → (j k : ℕ) (one other : Seat) → slice_get seats j ≡ Some one → slice_get seats k ≡ Some other → one.slot ≡ other.slot → one.reference ≡ other.reference
 rise_apart [] rise j k one other at there same = absurd cc

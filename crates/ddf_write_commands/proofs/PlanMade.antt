@@ -40,7 +40,8 @@ use Rattle.ddf_write_commands.specs.Planned.{Entry, asked_of, changes_around, la
 use Rattle.ddf_write_commands.specs.Plans.{IsPlanFor, IsPlanOf, MayPlan, MayPlanFor}
 use Rattle.ddf_write_commands.specs.Resync.{resync_behind, resync_refusals}
 use Rattle.ddf_write_commands.proofs.Marked.{marked_view, refusal_same, was_marked}
-use Rattle.ddf_write_commands.proofs.PlanKept.{either, named_is}
+use Rattle.ddf_write_commands.proofs.PlanKept.{either}
+use Rattle.ddf_data_commands.proofs.ArrayUse.{named_is}
 
 some_is : {A : Type 0} {one other : A} → ◌≡◌ {A = Option A} (Some one) (Some other) → one ≡ other
 some_is e = cc

@@ -42,8 +42,9 @@ use Rattle.ddf_write_commands.specs.Planned.{Entry, lacks_position}
 use Rattle.ddf_write_commands.specs.Plans.{IsPlanOf, MayPlan, MayPlanFor}
 use Rattle.ddf_write_commands.specs.Write.{write_behind, write_refusals}
 use Rattle.ddf_write_commands.proofs.Marked.{refusal_same}
-use Rattle.ddf_write_commands.proofs.PlanKept.{either, named_is}
+use Rattle.ddf_write_commands.proofs.PlanKept.{either}
 use Rattle.ddf_write_commands.proofs.PlanMade.{found_there, plan_of, refused_more, within_is}
+use Rattle.ddf_data_commands.proofs.ArrayUse.{named_is}
 
 some_is : {A : Type 0} {one other : A} → ◌≡◌ {A = Option A} (Some one) (Some other) → one ≡ other
 some_is e = cc

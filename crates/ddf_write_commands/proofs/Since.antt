@@ -44,8 +44,9 @@ use Rattle.ddf_write_commands.specs.Holding.{holding}
 use Rattle.ddf_write_commands.specs.Planned.{Entry, IsPlanned, Refusing, request_around}
 use Rattle.ddf_write_commands.specs.Plans.{IsNotReadied, MayPlan}
 use Rattle.ddf_write_commands.specs.Worked.{IsLeftClosing, IsLeftDoing, IsLeftWorking, IsWorkedIn, IsWorkedOf, LeavesDoing}
-use Rattle.ddf_write_commands.proofs.Parts.{not_begun}
 use Rattle.ddf_write_commands.proofs.Works.{IsSteady}
+use Rattle.ddf_stops.proofs.Entering.{admitted_still, kept_still}
+use Rattle.ddf_group_commands.proofs.LeftWriting.{left_still, writing_more, writing_since}
 
 -- ---- what the command promises of a group that was read
 
@@ -83,13 +84,13 @@ module _ {D : Type 0} (doing : Doing) (work : Work D) (named : Option (List ℕ)
   pub none_along : (left : List Bool) (meaning : Result GroupValue Assembly) → GoesAlong doing work left timestamp word request false meaning
   none_along left meaning found is plan group same past kept admitted = record {
     any_moment = stops_weaken reads.any_moment
-        (λ image was. record { stage = Opening; now = past; has_come = inl refl; is_left = not_begun work.old plan.first image was; is_kept = kept image was });
+        (λ image was. record { stage = Opening; now = past; has_come = inl refl; is_left = left_still work.old plan.first image was; is_kept = kept image was });
     ends = λ tells_left. record {
       stage = Opening;
       now = past;
       has_come = inl refl;
       is_over = λ e. absurd cc;
-      is_left = λ image left. not_begun work.old plan.first image (left_keeps work.old.may_hold work.new.may_hold image reads.keeps left);
+      is_left = λ image left. left_still work.old plan.first image (left_keeps work.old.may_hold work.new.may_hold image reads.keeps left);
       all_kept = λ image left. rw reads.same_sizes (kept image (left_keeps work.old.may_hold work.new.may_hold image reads.keeps left));
     };
   }
@@ -211,14 +212,6 @@ module _ {D : Type 0} (tells : Type 0) (doing : Doing) (steady : IsSteady doing)
   worked_since group timestamp word request (Err (Conflict i j sequence differ)) is = absurd is
   worked_since group timestamp word request (Err (Split i j)) is = absurd is
 
-  writing_since : (steps : List Step) (image : Image) → IsLeftWriting middle steps image → IsLeftWriting old steps image
-  writing_since steps image writing = record {
-    before = writing.before;
-    is_left = left_keeps old.may_hold middle.may_hold writing.before reads.keeps writing.is_left;
-    shows = rw reads.same_sizes at writing.shows;
-    outside = rw reads.same_sizes at writing.outside;
-  }
-
   module _ (group : GroupValue) (first : List Step) (volume : Volume) (image : Image) where
     working_since : IsLeftWorking doing (work_of tells middle new) group first volume image → IsLeftWorking doing (work_of tells old new) group first volume image
     working_since way = record {
@@ -236,12 +229,7 @@ module _ {D : Type 0} (tells : Type 0) (doing : Doing) (steady : IsSteady doing)
       has_done = steady.more_done (Failed middle new) (Failed old new) more volume way.before way.behind way.has_done;
       is_left = way.is_left;
       are_sectors = way.are_sectors;
-      is_writing = record {
-        before = way.is_writing.before;
-        is_left = λ s l. held_more (slots_of group.seats) way.behind s l (way.is_writing.before s l) (way.is_writing.is_left s l);
-        shows = rw reads.same_sizes at way.is_writing.shows;
-        outside = rw reads.same_sizes at way.is_writing.outside;
-      };
+      is_writing = writing_more (holding middle (slots_of group.seats) way.behind) (holding old (slots_of group.seats) way.behind) reads.same_sizes (held_more (slots_of group.seats) way.behind) last image way.is_writing;
     }
 
   -- and what a stop left
@@ -250,7 +238,7 @@ module _ {D : Type 0} (tells : Type 0) (doing : Doing) (steady : IsSteady doing)
   left_since group timestamp word request image is = record {
     plan = is.plan;
     is_left = elim is.is_left [
-      | inl first ↦ inl (writing_since is.plan.first image first)
+      | inl first ↦ inl (writing_since old middle reads is.plan.first image first)
       | inr (inl way) ↦ inr (inl (working_since group is.plan.first is.plan.volume image way))
       | inr (inr last) ↦ inr (inr (closing_since group is.plan.first is.plan.volume image is.plan.last last))
     ];
@@ -265,25 +253,13 @@ module _ {D : Type 0} (tells : Type 0) (doing : Doing) (steady : IsSteady doing)
     come_still Done now come = come
 
     stage_since : (stage : Stage) (image : Image) → IsLeftAt guid doing (work_of tells middle new) past left group plan stage image → IsLeftAt guid doing (work_of tells old new) past left group plan stage image
-    stage_since Opening image is = writing_since plan.first image is
+    stage_since Opening image is = writing_since old middle reads plan.first image is
     stage_since Working image is = working_since group plan.first plan.volume image is
     stage_since Closing image is = closing_since group plan.first plan.volume image plan.last is
     stage_since Done image is = closing_since group plan.first plan.volume image plan.last is
 
-    kept_still : AreAllKept guid past old → AreAllKept guid past middle
-    kept_still kept image was_left = rw reads.same_sizes (kept image (left_keeps old.may_hold middle.may_hold image reads.keeps was_left))
-
-    admitted_still : IsAdmitted guid past old left group → IsAdmitted guid past middle left group
-    admitted_still admitted = record {
-      same_slots = rw reads.same_sizes admitted.same_slots;
-      may_read = rw (reads.same_sizes, reads.same_held) admitted.may_read;
-      member = rw (reads.same_sizes, reads.same_held) admitted.member;
-      all_present = admitted.all_present;
-      is_kept = rw (reads.same_sizes, reads.same_held) admitted.is_kept;
-    }
-
     first_along : AreAllKept guid past old → (image : Image) → IsLeft old.may_hold image → IsAlong guid doing (work_of tells old new) past left group plan image
-    first_along kept image was = record { stage = Opening; now = past; has_come = inl refl; is_left = not_begun old plan.first image was; is_kept = kept image was }
+    first_along kept image was = record { stage = Opening; now = past; has_come = inl refl; is_left = left_still old plan.first image was; is_kept = kept image was }
 
     along_since : (done : Bool) → AreAllKept guid past old → ComesAlong guid doing (work_of tells middle new) past left group plan done → ComesAlong guid doing (work_of tells old new) past left group plan done
     along_since done kept along = record {
@@ -354,8 +330,8 @@ module _ {D : Type 0} (tells : Type 0) (doing : Doing) (steady : IsSteady doing)
           subst (λ (one : GroupValue). AllComeAlong doing (work_of tells old new) read.left one timestamp word request (is_done outcome)) (found_same group found (sym is_group ∙ is_found))
           (λ plan guid same past kept admitted.
           along_since guid past read.left group timestamp word request plan (is_done outcome) kept
-          (has.along told read.left named (found_by told) plan guid same past (kept_still guid past read.left group timestamp word request plan kept)
-          (admitted_still guid past read.left group timestamp word request plan admitted)));
+          (has.along told read.left named (found_by told) plan guid same past (kept_still guid past old middle reads kept)
+          (admitted_still guid past old middle reads read.left group admitted)));
     }
 
     -- and of which group

@@ -135,7 +135,7 @@ follows_in true disks [] follows = tt
 follows_in true disks (one ∷ others) follows = (follows.0, tt)
 
 -- what is readied behind a recovery, where other steps could be
-with_others : (spent : Bool) (next : Option Step) (answer other : Result (List Step) GroupFault) (all behind steps : List Step) → with_recovery spent next answer ≡ Ok all → answer ≡ Ok behind
+pub with_others : (spent : Bool) (next : Option Step) (answer other : Result (List Step) GroupFault) (all behind steps : List Step) → with_recovery spent next answer ≡ Ok all → answer ≡ Ok behind
     → other ≡ Ok steps → with_recovery spent next other ≡ Ok (option_to_list next ++ steps)
 with_others spent None answer other all behind steps is first second = second
 with_others true (Some step) answer other all behind steps is first second =

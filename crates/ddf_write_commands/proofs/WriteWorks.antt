@@ -25,7 +25,7 @@ module _ (P Q : ℕ → Type 0) (more : (slot : ℕ) → P slot → Q slot) (vol
   done_more : (sectors : List (List ℕ)) (before image : Image) → HasWritten volume start sectors (IsSure P volume before) image → HasWritten volume start sectors (IsSure Q volume before) image
   done_more sectors before image is = record {
     cells = is.cells;
-    parity = λ sure. is.parity (⊎_elim (λ none. inl (λ slot failed. none slot (more slot failed))) inr sure);
+    parity = λ sure. is.parity (⊎_elim (λ none. inl (λ slot on failed. none slot on (more slot failed))) inr sure);
   }
 
   row_more : (count slot : ℕ) → NoneLeftOfRow P volume start count slot → NoneLeftOfRow Q volume start count slot

@@ -52,6 +52,13 @@ returns-in-Ok-clause-goes g c =
       rebuilt = λ told so. c.in-Ok.ensures.now told;
     } in
     let new = g.B.Bay.disks c.write_step.new.bay in
+    let tells_old : IsTold (g.B.Bay.disks c.args.bay.now) = record {
+      held = g.met.B.Bay.held_is_left c.args.bay.now;
+      whole = g.met.B.Bay.whole c.args.bay.now;
+      only_now = g.met.B.Bay.only_now c.args.bay.now;
+      counts = g.met.B.Bay.counts_now c.args.bay.now;
+      since = g.met.B.Bay.told_since c.args.bay.now;
+    } in
     let tells_middle : IsTold (g.B.Bay.disks c.rebuild_rows.new.bay) = record {
       held = g.met.B.Bay.held_is_left c.rebuild_rows.new.bay;
       whole = g.met.B.Bay.whole c.rebuild_rows.new.bay;
@@ -66,7 +73,7 @@ returns-in-Ok-clause-goes g c =
       counts = g.met.B.Bay.counts_now c.write_step.new.bay;
       since = g.met.B.Bay.told_since c.write_step.new.bay;
     } in
-    round_goes g.B.Bay.tells old middle filling.view filling.target c.args.from c.args.row c.requires.fills.0 c.args.group.now can c.args.ready.now.recovery true rows refl tells_middle new tells_new (is_ok c.write_step.result) c.args.ready.now.steps c.requires.many c.requires.stands c.write_step.ensures.goes
+    round_goes g.B.Bay.tells old middle filling.view filling.target c.args.from c.args.row c.requires.fills.0 c.args.group.now can c.args.ready.now.recovery true rows refl tells_old tells_middle new tells_new (is_ok c.write_step.result) c.args.ready.now.steps c.requires.many c.requires.stands c.write_step.ensures.goes
 
 pub returns-in-Ok-clause-filled : goal.returns-in-Ok-clause-filled
 returns-in-Ok-clause-filled g c =
@@ -85,6 +92,13 @@ returns-in-Ok-clause-filled g c =
       rebuilt = λ told so. c.in-Ok.ensures.now told;
     } in
     let new = g.B.Bay.disks c.write_step.new.bay in
+    let tells_old : IsTold (g.B.Bay.disks c.args.bay.now) = record {
+      held = g.met.B.Bay.held_is_left c.args.bay.now;
+      whole = g.met.B.Bay.whole c.args.bay.now;
+      only_now = g.met.B.Bay.only_now c.args.bay.now;
+      counts = g.met.B.Bay.counts_now c.args.bay.now;
+      since = g.met.B.Bay.told_since c.args.bay.now;
+    } in
     let tells_middle : IsTold (g.B.Bay.disks c.rebuild_rows.new.bay) = record {
       held = g.met.B.Bay.held_is_left c.rebuild_rows.new.bay;
       whole = g.met.B.Bay.whole c.rebuild_rows.new.bay;
@@ -100,7 +114,7 @@ returns-in-Ok-clause-filled g c =
       since = g.met.B.Bay.told_since c.write_step.new.bay;
     } in
     on_ok_weaker c.write_step.result
-    (λ written. round_filled g.B.Bay.tells old middle filling.view filling.target c.args.from c.args.row c.requires.fills.0 c.args.group.now can c.args.ready.now.recovery true rows refl tells_middle new tells_new (is_ok c.write_step.result) c.args.ready.now.steps c.requires.many c.requires.stands c.write_step.ensures.goes c.write_step.new.group c.write_step.new.ready
+    (λ written. round_filled g.B.Bay.tells old middle filling.view filling.target c.args.from c.args.row c.requires.fills.0 c.args.group.now can c.args.ready.now.recovery true rows refl tells_old tells_middle new tells_new (is_ok c.write_step.result) c.args.ready.now.steps c.requires.many c.requires.stands c.write_step.ensures.goes c.write_step.new.group c.write_step.new.ready
     written)
     c.write_step.ensures.written
 
@@ -121,6 +135,13 @@ returns-in-Ok-clause-failed g c =
       rebuilt = λ told so. c.in-Ok.ensures.now told;
     } in
     let new = g.B.Bay.disks c.write_step.new.bay in
+    let tells_old : IsTold (g.B.Bay.disks c.args.bay.now) = record {
+      held = g.met.B.Bay.held_is_left c.args.bay.now;
+      whole = g.met.B.Bay.whole c.args.bay.now;
+      only_now = g.met.B.Bay.only_now c.args.bay.now;
+      counts = g.met.B.Bay.counts_now c.args.bay.now;
+      since = g.met.B.Bay.told_since c.args.bay.now;
+    } in
     let tells_middle : IsTold (g.B.Bay.disks c.rebuild_rows.new.bay) = record {
       held = g.met.B.Bay.held_is_left c.rebuild_rows.new.bay;
       whole = g.met.B.Bay.whole c.rebuild_rows.new.bay;
@@ -137,7 +158,7 @@ returns-in-Ok-clause-failed g c =
     } in
     IfErr-weaker c.write_step.result (IsSlotFault middle new (slots_of c.args.group.now.seats))
     (IsFillFault g.B.Bay.tells old new filling.view filling.target c.args.from (rounds_in (c.args.row ∷ []) c.args.ready.now.steps) c.args.group.now c.args.ready.now c.args.row)
-    (λ failure fault. round_fault g.B.Bay.tells old middle filling.view filling.target c.args.from c.args.row c.requires.fills.0 c.args.group.now can c.args.ready.now.recovery true rows refl tells_middle new tells_new (is_ok c.write_step.result) c.args.ready.now.steps c.requires.many c.requires.stands c.write_step.ensures.goes failure fault)
+    (λ failure fault. round_fault g.B.Bay.tells old middle filling.view filling.target c.args.from c.args.row c.requires.fills.0 c.args.group.now can c.args.ready.now.recovery true rows refl tells_old tells_middle new tells_new (is_ok c.write_step.result) c.args.ready.now.steps c.requires.many c.requires.stands c.write_step.ensures.goes failure fault)
     c.write_step.ensures.failed
 
 pub returns-in-Err-clause-goes : goal.returns-in-Err-clause-goes

@@ -11,11 +11,12 @@ use Rattle.ddf_write_commands.specs.Resync.{resync_behind, resync_refusals, resy
 use Rattle.ddf_write_commands.specs.Worked.{IsWorkedOf}
 use Rattle.ddf_write_commands.proofs.Arrays.{along_of, aside_of, can_close_of, closed_along, closed_aside, closed_keeps, closed_leaves, closed_of, keeps_of, not_opened_along, not_opened_keeps, not_opened_leaves, not_opened_of, stopped_leaves, stopped_of}
 use Rattle.ddf_write_commands.proofs.Courses.{IsTold}
-use Rattle.ddf_write_commands.proofs.PlanKept.{apart_there, fits_there, named_is, none_trusted}
+use Rattle.ddf_write_commands.proofs.PlanKept.{apart_there, fits_there, none_trusted}
 use Rattle.ddf_write_commands.proofs.ResyncArray.{ended, under}
 use Rattle.ddf_write_commands.proofs.ResyncWorks.{resync_steady, resync_worked}
 use Rattle.ddf_write_commands.proofs.Works.{HasWorked}
 use Rattle.ddf_write_commands.proofs.resyncing.resync_array.Goals as goal
+use Rattle.ddf_data_commands.proofs.ArrayUse.{named_is}
 
 pub returns-in_err-open_blocks-clause-worked : goal.returns-in_err-open_blocks-clause-worked
 returns-in_err-open_blocks-clause-worked g c = λ word is.

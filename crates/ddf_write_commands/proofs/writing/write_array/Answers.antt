@@ -12,11 +12,12 @@ use Rattle.ddf_write_commands.specs.Worked.{IsWorkedOf}
 use Rattle.ddf_write_commands.proofs.Arrays.{along_of, aside_of, can_close_of, closed_along, closed_aside, closed_keeps, closed_leaves, closed_of, keeps_of, not_opened_along, not_opened_keeps, not_opened_leaves, not_opened_of, stopped_leaves, stopped_of}
 use Rattle.ddf_write_commands.proofs.Courses.{IsTold}
 use Rattle.ddf_write_commands.proofs.PlanWritten.{few_behind, parity_redundant}
-use Rattle.ddf_write_commands.proofs.PlanKept.{apart_there, fits_there, named_is, none_trusted}
+use Rattle.ddf_write_commands.proofs.PlanKept.{apart_there, fits_there, none_trusted}
 use Rattle.ddf_write_commands.proofs.WriteArray.{under, write_ended}
 use Rattle.ddf_write_commands.proofs.WriteWorks.{write_steady, write_worked}
 use Rattle.ddf_write_commands.proofs.Works.{HasWorked}
 use Rattle.ddf_write_commands.proofs.writing.write_array.Goals as goal
+use Rattle.ddf_data_commands.proofs.ArrayUse.{named_is}
 
 pub returns-in_err-open_blocks-clause-worked : goal.returns-in_err-open_blocks-clause-worked
 returns-in_err-open_blocks-clause-worked g c = λ word is.
