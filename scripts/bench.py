@@ -15,6 +15,7 @@ from measuring import beside, measured, peak_of, row, spread
 from read_speed import read_rows
 from rebuild_speed import rebuild_rows
 from scrub_speed import scrub_rows
+from whole_speed import whole_rows
 from write_speed import write_rows
 
 SECTOR = 512
@@ -190,6 +191,7 @@ def main():
     scrub_rows(program, work, max(3, rounds // 8))
     write_rows(program, work, max(3, rounds // 8))
     rebuild_rows(program, work, max(3, rounds // 8))
+    whole_rows(program, work, max(3, rounds // 8))
     xor = work / "xor/crates/xor_speed/out/xor_speed"
     if xor.exists():
         for sectors in (1, 64):

@@ -1,5 +1,5 @@
 #!/bin/sh
-# Measures `examine` beside mdadm, blkid and zlib, where they are at hand, `read`, `scrub` and `resync` beside cat, `write` beside dd and the exclusive-or beside a
+# Measures `examine` beside mdadm, blkid and zlib, where they are at hand, `read`, `scrub` and `resync` beside cat, `write` beside dd, and the exclusive-or beside a
 # copy, and prints the table of docs/SPEED.md. It is no part of the gate. ROUNDS is the number of rounds (40); in each round every program runs
 # once, one after another.
 #
@@ -8,14 +8,16 @@
 # - CRC: how much longer `examine` takes over slots that are sealed than over slots of which none is, so that it reads and
 #   copies as much, counts no CRC and compares no slots. So a comparison of the two copies is in it. zlib's is that of Python.
 # - Memory: the peak of the process, where the sections that are kept in memory have the most sectors that they may have.
-# - `read` of 1 MiB, the most of one call, in pieces of arrays over three labelled disks, whole and without their first disk, beside cat
+# - `read` of 1 MiB, a piece of a call, in pieces of arrays over three labelled disks, whole and without their first disk, beside cat
 #   of a file of the same bytes. The bytes and the parity are placed without `ddf`, and what it gives is compared with them once. Both
 #   write over a file that is there, in memory where /dev/shm is, so that the kernel doesn't copy for cat within one file system. The
 #   same of no block tells what the start and the assembly cost. Ratios are of throughput.
 # - `scrub` of an array of random bytes, whose copies and parity agree, beside cat of what its members hold, to nowhere. It takes an eighth
 #   of the rounds, and room for 1.4 GB in the folder of temporary files.
-# - `resync` of the same arrays, beside cat of what their members hold; and `write` of 1 MiB, the most of one call, with its start, the two changes of the group around
+# - `resync` of the same arrays, beside cat of what their members hold; and `write` of 1 MiB, a piece of a call, with its start, the two changes of the group around
 #   it and their syncs, beside dd of as many bytes as reach the disks, with one sync.
+# - One `read` of 512 MiB of RAID 5, whole and without its first disk, beside cat of the same bytes, which were placed without `ddf`; and one `write` of 512 MiB beside dd of
+#   as many bytes as reach the disks, with one sync, and its peak of memory above that of a write of no block. It needs room for 3 GB in the folder of temporary files.
 # - `rebuild` of the second disk of such arrays on a spare, with the loss, the notes of its progress and their syncs, beside cat of what it reads, to nowhere, and then dd
 #   of what it writes, with one sync.
 # - The exclusive-or of sectors in cache beside a copy of as many, in one small program (xor_speed.rt.txt: only a crate has files

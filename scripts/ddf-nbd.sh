@@ -69,7 +69,7 @@ size() {
     esac
 }
 
-# Prints so many bytes from an offset on, of whole blocks that are read first: a call of `read` gives 2048 blocks at most.
+# Prints so many bytes from an offset on, of whole blocks that are read first, 2048 at a time.
 give() {
     at=$(($2 / 512))
     end=$((($2 + $1 + 511) / 512))

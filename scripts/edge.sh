@@ -1,7 +1,8 @@
 #!/bin/sh
 # Runs the program in hard surroundings: closed streams, paths that can't be opened, disks that may not be written, that are
-# locked, absent or not empty, one disk under two names, wrong words. Each run ends with the wanted status and output, and no
-# image changes but those that a command is to change.
+# locked, absent or not empty, one disk under two names, wrong words, a system that gives too little, the largest disks. Each run
+# ends with the wanted status and output, and no image changes but those that a command is to change. Disks that fail are
+# scripts/faults.sh.
 set -eu
 PATH=$PATH:/sbin:/usr/sbin
 top=$(cd "$(dirname "$0")/.." && pwd)
@@ -203,7 +204,8 @@ ends 0 "group" "" "./ddf k0.img k2.img -- assemble"
 [ ! -s err ] || fail "said $(cat err), where nothing was lost"
 echo "edge: what a command loses and does is told on standard error"
 
-# The input of `write`: a file, a pipe that gives its bytes slowly, one that ends too soon, none at all, and a folder, of which a read fails.
+# The input of `write`: a file, a pipe that gives its bytes slowly, one that ends too soon, none at all, a folder, of which a read fails, and one that ends in the second
+# piece of 2048 blocks.
 truncate -s 32M w0.img w1.img
 ends 0 "ok sequence 1" "" "./ddf w0.img w1.img -- label"
 ends 0 "ok sequence 2" "" "./ddf w0.img w1.img -- create v raid1 0 single 0,1@4096"
@@ -218,11 +220,20 @@ sum=$(cksum w0.img w1.img)
 ends 1 "refused 32 short payload 1000" "" "head -c 1000 bytes | ./ddf w0.img w1.img -- write v 0 2"
 ends 1 "refused 26 range 4096" "" "./ddf w0.img w1.img -- write v 4095 2 <bytes"
 for input in "<&-" "<."; do
-    ends 6 "" "standard input failed, and nothing was written" "./ddf w0.img w1.img -- write v 0 2 $input"
+    ends 6 "" "standard input failed: nothing was written, or whole pieces of 2048 blocks were; show tells of a mark" "./ddf w0.img w1.img -- write v 0 2 $input"
 done
 [ "$(cksum w0.img w1.img)" = "$sum" ] || fail "an image was written to without the bytes of its blocks"
 ends 0 "ok sequence 9" "" "{ ./ddf w0.img w1.img -- write v 0 1; cat >rest; } <bytes"
 [ "$(wc -c <rest)" = $((1048576 - 512)) ] || fail "write took other bytes than those of its block: $(wc -c <rest) were left"
+head -c 2097152 /dev/urandom >long
+ends 7 "cut 2048 sequence 11" "" "head -c 1572864 long | ./ddf w0.img w1.img -- write v 0 4096"
+[ ! -s err ] || fail "said $(cat err), of an input that ended behind the first piece"
+./ddf w1.img -- read v 0 2053 2>/dev/null | tail -c 2560 >behind
+tail -c 2560 bytes | cmp - behind || fail "blocks were written of which only some bytes came"
+./ddf w1.img -- read v 0 2048 2>/dev/null | cmp -n 1048576 - long || fail "the first piece of an input that ended early isn't written"
+ends 0 "ok sequence 13" "" "{ ./ddf w0.img w1.img -- write v 0 4095; cat >rest; } <long"
+[ "$(wc -c <rest)" = 512 ] || fail "write took other bytes than those of its pieces: $(wc -c <rest) were left"
+./ddf w1.img -- read v 0 4095 2>/dev/null | cmp -n 2096640 - long || fail "other bytes were written than a file of two pieces has"
 echo "edge: write takes the bytes of its blocks from files and pipes, and no more"
 
 # A disk of an array is left out of the words, and a spare is filled in its place. Once more there is nothing to fill.
@@ -393,6 +404,60 @@ if command -v script >/dev/null; then
     fi
 else
     echo "edge: no script here, so nothing was asked on a terminal"
+fi
+
+# What the system gives too little of: room for the output, a reader of it, descriptors, room in files, chance. Nothing is done that wasn't told, or the line says so.
+truncate -s 32M q0.img q1.img q2.img
+ends 0 "ok sequence 1" "" "./ddf q0.img q1.img q2.img -- label"
+ends 0 "ok sequence 2" "" "./ddf q0.img q1.img q2.img -- create v raid1 0 single 0,1@64"
+ends 6 "" "ddf: the output failed" "./ddf q0.img q1.img q2.img -- show >/dev/full"
+ends 6 "" "may have been done; show tells" "./ddf q0.img q1.img q2.img -- accept v >/dev/full"
+ends 0 "" "may have been done; show tells" "{ sleep 1; ./ddf q0.img q1.img q2.img -- spare 2 global; } | true"
+ends 0 "group" "" "./ddf q0.img q1.img q2.img -- show"
+grep -q "sequence 4$" out || fail "a change whose output failed wasn't made: $(cat out)"
+sum=$(cksum q0.img q1.img q2.img)
+ends 3 "" "Too many open files" "ulimit -n 8; ./ddf q0.img q1.img q2.img -- spare 2 off"
+ends 3 "" "nothing was done" "ulimit -n 8; ./ddf q0.img q1.img q2.img -- delete v"
+[ "$(cksum q0.img q1.img q2.img)" = "$sum" ] || fail "a group was changed without descriptors for its disks"
+ends 3 "disk fault slot 0" "" "trap '' XFSZ; ulimit -f 100; ./ddf q0.img q1.img q2.img -- spare 2 off"
+status=0
+sh -c "ulimit -f 100; exec ./ddf q0.img q1.img q2.img -- spare 2 off" >out 2>err || status=$?
+[ "$status" -gt 128 ] || fail "status $status where the system kills who writes too far"
+ends 0 "group" "" "./ddf q0.img q1.img q2.img -- assemble"
+case $(cat out) in *"sequence 4"*"spare global"*) ;; *) fail "a change that no disk took counts: $(cat out)" ;; esac
+if unshare -m true 2>/dev/null; then
+    for command in label "create w jbod 0 single 0@4"; do
+        ends 6 "" "no names can be made without chance" "unshare -m sh -c 'mount --bind /dev/null /dev/urandom && ./ddf q0.img q1.img q2.img -- $command'"
+    done
+    ends 0 "group" "" "unshare -m sh -c 'mount --bind /dev/null /dev/urandom && ./ddf q0.img q1.img q2.img -- show'"
+    echo "edge: names are made by chance alone"
+else
+    echo "edge: nothing can be mounted here, so chance wasn't taken away"
+fi
+echo "edge: where the system gives too little nothing is done, or it is told"
+
+# Files that are no disks, but can be opened, and the largest disks there can be.
+for file in /dev/null /dev/zero /dev/full; do
+    ends 3 "slot 0 fault" "$file can't be opened: it is a character device" "timeout 20 ./ddf $file -- examine"
+    ends 3 "disk fault slot 0" "$file can't be opened: it is a character device" "timeout 20 ./ddf $file -- label"
+    ends 3 "" "$file can't be opened: it is a character device" "timeout 20 ./ddf q0.img q1.img q2.img $file -- assemble"
+done
+mkdir -p large
+if mount -t tmpfs -o size=1M none large 2>/dev/null; then
+    trap 'umount "$work/large"; rm -rf "$work"' EXIT
+    truncate -s 9223372036854775807 large/x.img
+    ends 0 "slot 0 blank" "" "./ddf large/x.img -- examine"
+    ends 0 "ok sequence 1" "" "./ddf large/x.img -- label"
+    ends 0 "ok sequence 2" "" "./ddf large/x.img -- create j jbod 0 single 0@281474976710656"
+    head -c 512 bytes >block
+    ends 0 "ok sequence 2" "" "./ddf large/x.img -- write j 281474976710655 1 <block"
+    ./ddf large/x.img -- read j 281474976710655 1 | cmp - block || fail "other bytes were read than were written, far out"
+    ends 1 "refused 26 range 281474976710656" "" "./ddf large/x.img -- read j 281474976710656 1"
+    umount large
+    trap 'rm -rf "$work"' EXIT
+    echo "edge: a disk of 8 EiB is labelled, written and read"
+else
+    echo "edge: nothing can be mounted here, so no disk of 8 EiB was tried"
 fi
 
 # Changes of the group, one after another.

@@ -23,11 +23,7 @@ fail() {
 blocks_of() {
     count=$1
     shift
-    start=0
-    while [ "$start" -lt "$count" ]; do
-        "$top/ddf" "$@" -- read data "$start" 2048 2>/dev/null || return 1
-        start=$((start + 2048))
-    done
+    "$top/ddf" "$@" -- read data 0 "$count" 2>/dev/null
 }
 
 # The blocks of each array, and the SHA-256 of its bytes as Linux's kernel read them.
@@ -89,10 +85,10 @@ write_blocks() {
     blocks=$2
     shift 2
     blocks_of "$blocks" "$@" >"$work/blocks"
-    head -c $((300 * 512)) /dev/urandom >"$work/new"
+    head -c $((5000 * 512)) /dev/urandom >"$work/new"
     dd if="$work/new" of="$work/blocks" bs=512 seek=1000 conv=notrunc 2>/dev/null
     wanted=$(sha256sum <"$work/blocks" | cut -d' ' -f1)
-    "$top/ddf" "$@" -- write data 1000 300 <"$work/new" >"$work/told" 2>/dev/null || fail "write of $label says $(cat "$work/told")"
+    "$top/ddf" "$@" -- write data 1000 5000 <"$work/new" >"$work/told" 2>/dev/null || fail "write of $label says $(cat "$work/told")"
     compare_all "a written $label" "$blocks" "$wanted" "$@"
     [ "$("$top/ddf" "$@" -- scrub data 2>/dev/null)" = clean ] || fail "scrub doesn't find a written $label clean"
     "$top/ddf" "$@" -- resync data >"$work/told" 2>/dev/null || fail "resync of $label says $(cat "$work/told")"

@@ -47,6 +47,13 @@ def row(what, own, other, ratio, goal):
     print(f"| {what} | {own} | {other} | {ratio:.2f} | {goal} |", flush=True)
 
 
+def compared(what, ours, theirs, name, goal):
+    """Two rows: processor time and time on the clock. The ratio is of throughput."""
+    for kind in ("processor", "clock"):
+        mine, its = getattr(ours, kind), getattr(theirs, kind)
+        row(f"{what}, {kind} ms", spread(mine), f"{name} {spread(its)}", min(its) / min(mine), goal)
+
+
 def beside(rounds, what, own, other, name, goals):
     """Rows for two commands: processor time and time on the clock."""
     ours, theirs = measured(rounds, own, other)
@@ -55,8 +62,9 @@ def beside(rounds, what, own, other, name, goals):
         row(f"{what}, {kind} ms", spread(mine), f"{name} {spread(its)}", min(mine) / min(its), goal)
 
 
-def peak_of(command):
-    """The peak of a process's memory, in bytes. GNU's time starts it: a child of this process would count our own peak too."""
+def peak_of(command, given=os.devnull):
+    """The peak of a process's memory, in bytes, with the input of a file. GNU's time starts it: a child of this process would count our own peak too."""
     timed = ["time", "-f", "%M", *command]
-    told = subprocess.run(timed, stdout=subprocess.DEVNULL, stderr=subprocess.PIPE, text=True, check=True)
+    with open(given, "rb") as into:
+        told = subprocess.run(timed, stdin=into, stdout=subprocess.DEVNULL, stderr=subprocess.PIPE, text=True, check=True)
     return 1024 * int(told.stderr.split()[-1])

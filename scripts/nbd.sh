@@ -34,13 +34,7 @@ serve() {
 # Prints all blocks of the array `data` of these images.
 blocks_of() {
     count=$(ddf "$@" -- show | sed -n 's/^array data blocks \([0-9]*\) .*/\1/p')
-    start=0
-    while [ "$start" -lt "$count" ]; do
-        some=$((count - start))
-        [ "$some" -le 2048 ] || some=2048
-        ddf "$@" -- read data "$start" "$some" || return 1
-        start=$((start + some))
-    done
+    ddf "$@" -- read data 0 "$count"
 }
 
 # Fills the extents of disks: with random bytes, or with what makes their copies or parity agree.
@@ -162,14 +156,7 @@ put_file() {
     file=$1
     shift
     blocks=$(($(stat -c %s "$file") / 512))
-    start=0
-    while [ "$start" -lt "$blocks" ]; do
-        some=$((blocks - start))
-        [ "$some" -le 2048 ] || some=2048
-        dd if="$file" bs=512 skip="$start" count="$some" 2>/dev/null | ddf "$@" -- write data "$start" "$some" >/dev/null ||
-            fail "write from $start on failed"
-        start=$((start + 2048))
-    done
+    ddf "$@" -- write data 0 "$blocks" <"$file" >/dev/null || fail "write of $file failed"
 }
 
 mkdir files files/folder

@@ -14,7 +14,7 @@ from measuring import Times, row, spread
 SECTOR = 512
 STRIP = 128 * SECTOR
 
-# The most blocks of one call: 1 MiB.
+# The blocks of a piece: 1 MiB.
 PIECE = 2048
 
 

@@ -4,7 +4,7 @@ import os
 import shutil
 import sys
 
-from measuring import Times, spread, row
+from measuring import Times, compared
 from read_speed import SECTOR, told
 from scrub_speed import MIRROR, PARITY
 
@@ -53,9 +53,7 @@ def rebuild_rows(program, work, rounds):
             call = [program, *restored(images), "--", "rebuild", "array"]
             ours.add(call)
             theirs.add(peer)
-        for kind in ("processor", "clock"):
-            mine, its = getattr(ours, kind), getattr(theirs, kind)
-            row(f"`rebuild` of {what}, {kind} ms", spread(mine), f"cat and dd {spread(its)}", min(its) / min(mine), "0.6")
+        compared(f"`rebuild` of {what}", ours, theirs, "cat and dd", "0.6")
         if told([program, images[0], *images[2:], "--", "scrub", "array"]) != b"clean\n":
             sys.exit(f"bench: a rebuilt {what} isn't clean")
         for image in images:

@@ -3,7 +3,7 @@
 import os
 import sys
 
-from measuring import Times, row, spread
+from measuring import Times, compared
 from read_speed import SECTOR, Layout, told, turned
 
 # 256 MiB of data over three members.
@@ -11,8 +11,8 @@ PARITY = Layout("raid5.rnc", 0, 262144, 2, turned)
 MIRROR = Layout("raid1", 0, 262144, 1, lambda strips, number: 2 * strips)
 
 
-def filled(program, folder, layout, slots):
-    """Labelled disks with one array over all of them, and files of what it has on each."""
+def filled(program, folder, layout, slots, whole=os.devnull):
+    """Labelled disks with one array over all of them, files of what it has on each, and one of its data."""
     folder.mkdir()
     images = [str(folder / f"{slot}.img") for slot in range(slots)]
     for image in images:
@@ -22,7 +22,8 @@ def filled(program, folder, layout, slots):
     members = ",".join(map(str, range(slots)))
     told([program, *images, "--", "create", "array", layout.level, "7", "single", f"{members}@{layout.blocks}"])
     disks = [open(image, "r+b") for image in images]
-    layout.fill(disks)
+    with open(whole, "wb") as data:
+        data.write(layout.fill(disks))
     copies = []
     for disk, image in zip(disks, images):
         copies.append(image + ".member")
@@ -44,9 +45,7 @@ def scrub_rows(program, work, rounds):
         for _ in range(rounds):
             ours.add(call)
             theirs.add(["cat", *copies])
-        for kind in ("processor", "clock"):
-            mine, its = getattr(ours, kind), getattr(theirs, kind)
-            row(f"`scrub` of {what}, {kind} ms", spread(mine), f"cat of its members {spread(its)}", min(its) / min(mine), "0.6")
+        compared(f"`scrub` of {what}", ours, theirs, "cat of its members", "0.6")
         with open(images[-1], "r+b") as disk:
             disk.seek(SECTOR * layout.blocks - 1)
             last = disk.read(1)[0]

@@ -3,7 +3,7 @@
 import os
 import sys
 
-from measuring import Times, row, spread
+from measuring import Times, compared
 from read_speed import PIECE, SECTOR, Layout, told
 from scrub_speed import MIRROR, PARITY, filled
 
@@ -11,13 +11,6 @@ STRIPED = Layout("raid0", 0, 16384, 3, lambda strips, number: strips)
 
 # Of each layout, how many bytes reach the disks for one of data.
 REACH = {"raid5.rnc": 1.5, "raid1": 2, "raid0": 1}
-
-
-def compared(what: str, ours: Times, theirs: Times, name: str, goal: str) -> None:
-    """Two rows: processor time and time on the clock. The ratio is of throughput."""
-    for kind in ("processor", "clock"):
-        mine, its = getattr(ours, kind), getattr(theirs, kind)
-        row(f"{what}, {kind} ms", spread(mine), f"{name} {spread(its)}", min(its) / min(mine), goal)
 
 
 def resync_rows(call: list[str], copies: list[str], what: str, rounds: int) -> None:
@@ -32,7 +25,7 @@ def resync_rows(call: list[str], copies: list[str], what: str, rounds: int) -> N
 
 
 def piece_rows(call: list[str], work, level: str, what: str, goal: str, rounds: int) -> None:
-    """Two rows of a write of the most blocks of one call."""
+    """Two rows of a write of a piece."""
     data = os.urandom(SECTOR * PIECE)
     piece, reach = str(work / "piece"), str(work / "reach")
     for name, size in ((piece, len(data)), (reach, int(len(data) * REACH[level]))):

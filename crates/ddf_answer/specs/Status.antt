@@ -11,3 +11,4 @@ code_of status.DiskFault = 3
 code_of status.Contradicted = 4
 code_of status.Memory = 5
 code_of status.Stream = 6
+code_of status.Cut = 7

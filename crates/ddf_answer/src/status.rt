@@ -18,6 +18,8 @@ pub enum Status {
     Memory = 5,
     /// The input failed, or the output failed or took nothing.
     Stream = 6,
+    /// Whole pieces of a write were done, and the input ended before the others.
+    Cut = 7,
 }
 
 impl Status {

@@ -31,7 +31,7 @@ use Rattle.ddf_config.specs.Seats.{slot_of, floor_of}
 use Rattle.ddf_config.specs.Shapes.{element_shape, has_shape, secondary_level, sizes, array_capacity}
 use Rattle.ddf_config.specs.Unusable.{passes_floor}
 use Rattle.ddf_config.specs.Within as config
-use Rattle.ddf_config.specs.Within.{has_parity, lacks_one, has_enough, has_enough_parts, has_redundancy, is_complete}
+use Rattle.ddf_config.specs.Within.{has_parity, lacks_one, has_enough, has_redundancy}
 use Rattle.ddf_array.specs.declared.part.Part.{Part}
 use Rattle.ddf_array.specs.Places.{is_available}
 use Rattle.ddf_array.specs.Levels.{level_of, is_on_every}

@@ -83,7 +83,7 @@ chosen_is state (first ∷ disks) each zero disk at =
 chosen_is state (first ∷ disks) each (suc place) disk at = chosen_is state disks (λ k. each (suc k)) place disk at
 
 -- Copies of two sequence numbers are never asked to be level.
-never_same : (new old standing : DiskCopy) (low high : ℕ) → old.header.sequence ≡ standing.header.sequence → standing.header.sequence ≡ low → new.header.sequence ≡ high → low < high
+pub never_same : (new old standing : DiskCopy) (low high : ℕ) → old.header.sequence ≡ standing.header.sequence → standing.header.sequence ≡ low → new.header.sequence ≡ high → low < high
     → new.header.sequence ≡ old.header.sequence → is_level new old ≡ true
 never_same new old standing low high is_standing is_low is_high less same = absurd (omega (arith, is_standing, is_low, is_high, less, same))
 

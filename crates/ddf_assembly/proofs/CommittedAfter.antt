@@ -115,10 +115,10 @@ module _ (group : GroupValue) (one : ReadyStep) (rise : SlotsRise (seats_in (sea
       cc
 
   -- the group is settled then
-  after_settled : IsSettledGroup group → IsSettledGroup (group_after group one.step)
-  after_settled settled = record {
-    none_absent = settled.none_absent;
-    none_lags = settled.none_lags;
+  pub settled_after : group.absent ≡ [] → group.lagging ≡ [] → IsSettledGroup (group_after group one.step)
+  settled_after none_absent none_lags = record {
+    none_absent = none_absent;
+    none_lags = none_lags;
     slots_rise = disks_rise;
     are_seated = ap seats_in after_is ∙ seats_levelled one.step.disks;
     can_be_changed = subst (λ (disks : List Seated). CanBeChanged one.step.config disks) (sym after_is) (changed_levelled one.step.config one.step.disks follows.can_be_changed);
@@ -131,6 +131,9 @@ module _ (group : GroupValue) (one : ReadyStep) (rise : SlotsRise (seats_in (sea
           same_sequence = (disk_is k disk at).has_sequence;
         })));
   }
+
+  after_settled : IsSettledGroup group → IsSettledGroup (group_after group one.step)
+  after_settled settled = settled_after settled.none_absent settled.none_lags
 
   after_sequence : HaveSequence one.step.config.sequence (seated (group_after group one.step))
   after_sequence =
@@ -262,7 +265,7 @@ module _ (group : GroupValue) (one : ReadyStep) (rise : SlotsRise (seats_in (sea
           under_still old new same_sizes slot newest (held_else slot none) anchor (holds.are_under slot newest (newest_else slot newest none at) anchor) anchored
     ]
 
-    after_holds : HoldsGroup new (group_after group one.step)
+    pub after_holds : HoldsGroup new (group_after group one.step)
     after_holds = record {
       are_held = after_held;
       are_under = after_under;

@@ -50,7 +50,7 @@ most_within geometry (disk ∷ disks) most sound are same within =
     let below : disk.copy.header.geometry.max_members ≤ geometry.max_members = omega (arith, own) in
     most_within geometry disks (max most disk.copy.header.geometry.max_members) sound are.1 same.1 (max-le within below)
 
-raised_fits : (sequence steps : ℕ) → raised sequence steps < 2 ^ 32
+pub raised_fits : (sequence steps : ℕ) → raised sequence steps < 2 ^ 32
 raised_fits sequence steps =
     let below : raised sequence steps ≤ greatest_sequence + 1 = min-le_right (sequence + steps) (greatest_sequence + 1) in
     omega (arith, below)

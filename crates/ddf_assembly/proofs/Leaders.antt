@@ -63,11 +63,11 @@ module _ (group : GroupValue) (is : IsAssembledGroup group) where
   abbrev disks : List Seated
   disks = seated group
 
-  leading_copies : AreCopies (leading_disks group)
+  pub leading_copies : AreCopies (leading_disks group)
   unfolding leading_disks
   leading_copies = filter_have (λ disk. CanBeCopy disk.copy) (leads group.config) disks is.are_copies
 
-  leading_length : (sectors : ℕ) → HaveLength sectors disks → HaveLength sectors (leading_disks group)
+  pub leading_length : (sectors : ℕ) → HaveLength sectors disks → HaveLength sectors (leading_disks group)
   unfolding leading_disks
   leading_length sectors same = filter_have (λ disk. record_length disk ≡ sectors) (leads group.config) disks same
 

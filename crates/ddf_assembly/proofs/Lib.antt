@@ -56,3 +56,12 @@ pub mod LeftBefore
 pub mod LeftStep
 pub mod LeftGroup
 pub mod LeftChoice
+pub mod Joinings
+pub mod Telling
+pub mod JoinHoldable
+pub mod BothSides
+pub mod ImportSides
+pub mod ImportAnswers
+pub mod BothOrder
+pub mod JoinWritten
+pub mod JoinReadied

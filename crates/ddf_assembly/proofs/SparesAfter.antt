@@ -111,7 +111,7 @@ sought_again q guids =
 
 -- ---- a new array
 
-absent_guid : (guid : List ℕ) (entries : List (List ℕ × Array)) → lookup (same_guid guid) entries ≡ None → (k : ℕ) (other : List ℕ) → slice_get (guids_of entries) k ≡ Some other → bytes_eq guid other ≡ false
+pub absent_guid : (guid : List ℕ) (entries : List (List ℕ × Array)) → lookup (same_guid guid) entries ≡ None → (k : ℕ) (other : List ℕ) → slice_get (guids_of entries) k ≡ Some other → bytes_eq guid other ≡ false
 absent_guid guid [] h k other at = absurd cc
 absent_guid guid (entry ∷ entries) h k other at = by (same_guid guid entry.0) refl h k (λ none j. absent_guid guid entries none j other) at
   where
@@ -139,7 +139,7 @@ guids_end [] entry = refl
 guids_end (one ∷ entries) entry = ap (λ l. one.0 ∷ l) (guids_end entries entry)
 
 -- a spare is none for an array that wasn't there
-not_for_new : (guid : List ℕ) (entries : List (List ℕ × Array)) → lookup (same_guid guid) entries ≡ None → (use_as : SpareUse) → IsUseAmong entries use_as → is_spare_for guid use_as ≡ false
+pub not_for_new : (guid : List ℕ) (entries : List (List ℕ × Array)) → lookup (same_guid guid) entries ≡ None → (use_as : SpareUse) → IsUseAmong entries use_as → is_spare_for guid use_as ≡ false
 not_for_new guid entries new uses.No is = refl
 not_for_new guid entries new uses.Global is = refl
 not_for_new guid entries new (uses.Dedicated arrays) is =

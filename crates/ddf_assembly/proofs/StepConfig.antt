@@ -1,5 +1,5 @@
 -- The configuration of a step is that after its change.
-use Rattle.std.proofs.Common.{◌≡◌, ℕ, ◌+◌, ◌≤◌, Bool, true, false, ◌||◌, List, [], ◌∷◌, ◌++◌, length, map, find, cond, is_none, is_some, Option, Some, None, Ok, option_map, nat_lt, refl, sym, ap, ◌∙◌, arith, if◌then◌else◌}
+use Rattle.std.proofs.Common.{◌≡◌, ℕ, ◌+◌, ◌≤◌, Bool, true, false, ◌||◌, List, [], ◌∷◌, ◌++◌, length, map, find, cond, is_some, Option, Some, None, Ok, option_map, nat_lt, refl, sym, ap, ◌∙◌, arith, if◌then◌else◌}
 use Rattle.std.specs.Map.{lookup}
 use Rattle.std.specs.Option.{option_or}
 use Rattle.ddf_config.specs.declared.element.Position.{Position}
@@ -19,7 +19,7 @@ use Rattle.ddf_plan.specs.declared.change.Change.{Change}
 use Rattle.ddf_plan.specs.declared.change.Change.TheVariants.{Create}
 use Rattle.ddf_plan.specs.Refusals.{greatest_sequence, not_current, refuse_first, spent}
 use Rattle.ddf_plan.specs.Create.{element_strip}
-use Rattle.ddf_plan.specs.CreateRefusal.{create_causes, has_named, is_no_shape, is_spare_disk, no_extent, passes_most, references}
+use Rattle.ddf_plan.specs.CreateRefusal.{has_named, is_no_shape, is_spare_disk, no_extent, passes_most, references}
 use Rattle.ddf_plan.specs.Causes.{causes, causes_of, refusal_of, steps_of}
 use Rattle.ddf_plan.specs.Changes.{after, after_by, changed_at}
 use Rattle.ddf_plan.specs.Floors.{extent_refusal, extents_refusal, lacks_extent}

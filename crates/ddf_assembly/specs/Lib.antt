@@ -16,3 +16,7 @@ pub mod Settled
 pub mod Assembled
 pub mod Mending
 pub mod Held
+pub mod Joining
+pub mod Telling
+pub mod JoinValue
+pub mod Importing

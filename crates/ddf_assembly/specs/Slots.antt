@@ -1,11 +1,12 @@
 -- What assembly takes from the slots of a bay, and what it answers.
-use Rattle.std.specs.Prelude.{◌≡◌, ℕ, suc, Bool, List, [], ◌∷◌, length, Option, None, Result, IfOk, if◌then◌else◌}
+use Rattle.std.specs.Prelude.{◌≡◌, ℕ, suc, ◌<◌, Bool, true, false, List, [], ◌∷◌, length, slice_index_or, Option, None, Result, Err, IfOk, if◌then◌else◌}
 use Rattle.ddf_bytes.specs.declared.no_memory.NoMemory.{NoMemory}
 use Rattle.ddf_bay.specs.State.{BayState, on_slot}
 use Rattle.ddf_bay.specs.ReadsOnly.{AreFailed, LooksAt}
 use Rattle.ddf_copy.specs.declared.newest_copy.Newest.{Newest}
 use Rattle.ddf_copy.specs.Copies.{newest_at}
 use Rattle.ddf_group.specs.declared.answer.Assembly.{Assembly}
+use Rattle.ddf_group.specs.declared.answer.Assembly.TheVariants.{Memory}
 use Rattle.ddf_assembly.specs.Group.{GroupValue, UpToMemory, group_of}
 
 -- the newest copy of a slot, and none where it is left out
@@ -17,11 +18,16 @@ abbrev pub newest_from : {D : Type 0} → BayState D → (slot : ℕ) → (left 
 newest_from disks slot [] = []
 newest_from disks slot (out ∷ left) = newest_or disks slot out ∷ newest_from disks (suc slot) left
 
+-- Each slot of which every call fails is left out.
+abbrev pub AreOut : {D : Type 0} → BayState D → (left : List Bool) → Type 0
+AreOut disks left = (slot : ℕ) → slot < length left → disks.gone slot → slice_index_or left slot false ≡ true
+
 -- A slot was read, or is left out where a call of this look failed on it.
 pub record IsSlotRead {D : Type 0} (tells : Type 0) (old new : BayState D) (slot : ℕ) (result : Result (Option Newest) NoMemory) : Type 0 where
   pub out : Bool
   pub look : LooksAt old new slot out
   pub newest : tells → IfOk result (λ newest. newest ≡ newest_or old slot out)
+  pub gone : old.gone slot → out ≡ true
 
 -- It is told of each slot whether it is left out: where a call of this look failed on it, and nowhere else.
 pub record IsLooked {D : Type 0} (old new : BayState D) : Type 0 where
@@ -33,10 +39,13 @@ pub record IsLooked {D : Type 0} (old new : BayState D) : Type 0 where
 pub record IsRead {D : Type 0} (tells : Type 0) (old new : BayState D) (newest : List (Option Newest)) : Type 0 where
   pub looked : IsLooked old new
   pub answer : tells → newest ≡ newest_from old 0 looked.left
+  pub gone : AreOut old looked.left
 
--- What is answered is what these copies give together; want of memory stands beside each answer.
+-- What is answered is what these copies give together; want of memory stands beside each answer. But for that each slot was looked at, and those
+-- of which every call fails are left out.
 pub record IsAssembled {D : Type 0} (tells : Type 0) (old new : BayState D) (named : Option (List ℕ)) (result : Result GroupValue Assembly) : Type 0 where
   pub looked : IsLooked old new
   pub newest : List (Option Newest)
   pub read : tells → newest ≡ newest_from old 0 looked.left
   pub answer : UpToMemory result (group_of newest named)
+  pub gone : (result ≡ Err Memory → ⊥) → AreOut old looked.left

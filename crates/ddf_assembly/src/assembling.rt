@@ -1,5 +1,5 @@
 //! Assembly: which group the disks of a bay are.
-ghost use Rattle.std.specs.Prelude.{◌≡◌, ◌≤◌, ℕ, List, [], map, IfOk};
+ghost use Rattle.std.specs.Prelude.{◌≡◌, ◌+◌, ◌*◌, ◌≤◌, ℕ, List, [], length, map, IfOk};
 ghost use Rattle.ddf_bay.specs.ReadsOnly.{ReadsOnly};
 ghost use Rattle.ddf_config.specs.Seats.{SeatsFit};
 ghost use Rattle.ddf_group.specs.Assembled.{UpToMemory as FoundUpToMemory, assembled};
@@ -112,6 +112,9 @@ pub fn assemble<B: Bay>(alloc: Global, bay: &mut B, group: Option<Guid>) -> Resu
     ensures never_falls { (slot : ℕ) → (B.disks bay.old).failed_reads slot ≤ (B.disks bay.new).failed_reads slot }
     ensures writes_never_fall { (slot : ℕ) → (B.disks bay.old).failed_writes slot ≤ (B.disks bay.new).failed_writes slot }
     ensures reads { ReadsOnly (B.disks bay.old) (B.disks bay.new) }
+
+    // At most so many calls are made.
+    ensures calls { (B.disks bay.new).calls ≤ (B.disks bay.old).calls + 15 * length (B.disks bay.old).sizes }
 {
     match read_slots(alloc, bay) {
         Ok(newest) => group_of(alloc, newest, group),

@@ -125,7 +125,7 @@ impl Group {
     }
 
     /// Makes the group what it is once a step was written.
-    fn advance(&mut self, step: Step)
+    pub(crate) fn advance(&mut self, step: Step)
         ensures { self.new ≡ group_after self.old step.step }
     {
         self.config = step.config;
@@ -172,7 +172,7 @@ fn write_recovery<B: Bay>(bay: &mut B, next: &Option<Step>) -> Result<(), DiskFa
 }
 
 /// Writes the disks of a step.
-fn write_step<B: Bay>(bay: &mut B, step: &Step) -> Result<(), DiskFault>
+pub(crate) fn write_step<B: Bay>(bay: &mut B, step: &Step) -> Result<(), DiskFault>
     requires { LieOnSlots (B.disks bay.old).sizes (slots_in (in_order step.now.step.disks)) step.now.updates }
     ensures any_moment { B.tells → (seat : ℕ → SlotChange) → MayChangeAll (B.disks bay.old) (slots_in (in_order step.now.step.disks)) seat step.now.updates
         → StopsLeave (B.disks bay.old) (B.disks bay.new) (IsLeftChangingAll (B.disks bay.old) (slots_in (in_order step.now.step.disks)) seat step.now.updates) }
@@ -201,7 +201,7 @@ fn sync_slot<B: Bay>(bay: &mut B, slot: usize) -> Result<(), DiskFault>
 }
 
 /// Syncs the slots of these seats, one after another.
-fn sync_seats<B: Bay>(bay: &mut B, seats: &[Seat]) -> Result<(), DiskFault>
+pub(crate) fn sync_seats<B: Bay>(bay: &mut B, seats: &[Seat]) -> Result<(), DiskFault>
     requires { HaveSlots (B.disks bay.old).sizes seats.now }
     ensures settled { OnOk result (AreSettled (B.disks bay.new) seats.now (length seats.now)) }
     ensures held { (B.disks bay.new).held ≡ (B.disks bay.old).held }

@@ -1,3 +1,4 @@
+use crate::seats::copy_at;
 use ddf_bytes::Seq;
 use ddf_config::{Config, Seat};
 use ddf_copy::Newest;
@@ -29,6 +30,7 @@ impl Model for Group {
 
 impl Group {
     ghost use Rattle.std.specs.Prelude.{◌≡◌};
+    ghost use Rattle.ddf_assembly.specs.Group.{is_kept, is_left_out};
 
     /// The configuration, as its newest disks record it.
     pub fn config(&self) -> &Config
@@ -56,5 +58,22 @@ impl Group {
         ensures { result.now ≡ self.now.lagging }
     {
         self.lagging.as_slice()
+    }
+
+    /// Whether assembly left a slot out, since a read of it failed. One past the last is none.
+    pub fn left(&self, slot: usize) -> bool
+        ensures { result ≡ is_left_out self.now.newest slot }
+    {
+        match self.newest.get(slot) {
+            Some(newest) => newest.is_none(),
+            None => false,
+        }
+    }
+
+    /// Whether the group keeps a newest copy of a slot.
+    pub fn kept(&self, slot: usize) -> bool
+        ensures { result ≡ is_kept self.now.newest slot }
+    {
+        copy_at(self.newest.as_slice(), slot).is_some()
     }
 }

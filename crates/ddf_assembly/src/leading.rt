@@ -35,3 +35,20 @@ pub(crate) fn leading_views<'a>(
     }
     Ok(views)
 }
+
+/// Those disks of a group that lead it, the lowest first.
+pub(crate) fn leading_disks<'a>(
+    alloc: Global,
+    config: &Config,
+    disks: &[Disk<'a>],
+) -> Result<Vec<Disk<'a>>, NoMemory>
+    ensures { IfOk result (λ leaders. leaders.items ≡ filter (leads config.now) disks.now) }
+{
+    let mut leaders = Vec::new(alloc);
+    for disk in disks {
+        if leads(config, disk) {
+            leaders.push(disk.again())?;
+        }
+    }
+    Ok(leaders)
+}

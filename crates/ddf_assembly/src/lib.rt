@@ -6,6 +6,8 @@ mod committing;
 mod fault;
 mod full;
 mod group;
+mod importing;
+mod joining;
 mod laws;
 mod leading;
 mod mending;
@@ -14,16 +16,20 @@ mod ready;
 mod recovering;
 mod seated;
 mod seats;
+mod sides;
 mod steps;
 mod stray;
+mod told;
 mod trying;
 
 pub use assembling::assemble;
 pub use ddf_group::{Assembly, Differ};
 pub use fault::GroupFault;
 pub use group::Group;
+pub use importing::{ReadyImport, ReadyJoin};
 pub use laws::{
-    a_step_gives_the_configuration_after_the_change,
+    a_join_is_written_to_the_disks_that_join_last, a_join_may_be_written_and_makes_a_settled_group,
+    a_step_gives_the_configuration_after_the_change, an_import_is_a_recovery_and_a_join,
     what_a_change_left_is_assembled_to_the_group_after_it,
 };
 pub use ready::Ready;

@@ -1,5 +1,5 @@
 //! The newest copy of each slot of a bay.
-ghost use Rattle.std.specs.Prelude.{◌≡◌, ◌<◌, ◌≤◌, ℕ, IfOk, IfSome, length, slice_index};
+ghost use Rattle.std.specs.Prelude.{◌≡◌, ◌+◌, ◌*◌, ◌<◌, ◌≤◌, ℕ, true, IfOk, IfSome, length, slice_index};
 ghost use Rattle.ddf_bay.specs.State.{on_slot};
 ghost use Rattle.ddf_bay.specs.ReadsOnly.{LooksAt, ReadsOnly};
 ghost use Rattle.ddf_copy.specs.Copies.{newest_at};
@@ -23,6 +23,8 @@ fn read_slot<B: Bay>(alloc: Global, bay: &mut B, slot: usize) -> Result<Option<N
     ensures stands { B.tells → IfOk result (λ newest. IfSome newest (StandsUnder (B.disks bay.old) slot)) }
     ensures reads { ReadsOnly (B.disks bay.old) (B.disks bay.new) }
     ensures look { LooksAt (B.disks bay.old) (B.disks bay.new) slot (show_failed result) }
+    ensures gone { (B.disks bay.old).gone slot → show_failed result ≡ true }
+    ensures calls { (B.disks bay.new).calls ≤ (B.disks bay.old).calls + 15 }
 {
     match anchor_of(bay, slot) {
         Ok(anchor) => {
@@ -46,6 +48,7 @@ fn read_or_leave<B: Bay>(
     ensures under { IfOk result (λ newest. IfSome newest (HasAnchor (slice_index (B.disks bay.old).sizes slot))) }
     ensures stands { B.tells → IfOk result (λ newest. IfSome newest (StandsUnder (B.disks bay.old) slot)) }
     ensures reads { ReadsOnly (B.disks bay.old) (B.disks bay.new) }
+    ensures calls { (B.disks bay.new).calls ≤ (B.disks bay.old).calls + 15 }
 {
     match read_slot(alloc, bay, slot) {
         Ok(newest) => Ok(newest),
@@ -67,6 +70,7 @@ pub(crate) fn read_slots<B: Bay>(
     ensures never_falls { (slot : ℕ) → (B.disks bay.old).failed_reads slot ≤ (B.disks bay.new).failed_reads slot }
     ensures writes_never_fall { (slot : ℕ) → (B.disks bay.old).failed_writes slot ≤ (B.disks bay.new).failed_writes slot }
     ensures reads { ReadsOnly (B.disks bay.old) (B.disks bay.new) }
+    ensures calls { (B.disks bay.new).calls ≤ (B.disks bay.old).calls + 15 * length (B.disks bay.old).sizes }
 {
     let mut all = Vec::new(alloc);
     for slot in 0..bay.slots() {

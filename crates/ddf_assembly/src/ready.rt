@@ -43,7 +43,7 @@ impl Model for Ready {
 
 /// The disks of a group.
 #[tactic(auto, unfolding(crate::specs::Seated::seated))]
-fn disks_of(alloc: Global, group: &Group) -> Result<Vec<Disk<'_>>, NoMemory>
+pub(crate) fn disks_of(alloc: Global, group: &Group) -> Result<Vec<Disk<'_>>, NoMemory>
     ensures { IfOk result (λ disks. disks.items ≡ seated group.now) }
 {
     seated_disks(alloc, group.newest.as_slice(), group.seats.items())
@@ -129,7 +129,7 @@ fn steps_behind(
     )
 }
 
-fn is_spent(step: &Step) -> bool
+pub(crate) fn is_spent(step: &Step) -> bool
     ensures { result ≡ is_spent step.now.step }
 {
     step.config.sequence > GREATEST_SEQUENCE
@@ -143,7 +143,7 @@ fn any_spent(steps: &[Step]) -> bool
 }
 
 /// Whether that of a recovery does, where it is a loss: to give the configuration to the seats that lag raises none.
-fn recovery_spent(group: &Group, recovery: &Option<Step>) -> bool
+pub(crate) fn recovery_spent(group: &Group, recovery: &Option<Step>) -> bool
     ensures { result ≡ option_map_or (λ one. some group.now.absent && is_spent one.step) recovery.now false }
 {
     match recovery {

@@ -40,7 +40,7 @@ fn seat_of(slot: usize, copy: &DiskCopy) -> Seat
 }
 
 /// The copy that stands for a slot.
-fn copy_at(newest: &[Option<Newest>], slot: usize) -> Option<&DiskCopy>
+pub(crate) fn copy_at(newest: &[Option<Newest>], slot: usize) -> Option<&DiskCopy>
     ensures { option_map (λ copy. copy.now) result ≡ copy_at newest.now slot }
 {
     match newest.get(slot) {

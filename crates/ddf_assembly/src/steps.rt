@@ -50,7 +50,7 @@ impl Model for Step {
 }
 
 /// The sequence number after so many steps. One past the greatest stands at the number behind the greatest.
-fn raised(sequence: u32, steps: u32) -> u32
+pub(crate) fn raised(sequence: u32, steps: u32) -> u32
     ensures { result ≡ raised sequence steps }
 {
     let next = u64::from(sequence) + u64::from(steps);

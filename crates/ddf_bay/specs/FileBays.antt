@@ -41,6 +41,7 @@ disks_of bay = record {
   sectors_written = bay.written;
   sectors_asked = bay.asked;
   calls = bay.made;
+  gone = λ slot. ⊥;
   leads_to = HasSameFiles bay;
 }
 

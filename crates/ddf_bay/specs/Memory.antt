@@ -52,6 +52,12 @@ pub record IsHealthy (bay : MemoryState) : Type 0 where
   pub never_over : bay.stop_after ≡ None
   pub plugged : (slot : ℕ) → slice_index_or bay.unplugged slot false ≡ false
 
+-- No call is listed, and the slot isn't unplugged.
+pub record IsPlugged (bay : MemoryState) (slot : ℕ) : Type 0 where
+  pub none_listed : bay.failing ≡ []
+  pub never_over : bay.stop_after ≡ None
+  pub plugged : slice_index_or bay.unplugged slot false ≡ false
+
 -- it was asked to write more sectors than it ever had room for
 abbrev pub IsShort : MemoryState → Type 0
 IsShort bay = bay.room + bay.written < bay.asked
@@ -63,8 +69,8 @@ pub record LeavesNoMore (bay next : MemoryState) : Type 0 where
   pub since : (t : ℕ) (image : Image) → t ≤ bay.clock → (next.clock < 2 ^ 64 - 1) × LeftSince next.clock next.logged t image
       → ((bay.clock < 2 ^ 64 - 1) × LeftSince bay.clock bay.logged t image) ⊎ ((s l : ℕ) → (bay.clock < 2 ^ 64 - 1) × MayHold bay.clock bay.logged s l (image s l))
 
--- Calls keep what fails and how many sectors can be written in all, and move the clock on. On a bay in health no call fails while there is
--- room. Where no sector was asked for a stop leaves nothing else than before.
+-- Calls keep what fails and how many sectors can be written in all, and move the clock on, by one at most each while they are counted. Where no
+-- call is listed none fails on a slot that isn't unplugged, while there is room. Where no sector was asked for a stop leaves nothing else than before.
 pub record MayBecome (bay next : MemoryState) : Type 0 where
   pub same_sizes : next.sizes ≡ bay.sizes
   pub same_failing : next.failing ≡ bay.failing
@@ -73,9 +79,11 @@ pub record MayBecome (bay next : MemoryState) : Type 0 where
   pub same_room : next.room + next.written ≡ bay.room + bay.written
   pub written_up : bay.written ≤ next.written
   pub asked_up : bay.asked ≤ next.asked
-  pub no_reads : IsHealthy bay → next.failed_reads ≡ bay.failed_reads
-  pub no_writes : IsHealthy bay → (next.failed_writes ≡ bay.failed_writes) ⊎ IsShort next
+  pub no_reads : (slot : ℕ) → IsPlugged bay slot → slice_index next.failed_reads slot ≡ slice_index bay.failed_reads slot
+  pub no_writes : (slot : ℕ) → IsPlugged bay slot → (slice_index next.failed_writes slot ≡ slice_index bay.failed_writes slot) ⊎ IsShort next
   pub later : bay.clock ≤ next.clock
+  pub calls_up : bay.calls ≤ next.calls
+  pub most_later : next.calls < 2 ^ 64 - 1 → next.clock + bay.calls ≤ bay.clock + next.calls
   pub unasked : next.asked ≡ bay.asked → next.asked < 2 ^ 64 - 1 → LeavesNoMore bay next
 
 -- what the bay tells: of what a stop may leave while its clock is below its last value
@@ -92,6 +100,7 @@ disks_of bay = record {
   sectors_written = bay.written;
   sectors_asked = bay.asked;
   calls = bay.made;
+  gone = λ slot. slice_index_or bay.unplugged slot false ≡ true;
   leads_to = λ next. MayBecome (state_of bay) (state_of next);
 }
 

@@ -1,12 +1,12 @@
 -- The trait's laws for a bay in memory, and what its clock adds: past the last value nothing is told.
-use Rattle.std.specs.Prelude.{◌≡◌, ◌⊎◌, ℕ, ◌+◌, ◌-◌, ◌^◌, ◌<◌, ◌≤◌, List, [], ◌∷◌, ◌++◌, zero, suc, Bool, false, IsTrue, nat_le, slice_index, slice_index_or}
+use Rattle.std.specs.Prelude.{◌≡◌, ◌⊎◌, ℕ, ◌+◌, ◌-◌, ◌^◌, ◌<◌, ◌≤◌, List, [], ◌∷◌, ◌++◌, zero, suc, Bool, true, false, IsTrue, nat_le, slice_index, slice_index_or}
 use Rattle.std.specs.List.{list_all}
 use Rattle.std.proofs.Common.{arith, refl, ap, ◌∙◌, subst, inl, inr, ⊎_elim}
 use Rattle.std.proofs.lemmas.Bool.{cases_lt}
 use Rattle.std.proofs.lemmas.Grind.{common_steps}
 use Rattle.ddf_bay.specs.declared.logged_write.LoggedWrite.{LoggedWrite}
 use Rattle.ddf_bay.specs.Sectors.{InRun}
-use Rattle.ddf_bay.specs.Memory.{IsHealthy, LeavesNoMore, MayBecome, MemoryState}
+use Rattle.ddf_bay.specs.Memory.{IsPlugged, LeavesNoMore, MayBecome, MemoryState}
 use Rattle.ddf_bay.specs.Logged.{MayHold, LeftSince, held_of, are_past, settled, run_logged, survivors}
 use Rattle.ddf_bay.specs.LoggedLaws.{left_later, left_before, left_added, sync_keeps, sync_before, survivors_left, survivors_settled, stop_before, left_after_run, left_after_sync}
 
@@ -126,9 +126,11 @@ becomes_start bay = record {
   same_room = refl;
   written_up = omega arith;
   asked_up = omega arith;
-  no_reads = λ healthy. refl;
-  no_writes = λ healthy. inl refl;
+  no_reads = λ slot plugged. refl;
+  no_writes = λ slot plugged. inl refl;
   later = omega arith;
+  calls_up = omega arith;
+  most_later = λ counted. omega arith;
   unasked = λ same low. record { later = omega arith; left = λ s l bytes left. left; since = λ t image le left. inl left };
 }
 
@@ -145,10 +147,10 @@ no_more_then bay next last first second = record {
 -- several calls, one after another
 pub becomes_then : (bay next last : MemoryState) → MayBecome bay next → MayBecome next last → MayBecome bay last
 becomes_then bay next last first second =
-    let still : IsHealthy bay → IsHealthy next = λ healthy. record {
-      none_listed = first.same_failing ∙ healthy.none_listed;
-      never_over = first.same_stop ∙ healthy.never_over;
-      plugged = λ slot. ap (λ (unplugged : List Bool). slice_index_or unplugged slot false) first.same_unplugged ∙ healthy.plugged slot;
+    let still : (slot : ℕ) → IsPlugged bay slot → IsPlugged next slot = λ slot plugged. record {
+      none_listed = first.same_failing ∙ plugged.none_listed;
+      never_over = first.same_stop ∙ plugged.never_over;
+      plugged = ap (λ (unplugged : List Bool). slice_index_or unplugged slot false) first.same_unplugged ∙ plugged.plugged;
     } in
     record {
       same_sizes = second.same_sizes ∙ first.same_sizes;
@@ -158,12 +160,17 @@ becomes_then bay next last first second =
       same_room = second.same_room ∙ first.same_room;
       written_up = omega (arith, first.written_up, second.written_up);
       asked_up = omega (arith, first.asked_up, second.asked_up);
-      no_reads = λ healthy. second.no_reads (still healthy) ∙ first.no_reads healthy;
-      no_writes = λ healthy. ⊎_elim
-          (λ same. ⊎_elim (λ before. inl (same ∙ before)) (λ short. inr (omega (arith, short, second.same_room, second.asked_up))) (first.no_writes healthy))
+      no_reads = λ slot plugged. second.no_reads slot (still slot plugged) ∙ first.no_reads slot plugged;
+      no_writes = λ slot plugged. ⊎_elim
+          (λ same. ⊎_elim (λ before. inl (same ∙ before)) (λ short. inr (omega (arith, short, second.same_room, second.asked_up))) (first.no_writes slot plugged))
           inr
-          (second.no_writes (still healthy));
+          (second.no_writes slot (still slot plugged));
       later = omega (arith, first.later, second.later);
+      calls_up = omega (arith, first.calls_up, second.calls_up);
+      most_later = λ counted.
+          let one = first.most_later (omega (arith, counted, second.calls_up)) in
+          let other = second.most_later counted in
+          omega (arith, one, other);
       unasked = λ same low.
           let none : next.asked ≡ bay.asked = omega (arith, same, first.asked_up, second.asked_up) in
           let after : last.asked ≡ next.asked = omega (arith, same, none) in
@@ -187,3 +194,9 @@ sync_no_more bay next slot past up moves same = record {
   left = rw same (sync_left bay.clock next.clock slot bay.logged past up moves);
   since = rw same (sync_since bay.clock next.clock slot bay.logged past up moves);
 }
+
+-- ---- slots that are gone
+
+-- a slot that is unplugged stays so
+pub gone_then : (bay next : MemoryState) (slot : ℕ) → MayBecome bay next → slice_index_or bay.unplugged slot false ≡ true → slice_index_or next.unplugged slot false ≡ true
+gone_then bay next slot leads gone = ap (λ (unplugged : List Bool). slice_index_or unplugged slot false) leads.same_unplugged ∙ gone

@@ -25,6 +25,8 @@ pub record BayState (D : Type 0) : Type 1 where
   pub sectors_asked : ℕ
   -- how many calls were made of the five that reach a disk
   pub calls : ℕ
+  -- each call on the slot fails, of those that are made now and of all later ones
+  pub gone : ℕ → Type 0
   -- the bays that calls may make of it: a call leads to one of these, and from there to no others
   pub leads_to : D → Type 0
 

@@ -46,6 +46,7 @@ pub trait Bay {
         ensures remembers { Remembers (disks self.old) (disks self.new) }
         ensures ok { OnOk result ((disks self.new).failed_reads ≡ (disks self.old).failed_reads) }
         ensures failed { OnErr result (Rose ((disks self.old).failed_reads slot) ((disks self.new).failed_reads slot)) }
+        ensures gone { OnOk result ((disks self.old).gone slot → ⊥) }
         ensures spends { SpendsReads (disks self.old) (disks self.new) slot 1 };
 
     /// Reads a run of sectors in one call.
@@ -60,6 +61,7 @@ pub trait Bay {
         ensures remembers { Remembers (disks self.old) (disks self.new) }
         ensures ok { OnOk result ((disks self.new).failed_reads ≡ (disks self.old).failed_reads) }
         ensures failed { OnErr result (Rose ((disks self.old).failed_reads slot) ((disks self.new).failed_reads slot)) }
+        ensures gone { OnOk result ((disks self.old).gone slot → ⊥) }
         ensures spends { SpendsReads (disks self.old) (disks self.new) slot 1 };
 
     /// Writes a sector. After a failure it holds its old or its new bytes.
@@ -73,6 +75,7 @@ pub trait Bay {
         ensures remembers { Remembers (disks self.old) (disks self.new) }
         ensures ok { OnOk result ((disks self.new).failed_writes ≡ (disks self.old).failed_writes) }
         ensures failed { OnErr result (Rose ((disks self.old).failed_writes slot) ((disks self.new).failed_writes slot)) }
+        ensures gone { OnOk result ((disks self.old).gone slot → ⊥) }
         ensures spends { SpendsWrites (disks self.old) (disks self.new) slot 1 1 };
 
     /// Writes a run of sectors in one call. After a failure each of them holds, by itself, its old or its new bytes.
@@ -87,6 +90,7 @@ pub trait Bay {
         ensures remembers { Remembers (disks self.old) (disks self.new) }
         ensures ok { OnOk result ((disks self.new).failed_writes ≡ (disks self.old).failed_writes) }
         ensures failed { OnErr result (Rose ((disks self.old).failed_writes slot) ((disks self.new).failed_writes slot)) }
+        ensures gone { OnOk result ((disks self.old).gone slot → ⊥) }
         ensures spends { SpendsWrites (disks self.old) (disks self.new) slot (length from.now) 1 };
 
     /// Makes all that was written to the slot sure: a stop then leaves what the slot holds.
@@ -99,6 +103,7 @@ pub trait Bay {
         ensures remembers { Remembers (disks self.old) (disks self.new) }
         ensures ok { OnOk result ((disks self.new).failed_writes ≡ (disks self.old).failed_writes) }
         ensures failed { OnErr result (Rose ((disks self.old).failed_writes slot) ((disks self.new).failed_writes slot)) }
+        ensures gone { OnOk result ((disks self.old).gone slot → ⊥) }
         ensures spends { SpendsWrites (disks self.old) (disks self.new) slot 0 1 };
 
     /// There are few slots.
@@ -128,6 +133,9 @@ pub trait Bay {
 
     /// What a stop may leave was told before, where it is told behind calls.
     ghost told_before: { (bay next : Self) → (disks bay).leads_to next → (disks next).tells_left → (disks bay).tells_left };
+
+    /// A slot of which every call fails stays so, whatever calls are made.
+    ghost stays_gone: { (bay next : Self) (slot : ℕ) → (disks bay).leads_to next → (disks bay).gone slot → (disks next).gone slot };
 
     /// The bay as it reads is one of its images.
     ghost held_is_left: { (bay : Self) → (disks bay).tells_left → IsLeft (disks bay).may_hold (disks bay).held };

@@ -18,6 +18,7 @@ pub fn raise(counts: &mut [u64; 64], slot: usize)
     requires { slot < 64 }
     ensures value { counts.new ≡ with_one_more counts.old slot }
     ensures rose { Rose (slice_index counts.old slot) (slice_index counts.new slot) }
+    ensures most { slice_index counts.new slot ≤ one_more (slice_index counts.old slot) }
     ensures kept { (s : ℕ) → slice_index counts.old s ≤ slice_index counts.new s }
     ensures others { (s : ℕ) → s ≢ slot → slice_index counts.new s ≡ slice_index counts.old s }
 {

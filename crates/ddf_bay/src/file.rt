@@ -153,6 +153,8 @@ impl<R: Files> Bay for FileBay<R> {
 
     ghost told_before = { λ b next leads told. told };
 
+    ghost stays_gone = { λ b next slot leads gone. gone };
+
     ghost held_is_left = { λ b told s l. told };
 
     fn slots(&self) -> usize {

@@ -1,9 +1,10 @@
 // A bay in memory: logged writes over zeros, calls that fail by their numbers, and what a stop leaves.
-ghost use Rattle.std.specs.Prelude.{◌≡◌, ◌≢◌, ◌⊎◌, ◌<◌, ◌≤◌, ◌+◌, ◌-◌, ◌^◌, [], ◌∷◌, List, ℕ, length, IfOk, IsTrue, slice_index, nat_le};
+ghost use Rattle.std.specs.Prelude.{◌≡◌, ◌≢◌, ◌⊎◌, ◌<◌, ◌≤◌, ◌+◌, ◌-◌, ◌^◌, ◌↔◌, [], ◌∷◌, List, ℕ, length, IfOk, IsTrue, slice_index, nat_le};
 ghost use Rattle.std.specs.List.{list_all};
 ghost use Rattle.ddf_bytes.specs.Counts.{Rose};
 ghost use Rattle.ddf_bay.specs.Sectors.{IsLeft};
 ghost use Rattle.ddf_bay.specs.Moments.{StopsLeave, IsSettled};
+ghost use Rattle.ddf_bay.specs.Counting.{AreWithin};
 ghost use Rattle.ddf_bay.specs.Logged.{are_past, is_reached, zeros};
 
 use crate::Bay;
@@ -32,6 +33,8 @@ pub struct MemoryBay {
     ghost past: { IsTrue (are_past clock log.logged.items) },
     ghost counted: { written + log.room < 2 ^ 64 },
     ghost wanted: { written ≤ asked },
+    ghost reads_within: { AreWithin read_faults clock },
+    ghost writes_within: { AreWithin write_faults clock },
 }
 
 impl MemoryBay {
@@ -73,7 +76,8 @@ impl MemoryBay {
     /// Makes every later call on the slot fail.
     pub fn unplug(&mut self, slot: usize)
         requires { slot < length (disks_of self.old).sizes }
-        ensures { state_of self.new ≡ without (state_of self.old) slot }
+        ensures state { state_of self.new ≡ without (state_of self.old) slot }
+        ensures gone { (disks_of self.new).gone slot }
     {
         self.unplugged[slot] = true;
     }
@@ -104,6 +108,13 @@ impl MemoryBay {
         ensures { result ≡ (disks_of self.now).calls }
     {
         self.made
+    }
+
+    /// Whether it tells what a stop may leave: it does while its clock, which counts all calls, is below its last value.
+    pub fn tells_left(&self) -> bool
+        ensures { IsTrue result ↔ (disks_of self.now).tells_left }
+    {
+        self.clock < u64::MAX
     }
 
     /// Whether the next call fails if it is on this slot.

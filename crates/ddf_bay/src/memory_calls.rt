@@ -12,7 +12,7 @@ use std::slice;
 impl Bay for MemoryBay {
     ghost use Rattle.ddf_bay.specs.Memory.{state_of, disks_of};
     ghost use Rattle.ddf_bay.specs.Memory.{fails_next, called, read_failed, write_failed, run_written, sync_failed, synced};
-    ghost use Rattle.ddf_bay.specs.MemoryLaws.{becomes_start, left_only, left_counts, size_small, told_earlier};
+    ghost use Rattle.ddf_bay.specs.MemoryLaws.{becomes_start, gone_then, left_only, left_counts, size_small, told_earlier};
     ghost use Rattle.ddf_bay.specs.LoggedLaws.{held_left, left_whole};
 
     ghost disks = { disks_of };
@@ -37,6 +37,8 @@ impl Bay for MemoryBay {
 
     ghost told_before = { λ b next leads told. told_earlier b.clock next.clock leads.later told };
 
+    ghost stays_gone = { λ b next slot leads gone. gone_then (state_of b) (state_of next) slot leads gone };
+
     ghost held_is_left = { λ b told s l. (told, held_left b.clock b.log.logged.items s l b.past) };
 
     fn slots(&self) -> usize {
@@ -57,6 +59,7 @@ impl Bay for MemoryBay {
         ensures remembers { Remembers (disks_of self.old) (disks_of self.new) }
         ensures ok { OnOk result ((disks_of self.new).failed_reads ≡ (disks_of self.old).failed_reads) }
         ensures failed { OnErr result (Rose ((disks_of self.old).failed_reads slot) ((disks_of self.new).failed_reads slot)) }
+        ensures gone { OnOk result ((disks_of self.old).gone slot → ⊥) }
         ensures spends { SpendsReads (disks_of self.old) (disks_of self.new) slot 1 }
 
         // Exactly these calls fail, and this is what is left of the bay.
@@ -86,6 +89,7 @@ impl Bay for MemoryBay {
         ensures remembers { Remembers (disks_of self.old) (disks_of self.new) }
         ensures ok { OnOk result ((disks_of self.new).failed_reads ≡ (disks_of self.old).failed_reads) }
         ensures failed { OnErr result (Rose ((disks_of self.old).failed_reads slot) ((disks_of self.new).failed_reads slot)) }
+        ensures gone { OnOk result ((disks_of self.old).gone slot → ⊥) }
         ensures spends { SpendsReads (disks_of self.old) (disks_of self.new) slot 1 }
 
         // Exactly these calls fail, and this is what is left of the bay.
@@ -114,6 +118,7 @@ impl Bay for MemoryBay {
         ensures remembers { Remembers (disks_of self.old) (disks_of self.new) }
         ensures ok { OnOk result ((disks_of self.new).failed_writes ≡ (disks_of self.old).failed_writes) }
         ensures failed { OnErr result (Rose ((disks_of self.old).failed_writes slot) ((disks_of self.new).failed_writes slot)) }
+        ensures gone { OnOk result ((disks_of self.old).gone slot → ⊥) }
         ensures spends { SpendsWrites (disks_of self.old) (disks_of self.new) slot 1 1 }
 
         // Exactly these calls fail, and this is what is left of the bay.
@@ -135,6 +140,7 @@ impl Bay for MemoryBay {
         ensures remembers { Remembers (disks_of self.old) (disks_of self.new) }
         ensures ok { OnOk result ((disks_of self.new).failed_writes ≡ (disks_of self.old).failed_writes) }
         ensures failed { OnErr result (Rose ((disks_of self.old).failed_writes slot) ((disks_of self.new).failed_writes slot)) }
+        ensures gone { OnOk result ((disks_of self.old).gone slot → ⊥) }
         ensures spends { SpendsWrites (disks_of self.old) (disks_of self.new) slot (length from.now) 1 }
 
         // Exactly these calls fail, and this is what is left of the bay.
@@ -165,6 +171,7 @@ impl Bay for MemoryBay {
         ensures remembers { Remembers (disks_of self.old) (disks_of self.new) }
         ensures ok { OnOk result ((disks_of self.new).failed_writes ≡ (disks_of self.old).failed_writes) }
         ensures failed { OnErr result (Rose ((disks_of self.old).failed_writes slot) ((disks_of self.new).failed_writes slot)) }
+        ensures gone { OnOk result ((disks_of self.old).gone slot → ⊥) }
         ensures spends { SpendsWrites (disks_of self.old) (disks_of self.new) slot 0 1 }
 
         // Exactly these calls fail, and this is what is left of the bay.

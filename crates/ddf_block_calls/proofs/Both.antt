@@ -43,7 +43,6 @@ use Rattle.ddf_write_commands.specs.Planned.{Entry}
 use Rattle.ddf_data_calls.specs.Calls.{AreMade, MayAsk, left_over}
 use Rattle.ddf_data_calls.proofs.Issued.{all_keep}
 use Rattle.ddf_data_calls.proofs.Seats as seating
-use Rattle.ddf_data_calls.proofs.Seats.{found_at}
 use Rattle.ddf_block_calls.specs.Promised.{counted, with_allowed}
 use Rattle.ddf_block_calls.proofs.Accepted.{mark_is, mark_of}
 use Rattle.ddf_block_calls.proofs.Amid as amid
@@ -51,7 +50,6 @@ use Rattle.ddf_block_calls.proofs.Carried.{Carrying}
 use Rattle.ddf_block_calls.proofs.First as start
 use Rattle.ddf_block_calls.proofs.First.{IsCalled}
 use Rattle.ddf_block_calls.proofs.OneArray as one
-use Rattle.ddf_block_calls.proofs.OneArray.{weaker_promised}
 use Rattle.ddf_block_calls.proofs.Split as split
 use Rattle.ddf_block_calls.proofs.Standing as standing
 use Rattle.ddf_block_calls.proofs.Standing.{mark_current}

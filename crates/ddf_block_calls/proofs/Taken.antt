@@ -17,25 +17,25 @@ use Rattle.ddf_history.specs.Groups.{groups}
 use Rattle.ddf_history.specs.Issued.{Past}
 use Rattle.ddf_history.specs.Promise.{IsKept}
 use Rattle.ddf_history.specs.Scenes.{scene_of}
+use Rattle.ddf_group.specs.declared.answer.Assembly.{Assembly}
 use Rattle.ddf_assembly.specs.Group.{GroupValue, group_of}
 use Rattle.ddf_assembly.specs.Recovery.{config_recovered}
 use Rattle.ddf_stops.specs.Going.{Ends, Goes, changes_in}
 use Rattle.ddf_stops.specs.Kept.{AreAllKept, is_read}
 use Rattle.ddf_promise.specs.Carried.{IsAllData, Stays}
 use Rattle.ddf_promise.specs.Promised.{KeepsData}
-use Rattle.ddf_answer.specs.declared.failure.Failure.{Failure}
-use Rattle.ddf_answer.specs.Call.{work_of}
+use Rattle.ddf_answer.specs.Call.{Work, work_of}
 use Rattle.ddf_group_commands.specs.Change.{is_done}
 use Rattle.ddf_data_commands.specs.declared.using.Access.TheVariants.{Writes}
 use Rattle.ddf_data_commands.specs.Use.{array_refusals}
 use Rattle.ddf_write_commands.specs.Payload.{Input}
 use Rattle.ddf_write_commands.specs.Planned.{Entry, IsPlanned, lacks_position}
-use Rattle.ddf_write_commands.specs.Write.{HasWrittenArray, Outcome, write_behind, write_refusals, write_request, writing}
-use Rattle.ddf_write_commands.specs.Write.Outcome.{NotRead, Short, Taken, Unfit}
+use Rattle.ddf_write_commands.specs.Write.{GoesAlongWriting, HasWrittenArray, Outcome, is_written, write_behind, write_refusals, write_request, writing}
+use Rattle.ddf_write_commands.specs.Write.Outcome.{Broken, NotRead, Short, Taken, Unfit}
 use Rattle.ddf_data_calls.specs.Calls.{AdmitsCall, KeepsBoth}
-use Rattle.ddf_write_commands.specs.Along.{ComesAlong, EndsAlong, Stage}
+use Rattle.ddf_write_commands.specs.Along.{ComesAlong, EndsAlong, GoesAlong, Stage}
 use Rattle.ddf_write_commands.specs.Along.Stage.{Closing, Done, Opening, Working}
-use Rattle.ddf_block_calls.specs.Promised.{IsWrittenOf, MayBeWritten, interrupted, written}
+use Rattle.ddf_block_calls.specs.Promised.{HasGiven, IsWrittenOf, MayBeWritten, interrupted, written}
 use Rattle.ddf_block_calls.proofs.Accepted.{HasView, accepted_plan, has_view, mark_of, three_pass}
 use Rattle.ddf_block_calls.proofs.Both as both
 use Rattle.ddf_block_calls.proofs.Both.{IsSplit}
@@ -73,11 +73,24 @@ only_reads group old new past floor promises reads kept all = record {
 
 -- a write that took no bytes only read
 pub untaken : {D : Type 0} (tells : Type 0) (old new : BayState D) (input : Input) (named : Option (List ℕ)) (timestamp : ℕ) (word : List ℕ) (start count : ℕ) (outcome : Outcome)
-    → HasWrittenArray (work_of tells old new) input named timestamp word start count outcome → ((sectors : List (List ℕ)) (worked : Result ℕ Failure) → outcome ≡ Taken sectors worked → ⊥) → ReadsOnly old new
-untaken tells old new input named timestamp word start count (Taken sectors worked) called none = absurd (none sectors worked refl)
+    → HasWrittenArray (work_of tells old new) input named timestamp word start count outcome → ((sectors : List (List ℕ)) → HasGiven outcome sectors → ⊥) → ReadsOnly old new
+untaken tells old new input named timestamp word start count (Taken sectors worked) called none = absurd (none sectors refl)
+untaken tells old new input named timestamp word start count (Broken sectors) called none = absurd (none sectors refl)
 untaken tells old new input named timestamp word start count (Short found) called none = called.gives.2
 untaken tells old new input named timestamp word start count NotRead called none = called.gives.2
 untaken tells old new input named timestamp word start count (Unfit failure) called none = called.gives.1
+
+-- How far the histories come along a write is told by the sectors that it was given.
+pub given_along : {D : Type 0} (work : Work D) (input : Input) (timestamp : ℕ) (word : List ℕ) (start count : ℕ) (left : List Bool) (meaning : Result GroupValue Assembly) (sectors : List (List ℕ)) (outcome : Outcome) → HasGiven outcome sectors
+    → GoesAlongWriting work input timestamp word start count left meaning outcome
+    → GoesAlong (writing start sectors) work left timestamp word (write_request word start count) (is_written outcome) meaning
+given_along work input timestamp word start count left meaning sectors (Taken some worked) given along =
+    subst (λ (those : List (List ℕ)). GoesAlong (writing start those) work left timestamp word (write_request word start count) (is_done worked) meaning) given along
+given_along work input timestamp word start count left meaning sectors (Broken some) given along =
+    subst (λ (those : List (List ℕ)). GoesAlong (writing start those) work left timestamp word (write_request word start count) false meaning) given along
+given_along work input timestamp word start count left meaning sectors (Short found) given along = absurd given
+given_along work input timestamp word start count left meaning sectors NotRead given along = absurd given
+given_along work input timestamp word start count left meaning sectors (Unfit failure) given along = absurd given
 
 -- ---- the change behind the blocks
 
@@ -101,8 +114,8 @@ ask_unmarks entry change = by (is_array_redundant entry.1)
 -- ---- the call
 
 module _ {D : Type 0} (tells : Type 0) (told : tells) (old new : BayState D) (group : List ℕ) (past : Past (groups group)) (floor : ℕ → ℕ) (small : (slot : ℕ) → floor slot < 2 ^ 64) (promises : Promises)
-    (input : Input) (named : Option (List ℕ)) (timestamp : ℕ) (word : List ℕ) (start count : ℕ) (sectors : List (List ℕ)) (worked : Result ℕ Failure)
-    (wrote : HasWrittenArray (work_of tells old new) input named timestamp word start count (Taken sectors worked))
+    (input : Input) (named : Option (List ℕ)) (timestamp : ℕ) (word : List ℕ) (start count : ℕ) (sectors : List (List ℕ)) (outcome : Outcome)
+    (wrote : HasWrittenArray (work_of tells old new) input named timestamp word start count outcome)
     (found : GroupValue) (is_found : group_of wrote.taken.newest named ≡ Ok found) (own : found.config.group ≡ group)
     (admits : AdmitsCall group past floor promises old wrote.taken.left found) (left_held : IsLeft old.may_hold old.held) (whole_held : AreSectors old.held)
     (plan : IsPlanned found timestamp word (write_request word start count)) (whole : (image : Image) → IsLeft new.may_hold image → AreSectors image) where
@@ -156,11 +169,11 @@ module _ {D : Type 0} (tells : Type 0) (told : tells) (old new : BayState D) (gr
   }
 
   -- The disks of members keep their floors.
-  pub floors_kept : AllHaveFloors group past old floor → ComesAlong group (writing start sectors) (work_of tells old new) past wrote.taken.left found plan (is_done worked)
+  pub floors_kept : AllHaveFloors group past old floor → ComesAlong group (writing start sectors) (work_of tells old new) past wrote.taken.left found plan (is_written outcome)
       → StopsLeave old new (λ image. HaveFloorsIn group past old.sizes image floor)
   floors_kept floored along =
       floors_along tells old new group past floor promises wrote.taken.left wrote.taken.newest named found called floored timestamp word (write_request word start count) plan (write_behind plan.entry)
-      (ask_of plan.entry) is_split (writing start sectors) (by_write start sectors) carried (is_done worked) along
+      (ask_of plan.entry) is_split (writing start sectors) (by_write start sectors) carried (is_written outcome) along
 
   pub are_readied : readied found (option_to_list (mark_of plan.entry) ++ write_behind plan.entry) timestamp ≡ Ok (plan.first ++ plan.last)
   are_readied = (is_split).are_all
@@ -191,14 +204,14 @@ module _ {D : Type 0} (tells : Type 0) (told : tells) (old new : BayState D) (gr
     λ image left are. amid image are end.stage end.now end.has_come (end.is_left image left),
   )
 
-  pub both_kept : ComesAlong group (writing start sectors) (work_of tells old new) past wrote.taken.left found plan (is_done worked)
+  pub both_kept : ComesAlong group (writing start sectors) (work_of tells old new) past wrote.taken.left found plan (is_written outcome)
       → KeepsBoth group old new floor (Goes group past (is_read wrote.taken.left) found (changes_in found (plan.first ++ plan.last)))
-      (Ends group past (is_read wrote.taken.left) found (changes_in found (plan.first ++ plan.last)) (is_done worked)) (MayBeWritten plan.entry.0 start sectors promises)
-      (IsWrittenOf (is_done worked) plan.entry.0 start sectors promises)
+      (Ends group past (is_read wrote.taken.left) found (changes_in found (plan.first ++ plan.last)) (is_written outcome)) (MayBeWritten plan.entry.0 start sectors promises)
+      (IsWrittenOf (is_written outcome) plan.entry.0 start sectors promises)
   both_kept along =
       staged.keeps_both tells old new group past floor promises wrote.taken.left wrote.taken.newest named found called timestamp word (write_request word start count) plan (write_behind plan.entry)
-      (ask_of plan.entry) is_split (writing start sectors) (by_write start sectors) carried (MayBeWritten plan.entry.0 start sectors promises) (IsWrittenOf (is_done worked) plan.entry.0 start sectors promises)
-      (is_done worked) along whole on_the_way (λ tells_left end. at_end (is_done worked) end)
+      (ask_of plan.entry) is_split (writing start sectors) (by_write start sectors) carried (MayBeWritten plan.entry.0 start sectors promises) (IsWrittenOf (is_written outcome) plan.entry.0 start sectors promises)
+      (is_written outcome) along whole on_the_way (λ tells_left end. at_end (is_written outcome) end)
     where
       on_the_way : (image : Image) → AreSectors image → (stage : Stage) (now : Past (groups group)) → staged.Come tells old new group past floor promises wrote.taken.left wrote.taken.newest named found called
           timestamp word (write_request word start count) plan (write_behind plan.entry) (ask_of plan.entry) is_split (writing start sectors) (by_write start sectors) carried stage now

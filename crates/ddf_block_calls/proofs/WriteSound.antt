@@ -9,6 +9,7 @@ use Rattle.ddf_array.specs.Redundant.{IsRedundant}
 use Rattle.ddf_array.specs.Sound.{AreSectors}
 use Rattle.ddf_array.specs.Volume.{IsVolume, Volume, volume}
 use Rattle.ddf_array.specs.Within.{is_within}
+use Rattle.ddf_array.proofs.Consistent.{consistent_if}
 use Rattle.ddf_cells.specs.Degraded.{is_degraded}
 use Rattle.ddf_write.specs.RowWrites.{IsSure}
 use Rattle.ddf_write.proofs.RedundantAfter.{redundant_after}
@@ -77,4 +78,4 @@ before_redundant is_absent w v known within mark (inr marked) image allowed kept
 pub behind_redundant : (failed : ℕ → Type 0) (v : Volume) → IsVolume v → IsApart v → is_degraded v ≡ false → (start : ℕ) (sectors : List (List ℕ)) (before behind : Image) → AreSectors behind → IsRedundant v before
     → IsLeftByWrite v start sectors before behind → HasWritten v start sectors (IsSure failed v before) behind → IsRedundant v behind
 behind_redundant failed v known apart whole start sectors before behind are redundant left has =
-    redundant_after v known apart whole start sectors before behind are redundant left Unit tt (record { cells = has.cells; parity = λ sure. has.parity (inr redundant) })
+    redundant_after v known apart whole start sectors before behind are redundant left Unit tt (record { cells = has.cells; parity = λ sure. has.parity (inr (consistent_if v before redundant).equal_copies) })

@@ -5,6 +5,8 @@ use Rattle.ddf_array.specs.Volume.{Volume}
 use Rattle.ddf_data.specs.Allowed.{Allowed, once_consistent, once_written, while_written}
 use Rattle.ddf_keeping.specs.Grouped.{Promises}
 use Rattle.ddf_promise.specs.Promised.{with_promise}
+use Rattle.ddf_write_commands.specs.Write.{Outcome}
+use Rattle.ddf_write_commands.specs.Write.Outcome.{Broken, NotRead, Short, Taken, Unfit}
 
 -- the promise of one array becomes another one; where nothing was promised of it, nothing is
 abbrev pub with_allowed : (Allowed → Allowed) → List ℕ → Promises → Promises
@@ -30,3 +32,11 @@ MayBeWritten guid start sectors promises promised = (promised ≡ promises) ⊎ 
 abbrev pub IsWrittenOf : (done : Bool) (guid : List ℕ) (start : ℕ) → List (List ℕ) → Promises → Promises → Type 0
 IsWrittenOf true guid start sectors promises promised = promised ≡ written guid start sectors promises
 IsWrittenOf false guid start sectors promises promised = promised ≡ interrupted guid start sectors promises
+
+-- These sectors were given to be written in a call of `write` that came to this: it was done, or its work failed, or its input did behind them.
+abbrev pub HasGiven : Outcome → (sectors : List (List ℕ)) → Type 0
+HasGiven (Taken given worked) sectors = given ≡ sectors
+HasGiven (Broken given) sectors = given ≡ sectors
+HasGiven (Short found) sectors = ⊥
+HasGiven NotRead sectors = ⊥
+HasGiven (Unfit failure) sectors = ⊥

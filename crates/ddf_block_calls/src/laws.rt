@@ -19,15 +19,14 @@ ghost use Rattle.ddf_group_commands.specs.Change.{HasChanged, Request, is_done, 
 ghost use Rattle.ddf_write_commands.specs.Payload.{input_of};
 ghost use Rattle.ddf_write_commands.specs.Planned.{IsPlanned};
 ghost use Rattle.ddf_write_commands.specs.Resync.{HasResyncedArray, resync_request};
-ghost use Rattle.ddf_write_commands.specs.Write.{HasWrittenArray, Outcome, write_request};
-ghost use Rattle.ddf_write_commands.specs.Write.Outcome.{Taken};
+ghost use Rattle.ddf_write_commands.specs.Write.{HasWrittenArray, Outcome, is_written, write_request};
 ghost use Rattle.ddf_rebuild_command.specs.Asked.{rebuild_request};
 ghost use Rattle.ddf_rebuild_command.specs.Planned.{IsPlanned as IsRebuildPlanned};
 ghost use Rattle.ddf_rebuild_command.specs.Rebuilt.{HasRebuiltArray};
 ghost use Rattle.ddf_rebuild_command.specs.Rounds.{steps_of};
 ghost use Rattle.ddf_data_calls.specs.Calls.{AdmitsCall, AreBoth, KeepsBoth, MayAsk};
 ghost use Rattle.ddf_block_calls.specs.Agreed.{DoDisksAgree};
-ghost use Rattle.ddf_block_calls.specs.Promised.{IsWrittenOf, MayBeWritten, counted};
+ghost use Rattle.ddf_block_calls.specs.Promised.{HasGiven, IsWrittenOf, MayBeWritten, counted};
 
 use ddf_bay::Bay;
 use ddf_bytes::Source;
@@ -85,30 +84,30 @@ pub fn an_accepted_array_counts_with_what_it_holds<B: Bay>()
         (λ promised. promised ≡ counted guid agree.volume (B.disks new).held promises) }
 {}
 
-/// A call of `write` that took its bytes, and that a history of its group and of the group's data admits, keeps both at once: whatever a stop leaves, at any moment
-/// since the call's entry, shows what it should and keeps the data of the group, where each block of the range may have its old bytes or the new ones; so at its end,
-/// unless it was done: then each of the blocks is promised the new bytes. Every other block, and every other array, keeps its promise. That the mark may be
+/// A call of `write` that took bytes, and that a history of its group and of the group's data admits, keeps both at once: whatever a stop leaves, at any moment
+/// since the call's entry, shows what it should and keeps the data of the group, where each block whose bytes it took may have its old bytes or the new ones; so at its end,
+/// unless it was done, or cut: then each of these blocks is promised the new bytes. Every other block, and every other array, keeps its promise. That the mark may be
 /// set and cleared follows: the array was found unmarked, so that it was redundant, and the write keeps it so, whichever reads failed.
 pub fn a_write_keeps_its_history_and_its_data<B: Bay, S: Source>()
     ensures both { (told : B.tells) (group : List ℕ) (past : Past (groups group)) (floor : ℕ → ℕ) → ((slot : ℕ) → floor slot < 2 ^ 64) → (promises : Promises)
-        → (old new : B) → (B.disks old).tells_left → (source_old source_new : S) (named : Option (List ℕ)) (timestamp : ℕ) (word : List ℕ) (start count : ℕ) (sectors : List (List ℕ)) (worked : Result ℕ Failure)
-        → (called : HasWrittenArray (work_of B.tells (B.disks old) (B.disks new)) (input_of S.tells (S.input source_old) (S.input source_new)) named timestamp word start count (Taken sectors worked))
+        → (old new : B) → (B.disks old).tells_left → (source_old source_new : S) (named : Option (List ℕ)) (timestamp : ℕ) (word : List ℕ) (start count : ℕ) (sectors : List (List ℕ)) (outcome : Outcome) → HasGiven outcome sectors
+        → (called : HasWrittenArray (work_of B.tells (B.disks old) (B.disks new)) (input_of S.tells (S.input source_old) (S.input source_new)) named timestamp word start count outcome)
         → (found : GroupValue) → group_of called.taken.newest named ≡ Ok found → found.config.group ≡ group → AdmitsCall group past floor promises (B.disks old) called.taken.left found
         → (plan : IsPlanned found timestamp word (write_request word start count))
         → KeepsBoth group (B.disks old) (B.disks new) floor (Goes group past (is_read called.taken.left) found (changes_in found (plan.first ++ plan.last)))
-        (Ends group past (is_read called.taken.left) found (changes_in found (plan.first ++ plan.last)) (is_done worked))
-        (MayBeWritten plan.entry.0 start sectors promises) (IsWrittenOf (is_done worked) plan.entry.0 start sectors promises) }
+        (Ends group past (is_read called.taken.left) found (changes_in found (plan.first ++ plan.last)) (is_written outcome))
+        (MayBeWritten plan.entry.0 start sectors promises) (IsWrittenOf (is_written outcome) plan.entry.0 start sectors promises) }
 
     // So it carries the data of the group, where all that a stop left on the way has sectors of 512 bytes.
     ensures carries { (told : B.tells) (group : List ℕ) (past : Past (groups group)) (floor : ℕ → ℕ) → ((slot : ℕ) → floor slot < 2 ^ 64) → (promises : Promises)
-        → (old new : B) → (B.disks old).tells_left → (source_old source_new : S) (named : Option (List ℕ)) (timestamp : ℕ) (word : List ℕ) (start count : ℕ) (sectors : List (List ℕ)) (worked : Result ℕ Failure)
-        → (called : HasWrittenArray (work_of B.tells (B.disks old) (B.disks new)) (input_of S.tells (S.input source_old) (S.input source_new)) named timestamp word start count (Taken sectors worked))
+        → (old new : B) → (B.disks old).tells_left → (source_old source_new : S) (named : Option (List ℕ)) (timestamp : ℕ) (word : List ℕ) (start count : ℕ) (sectors : List (List ℕ)) (outcome : Outcome) → HasGiven outcome sectors
+        → (called : HasWrittenArray (work_of B.tells (B.disks old) (B.disks new)) (input_of S.tells (S.input source_old) (S.input source_new)) named timestamp word start count outcome)
         → (found : GroupValue) → group_of called.taken.newest named ≡ Ok found → found.config.group ≡ group → AdmitsCall group past floor promises (B.disks old) called.taken.left found
         → (plan : IsPlanned found timestamp word (write_request word start count))
         → ((t : ℕ) (image : Image) → (B.disks new).left_since t image → AreSectors image)
         → CarriesData group (B.disks old) (B.disks new) floor promises (Goes group past (is_read called.taken.left) found (changes_in found (plan.first ++ plan.last)))
-        (Ends group past (is_read called.taken.left) found (changes_in found (plan.first ++ plan.last)) (is_done worked))
-        (MayBeWritten plan.entry.0 start sectors) (IsWrittenOf (is_done worked) plan.entry.0 start sectors) }
+        (Ends group past (is_read called.taken.left) found (changes_in found (plan.first ++ plan.last)) (is_written outcome))
+        (MayBeWritten plan.entry.0 start sectors) (IsWrittenOf (is_written outcome) plan.entry.0 start sectors) }
 {}
 
 /// A call of `rebuild` that a history of its group and of the group's data admits keeps both at once: whatever a stop leaves, at any moment since the call's entry and
@@ -144,11 +143,11 @@ pub fn a_rebuild_keeps_its_history_and_its_data<B: Bay>()
         (Ends group past (is_read called.taken.left) found (changes_in found steps) (is_done outcome)) (Stays promises) (Stays promises) }
 {}
 
-/// A call of `write` that took no bytes, since its input ended before them or a read of it failed, or since it was refused before, only reads.
+/// A call of `write` that took no bytes, since its input ended within the first piece or a read of it failed there, or since it was refused before, only reads.
 pub fn a_write_without_its_bytes_only_reads<B: Bay, S: Source>()
     ensures { (old new : B) (source_old source_new : S) (named : Option (List ℕ)) (timestamp : ℕ) (word : List ℕ) (start count : ℕ) (outcome : Outcome)
         → HasWrittenArray (work_of B.tells (B.disks old) (B.disks new)) (input_of S.tells (S.input source_old) (S.input source_new)) named timestamp word start count outcome
-        → ((sectors : List (List ℕ)) (worked : Result ℕ Failure) → outcome ≡ Taken sectors worked → ⊥) → ReadsOnly (B.disks old) (B.disks new) }
+        → ((sectors : List (List ℕ)) → HasGiven outcome sectors → ⊥) → ReadsOnly (B.disks old) (B.disks new) }
 {}
 
 /// A call that only reads keeps each history of a group and of its data as they are.

@@ -9,7 +9,7 @@ use Rattle.ddf_primary.specs.declared.layout.Layout.{Layout}
 use Rattle.ddf_primary.specs.declared.layout.Layout.TheVariants.{Raid0, Raid1, Parity, Jbod, Concatenation}
 use Rattle.ddf_primary.specs.Levels.{IsShape}
 use Rattle.ddf_primary.specs.Cells as cells_of
-use Rattle.ddf_primary.specs.Cells.{cells, depth_of, parity_member}
+use Rattle.ddf_primary.specs.Cells.{cells}
 use Rattle.ddf_primary.proofs.ShapeFacts.{cell_facts}
 use Rattle.ddf_primary.proofs.Lists.{slice_get-range}
 use Rattle.ddf_secondary.specs.declared.level.SecondaryLevel.{SecondaryLevel}

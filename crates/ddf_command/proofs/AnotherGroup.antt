@@ -5,10 +5,8 @@ use Rattle.std.specs.Str.{bytes_eq}
 use Rattle.ddf_bay.specs.ReadsOnly.{ReadsOnly}
 use Rattle.ddf_bay.specs.Sectors.{Image, IsLeft}
 use Rattle.ddf_bay.specs.State.{BayState}
-use Rattle.ddf_config.specs.declared.refusal.Refusal.{Refusal}
 use Rattle.ddf_config.specs.Configuration.{Configuration}
 use Rattle.ddf_group.specs.declared.answer.Assembly.{Assembly}
-use Rattle.ddf_plan.specs.declared.change.Change.{Change}
 use Rattle.ddf_view.specs.View.{View, view_of}
 use Rattle.ddf_history.specs.Reading.{IsCopyOf, stands}
 use Rattle.ddf_history.specs.Issued.{IsSince}
@@ -18,7 +16,6 @@ use Rattle.ddf_history.specs.History.{Moment}
 use Rattle.ddf_history.specs.Scenes.{scene_of}
 use Rattle.ddf_assembly.specs.Committed.{slots_of}
 use Rattle.ddf_assembly.specs.Group.{GroupValue, group_of}
-use Rattle.ddf_assembly.specs.Ready.{readied}
 use Rattle.ddf_assembly.specs.Recovery.{config_recovered}
 use Rattle.ddf_assembly.specs.Seated.{seated}
 use Rattle.ddf_assembly.specs.Steps.{Step}
@@ -26,24 +23,13 @@ use Rattle.ddf_stops.specs.Kept.{is_slot}
 use Rattle.ddf_answer.specs.declared.failure.Failure.{Failure}
 use Rattle.ddf_answer.specs.declared.failure.Failure.TheVariants.{Conflict, Disk, Memory, Refused, Split}
 use Rattle.ddf_answer.specs.Call.{Work, work_of}
-use Rattle.ddf_group_commands.specs.Change.{HasChanged, IsChanged, IsChangedIn, Request, steps_asked, steps_of}
+use Rattle.ddf_group_commands.specs.Change.{HasChanged, IsChanged, IsChangedIn, Request, steps_of}
 use Rattle.ddf_command.specs.History.{OtherCall}
 use Rattle.ddf_group_commands.specs.Writing.{IsLeftWriting, IsWrittenOn}
-use Rattle.ddf_group_commands.proofs.Outcomes.{asked_of}
+use Rattle.ddf_group_commands.proofs.Outcomes.{readied_by}
 use Rattle.ddf_group_commands.proofs.LeftWriting.{IsStepsCopy, copy_left}
 use Rattle.ddf_command.proofs.SeatsShown.{seat_shown}
 use Rattle.ddf_command.proofs.StepsCopies.{IsKnown, written_known}
-
--- ---- the steps that were asked for
-
--- They are those that are readied for some changes.
-pub record AreReadied (found : GroupValue) (timestamp : ℕ) (steps : List Step) : Type 0 where
-  pub changes : List Change
-  pub is : readied found changes timestamp ≡ Ok steps
-
-pub readied_by : (found : GroupValue) (timestamp : ℕ) (asked : Result (List Change) Refusal) (steps : List Step) → steps_asked found timestamp asked ≡ Ok steps → AreReadied found timestamp steps
-readied_by found timestamp (Ok changes) steps is = record { changes = changes; is = asked_of (readied found changes timestamp) steps is }
-readied_by found timestamp (Err refusal) steps is = absurd cc
 
 -- Where none are, nothing was written.
 none_written : {D : Type 0} (work : Work D) (found : GroupValue) (failure : Failure) (outcome : Result ℕ Failure) → IsChanged work found (Err failure) outcome → ReadsOnly work.old work.new

@@ -1,7 +1,7 @@
 -- How a call of the program ends.
-use Rattle.std.proofs.Common.{◌≡◌, ◌⊎◌, inl, inr, ⊎_elim, ℕ, List, [], length, replicate, true, false, Option, Result, Ok, Err, refl, sym, subst, arith}
+use Rattle.std.proofs.Common.{◌≡◌, ◌∙◌, ◌⊎◌, inl, inr, ⊎_elim, ℕ, List, [], length, replicate, true, false, Option, Result, Ok, Err, refl, sym, subst, arith}
 use Rattle.std.specs.Prelude.{IsTrue}
-use Rattle.std.proofs.lemmas.Bool.{cases_lt}
+use Rattle.std.proofs.lemmas.Bool.{cases_lt, false≢true}
 use Rattle.std.proofs.lemmas.List.{append-nil, length-replicate}
 use Rattle.ddf_bytes.specs.declared.stamp.Stamp.{Stamp}
 use Rattle.ddf_bytes.specs.Stamps.{timestamp_of}
@@ -36,18 +36,26 @@ use Rattle.ddf_data_commands.proofs.LeftOut.{has_no_place}
 use Rattle.ddf_data_commands.proofs.ReadBlocks.{memory_in}
 use Rattle.ddf_data_commands.proofs.Scrubbed.{scrubbed_nothing}
 use Rattle.ddf_data_commands.specs.Read.{NotRead}
+use Rattle.ddf_write_commands.proofs.Ended.{Cause, ends_for}
 use Rattle.ddf_write_commands.specs.Doing.{Doing}
+use Rattle.ddf_write_commands.specs.Ending.{EndsCut}
 use Rattle.ddf_write_commands.specs.Payload.{input_of}
 use Rattle.ddf_write_commands.specs.Resync.{IsResyncDone, resync_request, resyncing}
 use Rattle.ddf_write_commands.specs.Worked.{IsWorkedIn}
 use Rattle.ddf_write_commands.proofs.Since.{none_along}
 use Rattle.ddf_rebuild_command.specs.Asked.{rebuild_request}
 use Rattle.ddf_rebuild_command.specs.Rebuilt.{IsRebuildDone, IsRebuiltIn}
+use Rattle.ddf_rebuild_command.proofs.Costs.{none_cost}
 use Rattle.ddf_write_commands.specs.Write.{IsWriteDone, write_request, writing}
 use Rattle.ddf_write_commands.specs.Write.Outcome.{Unfit}
-use Rattle.ddf_command.specs.Run.{IsCommandDone, is_status}
+use Rattle.ddf_command.specs.Run.{IsCommandDone, IsEnded, is_status}
 
 -- ---- what the cause of a status tells
+
+abbrev pub IsFaultless : Traits → Answer → Type 0
+IsFaultless traits answer =
+    (answer.status ≡ 0) ⊎ (answer.status ≡ 5) ⊎ ((answer.status ≡ 1) × (traits.may_refuse ≡ true)) ⊎ ((answer.status ≡ 4) × (traits.takes_group ≡ true))
+    ⊎ ((answer.status ≡ 7) × (traits.takes_input ≡ true))
 
 module _ {D : Type 0} (traits : Traits) (work : Work D) (answer : Answer) (rose : Type 0) where
   -- it is one of those that a call may end with
@@ -87,31 +95,50 @@ module _ {D : Type 0} (traits : Traits) (work : Work D) (answer : Answer) (rose 
   stream_by (inr (inr (inr (inr (inr six))))) e = six.1
 
   -- where nothing failed it is done, or memory ran out, or it is refused, or records contradict each other
-  fault_by : HasCause traits work answer rose → (SomeSlotRose work.old work.new → ⊥) → (rose → ⊥)
-      → (answer.status ≡ 0) ⊎ (answer.status ≡ 5) ⊎ ((answer.status ≡ 1) × (traits.may_refuse ≡ true)) ⊎ ((answer.status ≡ 4) × (traits.takes_group ≡ true))
+  fault_by : HasCause traits work answer rose → (SomeSlotRose work.old work.new → ⊥) → (rose → ⊥) → IsFaultless traits answer
   fault_by (inl zero) none good = inl zero
   fault_by (inr (inl five)) none good = inr (inl five)
   fault_by (inr (inr (inl one))) none good = inr (inr (inl one))
-  fault_by (inr (inr (inr (inl four)))) none good = inr (inr (inr four))
+  fault_by (inr (inr (inr (inl four)))) none good = inr (inr (inr (inl four)))
   fault_by (inr (inr (inr (inr (inl three))))) none good = absurd (none three.1)
   fault_by (inr (inr (inr (inr (inr six))))) none good = absurd (good six.1)
 
-module _ {D : Type 0} {traits : Traits} {work : Work D} {answer : Answer} {rose : Type 0} (ends : EndsBy traits work answer rose) where
+module _ {D : Type 0} {traits : Traits} {work : Work D} {answer : Answer} {rose : Type 0} (ends : IsEnded traits work answer rose) where
   pub status_of : IsTrue (is_status answer.status)
-  status_of = status_by traits work answer rose ends.cause
+  status_of = ⊎_elim (λ cut. subst (λ (n : ℕ). IsTrue (is_status n)) (sym cut.0) refl) (status_by traits work answer rose) ends.cause
 
   pub good_words : answer.status ≡ 2 → ⊥
-  good_words = words_by traits work answer rose ends.cause
+  good_words two = ⊎_elim (λ cut. omega (arith, two, cut.0)) (λ other. words_by traits work answer rose other two) ends.cause
 
   pub slot_rose : answer.status ≡ 3 → SomeSlotRose work.old work.new
-  slot_rose = slot_by traits work answer rose ends.cause
+  slot_rose three = ⊎_elim (λ cut. absurd (omega (arith, three, cut.0))) (λ other. slot_by traits work answer rose other three) ends.cause
 
   pub stream_rose : answer.status ≡ 6 → rose
-  stream_rose = stream_by traits work answer rose ends.cause
+  stream_rose six = ⊎_elim (λ cut. absurd (omega (arith, six, cut.0))) (λ other. stream_by traits work answer rose other six) ends.cause
 
-  pub no_fault : (SomeSlotRose work.old work.new → ⊥) → (rose → ⊥)
-      → (answer.status ≡ 0) ⊎ (answer.status ≡ 5) ⊎ ((answer.status ≡ 1) × (traits.may_refuse ≡ true)) ⊎ ((answer.status ≡ 4) × (traits.takes_group ≡ true))
-  no_fault = fault_by traits work answer rose ends.cause
+  -- or it is cut
+  pub no_fault : (SomeSlotRose work.old work.new → ⊥) → (rose → ⊥) → IsFaultless traits answer
+  no_fault none good = ⊎_elim (λ cut. inr (inr (inr (inr cut)))) (λ other. fault_by traits work answer rose other none good) ends.cause
+
+-- ---- which commands may be cut
+
+module _ {D : Type 0} {traits : Traits} {work : Work D} {answer : Answer} where
+  pub not_cut : {rose : Type 0} → EndsBy traits work answer rose → IsEnded traits work answer rose
+  not_cut ends = record { cause = inr ends.cause; unwritten = ends.unwritten; stays = ends.stays; goes_on = ends.goes_on; same_sizes = ends.same_sizes }
+
+  -- one that writes what it takes from the input
+  pub may_be_cut : {rose streams : Type 0} → traits.may_refuse ≡ true → traits.takes_group ≡ true → traits.may_write ≡ true → traits.takes_input ≡ true → (rose → streams) → EndsCut work answer rose
+      → IsEnded traits work answer streams
+  may_be_cut {rose = rose} {streams = streams} refuses grouped writes takes failed ends =
+      let so : Cause work answer rose → EndsBy traits work answer streams =
+      λ cause. ends_for traits refuses grouped writes work answer rose streams failed (record { cause = cause; unwritten = ends.unwritten; goes_on = ends.goes_on; same_sizes = ends.same_sizes }) in
+      record {
+        cause = ⊎_elim (λ seven. inl (seven, takes)) (λ cause. inr (so cause).cause) ends.cause;
+        unwritten = ends.unwritten;
+        stays = λ none. absurd (false≢true (sym none ∙ writes));
+        goes_on = ends.goes_on;
+        same_sizes = ends.same_sizes;
+      }
 
 -- ---- words
 
@@ -196,6 +223,7 @@ module _ {D : Type 0} (old : BayState D) (tells told : Type 0) (before : SinkSta
           gives = none_rebuilt old tells timestamp word (group_of taken.newest named);
           leaves = λ tells found is steps asked. stops_start old _;
           along = λ tells found is steps asked group same past kept admitted. inl (refl, reads_start old);
+          costs = none_cost (work_of tells old old) timestamp word (reads_start old) (group_of taken.newest named);
         };
         ends = (refl, λ told. refl);
       }

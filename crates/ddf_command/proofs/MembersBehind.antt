@@ -1,7 +1,6 @@
 -- The disks of a call's seats and steps are current members, and those of its last step behind it, as a history asks that one is read. A member that
 -- it left out is missing then.
-use Rattle.std.proofs.Common.{◌≡◌, ℕ, ◌+◌, ◌≤◌, Bool, true, false, List, [], ◌∷◌, length, Some, refl, ap, sym, ◌∙◌, subst, arith}
-use Rattle.std.proofs.lemmas.Bool.{false≢true}
+use Rattle.std.proofs.Common.{◌≡◌, ℕ, ◌+◌, ◌≤◌, Bool, true, false, List, [], ◌∷◌, length, Some, ap, sym, ◌∙◌, subst, arith}
 use Rattle.std.specs.Prelude.{slice_get}
 use Rattle.ddf_bay.specs.State.{BayState}
 use Rattle.ddf_config.specs.Configuration.{Configuration}
@@ -14,16 +13,13 @@ use Rattle.ddf_history.specs.History.{Moment}
 use Rattle.ddf_history.specs.Issued.{IsSince, Past}
 use Rattle.ddf_history.specs.Promise.{IsKept}
 use Rattle.ddf_history.specs.Reading.{Scene}
-use Rattle.ddf_history.proofs.Following.{lost_missing}
 use Rattle.ddf_history.proofs.Lists.{get_within}
 use Rattle.ddf_history.proofs.Members.{own_member}
 use Rattle.ddf_history.proofs.Sound.{groups_are_sound}
 use Rattle.ddf_assembly.specs.declared.seated.Seated.{Seated}
-use Rattle.ddf_assembly.specs.Recovery.{config_lost, config_recovered, lost_step, recovery_of, some}
+use Rattle.ddf_assembly.specs.Recovery.{config_recovered}
 use Rattle.ddf_assembly.specs.Seated.{seated}
 use Rattle.ddf_assembly.specs.Steps.{Step}
-use Rattle.ddf_assembly.proofs.CommittedSeats.{get_there}
-use Rattle.ddf_assembly.proofs.ReadiedSteps.{behind}
 use Rattle.ddf_stops.specs.Going.{Ends, IsOver, KeepsSlots, changes_in}
 use Rattle.ddf_stops.specs.Kept.{AreAllKept, is_read}
 use Rattle.ddf_stops.proofs.Claimed as claims
@@ -32,10 +28,10 @@ use Rattle.ddf_stops.proofs.SlotsKept.{ends_slots}
 use Rattle.ddf_stops.proofs.StepMembers.{AreMembers}
 use Rattle.ddf_command.specs.History.{GroupCall, IsEnd, Leaves, kept_by}
 use Rattle.ddf_group_commands.specs.Writing.{IsWrittenOn}
-use Rattle.ddf_command.proofs.AllSteps.{AllSteps, readied_all}
-use Rattle.ddf_command.proofs.AnotherGroup.{AreReadied, readied_by}
-use Rattle.ddf_command.proofs.LastStep.{last_change, lost_first, lost_is}
-use Rattle.ddf_command.proofs.MembersKept.{change_from}
+use Rattle.ddf_stops.proofs.AllSteps.{AllSteps}
+use Rattle.ddf_group_commands.proofs.Outcomes.{AreReadied, readied_by}
+use Rattle.ddf_stops.proofs.LastStep.{last_change}
+use Rattle.ddf_stops.proofs.LeftMissing as lefts
 use Rattle.ddf_command.proofs.StepsCopies.{written_known}
 use Rattle.ddf_command.proofs.StepsMembers.{steps_members}
 
@@ -90,44 +86,13 @@ module _ {B : Type 0} {tells : Type 0} (told : tells) (disks : B → BayState B)
         claims.left_absent group entry left call.taken.newest call.taken.every_slot (call.taken.read told) old.past call.admitted.same_slots call.admitted.is_kept
         call.admitted.may_read call.admitted.member call.named call.group call.is_group call.same_group slot current out
 
-    some_absent : some call.group.absent ≡ true
-    some_absent = by call.group.absent among
-      where
-        by : (absent : List ℕ) → is_among absent (old.past.disk slot).reference ≡ true → some absent ≡ true
-        by [] is = absurd (false≢true is)
-        by (one ∷ others) is = refl
-
     -- so that each step lists it as missing.
-    abbrev Misses : Configuration → Type 0
-    Misses config = has_missing config (old.past.disk slot) ≡ true
-
-    lost_misses : Misses (config_lost call.group)
-    lost_misses = lost_missing call.group.config call.group.absent (config_lost call.group).sequence (old.past.disk slot) current among
-
-    behind_misses : Misses (config_recovered call.group)
-    unfolding config_recovered
-    behind_misses = rw some_absent lost_misses
-
-    recovery_misses : (step : Step) → recovery_of call.timestamp call.group ≡ Some step → Misses step.config
-    recovery_misses step is =
-        let lost = lost_is call.group asked.changes call.timestamp call.steps asked.is some_absent in
-        let same : lost_step call.timestamp call.group ≡ step = some_same lost is in
-        subst (λ (one : Step). Misses one.config) same lost_misses
-
-    steps_miss : AllSteps (λ step. Misses step.config) call.steps
-    steps_miss =
-        readied_all (λ step. Misses step.config) (λ config seats. Misses config) call.timestamp
-        (λ config seats change from. let next = (change_from config change).stays_missing (old.past.disk slot) from in (next, next))
-        call.group (λ own. recovery_misses) (λ own. behind_misses) asked.changes call.steps asked.is
+    steps_miss : AllSteps (λ step. has_missing step.config (old.past.disk slot) ≡ true) call.steps
+    steps_miss = lefts.steps_miss call.group asked.changes call.timestamp call.steps asked.is (old.past.disk slot) current among
 
     -- There is a last one.
     last_misses : (number : ℕ) × (step : Step) × (slice_get call.steps number ≡ Some step) × (number + 1 ≡ length call.steps)
-    last_misses =
-        let steps = lost_first call.group asked.changes call.timestamp call.steps asked.is some_absent in
-        let rest = behind call.group asked.changes call.timestamp call.steps asked.is in
-        let long : length rest + 1 ≡ length call.steps = let all = ap (λ (one : List Step). length one) steps in omega (arith, all) in
-        let there = get_there call.steps (length rest) (omega (arith, long)) in
-        (length rest, there.0, there.1, long)
+    last_misses = lefts.last_misses call.group asked.changes call.timestamp call.steps asked.is (old.past.disk slot) current among
 
 -- ---- its end
 

@@ -21,7 +21,7 @@ use Rattle.ddf_assembly.proofs.CommittedReadied.{filter_get}
 use Rattle.ddf_assembly.proofs.Rewritten.{closed_view}
 use Rattle.ddf_stops.proofs.StepMembers.{mended_names, rewritten_names}
 use Rattle.ddf_group_commands.specs.Writing.{IsWrittenOn}
-use Rattle.ddf_command.proofs.AllSteps.{AllSteps, readied_all}
+use Rattle.ddf_stops.proofs.AllSteps.{AllSteps, readied_all}
 
 -- ---- copies
 

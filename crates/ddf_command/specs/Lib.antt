@@ -1,4 +1,3 @@
 pub mod Run
 pub mod History
-pub mod Members
 pub mod Cut

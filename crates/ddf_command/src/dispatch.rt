@@ -8,14 +8,14 @@ ghost use Rattle.ddf_text.specs.Refusal.{refusal_line};
 ghost use Rattle.ddf_bytes.specs.Counts.{Rose};
 ghost use Rattle.ddf_bytes.specs.Streams.{SinkRose};
 ghost use Rattle.ddf_answer.specs.Call.{answer_of, work_of};
-ghost use Rattle.ddf_answer.specs.Ends.{EndsBy, SomeSlotRose, StreamRose, is_unwritten};
+ghost use Rattle.ddf_answer.specs.Ends.{SomeSlotRose, StreamRose, is_unwritten};
 ghost use Rattle.ddf_answer.specs.Status.{code_of};
 ghost use Rattle.ddf_answer.specs.Tells.{EndsWith};
 ghost use Rattle.ddf_words.specs.Commands.{FitsCommand};
 ghost use Rattle.ddf_words.specs.Traits.{traits_of};
 ghost use Rattle.ddf_words.specs.Words.{words_of, slot_count, GoWrongAt, IsAccepted, IsAsked};
 ghost use Rattle.ddf_write_commands.specs.Payload.{input_of};
-ghost use Rattle.ddf_command.specs.Run.{AsksForNoWrite, IsCommandDone, IsDone, TakesInput, TakesNoInput, is_status};
+ghost use Rattle.ddf_command.specs.Run.{AsksForNoWrite, IsCommandDone, IsDone, IsEnded, TakesInput, TakesNoInput, is_status};
 
 use crate::refusing::refuse_words;
 use ddf_answer::Status;
@@ -31,7 +31,7 @@ use std::alloc::Global;
 
 /// Does what the words ask for, over the bay of the images that they name, and answers the exit status:
 /// 0 done, 1 it is refused, 2 the words are no command's, 3 a call on a disk failed, 4 records of the group contradict each other,
-/// 5 memory ran out, 6 the input or the output failed.
+/// 5 memory ran out, 6 the input or the output failed, 7 the input ended before all of its blocks were written, and those before are.
 pub fn run<B: Bay, S: Source, K: Sink>(
     alloc: Global,
     words: &[String],
@@ -66,7 +66,8 @@ pub fn run<B: Bay, S: Source, K: Sink>(
     ensures complete { (asked : Asked) → IsAsked (words_of words.now) asked → (SomeSlotRose (B.disks bay.old) (B.disks bay.new) → ⊥)
         → (SinkRose (K.output sink.old) (K.output sink.new) → ⊥)
         → ((traits_of asked.command).takes_input ≡ true → Rose (S.input source.old).faults (S.input source.new).faults → ⊥)
-        → (result ≡ 0) ⊎ (result ≡ 5) ⊎ ((result ≡ 1) × ((traits_of asked.command).may_refuse ≡ true)) ⊎ ((result ≡ 4) × ((traits_of asked.command).takes_group ≡ true)) }
+        → (result ≡ 0) ⊎ (result ≡ 5) ⊎ ((result ≡ 1) × ((traits_of asked.command).may_refuse ≡ true)) ⊎ ((result ≡ 4) × ((traits_of asked.command).takes_group ≡ true))
+        ⊎ ((result ≡ 7) × ((traits_of asked.command).takes_input ≡ true)) }
 {
     match asked(alloc, words) {
         Ok(asked) => obey(alloc, asked.group, asked.command, bay, source, sink, &stamp).code(),
@@ -87,7 +88,7 @@ fn obey<B: Bay, S: Source, K: Sink>(
 ) -> Status
     requires { FitsCommand command }
     ensures done { IsCommandDone (work_of B.tells (B.disks bay.old) (B.disks bay.new)) (input_of S.tells (S.input source.old) (S.input source.new)) stamp.now group command (answer_of K.tells (K.output sink.old) (K.output sink.new) (code_of result)) }
-    ensures ends { EndsBy (traits_of command) (work_of B.tells (B.disks bay.old) (B.disks bay.new)) (answer_of K.tells (K.output sink.old) (K.output sink.new) (code_of result))
+    ensures ends { IsEnded (traits_of command) (work_of B.tells (B.disks bay.old) (B.disks bay.new)) (answer_of K.tells (K.output sink.old) (K.output sink.new) (code_of result))
         (StreamRose (traits_of command) (S.input source.old) (S.input source.new) (answer_of K.tells (K.output sink.old) (K.output sink.new) (code_of result))) }
     ensures source { (traits_of command).takes_input ≡ false → source.new ≡ source.old }
 {

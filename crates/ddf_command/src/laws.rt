@@ -31,7 +31,7 @@ ghost use Rattle.ddf_group_commands.specs.Change.{HasChanged, Request};
 ghost use Rattle.ddf_command.specs.Cut.{AreLabelled, Gives, IsLeftByLabel, IsNewLabel};
 ghost use Rattle.ddf_command.specs.History.{GroupCall, IsCall, IsCut, IsEnd, Leaves, OtherCall};
 ghost use Rattle.ddf_disk_commands.specs.Label.{IsTried, label_copy, label_slots};
-ghost use Rattle.ddf_command.specs.Members.{KeepsMembers};
+ghost use Rattle.ddf_stops.specs.Members.{KeepsMembers};
 ghost use Rattle.ddf_group_commands.specs.Others.{LeavesOthers};
 ghost use Rattle.ddf_group_commands.specs.Writing.{IsWrittenOn};
 ghost use Rattle.ddf_answer.specs.declared.failure.Failure.{Failure};

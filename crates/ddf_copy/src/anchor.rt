@@ -1,4 +1,4 @@
-ghost use Rattle.std.specs.Prelude.{◌≡◌, ◌+◌, ◌<◌, ◌≤◌, IfErr, IfOk, Err, false, length, slice_index};
+ghost use Rattle.std.specs.Prelude.{◌≡◌, ◌+◌, ◌<◌, ◌≤◌, IfErr, IfOk, Err, true, false, length, slice_index};
 ghost use Rattle.ddf_bay.specs.Moments.{IsSettled};
 ghost use Rattle.ddf_bay.specs.State.{on_slot};
 ghost use Rattle.ddf_bay.specs.ReadsOnly.{ReadsOnly, LooksAt};
@@ -25,6 +25,7 @@ pub fn anchor_of<B: Bay>(bay: &mut B, slot: usize) -> Result<Header, AnchorFault
     ensures spelled { IfOk result IsAnchor }
     ensures reads { ReadsOnly (B.disks bay.old) (B.disks bay.new) }
     ensures look { LooksAt (B.disks bay.old) (B.disks bay.new) slot (anchor_failed result) }
+    ensures gone { (B.disks bay.old).gone slot → anchor_failed result ≡ true }
     ensures named { IfErr result (IsAnchorFaultOf slot) }
     ensures calls { (B.disks bay.new).calls ≤ (B.disks bay.old).calls + 1 }
     // A slot without sectors is blank only behind a good sync.

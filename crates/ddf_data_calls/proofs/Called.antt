@@ -1,5 +1,5 @@
 -- A call that changes a group keeps its history and its data at once.
-use Rattle.std.proofs.Common.{◌≡◌, ◌⊎◌, ◌∙◌, inl, inr, ⊎_elim, ℕ, ◌+◌, ◌<◌, ◌≤◌, ◌^◌, Bool, false, List, length, Option, Some, Result, Ok, refl, ap, sym, subst, arith}
+use Rattle.std.proofs.Common.{◌≡◌, ◌⊎◌, ◌∙◌, inl, inr, ⊎_elim, ℕ, ◌<◌, ◌≤◌, ◌^◌, Bool, false, List, length, Option, Some, Result, Ok, refl, ap, sym, subst, arith}
 use Rattle.std.specs.Prelude.{option_to_list, slice_get}
 use Rattle.ddf_bay.specs.Moments.{StopsLeave}
 use Rattle.ddf_bay.specs.Sectors.{Image, IsLeft}
@@ -7,7 +7,6 @@ use Rattle.ddf_bay.specs.State.{BayState, on_slot, size_of}
 use Rattle.ddf_config.specs.declared.seat.Seat.{Seat}
 use Rattle.ddf_config.specs.Configuration.{Configuration}
 use Rattle.ddf_copy.specs.declared.newest_copy.Newest.{Newest}
-use Rattle.ddf_copy.specs.Copies.{newest_at}
 use Rattle.ddf_plan.specs.declared.change.Change.{Change}
 use Rattle.ddf_array.specs.Sound.{AreSectors}
 use Rattle.ddf_keeping.specs.Grouped.{Promises}
@@ -16,7 +15,7 @@ use Rattle.ddf_history.specs.Issued.{Past}
 use Rattle.ddf_history.specs.Promise.{IsKept}
 use Rattle.ddf_history.specs.Scenes.{scene_of}
 use Rattle.ddf_assembly.specs.declared.seated.Seated.{Seated}
-use Rattle.ddf_assembly.specs.Group.{GroupValue, copy_at, floor_of, group_of}
+use Rattle.ddf_assembly.specs.Group.{GroupValue, floor_of, group_of}
 use Rattle.ddf_assembly.specs.Ready.{readied}
 use Rattle.ddf_assembly.specs.Recovery.{config_recovered}
 use Rattle.ddf_assembly.specs.Seated.{seated}

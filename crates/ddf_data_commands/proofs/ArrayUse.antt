@@ -1,5 +1,5 @@
 -- An array whose blocks nothing of its records refuses has a view.
-use Rattle.std.proofs.Common.{◌≡◌, ◌∙◌, ◌+◌, ◌&&◌, ◌||◌, ℕ, Bool, true, false, not, List, [], ◌∷◌, Option, Some, None, Ok, Err, ap, refl, subst}
+use Rattle.std.proofs.Common.{◌≡◌, ◌∙◌, ◌+◌, ◌&&◌, ℕ, Bool, true, false, not, List, [], ◌∷◌, Option, Some, None, Ok, Err, ap, refl, subst}
 use Rattle.std.specs.Map.{lookup}
 use Rattle.std.specs.Option.{option_and_then}
 use Rattle.std.specs.Prelude.{nat_lt, option_map}
@@ -23,7 +23,7 @@ use Rattle.ddf_request.specs.Usable.{bad_blocks, useless}
 use Rattle.ddf_answer.specs.declared.failure.Failure.{Failure}
 use Rattle.ddf_answer.specs.declared.failure.Failure.TheVariants.{Conflict, Disk, Memory, Refused, Split}
 use Rattle.ddf_data_commands.specs.declared.using.Access.{Access}
-use Rattle.ddf_data_commands.specs.Use.{IsViewed, MayUse, array_refusals, is_forbidden, is_out_of_range, most_blocks, use_refusal}
+use Rattle.ddf_data_commands.specs.Use.{IsViewed, MayUse, array_refusals, is_forbidden, is_out_of_range, use_refusal}
 
 -- ---- causes in order
 
@@ -52,10 +52,10 @@ none_of_three None None None two one = refl
 
 -- ---- an array that may be used
 
-within_range : (complete passes many : Bool) (capacity : ℕ) → refuse_if (complete && (passes || many)) (Range capacity) ≡ None → refuse_if (not complete) Lost ≡ None → passes ≡ false
-within_range true true many capacity range whole = absurd cc
-within_range true false many capacity range whole = refl
-within_range false passes many capacity range whole = absurd cc
+within_range : (complete passes : Bool) (capacity : ℕ) → refuse_if (complete && passes) (Range capacity) ≡ None → refuse_if (not complete) Lost ≡ None → passes ≡ false
+within_range true true capacity range whole = absurd cc
+within_range true false capacity range whole = refl
+within_range false passes capacity range whole = absurd cc
 
 named_by : (arrays : List (List ℕ × Array)) (guid : List ℕ) (entry : List ℕ × Array) (found : Option Array) → lookup (same_guid guid) arrays ≡ found
     → option_map (λ array. (guid, array)) found ≡ Some entry → lookup (same_guid entry.0) arrays ≡ Some entry.1
@@ -81,7 +81,7 @@ module _ (access : Access) (config : Configuration) (seats : List Seat) (start c
 
   -- its blocks don't pass the capacity
   pub range_of : nat_lt (array_capacity array) (start + count) ≡ false
-  range_of = within_range (is_complete array) (nat_lt (array_capacity array) (start + count)) (nat_lt most_blocks count) (array_capacity array) passed.1 passed.2
+  range_of = within_range (is_complete array) (nat_lt (array_capacity array) (start + count)) (array_capacity array) passed.1 passed.2
 
   -- it has a view
   pub viewable : (guid : List ℕ) → lookup (same_guid guid) config.arrays ≡ Some array → (v : Volume) × (view_of config guid seats ≡ Ok v)

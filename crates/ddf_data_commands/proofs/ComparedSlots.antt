@@ -10,7 +10,7 @@ use Rattle.ddf_array.specs.Cells.{block_spots, element_cells}
 use Rattle.ddf_array.specs.Levels.{keeps_parity}
 use Rattle.ddf_array.specs.Places.{site, site_at, site_on}
 use Rattle.ddf_array.specs.Sources.{Source, all_of, at_spot, copies, copy, element_copies, element_rows, other_positions, row, row_without, rows}
-use Rattle.ddf_array.specs.Volume.{Fits, PartFits, Volume}
+use Rattle.ddf_array.specs.Volume.{Fits, Volume}
 use Rattle.ddf_array.proofs.Consistent.{in_filter, in_flat, in_map}
 use Rattle.ddf_volume.specs.Reading.{HasSite, HasSlot}
 use Rattle.ddf_resync.specs.Compared.{IsCompared}

@@ -1,6 +1,5 @@
 -- What comes of a scrub, and how it ends.
-use Rattle.std.proofs.Common.{◌≡◌, ◌⊎◌, ◌∙◌, ℕ, ◌<◌, ◌≤◌, Bool, true, false, not, List, [], ◌∷◌, ◌++◌, length, Option, Some, None, Result, Ok, Err, if◌then◌else◌, inl, inr, ⊎_elim, refl, sym, ap, subst}
-use Rattle.std.specs.Map.{lookup}
+use Rattle.std.proofs.Common.{◌≡◌, ◌⊎◌, ◌∙◌, ℕ, ◌<◌, ◌≤◌, Bool, true, not, List, [], ◌∷◌, length, Option, Some, None, Result, Ok, Err, inl, inr, ⊎_elim, refl, sym, ap, subst}
 use Rattle.std.specs.Option.{option_or}
 use Rattle.ddf_bytes.specs.Streams.{SinkRose, SinkState}
 use Rattle.ddf_bay.specs.ReadsOnly.{ReadsOnly}
@@ -11,12 +10,11 @@ use Rattle.ddf_config.specs.declared.refusal.Refusal.{Refusal}
 use Rattle.ddf_config.specs.declared.refusal.Refusal.TheVariants.{Lost}
 use Rattle.ddf_config.specs.declared.seat.Seat.{Seat}
 use Rattle.ddf_config.specs.Configuration.{Configuration}
-use Rattle.ddf_config.specs.Members.{same_guid}
 use Rattle.ddf_config.specs.Refusals.{first_refusal, refuse_if}
 use Rattle.ddf_config.proofs.Firsts.{first_append}
 use Rattle.ddf_array.specs.Sound.{AreSectors}
 use Rattle.ddf_array.specs.Viewing.{is_array_within}
-use Rattle.ddf_array.specs.Volume.{Fits, Volume}
+use Rattle.ddf_array.specs.Volume.{Volume}
 use Rattle.ddf_array.specs.Within.{is_within}
 use Rattle.ddf_array.proofs.Told.{told_within}
 use Rattle.ddf_volume.specs.declared.fault.VolumeFault.{VolumeFault}
@@ -39,7 +37,7 @@ use Rattle.ddf_answer.specs.Ends.{Ends, HasCause, SomeSlotRose}
 use Rattle.ddf_answer.proofs.Causes.{contradicted_told, fault_told, memory_cause, no_disk, refused_told, short_cause}
 use Rattle.ddf_answer.proofs.Rises.{rose_later}
 use Rattle.ddf_data_commands.specs.declared.using.Access.TheVariants.{Reads}
-use Rattle.ddf_data_commands.specs.Scrub.{IsArrayScrubbed, IsScrubDone, IsScrubIn, IsScrubOf, IsScrubStopped, IsScrubTold, scrub_refusal}
+use Rattle.ddf_data_commands.specs.Scrub.{IsScrubDone, IsScrubIn, IsScrubOf, IsScrubTold, scrub_refusal}
 use Rattle.ddf_data_commands.specs.Use.{IsUsable, MayUse, array_refusals, failure_of_volume, use_refusal}
 use Rattle.ddf_data_commands.proofs.ArrayUse.{named_is}
 

@@ -1,4 +1,3 @@
 pub mod Use
 pub mod Read
 pub mod Scrub
-pub mod Pieces

@@ -1,6 +1,5 @@
 -- What `read` tells, and how it ends.
 use Rattle.std.specs.Prelude.{◌≡◌, ◌⊎◌, ℕ, ◌+◌, ◌-◌, ◌%◌, ◌<◌, ◌≤◌, Bool, false, not, List, [], ◌∷◌, ◌++◌, length, min, Option, Some, None, Result, Ok, Err, IsTrue, slice_index_or}
-use Rattle.std.specs.List.{flat_map}
 use Rattle.ddf_bytes.specs.Streams.{TakesFront}
 use Rattle.ddf_bay.specs.ReadsOnly.{LookFailed}
 use Rattle.ddf_copy.specs.declared.newest_copy.Newest.{Newest}
@@ -15,6 +14,7 @@ use Rattle.ddf_array.specs.Volume.{Volume}
 use Rattle.ddf_volume.specs.Given.{AreGiven, AreValues, NoneLeftIn}
 use Rattle.ddf_volume.specs.Reading.{Failed, IsOn, NoneFailed}
 use Rattle.ddf_volume.specs.Refused.{is_unsure}
+pub use Rattle.ddf_pieces.specs.Pieces.{bytes_of, piece_blocks}
 use Rattle.ddf_group.specs.declared.answer.Assembly.{Assembly}
 use Rattle.ddf_assembly.specs.Group.{GroupValue, group_of}
 use Rattle.ddf_assembly.specs.Slots.{newest_from}
@@ -26,10 +26,6 @@ use Rattle.ddf_data_commands.specs.declared.using.Access.TheVariants.{Reads}
 use Rattle.ddf_data_commands.specs.Use.{array_refusals}
 use Rattle.ddf_answer.specs.Call.{Answer, Work}
 use Rattle.ddf_answer.specs.Tells.{EndedWith}
-
--- the blocks of a piece: so many are read and printed, and then the next (profile)
-abbrev pub piece_blocks : ℕ
-piece_blocks = 128
 
 -- ---- what it is refused for
 
@@ -132,10 +128,6 @@ pub record HasRead {D : Type 0} (work : Work D) (named : Option (List ℕ)) (wor
   pub gives : IsReadIn work word start count (group_of newest named) outcome
 
 -- ---- what it tells
-
--- the bytes of sectors
-abbrev pub bytes_of : List (List ℕ) → List ℕ
-bytes_of sectors = flat_map (λ sector. sector) sectors
 
 -- what is told: the bytes of the blocks alone; why there are none; the bytes of the first blocks alone; a front of these
 abbrev pub IsReadTold : Outcome → Answer → Type 0

@@ -1,5 +1,5 @@
 -- What `scrub` tells, and how it ends.
-use Rattle.std.specs.Prelude.{◌≡◌, ◌⊎◌, ℕ, ◌<◌, Bool, false, true, not, List, [], ◌∷◌, ◌++◌, length, Option, Some, None, Result, Ok, Err, IsTrue, slice_index_or, codes}
+use Rattle.std.specs.Prelude.{◌≡◌, ◌⊎◌, ℕ, ◌<◌, Bool, false, not, List, [], ◌∷◌, ◌++◌, length, Option, Some, None, Result, Ok, Err, IsTrue, slice_index_or, codes}
 use Rattle.std.specs.Fmt.{decimal}
 use Rattle.ddf_bay.specs.ReadsOnly.{LookFailed}
 use Rattle.ddf_copy.specs.declared.newest_copy.Newest.{Newest}

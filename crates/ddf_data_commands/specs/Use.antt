@@ -1,5 +1,5 @@
 -- The use of an array's blocks, and what it is refused for.
-use Rattle.std.specs.Prelude.{◌≡◌, ℕ, ◌+◌, Bool, not, ◌&&◌, ◌||◌, nat_lt, List, [], ◌∷◌, Option, Some, None, Result, Ok, Err}
+use Rattle.std.specs.Prelude.{◌≡◌, ℕ, ◌+◌, Bool, not, ◌&&◌, nat_lt, List, [], ◌∷◌, Option, Some, None, Result, Ok, Err}
 use Rattle.ddf_config.specs.declared.array.Array.{Array}
 use Rattle.ddf_config.specs.declared.refusal.Refusal.{Refusal}
 use Rattle.ddf_config.specs.declared.refusal.Refusal.TheVariants.{Degraded, Held, Lost, NoArray, Range, Unsure}
@@ -19,13 +19,9 @@ use Rattle.ddf_answer.specs.declared.failure.Failure.TheVariants.{Conflict, Disk
 use Rattle.ddf_data_commands.specs.declared.using.Access.{Access}
 use Rattle.ddf_data_commands.specs.declared.using.Access.TheVariants.{Reads, Writes}
 
--- the most blocks of one command (profile)
-abbrev pub most_blocks : ℕ
-most_blocks = 2048
-
--- blocks pass the capacity, or are too many; of an array that isn't complete that can't be told
+-- blocks pass the capacity; of an array that isn't complete that can't be told
 abbrev pub is_out_of_range : Array → (start count : ℕ) → Bool
-is_out_of_range array start count = is_complete array && (nat_lt (array_capacity array) (start + count) || nat_lt most_blocks count)
+is_out_of_range array start count = is_complete array && nat_lt (array_capacity array) (start + count)
 
 -- its state or its access bits forbid it
 abbrev pub is_forbidden : Access → Array → Bool

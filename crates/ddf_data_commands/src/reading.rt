@@ -1,5 +1,5 @@
 // `read`: blocks of an array.
-ghost use Rattle.std.specs.Prelude.{◌≡◌, ◌+◌, ◌<◌, ◌^◌, None, IfOk, OnOk};
+ghost use Rattle.std.specs.Prelude.{◌≡◌, None, IfOk};
 ghost use Rattle.ddf_bytes.specs.Streams.{SinkRose};
 ghost use Rattle.ddf_config.specs.Seats.{SeatsFit};
 ghost use Rattle.ddf_volume.specs.Reading.{OnlyReads};
@@ -72,7 +72,6 @@ fn readable(
 ) -> Result<View, Failure>
     ensures may { MayRead config.now seats.now name.now start count result }
     ensures accepted { IfOk result (λ view. volume.read_refusal view start count ≡ None) }
-    ensures small { OnOk result (start + count < 2 ^ 64) }
 {
     let (_, view) = usable(alloc, config, seats, name, start, count, Access::Reads)?;
     match read_refusal(&view, start, count as usize) {

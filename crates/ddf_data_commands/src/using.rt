@@ -13,9 +13,6 @@ use ddf_request::{bad_blocks, is_held, is_held_from_writes, named_array, useless
 use ddf_volume::{View, ViewFault, VolumeFault};
 use std::alloc::Global;
 
-/// The most blocks of one command (profile).
-const MOST_BLOCKS: u64 = 2048;
-
 /// What is done with the blocks of an array.
 #[derive(Clone, Copy)]
 pub enum Access {
@@ -28,9 +25,8 @@ pub enum Access {
 /// The array that a word names, by its GUID, with the view of it: nothing of its records refuses that these blocks of it are used so.
 ///
 /// # Errors
-/// `Refused`, in order: `NoArray` where no array has the name; a level isn't served; the numbers make no array; the range passes the capacity,
-/// or the blocks are more than 2048; a disk of it has bad blocks; its state or its access bits forbid it; an element of it is unknown. `Memory`
-/// where memory ran out.
+/// `Refused`, in order: `NoArray` where no array has the name; a level isn't served; the numbers make no array; the range passes the capacity;
+/// a disk of it has bad blocks; its state or its access bits forbid it; an element of it is unknown. `Memory` where memory ran out.
 pub fn usable(
     alloc: Global,
     config: &Config,
@@ -116,12 +112,12 @@ fn is_forbidden(array: &Array, access: Access) -> bool
     }
 }
 
-/// Whether blocks pass the capacity of an array, or are too many. Of an array that isn't complete that can't be told.
+/// Whether blocks pass the capacity of an array. Of one that isn't complete that can't be told.
 fn is_out_of_range(array: &Array, capacity: u64, start: u64, count: u64) -> bool
     requires { capacity ≡ array_capacity array.now }
     ensures { result ≡ is_out_of_range array.now start count }
 {
-    array.is_complete() && (passes(capacity, start, count) || count > MOST_BLOCKS)
+    array.is_complete() && passes(capacity, start, count)
 }
 
 fn passes(capacity: u64, start: u64, count: u64) -> bool

@@ -30,7 +30,9 @@ use Rattle.std.specs.Prelude.{option_to_list}
 use Rattle.ddf_bay.specs.Moments.{StopsLeave}
 use Rattle.ddf_assembly.specs.Ready.{readied}
 use Rattle.ddf_write_commands.specs.Resync.{resync_behind}
-use Rattle.ddf_write_commands.specs.Write.{write_behind}
+use Rattle.ddf_assembly.specs.Group.{group_of}
+use Rattle.ddf_write_commands.specs.Along.{GoesAlong}
+use Rattle.ddf_write_commands.specs.Write.{is_written, write_behind, write_request, writing}
 use Rattle.ddf_data_calls.specs.Floors.{HaveFloorsIn}
 use Rattle.ddf_block_calls.proofs.Accepted.{mark_of}
 use Rattle.ddf_data_history.proofs.Floors.{by_held}
@@ -97,31 +99,38 @@ module _ {B : Type 0} {tells : Type 0} (told : tells) (disks : B → BayState B)
 
   -- ---- `write`
 
+  write_along : (call : WriteCall told disks tells_bytes streams guid old)
+      → GoesAlong (writing call.start call.sectors) (work_of tells (disks old.bay) (disks call.exit)) call.wrote.taken.left call.timestamp call.word (write_request call.word call.start call.count) (is_written call.outcome)
+      (group_of call.wrote.taken.newest call.named)
+  write_along call =
+      writes.given_along (work_of tells (disks old.bay) (disks call.exit)) (input_of tells_bytes (streams call.source_old) (streams call.source_new)) call.timestamp call.word call.start call.count call.wrote.taken.left (group_of call.wrote.taken.newest call.named) call.sectors call.outcome call.given
+      (call.wrote.along told)
+
   pub write_keeps : (call : WriteCall told disks tells_bytes streams guid old) → KeepsBoth guid (disks old.bay) (disks call.exit) old.floor
       (Goes guid old.past (is_read call.wrote.taken.left) call.finds.found (changes_in call.finds.found (call.plan.first ++ call.plan.last)))
-      (Ends guid old.past (is_read call.wrote.taken.left) call.finds.found (changes_in call.finds.found (call.plan.first ++ call.plan.last)) (is_done call.worked))
-      (MayBeWritten call.plan.entry.0 call.start call.sectors old.promises) (IsWrittenOf (is_done call.worked) call.plan.entry.0 call.start call.sectors old.promises)
+      (Ends guid old.past (is_read call.wrote.taken.left) call.finds.found (changes_in call.finds.found (call.plan.first ++ call.plan.last)) (is_written call.outcome))
+      (MayBeWritten call.plan.entry.0 call.start call.sectors old.promises) (IsWrittenOf (is_written call.outcome) call.plan.entry.0 call.start call.sectors old.promises)
   write_keeps call =
       writes.both_kept tells told (disks old.bay) (disks call.exit) guid old.past old.floor old.small old.promises (input_of tells_bytes (streams call.source_old) (streams call.source_new))
-      call.named call.timestamp call.word call.start call.count call.sectors call.worked call.wrote call.finds.found
+      call.named call.timestamp call.word call.start call.count call.sectors call.outcome call.wrote call.finds.found
       call.finds.is_found call.finds.own (admits call.wrote.taken.left call.wrote.taken.newest call.named call.finds) (are.held old.bay call.finds.tells_left)
       (held_sectors disks are old.bay call.finds.tells_left) call.plan (λ image left. sectors disks are call.exit image left)
-      (call.wrote.along told call.finds.found call.finds.is_found call.plan guid call.finds.own old.past all.shows call.finds.admitted)
+      (write_along call call.finds.found call.finds.is_found call.plan guid call.finds.own old.past all.shows call.finds.admitted)
 
   -- The disks of members keep their floors.
   pub write_floors : (call : WriteCall told disks tells_bytes streams guid old) → StopsLeave (disks old.bay) (disks call.exit) (λ image. HaveFloorsIn guid old.past (disks old.bay).sizes image old.floor)
   write_floors call =
       writes.floors_kept tells told (disks old.bay) (disks call.exit) guid old.past old.floor old.small old.promises (input_of tells_bytes (streams call.source_old) (streams call.source_new))
-      call.named call.timestamp call.word call.start call.count call.sectors call.worked call.wrote call.finds.found
+      call.named call.timestamp call.word call.start call.count call.sectors call.outcome call.wrote call.finds.found
       call.finds.is_found call.finds.own (admits call.wrote.taken.left call.wrote.taken.newest call.named call.finds) (are.held old.bay call.finds.tells_left)
       (held_sectors disks are old.bay call.finds.tells_left) call.plan (λ image left. sectors disks are call.exit image left) all.floored
-      (call.wrote.along told call.finds.found call.finds.is_found call.plan guid call.finds.own old.past all.shows call.finds.admitted)
+      (write_along call call.finds.found call.finds.is_found call.plan guid call.finds.own old.past all.shows call.finds.admitted)
 
   pub write_readied : (call : WriteCall told disks tells_bytes streams guid old)
       → readied call.finds.found (option_to_list (mark_of call.plan.entry) ++ write_behind call.plan.entry) call.timestamp ≡ Ok (call.plan.first ++ call.plan.last)
   write_readied call =
       writes.are_readied tells told (disks old.bay) (disks call.exit) guid old.past old.floor old.small old.promises (input_of tells_bytes (streams call.source_old) (streams call.source_new))
-      call.named call.timestamp call.word call.start call.count call.sectors call.worked call.wrote call.finds.found
+      call.named call.timestamp call.word call.start call.count call.sectors call.outcome call.wrote call.finds.found
       call.finds.is_found call.finds.own (admits call.wrote.taken.left call.wrote.taken.newest call.named call.finds) (are.held old.bay call.finds.tells_left)
       (held_sectors disks are old.bay call.finds.tells_left) call.plan (λ image left. sectors disks are call.exit image left)
 

@@ -19,7 +19,7 @@ use Rattle.ddf_stops.specs.Kept.{is_read, is_slot}
 use Rattle.ddf_stops.proofs.Acked.{ends_keeps, goes_keeps}
 use Rattle.ddf_group_commands.specs.Change.{is_done}
 use Rattle.ddf_write_commands.specs.Resync.{resync_behind}
-use Rattle.ddf_write_commands.specs.Write.{write_behind}
+use Rattle.ddf_write_commands.specs.Write.{is_written, write_behind}
 use Rattle.ddf_data_calls.specs.Calls.{AreBoth, IsBoth, KeepsBoth}
 use Rattle.ddf_data_calls.specs.Floors.{HaveFloorsIn}
 use Rattle.ddf_block_calls.proofs.Accepted.{mark_of}
@@ -136,7 +136,7 @@ module _ {B : Type 0} {tells : Type 0} (told : tells) (disks : B → BayState B)
       (resync_readied told disks tells_bytes streams guid are old all call) (is_done call.outcome) end (disks old.bay).sizes image old.floor (moment_floors (Resyncs call) image was_left)
   ends_floored (Writes call) now end image was_left =
       floors_go guid old.past now (is_read call.wrote.taken.left) call.finds.found (option_to_list (mark_of call.plan.entry) ++ write_behind call.plan.entry) call.timestamp (call.plan.first ++ call.plan.last)
-      (write_readied told disks tells_bytes streams guid are old all call) (is_done call.worked) end (disks old.bay).sizes image old.floor (moment_floors (Writes call) image was_left)
+      (write_readied told disks tells_bytes streams guid are old all call) (is_written call.outcome) end (disks old.bay).sizes image old.floor (moment_floors (Writes call) image was_left)
   ends_floored (Rebuilds call) now end image was_left =
       floors_go guid old.past now (is_read call.rebuilt.taken.left) call.finds.found (rebuild_readied told disks tells_bytes streams guid are old all call).0 call.timestamp
       call.steps (rebuild_readied told disks tells_bytes streams guid are old all call).1 (is_done call.outcome) end (disks old.bay).sizes image old.floor
@@ -177,7 +177,7 @@ module _ {B : Type 0} {tells : Type 0} (told : tells) (disks : B → BayState B)
   ends_acked (Resyncs call) now end =
       ends_keeps guid old.past now (is_read call.resynced.taken.left) call.finds.found (changes_in call.finds.found (call.plan.first ++ call.plan.last)) (is_done call.outcome) end
   ends_acked (Writes call) now end =
-      ends_keeps guid old.past now (is_read call.wrote.taken.left) call.finds.found (changes_in call.finds.found (call.plan.first ++ call.plan.last)) (is_done call.worked) end
+      ends_keeps guid old.past now (is_read call.wrote.taken.left) call.finds.found (changes_in call.finds.found (call.plan.first ++ call.plan.last)) (is_written call.outcome) end
   ends_acked (Rebuilds call) now end =
       ends_keeps guid old.past now (is_read call.rebuilt.taken.left) call.finds.found (changes_in call.finds.found call.steps) (is_done call.outcome) end
   ends_acked (Reads exit reads) now end = none_issued now end

@@ -16,7 +16,7 @@ use Rattle.ddf_stops.specs.Floors.{HasFloor}
 use Rattle.ddf_stops.specs.Going.{Ends, changes_in}
 use Rattle.ddf_stops.proofs.SlotsKept.{ends_slots}
 use Rattle.ddf_data_calls.specs.Floors.{AllHaveFloors, HaveFloors, HaveFloorsIn}
-use Rattle.ddf_command.proofs.MembersKept.{had}
+use Rattle.ddf_stops.proofs.MembersKept.{had}
 use Rattle.ddf_data_history.proofs.Bays.{AreBays}
 
 module _ (guid : List ℕ) where

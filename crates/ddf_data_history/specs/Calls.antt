@@ -25,13 +25,12 @@ use Rattle.ddf_group_commands.specs.Change.{HasChanged, Request, is_done, steps_
 use Rattle.ddf_write_commands.specs.Payload.{input_of}
 use Rattle.ddf_write_commands.specs.Planned.{IsPlanned}
 use Rattle.ddf_write_commands.specs.Resync.{HasResyncedArray, resync_request}
-use Rattle.ddf_write_commands.specs.Write.{HasWrittenArray, write_request}
-use Rattle.ddf_write_commands.specs.Write.Outcome.{Taken}
+use Rattle.ddf_write_commands.specs.Write.{HasWrittenArray, Outcome, is_written, write_request}
 use Rattle.ddf_rebuild_command.specs.Asked.{rebuild_request}
 use Rattle.ddf_rebuild_command.specs.Rebuilt.{HasRebuiltArray}
 use Rattle.ddf_data_calls.specs.Calls.{MayAsk}
 use Rattle.ddf_block_calls.specs.Agreed.{DoDisksAgree}
-use Rattle.ddf_block_calls.specs.Promised.{IsWrittenOf, MayBeWritten, counted}
+use Rattle.ddf_block_calls.specs.Promised.{HasGiven, IsWrittenOf, MayBeWritten, counted}
 use Rattle.ddf_command.specs.History.{OtherCall as CallBeside}
 use Rattle.ddf_data_history.specs.Moments.{Moment}
 
@@ -97,7 +96,7 @@ module _ {B : Type 0} {tells : Type 0} (told : tells) (disks : B → BayState B)
   once_resynced {old = old} call true = counted call.plan.entry.0 call.plan.volume (disks call.exit).held old.promises
   once_resynced {old = old} call false = old.promises
 
-  -- A call of `write` that took its bytes, and wasn't refused.
+  -- A call of `write` that took bytes, all of its blocks or of the first pieces, and wasn't refused.
   pub record WriteCall (old : Moment guid B) : Type 0 where
     pub exit : B
     pub source_old : S
@@ -108,8 +107,9 @@ module _ {B : Type 0} {tells : Type 0} (told : tells) (disks : B → BayState B)
     pub start : ℕ
     pub count : ℕ
     pub sectors : List (List ℕ)
-    pub worked : Result ℕ Failure
-    pub wrote : HasWrittenArray (work_of tells (disks old.bay) (disks exit)) (input_of tells_bytes (streams source_old) (streams source_new)) named timestamp word start count (Taken sectors worked)
+    pub outcome : Outcome
+    pub given : HasGiven outcome sectors
+    pub wrote : HasWrittenArray (work_of tells (disks old.bay) (disks exit)) (input_of tells_bytes (streams source_old) (streams source_new)) named timestamp word start count outcome
     pub finds : Finds old wrote.taken.left wrote.taken.newest named
     pub plan : IsPlanned finds.found timestamp word (write_request word start count)
 
@@ -182,7 +182,7 @@ module _ {B : Type 0} {tells : Type 0} (told : tells) (disks : B → BayState B)
     EndsAt (Accepts accept) now =
         Ends guid old.past (is_read accept.call.changed.taken.left) accept.call.finds.found (changes_in accept.call.finds.found accept.call.steps) (is_done accept.call.outcome) now
     EndsAt (Resyncs call) now = Ends guid old.past (is_read call.resynced.taken.left) call.finds.found (changes_in call.finds.found (call.plan.first ++ call.plan.last)) (is_done call.outcome) now
-    EndsAt (Writes call) now = Ends guid old.past (is_read call.wrote.taken.left) call.finds.found (changes_in call.finds.found (call.plan.first ++ call.plan.last)) (is_done call.worked) now
+    EndsAt (Writes call) now = Ends guid old.past (is_read call.wrote.taken.left) call.finds.found (changes_in call.finds.found (call.plan.first ++ call.plan.last)) (is_written call.outcome) now
     EndsAt (Rebuilds call) now = Ends guid old.past (is_read call.rebuilt.taken.left) call.finds.found (changes_in call.finds.found call.steps) (is_done call.outcome) now
     EndsAt (Others call) now = now ≡ old.past
     EndsAt (Reads exit reads) now = now ≡ old.past
@@ -191,7 +191,7 @@ module _ {B : Type 0} {tells : Type 0} (told : tells) (disks : B → BayState B)
     PromisesThen (Changes call) promised = promised ≡ once_changed call.change (is_done call.outcome) old.promises
     PromisesThen (Accepts accept) promised = promised ≡ once_accepted accept (is_done accept.call.outcome)
     PromisesThen (Resyncs call) promised = promised ≡ once_resynced call (call.counts && is_done call.outcome)
-    PromisesThen (Writes call) promised = IsWrittenOf (is_done call.worked) call.plan.entry.0 call.start call.sectors old.promises promised
+    PromisesThen (Writes call) promised = IsWrittenOf (is_written call.outcome) call.plan.entry.0 call.start call.sectors old.promises promised
     PromisesThen (Rebuilds call) promised = Stays old.promises promised
     PromisesThen (Others call) promised = Stays old.promises promised
     PromisesThen (Reads exit reads) promised = Stays old.promises promised

@@ -62,12 +62,16 @@ fn tell_unlocked<R: Eprint>(rt: &R, slot: usize, path: &str, why: io::Error) {
     );
 }
 
-/// Claims a disk, or answers why it can't be locked. One that is in use is an error.
+/// Claims a disk, or answers why it can't be locked. One that is in use is an error, and so is a character device, which is no disk.
 fn claim<R>(rt: &R, file: &File, wanted: Use) -> io::Result<Option<io::Error>>
 where
     R: Files<File = File> + AllocGlobal + Clone + Drop,
 {
     let metadata = file.metadata()?;
+    if metadata.file_type().is_char_device() {
+        let message = "it is a character device";
+        return Err(io::Error::new(ErrorKind::InvalidInput, message));
+    }
     let unlocked = lock(file, &metadata, wanted)?;
     if wanted == Use::Write {
         if let Some(message) = use_of(rt, &metadata)? {

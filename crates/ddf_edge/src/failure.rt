@@ -18,7 +18,7 @@ pub enum Failure {
     Memory,
     /// The output failed, and nothing was written to a disk.
     Stream,
-    /// The input of a command that takes bytes from it failed: it is read before anything is written.
+    /// The input of a command that takes bytes from it failed: before anything was written, or behind pieces that are written.
     Input,
     /// The output failed at the end of a command that may write to disks.
     StreamBehind,
@@ -59,7 +59,10 @@ impl fmt::Display for Failure {
         match self {
             Failure::Memory => write!(f, "memory ran out"),
             Failure::Stream => write!(f, "the output failed"),
-            Failure::Input => write!(f, "standard input failed, and nothing was written"),
+            Failure::Input => write!(
+                f,
+                "standard input failed: nothing was written, or whole pieces of 2048 blocks were; show tells of a mark"
+            ),
             Failure::StreamBehind => write!(
                 f,
                 "the output failed: what was asked for may have been done; show tells"

@@ -19,10 +19,10 @@ Commands:
                    and what is absent or behind; nothing is recovered or written
   read NAME START COUNT
                    print the bytes of so many blocks of an array, from one on, and
-                   nothing else: at most 2048 of 512 bytes each; nothing is written
+                   nothing else: 512 of each; nothing is written
   write NAME START COUNT
                    give so many blocks of an array, from one on, the bytes of standard
-                   input: at most 2048 of 512 bytes each
+                   input, 512 for each; where it ends early the first are written
   scrub NAME       tell whether the copies and the parity of an array agree, or the
                    first row that doesn't; nothing is written
   accept NAME      take the copies and the parity of a marked array to agree, on
@@ -55,7 +55,8 @@ touched. A program that holds a disk in another way isn't found.
 
 Exit status: 0 done, 1 refused, 2 words that are no command's, 3 a disk failed,
 4 records of the group contradict each other, 5 no memory, 6 the input or the output
-failed, or there was no chance for new names. At 1, 2, 4 and 5 nothing was written.
+failed, or there was no chance for new names, 7 the input of write ended early, and the
+first blocks are written. At 1, 2, 4 and 5 nothing was written.
 ";
 
 const VERSION: &str = "ddf 0.1.0\n";

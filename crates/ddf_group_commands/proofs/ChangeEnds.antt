@@ -1,5 +1,5 @@
 -- How a command that changes or recovers a group ends.
-use Rattle.std.proofs.Common.{◌≡◌, ◌⊎◌, inl, inr, ⊎_elim, ℕ, true, Option, Result, Ok, Err, refl, List}
+use Rattle.std.proofs.Common.{◌≡◌, ◌⊎◌, inl, inr, ⊎_elim, ℕ, true, Option, Result, Ok, Err, refl, List, arith}
 use Rattle.std.specs.Prelude.{IsTrue}
 use Rattle.ddf_bay.specs.State.{BayState}
 use Rattle.ddf_bay.specs.ReadsOnly.{ReadsOnly}
@@ -107,6 +107,8 @@ spent_first old tells named timestamp request looked = record {
     keeps = λ told found is steps asked. reads_keep old old looked.left found steps (reads_start old);
   };
   seen = λ slot below kept. refl;
+  gone = λ given. absurd (given refl);
+  calls = omega arith;
   gives = nothing_in old tells timestamp request (group_of (newest_from old 0 looked.left) named);
   leaves = λ told found is steps asked. reads_leave old old steps (reads_start old);
 }

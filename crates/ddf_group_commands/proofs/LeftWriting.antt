@@ -6,7 +6,7 @@ use Rattle.ddf_bay.specs.Moments.{StopsLeave}
 use Rattle.ddf_bay.specs.ReadsOnly.{ReadsOnly}
 use Rattle.ddf_bay.specs.Sectors.{Image, IsLeft}
 use Rattle.ddf_bay.specs.State.{BayState, size_of}
-use Rattle.ddf_bay.proofs.Steps.{left_keeps, stops_then, stops_weaken}
+use Rattle.ddf_bay.proofs.Steps.{stops_then, stops_weaken}
 use Rattle.ddf_copy.specs.declared.copy.DiskCopy.{DiskCopy}
 use Rattle.ddf_plan.specs.declared.change.Change.{Change}
 use Rattle.ddf_rewrite.proofs.Lists.{map_get}

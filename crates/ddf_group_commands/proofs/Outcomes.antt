@@ -1,5 +1,5 @@
 -- What a command that changes a group comes to.
-use Rattle.std.proofs.Common.{◌≡◌, ◌⊎◌, ℕ, suc, ◌≤◌, Bool, false, [], ◌∷◌, List, length, Option, Result, Ok, Err, refl, sym, ap, subst, ◌∙◌, inl, inr, ⊎_elim, arith}
+use Rattle.std.proofs.Common.{◌≡◌, ◌⊎◌, ℕ, suc, ◌+◌, ◌*◌, ◌≤◌, Bool, false, [], ◌∷◌, List, length, Option, Result, Ok, Err, refl, sym, ap, subst, ◌∙◌, inl, inr, ⊎_elim, arith}
 use Rattle.ddf_bay.specs.State.{BayState}
 use Rattle.ddf_bay.specs.Moments.{StopsLeave}
 use Rattle.ddf_bay.specs.ReadsOnly.{ReadsOnly}
@@ -88,6 +88,15 @@ pub asked_of : (answer : Result (List Step) GroupFault) (steps : List Step) → 
 asked_of (Ok all) steps is = let same : all ≡ steps = cc in ap (λ (one : List Step). Ok one) same
 asked_of (Err fault) steps is = absurd cc
 
+-- So they are readied for some changes.
+pub record AreReadied (found : GroupValue) (timestamp : ℕ) (steps : List Step) : Type 0 where
+  pub changes : List Change
+  pub is : readied found changes timestamp ≡ Ok steps
+
+pub readied_by : (found : GroupValue) (timestamp : ℕ) (asked : Result (List Change) Refusal) (steps : List Step) → steps_asked found timestamp asked ≡ Ok steps → AreReadied found timestamp steps
+readied_by found timestamp (Ok changes) steps is = record { changes = changes; is = asked_of (readied found changes timestamp) steps is }
+readied_by found timestamp (Err refusal) steps is = absurd cc
+
 -- Changes that aren't made write nothing.
 pub not_readied : {D : Type 0} (work : Work D) (group : GroupValue) (answer : Result (List Step) GroupFault) (fault : GroupFault) → IsReadied (Err fault) answer → ReadsOnly work.old work.new
     → IsChanged work group (steps_or answer) (Err (failure_of_group fault))
@@ -125,6 +134,9 @@ takes_reading work named timestamp request found read reads = record {
   keeps = λ told one is steps asked. reads_keep work.old work.new read.left one steps reads;
 }
 
+memory_told : (failure : Failure) → ◌≡◌ {A = Result GroupValue Failure} (Err failure) (Err Memory) → ◌≡◌ {A = Result ℕ Failure} (Err failure) (Err Memory)
+memory_told failure spent = let same : failure ≡ Memory = cc in ap (λ (one : Failure). Err one) same
+
 -- where there is none, or memory ran out
 pub none_read : {D : Type 0} (work : Work D) (named : Option (List ℕ)) (timestamp : ℕ) (request : Request) (failure : Failure) → IsGroupRead work named (Err failure)
     → ReadsOnly work.old work.new → HasChanged work named timestamp request (Err failure)
@@ -132,6 +144,8 @@ unfolding takes_reading
 none_read work named timestamp request failure read reads = record {
   taken = takes_reading work named timestamp request (Err failure) read reads;
   seen = λ slot below kept. (read.seen slot below kept).0;
+  gone = λ given. read.gone (λ spent. given (memory_told failure spent));
+  calls = let most = read.calls in omega (arith, most);
   gives = none_in work timestamp request (group_of read.newest named) failure reads read.answer;
   leaves = λ told found is steps asked. reads_leave work.old work.new steps reads;
 }
@@ -145,6 +159,8 @@ module _ {D : Type 0} (work : Work D) (named : Option (List ℕ)) (timestamp : �
   unwritten failure is = record {
     taken = takes_reading work named timestamp request (Ok group) read reads;
     seen = λ slot below kept. (read.seen slot below kept).0;
+    gone = λ given. read.gone (λ spent. absurd cc);
+    calls = let most = read.calls in omega (arith, most);
     gives = subst (λ (one : Result GroupValue Assembly). IsChangedIn work timestamp request one (Err failure)) (sym (group_read work named group read)) is;
     leaves = λ told found is steps asked. reads_leave work.old work.new steps reads;
   }
@@ -178,6 +194,7 @@ pub record HasWritten {D : Type 0} (tells : Type 0) (middle new : BayState D) (g
   pub keeps : tells → (left : List Bool) (named : Option (List ℕ)) → IsFoundBy middle left named group → (steps : List Step) → readied group changes timestamp ≡ Ok steps
       → KeepsHistories middle new left group steps (is_done outcome)
   pub same_reads : new.failed_reads ≡ middle.failed_reads
+  pub calls : new.calls ≤ middle.calls + 51 * length middle.sizes
   pub writes_rise : (slot : ℕ) → middle.failed_writes slot ≤ new.failed_writes slot
 
 module _ {D : Type 0} (tells : Type 0) (old middle new : BayState D) (reads : ReadsOnly old middle)
@@ -236,6 +253,8 @@ module _ {D : Type 0} (tells : Type 0) (old middle new : BayState D) (reads : Re
               are_asked;
         };
         seen = λ slot below kept. same_reads slot ∙ (read.seen slot below kept).0;
+        gone = λ given. read.gone (λ spent. absurd cc);
+        calls = let first = read.calls in let then = written.calls in let same = ap (λ (sizes : List ℕ). length sizes) reads.same_sizes in omega (arith, first, then, same);
         gives = subst (λ (one : Result GroupValue Assembly). IsChangedIn (work_of tells old new) timestamp request one outcome) (sym (group_read (work_of tells old middle) named group read))
             (subst (λ (asked : Result (List Step) Failure). IsChanged (work_of tells old new) group asked outcome) (sym steps)
             (changed_before group (steps_or (readied group changes timestamp)) outcome written.changed));

@@ -1,5 +1,5 @@
 -- How `show` ends.
-use Rattle.std.proofs.Common.{◌≡◌, inr, ⊎_elim, ℕ, List, Option, Result, Ok, Err, refl}
+use Rattle.std.proofs.Common.{◌≡◌, inr, ⊎_elim, ℕ, List, Option, Result, Ok, Err, refl, arith}
 use Rattle.ddf_bay.specs.ReadsOnly.{ReadsOnly}
 use Rattle.ddf_bay.specs.State.{BayState}
 use Rattle.ddf_bytes.specs.Streams.{SinkRose, SinkState}
@@ -52,6 +52,8 @@ shown_nothing old tells told before named looked = record {
     newest = newest_from old 0 looked.left;
     read = λ tells. refl;
     answer = inr refl;
+    gone = λ given. absurd (given refl);
+    calls = omega arith;
   };
   ends = (refl, λ told. refl);
 }

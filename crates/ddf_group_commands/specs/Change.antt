@@ -1,5 +1,5 @@
 -- What a command that changes a group does, and how it ends.
-use Rattle.std.specs.Prelude.{◌≡◌, ◌⊎◌, ℕ, ◌<◌, Bool, true, false, List, [], ◌∷◌, length, Option, Result, Ok, Err, IsTrue, slice_index_or}
+use Rattle.std.specs.Prelude.{◌≡◌, ◌⊎◌, ℕ, ◌+◌, ◌*◌, ◌<◌, ◌≤◌, Bool, true, false, List, [], ◌∷◌, length, Option, Result, Ok, Err, IsTrue, slice_index_or}
 use Rattle.ddf_bytes.specs.Counts.{Rose}
 use Rattle.ddf_bay.specs.Moments.{StopsLeave}
 use Rattle.ddf_bay.specs.ReadsOnly.{LookFailed, ReadsOnly}
@@ -18,7 +18,7 @@ use Rattle.ddf_assembly.specs.Committed.{AreSettled, slots_of}
 use Rattle.ddf_assembly.specs.Group.{GroupValue, group_of}
 use Rattle.ddf_assembly.specs.Ready.{readied}
 use Rattle.ddf_assembly.specs.Recovery.{config_recovered}
-use Rattle.ddf_assembly.specs.Slots.{newest_from}
+use Rattle.ddf_assembly.specs.Slots.{AreOut, newest_from}
 use Rattle.ddf_assembly.specs.Steps.{Step}
 use Rattle.ddf_history.specs.Groups.{groups}
 use Rattle.ddf_history.specs.Issued.{Past}
@@ -124,10 +124,18 @@ pub record TakesGroup {D : Type 0} (work : Work D) (named : Option (List ℕ)) (
   pub keeps : work.tells → (found : GroupValue) → group_of newest named ≡ Ok found → (steps : List Step) → steps_of found timestamp request ≡ Ok steps
       → KeepsHistories work.old work.new left found steps done
 
--- A call that reads and writes no blocks came to this: what it made of the group that it took. A slot that isn't left out was read without a failure.
+-- The most calls that it makes of a bay of so many slots: 15 to look at each, one sync of each, and 25 for each copy of a recovery and of the step
+-- behind it.
+abbrev pub most_calls : (slots : ℕ) → ℕ
+most_calls slots = 66 * slots
+
+-- A call that reads and writes no blocks came to this: what it made of the group that it took. A slot that isn't left out was read without a failure,
+-- and one of which every call fails is left out, but where memory ran out.
 pub record HasChanged {D : Type 0} (work : Work D) (named : Option (List ℕ)) (timestamp : ℕ) (request : Request) (outcome : Result ℕ Failure) : Type 0 where
   pub taken : TakesGroup work named timestamp request (is_done outcome)
   pub seen : (slot : ℕ) → slot < length taken.left → slice_index_or taken.left slot false ≡ false → work.new.failed_reads slot ≡ work.old.failed_reads slot
+  pub gone : (outcome ≡ Err Memory → ⊥) → AreOut work.old taken.left
+  pub calls : work.new.calls ≤ work.old.calls + most_calls (length work.old.sizes)
   pub gives : IsChangedIn work timestamp request (group_of taken.newest named) outcome
   pub leaves : work.tells → (found : GroupValue) → group_of taken.newest named ≡ Ok found → (steps : List Step) → steps_of found timestamp request ≡ Ok steps
       → StopsLeave work.old work.new (IsLeftWriting work.old steps)

@@ -1,5 +1,5 @@
 -- The group that the disks are, or why there is none.
-use Rattle.std.specs.Prelude.{◌≡◌, ◌⊎◌, ℕ, ◌<◌, Bool, false, List, length, Option, Result, Ok, Err, IsTrue, slice_index_or}
+use Rattle.std.specs.Prelude.{◌≡◌, ◌⊎◌, ℕ, ◌+◌, ◌*◌, ◌<◌, ◌≤◌, Bool, false, List, length, Option, Result, Ok, Err, IsTrue, slice_index_or}
 use Rattle.ddf_bay.specs.State.{BayState}
 use Rattle.ddf_bay.specs.ReadsOnly.{LookFailed, SlotSame}
 use Rattle.ddf_copy.specs.declared.newest_copy.Newest.{Newest}
@@ -9,7 +9,7 @@ use Rattle.ddf_assembly.specs.Assembled.{IsAssembledGroup}
 use Rattle.ddf_assembly.specs.Group.{GroupValue, group_of}
 use Rattle.ddf_assembly.specs.Held.{AreHeldOn, StandUnder}
 use Rattle.ddf_assembly.specs.Reading.{HaveAnchors}
-use Rattle.ddf_assembly.specs.Slots.{newest_from}
+use Rattle.ddf_assembly.specs.Slots.{AreOut, newest_from}
 use Rattle.ddf_answer.specs.declared.failure.Failure.{Failure}
 use Rattle.ddf_answer.specs.declared.failure.Failure.TheVariants.{Memory}
 use Rattle.ddf_answer.specs.Answers.{failure_of}
@@ -20,7 +20,7 @@ group_or (Ok group) = Ok group
 group_or (Err fault) = Err (failure_of fault)
 
 -- A call came to this, or memory ran out: what the newest copies of the slots give that aren't left out. A slot is left out where a call of
--- this call failed on it, and nowhere else.
+-- this call failed on it, and nowhere else; each of which every call fails is, but where memory ran out.
 pub record IsGroupRead {D : Type 0} (work : Work D) (named : Option (List ℕ)) (result : Result GroupValue Failure) : Type 0 where
   pub left : List Bool
   pub every_slot : length left ≡ length work.old.sizes
@@ -29,6 +29,8 @@ pub record IsGroupRead {D : Type 0} (work : Work D) (named : Option (List ℕ)) 
   pub newest : List (Option Newest)
   pub read : work.tells → newest ≡ newest_from work.old 0 left
   pub answer : (result ≡ group_or (group_of newest named)) ⊎ (result ≡ Err Memory)
+  pub gone : (result ≡ Err Memory → ⊥) → AreOut work.old left
+  pub calls : work.new.calls ≤ work.old.calls + 15 * length work.old.sizes
 
 -- A group that was read from disks that hold it still: it can be recovered, each newest copy is held and can be written again, and each
 -- seat is on a slot that has room for its extents.

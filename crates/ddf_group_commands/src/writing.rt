@@ -1,5 +1,5 @@
 // How a group is read, recovered and changed.
-ghost use Rattle.std.specs.Prelude.{◌≡◌, ◌≤◌, ℕ, Bool, List, length, Option, Ok, IfOk};
+ghost use Rattle.std.specs.Prelude.{◌≡◌, ◌+◌, ◌*◌, ◌≤◌, ℕ, Bool, List, length, Option, Ok, IfOk};
 ghost use Rattle.std.specs.List.{AllByRecursion};
 ghost use Rattle.ddf_bay.specs.Moments.{GoesOn, StopsLeave};
 ghost use Rattle.ddf_bay.specs.ReadsOnly.{ReadsOnly};
@@ -83,6 +83,7 @@ pub(crate) fn write_changes<B: Bay>(
     ensures same_sizes { (B.disks bay.new).sizes ≡ (B.disks bay.old).sizes }
     ensures reads { (B.disks bay.new).failed_reads ≡ (B.disks bay.old).failed_reads }
     ensures writes_rise { (slot : ℕ) → (B.disks bay.old).failed_writes slot ≤ (B.disks bay.new).failed_writes slot }
+    ensures calls { (B.disks bay.new).calls ≤ (B.disks bay.old).calls + 51 * length (B.disks bay.old).sizes }
 {
     let mut ready = match group.ready(alloc, changes, timestamp) {
         Ok(ready) => ready,

@@ -1,5 +1,5 @@
 -- Where nothing refuses a join, no joining member and no joining array is there.
-use Rattle.std.proofs.Common.{◌≡◌, ℕ, ◌+◌, ◌≤◌, Bool, true, false, ◌||◌, cond, List, [], ◌∷◌, Option, Some, None, find, is_some, nat_eq, option_map, refl, sym, ap, ◌∙◌}
+use Rattle.std.proofs.Common.{◌≡◌, ℕ, ◌+◌, ◌≤◌, Bool, true, false, ◌||◌, cond, List, [], ◌∷◌, Option, Some, None, find, is_some, nat_eq, option_map, refl}
 use Rattle.std.specs.Map.{lookup}
 use Rattle.std.specs.List.{AllByRecursion}
 use Rattle.ddf_config.specs.declared.member.Member.{Member}
@@ -8,7 +8,7 @@ use Rattle.ddf_config.specs.declared.refusal.Refusal.{Refusal}
 use Rattle.ddf_config.specs.declared.refusal.Refusal.TheVariants.{NameTaken}
 use Rattle.ddf_config.specs.Configuration.{Configuration}
 use Rattle.ddf_config.specs.Members.{same_guid}
-use Rattle.ddf_config.specs.Refusals.{first_refusal, refuse_if}
+use Rattle.ddf_config.specs.Refusals.{refuse_if}
 use Rattle.ddf_config.proofs.Entries.{absent_changed}
 use Rattle.ddf_config.proofs.Firsts.{all_pass}
 use Rattle.ddf_plan.specs.Refusals.{greatest_sequence, spent}

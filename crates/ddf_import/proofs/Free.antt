@@ -1,5 +1,5 @@
 -- The search for a number that is free goes on behind one that is taken.
-use Rattle.std.proofs.Common.{◌≡◌, ℕ, suc, ◌+◌, ◌-◌, ◌<◌, Bool, true, not, cond, List, ◌∷◌, Option, Some, find, length, refl, sym, ap, ◌∙◌, arith}
+use Rattle.std.proofs.Common.{◌≡◌, ℕ, suc, ◌+◌, ◌-◌, ◌<◌, Bool, true, not, cond, List, ◌∷◌, Some, find, length, sym, ap, ◌∙◌, arith}
 use Rattle.std.specs.List.{range_with_len}
 use Rattle.ddf_import.specs.Joined.{is_taken}
 

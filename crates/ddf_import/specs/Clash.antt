@@ -1,5 +1,5 @@
 -- Why the disks and arrays of another group can't join a group.
-use Rattle.std.specs.Prelude.{ℕ, Bool, ◌||◌, List, [], ◌∷◌, Option, Some, None, map, find, is_some, nat_eq, option_map, if◌then◌else◌}
+use Rattle.std.specs.Prelude.{ℕ, Bool, ◌||◌, List, [], ◌∷◌, Option, None, map, find, is_some, nat_eq, option_map, if◌then◌else◌}
 use Rattle.std.specs.Map.{lookup}
 use Rattle.std.specs.List.{list_any}
 use Rattle.ddf_config.specs.declared.member.Member.{Member}

@@ -9,7 +9,7 @@ use Rattle.ddf_config.specs.declared.member.Member.{Member}
 use Rattle.ddf_config.specs.declared.seat.Seat.{Seat}
 use Rattle.ddf_config.specs.ElementValue.{ElementValue}
 use Rattle.ddf_config.specs.Within as config
-use Rattle.ddf_config.specs.Within.{has_enough, has_parity, lacks_one}
+use Rattle.ddf_config.specs.Within.{has_parity}
 use Rattle.ddf_plan.specs.Lose.{is_among, lost_position, lost_element, lost_parts, wholly_out, out_of_sync, out_beyond, has_part_within, lost_array}
 use Rattle.ddf_array.specs.declared.place.Place.{Place}
 use Rattle.ddf_array.specs.declared.part.Part.{Part}

@@ -11,7 +11,7 @@ use Rattle.ddf_copy.specs.declared.which.Which.{Which}
 use Rattle.ddf_copy.specs.declared.which.Which.TheVariants.{Primary, Secondary}
 use Rattle.ddf_copy.specs.Copies.{copy_of}
 use Rattle.ddf_copy.specs.Gate.{header_of}
-use Rattle.ddf_copy.specs.Headers.{anchor_header, closed_header, written_as}
+use Rattle.ddf_copy.specs.Headers.{anchor_header, written_as}
 use Rattle.ddf_copy.specs.Sections.{copy_in, raw_at}
 use Rattle.ddf_copy.specs.Which.{place_of}
 use Rattle.ddf_update.specs.NewCopies.{new_geometry}

@@ -1,7 +1,7 @@
 -- What is seen sealed as the standard says on a new disk is sealed in Linux's kind below.
-use Rattle.std.proofs.Common.{◌≡◌, ◌⊎◌, ℕ, zero, suc, ◌+◌, ◌-◌, ◌*◌, ◌/◌, ◌<◌, ◌≤◌, ◌^◌, Bool, true, false, ◌&&◌, ◌||◌, eqb, List, [], ◌∷◌, ◌++◌, length, get_or, take, drop, map, Option, Some, None, Result, Ok, Err, inl, inr, ⊎_elim, refl, ap, sym, ◌∙◌, subst, arith, add-zero, append_assoc, length-append, cond, ltb}
+use Rattle.std.proofs.Common.{◌≡◌, ◌⊎◌, ℕ, zero, suc, ◌+◌, ◌-◌, ◌*◌, ◌/◌, ◌<◌, ◌≤◌, ◌^◌, Bool, true, false, ◌||◌, eqb, List, [], ◌++◌, length, take, drop, map, Option, Some, None, Result, Ok, Err, inl, inr, ⊎_elim, refl, ap, sym, ◌∙◌, subst, arith, add-zero, append_assoc, length-append, cond, ltb}
 use Rattle.std.specs.Prelude.{option_map}
-use Rattle.std.specs.List.{flat_map, range_with_len}
+use Rattle.std.specs.List.{range_with_len}
 use Rattle.std.specs.Option.{option_or}
 use Rattle.std.specs.Result.{result_err}
 use Rattle.std.specs.Int.{w32, from_be_bytes}
@@ -9,7 +9,7 @@ use Rattle.std.proofs.lemmas.Bool.{cases_lt, eqb-true}
 use Rattle.std.proofs.lemmas.List.{append-nil, get_or_append_left, take-append-le}
 use Rattle.std.proofs.Math.Seq.{drop-append-add, get_or-append_right, take-append_seam}
 use Rattle.ddf_bytes.specs.Bytes.{number_at}
-use Rattle.ddf_bytes.specs.Choices.{first_of, ok_unless}
+use Rattle.ddf_bytes.specs.Choices.{ok_unless}
 use Rattle.ddf_bay.specs.Sectors.{IsWhole}
 use Rattle.ddf_seal.specs.Seal.{IsSealed, seal_check}
 use Rattle.ddf_seal.specs.Unread.{AreBytes}
@@ -49,7 +49,7 @@ use Rattle.ddf_linux.specs.declared.kind.SlotKind.TheVariants.{Turned}
 use Rattle.ddf_linux.specs.Crcs.{IsLinuxSealed, constant_of}
 use Rattle.ddf_linux.specs.CrcLaws.{linux_from_standard, turned_front}
 use Rattle.ddf_linux.specs.Founded.{AreSlotsForLinux, IsCopyForLinux, below}
-use Rattle.ddf_linux.specs.Kinds.{signature_of, turn, turned_by}
+use Rattle.ddf_linux.specs.Kinds.{signature_of, turned_by}
 use Rattle.ddf_linux.specs.Layouts.{records_with}
 use Rattle.ddf_linux.specs.Places.{constant_at, is_first, new_places}
 use Rattle.ddf_linux.specs.Turning.{turned}

@@ -1,9 +1,8 @@
 -- What a bay that is made anew sees of a slot on which a disk was founded.
-use Rattle.std.proofs.Common.{◌≡◌, ◌⊎◌, ℕ, ◌+◌, ◌-◌, ◌<◌, ◌≤◌, Bool, true, false, not, ◌&&◌, cond, eqb, List, [], ◌∷◌, Option, Some, None, Result, Ok, Err, inl, inr, refl, ap, sym, ◌∙◌, subst, arith}
+use Rattle.std.proofs.Common.{◌≡◌, ◌⊎◌, ℕ, ◌-◌, ◌≤◌, Bool, true, false, cond, eqb, List, ◌∷◌, Option, Some, Result, Ok, Err, inl, inr, refl, ap, sym, ◌∙◌, subst, arith}
 use Rattle.std.proofs.Math.Path.{fun_ext}
-use Rattle.std.proofs.lemmas.Bool.{and_from, eqb-true, le-leb, ne_eqb}
+use Rattle.std.proofs.lemmas.Bool.{eqb-true, le-leb, ne_eqb}
 use Rattle.std.specs.Int.{w32, to_be_bytes}
-use Rattle.ddf_bytes.specs.Bytes.{number_at}
 use Rattle.ddf_seal.specs.Seal.{seal_check}
 use Rattle.ddf_header.specs.declared.fault.HeaderFault.{HeaderFault}
 use Rattle.ddf_header.specs.declared.geometry.Geometry.{Geometry}
@@ -11,11 +10,9 @@ use Rattle.ddf_header.specs.declared.kind.HeaderKind.TheVariants.{Anchor}
 use Rattle.ddf_header.specs.declared.reading.Header.{Header}
 use Rattle.ddf_header.specs.Header.{decoded, header_signature}
 use Rattle.ddf_copy.specs.declared.copy.DiskCopy.{DiskCopy}
-use Rattle.ddf_copy.specs.declared.fault.AnchorFault.{AnchorFault}
 use Rattle.ddf_copy.specs.declared.fault.AnchorFault.TheVariants.{Blank}
 use Rattle.ddf_copy.specs.Anchor.{anchor_at, anchor_in, anchor_or_damage}
 use Rattle.ddf_copy.specs.Headers.{anchor_header}
-use Rattle.ddf_update.specs.NewCopies.{new_geometry}
 use Rattle.ddf_update.specs.Update.{AreBoth}
 use Rattle.ddf_linux.specs.declared.kind.SlotKind.{SlotKind}
 use Rattle.ddf_linux.specs.declared.kind.SlotKind.TheVariants.{Turned}

@@ -1,8 +1,7 @@
 -- Disks that are founded for Linux: how their records are sealed, and what a bay that is made anew sees of them.
-use Rattle.std.specs.Prelude.{◌≡◌, ◌⊎◌, ℕ, ◌+◌, ◌-◌, ◌*◌, ◌<◌, true, List, Err}
+use Rattle.std.specs.Prelude.{◌≡◌, ◌⊎◌, ℕ, ◌-◌, ◌<◌, true, List, Err}
 use Rattle.std.specs.Int.{w32}
 use Rattle.ddf_bytes.specs.Bytes.{number_at}
-use Rattle.ddf_bay.specs.State.{BayState, size_of}
 use Rattle.ddf_header.specs.declared.geometry.Geometry.{Geometry}
 use Rattle.ddf_header.specs.declared.reading.Header.{Header}
 use Rattle.ddf_header.specs.Header.{header_signature}

@@ -21,7 +21,7 @@ module _ {B : Type 0} where
   kind_of bay slot = kind_at bay.kinds slot
 
 -- By what the inner bay tells: sizes, moments and sectors are the inner bay's, and so are faults but on a slot that could
--- not be read. What is held and what a stop may leave is the inner bay's, turned. Calls are its own. They leave how slots
+-- not be read. A slot of which every inner call fails is so. What is held and what a stop may leave is the inner bay's, turned. Calls are its own. They leave how slots
 -- are seen, and make nothing of the inner bay that they might not make of it by itself.
 abbrev pub disks_of : {B : Type 0} → (B → BayState B) → Turned B → BayState (Turned B)
 disks_of inner bay =
@@ -38,6 +38,7 @@ disks_of inner bay =
       sectors_written = disks.sectors_written;
       sectors_asked = disks.sectors_asked;
       calls = bay.made;
+      gone = disks.gone;
       leads_to = λ next. disks.leads_to next.inner × (next.kinds ≡ bay.kinds);
     }
 

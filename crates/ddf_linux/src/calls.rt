@@ -43,6 +43,8 @@ impl<B: Bay + Drop> Bay for Turned<B> {
 
     ghost told_before = { λ t next leads told. B.told_before t.inner next.inner leads.0 told };
 
+    ghost stays_gone = { λ t next slot leads gone. B.stays_gone t.inner next.inner slot leads.0 gone };
+
     ghost held_is_left = { λ t told. turned_left t.kinds (B.disks t.inner).may_hold (B.disks t.inner).held (B.held_is_left t.inner told) };
 
     fn slots(&self) -> usize {
@@ -63,6 +65,7 @@ impl<B: Bay + Drop> Bay for Turned<B> {
         ensures remembers { Remembers (disks_of B.disks self.old) (disks_of B.disks self.new) }
         ensures ok { OnOk result ((disks_of B.disks self.new).failed_reads ≡ (disks_of B.disks self.old).failed_reads) }
         ensures failed { OnErr result (Rose ((disks_of B.disks self.old).failed_reads slot) ((disks_of B.disks self.new).failed_reads slot)) }
+        ensures gone { OnOk result ((disks_of B.disks self.old).gone slot → ⊥) }
         ensures spends { SpendsReads (disks_of B.disks self.old) (disks_of B.disks self.new) slot 1 }
 
         // It is counted once. On a slot that could not be read it fails without a call of the inner bay, and its own count
@@ -93,6 +96,7 @@ impl<B: Bay + Drop> Bay for Turned<B> {
         ensures remembers { Remembers (disks_of B.disks self.old) (disks_of B.disks self.new) }
         ensures ok { OnOk result ((disks_of B.disks self.new).failed_reads ≡ (disks_of B.disks self.old).failed_reads) }
         ensures failed { OnErr result (Rose ((disks_of B.disks self.old).failed_reads slot) ((disks_of B.disks self.new).failed_reads slot)) }
+        ensures gone { OnOk result ((disks_of B.disks self.old).gone slot → ⊥) }
         ensures spends { SpendsReads (disks_of B.disks self.old) (disks_of B.disks self.new) slot 1 }
 
         // It is counted once. On a slot that could not be read it fails without a call of the inner bay, and its own count
@@ -122,6 +126,7 @@ impl<B: Bay + Drop> Bay for Turned<B> {
         ensures remembers { Remembers (disks_of B.disks self.old) (disks_of B.disks self.new) }
         ensures ok { OnOk result ((disks_of B.disks self.new).failed_writes ≡ (disks_of B.disks self.old).failed_writes) }
         ensures failed { OnErr result (Rose ((disks_of B.disks self.old).failed_writes slot) ((disks_of B.disks self.new).failed_writes slot)) }
+        ensures gone { OnOk result ((disks_of B.disks self.old).gone slot → ⊥) }
         ensures spends { SpendsWrites (disks_of B.disks self.old) (disks_of B.disks self.new) slot 1 1 }
 
         // It is counted once. On a slot that could not be read it fails without a call of the inner bay, and its own count
@@ -146,6 +151,7 @@ impl<B: Bay + Drop> Bay for Turned<B> {
         ensures remembers { Remembers (disks_of B.disks self.old) (disks_of B.disks self.new) }
         ensures ok { OnOk result ((disks_of B.disks self.new).failed_writes ≡ (disks_of B.disks self.old).failed_writes) }
         ensures failed { OnErr result (Rose ((disks_of B.disks self.old).failed_writes slot) ((disks_of B.disks self.new).failed_writes slot)) }
+        ensures gone { OnOk result ((disks_of B.disks self.old).gone slot → ⊥) }
         ensures spends { SpendsWrites (disks_of B.disks self.old) (disks_of B.disks self.new) slot (length from.now) 1 }
 
         // It is counted once. On a slot that could not be read it fails without a call of the inner bay, and its own count
@@ -172,6 +178,7 @@ impl<B: Bay + Drop> Bay for Turned<B> {
         ensures remembers { Remembers (disks_of B.disks self.old) (disks_of B.disks self.new) }
         ensures ok { OnOk result ((disks_of B.disks self.new).failed_writes ≡ (disks_of B.disks self.old).failed_writes) }
         ensures failed { OnErr result (Rose ((disks_of B.disks self.old).failed_writes slot) ((disks_of B.disks self.new).failed_writes slot)) }
+        ensures gone { OnOk result ((disks_of B.disks self.old).gone slot → ⊥) }
         ensures spends { SpendsWrites (disks_of B.disks self.old) (disks_of B.disks self.new) slot 0 1 }
 
         // It is counted once. On a slot that could not be read it fails without a call of the inner bay, and its own count

@@ -28,6 +28,7 @@ fn write_one<B: Bay>(
     ensures remembers { Remembers (turned_state kinds.now (B.disks bay.old)) (turned_state kinds.now (B.disks bay.new)) }
     ensures ok { OnOk result ((B.disks bay.new).failed_writes ≡ (B.disks bay.old).failed_writes) }
     ensures failed { OnErr result (Rose ((B.disks bay.old).failed_writes slot) ((B.disks bay.new).failed_writes slot)) }
+    ensures gone { OnOk result ((B.disks bay.old).gone slot → ⊥) }
     ensures spends { SpendsWrites (B.disks bay.old) (B.disks bay.new) slot 1 1 }
 {
     let mut sector = *from;
@@ -54,6 +55,7 @@ fn write_plain<B: Bay>(
     ensures remembers { Remembers (turned_state kinds.now (B.disks bay.old)) (turned_state kinds.now (B.disks bay.new)) }
     ensures ok { OnOk result ((B.disks bay.new).failed_writes ≡ (B.disks bay.old).failed_writes) }
     ensures failed { OnErr result (Rose ((B.disks bay.old).failed_writes slot) ((B.disks bay.new).failed_writes slot)) }
+    ensures gone { OnOk result ((B.disks bay.old).gone slot → ⊥) }
     ensures spends { SpendsWrites (B.disks bay.old) (B.disks bay.new) slot (length from.now) 1 }
 {
     bay.write_run(slot, lba, from)
@@ -79,6 +81,7 @@ fn write_front<B: Bay>(
     ensures remembers { Remembers (turned_state kinds.now (B.disks bay.old)) (turned_state kinds.now (B.disks bay.new)) }
     ensures ok { OnOk result ((B.disks bay.new).failed_writes ≡ (B.disks bay.old).failed_writes) }
     ensures failed { OnErr result (Rose ((B.disks bay.old).failed_writes slot) ((B.disks bay.new).failed_writes slot)) }
+    ensures gone { OnOk result ((B.disks bay.old).gone slot → ⊥) }
     ensures next { IfOk result (λ n. n < length from.now → begins_at (kind_at kinds.now slot) lba from.now n ≡ true) }
     ensures spends { IfOk result (λ n. SpendsWrites (B.disks bay.old) (B.disks bay.new) slot n 1) }
     ensures spends_failed { OnErr result (SpendsWrites (B.disks bay.old) (B.disks bay.new) slot (length from.now) 1) }
@@ -110,6 +113,7 @@ pub(crate) fn write_pieces<B: Bay>(
     ensures remembers { Remembers (turned_state kinds.now (B.disks bay.old)) (turned_state kinds.now (B.disks bay.new)) }
     ensures ok { OnOk result ((B.disks bay.new).failed_writes ≡ (B.disks bay.old).failed_writes) }
     ensures failed { OnErr result (Rose ((B.disks bay.old).failed_writes slot) ((B.disks bay.new).failed_writes slot)) }
+    ensures gone { OnOk result ((B.disks bay.old).gone slot → ⊥) }
     ensures spends { SpendsWrites (B.disks bay.old) (B.disks bay.new) slot (length from.now) (pieces_below (kind_at kinds.now slot) lba from.now (length from.now)) }
 {
     let mut done = 0;

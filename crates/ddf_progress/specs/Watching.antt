@@ -19,5 +19,6 @@ module _ {B P : Type 0} where
     sectors_written = (disks watched.inner).sectors_written;
     sectors_asked = (disks watched.inner).sectors_asked;
     calls = (disks watched.inner).calls;
+    gone = (disks watched.inner).gone;
     leads_to = λ (next : Watched B P). (disks watched.inner).leads_to next.inner;
   }

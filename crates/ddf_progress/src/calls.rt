@@ -32,6 +32,8 @@ impl<B: Bay + Drop, P: Progress + Drop> Bay for Watched<B, P> {
 
     ghost told_before = { λ w next leads told. B.told_before w.inner next.inner leads told };
 
+    ghost stays_gone = { λ w next slot leads gone. B.stays_gone w.inner next.inner slot leads gone };
+
     ghost held_is_left = { λ w told. B.held_is_left w.inner told };
 
     fn slots(&self) -> usize {

@@ -28,6 +28,7 @@ mod OpeningRun
 mod RunCame
 mod Ran
 mod AllRounds
+pub mod Costs
 mod FillRan
 mod PlanRan
 mod RebuildEnds

@@ -394,6 +394,7 @@ module _ (found : GroupValue) (word : List ℕ) (plan : Plan) (timestamp : ℕ) 
       unfolding plan_is
       planned = record {
         planned = plan_is;
+        was = subst (λ (changes : List Change). WasReadied found changes timestamp ready) fills.changes_are was;
         target_is = refl;
         volume_is = refl;
         from_is = sym fills.from_is;

@@ -1,17 +1,24 @@
 -- A rebuild that was planned of a group, readied and run.
-use Rattle.std.proofs.Common.{◌≡◌, ℕ, ◌≤◌, List, [], ◌++◌, map, Option, None, Some, Result, Ok, refl, ap, subst, ◌∙◌}
-use Rattle.std.specs.Prelude.{option_to_list}
+use Rattle.std.proofs.Common.{◌≡◌, ℕ, ◌≤◌, List, [], ◌+◌, ◌++◌, map, Option, None, Some, Result, Ok, refl, ap, subst, sym, ◌∙◌, inl, inr}
+use Rattle.std.specs.Prelude.{option_to_list, slice_get}
 use Rattle.ddf_bay.specs.ReadsOnly.{ReadsOnly}
 use Rattle.ddf_bay.specs.Sectors.{Image}
 use Rattle.ddf_bay.specs.State.{BayState}
 use Rattle.ddf_config.specs.Seats.{SeatsFit}
-use Rattle.ddf_assembly.specs.Committed.{WasReadied}
+use Rattle.ddf_plan.specs.declared.change.Change.{Change}
+use Rattle.ddf_repair.specs.declared.first.Target.{Target}
+use Rattle.ddf_array.specs.Volume.{Volume}
+use Rattle.ddf_array.specs.declared.part.Part.{Part}
+use Rattle.ddf_cells.specs.Writing.{AsksFor}
+use Rattle.ddf_update.specs.Prepared.{all_sectors}
+use Rattle.ddf_assembly.specs.Committed.{WasReadied, recovery_updates}
 use Rattle.ddf_assembly.specs.Group.{GroupValue}
-use Rattle.ddf_assembly.specs.Ready.{ReadyStep, ReadyValue}
+use Rattle.ddf_assembly.specs.Ready.{ReadyStep, ReadyValue, all_ready}
 use Rattle.ddf_assembly.specs.Recovery.{config_recovered}
 use Rattle.ddf_assembly.specs.Seated.{seated}
 use Rattle.ddf_assembly.specs.Steps.{Step}
 use Rattle.ddf_data_stops.specs.Floors.{AreFloored}
+use Rattle.ddf_answer.specs.Call.{work_of}
 use Rattle.ddf_answer.specs.declared.failure.Failure.{Failure}
 use Rattle.ddf_group_commands.specs.Change.{steps_of as steps_asked, steps_or}
 use Rattle.ddf_group_commands.specs.GroupRead.{IsReadFrom}
@@ -19,11 +26,14 @@ use Rattle.ddf_write_commands.specs.Opened.{AreMembers}
 use Rattle.ddf_rebuild_command.specs.declared.planning.Filling.{Filling}
 use Rattle.ddf_rebuild_command.specs.declared.planning.Plan.{Plan}
 use Rattle.ddf_rebuild_command.specs.Asked.{rebuild_request, rows_in}
+use Rattle.ddf_rebuild_command.specs.Costs.{CostsOf, sectors_from, step_sectors}
 use Rattle.ddf_rebuild_command.specs.Filled.{CanFill}
 use Rattle.ddf_rebuild_command.specs.Opened.{CanOpen}
-use Rattle.ddf_rebuild_command.specs.Plans.{IsFillingIn, IsFillingOf, IsPlanOf, begun_config}
-use Rattle.ddf_rebuild_command.specs.Run.{CanFillBehind, IsRun}
+use Rattle.ddf_rebuild_command.specs.Planned.{first_row}
+use Rattle.ddf_rebuild_command.specs.Plans.{IsFillingIn, IsFillingOf, IsNothingTo, IsPlanOf, begun_config}
+use Rattle.ddf_rebuild_command.specs.Run.{AsksInRun, CanFillBehind, IsRun}
 use Rattle.ddf_rebuild_command.specs.Standing.{recovery_in}
+use Rattle.ddf_rebuild_command.proofs.Costs.{most_since}
 use Rattle.ddf_rebuild_command.proofs.PlanFits.{IsPlannedFor}
 use Rattle.ddf_rebuild_command.proofs.PlanKept as plans
 use Rattle.ddf_rebuild_command.proofs.Ran.{ran_filling, ran_idle}
@@ -97,3 +107,38 @@ module _ (found : GroupValue) (word : List ℕ) (plan : Plan) (timestamp : ℕ) 
     -- What the run comes to.
     pub ran : (outcome : Result ℕ Failure) → IsRun disks tells start new found ready plan.filling outcome → HasRun tells entry start new found timestamp word outcome
     ran outcome run = ran_by plan.filling refl outcome run
+
+  -- What the run costs since the entry of its call.
+  module _ {D : Type 0} (tells : Type 0) (entry start new : BayState D) (reads : ReadsOnly entry start) where
+    no_changes : plan.filling ≡ None → plan.changes ≡ []
+    no_changes e =
+        let fills : IsNothingTo (config_recovered found) found.seats is.entry plan.changes = subst (IsFillingIn (config_recovered found) found.seats is.entry plan.changes) e is.fills in
+        fills.no_changes
+
+    abbrev AsksFrom : Volume → Target → ℕ → Type 0
+    AsksFrom volume target from = (part : Part) → slice_get volume.parts target.element ≡ Some part → AsksFor start new (step_sectors (all_ready ready) + sectors_from part.shape from)
+
+    costs_by : (filling : Option Filling) → plan.filling ≡ filling → AsksInRun start new ready filling → CostsOf (work_of tells entry new) timestamp word (Ok found)
+    costs_by None e asks = inr (inl (record {
+      idle = (plans.idle found word plan timestamp is members ready was e).0;
+      ready = ready;
+      was = subst (λ (changes : List Change). WasReadied found changes timestamp ready) (no_changes e) was;
+      most = most_since tells entry start new reads (all_sectors (recovery_updates ready)) asks;
+    }))
+    costs_by (Some filling) e asks =
+        let for = planned filling e in
+        let fills = for.planned in
+        let part = fills.is_out.part in
+        let asks_plan : AsksFrom fills.volume fills.target (first_row fills) =
+        subst (λ (volume : Volume). AsksFrom volume fills.target (first_row fills)) (sym for.volume_is)
+        (subst (λ (target : Target). AsksFrom filling.view target (first_row fills)) (sym for.target_is)
+        (subst (λ (from : ℕ). AsksFrom filling.view filling.target from) (sym for.from_is) asks)) in
+        inr (inr (record {
+          plan = fills;
+          ready = ready;
+          was = for.was;
+          most = most_since tells entry start new reads (step_sectors (all_ready ready) + sectors_from part.shape (first_row fills)) (asks_plan part fills.is_out.is_target.is_part);
+        }))
+
+    pub costs : AsksInRun start new ready plan.filling → CostsOf (work_of tells entry new) timestamp word (Ok found)
+    costs asks = costs_by plan.filling refl asks

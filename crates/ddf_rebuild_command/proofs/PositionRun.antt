@@ -5,7 +5,7 @@ use Rattle.ddf_bay.specs.Moments.{StopsLeave}
 use Rattle.ddf_bay.specs.ReadsOnly.{ReadsOnly}
 use Rattle.ddf_bay.specs.Sectors.{Image, IsLeft}
 use Rattle.ddf_bay.specs.State.{BayState}
-use Rattle.ddf_bay.proofs.Steps.{left_keeps, stops_then, stops_weaken}
+use Rattle.ddf_bay.proofs.Steps.{stops_then, stops_weaken}
 use Rattle.ddf_config.specs.declared.seat.Seat.{Seat}
 use Rattle.ddf_config.specs.Configuration.{Configuration}
 use Rattle.ddf_config.specs.Seats.{SeatsFit}

@@ -1,27 +1,24 @@
 -- A position of an array, and what the changes of a rebuild make of it.
-use Rattle.std.proofs.Common.{◌≡◌, ℕ, zero, suc, ◌+◌, ◌*◌, ◌/◌, ◌%◌, ◌≤◌, Bool, true, false, not, eqb, cond, List, [], ◌∷◌, length, map, Option, Some, None, option_map, refl, sym, ap, subst, ◌∙◌, if◌then◌else◌, arith}
+use Rattle.std.proofs.Common.{◌≡◌, ℕ, zero, suc, ◌+◌, Bool, true, false, cond, List, [], ◌∷◌, length, map, Option, Some, None, option_map, refl, sym, ap, subst, ◌∙◌, if◌then◌else◌, arith}
 use Rattle.std.proofs.lemmas.Bool.{and_parts, eq-eqb}
 use Rattle.std.proofs.lemmas.List.{length-map}
 use Rattle.std.proofs.lemmas.List.FromFn.{length-enumerate_from}
 use Rattle.std.specs.Prelude.{option_and_then, slice_get}
-use Rattle.std.specs.List.{enumerate_from, list_any}
+use Rattle.std.specs.List.{enumerate_from}
 use Rattle.std.specs.Map.{lookup}
 use Rattle.std.specs.Option.{option_eq}
 use Rattle.std.specs.Result.{result_ok}
 use Rattle.std.specs.Cmp.Lexicographic.{pointwise}
 use Rattle.ddf_primary.specs.Levels.{shape_of}
 use Rattle.ddf_config.specs.declared.array.Array.{Array}
-use Rattle.ddf_config.specs.declared.member.Member.{Member}
 use Rattle.ddf_config.specs.declared.element.Position.{Position}
-use Rattle.ddf_config.specs.declared.extent.Extent.{Extent}
 use Rattle.ddf_config.specs.Configuration.{Configuration}
 use Rattle.ddf_config.specs.ElementValue.{ElementValue}
 use Rattle.ddf_config.specs.Entries.{changed_entries}
 use Rattle.ddf_config.specs.Extents.{extents}
 use Rattle.ddf_config.specs.Members.{same_guid}
 use Rattle.ddf_config.specs.Shapes.{element_shape, strip_sectors}
-use Rattle.ddf_config.specs.States.{array_with_low, has_position_out, is_marked, low_state, takes_low_state}
-use Rattle.ddf_config.specs.Within.{is_available, is_within}
+use Rattle.ddf_config.specs.States.{array_with_low, is_marked}
 use Rattle.ddf_plan.specs.declared.change.Change.{Change}
 use Rattle.ddf_plan.specs.declared.change.Change.TheVariants.{Begin, Finish, Progress}
 use Rattle.ddf_plan.specs.Arrays.{array_after, arrays_after, element_after, kept_and_added, named_after, names, part_after, position_after, rebuilding}

@@ -16,10 +16,8 @@ use Rattle.ddf_volume.proofs.Tries.{NotRead-wider}
 use Rattle.ddf_cells.specs.CellSources.{cell_sources}
 use Rattle.ddf_assembly.specs.Committed.{HoldsGroup, slots_of}
 use Rattle.ddf_assembly.specs.Group.{GroupValue}
-use Rattle.ddf_assembly.specs.Steps.{Step}
 use Rattle.ddf_stops.specs.Kept.{is_slot}
 use Rattle.ddf_stops.proofs.Slots.{slot_placed}
-use Rattle.ddf_group_commands.specs.Writing.{IsLeftWriting}
 use Rattle.ddf_write_commands.specs.Holding.{holding}
 use Rattle.ddf_rebuild_command.specs.Filled.{IsLeftIn}
 use Rattle.ddf_rebuild_command.specs.Rounds.{AreRounds, IsFilled, IsSure, Round, row_before}

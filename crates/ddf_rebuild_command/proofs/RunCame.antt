@@ -31,9 +31,11 @@ use Rattle.ddf_group_commands.proofs.Outcomes.{group_read}
 use Rattle.ddf_write_commands.specs.Plans.{IsNotReadied}
 use Rattle.ddf_rebuild_command.specs.Along.{ComesAlong}
 use Rattle.ddf_rebuild_command.specs.Asked.{rebuild_request}
+use Rattle.ddf_rebuild_command.specs.Costs.{CostsOf}
 use Rattle.ddf_rebuild_command.specs.Planned.{IsIdle, IsPlanned}
 use Rattle.ddf_rebuild_command.specs.Plans.{MayPlan}
 use Rattle.ddf_rebuild_command.specs.Rebuilt.{GoesAlong, HasRebuiltArray, IsRebuiltIn, IsRebuiltOf, LeavesRebuilding, MayBeLeft}
+use Rattle.ddf_rebuild_command.proofs.Costs.{none_cost}
 
 -- What came of a group that was read, since the entry.
 pub record HasRun {D : Type 0} (tells : Type 0) (entry start new : BayState D) (found : GroupValue) (timestamp : ℕ) (word : List ℕ) (outcome : Result ℕ Failure) : Type 0 where
@@ -92,6 +94,7 @@ module _ {D : Type 0} (work : Work D) (named : Option (List ℕ)) (timestamp : �
     gives = none_in (group_of read.newest named) failure read.answer;
     leaves = λ told. nothing_left (group_of read.newest named);
     along = λ told. no_along read.left (group_of read.newest named);
+    costs = none_cost work timestamp word reads (group_of read.newest named);
   }
 
   -- It was refused, or memory ran out.
@@ -110,6 +113,7 @@ module _ {D : Type 0} (work : Work D) (named : Option (List ℕ)) (timestamp : �
     gives = subst (λ (one : Result GroupValue Assembly). IsRebuiltIn work timestamp word one (Err failure)) (sym (group_read work named group read)) is;
     leaves = λ told. nothing_left (group_of read.newest named);
     along = λ told. no_along read.left (group_of read.newest named);
+    costs = none_cost work timestamp word reads (group_of read.newest named);
   }
 
   -- what it was refused for
@@ -132,7 +136,8 @@ module _ {D : Type 0} (work : Work D) (named : Option (List ℕ)) (timestamp : �
 
 module _ {D : Type 0} (tells : Type 0) (entry start new : BayState D) (reads : ReadsOnly entry start) (reads_rise : (slot : ℕ) → entry.failed_reads slot ≤ start.failed_reads slot)
     (writes_rise : (slot : ℕ) → entry.failed_writes slot ≤ start.failed_writes slot) (named : Option (List ℕ)) (timestamp : ℕ) (word : List ℕ) (group : GroupValue) (outcome : Result ℕ Failure)
-    (read : IsGroupRead (work_of tells entry start) named (Ok group)) (has : HasRun tells entry start new group timestamp word outcome) where
+    (read : IsGroupRead (work_of tells entry start) named (Ok group)) (has : HasRun tells entry start new group timestamp word outcome)
+    (paid : CostsOf (work_of tells entry new) timestamp word (Ok group)) where
   abbrev work : Work D
   work = work_of tells entry new
 
@@ -176,4 +181,5 @@ module _ {D : Type 0} (tells : Type 0) (entry start new : BayState D) (reads : R
         → AreAllKept own past entry → IsAdmitted own past entry read.left found
         → ((is_done outcome ≡ false) × ReadsOnly entry new) ⊎ IsIdle found timestamp word ⊎ ((plan : IsPlanned found timestamp word) × ComesAlong own work past read.left found plan (is_done outcome)))
         (λ steps asked own same past kept admitted. inr (has.along told read.left named (found_by told) own same past kept admitted));
+    costs = subst (λ (meaning : Result GroupValue Assembly). CostsOf work timestamp word meaning) (sym is_group) paid;
   }

@@ -12,7 +12,7 @@ use Rattle.ddf_config.specs.Configuration.{Configuration}
 use Rattle.ddf_config.specs.ElementValue.{ElementValue}
 use Rattle.ddf_config.specs.Seats.{floor_of}
 use Rattle.ddf_config.specs.Shapes.{element_shape}
-use Rattle.ddf_config.specs.Within.{has_enough, has_enough_parts, has_parity, is_mirrored, is_part_within, lacks_one}
+use Rattle.ddf_config.specs.Within.{has_enough, has_enough_parts, is_mirrored, is_part_within}
 use Rattle.ddf_plan.specs.declared.change.Change.{Change}
 use Rattle.ddf_plan.specs.declared.change.Change.TheVariants.{Begin}
 use Rattle.ddf_plan.specs.Arrays.{element_after, part_after}

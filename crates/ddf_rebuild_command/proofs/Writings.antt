@@ -1,16 +1,15 @@
 -- Steps that are written one after another, and what a stop leaves on the way of all.
-use Rattle.std.proofs.Common.{◌≡◌, ◌⊎◌, ℕ, zero, suc, List, [], ◌∷◌, ◌++◌, refl, sym, ap, subst, ◌∙◌, inl, inr, ⊎_elim}
+use Rattle.std.proofs.Common.{◌≡◌, ℕ, zero, suc, List, [], ◌∷◌, ◌++◌, refl, sym, ap, subst, ◌∙◌, inl, inr, ⊎_elim}
 use Rattle.std.proofs.Math.Path.{fun_ext}
 use Rattle.std.specs.Prelude.{Some, slice_get}
 use Rattle.ddf_bay.specs.Sectors.{Image, IsLeft}
 use Rattle.ddf_bay.specs.State.{BayState, size_of}
 use Rattle.ddf_view.specs.View.{View, view_of}
-use Rattle.ddf_history.specs.Reading.{IsCopyOf, Shown}
+use Rattle.ddf_history.specs.Reading.{Shown}
 use Rattle.ddf_history.specs.Reading.Shown.{One}
-use Rattle.ddf_history.specs.Steps.{IsPart}
 use Rattle.ddf_assembly.specs.Steps.{Step}
 use Rattle.ddf_group_commands.specs.Change.{last_sequence}
-use Rattle.ddf_group_commands.specs.Writing.{IsLeftWriting, IsStepsSector, IsWrittenOn, ShowsStep}
+use Rattle.ddf_group_commands.specs.Writing.{IsLeftWriting, IsStepsSector, IsWrittenOn}
 use Rattle.ddf_group_commands.specs.Written.{AreWritten}
 use Rattle.ddf_group_commands.proofs.LeftWriting.{ShowsFrom, writing_by}
 use Rattle.ddf_assembly.specs.Group.{floor_of}

@@ -4,6 +4,7 @@ pub mod Rounds
 pub mod Planned
 pub mod Stages
 pub mod Along
+pub mod Costs
 pub mod Rebuilt
 pub mod Plans
 pub mod Standing

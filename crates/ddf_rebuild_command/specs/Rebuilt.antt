@@ -23,6 +23,7 @@ use Rattle.ddf_group_commands.specs.Writing.{IsLeftWriting}
 use Rattle.ddf_group_commands.specs.Written.{AreWritten}
 use Rattle.ddf_rebuild_command.specs.Along.{ComesAlong}
 use Rattle.ddf_rebuild_command.specs.Asked.{rebuild_request, rows_in}
+use Rattle.ddf_rebuild_command.specs.Costs.{CostsOf}
 use Rattle.ddf_rebuild_command.specs.Planned.{IsIdle, IsPlanned, first_row}
 use Rattle.ddf_rebuild_command.specs.Rounds.{AreRounds, steps_of}
 use Rattle.ddf_rebuild_command.specs.Stages.{IsLeftRebuilding}
@@ -96,6 +97,7 @@ pub record HasRebuiltArray {D : Type 0} (work : Work D) (named : Option (List �
   pub gives : IsRebuiltIn work timestamp word (group_of taken.newest named) outcome
   pub leaves : work.tells → LeavesRebuilding work timestamp word (group_of taken.newest named)
   pub along : work.tells → GoesAlong work timestamp word taken.left (group_of taken.newest named) (is_done outcome)
+  pub costs : CostsOf work timestamp word (group_of taken.newest named)
 
 -- It came to this, and said so.
 pub record IsRebuildDone {D : Type 0} (work : Work D) (named : Option (List ℕ)) (timestamp : ℕ) (word : List ℕ) (answer : Answer) : Type 0 where

@@ -1,12 +1,16 @@
 -- A rebuild from the reading of its group on: the group is recovered, the position gets a spare where its disk is lost, and then its rows are filled.
-use Rattle.std.specs.Prelude.{◌≡◌, ◌⊎◌, ℕ, List, length, None, Option, Some, Result, Ok, Err, is_ok}
+use Rattle.std.specs.Prelude.{◌≡◌, ◌⊎◌, ℕ, ◌+◌, List, length, slice_get, None, Option, Some, Result, Ok, Err, is_ok}
 use Rattle.ddf_bay.specs.State.{BayState}
-use Rattle.ddf_assembly.specs.Committed.{slots_of}
+use Rattle.ddf_array.specs.declared.part.Part.{Part}
+use Rattle.ddf_cells.specs.Writing.{AsksFor}
+use Rattle.ddf_update.specs.Prepared.{all_sectors}
+use Rattle.ddf_assembly.specs.Committed.{recovery_updates, slots_of}
 use Rattle.ddf_assembly.specs.Group.{GroupValue}
-use Rattle.ddf_assembly.specs.Ready.{ReadyValue}
+use Rattle.ddf_assembly.specs.Ready.{ReadyValue, all_ready}
 use Rattle.ddf_answer.specs.declared.failure.Failure.{Failure}
 use Rattle.ddf_write_commands.specs.Around.{rest}
 use Rattle.ddf_rebuild_command.specs.declared.planning.Filling.{Filling}
+use Rattle.ddf_rebuild_command.specs.Costs.{sectors_from, step_sectors}
 use Rattle.ddf_rebuild_command.specs.Filled.{AreFilled, CanFill, GoesFilling, IsFillFault, rounds_in}
 use Rattle.ddf_rebuild_command.specs.Opened.{GoesOpening, IsOpened, steps_before}
 use Rattle.ddf_rebuild_command.specs.Rounds.{Round}
@@ -19,6 +23,12 @@ rounds_of filling ready = rounds_in filling.rows (rest filling.begins ready.step
 -- what is ready behind these steps
 abbrev pub ready_behind : Filling → ReadyValue → ReadyValue
 ready_behind filling ready = record { recovery = None; steps = rest filling.begins ready.steps }
+
+-- It asks for all that is ready at most, and the sectors of the position from the row on from which it is filled; where none is to be filled, for the recovery.
+abbrev pub AsksInRun : {D : Type 0} → (old new : BayState D) → ReadyValue → Option Filling → Type 0
+AsksInRun old new ready None = AsksFor old new (all_sectors (recovery_updates ready))
+AsksInRun old new ready (Some filling) =
+    (part : Part) → slice_get filling.view.parts filling.target.element ≡ Some part → AsksFor old new (step_sectors (all_ready ready) + sectors_from part.shape filling.from)
 
 -- Its rows can be filled behind them, and a step is left for each.
 pub record CanFillBehind (sizes : List ℕ) (found : GroupValue) (filling : Filling) (ready : ReadyValue) : Type 0 where

@@ -1,6 +1,11 @@
 // The rounds of a rebuild: rows of a position are filled, and then a step of its group is written that tells of them.
-ghost use Rattle.std.specs.Prelude.{◌≡◌, ◌≤◌, ℕ, ◌∷◌, [], length, IfErr, OnOk, is_ok};
-ghost use Rattle.ddf_assembly.specs.Committed.{left_behind};
+ghost use Rattle.std.specs.Prelude.{◌≡◌, ◌≤◌, ◌+◌, ℕ, ◌∷◌, [], length, slice_get, Some, IfErr, OnOk, is_ok};
+ghost use Rattle.ddf_cells.specs.Writing.{AsksFor};
+ghost use Rattle.ddf_array.specs.declared.part.Part.{Part};
+ghost use Rattle.ddf_update.specs.Prepared.{all_sectors};
+ghost use Rattle.ddf_rebuild.specs.Rebuilding.{sectors_of};
+ghost use Rattle.ddf_assembly.specs.Committed.{left_behind, next_updates};
+ghost use Rattle.ddf_rebuild_command.specs.Costs.{sectors_from, step_sectors};
 ghost use Rattle.ddf_rebuild_command.specs.Filled.{AreFilled, CanFill, GoesFilling, IsFillFault, rounds_in};
 ghost use Rattle.ddf_rebuild_command.specs.Standing.{Stands};
 
@@ -31,6 +36,8 @@ fn fill_round<B: Bay>(
     ensures filled { OnOk result (AreFilled B.tells (B.disks bay.old) (B.disks bay.new) filling.now.view filling.now.target from (rounds_in (row ∷ []) ready.old.steps) group.old ready.old group.new ready.new) }
     ensures failed { IfErr result (IsFillFault B.tells (B.disks bay.old) (B.disks bay.new) filling.now.view filling.now.target from (rounds_in (row ∷ []) ready.old.steps) group.old ready.old row) }
     ensures left { OnOk result (ready.new ≡ left_behind ready.old) }
+    ensures asks { (part : Part) → slice_get filling.now.view.parts filling.now.target.element ≡ Some part
+        → AsksFor (B.disks bay.old) (B.disks bay.new) (sectors_of part.shape from row + all_sectors (next_updates ready.old)) }
 {
     match rebuild_rows(bay, &filling.view, &filling.target, from, row) {
         Ok(()) => write_step(group, ready, bay),
@@ -57,6 +64,8 @@ pub(crate) fn fill<B: Bay>(
     ensures filled { OnOk result (AreFilled B.tells (B.disks bay.old) (B.disks bay.new) filling.now.view filling.now.target from (rounds_in rows.now ready.old.steps) group.old ready.old group.new ready.new) }
     ensures failed { IfErr result (λ failure. (end : ℕ) → CanFill (B.disks bay.old).sizes group.old.seats filling.now.view filling.now.target end from rows.now
         → IsFillFault B.tells (B.disks bay.old) (B.disks bay.new) filling.now.view filling.now.target from (rounds_in rows.now ready.old.steps) group.old ready.old end failure) }
+    ensures asks { (part : Part) → slice_get filling.now.view.parts filling.now.target.element ≡ Some part
+        → AsksFor (B.disks bay.old) (B.disks bay.new) (step_sectors ready.old.steps + sectors_from part.shape from) }
 {
     let Some((row, later)) = rows.split_first() else {
         return Ok(());

@@ -9,7 +9,7 @@ ghost use Rattle.ddf_write_commands.specs.Ending.{EndsSo};
 ghost use Rattle.ddf_rebuild_command.specs.declared.planning.Filling.{Filling};
 ghost use Rattle.ddf_rebuild_command.specs.Opened.{CanOpen};
 ghost use Rattle.ddf_rebuild_command.specs.Rebuilt.{HasRebuiltArray, IsRebuildDone};
-ghost use Rattle.ddf_rebuild_command.specs.Run.{CanFillBehind, IsRun};
+ghost use Rattle.ddf_rebuild_command.specs.Run.{AsksInRun, CanFillBehind, IsRun};
 
 use crate::filling::fill;
 use crate::planning::{Filling, Plan, plan_rebuild};
@@ -70,6 +70,7 @@ fn rebuild_array<B: Bay>(
     requires open { CanOpen B.tells (B.disks bay.old) group.old ready.old }
     requires fills { (filling : Filling) → plan.now.filling ≡ Some filling → CanFillBehind (B.disks bay.old).sizes group.old filling ready.old }
     ensures run { IsRun B.disks B.tells (B.disks bay.old) (B.disks bay.new) group.old ready.old plan.now.filling result }
+    ensures asks { AsksInRun (B.disks bay.old) (B.disks bay.new) ready.old plan.now.filling }
 {
     match &plan.filling {
         Some(filling) => fill_position(group, ready, filling, bay),
@@ -90,6 +91,7 @@ fn fill_position<B: Bay>(
     requires open { CanOpen B.tells (B.disks bay.old) group.old ready.old }
     requires fills { CanFillBehind (B.disks bay.old).sizes group.old filling.now ready.old }
     ensures run { IsRun B.disks B.tells (B.disks bay.old) (B.disks bay.new) group.old ready.old (Some filling.now) result }
+    ensures asks { AsksInRun (B.disks bay.old) (B.disks bay.new) ready.old (Some filling.now) }
 {
     open_position(group, ready, filling.begins, bay)?;
     fill(

@@ -1,13 +1,15 @@
 // The steps of a group that is rebuilt: made ready before the first write, and written one after another.
 ghost use Rattle.std.specs.Prelude.{◌≡◌, None, IfErr, IfOk, OnOk, is_ok};
 ghost use Rattle.std.specs.List.{AllByRecursion};
+ghost use Rattle.ddf_cells.specs.Writing.{AsksFor};
+ghost use Rattle.ddf_update.specs.Prepared.{all_sectors};
 ghost use Rattle.ddf_assembly.specs.Asked.{CanBeAsked};
 ghost use Rattle.ddf_assembly.specs.Assembled.{IsAssembledGroup};
-ghost use Rattle.ddf_assembly.specs.Committed.{WasReadied, slots_of};
+ghost use Rattle.ddf_assembly.specs.Committed.{WasReadied, next_updates, recovery_updates, slots_of};
 ghost use Rattle.ddf_assembly.specs.Ready.{readied};
 ghost use Rattle.ddf_write_commands.specs.Around.{rest};
 ghost use Rattle.ddf_write_commands.specs.Plans.{IsNotReadied};
-ghost use Rattle.ddf_rebuild_command.specs.Opened.{CanOpen, GoesOpening, IsOpened, steps_before};
+ghost use Rattle.ddf_rebuild_command.specs.Opened.{CanOpen, GoesOpening, IsOpened, sectors_before, steps_before};
 ghost use Rattle.ddf_rebuild_command.specs.Standing.{GoesNext, IsNextWritten, IsSlotFault, Stands, recovery_in};
 
 use crate::planning::Plan;
@@ -52,6 +54,7 @@ pub(crate) fn recover_group<B: Bay>(
     ensures opened { OnOk result (IsOpened B.tells (B.disks bay.old) (B.disks bay.new) group.old (recovery_in ready.old.recovery) group.new ready.new) }
     ensures failed { IfErr result (IsSlotFault (B.disks bay.old) (B.disks bay.new) (slots_of group.old.seats)) }
     ensures left { ready.new ≡ record ready.old { recovery = None } }
+    ensures asks { AsksFor (B.disks bay.old) (B.disks bay.new) (all_sectors (recovery_updates ready.old)) }
 {
     group.recover(bay, ready)?;
     Ok(())
@@ -70,6 +73,7 @@ pub(crate) fn write_step<B: Bay>(
     ensures goes { GoesNext B.tells (B.disks bay.old) (B.disks bay.new) group.old ready.old (is_ok result) }
     ensures written { OnOk result (IsNextWritten B.tells (B.disks bay.old) (B.disks bay.new) group.old ready.old group.new ready.new) }
     ensures failed { IfErr result (IsSlotFault (B.disks bay.old) (B.disks bay.new) (slots_of group.old.seats)) }
+    ensures asks { AsksFor (B.disks bay.old) (B.disks bay.new) (all_sectors (next_updates ready.old)) }
 {
     group.commit(bay, ready)?;
     Ok(())
@@ -90,6 +94,7 @@ pub(crate) fn open_position<B: Bay>(
     ensures opened { OnOk result (IsOpened B.tells (B.disks bay.old) (B.disks bay.new) group.old (steps_before begins ready.old) group.new ready.new) }
     ensures failed { IfErr result (IsSlotFault (B.disks bay.old) (B.disks bay.new) (slots_of group.old.seats)) }
     ensures left { OnOk result (ready.new ≡ record { recovery = None; steps = rest begins ready.old.steps }) }
+    ensures asks { AsksFor (B.disks bay.old) (B.disks bay.new) (sectors_before begins ready.old) }
 {
     recover_group(group, ready, bay)?;
     if begins {

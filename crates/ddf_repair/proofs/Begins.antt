@@ -1,6 +1,6 @@
 -- A rebuild that begins on a spare: its change isn't refused, and its extent is free.
-use Rattle.std.proofs.Common.{◌≡◌, ℕ, ◌+◌, ◌<◌, ◌≤◌, Bool, true, false, not, ◌&&◌, List, [], ◌∷◌, ◌++◌, length, map, filter, find, min, Option, Some, None, is_none, is_some, option_map, option_and_then, nat_eq, nat_le, nat_lt, Result, Ok, Err, cond, refl, sym, ap, subst, ◌∙◌, arith}
-use Rattle.std.proofs.lemmas.Bool.{and_parts, and_from, false≢true}
+use Rattle.std.proofs.Common.{◌≡◌, ℕ, ◌+◌, ◌<◌, Bool, true, false, not, ◌&&◌, List, [], ◌∷◌, ◌++◌, length, map, filter, min, Option, Some, None, is_none, is_some, option_map, option_and_then, nat_eq, nat_le, nat_lt, Result, Ok, Err, cond, refl, sym, ap, subst, ◌∙◌, arith}
+use Rattle.std.proofs.lemmas.Bool.{and_parts, and_from}
 use Rattle.std.specs.Prelude.{slice_get}
 use Rattle.std.specs.Map.{lookup}
 use Rattle.std.specs.List.{AllByRecursion, list_any}
@@ -33,9 +33,9 @@ use Rattle.ddf_repair.specs.declared.first.Target.{Target}
 use Rattle.ddf_repair.specs.declared.beginning.Begun.{Begun}
 use Rattle.ddf_repair.specs.declared.beginning.Begun.TheVariants.{Nothing, Fresh, Again}
 use Rattle.ddf_repair.specs.declared.beginning.RebuildFault.{RebuildFault}
-use Rattle.ddf_repair.specs.declared.beginning.RebuildFault.TheVariants.{NoSpare, Small, Memory}
+use Rattle.ddf_repair.specs.declared.beginning.RebuildFault.TheVariants.{Small}
 use Rattle.ddf_repair.specs.First.{first_out}
-use Rattle.ddf_repair.specs.Spares.{can_stand_in, extent_on, first_extent, is_dedicated_to, is_global, is_spare_of, limit_on, most_of, spares_for, spares_of, taken_on}
+use Rattle.ddf_repair.specs.Spares.{can_stand_in, extent_on, first_extent, is_dedicated_to, is_global, is_spare_of, most_of, spares_for, spares_of, taken_on}
 use Rattle.ddf_repair.specs.Begin.{begin_change, begun, begun_at, begun_in, onto_any, onto_one}
 use Rattle.ddf_repair.proofs.Firsts.{IsPlaced, got_within, out_placed}
 

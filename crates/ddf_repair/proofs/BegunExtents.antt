@@ -1,6 +1,6 @@
 -- Where a rebuild begins on another disk one extent is replaced, and no other.
-use Rattle.std.proofs.Common.{◌≡◌, ℕ, zero, suc, ◌+◌, ◌<◌, ◌≤◌, Bool, true, false, not, ◌&&◌, cond, List, [], ◌∷◌, ◌++◌, length, map, Option, Some, None, option_map, nat_eq, refl, sym, ap, subst, ◌∙◌, if◌then◌else◌, arith}
-use Rattle.std.proofs.lemmas.Bool.{eqb-true, false≢true}
+use Rattle.std.proofs.Common.{◌≡◌, ℕ, suc, ◌+◌, ◌<◌, Bool, true, false, cond, List, [], ◌∷◌, ◌++◌, map, Option, Some, None, option_map, nat_eq, refl, sym, ap, subst, ◌∙◌, if◌then◌else◌, arith}
+use Rattle.std.proofs.lemmas.Bool.{eqb-true}
 use Rattle.std.proofs.lemmas.Cmp.{nat_list_eq_equiv}
 use Rattle.std.proofs.lemmas.Map.Keys.{IsDistinct-head, IsDistinct-tail}
 use Rattle.std.specs.Prelude.{slice_get}
@@ -16,8 +16,8 @@ use Rattle.ddf_config.specs.Extents.{array_extents, extent, extents, part_extent
 use Rattle.ddf_config.specs.Members.{same_guid}
 use Rattle.ddf_plan.specs.declared.change.Change.{Change}
 use Rattle.ddf_plan.specs.declared.change.Change.TheVariants.{Begin}
-use Rattle.ddf_plan.specs.Rebuild.{begun, element_at, new_position}
-use Rattle.ddf_plan.specs.Arrays.{element_after, named_after, names, part_after, position_after}
+use Rattle.ddf_plan.specs.Rebuild.{element_at, new_position}
+use Rattle.ddf_plan.specs.Arrays.{element_after, named_after, part_after, position_after}
 use Rattle.ddf_repair.proofs.Replaced.{IsReplaced, behind, front, here, same}
 use Rattle.ddf_repair.proofs.Usable.{one_after}
 

@@ -1,5 +1,5 @@
 -- An array that can be used can be used once a rebuild has begun on a spare.
-use Rattle.std.proofs.Common.{◌≡◌, ℕ, Bool, true, false, not, ◌&&◌, ◌||◌, cond, List, [], ◌∷◌, ◌++◌, length, Option, Some, None, Ok, refl, sym, ap, subst, ◌∙◌, if◌then◌else◌}
+use Rattle.std.proofs.Common.{◌≡◌, ℕ, Bool, true, false, not, ◌&&◌, ◌||◌, cond, List, [], ◌∷◌, Option, Some, None, refl, sym, ap, subst, ◌∙◌, if◌then◌else◌}
 use Rattle.std.proofs.lemmas.Bool.{and_from, and_parts, false≢true}
 use Rattle.std.proofs.lemmas.Cmp.{nat_list_eq_equiv}
 use Rattle.std.proofs.lemmas.List.Folds.{list_all-append}
@@ -30,7 +30,7 @@ use Rattle.ddf_plan.specs.Arrays.{array_after, arrays_after, kept_and_added, nam
 use Rattle.ddf_plan.specs.Create.{lies_clear}
 use Rattle.ddf_repair.proofs.Begins.{IsFresh, element_is, extent_is, found_free, placed}
 use Rattle.ddf_repair.proofs.BegunExtents.{all_replaced, array_replaced}
-use Rattle.ddf_repair.proofs.Numbers.{KeepsNumbers, tiers_kept}
+use Rattle.ddf_repair.proofs.Numbers.{tiers_kept}
 use Rattle.ddf_repair.proofs.Replaced.{IsReplaced, is_clear, replaced_all, same, still_lie}
 use Rattle.ddf_repair.proofs.Usable.{all_lie_kept, both_changed, looked_up, one_after, one_numbers}
 

@@ -1,5 +1,5 @@
 -- Examples of rebuilds that begin, and of what changes make of arrays.
-use Rattle.std.proofs.Common.{◌≡◌, ℕ, Bool, true, false, List, [], ◌∷◌, Option, Some, None, Ok, Err, refl}
+use Rattle.std.proofs.Common.{◌≡◌, ℕ, Bool, true, false, List, [], ◌∷◌, Some, None, Ok, Err, refl}
 use Rattle.ddf_config.specs.declared.member.Member.{Member}
 use Rattle.ddf_config.specs.declared.member.SpareUse.{SpareUse}
 use Rattle.ddf_config.specs.declared.member.SpareUse.TheVariants.{No, Global, Dedicated}
@@ -10,11 +10,11 @@ use Rattle.ddf_config.specs.Configuration.{Configuration}
 use Rattle.ddf_config.specs.ElementValue.{ElementValue}
 use Rattle.ddf_config.specs.Room.{least_start_of}
 use Rattle.ddf_config.specs.declared.refusal.Refusal.TheVariants.{NotMember}
-use Rattle.ddf_plan.specs.declared.change.Change.TheVariants.{Begin, Finish, Progress, Mark, Unmark}
+use Rattle.ddf_plan.specs.declared.change.Change.TheVariants.{Begin, Finish, Progress, Mark}
 use Rattle.ddf_plan.specs.Changes.{after, changed}
 use Rattle.ddf_plan.specs.Causes.{causes}
 use Rattle.ddf_plan.specs.Floors.{extents_refusal}
-use Rattle.ddf_repair.specs.declared.beginning.Begun.TheVariants.{Nothing, Fresh, Again}
+use Rattle.ddf_repair.specs.declared.beginning.Begun.TheVariants.{Nothing, Fresh}
 use Rattle.ddf_repair.specs.declared.beginning.RebuildFault.TheVariants.{NoSpare, Small}
 use Rattle.ddf_repair.specs.Begin.{begun}
 use Rattle.ddf_repair.specs.Accept.{accepted}

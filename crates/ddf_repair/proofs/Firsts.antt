@@ -3,11 +3,10 @@ use Rattle.std.proofs.Common.{◌≡◌, ℕ, zero, suc, ◌+◌, ◌<◌, Bool,
 use Rattle.std.specs.Prelude.{slice_get}
 use Rattle.std.specs.List.{enumerate_from}
 use Rattle.ddf_config.specs.declared.element.Position.{Position}
-use Rattle.ddf_config.specs.declared.array.Array.{Array}
 use Rattle.ddf_config.specs.ElementValue.{ElementValue}
 use Rattle.ddf_config.specs.States.{is_out}
 use Rattle.ddf_repair.specs.declared.first.Out.{Out}
-use Rattle.ddf_repair.specs.First.{first_out, out_at, out_from, out_in, part_out}
+use Rattle.ddf_repair.specs.First.{out_at, out_from, out_in, part_out}
 
 pub got_within : {X : Type 0} (xs : List X) (k : ℕ) (x : X) → slice_get xs k ≡ Some x → k < length xs
 got_within [] k x h = absurd cc

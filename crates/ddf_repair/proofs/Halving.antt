@@ -1,9 +1,9 @@
 -- Where there is room for some blocks there is room for fewer, so the most is found by halving.
-use Rattle.std.proofs.Common.{◌≡◌, ℕ, zero, suc, ◌+◌, ◌<◌, ◌≤◌, Bool, true, false, not, ◌&&◌, ◌||◌, List, [], ◌∷◌, Option, Some, None, cond, find, is_some, unwrap_or, nat_le, nat_lt, min, max, ⊎_elim, refl, sym, ap, ◌∙◌, arith}
+use Rattle.std.proofs.Common.{◌≡◌, ℕ, zero, suc, ◌+◌, ◌<◌, ◌≤◌, Bool, true, false, not, ◌||◌, List, [], ◌∷◌, Some, cond, find, is_some, unwrap_or, nat_le, ⊎_elim, refl, sym, ap, ◌∙◌, arith}
 use Rattle.std.proofs.lemmas.Bool.{and_from, and_parts, false≢true, cases_lt}
 use Rattle.std.specs.List.{list_any}
 use Rattle.ddf_config.specs.Room.{is_free, least_start_of, meets, multiples}
-use Rattle.ddf_repair.specs.Spares.{downwards, has_room, most_within}
+use Rattle.ddf_repair.specs.Spares.{downwards, has_room}
 
 -- ---- fewer blocks
 

@@ -1,5 +1,5 @@
 -- The mark after it is set, and after it is cleared.
-use Rattle.std.proofs.Common.{◌≡◌, ℕ, ◌+◌, ◌-◌, ◌*◌, ◌/◌, ◌%◌, ◌≤◌, Bool, true, false, not, List, Some, eqb, refl, sym, ap, subst, ◌∙◌, if◌then◌else◌, arith}
+use Rattle.std.proofs.Common.{◌≡◌, ℕ, ◌+◌, ◌-◌, ◌*◌, ◌/◌, ◌%◌, ◌≤◌, Bool, true, false, not, List, Some, eqb, refl, ap, ◌∙◌, if◌then◌else◌, arith}
 use Rattle.std.specs.Map.{lookup}
 use Rattle.std.specs.List.{list_any}
 use Rattle.ddf_config.specs.declared.member.Member.{Member}
@@ -8,13 +8,12 @@ use Rattle.ddf_config.specs.declared.extent.Extent.{Extent}
 use Rattle.ddf_config.specs.Configuration.{Configuration}
 use Rattle.ddf_config.specs.Extents.{extents}
 use Rattle.ddf_config.specs.Members.{same_guid}
-use Rattle.ddf_config.specs.States.{array_with_low, has_position_out, is_marked, low_state, state_with_low, takes_low_state}
+use Rattle.ddf_config.specs.States.{array_with_low, has_position_out, is_marked, low_state, takes_low_state}
 use Rattle.ddf_config.specs.Within.{is_available, is_within}
-use Rattle.ddf_plan.specs.declared.change.Change.{Change}
 use Rattle.ddf_plan.specs.declared.change.Change.TheVariants.{Mark, Unmark}
-use Rattle.ddf_plan.specs.Mark.{mark, marked, marked_state, unmarked, unmarked_state}
+use Rattle.ddf_plan.specs.Mark.{mark, marked, unmarked}
 use Rattle.ddf_plan.specs.Members.{members_after}
-use Rattle.ddf_plan.specs.Arrays.{arrays_after, kept_and_added, named_after}
+use Rattle.ddf_plan.specs.Arrays.{arrays_after, kept_and_added}
 use Rattle.ddf_repair.proofs.Usable.{looked_up, one_after, table_is}
 
 low_small : (members : List (ℕ × Member)) (array : Array) → low_state members array ≤ 4

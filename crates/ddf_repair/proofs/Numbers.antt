@@ -1,5 +1,5 @@
 -- A change of one array leaves the numbers of its elements: their levels, their shapes, and what they make together.
-use Rattle.std.proofs.Common.{◌≡◌, ℕ, zero, suc, ◌+◌, Bool, true, false, not, ◌&&◌, ◌||◌, ◌==◌, cond, List, [], ◌∷◌, ◌++◌, length, map, filter_map, Option, Some, None, is_some, option_map, option_and_then, nat_eq, nat_le, refl, sym, ap, subst, ◌∙◌, if◌then◌else◌}
+use Rattle.std.proofs.Common.{◌≡◌, ℕ, suc, ◌+◌, Bool, true, false, not, ◌&&◌, ◌||◌, ◌==◌, List, [], ◌∷◌, length, map, filter_map, Option, Some, None, is_some, option_map, option_and_then, nat_eq, refl, ap, ◌∙◌, if◌then◌else◌}
 use Rattle.std.proofs.lemmas.List.{length-map}
 use Rattle.std.proofs.lemmas.List.FromFn.{length-enumerate_from}
 use Rattle.std.specs.List.{cons_option, enumerate_from, list_all}
@@ -7,21 +7,18 @@ use Rattle.std.specs.Result.{result_ok}
 use Rattle.ddf_primary.specs.Levels.{shape_of}
 use Rattle.ddf_secondary.specs.declared.element.ElementSize.{ElementSize}
 use Rattle.ddf_secondary.specs.Arrangement.{tiers_of}
-use Rattle.ddf_config.specs.declared.member.Member.{Member}
 use Rattle.ddf_config.specs.declared.element.Position.{Position}
 use Rattle.ddf_config.specs.declared.array.Array.{Array}
-use Rattle.ddf_config.specs.declared.extent.Extent.{Extent}
 use Rattle.ddf_config.specs.declared.refusal.Refusal.{Refusal}
 use Rattle.ddf_config.specs.ElementValue.{ElementValue, with_positions}
 use Rattle.ddf_config.specs.Levels.{level_refusal, unserved_level}
 use Rattle.ddf_config.specs.Refusals.{first_refusal}
 use Rattle.ddf_config.specs.Shapes.{array_tiers, element_shape, has_shape, has_shapes, has_tiers, part_size, sizes, secondary_level, shape_size, strip_sectors}
-use Rattle.ddf_config.specs.States.{array_with_low}
 use Rattle.ddf_config.specs.Within.{is_complete}
 use Rattle.ddf_plan.specs.declared.change.Change.{Change}
-use Rattle.ddf_plan.specs.declared.change.Change.TheVariants.{Lose, Create, Delete, Spare, Fail, Mark, Unmark, Begin, Progress, Finish}
-use Rattle.ddf_plan.specs.Mark.{marked, unmarked, without_row, without_rows}
-use Rattle.ddf_plan.specs.Arrays.{array_after, element_after, named_after, names, part_after, position_after, rebuilding}
+use Rattle.ddf_plan.specs.declared.change.Change.TheVariants.{Mark, Unmark, Begin, Progress, Finish}
+use Rattle.ddf_plan.specs.Mark.{without_row, without_rows}
+use Rattle.ddf_plan.specs.Arrays.{element_after, named_after, names, part_after, position_after}
 
 -- ---- elements
 

@@ -1,5 +1,5 @@
 -- An array that can be used can be used after a change that leaves each position its disk and its start.
-use Rattle.std.proofs.Common.{◌≡◌, ℕ, zero, suc, ◌+◌, Bool, true, false, not, ◌&&◌, cond, List, [], ◌∷◌, ◌++◌, length, map, Option, Some, None, option_map, nat_eq, nat_le, count_by, refl, sym, ap, subst, ◌∙◌, if◌then◌else◌}
+use Rattle.std.proofs.Common.{◌≡◌, ℕ, ◌+◌, Bool, true, false, not, ◌&&◌, cond, List, [], ◌∷◌, ◌++◌, map, Option, Some, None, option_map, nat_eq, nat_le, count_by, refl, ap, ◌∙◌, if◌then◌else◌}
 use Rattle.std.proofs.lemmas.Bool.{false≢true}
 use Rattle.std.specs.Map.{lookup}
 use Rattle.std.specs.List.{enumerate_from, flat_map, list_all, list_any}
@@ -17,19 +17,19 @@ use Rattle.ddf_config.specs.Extents.{array_extents, extent, extents, part_extent
 use Rattle.ddf_config.specs.Levels.{unserved_level}
 use Rattle.ddf_config.specs.Members.{same_guid}
 use Rattle.ddf_config.specs.Refusals.{first_refusal, refuse_if}
-use Rattle.ddf_config.specs.Served.{is_served, lies_well, meets_extent}
+use Rattle.ddf_config.specs.Served.{lies_well, meets_extent}
 use Rattle.ddf_config.specs.Shapes.{has_shapes, has_tiers}
 use Rattle.ddf_config.specs.States.{array_with_low}
 use Rattle.ddf_config.specs.Unusable.{is_served_on, passes_floor, unusable}
 use Rattle.ddf_config.specs.Within.{is_complete}
 use Rattle.ddf_plan.specs.declared.change.Change.{Change}
-use Rattle.ddf_plan.specs.declared.change.Change.TheVariants.{Lose, Create, Delete, Spare, Fail, Mark, Unmark, Begin, Progress, Finish}
-use Rattle.ddf_plan.specs.Mark.{marked, without_row, without_rows}
+use Rattle.ddf_plan.specs.declared.change.Change.TheVariants.{Mark, Unmark, Progress, Finish}
+use Rattle.ddf_plan.specs.Mark.{without_row, without_rows}
 use Rattle.ddf_plan.specs.Rebuild.{finished, progressed}
 use Rattle.ddf_plan.specs.Members.{member_after, members_after}
 use Rattle.ddf_plan.specs.Arrays.{array_after, arrays_after, element_after, kept_and_added, named_after, names, part_after, position_after}
 use Rattle.ddf_repair.specs.Places.{keeps_places}
-use Rattle.ddf_repair.proofs.Numbers.{IsSameArray, KeepsNumbers, chosen_same, named_same, numbers_kept, tiers_kept}
+use Rattle.ddf_repair.proofs.Numbers.{KeepsNumbers, chosen_same, named_same, numbers_kept, tiers_kept}
 
 -- ---- members keep their sizes
 

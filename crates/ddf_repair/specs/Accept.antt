@@ -1,7 +1,6 @@
 -- The change that clears the mark of an array.
 use Rattle.std.specs.Prelude.{ℕ, List, Option, Some, None, if◌then◌else◌}
 use Rattle.std.specs.Map.{lookup}
-use Rattle.ddf_config.specs.declared.array.Array.{Array}
 use Rattle.ddf_config.specs.Configuration.{Configuration}
 use Rattle.ddf_config.specs.Members.{same_guid}
 use Rattle.ddf_config.specs.States.{is_marked}

@@ -75,7 +75,7 @@ claimed_current r sound past held readable c assembled slot copy claimed =
 -- ---- the members that aren't absent
 
 -- The entry that a look-up finds is one of the list.
-entry_there : (test : ℕ → Bool) (entries : List (ℕ × Member)) (member : Member) → lookup test entries ≡ Some member
+pub entry_there : (test : ℕ → Bool) (entries : List (ℕ × Member)) (member : Member) → lookup test entries ≡ Some member
     → (place key : ℕ) × (slice_get entries place ≡ Some (key, member)) × (test key ≡ true)
 entry_there test [] member found = absurd cc
 entry_there test (entry ∷ entries) member found = go (entry_there test entries member) (test entry.0) refl found
@@ -88,7 +88,7 @@ entry_there test (entry ∷ entries) member found = go (entry_there test entries
     go later false is same = let rest = later same in (suc rest.0, rest.1, rest.2, rest.3)
 
 -- A slot of this reference shows it.
-has_its_reference : (slots : List GroupShown) (reference slot : ℕ) (view : View) → view_in (slot_at slots slot) ≡ Some view
+pub has_its_reference : (slots : List GroupShown) (reference slot : ℕ) (view : View) → view_in (slot_at slots slot) ≡ Some view
     → has_reference slots reference slot ≡ true → view.reference ≡ reference
 has_its_reference slots reference slot view is has = eqb-true view.reference reference (rw is at has)
 

@@ -60,3 +60,8 @@ pub mod FoundingNames
 pub mod Founding
 pub mod FoundingRead
 pub mod FoundingCut
+pub mod AllSteps
+pub mod LastStep
+pub mod LeftMissing
+pub mod MembersKept
+pub mod FoundedMember

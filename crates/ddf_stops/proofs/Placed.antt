@@ -1,5 +1,5 @@
 -- A disk keeps its floor while it gets a copy of the same floor.
-use Rattle.std.proofs.Common.{◌≡◌, ◌⊎◌, ◌∙◌, ℕ, ◌<◌, ◌≤◌, Bool, if◌then◌else◌, List, Option, Some, Result, Ok, Err, length, ap, refl, sym, subst, inl, inr, ⊎_elim, arith, min}
+use Rattle.std.proofs.Common.{◌≡◌, ◌⊎◌, ◌∙◌, ℕ, ◌<◌, ◌≤◌, if◌then◌else◌, List, Some, Result, Ok, length, ap, refl, sym, subst, inl, inr, ⊎_elim, arith, min}
 use Rattle.std.proofs.lemmas.Bool.{cases_lt}
 use Rattle.std.proofs.Math.Path.{fun_ext}
 use Rattle.std.specs.Prelude.{slice_get}
@@ -23,7 +23,6 @@ use Rattle.ddf_update.specs.declared.prepared.Mode.TheVariants as modes
 use Rattle.ddf_update.specs.declared.prepared.Prepared.{Prepared}
 use Rattle.ddf_update.specs.Changes.{IsGetting, IsLeftChangingAll, MayChangeAll, MayGet, SlotChange}
 use Rattle.ddf_update.specs.Prepared.{writes_anchor}
-use Rattle.ddf_update.specs.Group.{AreSlots}
 use Rattle.ddf_update.specs.Update.{AreBoth, IsAdopting, IsChanging, IsReadAdopting, MayAdopt, MayChange}
 use Rattle.ddf_view.proofs.Finds.{place_there, place_within}
 use Rattle.ddf_assembly.specs.Group.{floor_of}

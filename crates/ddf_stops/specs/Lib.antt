@@ -4,3 +4,4 @@ pub mod AtEnd
 pub mod Steps
 pub mod Founding
 pub mod Floors
+pub mod Members

@@ -15,7 +15,7 @@ mod standing;
 mod view;
 
 pub use conflict::{ConflictText, SplitText};
-pub use done::sequence_line;
+pub use done::{cut_line, sequence_line};
 pub use fault::disk_fault_line;
 pub use group::{group_text, shown_text};
 pub use refusal::RefusalText;

@@ -1,6 +1,6 @@
 -- What a slot shows while it is adopted by another group.
 use Rattle.std.proofs.Common.{◌≡◌, ◌≢◌, ◌⊎◌, ℕ, ◌-◌, ◌<◌, List, Ok, Err, Some, None, refl, sym, ◌∙◌, ap, inl, inr, ⊎_elim, arith, subst}
-use Rattle.std.specs.Prelude.{IfOk, Result}
+use Rattle.std.specs.Prelude.{Result}
 use Rattle.ddf_bytes.specs.Bytes.{bytes_at}
 use Rattle.ddf_bay.specs.State.{BayState, size_of}
 use Rattle.ddf_bay.specs.Sectors.{Image, IsLeft}
@@ -25,7 +25,7 @@ use Rattle.ddf_copy.proofs.Gates.{found_is}
 use Rattle.ddf_copy.proofs.Laid.{part_in_runs}
 use Rattle.ddf_copy.proofs.LevelCopies.{same_start, written_same}
 use Rattle.ddf_copy.proofs.Newests.{newest_of_one, newest_same}
-use Rattle.ddf_copy.proofs.Shared.{AreShared, shared_geometry, shared_guid}
+use Rattle.ddf_copy.proofs.Shared.{shared_guid}
 use Rattle.ddf_copy.proofs.Stands.{open_copy, place_within, same_copy}
 use Rattle.ddf_update.specs.declared.gate.Gate.{Gate}
 use Rattle.ddf_update.specs.declared.prepared.Mode.TheVariants.{Adopt}

@@ -20,7 +20,7 @@ use Rattle.ddf_cells.specs.CellsOn.{cell_by, cell_in, cell_of, cell_on, copy_cel
 
 -- ---- sums
 
-sum_same : (f g : ℕ → ℕ) (xs : List ℕ) → ((x : ℕ) → f x ≡ g x) → sum_by f xs ≡ sum_by g xs
+pub sum_same : (f g : ℕ → ℕ) (xs : List ℕ) → ((x : ℕ) → f x ≡ g x) → sum_by f xs ≡ sum_by g xs
 sum_same f g [] same = refl
 sum_same f g (x ∷ xs) same = sum_by-cons f x xs ∙ ap (λ n. n + sum_by f xs) (same x) ∙ ap (λ n. g x + n) (sum_same f g xs same) ∙ sym (sum_by-cons g x xs)
 
@@ -28,7 +28,7 @@ sum_zero : (f : ℕ → ℕ) (xs : List ℕ) → ((x : ℕ) → f x ≡ 0) → s
 sum_zero f [] none = refl
 sum_zero f (x ∷ xs) none = sum_by-cons f x xs ∙ (let a = none x in let b = sum_zero f xs none in omega (arith, a, b))
 
-sum_plus : (f g : ℕ → ℕ) (xs : List ℕ) → sum_by (λ x. f x + g x) xs ≡ sum_by f xs + sum_by g xs
+pub sum_plus : (f g : ℕ → ℕ) (xs : List ℕ) → sum_by (λ x. f x + g x) xs ≡ sum_by f xs + sum_by g xs
 sum_plus f g [] = refl
 sum_plus f g (x ∷ xs) =
     let a = sum_by-cons (λ x. f x + g x) x xs in

@@ -6,6 +6,7 @@ pub mod RowLoops
 pub mod FaultSlots
 pub mod WriteEnds
 pub mod WriteLeaves
+pub mod RowsUntouched
 pub mod RedundantAfter
 pub mod WrittenValues
 pub mod CellsCount

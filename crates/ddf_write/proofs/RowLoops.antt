@@ -10,7 +10,7 @@ use Rattle.ddf_primary.specs.declared.cell.Cell.{Cell}
 use Rattle.ddf_primary.specs.declared.layout.Layout.{Layout}
 use Rattle.ddf_primary.specs.declared.layout.Layout.TheVariants.{Raid0, Raid1, Parity, Jbod, Concatenation}
 use Rattle.ddf_primary.specs.Cells as cells_of
-use Rattle.ddf_primary.specs.Cells.{cells, depth_by, depth_of, parity_by, parity_member, parity_on, rows_by, rows_of}
+use Rattle.ddf_primary.specs.Cells.{cells, depth_by, depth_of, parity_member, rows_by, rows_of}
 use Rattle.ddf_primary.proofs.ShapeFacts.{cell_facts}
 use Rattle.ddf_secondary.specs.declared.element.ElementSize.{ElementSize}
 use Rattle.ddf_secondary.specs.declared.level.SecondaryLevel.{SecondaryLevel}

@@ -53,7 +53,7 @@ module _ (v : Volume) (element : ℕ) (part : Part) (position sector : ℕ) wher
 -- a failure is none before it is one
 pub sure_fewer : (P Q : ℕ → Type 0) (v : Volume) (entry : Image) → ((slot : ℕ) → P slot → Q slot) → IsSure Q v entry → IsSure P v entry
 sure_fewer P Q v entry within (inl never) = inl (λ slot on is. never slot on (within slot is))
-sure_fewer P Q v entry within (inr redundant) = inr redundant
+sure_fewer P Q v entry within (inr equal) = inr equal
 
 -- a cell is as it is read
 module _ (v : Volume) (known : IsVolume v) (apart : IsApart v) (whole : is_degraded v ≡ false) (marked : trusts_parity v ≡ false) (element : ℕ) (part : Part) (is_part : slice_get v.parts element ≡ Some part)

@@ -11,7 +11,6 @@ use Rattle.ddf_array.specs.Volume.{Volume, IsVolume}
 use Rattle.ddf_array.specs.Sources.{Source, copy, copies, sources, trusts_parity}
 use Rattle.ddf_array.specs.Values.{bytes_at, given, value}
 use Rattle.ddf_array.specs.Rows.{block_at, cell_value, row_sum, sources_without_block, value_without_block}
-use Rattle.ddf_array.proofs.Consistent.{copy_gives}
 use Rattle.ddf_volume.specs.Reading.{FirstHasSlot, IsGivenBy, IsOn}
 use Rattle.ddf_write.specs.RowWrites.{IsFilled, IsSure}
 use Rattle.ddf_cells.specs.Degraded.{is_degraded}
@@ -130,14 +129,12 @@ module _ (v : Volume) (known : IsVolume v) (apart : IsApart v) (element : ℕ) (
               let its = copy_in (copies v block) 0 from.0 from.1 in
               let same : its.0 ≡ rep = some_is (sym its.1 ∙ first) in
               from.2 ∙ ap (given image) (sym its.2) ∙ ap (bytes_at image) same
-          by (inr redundant) =
+          by (inr equal) =
               let from = one_of failed image (map copy (copies v block)) bytes is_copied in
               let source = from.1.0 in
               let its = copy_in (copies v block) from.0 source from.1.1 in
               let read : bytes ≡ bytes_at image its.0 = from.1.2 ∙ ap (given image) (sym its.2) in
-              let one = copy_gives v entry redundant block from.0 its.0 its.1 in
-              let two = copy_gives v entry redundant block 0 rep first in
-              read ∙ copy_as_before block from.0 its.0 other its.1 ∙ some_is (sym one ∙ two) ∙ sym (copy_as_before block 0 rep other first)
+              read ∙ copy_as_before block from.0 its.0 other its.1 ∙ equal block from.0 0 its.0 rep its.1 first ∙ sym (copy_as_before block 0 rep other first)
 
       -- each data cell that holds none of the blocks is read as its value
       pub value_read : (bytes : List ℕ) → ((k : ℕ) → k < length sectors → block_at v element position sector ≢ Some (start + k)) → IsGivenBy failed image (sources_in_write v element part position sector) bytes

@@ -7,18 +7,18 @@ use Rattle.ddf_primary.specs.Cells.{rows_of}
 use Rattle.ddf_array.specs.declared.part.Part.{Part}
 use Rattle.ddf_array.specs.declared.site.Site.{Site}
 use Rattle.ddf_array.specs.Levels.{keeps_parity}
-use Rattle.ddf_array.specs.Redundant.{IsRedundant}
 use Rattle.ddf_array.specs.Rows.{block_at, row_sum}
 use Rattle.ddf_array.specs.Values.{bytes_at}
 use Rattle.ddf_array.specs.Volume.{Volume}
 use Rattle.ddf_volume.specs.Reading.{IsOn}
+use Rattle.ddf_cells.specs.CellSources.{HaveEqualCopies}
 use Rattle.ddf_cells.specs.CellsOn.{cell_on}
 use Rattle.ddf_cells.specs.Touching.{IsTouchedSlot}
 use Rattle.ddf_write.specs.Writing.{IsLeftByWrite, IsParityAt, IsTouched}
 
--- no read failed of a disk on which the array has an available cell, or the array was redundant before
+-- no read failed of a disk on which the array has an available cell, or all copies of each block were equal before
 abbrev pub IsSure : (failed : ℕ → Type 0) → Volume → Image → Type 0
-IsSure failed volume entry = ((slot : ℕ) → IsOn volume slot → failed slot → ⊥) ⊎ IsRedundant volume entry
+IsSure failed volume entry = ((slot : ℕ) → IsOn volume slot → failed slot → ⊥) ⊎ HaveEqualCopies volume entry
 
 -- the cells of these blocks hold their bytes
 abbrev pub AllSet : Volume → (start : ℕ) → List (List ℕ) → Image → Type 0

@@ -77,8 +77,9 @@ fn write_all<B: Bay>(bay: &mut B, view: &View, start: u64, from: &[Sector]) -> R
 /// call. Data cells of other blocks are read for it, from the available cells of their blocks in order. Then each slot
 /// that was written to is synced. Neighbouring blocks are written in one call where their cells on a position follow one another.
 ///
-/// The parity is right where no read failed in this call, or where the array was redundant before. An array that keeps parity has
-/// to be marked, so that whoever meets a write that was interrupted makes it redundant again.
+/// The parity is right where no read failed in this call, or where all copies of each block were equal before, as they are in an
+/// array that was redundant. An array that keeps parity has to be marked, so that whoever meets a write that was interrupted makes
+/// it redundant again.
 ///
 /// # Errors
 /// `Range` where the range passes the capacity, `Lost` where the array isn't within its level, `Degraded` where an element that

@@ -31,8 +31,8 @@ use Rattle.ddf_write_commands.specs.Doing.{Doing}
 use Rattle.ddf_write_commands.specs.Opened.{CanGoOn, IsOpened, steps_left}
 use Rattle.ddf_write_commands.specs.Planned.{Entry, IsPlanned, Refusing, request_around}
 use Rattle.ddf_write_commands.specs.Plans.{IsPlanOf}
-use Rattle.ddf_write_commands.specs.Worked.{IsLeftDoing, IsWorkedOf}
-use Rattle.ddf_write_commands.proofs.Between.{can_close, close_along, close_aside, close_keeps, close_leaves, closed, not_opened, work_along, work_aside, work_keeps, work_leaves, work_stopped}
+use Rattle.ddf_write_commands.specs.Worked.{IsArrayLeft, IsLeftDoing, IsWorkedOf}
+use Rattle.ddf_write_commands.proofs.Between.{can_close, close_along, close_aside, close_keeps, close_leaves, closed, not_opened, work_along, work_aside, work_keeps, work_leaves, work_left, work_stopped}
 use Rattle.ddf_write_commands.proofs.Courses.{IsTold}
 use Rattle.ddf_write_commands.proofs.OnePlan.{same_first, same_last, same_ok, same_volume}
 use Rattle.ddf_write_commands.proofs.Parts.{issued_parts, opening_fails}
@@ -137,6 +137,12 @@ module _ {D : Type 0} (tells : Type 0) (doing : Doing) (steady : IsSteady doing)
       stopped_of slot stops =
           work_stopped tells doing steady old opened found now_found asked plan.changes timestamp left_ready from opens floored beside leaves_first same_sizes same_reads opened_rise tells_opened plan.view
           done_blocks tells_done done works word request its_plan.planned its_plan.first_is its_plan.last_is its_plan.volume_is slot stops
+
+      -- it was done, and nothing behind it
+      pub left_of : done ≡ true → IsArrayLeft doing (work_of tells old done_blocks) found timestamp word request
+      left_of so =
+          work_left tells doing steady old opened found now_found asked plan.changes timestamp left_ready from opens floored beside leaves_first same_sizes same_reads opened_rise tells_opened plan.view
+          done_blocks tells_done done works word request its_plan.planned its_plan.first_is its_plan.last_is its_plan.volume_is so
 
       pub stopped_leaves : tells → StopsLeave old done_blocks (IsLeftDoing doing (work_of tells old done_blocks) found timestamp word request)
       stopped_leaves =

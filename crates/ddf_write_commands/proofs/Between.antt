@@ -50,7 +50,7 @@ use Rattle.ddf_write_commands.specs.Doing.{Doing}
 use Rattle.ddf_write_commands.specs.Holding.{holding}
 use Rattle.ddf_write_commands.specs.Opened.{CanGoOn, IsOpened, steps_left}
 use Rattle.ddf_write_commands.specs.Planned.{IsPlanned}
-use Rattle.ddf_write_commands.specs.Worked.{IsArrayDone, IsArrayStopped, IsLeftClosing, IsLeftDoing, IsLeftWorking, IsWorkedOf}
+use Rattle.ddf_write_commands.specs.Worked.{IsArrayDone, IsArrayLeft, IsArrayStopped, IsLeftClosing, IsLeftDoing, IsLeftWorking, IsWorkedOf}
 use Rattle.ddf_write_commands.proofs.BelowFloors.{floor_slot}
 use Rattle.ddf_write_commands.proofs.Closing.{last_keeps}
 use Rattle.ddf_write_commands.proofs.Courses.{IsTold, write_fails, writes}
@@ -169,6 +169,19 @@ module _ {D : Type 0} (tells : Type 0) (doing : Doing) (steady : IsSteady doing)
 
       first_written : tells → AreWritten old.sizes old.held plan.first opened.held
       first_written told = subst (λ (steps : List Step). AreWritten old.sizes old.held steps opened.held) (sym first_is) (opens.are_written told)
+
+      -- it was, and nothing behind it
+      pub work_left : done ≡ true → IsArrayLeft doing (work_of tells old behind) found timestamp word request
+      work_left so = record {
+        plan = plan;
+        left = λ told. (
+          opened.held,
+          first_written told,
+          subst (λ (v : Volume). doing.HasDone (Failed old behind) v opened.held behind.held) (sym volume_is)
+              (steady.more_done (Failed opened behind) (Failed old behind) (more_failed behind (λ s. omega arith)) volume opened.held behind.held (works.has_done told so)),
+          subst (λ (v : Volume). doing.IsLeft v opened.held behind.held) (sym volume_is) (works.is_left told),
+        );
+      }
 
       is_working : tells → (new : BayState D) (image : Image) → doing.IsAmong volume opened.held opened.may_hold image → IsLeftWorking doing (work_of tells old new) found plan.first plan.volume image
       is_working told new image among = record {

@@ -19,7 +19,9 @@ mod ResyncArray
 mod PlanWritten
 mod WriteWorks
 mod WriteArray
+mod WriteBlocks
 pub mod Since
 pub mod Ended
+mod FirstPiece
+mod WriteTaken
 mod WriteCame
-mod Chunks

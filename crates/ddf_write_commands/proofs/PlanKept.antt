@@ -34,7 +34,7 @@ use Rattle.ddf_assembly.specs.Refusing.{step_refusal}
 use Rattle.ddf_assembly.specs.Steps.{Step, step_of}
 use Rattle.ddf_assembly.specs.Trying.{SlotsRise}
 use Rattle.ddf_assembly.proofs.RecoveredGroup.{is_recovered}
-use Rattle.ddf_request.specs.Named.{named_array, named_guid, with_array}
+use Rattle.ddf_request.specs.Named.{with_array}
 use Rattle.ddf_group_commands.specs.Change.{Request, steps_asked, steps_of, steps_or}
 use Rattle.ddf_group_commands.proofs.StepsWritten.{steps_in}
 use Rattle.ddf_write_commands.specs.declared.planning.Plan.{Plan}

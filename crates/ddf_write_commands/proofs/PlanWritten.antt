@@ -1,6 +1,6 @@
 -- How a write of blocks is planned, or why it isn't.
 use Rattle.std.proofs.Common.{◌≡◌, ℕ, ◌+◌, ◌≤◌, Bool, true, false, not, ◌&&◌, ◌||◌, List, [], ◌∷◌, ◌++◌, Option, Some, None, Result, Err, refl, sym, ap, ◌∙◌, if◌then◌else◌, length, arith}
-use Rattle.std.proofs.lemmas.Bool.{false≢true, ltb-false, or_left, or_right}
+use Rattle.std.proofs.lemmas.Bool.{false≢true, or_left, or_right}
 use Rattle.std.specs.Prelude.{nat_lt}
 use Rattle.std.specs.List.{AllByRecursion, list_any}
 use Rattle.std.specs.Map.{lookup}
@@ -36,7 +36,7 @@ use Rattle.ddf_request.specs.Usable.{bad_blocks, useless}
 use Rattle.ddf_answer.specs.declared.failure.Failure.{Failure}
 use Rattle.ddf_answer.specs.declared.failure.Failure.TheVariants.{Refused}
 use Rattle.ddf_data_commands.specs.declared.using.Access.TheVariants.{Writes}
-use Rattle.ddf_data_commands.specs.Use.{IsUsable, array_refusals, is_forbidden, is_out_of_range, most_blocks}
+use Rattle.ddf_data_commands.specs.Use.{IsUsable, array_refusals, is_forbidden, is_out_of_range}
 use Rattle.ddf_write_commands.specs.declared.planning.Plan.{Plan}
 use Rattle.ddf_write_commands.specs.Planned.{Entry, lacks_position}
 use Rattle.ddf_write_commands.specs.Plans.{IsPlanOf, MayPlan, MayPlanFor}
@@ -98,11 +98,10 @@ second_of None None None (Some x) e h = absurd cc
 second_of None None None None (Some x) h = absurd cc
 second_of None None None None None h = (refl, refl)
 
-in_range : (complete passes many : Bool) (capacity : ℕ) → refuse_if (complete && (passes || many)) (Range capacity) ≡ None → refuse_if (not complete) Lost ≡ None → (passes ≡ false) × (many ≡ false)
-in_range true true many capacity range whole = absurd cc
-in_range true false true capacity range whole = absurd cc
-in_range true false false capacity range whole = (refl, refl)
-in_range false passes many capacity range whole = absurd cc
+in_range : (complete passes : Bool) (capacity : ℕ) → refuse_if (complete && passes) (Range capacity) ≡ None → refuse_if (not complete) Lost ≡ None → passes ≡ false
+in_range true true capacity range whole = absurd cc
+in_range true false capacity range whole = refl
+in_range false passes capacity range whole = absurd cc
 
 none_of_three : (within marked lacks : Bool) → first_refusal (three within marked lacks) ≡ None
     → ◌≡◌ {A = Option VolumeFault} (if not within then Some volumes.Lost else (if lacks then Some volumes.Unsure else None)) None
@@ -138,15 +137,11 @@ module _ (start count : ℕ) (config : Configuration) (seats : List Seat) (word 
   both : (first_refusal (array_refusals Writes config seats entry.1 start count) ≡ None) × (first_refusal (more_of_write config seats entry) ≡ None)
   both = none_of_both (array_refusals Writes config seats entry.1 start count) (more_of_write config seats entry) is.accepted
 
-  range : (nat_lt (array_capacity entry.1) (start + count) ≡ false) × (nat_lt most_blocks count ≡ false)
+  range : nat_lt (array_capacity entry.1) (start + count) ≡ false
   range =
       let some = second_of (useless config seats entry.1) (refuse_if (is_out_of_range entry.1 start count) (Range (array_capacity entry.1))) (bad_blocks seats entry.1)
       (refuse_if (is_forbidden Writes entry.1) Held) (refuse_if (not (is_complete entry.1)) Lost) both.0 in
-      in_range (is_complete entry.1) (nat_lt (array_capacity entry.1) (start + count)) (nat_lt most_blocks count) (array_capacity entry.1) some.0 some.1
-
-  -- So many blocks are few.
-  pub few_blocks : count ≤ 2048
-  few_blocks = ltb-false most_blocks count range.1
+      in_range (is_complete entry.1) (nat_lt (array_capacity entry.1) (start + count)) (array_capacity entry.1) some.0 some.1
 
   found : lookup (same_guid entry.0) config.arrays ≡ Some entry.1
   found = named_is config.arrays word entry is.is_named
@@ -165,7 +160,7 @@ module _ (start count : ℕ) (config : Configuration) (seats : List Seat) (word 
       let same : capacity plan.view ≡ capacity is.is_for.before = either write_behind config seats entry plan is.is_for found (λ (v : Volume). capacity v ≡ capacity is.is_for.before) refl refl in
       let told = told_capacity config entry.0 seats is.is_for.before entry.1 is.is_for.is_before found in
       none_written (nat_lt (capacity plan.view) (start + count)) (is_within plan.view) (is_degraded plan.view) (capacity plan.view)
-      (ap (λ (n : ℕ). nat_lt n (start + count)) (same ∙ told) ∙ range.0)
+      (ap (λ (n : ℕ). nat_lt n (start + count)) (same ∙ told) ∙ range)
       (either write_behind config seats entry plan is.is_for found (λ (v : Volume). resync_refusal v ≡ None) not_refused (refusal_same is.is_for.before ∙ not_refused))
 
 few_by : (b : Bool) (change : Change) → length (if b then change ∷ [] else []) ≤ 1

@@ -22,7 +22,6 @@ use Rattle.ddf_history.specs.Groups.{groups}
 use Rattle.ddf_history.specs.Issued.{Past}
 use Rattle.ddf_history.specs.Promise.{IsKept}
 use Rattle.ddf_history.specs.Scenes.{scene_of}
-use Rattle.ddf_stops.specs.Going.{IsAdmitted}
 use Rattle.ddf_stops.specs.Kept.{AreAllKept}
 use Rattle.ddf_answer.specs.declared.failure.Failure.{Failure}
 use Rattle.ddf_answer.specs.declared.failure.Failure.TheVariants.{Conflict, Disk, Memory, Refused, Split}
@@ -32,7 +31,6 @@ use Rattle.ddf_answer.proofs.Rises.{look_still, rose_later}
 use Rattle.ddf_group_commands.specs.Change.{KeepsHistories, Request, TakesGroup, is_done, steps_asked, steps_of, steps_or}
 use Rattle.ddf_group_commands.specs.GroupRead.{IsFoundBy, IsGroupRead, group_or}
 use Rattle.ddf_group_commands.specs.Others.{LeavesOthers}
-use Rattle.ddf_group_commands.specs.Writing.{IsLeftWriting}
 use Rattle.ddf_group_commands.specs.Written.{AreWritten}
 use Rattle.ddf_group_commands.proofs.Beside.{beside_since, reads_beside}
 use Rattle.ddf_group_commands.proofs.Keeping.{reads_keep, since_entry}
@@ -43,7 +41,7 @@ use Rattle.ddf_write_commands.specs.Doing.{Doing}
 use Rattle.ddf_write_commands.specs.Holding.{holding}
 use Rattle.ddf_write_commands.specs.Planned.{Entry, IsPlanned, Refusing, request_around}
 use Rattle.ddf_write_commands.specs.Plans.{IsNotReadied, MayPlan}
-use Rattle.ddf_write_commands.specs.Worked.{IsLeftClosing, IsLeftDoing, IsLeftWorking, IsWorkedIn, IsWorkedOf, LeavesDoing}
+use Rattle.ddf_write_commands.specs.Worked.{IsArrayLeft, IsLeftClosing, IsLeftDoing, IsLeftWorking, IsWorkedIn, IsWorkedOf, LeavesDoing}
 use Rattle.ddf_write_commands.proofs.Works.{IsSteady}
 use Rattle.ddf_stops.proofs.Entering.{admitted_still, kept_still}
 use Rattle.ddf_group_commands.proofs.LeftWriting.{left_still, writing_more, writing_since}
@@ -59,6 +57,22 @@ pub record HasDoneArray {D : Type 0} (doing : Doing) (tells : Type 0) (middle ne
       → KeepsHistories middle new left group steps (is_done outcome)
   pub along : tells → (left : List Bool) (named : Option (List ℕ)) → IsFoundBy middle left named group → AllComeAlong doing (work_of tells middle new) left group timestamp word request (is_done outcome)
   pub goes : GoesBetween middle new
+
+-- The same without what came of the work.
+pub record HaveBeenMade {D : Type 0} (doing : Doing) (tells : Type 0) (middle new : BayState D) (group : GroupValue) (timestamp : ℕ) (word : List ℕ) (request : Request) (done : Bool) : Type 0 where
+  pub leaves : tells → StopsLeave middle new (IsLeftDoing doing (work_of tells middle new) group timestamp word request)
+  pub beside : tells → LeavesOthers middle new (slots_of group.seats)
+  pub keeps : tells → (left : List Bool) (named : Option (List ℕ)) → IsFoundBy middle left named group → (steps : List Step) → steps_of group timestamp request ≡ Ok steps
+      → KeepsHistories middle new left group steps done
+  pub along : tells → (left : List Bool) (named : Option (List ℕ)) → IsFoundBy middle left named group → AllComeAlong doing (work_of tells middle new) left group timestamp word request done
+  pub goes : GoesBetween middle new
+
+-- What they promise since the entry of the command.
+pub record HaveSince {D : Type 0} (doing : Doing) (work : Work D) (named : Option (List ℕ)) (timestamp : ℕ) (word : List ℕ) (request : Request) (group : GroupValue) (done : Bool) : Type 0 where
+  pub taken : TakesGroup work named timestamp request done
+  pub is_group : group_of taken.newest named ≡ Ok group
+  pub leaves : work.tells → LeavesDoing doing work timestamp word request (group_of taken.newest named)
+  pub along : work.tells → GoesAlong doing work taken.left timestamp word request done (group_of taken.newest named)
 
 -- A command came to this: what it made of the group that it took.
 pub record HasComeTo {D : Type 0} (doing : Doing) (work : Work D) (named : Option (List ℕ)) (timestamp : ℕ) (word : List ℕ) (request : Request) (outcome : Result ℕ Failure) : Type 0 where
@@ -183,7 +197,7 @@ module _ {D : Type 0} (tells : Type 0) (doing : Doing) (steady : IsSteady doing)
   written_since steps image written = rw (reads.same_sizes, reads.same_held) at written
 
   -- what came of a group that was read before
-  worked_since : (group : GroupValue) (timestamp : ℕ) (word : List ℕ) (request : Request) (outcome : Result ℕ Failure) → IsWorkedOf doing (work_of tells middle new) group timestamp word request outcome
+  pub worked_since : (group : GroupValue) (timestamp : ℕ) (word : List ℕ) (request : Request) (outcome : Result ℕ Failure) → IsWorkedOf doing (work_of tells middle new) group timestamp word request outcome
       → IsWorkedOf doing (work_of tells old new) group timestamp word request outcome
   worked_since group timestamp word request (Ok sequence) is = record {
     plan = is.plan;
@@ -211,6 +225,18 @@ module _ {D : Type 0} (tells : Type 0) (doing : Doing) (steady : IsSteady doing)
   worked_since group timestamp word request (Err Memory) is = reads_then reads is
   worked_since group timestamp word request (Err (Conflict i j sequence differ)) is = absurd is
   worked_since group timestamp word request (Err (Split i j)) is = absurd is
+
+  pub array_left_since : (group : GroupValue) (timestamp : ℕ) (word : List ℕ) (request : Request) → IsArrayLeft doing (work_of tells middle new) group timestamp word request
+      → IsArrayLeft doing (work_of tells old new) group timestamp word request
+  array_left_since group timestamp word request is = record {
+    plan = is.plan;
+    left = λ told. let all = is.left told in (
+      all.0,
+      written_since is.plan.first all.0 all.1,
+      steady.more_done (Failed middle new) (Failed old new) more is.plan.volume all.0 new.held all.2,
+      all.3,
+    );
+  }
 
   module _ (group : GroupValue) (first : List Step) (volume : Volume) (image : Image) where
     working_since : IsLeftWorking doing (work_of tells middle new) group first volume image → IsLeftWorking doing (work_of tells old new) group first volume image
@@ -280,8 +306,7 @@ module _ {D : Type 0} (tells : Type 0) (doing : Doing) (steady : IsSteady doing)
       };
     }
 
-  module _ (named : Option (List ℕ)) (timestamp : ℕ) (word : List ℕ) (request : Request) (group : GroupValue) (outcome : Result ℕ Failure)
-      (read : IsGroupRead (work_of tells old middle) named (Ok group)) (has : HasDoneArray doing tells middle new group timestamp word request outcome) where
+  module _ (named : Option (List ℕ)) (timestamp : ℕ) (word : List ℕ) (request : Request) (group : GroupValue) (read : IsGroupRead (work_of tells old middle) named (Ok group)) where
     is_group : group_of read.newest named ≡ Ok group
     is_group = group_read (work_of tells old middle) named group read
 
@@ -297,16 +322,9 @@ module _ {D : Type 0} (tells : Type 0) (doing : Doing) (steady : IsSteady doing)
     found_by : tells → IsFoundBy middle read.left named group
     found_by told = record { every_slot = rw reads.same_sizes read.every_slot; is_found = found_still told }
 
-    leaves_since : tells → LeavesDoing doing (work_of tells old new) timestamp word request (group_of read.newest named)
-    leaves_since told found is_found steps asked =
-        subst (λ (one : GroupValue). StopsLeave old new (λ image. IsLeft old.may_hold image ⊎ IsLeftDoing doing (work_of tells old new) one timestamp word request image))
-        (found_same group found (sym is_group ∙ is_found))
-        (stops_then (reads_left old middle (IsLeftDoing doing (work_of tells old new) group timestamp word request) reads) (has.leaves told)
-        (λ image left. inr (left_since group timestamp word request image left)))
-
-    -- It came to this since its entry.
-    pub come_since : HasComeTo doing (work_of tells old new) named timestamp word request outcome
-    come_since = record {
+    -- What the calls promise holds since its entry.
+    pub made_since : (done : Bool) → HaveBeenMade doing tells middle new group timestamp word request done → HaveSince doing (work_of tells old new) named timestamp word request group done
+    made_since done has = record {
       taken = record {
         left = read.left;
         every_slot = read.every_slot;
@@ -317,24 +335,39 @@ module _ {D : Type 0} (tells : Type 0) (doing : Doing) (steady : IsSteady doing)
             subst (λ (one : GroupValue). LeavesOthers old new (slots_of one.seats)) (found_same group found (sym is_group ∙ is_found)) (beside_since old middle new (slots_of group.seats) reads (has.beside told));
         keeps = λ told found is_found steps asked.
             let same = found_same group found (sym is_group ∙ is_found) in
-            subst (λ (one : GroupValue). steps_of one timestamp request ≡ Ok steps → KeepsHistories old new read.left one steps (is_done outcome)) same
-            (λ now_asked.
-            since_entry old middle new read.left group steps (is_done outcome) reads
-            (has.keeps told read.left named (found_by told) steps now_asked))
+            subst (λ (one : GroupValue). steps_of one timestamp request ≡ Ok steps → KeepsHistories old new read.left one steps done) same
+            (λ now_asked. since_entry old middle new read.left group steps done reads (has.keeps told read.left named (found_by told) steps now_asked))
             asked;
       };
-      gives = subst (λ (one : Result GroupValue Assembly). IsWorkedIn doing (work_of tells old new) timestamp word request one outcome) (sym is_group)
-          (worked_since group timestamp word request outcome has.worked);
-      leaves = leaves_since;
+      is_group = is_group;
+      leaves = λ told found is_found steps asked.
+          subst (λ (one : GroupValue). StopsLeave old new (λ image. IsLeft old.may_hold image ⊎ IsLeftDoing doing (work_of tells old new) one timestamp word request image))
+          (found_same group found (sym is_group ∙ is_found))
+          (stops_then (reads_left old middle (IsLeftDoing doing (work_of tells old new) group timestamp word request) reads) (has.leaves told)
+          (λ image left. inr (left_since group timestamp word request image left)));
       along = λ told found is_found.
-          subst (λ (one : GroupValue). AllComeAlong doing (work_of tells old new) read.left one timestamp word request (is_done outcome)) (found_same group found (sym is_group ∙ is_found))
+          subst (λ (one : GroupValue). AllComeAlong doing (work_of tells old new) read.left one timestamp word request done) (found_same group found (sym is_group ∙ is_found))
           (λ plan guid same past kept admitted.
-          along_since guid past read.left group timestamp word request plan (is_done outcome) kept
+          along_since guid past read.left group timestamp word request plan done kept
           (has.along told read.left named (found_by told) plan guid same past (kept_still guid past old middle reads kept)
           (admitted_still guid past old middle reads read.left group admitted)));
     }
 
-    -- and of which group
-    pub found_since : group_of come_since.taken.newest named ≡ Ok group
-    unfolding come_since
-    found_since = is_group
+    module _ (outcome : Result ℕ Failure) (has : HasDoneArray doing tells middle new group timestamp word request outcome) where
+      since : HaveSince doing (work_of tells old new) named timestamp word request group (is_done outcome)
+      since = made_since (is_done outcome) (record { leaves = has.leaves; beside = has.beside; keeps = has.keeps; along = has.along; goes = has.goes })
+
+      -- It came to this since its entry.
+      pub come_since : HasComeTo doing (work_of tells old new) named timestamp word request outcome
+      come_since = record {
+        taken = since.taken;
+        gives = subst (λ (one : Result GroupValue Assembly). IsWorkedIn doing (work_of tells old new) timestamp word request one outcome) (sym since.is_group)
+            (worked_since group timestamp word request outcome has.worked);
+        leaves = since.leaves;
+        along = since.along;
+      }
+
+      -- and of which group
+      pub found_since : group_of come_since.taken.newest named ≡ Ok group
+      unfolding come_since
+      found_since = since.is_group

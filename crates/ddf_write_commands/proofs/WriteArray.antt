@@ -1,27 +1,24 @@
 -- A write of blocks of an array between the steps of its group, by what the call promises.
-use Rattle.std.proofs.Common.{◌≡◌, ℕ, ◌<◌, List, [], length, None, Option, Some, refl, sym, subst, ◌∙◌, inl, inr, ⊎_elim}
+use Rattle.std.proofs.Common.{◌≡◌, ℕ, ◌<◌, ◌≤◌, List, [], length, None, Option, Some, refl, sym, subst, inl, inr, ⊎_elim}
 use Rattle.std.specs.Prelude.{map, option_to_list, slice_index_or}
 use Rattle.ddf_bay.specs.State.{BayState}
-use Rattle.ddf_config.specs.declared.seat.Seat.{Seat}
 use Rattle.ddf_config.specs.Seats.{SeatsFit}
 use Rattle.ddf_array.specs.declared.part.Part.{Part}
 use Rattle.ddf_array.specs.Places.{site_at}
 use Rattle.ddf_array.specs.Rows.{block_at}
 use Rattle.ddf_array.specs.Sources.{copy, sources}
 use Rattle.ddf_update.specs.Group.{IsOneOf}
-use Rattle.ddf_volume.specs.declared.fault.VolumeFault.{VolumeFault}
-use Rattle.ddf_volume.specs.declared.fault.VolumeFault.TheVariants as volumes
 use Rattle.ddf_volume.specs.Reading.{FirstHasSlot}
-use Rattle.ddf_write.specs.WriteRefused.{IsStopped, IsWriteFault, write_refusal}
+use Rattle.ddf_pieces.specs.Pieces.{piece_blocks, room_for}
+use Rattle.ddf_pieces.specs.Writing.{IsStoppedInPieces}
+use Rattle.ddf_pieces.proofs.WriteParts.{stopped_full}
+use Rattle.ddf_write.specs.WriteRefused.{write_refusal}
 use Rattle.ddf_write.specs.Writing.{IsWritten, MayGive}
 use Rattle.ddf_assembly.specs.Committed.{slots_of}
 use Rattle.ddf_assembly.specs.Group.{GroupValue}
 use Rattle.ddf_assembly.specs.Recovery.{config_recovered}
 use Rattle.ddf_stops.proofs.Slots.{slot_placed}
 use Rattle.ddf_data_stops.specs.Floors.{floor_in}
-use Rattle.ddf_answer.specs.declared.failure.Failure.{Failure}
-use Rattle.ddf_answer.specs.declared.failure.Failure.TheVariants.{Disk}
-use Rattle.ddf_data_commands.specs.Use.{failure_of_volume}
 use Rattle.ddf_group_commands.specs.GroupRead.{IsReadFrom}
 use Rattle.ddf_write_commands.specs.declared.planning.Plan.{Plan}
 use Rattle.ddf_write_commands.specs.Marking.{marked_config}
@@ -33,14 +30,8 @@ use Rattle.ddf_write_commands.proofs.SlotsThere.{AreOnSlots, alone_there, block_
 use Rattle.ddf_write_commands.proofs.WriteWorks.{write_stopped}
 use Rattle.ddf_write_commands.proofs.Works.{HasStopped}
 
--- It ended at a slot.
-pub record IsWriteEnded {D : Type 0} (start : ℕ) (sectors : List (List ℕ)) (plan : Plan) (old new : BayState D) (seats : List Seat) (failure : Failure) : Type 0 where
-  pub slot : ℕ
-  pub is : failure ≡ Disk slot
-  pub has_stopped : HasStopped (writing start sectors) seats plan.view old new slot
-
-module _ {D : Type 0} (tells : Type 0) (start : ℕ) (sectors : List (List ℕ)) (old opened behind : BayState D) (found : GroupValue) (word : List ℕ) (plan : Plan)
-    (is : IsPlanOf (write_refusals start (length sectors)) write_behind (config_recovered found) found.seats word plan) (from : IsReadFrom tells old found) (same_sizes : opened.sizes ≡ old.sizes) where
+module _ {D : Type 0} (tells : Type 0) (start count : ℕ) (sectors : List (List ℕ)) (old opened behind : BayState D) (found : GroupValue) (word : List ℕ) (plan : Plan)
+    (is : IsPlanOf (write_refusals start count) write_behind (config_recovered found) found.seats word plan) (from : IsReadFrom tells old found) (same_sizes : opened.sizes ≡ old.sizes) where
   fit : SeatsFit opened.sizes found.seats
   fit = subst (λ (sizes : List ℕ). SeatsFit sizes found.seats) (sym same_sizes) from.seats
 
@@ -65,24 +56,19 @@ module _ {D : Type 0} (tells : Type 0) (start : ℕ) (sectors : List (List ℕ))
     row_seat (Some block) has =
         block_source_there slot OnSeat plan.view (on_seats (marked_config (config_recovered found) is.entry) is.entry.0 found.seats plan.view is.is_for.is_marked_view.is_view) block has
 
-  on_seat : (slot : ℕ) → IsStopped opened behind plan.view start (length sectors) slot → OnSeat slot
+  on_seat : (slot : ℕ) → IsStoppedInPieces opened behind plan.view start (length sectors) piece_blocks slot → OnSeat slot
   on_seat slot stopped = ⊎_elim (λ wrote. written_seat slot wrote.0)
-      (λ row.
+      (λ piece.
+      let row = piece.none_left in
       row_seat slot row.element row.part row.position row.sector (on_seats (marked_config (config_recovered found) is.entry) is.entry.0 found.seats plan.view is.is_for.is_marked_view.is_view row.element row.part row.is_part)
       (block_at plan.view row.element row.position row.sector) row.of_cell.none_left.is_of_first)
       stopped
 
-  accepted : write_refusal plan.view start (length sectors) ≡ None
-  accepted = write_accepted start (length sectors) (config_recovered found) found.seats word plan is
+  pub accepted : write_refusal plan.view start count ≡ None
+  accepted = write_accepted start count (config_recovered found) found.seats word plan is
 
-  -- Where it isn't done it stopped at the slot of a seat.
-  pub write_ended : (fault : VolumeFault) → IsWriteFault opened behind plan.view start (length sectors) fault → IsWriteEnded start sectors plan opened behind found.seats (failure_of_volume fault)
-  write_ended (volumes.Range most) fault = let none = sym accepted ∙ fault.0 in absurd cc
-  write_ended volumes.Degraded fault = let none = sym accepted ∙ fault.0 in absurd cc
-  write_ended volumes.Lost fault = let none = sym accepted ∙ fault.0 in absurd cc
-  write_ended volumes.Unsure fault = absurd fault
-  write_ended (volumes.Disk slot) fault = record {
-    slot = slot;
-    is = refl;
-    has_stopped = write_stopped tells plan.view start sectors opened behind (floor_in found.seats) under found.seats slot (on_seat slot fault.1) fault.1;
-  }
+  -- Where a write stopped, it stopped at the slot of a seat.
+  pub write_ended : (slot : ℕ) → length sectors ≤ count → IsStoppedInPieces opened behind plan.view start (length sectors) (room_for count) slot → HasStopped (writing start sectors) found.seats plan.view opened behind slot
+  write_ended slot within stopped =
+      let whole = stopped_full opened behind plan.view start count (length sectors) slot within stopped in
+      write_stopped tells plan.view start sectors opened behind (floor_in found.seats) under found.seats slot (on_seat slot whole) whole

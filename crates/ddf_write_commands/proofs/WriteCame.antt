@@ -1,5 +1,5 @@
 -- What a write of blocks came to, by what it took from its input.
-use Rattle.std.proofs.Common.{◌≡◌, ◌⊎◌, ℕ, List, [], Option, Result, Ok, Err, refl, subst, inl, inr, ⊎_elim}
+use Rattle.std.proofs.Common.{◌≡◌, ◌⊎◌, ℕ, Bool, true, false, List, [], length, ◌==◌, Option, Result, Ok, Err, refl, subst, inl, inr, ⊎_elim}
 use Rattle.std.specs.Prelude.{IsTrue}
 use Rattle.ddf_bay.specs.Moments.{GoesOn}
 use Rattle.ddf_bay.specs.ReadsOnly.{ReadsOnly}
@@ -8,24 +8,24 @@ use Rattle.ddf_config.specs.declared.refusal.Refusal.TheVariants.{ShortPayload}
 use Rattle.ddf_group.specs.declared.answer.Assembly.{Assembly}
 use Rattle.ddf_assembly.specs.Group.{GroupValue, group_of}
 use Rattle.ddf_assembly.specs.Steps.{Step}
-use Rattle.ddf_text.specs.Done.{sequence_line}
 use Rattle.ddf_answer.specs.declared.failure.Failure.{Failure}
 use Rattle.ddf_answer.specs.declared.failure.Failure.TheVariants.{Memory, Refused}
 use Rattle.ddf_answer.specs.Answers.{IsToldFailure}
 use Rattle.ddf_answer.specs.Call.{Answer, Work}
 use Rattle.ddf_answer.specs.Ends.{is_unwritten}
-use Rattle.ddf_answer.specs.Tells.{ClosesWith}
+use Rattle.ddf_answer.proofs.Causes.{closes_wrote, wrote}
 use Rattle.ddf_group_commands.specs.Change.{Request, steps_of}
 use Rattle.ddf_group_commands.specs.GroupRead.{IsGroupRead}
 use Rattle.ddf_write_commands.specs.declared.payload.PayloadFault.{PayloadFault}
 use Rattle.ddf_write_commands.specs.declared.payload.PayloadFault.TheVariants as payloads
+use Rattle.ddf_write_commands.specs.declared.writing.Done.{Done}
 use Rattle.ddf_write_commands.specs.declared.writing.WriteFault.{WriteFault}
 use Rattle.ddf_write_commands.specs.declared.writing.WriteFault.TheVariants as faults
-use Rattle.ddf_write_commands.specs.Ending.{EndsSo}
-use Rattle.ddf_write_commands.specs.Payload.{Input, InputRose, IsNoPayload, IsPayload, IsShort, IsUntaken}
-use Rattle.ddf_write_commands.specs.Write.{HasWrittenArray, IsWriteTold, IsWriteIn, IsWrittenAs, Outcome, answered, fault_of_payload, write_request, writing}
-use Rattle.ddf_write_commands.specs.Write.Outcome.{NotRead, Short, Taken, Unfit}
-use Rattle.ddf_write_commands.proofs.Ended.{Cause, failure_cause, work_cause, work_unwritten}
+use Rattle.ddf_write_commands.specs.Ending.{EndsCut}
+use Rattle.ddf_write_commands.specs.Payload.{Input, InputRose, IsNoPayload, IsShort, IsUntaken}
+use Rattle.ddf_write_commands.specs.Write.{HasWrittenArray, IsDoneTold, IsSequenceTold, IsWriteTold, IsWriteIn, IsWrittenAs, Outcome, answered, fault_of_payload, write_request, writing}
+use Rattle.ddf_write_commands.specs.Write.Outcome.{Broken, NotRead, Short, Taken, Unfit}
+use Rattle.ddf_write_commands.proofs.Ended.{Cause, failure_cause, failure_unwritten}
 use Rattle.ddf_write_commands.proofs.Since.{HasComeTo, unwritten_come, unwritten_found}
 use Rattle.ddf_write_commands.proofs.WriteWorks.{write_steady}
 
@@ -54,12 +54,6 @@ module _ {D : Type 0} (work : Work D) (input : Input) (named : Option (List ℕ)
       pub not_read_came : InputRose input → HasWrittenArray work input named timestamp word start count NotRead
       not_read_came rose = record { taken = come.taken; gives = (rose, record { found = group; is_found = is_group; steps = steps; are_asked = are_asked }, reads); leaves = λ told. tt; along = λ told. tt }
 
-    -- all came
-    pub taken_came : (sectors : List (List ℕ)) → IsPayload input count sectors → (worked : Result ℕ Failure) → (come : HasComeTo (writing start sectors) work named timestamp word request worked)
-        → group_of come.taken.newest named ≡ Ok group → HasWrittenArray work input named timestamp word start count (Taken sectors worked)
-    taken_came sectors payload worked come is_group =
-        record { taken = come.taken; gives = (payload, record { found = group; is_found = is_group; steps = steps; are_asked = are_asked }, come.gives); leaves = come.leaves; along = come.along }
-
   -- why there was nothing to write
   pub payload_came : (group : GroupValue) (steps : List Step) → steps_of group timestamp request ≡ Ok steps → IsGroupRead work named (Ok group) → ReadsOnly work.old work.new
       → (fault : PayloadFault) → IsNoPayload input count fault → IsWrittenAs work input named timestamp word start count (Err (fault_of_payload fault))
@@ -71,34 +65,34 @@ module _ {D : Type 0} (work : Work D) (input : Input) (named : Option (List ℕ)
     has = unfit_came is reads Memory (unwritten_come (writing start []) work named timestamp word request reads group Memory read reads);
   }
 
-  pub answered_as : (sectors : List (List ℕ)) (worked : Result ℕ Failure) → HasWrittenArray work input named timestamp word start count (Taken sectors worked)
-      → IsWrittenAs work input named timestamp word start count (answered (Taken sectors worked))
-  answered_as sectors worked has = record { outcome = Taken sectors worked; is_answered = refl; has = has }
-
   pub unfit_as : (failure : Failure) → HasWrittenArray work input named timestamp word start count (Unfit failure) → IsWrittenAs work input named timestamp word start count (Err (faults.Failure failure))
   unfit_as failure has = record { outcome = Unfit failure; is_answered = refl; has = has }
 
 -- ---- what is told of it
 
-module _ (answer : Answer) where
-  pub told_done : (outcome : Outcome) (sequence : ℕ) → Ok sequence ≡ answered outcome → ClosesWith 0 (sequence_line sequence) answer → IsWriteTold outcome answer
-  told_done (Taken sectors (Ok one)) sequence is closes = let same : sequence ≡ one = cc in subst (λ (n : ℕ). ClosesWith 0 (sequence_line n) answer) same closes
-  told_done (Taken sectors (Err failure)) sequence is closes = absurd cc
-  told_done (Short found) sequence is closes = absurd cc
-  told_done NotRead sequence is closes = absurd cc
-  told_done (Unfit failure) sequence is closes = absurd cc
+module _ (count : ℕ) (answer : Answer) where
+  pub told_done : (outcome : Outcome) (done : Done) → Ok done ≡ answered outcome → IsDoneTold count done answer → IsWriteTold count outcome answer
+  told_done (Taken sectors (Ok one)) done is told =
+      let same : done ≡ record { blocks = length sectors; sequence = one } = cc in subst (λ (those : Done). IsDoneTold count those answer) same told
+  told_done (Taken sectors (Err failure)) done is told = absurd cc
+  told_done (Broken sectors) done is told = absurd cc
+  told_done (Short found) done is told = absurd cc
+  told_done NotRead done is told = absurd cc
+  told_done (Unfit failure) done is told = absurd cc
 
-  pub told_failed : (outcome : Outcome) (failure : Failure) → ◌≡◌ {A = Result ℕ WriteFault} (Err (faults.Failure failure)) (answered outcome) → IsToldFailure failure answer → IsWriteTold outcome answer
+  pub told_failed : (outcome : Outcome) (failure : Failure) → ◌≡◌ {A = Result Done WriteFault} (Err (faults.Failure failure)) (answered outcome) → IsToldFailure failure answer → IsWriteTold count outcome answer
   told_failed (Taken sectors (Ok one)) failure is told = absurd cc
   told_failed (Taken sectors (Err other)) failure is told = let same : failure ≡ other = cc in subst (λ (one : Failure). IsToldFailure one answer) same told
+  told_failed (Broken sectors) failure is told = absurd cc
   told_failed (Short found) failure is told = let same : failure ≡ Refused (ShortPayload found) = cc in subst (λ (one : Failure). IsToldFailure one answer) same told
   told_failed NotRead failure is told = absurd cc
   told_failed (Unfit other) failure is told = let same : failure ≡ other = cc in subst (λ (one : Failure). IsToldFailure one answer) same told
 
-  pub told_input : (outcome : Outcome) → ◌≡◌ {A = Result ℕ WriteFault} (Err faults.Input) (answered outcome) → (answer.status ≡ 6) × (answer.tells → answer.new.taken ≡ answer.old.taken)
-      → IsWriteTold outcome answer
+  pub told_input : (outcome : Outcome) → ◌≡◌ {A = Result Done WriteFault} (Err faults.Input) (answered outcome) → (answer.status ≡ 6) × (answer.tells → answer.new.taken ≡ answer.old.taken)
+      → IsWriteTold count outcome answer
   told_input (Taken sectors (Ok one)) is told = absurd cc
   told_input (Taken sectors (Err failure)) is told = absurd cc
+  told_input (Broken sectors) is told = told
   told_input (Short found) is told = absurd cc
   told_input NotRead is told = told
   told_input (Unfit failure) is told = absurd cc
@@ -110,23 +104,40 @@ module _ {D : Type 0} (work : Work D) (input : Input) (answer : Answer) (timesta
   abbrev Rises : Type 0
   Rises = SinkRose answer.old answer.new ⊎ InputRose input
 
-  cause_by : (outcome : Outcome) (meaning : Result GroupValue Assembly) → IsWriteIn work input timestamp word start count meaning outcome → IsWriteTold outcome answer → Cause work answer Rises
-  cause_by (Taken sectors worked) meaning is told =
-      work_cause (writing start sectors) (write_steady start sectors) work answer Rises stream timestamp word (write_request word start count) worked meaning is.2 told
-  cause_by (Short found) meaning is told =
-      ⊎_elim (λ one. inr (inr (inl one))) (λ cut. ⊎_elim (λ five. inr (inl five)) (λ six. inr (inr (inr (inr (inr (six, stream six)))))) cut) told.ends
-  cause_by NotRead meaning is told = inr (inr (inr (inr (inr (told.0, inr is.0)))))
-  cause_by (Unfit failure) meaning is told =
-      failure_cause (writing start []) (write_steady start []) work answer Rises stream timestamp word (write_request word start count) failure meaning is.2 told
+  abbrev CutCause : Type 0
+  CutCause = (answer.status ≡ 7) ⊎ Cause work answer Rises
 
-  unwritten_by : (outcome : Outcome) (meaning : Result GroupValue Assembly) → IsWriteIn work input timestamp word start count meaning outcome → IsWriteTold outcome answer
+  six : answer.status ≡ 6 → Cause work answer Rises
+  six is = inr (inr (inr (inr (inr (is, stream is)))))
+
+  sequence_cause : (all : Bool) (blocks sequence : ℕ) → IsSequenceTold all blocks sequence answer → CutCause
+  sequence_cause true blocks sequence told = inr (⊎_elim inl six told.ends)
+  sequence_cause false blocks sequence told = ⊎_elim inl (λ last. inr (six last)) told.ends
+
+  sequence_wrote : (all : Bool) (blocks sequence : ℕ) → IsSequenceTold all blocks sequence answer → IsTrue (is_unwritten answer.status) → ⊥
+  sequence_wrote true blocks sequence told un = closes_wrote refl told un
+  sequence_wrote false blocks sequence told un = ⊎_elim (λ seven. wrote answer.status 7 refl seven un) (λ last. wrote answer.status 6 refl last un) told.ends
+
+  cause_by : (outcome : Outcome) (meaning : Result GroupValue Assembly) → IsWriteIn work input timestamp word start count meaning outcome → IsWriteTold count outcome answer → CutCause
+  cause_by (Taken sectors (Ok sequence)) meaning is told = sequence_cause (length sectors == count) (length sectors) sequence told
+  cause_by (Taken sectors (Err failure)) meaning is told =
+      inr (failure_cause (writing start sectors) (write_steady start sectors) work answer Rises stream timestamp word (write_request word start count) failure meaning is.2 told)
+  cause_by (Broken sectors) meaning is told = inr (six told.0)
+  cause_by (Short found) meaning is told = inr (⊎_elim (λ one. inr (inr (inl one))) (λ cut. ⊎_elim (λ five. inr (inl five)) six cut) told.ends)
+  cause_by NotRead meaning is told = inr (six told.0)
+  cause_by (Unfit failure) meaning is told =
+      inr (failure_cause (writing start []) (write_steady start []) work answer Rises stream timestamp word (write_request word start count) failure meaning is.2 told)
+
+  unwritten_by : (outcome : Outcome) (meaning : Result GroupValue Assembly) → IsWriteIn work input timestamp word start count meaning outcome → IsWriteTold count outcome answer
       → IsTrue (is_unwritten answer.status) → ReadsOnly work.old work.new
-  unwritten_by (Taken sectors worked) meaning is told un =
-      work_unwritten (writing start sectors) (write_steady start sectors) work answer Rises stream timestamp word (write_request word start count) worked meaning is.2 told un
+  unwritten_by (Taken sectors (Ok sequence)) meaning is told un = absurd (sequence_wrote (length sectors == count) (length sectors) sequence told un)
+  unwritten_by (Taken sectors (Err failure)) meaning is told un =
+      failure_unwritten (writing start sectors) (write_steady start sectors) work answer Rises stream timestamp word (write_request word start count) failure meaning is.2 told un
+  unwritten_by (Broken sectors) meaning is told un = absurd (wrote answer.status 6 refl told.0 un)
   unwritten_by (Short found) meaning is told un = is.2
   unwritten_by NotRead meaning is told un = is.2
   unwritten_by (Unfit failure) meaning is told un = is.1
 
-  pub write_ends : (outcome : Outcome) (meaning : Result GroupValue Assembly) → IsWriteIn work input timestamp word start count meaning outcome → IsWriteTold outcome answer → EndsSo work answer Rises
+  pub write_ends : (outcome : Outcome) (meaning : Result GroupValue Assembly) → IsWriteIn work input timestamp word start count meaning outcome → IsWriteTold count outcome answer → EndsCut work answer Rises
   write_ends outcome meaning is told =
       record { cause = cause_by outcome meaning is told; unwritten = unwritten_by outcome meaning is told; goes_on = goes_on; same_sizes = same_sizes }

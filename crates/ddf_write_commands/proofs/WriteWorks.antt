@@ -1,5 +1,5 @@
 -- What a write of blocks promises as a work on the blocks of an array.
-use Rattle.std.proofs.Common.{◌≡◌, ℕ, ◌+◌, ◌<◌, ◌≤◌, Bool, true, List, length, Some, inl, inr, ⊎_elim}
+use Rattle.std.proofs.Common.{◌≡◌, ℕ, ◌+◌, ◌-◌, ◌*◌, ◌<◌, ◌≤◌, Bool, true, List, length, inl, inr, ⊎_elim}
 use Rattle.ddf_bay.specs.Moments.{StopsLeave}
 use Rattle.ddf_bay.specs.Sectors.{Image}
 use Rattle.ddf_bay.specs.State.{BayState}
@@ -7,12 +7,14 @@ use Rattle.ddf_bay.proofs.Steps.{stops_weaken}
 use Rattle.ddf_config.specs.declared.seat.Seat.{Seat}
 use Rattle.ddf_array.specs.Volume.{Volume}
 use Rattle.ddf_volume.specs.Reading.{Failed}
-use Rattle.ddf_volume.proofs.Tries.{NotRead-wider}
 use Rattle.ddf_cells.specs.CellsOn.{copy_cells}
 use Rattle.ddf_cells.specs.Touching.{GoesBetween}
 use Rattle.ddf_write.specs.RowWrites.{IsSure, row_cells}
-use Rattle.ddf_write.specs.WriteRefused.{IsStopped, NoneLeftOfRow, sources_in_write}
 use Rattle.ddf_write.specs.Writing.{AddsWrites, HasWritten, IsAmongWrites, IsLeftByWrite, MayGive}
+use Rattle.ddf_pieces.specs.Pieces.{piece_blocks, piece_of}
+use Rattle.ddf_write.proofs.RowReads.{sure_fewer}
+use Rattle.ddf_pieces.specs.Writing.{IsStoppedInPieces, NoneLeftOfPiece}
+use Rattle.ddf_pieces.proofs.WriteParts.{row_more}
 use Rattle.ddf_update.specs.Group.{IsOneOf}
 use Rattle.ddf_assembly.specs.Committed.{slots_of}
 use Rattle.ddf_data_stops.specs.Floors.{StaySettled}
@@ -25,31 +27,21 @@ module _ (P Q : ℕ → Type 0) (more : (slot : ℕ) → P slot → Q slot) (vol
   done_more : (sectors : List (List ℕ)) (before image : Image) → HasWritten volume start sectors (IsSure P volume before) image → HasWritten volume start sectors (IsSure Q volume before) image
   done_more sectors before image is = record {
     cells = is.cells;
-    parity = λ sure. is.parity (⊎_elim (λ none. inl (λ slot on failed. none slot on (more slot failed))) inr sure);
+    parity = λ sure. is.parity (sure_fewer P Q volume before more sure);
   }
 
-  row_more : (count slot : ℕ) → NoneLeftOfRow P volume start count slot → NoneLeftOfRow Q volume start count slot
-  row_more count slot none = record {
-    element = none.element;
-    sector = none.sector;
-    part = none.part;
-    is_part = none.is_part;
-    keeps = none.keeps;
-    touched = none.touched;
-    position = none.position;
-    is_position = none.is_position;
-    is_data = none.is_data;
-    of_cell = record {
-      is_other = none.of_cell.is_other;
-      none_left = NotRead-wider more (sources_in_write volume none.element none.part none.position none.sector) (Some slot) none.of_cell.none_left;
-    };
+  piece_more : (count slot : ℕ) → NoneLeftOfPiece P volume start count piece_blocks slot → NoneLeftOfPiece Q volume start count piece_blocks slot
+  piece_more count slot left = record {
+    pieces = left.pieces;
+    more = left.more;
+    none_left = row_more P Q more volume (start + left.pieces * piece_blocks) (piece_of piece_blocks (count - left.pieces * piece_blocks)) slot left.none_left;
   }
 
 pub write_steady : (start : ℕ) (sectors : List (List ℕ)) → IsSteady (writing start sectors)
 write_steady start sectors = record {
   more_done = λ P Q more volume before image is. done_more P Q more volume start sectors before image is;
-  more_left = λ P Q more volume slot none. row_more P Q more volume start (length sectors) slot none;
-  left_failed = λ P volume slot none. none.of_cell.none_left.this_failed;
+  more_left = λ P Q more volume slot none. piece_more P Q more volume start (length sectors) slot none;
+  left_failed = λ P volume slot none. none.none_left.of_cell.none_left.this_failed;
   among_first = λ volume before may image left s l. inl (left s l);
   among_more = λ volume before may further more image among s l. ⊎_elim (λ left. inl (more s l (image s l) left)) inr (among s l);
 }
@@ -79,5 +71,5 @@ module _ {D : Type 0} (tells : Type 0) (volume : Volume) (start : ℕ) (sectors 
     goes = goes;
   }
 
-  pub write_stopped : (seats : List Seat) (slot : ℕ) → IsOneOf (slots_of seats) slot → IsStopped old new volume start (length sectors) slot → HasStopped (writing start sectors) seats volume old new slot
+  pub write_stopped : (seats : List Seat) (slot : ℕ) → IsOneOf (slots_of seats) slot → IsStoppedInPieces old new volume start (length sectors) piece_blocks slot → HasStopped (writing start sectors) seats volume old new slot
   write_stopped seats slot is_seat is = record { is_seat = is_seat; stopped = ⊎_elim (λ wrote. inl wrote.1) inr is }

@@ -13,3 +13,11 @@ pub record EndsSo {D : Type 0} (work : Work D) (answer : Answer) (stream_rose : 
   pub unwritten : IsTrue (is_unwritten answer.status) → ReadsOnly work.old work.new
   pub goes_on : GoesOn work.old work.new
   pub same_sizes : work.new.sizes ≡ work.old.sizes
+
+-- The same of one that may be cut: then its first pieces were done.
+pub record EndsCut {D : Type 0} (work : Work D) (answer : Answer) (stream_rose : Type 0) : Type 0 where
+  pub cause : (answer.status ≡ 7) ⊎ (answer.status ≡ 0) ⊎ (answer.status ≡ 5) ⊎ (answer.status ≡ 1) ⊎ (answer.status ≡ 4) ⊎ ((answer.status ≡ 3) × SomeSlotRose work.old work.new)
+      ⊎ ((answer.status ≡ 6) × stream_rose)
+  pub unwritten : IsTrue (is_unwritten answer.status) → ReadsOnly work.old work.new
+  pub goes_on : GoesOn work.old work.new
+  pub same_sizes : work.new.sizes ≡ work.old.sizes

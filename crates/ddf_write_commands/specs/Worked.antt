@@ -50,6 +50,12 @@ pub record IsArrayStopped {D : Type 0} (doing : Doing) (work : Work D) (found : 
   pub there : slot < length work.old.sizes
   pub stopped : Rose (work.old.failed_writes slot) (work.new.failed_writes slot) ⊎ doing.NoneLeft (Failed work.old work.new) plan.volume slot
 
+-- The work was done behind the first steps, and the last step wasn't begun: a redundant array has its mark.
+pub record IsArrayLeft {D : Type 0} (doing : Doing) (work : Work D) (found : GroupValue) (timestamp : ℕ) (word : List ℕ) (request : Request) : Type 0 where
+  pub plan : IsPlanned found timestamp word request
+  pub left : work.tells → (before : Image) × AreWritten work.old.sizes work.old.held plan.first before × doing.HasDone (Failed work.old work.new) plan.volume before work.new.held
+      × doing.IsLeft plan.volume before work.new.held
+
 -- what came of a group: all was done; it is refused, or memory ran out, and nothing was written; or a slot failed
 abbrev pub IsWorkedOf : {D : Type 0} → Doing → Work D → GroupValue → (timestamp : ℕ) → (word : List ℕ) → Request → Result ℕ Failure → Type 0
 IsWorkedOf doing work found timestamp word request (Ok sequence) = IsArrayDone doing work found timestamp word request sequence
@@ -62,6 +68,11 @@ IsWorkedOf doing work found timestamp word request (Err (Split i j)) = ⊥
 abbrev pub IsWorkedIn : {D : Type 0} → Doing → Work D → (timestamp : ℕ) → (word : List ℕ) → Request → Result GroupValue Assembly → Result ℕ Failure → Type 0
 IsWorkedIn doing work timestamp word request (Ok found) outcome = IsWorkedOf doing work found timestamp word request outcome
 IsWorkedIn doing work timestamp word request (Err fault) outcome = ((outcome ≡ Err (failure_of fault)) ⊎ (outcome ≡ Err Memory)) × ReadsOnly work.old work.new
+
+-- the same of a group, if there is one
+abbrev pub IsLeftIn : {D : Type 0} → Doing → Work D → (timestamp : ℕ) → (word : List ℕ) → Request → Result GroupValue Assembly → Type 0
+IsLeftIn doing work timestamp word request (Ok found) = IsArrayLeft doing work found timestamp word request
+IsLeftIn doing work timestamp word request (Err fault) = ⊥
 
 -- ---- what a stop leaves
 

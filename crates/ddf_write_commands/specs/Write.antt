@@ -1,5 +1,9 @@
 -- What `write` does, and how it ends.
-use Rattle.std.specs.Prelude.{◌≡◌, ℕ, ◌+◌, Bool, false, not, List, [], ◌∷◌, ◌++◌, length, Option, Result, Ok, Err, if◌then◌else◌}
+use Rattle.std.specs.Prelude.{◌≡◌, ◌⊎◌, ℕ, ◌+◌, ◌-◌, ◌*◌, ◌<◌, ◌==◌, Bool, true, false, not, List, [], ◌∷◌, ◌++◌, length, Option, Result, Ok, Err, if◌then◌else◌}
+use Rattle.ddf_bytes.specs.Counts.{Rose}
+use Rattle.ddf_bytes.specs.Streams.{GivesFront, SourceState, TakesFront}
+use Rattle.ddf_bay.specs.Moments.{StopsLeave}
+use Rattle.ddf_bay.specs.State.{BayState}
 use Rattle.ddf_bay.specs.ReadsOnly.{ReadsOnly}
 use Rattle.ddf_config.specs.declared.refusal.Refusal.TheVariants.{Degraded, Lost, Marked, ShortPayload}
 use Rattle.ddf_config.specs.Refusals.{refuse_if}
@@ -9,27 +13,39 @@ use Rattle.ddf_plan.specs.declared.change.Change.TheVariants.{Unmark}
 use Rattle.ddf_array.specs.Viewing.{is_array_redundant, is_array_within, view_of}
 use Rattle.ddf_cells.specs.CellsOn.{copy_cells}
 use Rattle.ddf_write.specs.RowWrites.{IsSure, row_cells}
-use Rattle.ddf_write.specs.WriteRefused.{NoneLeftOfRow}
 use Rattle.ddf_write.specs.Writing.{HasWritten, IsAmongWrites, IsLeftByWrite}
+use Rattle.ddf_pieces.specs.Pieces.{AreWholePieces, piece_blocks, piece_of, room_for}
+use Rattle.ddf_pieces.specs.Coming.{HaveCome}
+use Rattle.ddf_pieces.specs.Writing.{NoneLeftOfPiece}
 use Rattle.ddf_group.specs.declared.answer.Assembly.{Assembly}
+use Rattle.ddf_assembly.specs.Committed.{slots_of}
 use Rattle.ddf_assembly.specs.Group.{GroupValue, group_of}
+use Rattle.ddf_assembly.specs.Ready.{readied}
+use Rattle.ddf_assembly.specs.Recovery.{config_recovered}
+use Rattle.ddf_text.specs.Done.{cut_line, sequence_line}
 use Rattle.ddf_assembly.specs.Steps.{Step}
 use Rattle.ddf_answer.specs.declared.failure.Failure.{Failure}
 use Rattle.ddf_answer.specs.declared.failure.Failure.TheVariants.{Memory, Refused}
 use Rattle.ddf_answer.specs.Answers.{IsToldFailure}
-use Rattle.ddf_answer.specs.Call.{Answer, Work}
-use Rattle.ddf_group_commands.specs.Change.{IsToldChange, Request, TakesGroup, is_done, steps_of}
+use Rattle.ddf_answer.specs.Call.{Answer, Work, work_of}
+use Rattle.ddf_answer.specs.Tells.{ClosesWith}
+use Rattle.ddf_group_commands.specs.Change.{KeepsHistories, Request, TakesGroup, is_done, steps_of}
+use Rattle.ddf_group_commands.specs.GroupRead.{IsFoundBy}
+use Rattle.ddf_group_commands.specs.Others.{LeavesOthers}
 use Rattle.ddf_data_commands.specs.declared.using.Access.TheVariants.{Writes}
 use Rattle.ddf_data_commands.specs.Use.{array_refusals}
-use Rattle.ddf_write_commands.specs.Along.{GoesAlong}
+use Rattle.ddf_write_commands.specs.Along.{AllComeAlong, GoesAlong}
 use Rattle.ddf_write_commands.specs.Doing.{Doing}
 use Rattle.ddf_write_commands.specs.declared.payload.PayloadFault.{PayloadFault}
 use Rattle.ddf_write_commands.specs.declared.payload.PayloadFault.TheVariants as payloads
+use Rattle.ddf_write_commands.specs.declared.planning.Plan.{Plan}
+use Rattle.ddf_write_commands.specs.declared.writing.Done.{Done}
 use Rattle.ddf_write_commands.specs.declared.writing.WriteFault.{WriteFault}
 use Rattle.ddf_write_commands.specs.declared.writing.WriteFault.TheVariants as faults
-use Rattle.ddf_write_commands.specs.Payload.{Input, InputRose, IsPayload, IsShort, IsUntaken}
+use Rattle.ddf_write_commands.specs.Payload.{Input, InputRose, IsPayload, IsShort, IsTakenBy, IsUntaken}
 use Rattle.ddf_write_commands.specs.Planned.{Entry, Refusing, lacks_position, request_around}
-use Rattle.ddf_write_commands.specs.Worked.{IsWorkedIn, LeavesDoing}
+use Rattle.ddf_write_commands.specs.Plans.{IsPlanOf}
+use Rattle.ddf_write_commands.specs.Worked.{IsArrayDone, IsArrayLeft, IsLeftDoing, IsLeftIn, IsWorkedIn, IsWorkedOf, LeavesDoing}
 
 -- ---- what is asked of the group
 
@@ -51,28 +67,30 @@ write_request word start count = request_around (write_refusals start count) wri
 
 -- ---- what is done to the blocks
 
--- the blocks from a number on get the bytes of these sectors
+-- the blocks from a number on get the bytes of these sectors, piece by piece
 abbrev pub writing : (start : ℕ) → (sectors : List (List ℕ)) → Doing
 writing start sectors = record {
   IsAmong = λ volume before may image. IsAmongWrites volume start sectors may image;
   IsLeft = λ volume before image. IsLeftByWrite volume start sectors before image;
   HasDone = λ failed volume before image. HasWritten volume start sectors (IsSure failed volume before) image;
-  NoneLeft = λ failed volume slot. NoneLeftOfRow failed volume start (length sectors) slot;
+  NoneLeft = λ failed volume slot. NoneLeftOfPiece failed volume start (length sectors) piece_blocks slot;
   most_sectors = λ volume. copy_cells volume start (length sectors) + row_cells volume (length sectors);
 }
 
 -- ---- what came of it
 
--- What came of a write: these sectors were taken from the input, and this came of the work; the input ended before them; a read of it failed; or nothing was taken from it, for
--- this reason.
+-- What came of a write: these sectors were given to be written, and this came of the work; they were written, and then a read of the input failed; the input ended within the
+-- first piece; a read of it failed there; or nothing was taken from it, for this reason.
 pub data Outcome : Type 0 where
   Taken : (sectors : List (List ℕ)) → (worked : Result ℕ Failure) → Outcome
+  Broken : (sectors : List (List ℕ)) → Outcome
   Short : (found : ℕ) → Outcome
   NotRead : Outcome
   Unfit : (failure : Failure) → Outcome
 
 abbrev pub is_written : Outcome → Bool
 is_written (Taken sectors worked) = is_done worked
+is_written (Broken sectors) = false
 is_written (Short found) = false
 is_written NotRead = false
 is_written (Unfit failure) = false
@@ -90,7 +108,12 @@ module _ {D : Type 0} (work : Work D) (input : Input) (timestamp : ℕ) (word : 
 
   -- what came of the group, and of the input
   abbrev pub IsWriteIn : Result GroupValue Assembly → Outcome → Type 0
-  IsWriteIn meaning (Taken sectors worked) = IsPayload input count sectors × IsAccepted timestamp request meaning × IsWorkedIn (writing start sectors) work timestamp word request meaning worked
+  IsWriteIn meaning (Taken sectors worked) =
+      ((left : List ℕ) × IsPayload input count sectors left × IsTakenBy input count sectors left worked) × IsAccepted timestamp request meaning
+      × IsWorkedIn (writing start sectors) work timestamp word request meaning worked
+  IsWriteIn meaning (Broken sectors) =
+      ((left : List ℕ) × IsPayload input count sectors left × (length sectors < count) × InputRose input) × IsAccepted timestamp request meaning
+      × IsLeftIn (writing start sectors) work timestamp word request meaning
   IsWriteIn meaning (Short found) = IsShort input count found × IsAccepted timestamp request meaning × ReadsOnly work.old work.new
   IsWriteIn meaning NotRead = InputRose input × IsAccepted timestamp request meaning × ReadsOnly work.old work.new
   IsWriteIn meaning (Unfit failure) = IsUntaken input × ReadsOnly work.old work.new × IsWorkedIn (writing start []) work timestamp word request meaning (Err failure)
@@ -98,6 +121,7 @@ module _ {D : Type 0} (work : Work D) (input : Input) (timestamp : ℕ) (word : 
   -- what a stop leaves, at every moment: without the bytes, nothing else than before
   abbrev pub LeavesWriting : Result GroupValue Assembly → Outcome → Type 0
   LeavesWriting meaning (Taken sectors worked) = LeavesDoing (writing start sectors) work timestamp word request meaning
+  LeavesWriting meaning (Broken sectors) = LeavesDoing (writing start sectors) work timestamp word request meaning
   LeavesWriting meaning (Short found) = Unit {0}
   LeavesWriting meaning NotRead = Unit {0}
   LeavesWriting meaning (Unfit failure) = Unit {0}
@@ -105,6 +129,7 @@ module _ {D : Type 0} (work : Work D) (input : Input) (timestamp : ℕ) (word : 
   -- how far the histories come meanwhile: without the bytes, nowhere
   abbrev pub GoesAlongWriting : (left : List Bool) → Result GroupValue Assembly → Outcome → Type 0
   GoesAlongWriting left meaning (Taken sectors worked) = GoesAlong (writing start sectors) work left timestamp word request (is_done worked) meaning
+  GoesAlongWriting left meaning (Broken sectors) = GoesAlong (writing start sectors) work left timestamp word request false meaning
   GoesAlongWriting left meaning (Short found) = Unit {0}
   GoesAlongWriting left meaning NotRead = Unit {0}
   GoesAlongWriting left meaning (Unfit failure) = Unit {0}
@@ -116,18 +141,36 @@ pub record HasWrittenArray {D : Type 0} (work : Work D) (input : Input) (named :
   pub leaves : work.tells → LeavesWriting work input timestamp word start count (group_of taken.newest named) outcome
   pub along : work.tells → GoesAlongWriting work input timestamp word start count taken.left (group_of taken.newest named) outcome
 
--- what is told of it, and with which status
-abbrev pub IsWriteTold : Outcome → Answer → Type 0
-IsWriteTold (Taken sectors worked) answer = IsToldChange worked answer
-IsWriteTold (Short found) answer = IsToldFailure (Refused (ShortPayload found)) answer
-IsWriteTold NotRead answer = (answer.status ≡ 6) × (answer.tells → answer.new.taken ≡ answer.old.taken)
-IsWriteTold (Unfit failure) answer = IsToldFailure failure answer
+-- ---- what is told of it
+
+-- The text was told where the status is that of a write that was cut, and else a front of it.
+pub record ClosesCut (text : List ℕ) (answer : Answer) : Type 0 where
+  pub ends : (answer.status ≡ 7) ⊎ (answer.status ≡ 6)
+  pub whole : answer.tells → answer.status ≡ 7 → answer.new.taken ≡ answer.old.taken ++ text
+  pub front : answer.tells → TakesFront answer.old answer.new text
+
+-- of so many blocks so many are written: all, or those that came before the input ended
+abbrev pub IsSequenceTold : (all : Bool) → (blocks sequence : ℕ) → Answer → Type 0
+IsSequenceTold true blocks sequence answer = ClosesWith 0 (sequence_line sequence) answer
+IsSequenceTold false blocks sequence answer = ClosesCut (cut_line blocks sequence) answer
+
+abbrev pub IsDoneTold : (count : ℕ) → Done → Answer → Type 0
+IsDoneTold count done answer = IsSequenceTold (done.blocks == count) done.blocks done.sequence answer
+
+-- what is told of a write of so many blocks, and with which status
+abbrev pub IsWriteTold : (count : ℕ) → Outcome → Answer → Type 0
+IsWriteTold count (Taken sectors (Ok sequence)) answer = IsSequenceTold (length sectors == count) (length sectors) sequence answer
+IsWriteTold count (Taken sectors (Err failure)) answer = IsToldFailure failure answer
+IsWriteTold count (Broken sectors) answer = (answer.status ≡ 6) × (answer.tells → answer.new.taken ≡ answer.old.taken)
+IsWriteTold count (Short found) answer = IsToldFailure (Refused (ShortPayload found)) answer
+IsWriteTold count NotRead answer = (answer.status ≡ 6) × (answer.tells → answer.new.taken ≡ answer.old.taken)
+IsWriteTold count (Unfit failure) answer = IsToldFailure failure answer
 
 -- It came to this, and said so.
 pub record IsWriteDone {D : Type 0} (work : Work D) (input : Input) (named : Option (List ℕ)) (timestamp : ℕ) (word : List ℕ) (start count : ℕ) (answer : Answer) : Type 0 where
   pub outcome : Outcome
   pub has : HasWrittenArray work input named timestamp word start count outcome
-  pub ends : IsWriteTold outcome answer
+  pub ends : IsWriteTold count outcome answer
 
 -- ---- as it is answered
 
@@ -137,16 +180,63 @@ fault_of_payload (payloads.Short found) = faults.Failure (Refused (ShortPayload 
 fault_of_payload payloads.Failed = faults.Input
 fault_of_payload payloads.Memory = faults.Failure Memory
 
--- the sequence number behind the write, or why nothing was written
-abbrev pub answered : Outcome → Result ℕ WriteFault
-answered (Taken sectors (Ok sequence)) = Ok sequence
+-- what the write came to, or why it wasn't done
+abbrev pub answered : Outcome → Result Done WriteFault
+answered (Taken sectors (Ok sequence)) = Ok (record { blocks = length sectors; sequence = sequence })
 answered (Taken sectors (Err failure)) = Err (faults.Failure failure)
+answered (Broken sectors) = Err faults.Input
 answered (Short found) = Err (faults.Failure (Refused (ShortPayload found)))
 answered NotRead = Err faults.Input
 answered (Unfit failure) = Err (faults.Failure failure)
 
 -- A call came to what it answers.
-pub record IsWrittenAs {D : Type 0} (work : Work D) (input : Input) (named : Option (List ℕ)) (timestamp : ℕ) (word : List ℕ) (start count : ℕ) (result : Result ℕ WriteFault) : Type 0 where
+pub record IsWrittenAs {D : Type 0} (work : Work D) (input : Input) (named : Option (List ℕ)) (timestamp : ℕ) (word : List ℕ) (start count : ℕ) (result : Result Done WriteFault) : Type 0 where
   pub outcome : Outcome
   pub is_answered : result ≡ answered outcome
   pub has : HasWrittenArray work input named timestamp word start count outcome
+
+-- ---- between the steps
+
+-- The sectors were given to be written, of so many blocks: those of a first piece, and what the source gave behind it. So much was left of it.
+pub record AreGiven (source_tells : Type 0) (before : SourceState) (first : List ℕ) (count : ℕ) (sectors : List (List ℕ)) (left : List ℕ) : Type 0 where
+  pub pieces : AreWholePieces (room_for count) count (length sectors)
+  pub come : HaveCome source_tells before first sectors left
+
+-- what the source gave of them: all, or whole pieces and then its end; or, where the work failed, all of these, or none where it failed before; or it failed behind these
+abbrev pub IsGivenFor : (source_tells : Type 0) → (before after : SourceState) → (first : List ℕ) → (count : ℕ) → (sectors : List (List ℕ)) → Result Done WriteFault → Type 0
+IsGivenFor source_tells before after first count sectors (Ok done) =
+    (length sectors ≡ done.blocks) × (after.faults ≡ before.faults)
+    × ((left : List ℕ) × AreGiven source_tells before first count sectors left
+    × (((length sectors ≡ count) × (source_tells → after.left ≡ left))
+    ⊎ ((0 < length sectors) × (length sectors < count) × (source_tells → (length left < 512 * piece_of (room_for count) (count - length sectors)) × (after.left ≡ [])))))
+IsGivenFor source_tells before after first count sectors (Err (faults.Failure failure)) =
+    ((sectors ≡ []) × (after ≡ before))
+    ⊎ ((left : List ℕ) × AreGiven source_tells before first count sectors left × (source_tells → GivesFront (record before { left = left }) after))
+IsGivenFor source_tells before after first count sectors (Err faults.Input) =
+    (left : List ℕ) × AreGiven source_tells before first count sectors left × (length sectors < count) × Rose before.faults after.faults
+    × (source_tells → GivesFront (record before { left = left }) after)
+
+-- what came of the work
+abbrev pub IsEndedOf : {D : Type 0} → Doing → Work D → GroupValue → (timestamp : ℕ) → (word : List ℕ) → Request → Result Done WriteFault → Type 0
+IsEndedOf doing work found timestamp word request (Ok done) = IsArrayDone doing work found timestamp word request done.sequence
+IsEndedOf doing work found timestamp word request (Err (faults.Failure failure)) = IsWorkedOf doing work found timestamp word request (Err failure)
+IsEndedOf doing work found timestamp word request (Err faults.Input) = IsArrayLeft doing work found timestamp word request
+
+abbrev pub is_all_done : Result Done WriteFault → Bool
+is_all_done (Ok done) = true
+is_all_done (Err fault) = false
+
+-- The blocks of an array were written so far between the steps of its group, by a plan.
+pub record HasWrittenBlocks {D : Type 0} (tells : Type 0) (old new : BayState D) (group : GroupValue) (plan : Plan) (timestamp start count : ℕ) (source_tells : Type 0) (before after : SourceState) (first : List ℕ)
+    (sectors : List (List ℕ)) (result : Result Done WriteFault) : Type 0 where
+  pub given : IsGivenFor source_tells before after first count sectors result
+  pub worked : (word : List ℕ) → IsPlanOf (write_refusals start count) write_behind (config_recovered group) group.seats word plan
+      → IsEndedOf (writing start sectors) (work_of tells old new) group timestamp word (write_request word start count) result
+  pub leaves : tells → (word : List ℕ) → IsPlanOf (write_refusals start count) write_behind (config_recovered group) group.seats word plan
+      → StopsLeave old new (IsLeftDoing (writing start sectors) (work_of tells old new) group timestamp word (write_request word start count))
+  pub beside : tells → LeavesOthers old new (slots_of group.seats)
+  pub keeps : tells → (left : List Bool) (named : Option (List ℕ)) → IsFoundBy old left named group → (steps : List Step) → readied group plan.changes timestamp ≡ Ok steps
+      → KeepsHistories old new left group steps (is_all_done result)
+  pub along : tells → (left : List Bool) (named : Option (List ℕ)) → IsFoundBy old left named group
+      → (word : List ℕ) → IsPlanOf (write_refusals start count) write_behind (config_recovered group) group.seats word plan
+      → AllComeAlong (writing start sectors) (work_of tells old new) left group timestamp word (write_request word start count) (is_all_done result)

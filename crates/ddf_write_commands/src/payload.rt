@@ -1,14 +1,15 @@
 // The bytes of blocks, as the input gives them.
-ghost use Rattle.std.specs.Prelude.{◌≡◌, ◌≤◌, ◌*◌, ◌/◌, ℕ, List, length, Some, slice_get, IfOk, IfErr};
-ghost use Rattle.std.specs.List.{flat_map};
-ghost use Rattle.ddf_write_commands.specs.Payload.{AreBytes, IsNoPayload, input_of};
+ghost use Rattle.std.specs.Prelude.{◌≡◌, ◌≤◌, ◌*◌, ℕ, length, IfOk, IfErr, OnOk};
+ghost use Rattle.ddf_pieces.specs.Pieces.{piece_of, room_for};
+ghost use Rattle.ddf_write_commands.specs.Payload.{IsFirstPiece, IsNoPayload, input_of};
 
-use ddf_bytes::{NoMemory, Sector, Source, fill_from};
+use ddf_bytes::{NoMemory, Source, fill_from};
+use ddf_pieces::room_for;
 use std::alloc::Global;
 
 /// Why there are no bytes of blocks.
 pub(crate) enum PayloadFault {
-    /// The input ended before: so many bytes were left.
+    /// The input ended within the first piece: so many bytes were left.
     Short(u64),
     /// A read of the input failed.
     Failed,
@@ -34,32 +35,39 @@ fn zeros(alloc: Global, size: usize) -> Result<Vec<u8>, NoMemory>
     Ok(bytes)
 }
 
-/// Reads the bytes of so many sectors, and not a byte more. Memory for all of them is taken first.
-pub(crate) fn read_payload<S: Source>(
-    alloc: Global,
-    source: &mut S,
-    count: u64,
-) -> Result<Vec<u8>, PayloadFault>
-    requires { count ≤ 2048 }
-    ensures read { IfOk result (λ bytes. AreBytes (input_of S.tells (S.input source.old) (S.input source.new)) count bytes.items) }
-    ensures fault { IfErr result (IsNoPayload (input_of S.tells (S.input source.old) (S.input source.new)) count) }
+/// The blocks of the first piece of so many.
+fn first_piece(count: u64) -> usize
+    ensures { result ≡ piece_of (room_for count) count }
 {
-    let size = 512 * count as usize;
-    let mut bytes = zeros(alloc, size)?;
-    match fill_from(source, &mut bytes) {
-        Ok(found) if found == size => Ok(bytes),
+    count.min(room_for(count) as u64) as usize
+}
+
+/// Reads the bytes of the first piece of so many blocks to the beginning of the room for a piece, and not a byte more of the input.
+fn fill_first<S: Source>(source: &mut S, count: u64, room: &mut [u8]) -> Result<(), PayloadFault>
+    requires { length room.old ≡ 512 * room_for count }
+    ensures read { OnOk result (IsFirstPiece (input_of S.tells (S.input source.old) (S.input source.new)) count room.new) }
+    ensures fault { IfErr result (IsNoPayload (input_of S.tells (S.input source.old) (S.input source.new)) count) }
+    ensures never_falls { (S.input source.old).faults ≤ (S.input source.new).faults }
+{
+    let size = 512 * first_piece(count);
+    match fill_from(source, &mut room[..size]) {
+        Ok(found) if found == size => Ok(()),
         Ok(found) => Err(PayloadFault::Short(found as u64)),
         Err(_) => Err(PayloadFault::Failed),
     }
 }
 
-/// The sectors of which these are the bytes.
-pub(crate) fn sectors_in(bytes: &[u8]) -> &[Sector]
-    requires { 512 * (length bytes.now / 512) ≡ length bytes.now }
-    ensures count { 512 * length result.now ≡ length bytes.now }
-    ensures bytes { flat_map (λ sector. sector) result.now ≡ bytes.now }
-    ensures whole { (k : ℕ) (sector : List ℕ) → slice_get result.now k ≡ Some sector → length sector ≡ 512 }
+/// Room for a piece of so many blocks. It begins with the bytes of the first piece, as the input gives them, and not a byte more of it is read.
+pub(crate) fn read_first<S: Source>(
+    alloc: Global,
+    source: &mut S,
+    count: u64,
+) -> Result<Vec<u8>, PayloadFault>
+    ensures read { IfOk result (λ room. IsFirstPiece (input_of S.tells (S.input source.old) (S.input source.new)) count room.items) }
+    ensures fault { IfErr result (IsNoPayload (input_of S.tells (S.input source.old) (S.input source.new)) count) }
+    ensures never_falls { (S.input source.old).faults ≤ (S.input source.new).faults }
 {
-    let (sectors, _) = bytes.as_chunks::<512>();
-    sectors
+    let mut room = zeros(alloc, 512 * room_for(count))?;
+    fill_first(source, count, &mut room)?;
+    Ok(room)
 }

@@ -1,40 +1,35 @@
 // `write`: blocks of an array get the bytes of the input.
-ghost use Rattle.std.specs.Prelude.{◌≡◌, ◌⊎◌, ℕ, List, Bool, Option, Ok, length};
+ghost use Rattle.std.specs.Prelude.{◌≡◌, ◌⊎◌, ◌*◌, ℕ, List, Option, length, take};
 ghost use Rattle.ddf_bytes.specs.Stamps.{timestamp_of};
 ghost use Rattle.ddf_bytes.specs.Streams.{SinkRose};
-ghost use Rattle.ddf_bay.specs.Moments.{GoesOn, StopsLeave};
+ghost use Rattle.ddf_bay.specs.Moments.{GoesOn};
 ghost use Rattle.ddf_cells.specs.Touching.{GoesBetween};
-ghost use Rattle.ddf_assembly.specs.Committed.{WasReadied, slots_of};
-ghost use Rattle.ddf_assembly.specs.Ready.{readied};
+ghost use Rattle.ddf_pieces.specs.Pieces.{room_for};
+ghost use Rattle.ddf_assembly.specs.Committed.{WasReadied};
 ghost use Rattle.ddf_assembly.specs.Recovery.{config_recovered};
 ghost use Rattle.ddf_assembly.specs.Seated.{seated};
-ghost use Rattle.ddf_assembly.specs.Steps.{Step};
 ghost use Rattle.ddf_data_stops.specs.Floors.{AreFloored};
 ghost use Rattle.ddf_answer.specs.Call.{answer_of, work_of};
 ghost use Rattle.ddf_answer.specs.Status.{code_of};
-ghost use Rattle.ddf_group_commands.specs.Change.{KeepsHistories, is_done};
-ghost use Rattle.ddf_group_commands.specs.GroupRead.{IsFoundBy, IsReadFrom};
-ghost use Rattle.ddf_group_commands.specs.Others.{LeavesOthers};
-ghost use Rattle.ddf_write_commands.specs.Along.{AllComeAlong};
-ghost use Rattle.ddf_write_commands.specs.Ending.{EndsSo};
+ghost use Rattle.ddf_group_commands.specs.GroupRead.{IsReadFrom};
+ghost use Rattle.ddf_write_commands.specs.Ending.{EndsCut};
 ghost use Rattle.ddf_write_commands.specs.Opened.{AreMembers};
-ghost use Rattle.ddf_write_commands.specs.Payload.{InputRose, input_of};
+ghost use Rattle.ddf_write_commands.specs.Payload.{InputRose, first_piece, input_of};
 ghost use Rattle.ddf_write_commands.specs.Plans.{IsPlanOf};
-ghost use Rattle.ddf_write_commands.specs.Write.{IsWriteDone, IsWrittenAs, write_behind, write_refusals, write_request, writing};
-ghost use Rattle.ddf_write_commands.specs.Worked.{IsLeftDoing, IsWorkedOf};
+ghost use Rattle.ddf_write_commands.specs.Write.{HasWrittenBlocks, IsDoneTold, IsWriteDone, IsWrittenAs, write_behind, write_refusals};
 
 use crate::around::{close_blocks, open_blocks, ready_blocks};
-use crate::payload::{PayloadFault, read_payload, sectors_in};
+use crate::payload::{PayloadFault, read_first};
 use crate::planning::{Plan, plan_write};
 use ddf_answer::{Failure, Status, tell, tell_failure};
 use ddf_assembly::{Group, Ready};
 use ddf_bay::Bay;
-use ddf_bytes::{Guid, Sector, Sink, Source, Stamp};
+use ddf_bytes::{Guid, Sink, Source, Stamp, write_all};
 use ddf_config::Refusal;
 use ddf_data_commands::failure_of;
 use ddf_group_commands::read_group;
-use ddf_text::sequence_line;
-use ddf_write::write_blocks;
+use ddf_pieces::{PieceFault, write_pieces};
+use ddf_text::{cut_line, sequence_line};
 use std::alloc::Global;
 
 /// Why blocks aren't written.
@@ -71,8 +66,18 @@ impl From<PayloadFault> for WriteFault {
     }
 }
 
+/// What a write came to.
+#[derive(Clone, Copy)]
+struct Done {
+    /// So many leading blocks are written.
+    blocks: u64,
+    /// The sequence number of the group behind them.
+    sequence: u32,
+}
+
 /// Recovers the group that the disks are, gives so many blocks of the array that the word names, from one on, the bytes of the input, and prints the
-/// group's sequence number behind it. The input is read only where nothing refuses the write, before anything is written.
+/// group's sequence number behind it. The input is read piece by piece: the first piece only where nothing refuses the write, before anything is written, and
+/// each later one before it is written. Where the input ends before one of these, the pieces before it are written, and it prints how many blocks they have.
 pub fn write<B: Bay, S: Source, K: Sink>(
     alloc: Global,
     named: Option<Guid>,
@@ -86,17 +91,31 @@ pub fn write<B: Bay, S: Source, K: Sink>(
 ) -> Status
     ensures done { IsWriteDone (work_of B.tells (B.disks bay.old) (B.disks bay.new)) (input_of S.tells (S.input source.old) (S.input source.new)) named (timestamp_of stamp.now) name.now start count
         (answer_of K.tells (K.output sink.old) (K.output sink.new) (code_of result)) }
-    ensures ends { EndsSo (work_of B.tells (B.disks bay.old) (B.disks bay.new)) (answer_of K.tells (K.output sink.old) (K.output sink.new) (code_of result))
+    ensures ends { EndsCut (work_of B.tells (B.disks bay.old) (B.disks bay.new)) (answer_of K.tells (K.output sink.old) (K.output sink.new) (code_of result))
         (SinkRose (K.output sink.old) (K.output sink.new) ⊎ InputRose (input_of S.tells (S.input source.old) (S.input source.new))) }
 {
     match written(alloc, named, name, start, count, bay, source, stamp) {
-        Ok(sequence) => tell(sink, sequence_line(sequence).as_bytes(), Status::Ok),
+        Ok(done) => tell_done(done, count, sink),
         Err(WriteFault::Failure(failure)) => tell_failure(alloc, failure, sink),
         Err(WriteFault::Input) => Status::Stream,
     }
 }
 
-/// The same, without the answer: the sequence number of the group behind it.
+/// Tells what a write of so many blocks came to.
+fn tell_done<K: Sink>(done: Done, count: u64, sink: &mut K) -> Status
+    ensures told { IsDoneTold count done (answer_of K.tells (K.output sink.old) (K.output sink.new) (code_of result)) }
+    ensures stream { code_of result ≡ 6 → SinkRose (K.output sink.old) (K.output sink.new) }
+{
+    if done.blocks == count {
+        return tell(sink, sequence_line(done.sequence).as_bytes(), Status::Ok);
+    }
+    match write_all(sink, cut_line(done.blocks, done.sequence).as_bytes()) {
+        Ok(()) => Status::Cut,
+        Err(_) => Status::Stream,
+    }
+}
+
+/// The same, without the answer: what it came to.
 fn written<B: Bay, S: Source>(
     alloc: Global,
     named: Option<Guid>,
@@ -106,7 +125,7 @@ fn written<B: Bay, S: Source>(
     bay: &mut B,
     source: &mut S,
     stamp: &Stamp,
-) -> Result<u32, WriteFault>
+) -> Result<Done, WriteFault>
     ensures written { IsWrittenAs (work_of B.tells (B.disks bay.old) (B.disks bay.new)) (input_of S.tells (S.input source.old) (S.input source.new)) named (timestamp_of stamp.now) name.now start count result }
     ensures goes_on { GoesOn (B.disks bay.old) (B.disks bay.new) }
     ensures same_sizes { (B.disks bay.new).sizes ≡ (B.disks bay.old).sizes }
@@ -115,44 +134,44 @@ fn written<B: Bay, S: Source>(
     let plan = plan_write(alloc, &group, name, start, count)?;
     let timestamp = stamp.timestamp();
     let mut ready = ready_blocks(alloc, &group, &plan, timestamp)?;
-    let bytes = read_payload(alloc, source, count)?;
-    let sectors = sectors_in(&bytes);
-    let sequence = write_array(
-        &mut group, &mut ready, &plan, start, sectors, timestamp, bay,
-    )?;
-    Ok(sequence)
+    let mut room = read_first(alloc, source, count)?;
+    write_array(
+        &mut group, &mut ready, &plan, start, count, &mut room, source, timestamp, bay,
+    )
 }
 
-/// Writes blocks of an array between the steps of its group that are ready. It takes no memory.
-fn write_array<B: Bay>(
+/// Writes blocks of an array, piece by piece, between the steps of its group that are ready. The room begins with the first piece. It takes no memory.
+fn write_array<B: Bay, S: Source>(
     group: &mut Group,
     ready: &mut Ready,
     plan: &Plan,
     start: u64,
-    from: &[Sector],
+    count: u64,
+    room: &mut [u8],
+    source: &mut S,
     timestamp: u32,
     bay: &mut B,
-) -> Result<u32, Failure>
+) -> Result<Done, WriteFault>
     requires from { IsReadFrom B.tells (B.disks bay.old) group.old }
     requires was { WasReadied group.old plan.now.changes timestamp ready.old }
-    requires planned { (word : List ℕ) × IsPlanOf (write_refusals start (length from.now)) write_behind (config_recovered group.old) group.old.seats word plan.now }
+    requires planned { (word : List ℕ) × IsPlanOf (write_refusals start count) write_behind (config_recovered group.old) group.old.seats word plan.now }
     requires members { AreMembers (config_recovered group.old) group.old.seats }
     requires floored { AreFloored (seated group.old) }
-    ensures worked { (word : List ℕ) → IsPlanOf (write_refusals start (length from.now)) write_behind (config_recovered group.old) group.old.seats word plan.now
-        → IsWorkedOf (writing start from.now) (work_of B.tells (B.disks bay.old) (B.disks bay.new)) group.old timestamp word (write_request word start (length from.now)) result }
-    ensures leaves { B.tells → (word : List ℕ) → IsPlanOf (write_refusals start (length from.now)) write_behind (config_recovered group.old) group.old.seats word plan.now
-        → StopsLeave (B.disks bay.old) (B.disks bay.new) (IsLeftDoing (writing start from.now) (work_of B.tells (B.disks bay.old) (B.disks bay.new)) group.old timestamp word (write_request word start (length from.now))) }
-    ensures beside { B.tells → LeavesOthers (B.disks bay.old) (B.disks bay.new) (slots_of group.old.seats) }
-    ensures keeps { B.tells → (left : List Bool) (named : Option (List ℕ)) → IsFoundBy (B.disks bay.old) left named group.old → (steps : List Step) → readied group.old plan.now.changes timestamp ≡ Ok steps
-        → KeepsHistories (B.disks bay.old) (B.disks bay.new) left group.old steps (is_done result) }
-    ensures along { B.tells → (left : List Bool) (named : Option (List ℕ)) → IsFoundBy (B.disks bay.old) left named group.old
-        → (word : List ℕ) → IsPlanOf (write_refusals start (length from.now)) write_behind (config_recovered group.old) group.old.seats word plan.now
-        → AllComeAlong (writing start from.now) (work_of B.tells (B.disks bay.old) (B.disks bay.new)) left group.old timestamp word (write_request word start (length from.now)) (is_done result) }
+    requires room { length room.old ≡ 512 * room_for count }
+    ensures done { (sectors : List (List ℕ)) × HasWrittenBlocks B.tells (B.disks bay.old) (B.disks bay.new) group.old plan.now timestamp start count S.tells (S.input source.old) (S.input source.new) (take (512 * first_piece count) room.old) sectors result }
     ensures goes { GoesBetween (B.disks bay.old) (B.disks bay.new) }
 {
     open_blocks(group, ready, plan, timestamp, bay)?;
-    match write_blocks(bay, &plan.view, start, from) {
-        Ok(()) => close_blocks(group, ready, bay),
-        Err(fault) => Err(failure_of(fault)),
+    match write_pieces(bay, &plan.view, start, count, room, source) {
+        Ok(written) => {
+            let sequence = close_blocks(group, ready, bay)?;
+            Ok(Done {
+                blocks: written,
+                sequence,
+            })
+        }
+        Err(PieceFault::Volume(fault)) => Err(WriteFault::Failure(failure_of(fault))),
+        Err(PieceFault::Source) => Err(WriteFault::Input),
+        Err(PieceFault::Sink(_)) => unreachable!(),
     }
 }

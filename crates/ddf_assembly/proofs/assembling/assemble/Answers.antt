@@ -8,6 +8,7 @@ returns-in-Err-clause-assembled g c = record {
   newest = newest_from (g.B.Bay.disks c.args.bay.now) 0 c.read_slots.ensures.looked.left;
   read = λ told. refl;
   answer = inr refl;
+  gone = λ given. absurd (given refl);
 }
 
 pub returns-in-Ok-clause-assembled : goal.returns-in-Ok-clause-assembled
@@ -16,4 +17,5 @@ returns-in-Ok-clause-assembled g c = record {
   newest = c.in-Ok.newest.items;
   read = c.in-Ok.ensures.read.answer;
   answer = c.group_of.ensures.group;
+  gone = λ given. c.in-Ok.ensures.read.gone;
 }

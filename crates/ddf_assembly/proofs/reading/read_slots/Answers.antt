@@ -1,4 +1,4 @@
-use Rattle.std.proofs.Common.{◌≡◌, ◌+◌, ◌<◌, ◌∙◌, ℕ, List, [], ◌∷◌, length, ap, subst, arith, length-append, Option}
+use Rattle.std.proofs.Common.{◌≡◌, ◌+◌, ◌<◌, ◌∙◌, ℕ, true, List, [], ◌∷◌, length, ap, subst, arith, length-append, Option}
 use Rattle.std.specs.Prelude.{IfSome, slice_index}
 use Rattle.ddf_copy.specs.declared.newest_copy.Newest.{Newest}
 use Rattle.ddf_copy.specs.Whole.{IsNewestCopy}
@@ -13,13 +13,15 @@ pub loop-slot-preserved : goal.loop-slot-preserved
 loop-slot-preserved g c =
     let so_far = c.loop-slot.invariant in
     let read = c.in_ok-newest.ensures.read in
+    let gone : (g.B.Bay.disks c.args.bay.now).gone c.loop-slot.slot → read.out ≡ true = λ was. read.gone (g.met.B.Bay.stays_gone c.args.bay.now c.loop-slot.bay c.loop-slot.slot (so_far.reads.goes_on c.loop-slot.bay (g.met.B.Bay.leads c.loop-slot.bay)) was) in
     record {
       end = so_far.end;
-      partway = rw c.in_ok-push.ensures.items (partway_more g.B.Bay.tells _ _ _ c.loop-slot.slot c.loop-slot.all.items read.out c.in_ok-newest.newest so_far.partway so_far.reads.same_sizes so_far.reads.same_held read.look read.newest);
+      partway = rw c.in_ok-push.ensures.items (partway_more g.B.Bay.tells _ _ _ c.loop-slot.slot c.loop-slot.all.items read.out c.in_ok-newest.newest so_far.partway so_far.reads.same_sizes so_far.reads.same_held read.look read.newest gone);
       reads = reads_then so_far.reads c.read_or_leave.ensures.reads;
       never_falls = λ slot. omega (arith, so_far.never_falls slot, read.look.reads.never_falls slot);
       writes_never_fall = λ slot. omega (arith, so_far.writes_never_fall slot, read.look.writes.never_falls slot);
       counted = rw c.in_ok-push.ensures.items (length-append c.loop-slot.all.items (c.in_ok-newest.newest ∷ []) ∙ ap (λ (n : ℕ). n + 1) so_far.counted);
+      calls = let more = c.read_or_leave.ensures.calls in let before = so_far.calls in omega (arith, more, before);
       under = rw c.in_ok-push.ensures.items (anchors_more (g.B.Bay.disks c.args.bay.now).sizes c.loop-slot.all.items c.loop-slot.slot c.in_ok-newest.newest so_far.counted
           (omega (arith, c.loop-slot-test.true, so_far.end)) so_far.under (subst (λ (sizes : List ℕ). IfSome c.in_ok-newest.newest (HasAnchor (slice_index sizes c.loop-slot.slot))) so_far.reads.same_sizes c.in_ok-newest.ensures.under));
       stand = λ tells. rw c.in_ok-push.ensures.items (stand_more (g.B.Bay.disks c.args.bay.now) c.loop-slot.all.items c.loop-slot.slot c.in_ok-newest.newest so_far.counted (so_far.stand tells)
@@ -31,15 +33,17 @@ pub returns-in_err-newest-clause-looked : goal.returns-in_err-newest-clause-look
 returns-in_err-newest-clause-looked g c =
     let so_far = c.loop-slot.invariant in
     let read = c.read_or_leave.ensures.read in
+    let gone : (g.B.Bay.disks c.args.bay.now).gone c.loop-slot.slot → read.out ≡ true = λ was. read.gone (g.met.B.Bay.stays_gone c.args.bay.now c.loop-slot.bay c.loop-slot.slot (so_far.reads.goes_on c.loop-slot.bay (g.met.B.Bay.leads c.loop-slot.bay)) was) in
     let below : c.loop-slot.slot < length (g.B.Bay.disks c.args.bay.now).sizes = omega (arith, c.loop-slot-test.true, so_far.end) in
-    partway_cut g.B.Bay.tells _ _ _ c.loop-slot.slot c.loop-slot.all.items read.out so_far.partway so_far.reads.same_sizes so_far.reads.same_held read.look below
+    partway_cut g.B.Bay.tells _ _ _ c.loop-slot.slot c.loop-slot.all.items read.out so_far.partway so_far.reads.same_sizes so_far.reads.same_held read.look gone below
 
 pub returns-in_err-push-clause-looked : goal.returns-in_err-push-clause-looked
 returns-in_err-push-clause-looked g c =
     let so_far = c.loop-slot.invariant in
     let read = c.read_or_leave.ensures.read in
+    let gone : (g.B.Bay.disks c.args.bay.now).gone c.loop-slot.slot → read.out ≡ true = λ was. read.gone (g.met.B.Bay.stays_gone c.args.bay.now c.loop-slot.bay c.loop-slot.slot (so_far.reads.goes_on c.loop-slot.bay (g.met.B.Bay.leads c.loop-slot.bay)) was) in
     let below : c.loop-slot.slot < length (g.B.Bay.disks c.args.bay.now).sizes = omega (arith, c.loop-slot-test.true, so_far.end) in
-    partway_cut g.B.Bay.tells _ _ _ c.loop-slot.slot c.loop-slot.all.items read.out so_far.partway so_far.reads.same_sizes so_far.reads.same_held read.look below
+    partway_cut g.B.Bay.tells _ _ _ c.loop-slot.slot c.loop-slot.all.items read.out so_far.partway so_far.reads.same_sizes so_far.reads.same_held read.look gone below
 
 pub returns-clause-read : goal.returns-clause-read
 returns-clause-read g c =
@@ -57,3 +61,21 @@ returns-in_err-newest-clause-writes_never_fall g c = λ slot. omega (arith, c.lo
 
 pub returns-in_err-push-clause-writes_never_fall : goal.returns-in_err-push-clause-writes_never_fall
 returns-in_err-push-clause-writes_never_fall g c = λ slot. omega (arith, c.loop-slot.invariant.writes_never_fall slot, c.read_or_leave.ensures.read.look.writes.never_falls slot)
+
+pub returns-in_err-newest-clause-calls : goal.returns-in_err-newest-clause-calls
+returns-in_err-newest-clause-calls g c =
+    let more = c.read_or_leave.ensures.calls in
+    let before = c.loop-slot.invariant.calls in
+    omega (arith, more, before, c.loop-slot-test.true, c.loop-slot.invariant.end)
+
+pub returns-in_err-push-clause-calls : goal.returns-in_err-push-clause-calls
+returns-in_err-push-clause-calls g c =
+    let more = c.read_or_leave.ensures.calls in
+    let before = c.loop-slot.invariant.calls in
+    omega (arith, more, before, c.loop-slot-test.true, c.loop-slot.invariant.end)
+
+pub returns-clause-calls : goal.returns-clause-calls
+returns-clause-calls g c =
+    let before = c.loop-slot.invariant.calls in
+    let all : c.loop-slot.slot ≡ length (g.B.Bay.disks c.args.bay.now).sizes = omega (arith, c.loop-slot-test.false, c.loop-slot.auto.slot-end, c.loop-slot.invariant.end) in
+    omega (arith, before, all)

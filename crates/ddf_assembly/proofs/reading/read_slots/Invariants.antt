@@ -1,4 +1,4 @@
-use Rattle.std.proofs.Common.{◌≡◌, ◌≤◌, ℕ, length}
+use Rattle.std.proofs.Common.{◌≡◌, ◌+◌, ◌*◌, ◌≤◌, ℕ, length}
 use Rattle.ddf_bay.specs.ReadsOnly.{ReadsOnly}
 use Rattle.ddf_assembly.specs.Reading.{AreNewest, HaveAnchors}
 use Rattle.ddf_assembly.specs.Held.{StandUnder}
@@ -14,6 +14,7 @@ invariant-loop-slot g l = record {
   never_falls : (slot : ℕ) → (g.B.Bay.disks l.initial.bay).failed_reads slot ≤ (g.B.Bay.disks l.bay).failed_reads slot;
   writes_never_fall : (slot : ℕ) → (g.B.Bay.disks l.initial.bay).failed_writes slot ≤ (g.B.Bay.disks l.bay).failed_writes slot;
   counted : length l.all.items ≡ l.slot;
+  calls : (g.B.Bay.disks l.bay).calls ≤ (g.B.Bay.disks l.initial.bay).calls + 15 * l.slot;
   under : HaveAnchors (g.B.Bay.disks l.initial.bay).sizes l.all.items;
   stand : g.B.Bay.tells → StandUnder (g.B.Bay.disks l.initial.bay) l.all.items;
 }

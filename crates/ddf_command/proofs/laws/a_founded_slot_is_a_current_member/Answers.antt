@@ -1,7 +1,7 @@
 use Rattle.std.proofs.Common.{true}
 use Rattle.ddf_disk_commands.specs.Label.{label_copy, label_slots}
 use Rattle.ddf_disk_commands.proofs.Chosen.{chosen_once}
-use Rattle.ddf_command.proofs.FoundedMember.{all_founded, founded_listed, founded_member}
+use Rattle.ddf_stops.proofs.FoundedMember.{all_founded, founded_listed, founded_member}
 use Rattle.ddf_command.proofs.laws.a_founded_slot_is_a_current_member.Goals as goal
 
 pub returns-clause-member : goal.returns-clause-member

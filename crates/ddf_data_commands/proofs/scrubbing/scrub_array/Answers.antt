@@ -1,14 +1,9 @@
-use Rattle.std.proofs.Common.{List, Err, sym, subst}
+use Rattle.std.proofs.Common.{Err, sym, subst}
 use Rattle.std.proofs.lemmas.Result.{err_from_is_err_and}
-use Rattle.ddf_config.specs.declared.seat.Seat.{Seat}
-use Rattle.ddf_config.specs.Configuration.{Configuration}
 use Rattle.ddf_array.proofs.Fits.{view_fits}
-use Rattle.ddf_resync.specs.declared.outcome.Scrub.{Scrub}
 use Rattle.ddf_answer.specs.declared.failure.Failure.{Failure}
 use Rattle.ddf_answer.specs.Call.{work_of}
-use Rattle.ddf_data_commands.specs.declared.using.Access.TheVariants.{Reads}
 use Rattle.ddf_data_commands.specs.Scrub.{IsScrubOf}
-use Rattle.ddf_data_commands.specs.Use.{MayUse}
 use Rattle.ddf_data_commands.proofs.ComparedSlots.{compared_there}
 use Rattle.ddf_data_commands.proofs.Scrubbed.{not_scrubbed_of, scrub_fault, was_scrubbed}
 use Rattle.ddf_data_commands.proofs.scrubbing.scrub_array.Goals as goal

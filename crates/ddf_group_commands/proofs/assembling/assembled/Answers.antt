@@ -37,6 +37,7 @@ returns-in_err-write_changes-clause-told g c =
       leaves = rw c.timestamp.ensures at written.leaves;
       keeps = rw c.timestamp.ensures at written.keeps;
       same_reads = written.reads;
+      calls = written.calls;
       writes_rise = written.writes_rise;
     })))
 
@@ -51,5 +52,6 @@ returns-clause-told g c =
       leaves = rw c.timestamp.ensures at written.leaves;
       keeps = rw c.timestamp.ensures at written.keeps;
       same_reads = written.reads;
+      calls = written.calls;
       writes_rise = written.writes_rise;
     }) c.in_ok-write_changes.was text

@@ -54,6 +54,7 @@ returns-clause-changed g c =
       leaves = rw (c.listed.ensures, c.timestamp.ensures) at written.leaves;
       keeps = rw (c.listed.ensures, c.timestamp.ensures) at written.keeps;
       same_reads = written.reads;
+      calls = written.calls;
       writes_rise = written.writes_rise;
     })
 

@@ -16,6 +16,7 @@ use Rattle.ddf_group_commands.proofs.Recovering.{Commits, commit_failed, done_to
 use Rattle.ddf_assembly.proofs.Committed.{may_write_next}
 use Rattle.ddf_assembly.proofs.RecoveredGroup.{recovered_ready}
 use Rattle.ddf_assembly.proofs.RecoveryWritten.{may_recover, recovered_held}
+use Rattle.ddf_group_commands.proofs.FewCalls.{committed_few, recovered_few}
 use Rattle.ddf_group_commands.proofs.Beside.{commit_beside, reads_beside, recovery_beside}
 use Rattle.ddf_group_commands.proofs.Keeping.{Tells, commit_keeps, done_keeps, reads_keep, reads_true, recover_keeps}
 use Rattle.ddf_group_commands.proofs.LeftWriting.{commit_leaves, reads_leave, recover_leaves}
@@ -293,3 +294,21 @@ returns-clause-leaves g c = λ told steps asked.
     commit_leaves g.B.Bay.tells old c.args.group.now c.args.changes.now c.args.timestamp c.in-Ok.ready c.requires.from was told
     (reads_true old (g.met.B.Bay.held_is_left c.args.bay.now) (g.met.B.Bay.whole c.args.bay.now)) (g.met.B.Bay.only_now c.args.bay.now) steps asked middle c.recover.ensures.spends.same_sizes (c.recover.ensures.any_moment told) tell
     can (reads_true middle (g.met.B.Bay.held_is_left c.recover.new.bay) (g.met.B.Bay.whole c.recover.new.bay)) new next tell_new
+
+pub returns-in_err-recover-clause-calls : goal.returns-in_err-recover-clause-calls
+returns-in_err-recover-clause-calls g c =
+    let made = c.in-Ok.ensures in
+    let was = was_readied c.args.group.now c.args.changes.now c.args.timestamp c.in-Ok.ready c.requires.from.assembled c.ranges.timestamp.fits made.readied made.recovery made.recovers made.follows in
+    recovered_few g.B.Bay.tells (g.B.Bay.disks c.args.bay.now) c.args.group.now c.args.changes.now c.args.timestamp c.in-Ok.ready c.requires.from was (g.B.Bay.disks c.recover.new.bay) c.recover.ensures.spends.costs
+
+pub returns-in_err-commit-clause-calls : goal.returns-in_err-commit-clause-calls
+returns-in_err-commit-clause-calls g c =
+    let made = c.in-Ok.ensures in
+    let was = was_readied c.args.group.now c.args.changes.now c.args.timestamp c.in-Ok.ready c.requires.from.assembled c.ranges.timestamp.fits made.readied made.recovery made.recovers made.follows in
+    committed_few g.B.Bay.tells (g.B.Bay.disks c.args.bay.now) c.args.group.now c.args.changes.now c.args.timestamp c.in-Ok.ready c.requires.from was (g.B.Bay.disks c.recover.new.bay) (g.B.Bay.disks c.commit.new.bay) c.recover.ensures.spends.costs (rw c.recover.ensures.left at c.commit.ensures.spends.costs)
+
+pub returns-clause-calls : goal.returns-clause-calls
+returns-clause-calls g c =
+    let made = c.in-Ok.ensures in
+    let was = was_readied c.args.group.now c.args.changes.now c.args.timestamp c.in-Ok.ready c.requires.from.assembled c.ranges.timestamp.fits made.readied made.recovery made.recovers made.follows in
+    committed_few g.B.Bay.tells (g.B.Bay.disks c.args.bay.now) c.args.group.now c.args.changes.now c.args.timestamp c.in-Ok.ready c.requires.from was (g.B.Bay.disks c.recover.new.bay) (g.B.Bay.disks c.commit.new.bay) c.recover.ensures.spends.costs (rw c.recover.ensures.left at c.commit.ensures.spends.costs)

@@ -1,4 +1,4 @@
-use Rattle.ddf_import.proofs.Apart.{has_step, no_cause}
+use Rattle.ddf_import.proofs.Apart.{no_cause}
 use Rattle.ddf_import.proofs.joining.joined.Goals as goal
 
 pub members_joined-requires : goal.members_joined-requires

@@ -64,6 +64,7 @@ loop-done-preserved g c =
       left = rest_adds c.args.lba from done so_far.within c.args.slot old.may_hold now.may_hold new.may_hold so_far.left (rw (take_rest from done) at c.in_ok-done.ensures.left);
       any_moment = rest_stops c.args.lba from done so_far.within c.args.slot old now new so_far.left so_far.any_moment (rw (take_rest from done) at c.in_ok-done.ensures.any_moment);
       remembers = remembers_then old now new so_far.remembers c.in_ok-done.ensures.remembers c.in_ok-done.ensures.spends.told so_far.any_moment.later;
+      gone = λ some was. c.in_ok-done.ensures.gone (g.met.B.Bay.stays_gone c.args.bay.now c.loop-done.bay c.args.slot (so_far.spends.goes_on c.loop-done.bay (g.met.B.Bay.leads c.loop-done.bay)) was);
       ok = c.in_ok-done.ensures.ok ∙ so_far.ok;
       spends = spends_more _ _ (spends_then so_far.spends c.in_ok-done.ensures.spends) (omega arith) (pieces_more kind c.args.lba from done n c.in_ok-done.ensures.some begins);
       begins = λ lt. rest_begins kind c.args.lba from done n c.in_ok-done.ensures.some (let left : n < length (drop done from) = omega (arith, length-drop done from, lt) in

@@ -16,6 +16,7 @@ invariant-loop-done g l =
       left : Adds old.may_hold new.may_hold l.slot l.lba l.from;
       any_moment : StopsLeave old new (IsAmong old.may_hold l.slot l.lba l.from);
       remembers : Remembers old new;
+      gone : 0 < l.done → (g.B.Bay.disks l.initial.bay).gone l.slot → ⊥;
       ok : (g.B.Bay.disks l.bay).failed_writes ≡ (g.B.Bay.disks l.initial.bay).failed_writes;
       spends : SpendsWrites (g.B.Bay.disks l.initial.bay) (g.B.Bay.disks l.bay) l.slot l.done (pieces_below (kind_at l.kinds l.slot) l.lba l.from l.done);
       begins : l.done < length l.from → begins_at (kind_at l.kinds l.slot) l.lba l.from l.done ≡ true;

@@ -6,6 +6,7 @@ use Rattle.ddf_assembly.specs.Committed.{left_behind}
 use Rattle.ddf_assembly.specs.Ready.{ReadyValue}
 use Rattle.ddf_write_commands.proofs.Courses.{IsTold}
 use Rattle.ddf_rebuild_command.specs.Filled.{AreFilled, CanFill, GoesFilling, IsFillFault, rounds_in}
+use Rattle.ddf_rebuild_command.proofs.Costs.{first_asks, rounds_ask}
 use Rattle.ddf_rebuild_command.proofs.AllRounds.{can_first, can_later, fault_behind, filled_behind, first_failed, first_fault, from_row, goes_behind, many_behind, row_end}
 use Rattle.ddf_rebuild_command.proofs.filling.+fill.Goals as goal
 
@@ -205,3 +206,18 @@ returns-clause-failed g t c =
     (from_row old.sizes c.args.group.now.seats filling.view filling.target end c.args.from row later all) end failure
     (subst (λ (one : ReadyValue). IsFillFault g.B.Bay.tells middle new filling.view filling.target row (rounds_in later one.steps) c.fill_round.new.group one end failure) behind (fault end can_behind))))
     c.fill.ensures.failed
+
+pub returns-in_err-fill_round-clause-asks : goal.returns-in_err-fill_round-clause-asks
+returns-in_err-fill_round-clause-asks g t c part at = first_asks part.shape c.args.from c.in-Some.row.now c.args.ready.now (c.fill_round.ensures.asks part at)
+
+pub returns-clause-asks : goal.returns-clause-asks
+returns-clause-asks g t c part at =
+    let old = g.B.Bay.disks c.args.bay.now in
+    let filling = c.args.filling.now in
+    let row = c.in-Some.row.now in
+    let later = c.in-Some.later.now in
+    let list : c.args.rows.now ≡ row ∷ later = c.in-Some.ensures.cases.0 in
+    let end = c.requires.fills.0 in
+    let can : CanFill old.sizes c.args.group.now.seats filling.view filling.target end c.args.from (row ∷ later) =
+    subst (λ (rows : List ℕ). CanFill old.sizes c.args.group.now.seats filling.view filling.target end c.args.from rows) list c.requires.fills.1 in
+    rounds_ask part.shape c.args.from row c.args.ready.now can.rise.0 c.fill_round.new.ready c.in_ok-fill_round.ensures.left (c.fill_round.ensures.asks part at) (c.fill.ensures.asks part at)

@@ -1,13 +1,17 @@
-use Rattle.std.proofs.Common.{[], ◌∷◌, true, false, refl, subst, sym}
+use Rattle.std.proofs.Common.{◌+◌, [], ◌∷◌, true, false, refl, subst, sym, arith}
 use Rattle.std.proofs.lemmas.Bool.{false≢true}
 use Rattle.std.proofs.lemmas.Result.{IfErr-weaker, on_ok_weaker}
 use Rattle.std.specs.Prelude.{is_ok}
 use Rattle.ddf_array.proofs.Fits.{view_fits}
-use Rattle.ddf_assembly.specs.Committed.{slots_of}
+use Rattle.ddf_cells.proofs.Writes.{asks_then}
+use Rattle.ddf_rebuild.specs.Rebuilding.{sectors_of}
+use Rattle.ddf_update.specs.Prepared.{all_sectors}
+use Rattle.ddf_assembly.specs.Committed.{next_updates, slots_of}
 use Rattle.ddf_answer.specs.declared.failure.Failure.{Failure}
 use Rattle.ddf_write_commands.proofs.Courses.{IsTold}
 use Rattle.ddf_rebuild_command.specs.Filled.{IsFillFault, rounds_in}
 use Rattle.ddf_rebuild_command.specs.Standing.{IsSlotFault}
+use Rattle.ddf_rebuild_command.proofs.Costs.{asks_most}
 use Rattle.ddf_rebuild_command.proofs.NextRound.{round_fault, round_filled, round_goes, rows_failed, rows_fault, stands_behind}
 use Rattle.ddf_rebuild_command.proofs.OneRound.{FillsRows}
 use Rattle.ddf_rebuild_command.proofs.filling.fill_round.Goals as goal
@@ -198,3 +202,11 @@ returns-in-Err-clause-failed g c =
     subst (λ (failure : Failure). IsFillFault g.B.Bay.tells old middle filling.view filling.target c.args.from (rounds_in (c.args.row ∷ []) c.args.ready.now.steps) c.args.group.now c.args.ready.now c.args.row failure)
     (sym c.failure_of.ensures)
     (rows_fault g.B.Bay.tells old middle filling.view filling.target c.args.from c.args.row c.requires.fills.0 c.args.group.now can c.args.ready.now.recovery false rows c.args.ready.now.steps c.requires.many c.requires.stands c.in-Err.fault c.in-Err.ensures.fault)
+
+pub returns-in-Ok-clause-asks : goal.returns-in-Ok-clause-asks
+returns-in-Ok-clause-asks g c part at =
+    asks_then (sectors_of part.shape c.args.from c.args.row + all_sectors (next_updates c.args.ready.now)) (omega arith) (c.rebuild_rows.ensures.asks part at) c.write_step.ensures.asks
+
+pub returns-in-Err-clause-asks : goal.returns-in-Err-clause-asks
+returns-in-Err-clause-asks g c part at =
+    asks_most (sectors_of part.shape c.args.from c.args.row + all_sectors (next_updates c.args.ready.now)) (omega arith) (c.rebuild_rows.ensures.asks part at)

@@ -1,4 +1,4 @@
-use Rattle.std.proofs.Common.{◌∙◌, ℕ, subst}
+use Rattle.std.proofs.Common.{◌∙◌, ℕ, Ok, subst}
 use Rattle.std.proofs.lemmas.Result.{err_from_is_err_and}
 use Rattle.ddf_bytes.specs.Stamps.{timestamp_of}
 use Rattle.ddf_assembly.specs.Ready.{readied}
@@ -6,9 +6,10 @@ use Rattle.ddf_data_stops.proofs.Floored.{group_floored}
 use Rattle.ddf_answer.specs.Call.{work_of}
 use Rattle.ddf_group_commands.proofs.Outcomes.{group_read, read_still}
 use Rattle.ddf_write_commands.proofs.Staying.{current_recovered}
+use Rattle.ddf_rebuild_command.specs.Costs.{CostsOf}
 use Rattle.ddf_rebuild_command.proofs.FillRan.{run_goes}
 use Rattle.ddf_rebuild_command.proofs.PlanKept.{can_be_asked, steps_are}
-use Rattle.ddf_rebuild_command.proofs.PlanRan.{can_fill_behind, can_open, ran}
+use Rattle.ddf_rebuild_command.proofs.PlanRan.{can_fill_behind, can_open, costs, ran}
 use Rattle.ddf_rebuild_command.proofs.RunCame.{HasRun, come, none_come, not_planned, not_ready, unwritten_come}
 use Rattle.ddf_rebuild_command.proofs.SeatsThere.{have_seats}
 use Rattle.ddf_rebuild_command.proofs.rebuilding.rebuilt.Goals as goal
@@ -86,7 +87,11 @@ returns-clause-rebuilt g c =
     (ran group word c.in_ok-plan.plan c.timestamp-timestamp.result c.in_ok-plan.ensures (current_recovered read.newest c.args.named group found c.in_ok-group.ensures.from.assembled) c.in_ok-ready.ready
     c.in_ok-ready.ensures.was g.B.Bay.disks g.B.Bay.tells old start new c.read_group.ensures.reads c.read_group.ensures.reads_rise c.read_group.ensures.writes_rise
     (g.met.B.Bay.told_since c.rebuild_array.new.bay) from c.rebuild_array.result c.rebuild_array.ensures.run) in
-    come g.B.Bay.tells old start new c.read_group.ensures.reads c.read_group.ensures.reads_rise c.read_group.ensures.writes_rise c.args.named timestamp word group c.rebuild_array.result read has
+    let paid : CostsOf (work_of g.B.Bay.tells old new) timestamp word (Ok group) =
+    subst (λ (n : ℕ). CostsOf (work_of g.B.Bay.tells old new) n word (Ok group)) c.timestamp-timestamp.ensures
+    (costs group word c.in_ok-plan.plan c.timestamp-timestamp.result c.in_ok-plan.ensures (current_recovered read.newest c.args.named group found c.in_ok-group.ensures.from.assembled) c.in_ok-ready.ready
+    c.in_ok-ready.ensures.was g.B.Bay.tells old start new c.read_group.ensures.reads c.rebuild_array.ensures.asks) in
+    come g.B.Bay.tells old start new c.read_group.ensures.reads c.read_group.ensures.reads_rise c.read_group.ensures.writes_rise c.args.named timestamp word group c.rebuild_array.result read has paid
 
 pub returns-clause-goes_on : goal.returns-clause-goes_on
 returns-clause-goes_on g c = λ bay leads.

@@ -6,6 +6,7 @@ use Rattle.ddf_assembly.specs.Steps.{Step}
 use Rattle.ddf_write_commands.proofs.Courses.{IsTold}
 use Rattle.ddf_rebuild_command.specs.Opened.{GoesOpening, IsOpened, steps_before}
 use Rattle.ddf_rebuild_command.specs.Standing.{next_if, next_in, recovery_in}
+use Rattle.ddf_rebuild_command.proofs.Costs.{alone_asks, first_behind}
 use Rattle.ddf_rebuild_command.proofs.Further.{goes_before, goes_further, opened_further}
 use Rattle.ddf_rebuild_command.proofs.stepping.open_position.Goals as goal
 
@@ -55,3 +56,13 @@ returns-then-begins-clause-opened g c =
     (opened_further g.B.Bay.tells old middle new tells_new c.args.group.now c.recover_group.new.group c.recover_group.new.ready first c.recover_group.ensures.goes c.in_ok-recover_group.ensures.opened
     (is_ok c.write_step.result) c.write_step.ensures.goes c.write_step.new.group c.write_step.new.ready written))
     c.write_step.ensures.written
+
+pub returns-in_err-recover_group-clause-asks : goal.returns-in_err-recover_group-clause-asks
+returns-in_err-recover_group-clause-asks g c = alone_asks c.args.begins c.args.ready.now c.recover_group.ensures.asks
+
+pub returns-then-begins-clause-asks : goal.returns-then-begins-clause-asks
+returns-then-begins-clause-asks g c =
+    first_behind c.args.begins c.if-begins.true c.args.ready.now c.recover_group.new.ready c.recover_group.ensures.left c.recover_group.ensures.asks c.write_step.ensures.asks
+
+pub returns-else-begins-clause-asks : goal.returns-else-begins-clause-asks
+returns-else-begins-clause-asks g c = alone_asks c.args.begins c.args.ready.now c.recover_group.ensures.asks

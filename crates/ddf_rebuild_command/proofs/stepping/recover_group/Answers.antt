@@ -3,6 +3,7 @@ use Rattle.std.proofs.lemmas.Result.{err_from_is_err_and}
 use Rattle.ddf_cells.specs.Touching.{GoesBetween}
 use Rattle.ddf_stops.specs.Steps.{IsRecovery}
 use Rattle.ddf_write_commands.proofs.Courses.{IsTold}
+use Rattle.ddf_rebuild_command.proofs.Costs.{asks_spent}
 use Rattle.ddf_rebuild_command.proofs.Recovery.{lies, on_seats, recovery_done, recovery_failed, recovery_opened, there}
 use Rattle.ddf_rebuild_command.proofs.stepping.recover_group.Goals as goal
 
@@ -114,3 +115,9 @@ returns-clause-opened g c =
     } in
     recovery_opened g.B.Bay.tells old c.args.group.now c.args.ready.now c.requires tells_old new tells_new is c.recover.ensures.spends.same_sizes _ c.recover.ensures.spends.costs c.recover.new.self c.in_ok-recover.ensures.group c.recover.new.ready
     c.recover.ensures.left
+
+pub returns-in_err-recover-clause-asks : goal.returns-in_err-recover-clause-asks
+returns-in_err-recover-clause-asks g c = asks_spent c.recover.ensures.spends
+
+pub returns-clause-asks : goal.returns-clause-asks
+returns-clause-asks g c = asks_spent c.recover.ensures.spends

@@ -3,6 +3,7 @@ use Rattle.std.proofs.lemmas.Result.{err_from_is_err_and}
 use Rattle.ddf_cells.specs.Touching.{GoesBetween}
 use Rattle.ddf_stops.specs.Steps.{IsCommit}
 use Rattle.ddf_write_commands.proofs.Courses.{IsTold}
+use Rattle.ddf_rebuild_command.proofs.Costs.{asks_spent}
 use Rattle.ddf_rebuild_command.proofs.NextStep.{goes_next, is_written, lies, on_seats}
 use Rattle.ddf_rebuild_command.proofs.stepping.write_step.Goals as goal
 
@@ -97,3 +98,9 @@ returns-clause-written g c =
     } in
     is_written g.B.Bay.tells old c.args.group.now c.args.ready.now c.requires new tells_new is c.commit.ensures.spends.same_sizes c.commit.new.self c.in_ok-commit.ensures.group c.commit.new.ready
     c.commit.ensures.left
+
+pub returns-in_err-commit-clause-asks : goal.returns-in_err-commit-clause-asks
+returns-in_err-commit-clause-asks g c = asks_spent c.commit.ensures.spends
+
+pub returns-clause-asks : goal.returns-clause-asks
+returns-clause-asks g c = asks_spent c.commit.ensures.spends

@@ -1,5 +1,5 @@
-use Rattle.std.proofs.Common.{◌≡◌, ℕ, ◌-◌, ◌/◌, ◌<◌, ◌≤◌, true, false, sym, ◌∙◌, arith}
-use Rattle.ddf_repair.specs.Spares.{has_room, most_within}
+use Rattle.std.proofs.Common.{◌≡◌, ◌-◌, ◌/◌, ◌<◌, ◌≤◌, true, false, sym, ◌∙◌, arith}
+use Rattle.ddf_repair.specs.Spares.{has_room}
 use Rattle.ddf_repair.proofs.Halving.{greatest_is, none_more}
 use Rattle.ddf_repair.proofs.most.most_within.Goals as goal
 

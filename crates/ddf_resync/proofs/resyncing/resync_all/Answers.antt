@@ -33,6 +33,18 @@ returns-in_err-set_all-clause-any_moment g c =
     (writes_then May g.B.Bay.tells c.in_ok-copy_all.ensures.writes
     (writes_wider (SetsParity v) May g.B.Bay.tells (λ s l bytes of. inr of) c.in_err-set_all.ensures.writes)).any_moment
 
+pub returns-in_err-set_all-clause-left : goal.returns-in_err-set_all-clause-left
+returns-in_err-set_all-clause-left g c = λ s l bytes may.
+    let v = c.args.view.now in
+    let May = MayResync v g.B.Bay.tells (g.B.Bay.disks c.args.bay.now).held in
+    ⊎_elim inl (λ given. inr given.0) ((writes_then May g.B.Bay.tells c.in_ok-copy_all.ensures.writes (writes_wider (SetsParity v) May g.B.Bay.tells (λ s l bytes of. inr of) c.in_err-set_all.ensures.writes)).left s l bytes may)
+
+pub returns-in_err-set_all-clause-held : goal.returns-in_err-set_all-clause-held
+returns-in_err-set_all-clause-held g c = λ tells s l.
+    let v = c.args.view.now in
+    let May = MayResync v g.B.Bay.tells (g.B.Bay.disks c.args.bay.now).held in
+    ⊎_elim inl (λ given. inr given.0) ((writes_then May g.B.Bay.tells c.in_ok-copy_all.ensures.writes (writes_wider (SetsParity v) May g.B.Bay.tells (λ s l bytes of. inr of) c.in_err-set_all.ensures.writes)).held tells s l)
+
 pub returns-in_err-set_all-clause-cause : goal.returns-in_err-set_all-clause-cause
 returns-in_err-set_all-clause-cause g c =
     let v = c.args.view.now in
@@ -60,6 +72,15 @@ returns-clause-any_moment g c =
     let w = writes_then May g.B.Bay.tells c.in_ok-copy_all.ensures.writes
     (writes_wider (SetsParity v) May g.B.Bay.tells (λ s l bytes of. inr of) c.in_ok-set_all.ensures.writes) in
     moments_end May g.B.Bay.tells w (g.B.Bay.disks c.sync_touched.new.bay) c.sync_touched.ensures.left c.sync_touched.ensures.held c.sync_touched.ensures.any_moment
+
+pub returns-clause-held : goal.returns-clause-held
+returns-clause-held g c = λ tells s l.
+    let v = c.args.view.now in
+    let old = g.B.Bay.disks c.args.bay.now in
+    let May = MayResync v g.B.Bay.tells old.held in
+    let w = writes_then May g.B.Bay.tells c.in_ok-copy_all.ensures.writes
+    (writes_wider (SetsParity v) May g.B.Bay.tells (λ s l bytes of. inr of) c.in_ok-set_all.ensures.writes) in
+    subst (λ (image : Image). (image s l ≡ old.held s l) ⊎ May s l (image s l)) (sym c.sync_touched.ensures.held) (⊎_elim inl (λ given. inr given.0) (w.held tells s l))
 
 pub returns-clause-resynced : goal.returns-clause-resynced
 returns-clause-resynced g c = λ tells.

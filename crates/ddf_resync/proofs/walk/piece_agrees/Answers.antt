@@ -59,3 +59,6 @@ returns-clause-agree g c = λ tells k below.
           let within = (cell_facts part.shape known.shape_is).member_within position (c.args.sector + k) held_there.inner held_there.cell_holds in
           (c.loop-position.invariant.agree tells position k (omega (arith, within, n, known.has_places, c.loop-position-test.false)) below).1 mirrored parity block sites block_is none row;
     }
+
+pub returns-in_err-agree-clause-reads : goal.returns-in_err-agree-clause-reads
+returns-in_err-agree-clause-reads g c = only_reads_then c.loop-position.invariant.reads c.in_err-agree.ensures.reads

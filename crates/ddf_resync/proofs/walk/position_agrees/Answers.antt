@@ -1,5 +1,6 @@
 use Rattle.std.proofs.Common.{◌+◌, refl, subst}
 use Rattle.ddf_bay.specs.Sectors.{Image}
+use Rattle.ddf_volume.proofs.OnlyReading.{only_reads_then}
 use Rattle.ddf_resync.specs.Agreeing.{AllOrNot, CopyAgrees, PositionAgrees, RowAgrees}
 use Rattle.ddf_resync.proofs.Failing.{all_good, all_or_not}
 use Rattle.ddf_resync.proofs.walk.position_agrees.Goals as goal
@@ -16,3 +17,6 @@ returns-clause-agree g c = λ tells.
     let rows = subst (λ (image : Image). AllOrNot c.in_ok-rows.rows c.args.count (λ k. RowAgrees v image c.args.element part c.args.position (c.args.sector + k))) c.in_ok-copies.ensures.reads.reads.same_held (c.in_ok-rows.ensures.agree tells) in
     all_or_not (λ k. RowAgrees v held c.args.element part c.args.position (c.args.sector + k)) (λ k. PositionAgrees v held c.args.element part c.args.position (c.args.sector + k)) c.in_ok-rows.rows c.args.count c.args.count refl
     (λ k below row. (good k below, row)) (λ k below never two. never two.1) rows
+
+pub returns-in_err-rows-clause-reads : goal.returns-in_err-rows-clause-reads
+returns-in_err-rows-clause-reads g c = only_reads_then c.in_ok-copies.ensures.reads c.in_err-rows.ensures.reads

@@ -69,3 +69,6 @@ pub returns-clause-found : goal.returns-clause-found
 returns-clause-found g c = λ tells s below.
     let deep : c.depth_of-depth.result ≡ depth_of c.args.part.now.shape = c.depth_of-depth.ensures.value in
     c.loop-sector.invariant.agree tells s (omega (arith, below, deep, c.loop-sector-test.false))
+
+pub returns-in_err-agree-clause-reads : goal.returns-in_err-agree-clause-reads
+returns-in_err-agree-clause-reads g c = only_reads_then c.loop-sector.invariant.reads c.in_err-agree.ensures.reads

@@ -84,4 +84,4 @@ returns-clause-resynced g c =
     }) in
     has_resynced (work_of g.B.Bay.tells old new) c.args.named timestamp word c.resync_array.result
     (come_since g.B.Bay.tells resyncing resync_steady old middle new c.read_group.ensures.reads c.read_group.ensures.reads_rise c.read_group.ensures.writes_rise c.args.named timestamp word (resync_request word) group
-    c.resync_array.result c.in_ok-group.ensures.read done)
+    c.in_ok-group.ensures.read c.resync_array.result done)

@@ -10,6 +10,8 @@ invariant_of-bay c = record {
   past = rw c.stop.ensures.logged (survivors_past c.args.self.clock c.args.keep.now c.args.self.log.logged.items c.args.self.past);
   counted = omega (arith, c.stop.ensures.room, c.args.self.counted);
   wanted = omega arith;
+  reads_within = c.args.self.reads_within;
+  writes_within = c.args.self.writes_within;
 }
 
 pub returns-clause-left : goal.returns-clause-left

@@ -2,14 +2,14 @@ use Rattle.ddf_bay.specs.LoggedLaws.{past_later}
 use Rattle.ddf_bay.specs.MemoryLaws.{becomes_then, same_remembers, still_left, still_no_more, still_since}
 use Rattle.std.proofs.Common.{arith, refl}
 use Rattle.ddf_bay.specs.Memory.{state_of}
-use Rattle.ddf_bay.proofs.MemorySteps.{becomes_still, never_fails, spends_still}
+use Rattle.ddf_bay.proofs.MemorySteps.{becomes_still, counts_elsewhere, most_later, spends_still, within_later, within_raised}
 use Rattle.ddf_bay.proofs.memory_calls.MemoryBayBay.read.Goals as goal
 
 pub invariant_of-self : goal.invariant_of-self
-invariant_of-self c = record { few = c.args.self.now.few; small = c.args.self.now.small; past = past_later c.args.self.now.clock c.next-self.result c.args.self.now.log.logged.items c.next-self.ensures.least c.args.self.now.past; counted = c.args.self.now.counted; wanted = c.args.self.now.wanted }
+invariant_of-self c = record { few = c.args.self.now.few; small = c.args.self.now.small; past = past_later c.args.self.now.clock c.next-self.result c.args.self.now.log.logged.items c.next-self.ensures.least c.args.self.now.past; counted = c.args.self.now.counted; wanted = c.args.self.now.wanted; reads_within = within_raised c.args.self.now.read_faults c.raise.new.counts c.args.slot c.args.self.now.clock c.next-self.result c.next-self.ensures.least c.next-self.ensures.value c.raise.ensures.most c.raise.ensures.others c.args.self.now.reads_within; writes_within = within_later c.args.self.now.write_faults c.args.self.now.clock c.next-self.result c.next-self.ensures.least c.args.self.now.writes_within }
 
 pub invariant_of-self-else-fails : goal.invariant_of-self-else-fails
-invariant_of-self-else-fails c = record { few = c.args.self.now.few; small = c.args.self.now.small; past = past_later c.args.self.now.clock c.next-self.result c.args.self.now.log.logged.items c.next-self.ensures.least c.args.self.now.past; counted = c.args.self.now.counted; wanted = c.args.self.now.wanted }
+invariant_of-self-else-fails c = record { few = c.args.self.now.few; small = c.args.self.now.small; past = past_later c.args.self.now.clock c.next-self.result c.args.self.now.log.logged.items c.next-self.ensures.least c.args.self.now.past; counted = c.args.self.now.counted; wanted = c.args.self.now.wanted; reads_within = within_later c.args.self.now.read_faults c.args.self.now.clock c.next-self.result c.next-self.ensures.least c.args.self.now.reads_within; writes_within = within_later c.args.self.now.write_faults c.args.self.now.clock c.next-self.result c.next-self.ensures.least c.args.self.now.writes_within }
 
 pub returns-then-fails-clause-left : goal.returns-then-fails-clause-left
 returns-then-fails-clause-left c = still_left c.args.self.now.clock c.next-self.result c.args.self.now.log.logged.items c.args.self.now.past c.next-self.ensures.least c.next-self.ensures.more
@@ -35,8 +35,8 @@ returns-then-fails-clause-spends c =
     let clock = c.next-self.ensures in
     let made = c.next-self-2.ensures in
     spends_still c.args.slot
-    (λ next leads. becomes_then bay _ (state_of next) (becomes_still bay c.next-self.result c.next-self-2.result bay.room c.raise.new.counts bay.failed_writes bay.logged refl
-    (λ healthy. absurd (never_fails bay c.args.slot c.fails-fails.result c.fails-fails.ensures c.if-fails.true healthy)) (λ healthy. refl)
+    (λ next leads. becomes_then bay _ (state_of next) (becomes_still bay c.next-self.result c.next-self-2.result bay.room c.raise.new.counts bay.failed_writes bay.logged refl made.least (most_later bay.clock c.next-self.result bay.calls c.next-self-2.result clock.most made.more)
+    (counts_elsewhere bay c.args.slot c.fails-fails.result c.fails-fails.ensures c.if-fails.true bay.failed_reads c.raise.new.counts c.raise.ensures.others) (λ s plugged. refl)
     (still_no_more bay _ c.args.self.now.past clock.least clock.more refl)) leads)
     (λ told. omega (arith, told, clock.least)) refl refl c.raise.ensures.kept c.raise.ensures.others refl refl made.least made.most
 
@@ -46,6 +46,6 @@ returns-clause-spends c =
     let clock = c.next-self.ensures in
     let made = c.next-self-2.ensures in
     spends_still c.args.slot
-    (λ next leads. becomes_then bay _ (state_of next) (becomes_still bay c.next-self.result c.next-self-2.result bay.room bay.failed_reads bay.failed_writes bay.logged refl
-    (λ healthy. refl) (λ healthy. refl) (still_no_more bay _ c.args.self.now.past clock.least clock.more refl)) leads)
+    (λ next leads. becomes_then bay _ (state_of next) (becomes_still bay c.next-self.result c.next-self-2.result bay.room bay.failed_reads bay.failed_writes bay.logged refl made.least (most_later bay.clock c.next-self.result bay.calls c.next-self-2.result clock.most made.more)
+    (λ s plugged. refl) (λ s plugged. refl) (still_no_more bay _ c.args.self.now.past clock.least clock.more refl)) leads)
     (λ told. omega (arith, told, clock.least)) refl refl (λ s. omega arith) (λ s other. refl) refl refl made.least made.most

@@ -1,0 +1,3 @@
+mod Labels
+mod Commands
+mod Lives

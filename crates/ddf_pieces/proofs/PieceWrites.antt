@@ -1,0 +1,305 @@
+-- Blocks that come and are written piece by piece.
+use Rattle.std.proofs.Common.{◌≡◌, ◌∙◌, inl, inr, ⊎_elim, ℕ, zero, suc, ◌+◌, ◌-◌, ◌*◌, ◌<◌, ◌≤◌, Bool, false, true, List, [], ◌∷◌, ◌++◌, None, Ok, Err, length, sym, ap, subst, refl, arith, append_assoc, length-append}
+use Rattle.std.proofs.lemmas.Bool.{cases_lt}
+use Rattle.std.proofs.lemmas.List.{append-nil}
+use Rattle.ddf_bytes.specs.Counts.{Rose}
+use Rattle.ddf_bytes.specs.Streams.{SourceState}
+use Rattle.ddf_bay.specs.State.{BayState}
+use Rattle.ddf_bay.proofs.Steps.{rose_since, stops_start}
+use Rattle.ddf_array.specs.Apart.{IsApart}
+use Rattle.ddf_array.specs.Volume.{Volume, IsVolume}
+use Rattle.ddf_volume.specs.declared.fault.VolumeFault.TheVariants.{Range, Lost, Unsure, Degraded, Disk}
+use Rattle.ddf_volume.specs.Reading.{Failed}
+use Rattle.ddf_cells.specs.Touching.{GoesBetween}
+use Rattle.ddf_write.specs.RowWrites.{keeps_parity_anywhere}
+use Rattle.ddf_write.specs.WriteRefused.{IsStopped, NoneLeftOfRow, write_refusal}
+use Rattle.ddf_write.specs.Writing.{IsAmongWrites, IsWritten}
+use Rattle.ddf_write.proofs.WrittenValues.{not_refused}
+use Rattle.ddf_pieces.specs.declared.fault.PieceFault.{PieceFault}
+use Rattle.ddf_pieces.specs.declared.fault.PieceFault.TheVariants as faults
+use Rattle.ddf_pieces.specs.Coming.{AreSectorsOf512, HaveCome, IsFilled}
+use Rattle.ddf_pieces.specs.Pieces.{AreWholePieces, bytes_of, over_pieces, piece_of}
+use Rattle.ddf_pieces.specs.Writing.{AreGivenBlocks, ArePiecesWritten, AreWritten, IsPieceStopped, IsStoppedInPieces, IsWrittenTo, LeaveWrites, piece_calls}
+use Rattle.ddf_pieces.proofs.Joining.{leave_both, written_both}
+use Rattle.ddf_pieces.proofs.PieceCounts.{AreDone, done_more, done_start, over_more, whole_of}
+use Rattle.ddf_pieces.proofs.Ranges.{written_behind}
+use Rattle.ddf_pieces.proofs.ReadSteps.{bytes_joined}
+use Rattle.ddf_pieces.proofs.WriteParts.{row_more}
+
+-- ---- what came
+
+sectors_joined : (xs ys : List (List ℕ)) → AreSectorsOf512 xs → AreSectorsOf512 ys → AreSectorsOf512 (xs ++ ys)
+sectors_joined [] ys first next k sector at = next k sector at
+sectors_joined (x ∷ xs) ys first next zero sector at = first zero sector at
+sectors_joined (x ∷ xs) ys first next (suc k) sector at = sectors_joined xs ys (λ j one is. first (suc j) one is) next k sector at
+
+none_long : (sectors : List (List ℕ)) → length sectors ≡ 0 → sectors ≡ []
+none_long [] long = refl
+none_long (sector ∷ sectors) long = absurd (omega (arith, long))
+
+-- Before the first piece nothing has come, and behind it these sectors have.
+pub record IsCome (tells : Type 0) (old now : SourceState) (first : List ℕ) (sectors : List (List ℕ)) (at : ℕ) : Type 0 where
+  pub none : at ≡ 0 → now.left ≡ old.left
+  pub come : 0 < at → HaveCome tells old first sectors now.left
+  pub same_faults : now.faults ≡ old.faults
+
+-- the first piece is there before, and a later one comes from the source
+pub record IsNext (tells : Type 0) (now new : SourceState) (first bytes : List ℕ) (at : ℕ) : Type 0 where
+  pub is_first : at ≡ 0 → (bytes ≡ first) × (new ≡ now)
+  pub is_later : 0 < at → (tells → now.left ≡ bytes ++ new.left) × (new.faults ≡ now.faults)
+
+module _ (tells : Type 0) (old now new : SourceState) (first : List ℕ) (xs ys : List (List ℕ)) (at size : ℕ) (come : IsCome tells old now first xs at) (next : IsNext tells now new first (bytes_of ys) at)
+    (long : length xs ≡ at) (some : 0 < size) (whole : AreSectorsOf512 ys) where
+  come_first : at ≡ 0 → HaveCome tells old first (xs ++ ys) new.left
+  come_first none =
+      let empty : xs ≡ [] = none_long xs (omega (arith, long, none)) in
+      let both : xs ++ ys ≡ ys = ap (λ (l : List (List ℕ)). l ++ ys) empty in
+      let is = next.is_first none in
+      record {
+        whole = subst AreSectorsOf512 (sym both) whole;
+        came = [];
+        are = ap bytes_of both ∙ is.0 ∙ sym (append-nil first);
+        from = λ told. sym (ap (λ (s : SourceState). s.left) is.1 ∙ come.none none);
+      }
+
+  come_later : 0 < at → HaveCome tells old first (xs ++ ys) new.left
+  come_later behind =
+      let before = come.come behind in
+      let is = next.is_later behind in
+      record {
+        whole = sectors_joined xs ys before.whole whole;
+        came = before.came ++ bytes_of ys;
+        are = bytes_joined xs ys ∙ ap (λ (l : List ℕ). l ++ bytes_of ys) before.are ∙ append_assoc first before.came (bytes_of ys);
+        from = λ told. before.from told ∙ ap (λ (l : List ℕ). before.came ++ l) (is.0 told) ∙ sym (append_assoc before.came (bytes_of ys) new.left);
+      }
+
+  pub come_more : IsCome tells old new first (xs ++ ys) (at + size)
+  come_more = record {
+    none = λ none. absurd (omega (arith, some, none));
+    come = λ behind. ⊎_elim (λ (later : 0 < at). come_later later) (λ (none : at ≤ 0). let zero_at : at ≡ 0 = omega (arith, none) in come_first zero_at) (cases_lt 0 at);
+    same_faults =
+        ⊎_elim (λ (later : 0 < at). (next.is_later later).1) (λ (none : at ≤ 0). let zero_at : at ≡ 0 = omega (arith, none) in ap (λ (s : SourceState). s.faults) (next.is_first zero_at).1) (cases_lt 0 at)
+        ∙ come.same_faults;
+  }
+
+-- ---- what is written
+
+pub record HaveBeenWritten {D : Type 0} (tells : Type 0) (old now : BayState D) (v : Volume) (start count each : ℕ) (source_tells : Type 0) (before mid : SourceState) (first : List ℕ) (at : ℕ) : Type 0 where
+  pub sectors : List (List ℕ)
+  pub long : length sectors ≡ at
+  pub done : AreDone each count at
+  pub come : IsCome source_tells before mid first sectors at
+  pub leave : LeaveWrites tells old now v start sectors
+  pub is_written : AreWritten tells old now v start sectors
+  pub goes : GoesBetween old now
+  pub calls : keeps_parity_anywhere v ≡ false → now.calls ≤ old.calls + over_pieces (piece_calls old v) each start count done.pieces
+
+none_written : (v : Volume) (start slot : ℕ) → IsWritten v start 0 slot → ⊥
+none_written v start slot (lba, inl cell) = omega (arith, cell.below)
+none_written v start slot (lba, inr of) = omega (arith, of.is_at.touched.below)
+
+module _ {D : Type 0} (tells : Type 0) (v : Volume) (start count each : ℕ) (source_tells : Type 0) (before : SourceState) (first : List ℕ) where
+  pub written_start : (old : BayState D) → 0 < each → HaveBeenWritten tells old old v start count each source_tells before before first 0
+  written_start old some = record {
+    sectors = [];
+    long = refl;
+    done = done_start each count some;
+    come = record { none = λ none. refl; come = λ behind. absurd (omega (arith, behind)); same_faults = refl };
+    leave = record {
+      any_moment = stops_start old (IsAmongWrites v start [] old.may_hold);
+      held = λ told s l. inl refl;
+      left = λ s l bytes left. inl left;
+      asked = omega arith;
+      written = omega arith;
+    };
+    is_written = record {
+      written = λ told. record {
+        cells = λ k i one below at. absurd (omega (arith, below));
+        parity = λ sure element sector part one at. absurd (omega (arith, at.touched.below));
+      };
+      durable = λ told slot written. absurd (none_written v start slot written);
+      settled = λ told slot settled. settled;
+    };
+    goes = record { goes_on = λ bay leads. leads; same_sizes = refl; reads_rise = λ s. omega arith; writes_rise = λ s. omega arith };
+    calls = λ none. omega arith;
+  }
+
+  module _ (old now : BayState D) (mid : SourceState) (at : ℕ) (so_far : HaveBeenWritten tells old now v start count each source_tells before mid first at) (accepted : write_refusal v start count ≡ None) where
+    -- the blocks that were given, once there are any
+    given_blocks : (after : SourceState) → 0 < at → AreGivenBlocks tells old now v start count each source_tells before after first so_far.sectors mid.left
+    given_blocks after some = record {
+      accepted = accepted;
+      whole = subst (AreWholePieces each count) (sym so_far.long) (whole_of each count at so_far.done);
+      come = so_far.come.come some;
+      leave = so_far.leave;
+      calls = λ none. record { pieces = so_far.done.pieces; few = so_far.done.few; grew = so_far.calls none };
+    }
+
+    -- all of them are written
+    pub written_all : count ≤ at → (count ≡ 0 → first ≡ []) → IsWrittenTo tells old now v start count each source_tells before mid first at
+    written_all all none = record {
+      sectors = so_far.sectors;
+      many = so_far.long;
+      left = mid.left;
+      are = ⊎_elim (λ (some : 0 < at). given_blocks mid some) (λ (zero_at : at ≤ 0). let is : at ≡ 0 = omega (arith, zero_at) in no_blocks is) (cases_lt 0 at);
+      is_written = so_far.is_written;
+      same_faults = so_far.come.same_faults;
+      ends = inl (omega (arith, all, so_far.done.within), λ told. refl);
+    }
+      where
+        no_blocks : at ≡ 0 → AreGivenBlocks tells old now v start count each source_tells before mid first so_far.sectors mid.left
+        no_blocks zero_at =
+            let empty : so_far.sectors ≡ [] = none_long so_far.sectors (omega (arith, so_far.long, zero_at)) in
+            let nothing : count ≡ 0 = omega (arith, all, zero_at) in
+            record {
+              accepted = accepted;
+              whole = subst (AreWholePieces each count) (sym so_far.long) (whole_of each count at so_far.done);
+              come = record {
+                whole = subst AreSectorsOf512 (sym empty) (λ k sector is. absurd cc);
+                came = [];
+                are = ap bytes_of empty ∙ sym (ap (λ (l : List ℕ). l ++ []) (none nothing));
+                from = λ told. sym (so_far.come.none zero_at);
+              };
+              leave = so_far.leave;
+              calls = λ never. record { pieces = so_far.done.pieces; few = so_far.done.few; grew = so_far.calls never };
+            }
+
+    -- the source ended before the next piece was full
+    pub written_cut : at < count → 0 < at → (after : SourceState) (piece : List ℕ) → length piece ≡ 512 * piece_of each (count - at) → IsFilled source_tells mid after piece (Ok false)
+        → IsWrittenTo tells old now v start count each source_tells before after first at
+    written_cut more some after piece long filled = record {
+      sectors = so_far.sectors;
+      many = so_far.long;
+      left = mid.left;
+      are = given_blocks after some;
+      is_written = so_far.is_written;
+      same_faults = filled.1 ∙ so_far.come.same_faults;
+      ends = inr (some, more, λ told. let short = filled.0 told in (omega (arith, short.0, long), short.1));
+    }
+
+    -- a read of it failed
+    pub source_failed : at < count → 0 < at → (after : SourceState) (piece : List ℕ) (fault : PieceFault) → IsFilled source_tells mid after piece (Err fault)
+        → ArePiecesWritten tells old now v start count each source_tells before after first (Err fault)
+    source_failed more some after piece (faults.Volume fault) filled = absurd filled
+    source_failed more some after piece faults.Source filled = record {
+      sectors = so_far.sectors;
+      more = omega (arith, so_far.long, more);
+      left = mid.left;
+      are = given_blocks after some;
+      is_written = so_far.is_written;
+      rose = subst (λ (n : ℕ). Rose n after.faults) so_far.come.same_faults filled.1;
+      came = λ told. let front = filled.0 told in record { count = front.count; enough = front.enough; others = front.others };
+    }
+    source_failed more some after piece (faults.Sink fault) filled = absurd filled
+
+    -- ---- one piece more
+
+    module _ (more : at < count) (some : 0 < each) (size : ℕ) (is : size ≡ piece_of each (count - at)) (after : SourceState) (ys : List (List ℕ)) (many : length ys ≡ size) (whole : AreSectorsOf512 ys)
+        (next : IsNext source_tells mid after first (bytes_of ys) at) (new : BayState D) (leave : LeaveWrites tells now new v (start + at) ys) (goes : GoesBetween now new)
+        (calls : keeps_parity_anywhere v ≡ false → new.calls ≤ now.calls + piece_calls now v (start + at) (length ys)) where
+      here : start + at ≡ start + length so_far.sectors
+      here = ap (λ n. start + n) (sym so_far.long)
+
+      leave_here : LeaveWrites tells now new v (start + length so_far.sectors) ys
+      leave_here = subst (λ n. LeaveWrites tells now new v n ys) here leave
+
+      both : LeaveWrites tells old new v start (so_far.sectors ++ ys)
+      both = leave_both tells v start so_far.sectors ys so_far.leave leave_here
+
+      goes_both : GoesBetween old new
+      goes_both = record {
+        goes_on = λ bay leads. so_far.goes.goes_on bay (goes.goes_on bay leads);
+        same_sizes = goes.same_sizes ∙ so_far.goes.same_sizes;
+        reads_rise = λ s. omega (arith, so_far.goes.reads_rise s, goes.reads_rise s);
+        writes_rise = λ s. omega (arith, so_far.goes.writes_rise s, goes.writes_rise s);
+      }
+
+      long : length (so_far.sectors ++ ys) ≡ at + size
+      long = omega (arith, length-append so_far.sectors ys, so_far.long, many)
+
+      come : IsCome source_tells before after first (so_far.sectors ++ ys) (at + size)
+      come = come_more source_tells before mid after first so_far.sectors ys at size so_far.come next so_far.long (omega (arith, is, more, some)) whole
+
+      calls_both : keeps_parity_anywhere v ≡ false → new.calls ≤ old.calls + over_pieces (piece_calls old v) each start count (suc so_far.done.pieces)
+      calls_both none =
+          let slots : piece_calls now v (start + at) (length ys) ≡ piece_calls old v (start + at) size =
+          ap (λ (sizes : List ℕ). piece_calls (record now { sizes = sizes }) v (start + at) (length ys)) so_far.goes.same_sizes ∙ ap (piece_calls old v (start + at)) many in
+          omega (arith, so_far.calls none, calls none, slots, over_more each count at so_far.done more size is (piece_calls old v) start)
+
+      pub written_more : IsVolume v → IsApart v → AreWritten tells now new v (start + at) ys → HaveBeenWritten tells old new v start count each source_tells before after first (at + size)
+      written_more known apart is_written = record {
+        sectors = so_far.sectors ++ ys;
+        long = long;
+        done = done_more each count at so_far.done more size is;
+        come = come;
+        leave = both;
+        is_written =
+            written_both tells v start so_far.sectors ys so_far.leave leave_here known apart (not_refused v start count accepted).1 so_far.goes goes so_far.is_written
+            (subst (λ n. AreWritten tells now new v n ys) here is_written);
+        goes = goes_both;
+        calls = calls_both;
+      }
+
+      later : (slot : ℕ) → Failed now new slot → Failed old new slot
+      later slot failed = rose_since (old.failed_reads slot) (now.failed_reads slot) (new.failed_reads slot) (so_far.goes.reads_rise slot) failed
+
+      stopped_here : (slot : ℕ) → IsStopped now new v (start + at) (length ys) slot → IsStoppedInPieces old new v start (length (so_far.sectors ++ ys)) each slot
+      stopped_here slot (inl failed) =
+          let wider : length so_far.sectors + length ys ≡ length (so_far.sectors ++ ys) = sym (length-append so_far.sectors ys) in
+          inl (
+            subst (λ n. IsWritten v start n slot) wider (written_behind v start (length so_far.sectors) (length ys) slot (subst (λ n. IsWritten v n (length ys) slot) here failed.0)),
+            rose_since (old.failed_writes slot) (now.failed_writes slot) (new.failed_writes slot) (so_far.goes.writes_rise slot) failed.1,
+          )
+      stopped_here slot (inr left) =
+          let begun : at ≡ so_far.done.pieces * each = so_far.done.are more in
+          let last : length ys ≡ piece_of each (length (so_far.sectors ++ ys) - at) = omega (arith, many, long, is) in
+          inr (record {
+            pieces = so_far.done.pieces;
+            more = omega (arith, begun, long, is, more, some);
+            none_left =
+                subst (λ n. NoneLeftOfRow (Failed old new) v (start + n) (piece_of each (length (so_far.sectors ++ ys) - n)) slot) begun
+                (subst (λ n. NoneLeftOfRow (Failed old new) v (start + at) n slot) last (row_more (Failed now new) (Failed old new) later v (start + at) (length ys) slot left));
+          })
+
+      pub write_failed : (fault : PieceFault) → IsPieceStopped now new v (start + at) (length ys) fault → ArePiecesWritten tells old new v start count each source_tells before after first (Err fault)
+      write_failed (faults.Volume (Range most)) stopped = absurd stopped
+      write_failed (faults.Volume Lost) stopped = absurd stopped
+      write_failed (faults.Volume Unsure) stopped = absurd stopped
+      write_failed (faults.Volume Degraded) stopped = absurd stopped
+      write_failed (faults.Volume (Disk slot)) stopped = record {
+        sectors = so_far.sectors ++ ys;
+        left = after.left;
+        are = record {
+          accepted = accepted;
+          whole = subst (AreWholePieces each count) (sym long) (whole_of each count (at + size) (done_more each count at so_far.done more size is));
+          come = come.come (omega (arith, is, more, some));
+          leave = both;
+          calls = λ none. record {
+            pieces = suc so_far.done.pieces;
+            few = (done_more each count at so_far.done more size is).few;
+            grew = calls_both none;
+          };
+        };
+        stopped = stopped_here slot stopped;
+        same_faults = come.same_faults;
+        rest = λ told. refl;
+      }
+      write_failed faults.Source stopped = absurd stopped
+      write_failed (faults.Sink fault) stopped = absurd stopped
+
+-- ---- the next piece
+
+module _ (tells : Type 0) (mid after : SourceState) (first piece : List ℕ) (ys : List (List ℕ)) (at : ℕ) (bytes : bytes_of ys ≡ piece) (given : at ≡ 0 → (piece ≡ first) × (after ≡ mid)) where
+  by_fill : (there : Bool) → there ≡ true → IsFilled tells mid after piece (Ok there) → (tells → mid.left ≡ bytes_of ys ++ after.left) × (after.faults ≡ mid.faults)
+  by_fill false is filled = absurd cc
+  by_fill true is filled = (λ told. filled.0 told ∙ ap (λ (l : List ℕ). l ++ after.left) (sym bytes), filled.1)
+
+  pub next_is : (there : Bool) → there ≡ true → (0 < at → IsFilled tells mid after piece (Ok there)) → IsNext tells mid after first (bytes_of ys) at
+  next_is there is filled = record {
+    is_first = λ none. (bytes ∙ (given none).0, (given none).1);
+    is_later = λ behind. by_fill there is (filled behind);
+  }
+
+pub short_is : (tells : Type 0) (mid after : SourceState) (piece : List ℕ) (there : Bool) → there ≡ false → IsFilled tells mid after piece (Ok there) → IsFilled tells mid after piece (Ok false)
+short_is tells mid after piece true is filled = absurd cc
+short_is tells mid after piece false is filled = filled

@@ -1,0 +1,122 @@
+-- What came of blocks of an array that are written piece by piece (profile).
+use Rattle.std.specs.Prelude.{◌≡◌, ◌⊎◌, ℕ, ◌+◌, ◌-◌, ◌*◌, ◌<◌, ◌≤◌, false, List, [], length, Some, None, Result, Ok, Err}
+use Rattle.ddf_bytes.specs.Counts.{Rose}
+use Rattle.ddf_bytes.specs.Streams.{GivesFront, SourceState}
+use Rattle.ddf_bay.specs.Moments.{IsSettled, StopsLeave}
+use Rattle.ddf_bay.specs.ReadsOnly.{ReadsOnly}
+use Rattle.ddf_bay.specs.State.{BayState}
+use Rattle.ddf_array.specs.Volume.{Volume}
+use Rattle.ddf_volume.specs.declared.fault.VolumeFault.{VolumeFault}
+use Rattle.ddf_volume.specs.declared.fault.VolumeFault.TheVariants.{Range, Lost, Unsure, Degraded, Disk}
+use Rattle.ddf_volume.specs.Reading.{Failed}
+use Rattle.ddf_cells.specs.CellsOn.{copy_cells, write_stretches}
+use Rattle.ddf_write.specs.RowWrites.{IsSure, keeps_parity_anywhere, row_cells}
+use Rattle.ddf_write.specs.WriteRefused.{IsStopped, NoneLeftOfRow, write_refusal}
+use Rattle.ddf_write.specs.Writing.{AddsWrites, HasWritten, IsAmongWrites, IsLeftByWrite, IsWritten}
+use Rattle.ddf_pieces.specs.declared.fault.PieceFault.{PieceFault}
+use Rattle.ddf_pieces.specs.declared.fault.PieceFault.TheVariants as faults
+use Rattle.ddf_pieces.specs.Coming.{HaveCome}
+use Rattle.ddf_pieces.specs.Pieces.{AreWholePieces, GrewByPieces, piece_of}
+
+-- ---- what writes of blocks leave, one or several
+
+module _ {D : Type 0} (tells : Type 0) (old new : BayState D) (volume : Volume) (start : ℕ) (sectors : List (List ℕ)) where
+  -- At every answer: at each moment since entry, and at the end, each sector by itself is as it might be before, or has bytes that a write of these blocks
+  -- gives it. No more sectors were asked for or written than the blocks have cells, and one parity cell for each block in each element that keeps parity.
+  pub record LeaveWrites : Type 0 where
+    pub any_moment : StopsLeave old new (IsAmongWrites volume start sectors old.may_hold)
+    pub held : tells → IsLeftByWrite volume start sectors old.held new.held
+    pub left : AddsWrites volume start sectors old.may_hold new.may_hold
+    pub asked : new.sectors_asked ≤ old.sectors_asked + (copy_cells volume start (length sectors) + row_cells volume (length sectors))
+    pub written : new.sectors_written ≤ old.sectors_written + (copy_cells volume start (length sectors) + row_cells volume (length sectors))
+
+  -- The blocks are written and synced: each available cell of a block has its bytes, and each parity cell of a row that they touch is the sum of the row where
+  -- no read failed or all copies were equal before. A slot on which nothing was pending has nothing pending.
+  pub record AreWritten : Type 0 where
+    pub written : tells → HasWritten volume start sectors (IsSure (Failed old new) volume old.held) new.held
+    pub durable : tells → (slot : ℕ) → IsWritten volume start (length sectors) slot → IsSettled new.may_hold new.held slot
+    pub settled : tells → (slot : ℕ) → IsSettled old.may_hold old.held slot → IsSettled new.may_hold new.held slot
+
+-- ---- one piece
+
+-- its write ended at a slot
+abbrev pub IsPieceStopped : {D : Type 0} (old new : BayState D) → Volume → (start count : ℕ) → PieceFault → Type 0
+IsPieceStopped old new volume start count (faults.Volume (Disk slot)) = IsStopped old new volume start count slot
+IsPieceStopped old new volume start count (faults.Volume other) = ⊥
+IsPieceStopped old new volume start count faults.Source = ⊥
+IsPieceStopped old new volume start count (faults.Sink fault) = ⊥
+
+-- ---- pieces
+
+-- no source is left at a slot for a data cell of a row that a piece touches, and the cell holds no block of that piece
+pub record NoneLeftOfPiece (failed : ℕ → Type 0) (volume : Volume) (start count each slot : ℕ) : Type 0 where
+  pub pieces : ℕ
+  pub more : pieces * each < count
+  pub none_left : NoneLeftOfRow failed volume (start + pieces * each) (piece_of each (count - pieces * each)) slot
+
+-- the calls ended at a slot: a write or sync of it failed, and it has a sector that the writes give bytes; or no source is left there
+abbrev pub IsStoppedInPieces : {D : Type 0} (old new : BayState D) → Volume → (start count each slot : ℕ) → Type 0
+IsStoppedInPieces old new volume start count each slot =
+    (IsWritten volume start count slot × Rose (old.failed_writes slot) (new.failed_writes slot)) ⊎ NoneLeftOfPiece (Failed old new) volume start count each slot
+
+-- the most calls of a write of a piece to an array that keeps no parity
+abbrev pub piece_calls : {D : Type 0} → BayState D → Volume → (start count : ℕ) → ℕ
+piece_calls old volume start count = write_stretches volume start count + length old.sizes
+
+module _ {D : Type 0} (tells : Type 0) (old new : BayState D) (volume : Volume) (start count each : ℕ) (source_tells : Type 0) (before after : SourceState) (first : List ℕ) where
+  -- The sectors are the blocks that were given to be written: those of the first piece and of later ones that came. So many bytes that the source had weren't among them.
+  pub record AreGivenBlocks (sectors : List (List ℕ)) (left : List ℕ) : Type 0 where
+    pub accepted : write_refusal volume start count ≡ None
+    pub whole : AreWholePieces each count (length sectors)
+    pub come : HaveCome source_tells before first sectors left
+    pub leave : LeaveWrites tells old new volume start sectors
+    pub calls : keeps_parity_anywhere volume ≡ false → GrewByPieces (piece_calls old volume) each start count old.calls new.calls
+
+  -- So many blocks are written and synced. They are all of the range, and no byte behind them was taken from the source; or the source ended before the next piece
+  -- was full, and is empty.
+  pub record IsWrittenTo (blocks : ℕ) : Type 0 where
+    pub sectors : List (List ℕ)
+    pub many : length sectors ≡ blocks
+    pub left : List ℕ
+    pub are : AreGivenBlocks sectors left
+    pub is_written : AreWritten tells old new volume start sectors
+    pub same_faults : after.faults ≡ before.faults
+    pub ends :
+        ((blocks ≡ count) × (source_tells → after.left ≡ left))
+        ⊎ ((0 < blocks) × (blocks < count) × (source_tells → (length left < 512 * piece_of each (count - blocks)) × (after.left ≡ [])))
+
+  -- A read of the source failed behind these blocks, which are written and synced.
+  pub record IsSourceFailed : Type 0 where
+    pub sectors : List (List ℕ)
+    pub more : length sectors < count
+    pub left : List ℕ
+    pub are : AreGivenBlocks sectors left
+    pub is_written : AreWritten tells old new volume start sectors
+    pub rose : Rose before.faults after.faults
+    pub came : source_tells → GivesFront (record before { left = left }) after
+
+  -- The write of the last piece of these blocks ended at a slot.
+  pub record IsWriteStopped (slot : ℕ) : Type 0 where
+    pub sectors : List (List ℕ)
+    pub left : List ℕ
+    pub are : AreGivenBlocks sectors left
+    pub stopped : IsStoppedInPieces old new volume start (length sectors) each slot
+    pub same_faults : after.faults ≡ before.faults
+    pub rest : source_tells → after.left ≡ left
+
+  -- nothing was read or written, for a cause that the whole range has
+  pub record IsUnwritten (fault : VolumeFault) : Type 0 where
+    pub refused : write_refusal volume start count ≡ Some fault
+    pub reads_only : ReadsOnly old new
+    pub none_called : new.calls ≡ old.calls
+    pub same : after ≡ before
+
+  abbrev pub ArePiecesWritten : Result ℕ PieceFault → Type 0
+  ArePiecesWritten (Ok blocks) = IsWrittenTo blocks
+  ArePiecesWritten (Err (faults.Volume (Range most))) = IsUnwritten (Range most)
+  ArePiecesWritten (Err (faults.Volume Lost)) = IsUnwritten Lost
+  ArePiecesWritten (Err (faults.Volume Unsure)) = ⊥
+  ArePiecesWritten (Err (faults.Volume Degraded)) = IsUnwritten Degraded
+  ArePiecesWritten (Err (faults.Volume (Disk slot))) = IsWriteStopped slot
+  ArePiecesWritten (Err faults.Source) = IsSourceFailed
+  ArePiecesWritten (Err (faults.Sink fault)) = ⊥

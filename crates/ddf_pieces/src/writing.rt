@@ -1,0 +1,113 @@
+//! Writes of blocks of an array, piece by piece.
+ghost use Rattle.std.specs.Prelude.{◌≡◌, ◌+◌, ◌*◌, ◌/◌, ◌<◌, ◌≤◌, ◌^◌, None, true, false, length, take, OnOk, IfErr};
+ghost use Rattle.ddf_array.specs.Apart.{IsApart};
+ghost use Rattle.ddf_array.specs.Sources.{trusts_parity};
+ghost use Rattle.ddf_array.specs.Volume.{Fits, IsVolume};
+ghost use Rattle.ddf_cells.specs.Touching.{GoesBetween};
+ghost use Rattle.ddf_write.specs.RowWrites.{keeps_parity_anywhere};
+ghost use Rattle.ddf_write.specs.WriteRefused as refused;
+ghost use Rattle.ddf_pieces.specs.Pieces.{piece_of};
+ghost use Rattle.ddf_pieces.specs.Writing.{ArePiecesWritten, AreWritten, IsPieceStopped, LeaveWrites, piece_calls};
+
+use crate::PieceFault;
+use crate::sizes::{piece_of, sectors_in};
+use crate::source::has_piece;
+use ddf_array::View;
+use ddf_bay::Bay;
+use ddf_bytes::{Sector, Source};
+use ddf_volume::VolumeFault;
+use ddf_write::{write_blocks, write_refusal};
+
+/// Writes so many blocks from one on, piece by piece: each of as many blocks as the room has whole sectors, and the last of what is left. The room begins with
+/// the first piece, already read; each later one is read from the source before it is written. Each piece is written as `write_blocks` writes it, and synced
+/// before the next is read. It takes no memory.
+///
+/// Answers how many leading blocks are written and synced: all, or, where the source ends before a later piece is full, those of the whole pieces before.
+/// Later blocks' cells are untouched then.
+///
+/// # Errors
+/// `Volume`: nothing is read or written where `write_blocks` refuses the whole range, by `Range`, `Lost` or `Degraded`; `Disk` where it ends so at a piece.
+/// `Source` where a read of the source failed: the pieces before it are written and synced.
+pub fn write_pieces<B: Bay, S: Source>(
+    bay: &mut B,
+    view: &View,
+    start: u64,
+    count: u64,
+    work: &mut [u8],
+    source: &mut S,
+) -> Result<u64, PieceFault>
+    requires apart { IsApart view.now }
+    requires fits { Fits (B.disks bay.old).sizes view.now }
+    requires marked { keeps_parity_anywhere view.now ≡ true → trusts_parity view.now ≡ false }
+    requires room { 512 ≤ length work.old }
+    ensures done { ArePiecesWritten B.tells (B.disks bay.old) (B.disks bay.new) view.now start count (length work.old / 512) S.tells (S.input source.old) (S.input source.new)
+        (take (512 * piece_of (length work.old / 512) count) work.old) result }
+    ensures goes { GoesBetween (B.disks bay.old) (B.disks bay.new) }
+    ensures never_falls { (S.input source.old).faults ≤ (S.input source.new).faults }
+{
+    if let Some(fault) = write_refusal(view, start, count as usize) {
+        return Err(PieceFault::Volume(fault));
+    }
+    write_each(bay, view, start, count, work, source)
+}
+
+/// Writes one piece after another of blocks that nothing refuses.
+fn write_each<B: Bay, S: Source>(
+    bay: &mut B,
+    view: &View,
+    start: u64,
+    count: u64,
+    work: &mut [u8],
+    source: &mut S,
+) -> Result<u64, PieceFault>
+    requires known { IsVolume view.now }
+    requires apart { IsApart view.now }
+    requires fits { Fits (B.disks bay.old).sizes view.now }
+    requires marked { keeps_parity_anywhere view.now ≡ true → trusts_parity view.now ≡ false }
+    requires accepted { refused.write_refusal view.now start count ≡ None }
+    requires small { start + count < 2 ^ 64 }
+    requires room { 512 ≤ length work.old }
+    ensures done { ArePiecesWritten B.tells (B.disks bay.old) (B.disks bay.new) view.now start count (length work.old / 512) S.tells (S.input source.old) (S.input source.new)
+        (take (512 * piece_of (length work.old / 512) count) work.old) result }
+    ensures goes { GoesBetween (B.disks bay.old) (B.disks bay.new) }
+    ensures never_falls { (S.input source.old).faults ≤ (S.input source.new).faults }
+{
+    let each = work.len() / 512;
+    let mut at = 0;
+    while at < count {
+        let size = piece_of(each, count - at);
+        let piece = &mut work[..512 * size];
+        if !has_piece(source, at, piece)? {
+            return Ok(at);
+        }
+        write_piece(bay, view, start + at, sectors_in(piece))?;
+        at += size as u64;
+    }
+    Ok(at)
+}
+
+/// Writes a piece of blocks that nothing refuses.
+fn write_piece<B: Bay>(
+    bay: &mut B,
+    view: &View,
+    start: u64,
+    piece: &[Sector],
+) -> Result<(), PieceFault>
+    requires apart { IsApart view.now }
+    requires fits { Fits (B.disks bay.old).sizes view.now }
+    requires marked { keeps_parity_anywhere view.now ≡ true → trusts_parity view.now ≡ false }
+    requires accepted { refused.write_refusal view.now start (length piece.now) ≡ None }
+    ensures leave { LeaveWrites B.tells (B.disks bay.old) (B.disks bay.new) view.now start piece.now }
+    ensures written { OnOk result (AreWritten B.tells (B.disks bay.old) (B.disks bay.new) view.now start piece.now) }
+    ensures stopped { IfErr result (IsPieceStopped (B.disks bay.old) (B.disks bay.new) view.now start (length piece.now)) }
+    ensures goes { GoesBetween (B.disks bay.old) (B.disks bay.new) }
+    ensures calls { keeps_parity_anywhere view.now ≡ false → (B.disks bay.new).calls ≤ (B.disks bay.old).calls + piece_calls (B.disks bay.old) view.now start (length piece.now) }
+{
+    match write_blocks(bay, view, start, piece) {
+        Ok(()) => Ok(()),
+        Err(VolumeFault::Disk(slot)) => Err(PieceFault::Volume(VolumeFault::Disk(slot))),
+        Err(
+            VolumeFault::Range(_) | VolumeFault::Lost | VolumeFault::Unsure | VolumeFault::Degraded,
+        ) => unreachable!(),
+    }
+}

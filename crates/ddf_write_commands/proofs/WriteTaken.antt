@@ -1,0 +1,168 @@
+-- What a write of blocks came to since its entry, by what its calls promise: what it read of its group, the first piece of the input, and what it wrote.
+use Rattle.std.proofs.Common.{◌≡◌, ◌∙◌, ◌⊎◌, ⊎_elim, ℕ, ◌+◌, ◌*◌, ◌≤◌, List, [], ◌++◌, length, take, drop, Option, Result, Ok, Err, refl, sym, ap, subst, arith, length-append}
+use Rattle.std.proofs.lemmas.List.{append_assoc, drop-drop, drop_at}
+use Rattle.ddf_bytes.specs.Counts.{Rose}
+use Rattle.ddf_bytes.specs.Streams.{GivesFront, SourceState}
+use Rattle.ddf_bay.specs.ReadsOnly.{ReadsOnly}
+use Rattle.ddf_bay.specs.State.{BayState}
+use Rattle.ddf_cells.specs.Touching.{GoesBetween}
+use Rattle.ddf_pieces.specs.Pieces.{bytes_of}
+use Rattle.ddf_group.specs.declared.answer.Assembly.{Assembly}
+use Rattle.ddf_assembly.specs.Group.{GroupValue, group_of}
+use Rattle.ddf_assembly.specs.Ready.{readied}
+use Rattle.ddf_assembly.specs.Recovery.{config_recovered}
+use Rattle.ddf_assembly.specs.Steps.{Step}
+use Rattle.ddf_answer.specs.declared.failure.Failure.{Failure}
+use Rattle.ddf_answer.specs.Call.{work_of}
+use Rattle.ddf_group_commands.specs.Change.{Request, steps_of}
+use Rattle.ddf_group_commands.specs.GroupRead.{IsGroupRead}
+use Rattle.ddf_group_commands.proofs.Outcomes.{asked_of}
+use Rattle.ddf_write_commands.specs.declared.planning.Plan.{Plan}
+use Rattle.ddf_write_commands.specs.declared.writing.Done.{Done}
+use Rattle.ddf_write_commands.specs.declared.writing.WriteFault.{WriteFault}
+use Rattle.ddf_write_commands.specs.declared.writing.WriteFault.TheVariants as faults
+use Rattle.ddf_write_commands.specs.Payload.{Input, IsFirstPiece, IsPayload, first_piece, input_of}
+use Rattle.ddf_write_commands.specs.Plans.{IsPlanOf}
+use Rattle.ddf_write_commands.specs.Worked.{IsLeftIn, IsWorkedIn}
+use Rattle.ddf_write_commands.specs.Write.{AreGiven, HasWrittenBlocks, IsAccepted, IsWrittenAs, is_all_done, write_behind, write_refusals, write_request, writing}
+use Rattle.ddf_write_commands.specs.Write.Outcome.{Broken, Taken}
+use Rattle.ddf_write_commands.proofs.PlanKept.{steps_are}
+use Rattle.ddf_write_commands.proofs.PlanWritten.{few_behind}
+use Rattle.ddf_write_commands.proofs.Since.{HaveBeenMade, HaveSince, array_left_since, made_since, worked_since}
+use Rattle.ddf_write_commands.proofs.WriteWorks.{write_steady}
+
+-- ---- what was taken from the input
+
+module _ (tells : Type 0) (before between after : SourceState) (count : ℕ) (room : List ℕ) (is_first : IsFirstPiece (input_of tells before between) count room) where
+  abbrev pub first : List ℕ
+  first = take (512 * first_piece count) room
+
+  bytes_given : (sectors : List (List ℕ)) (left : List ℕ) → AreGiven tells between first count sectors left → tells → before.left ≡ bytes_of sectors ++ left
+  bytes_given sectors left given told =
+      let come = given.come in
+      is_first.bytes told ∙ ap (λ rest. first ++ rest) (come.from told) ∙ sym (append_assoc first come.came left) ∙ ap (λ front. front ++ left) (sym come.are)
+
+  payload_given : (sectors : List (List ℕ)) (left : List ℕ) → AreGiven tells between first count sectors left → IsPayload (input_of tells before after) count sectors left
+  payload_given sectors left given = record { whole = given.come.whole; pieces = given.pieces; bytes = bytes_given sectors left given }
+
+  -- a front of what is left behind a front is a front
+  front_behind : (front left : List ℕ) → before.left ≡ front ++ left → GivesFront (record between { left = left }) after → GivesFront before after
+  front_behind front left is gives =
+      let long : length before.left ≡ length front + length left = ap length is ∙ length-append front left in
+      record {
+        count = length front + gives.count;
+        enough = omega (arith, long, gives.enough);
+        others =
+            gives.others ∙ ap (drop gives.count) (sym (drop_at front left (length front) refl)) ∙ drop-drop gives.count (length front) (front ++ left)
+            ∙ ap (drop (length front + gives.count)) (sym is);
+      }
+
+  none_payload : IsPayload (input_of tells before after) count [] before.left
+  none_payload = record { whole = λ k sector is. absurd cc; pieces = record { within = omega arith; pieces = 0; are = λ less. omega arith }; bytes = λ told. refl }
+
+  only_first : after ≡ between → tells → GivesFront before after
+  only_first same told = record {
+    count = length first;
+    enough = let long : length before.left ≡ length first + length between.left = ap length (is_first.bytes told) ∙ length-append first between.left in omega (arith, long);
+    others = ap (λ (one : SourceState). one.left) same ∙ sym (drop_at first between.left (length first) refl) ∙ ap (drop (length first)) (sym (is_first.bytes told));
+  }
+
+  -- ---- what the command came to
+
+  module _ {D : Type 0} (bay_tells : Type 0) (old middle new : BayState D) (reads : ReadsOnly old middle) (reads_rise : (slot : ℕ) → old.failed_reads slot ≤ middle.failed_reads slot)
+      (writes_rise : (slot : ℕ) → old.failed_writes slot ≤ middle.failed_writes slot) (named : Option (List ℕ)) (timestamp : ℕ) (word : List ℕ) (start : ℕ) (group : GroupValue)
+      (read : IsGroupRead (work_of bay_tells old middle) named (Ok group)) (plan : Plan) (is : IsPlanOf (write_refusals start count) write_behind (config_recovered group) group.seats word plan)
+      (steps : List Step) (are_asked : steps_of group timestamp (write_request word start count) ≡ Ok steps) (goes : GoesBetween middle new) where
+    abbrev request : Request
+    request = write_request word start count
+
+    module _ (sectors : List (List ℕ)) (result : Result Done WriteFault)
+        (has : HasWrittenBlocks bay_tells middle new group plan timestamp start count tells between after first sectors result) where
+      made : HaveBeenMade (writing start sectors) bay_tells middle new group timestamp word request (is_all_done result)
+      made = record {
+        leaves = λ told. has.leaves told word is;
+        beside = has.beside;
+        keeps = λ told left by found all asked.
+            has.keeps told left by found all
+            (asked_of (readied group plan.changes timestamp) all (sym (steps_are group (write_refusals start count) write_behind word plan timestamp is (few_behind is.entry)) ∙ asked));
+        along = λ told left by found. has.along told left by found word is;
+        goes = goes;
+      }
+
+      since : HaveSince (writing start sectors) (work_of bay_tells old new) named timestamp word request group (is_all_done result)
+      since = made_since bay_tells (writing start sectors) (write_steady start sectors) old middle new reads reads_rise writes_rise named timestamp word request group read (is_all_done result) made
+
+      is_accepted : IsAccepted timestamp request (group_of since.taken.newest named)
+      is_accepted = record { found = group; is_found = since.is_group; steps = steps; are_asked = are_asked }
+
+    pub come : (sectors : List (List ℕ)) (result : Result Done WriteFault)
+        → HasWrittenBlocks bay_tells middle new group plan timestamp start count tells between after first sectors result
+        → IsWrittenAs (work_of bay_tells old new) (input_of tells before after) named timestamp word start count result
+    come sectors (Ok done) has =
+        let now = since sectors (Ok done) has in
+        let left = has.given.2.0 in
+        record {
+          outcome = Taken sectors (Ok done.sequence);
+          is_answered = ap (λ blocks. Ok (record { blocks = blocks; sequence = done.sequence })) (sym has.given.0);
+          has = record {
+            taken = now.taken;
+            gives = (
+              (left, payload_given sectors left has.given.2.1, has.given.2.2),
+              is_accepted sectors (Ok done) has,
+              subst (λ (one : Result GroupValue Assembly). IsWorkedIn (writing start sectors) (work_of bay_tells old new) timestamp word request one (Ok done.sequence)) (sym now.is_group)
+                  (worked_since bay_tells (writing start sectors) (write_steady start sectors) old middle new reads reads_rise writes_rise group timestamp word request (Ok done.sequence) (has.worked word is)),
+            );
+            leaves = now.leaves;
+            along = now.along;
+          };
+        }
+    come sectors (Err (faults.Failure failure)) has =
+        let now = since sectors (Err (faults.Failure failure)) has in
+        record {
+          outcome = Taken sectors (Err failure);
+          is_answered = refl;
+          has = record {
+            taken = now.taken;
+            gives = (
+              ⊎_elim
+                  (λ none. (
+                    before.left,
+                    subst (λ (some : List (List ℕ)). IsPayload (input_of tells before after) count some before.left) (sym none.0) none_payload,
+                    only_first none.1,
+                  ))
+                  (λ given. (
+                    given.0,
+                    payload_given sectors given.0 given.1,
+                    λ told. front_behind (bytes_of sectors) given.0 (bytes_given sectors given.0 given.1 told) (given.2 told),
+                  ))
+                  has.given,
+              is_accepted sectors (Err (faults.Failure failure)) has,
+              subst (λ (one : Result GroupValue Assembly). IsWorkedIn (writing start sectors) (work_of bay_tells old new) timestamp word request one (Err failure)) (sym now.is_group)
+                  (worked_since bay_tells (writing start sectors) (write_steady start sectors) old middle new reads reads_rise writes_rise group timestamp word request (Err failure) (has.worked word is)),
+            );
+            leaves = now.leaves;
+            along = now.along;
+          };
+        }
+    come sectors (Err faults.Input) has =
+        let now = since sectors (Err faults.Input) has in
+        record {
+          outcome = Broken sectors;
+          is_answered = refl;
+          has = record {
+            taken = now.taken;
+            gives = (
+              (
+                has.given.0,
+                payload_given sectors has.given.0 has.given.1,
+                has.given.2,
+                subst (λ n. Rose n after.faults) is_first.same_faults has.given.3,
+              ),
+              is_accepted sectors (Err faults.Input) has,
+              subst (λ (one : Result GroupValue Assembly). IsLeftIn (writing start sectors) (work_of bay_tells old new) timestamp word request one) (sym now.is_group)
+                  (array_left_since bay_tells (writing start sectors) (write_steady start sectors) old middle new reads reads_rise writes_rise group timestamp word request (has.worked word is)),
+            );
+            leaves = now.leaves;
+            along = now.along;
+          };
+        }

@@ -1,0 +1,307 @@
+#!/bin/sh
+# Runs the program over disks that fail: a call of it that fails, is interrupted or moves a part alone, a power cut or a kill at any moment of a change, a file system that
+# is full or read only, sectors that can't be read or written, and a disk that grows or shrinks between two commands. What was acknowledged is there behind it.
+#
+#   scripts/faults.sh [STEP]
+#
+# Of the calls each STEP-th one is tried, each 11th where there is none. The faults are made by scripts/faults.c, which gcc builds. DDF names a built program.
+set -eu
+step=${1:-11}
+top=$(cd "$(dirname "$0")/.." && pwd)
+work=$(mktemp -d)
+trap 'rm -rf "$work"' EXIT
+if ! command -v gcc >/dev/null; then
+    echo "faults: no gcc here, so calls that fail were not tried"
+    exit 0
+fi
+[ -n "${DDF:-}" ] || "$top/ddf" --version >/dev/null
+cp "${DDF:-$top/crates/ddf/out/ddf}" "$work/ddf"
+gcc -O1 -shared -fPIC -o "$work/faults.so" "$top/scripts/faults.c" -ldl
+cd "$work"
+images="a.img b.img c.img"
+
+fail() {
+    echo "faults: $*; it printed $(cat out), and said $(cat err)" >&2
+    exit 1
+}
+
+# runs WORDS..: the program with these words, over what `fault` says. `status` is how it ended.
+fault=
+runs() {
+    status=0
+    env $fault LD_PRELOAD=./faults.so ./ddf "$@" <input >out 2>err || status=$?
+}
+
+# ends STATUS OUTPUT WORDS..: the program, with these words, ends so and prints what begins with OUTPUT.
+ends() {
+    wanted=$1 printed=$2
+    shift 2
+    runs "$@"
+    [ "$status" = "$wanted" ] || fail "status $status, not $wanted, of: $*"
+    [ -n "$printed" ] || return 0
+    case $(cat out) in "$printed"*) ;; *) fail "no $printed of: $*" ;; esac
+}
+
+# over_bad IMAGE CALLS RANGE STATUS OUTPUT WORDS..: the same over an image with bad sectors, where CALLS is BAD_READS or BAD_WRITES.
+over_bad() {
+    fault="BAD_IMAGE=$1 $2=$3"
+    shift 3
+    ends "$@"
+    fault=
+}
+
+# A group of three disks, of which two are a mirror whose blocks are full of the byte 11.
+new_group() {
+    rm -f $images
+    truncate -s $((33000 * 512)) $images
+    head -c 65536 /dev/zero | tr '\0' '\021' >input
+    ends 0 "ok sequence 1" $images -- label
+    ends 0 "ok sequence 2" $images -- create v raid1 0 single 0,1@128
+    ends 0 "ok sequence 3" $images -- resync v
+    ends 0 "ok sequence 5" $images -- write v 0 128
+    head -c 65536 /dev/zero | tr '\0' '\042' >input
+}
+
+# Keeps the images as they are, and brings them back.
+keep() {
+    for image in $images; do cp --sparse=always "$image" "kept-$image"; done
+}
+restore() {
+    for image in $images; do cp --sparse=always "kept-$image" "$image"; done
+}
+
+# Whether no image was written to since `mark_time`.
+mark_time() {
+    touch -d 2001-01-01 $images
+}
+is_untouched() {
+    [ -z "$(find $images -newermt 2002-01-01)" ]
+}
+
+# The number of the group that `assemble` gives, which settles it: the next one writes nothing.
+sequence() {
+    ends 0 "group" $images -- assemble
+    sed -n 's/^group .* sequence //p' out
+    mark_time
+    ends 0 "group" $images -- assemble
+    is_untouched || fail "a second assemble wrote to an image"
+}
+
+# met KIND HOW NUMBER WORDS..: gives a command of which the call NUMBER of a kind ends so, and answers whether there was that call. `status` is how the command ended,
+# and `told` its output.
+met() {
+    rm -f hit
+    fault="FAULT_CALLS=$1 FAULT_HOW=$2 FAULT_AT=$3 FAULT_TOLD=hit"
+    shift 3
+    runs $images -- "$@"
+    fault=
+    told=$(cat out)
+    [ -e hit ]
+}
+
+# each_call KIND HOW JUDGE WORDS..: gives a command over the kept images with a call of a kind ending otherwise, each STEP-th one in turn, as long as there is such a
+# call, and has JUDGE look at what came of it.
+each_call() {
+    kind=$1 how=$2 judge=$3
+    shift 3
+    number=0 tried=0
+    restore
+    while met "$kind" "$how" "$number" "$@"; do
+        $judge "$how call $number ($kind) of $*"
+        number=$((number + step)) tried=$((tried + 1))
+        restore
+    done
+    [ "$tried" -gt 0 ] || fail "no call of $kind in $*"
+    [ "$status" = 0 ] || fail "status $status without a fault, of $*"
+    echo "faults: $tried calls ($kind) of $* that end so: $how"
+}
+
+# The command is done, as if nothing had happened.
+is_done() {
+    case $status$told in "0ok sequence $after") ;; *) fail "status $status: $1" ;; esac
+    [ "$(sequence)" = "$after" ] || fail "not done: $1"
+}
+
+# The command was stopped, or failed: it has happened or it hasn't, and where it printed `ok` it has. No member is lost by a stop.
+is_whole() {
+    now=$(sequence)
+    case $status$told in
+    "0ok sequence $after") [ "$now" = "$after" ] || fail "ok was printed, and is gone: $1" ;;
+    1*refused* | 3* | 137*) is_one_of "$now" || fail "sequence $now: $1" ;;
+    *) fail "status $status: $1" ;;
+    esac
+    ! grep -q missing out || fail "a member is lost: $1"
+    are_blocks_right || fail "a block has other bytes than old or new ones: $1"
+}
+
+# Where one call alone fails a member may be lost by it, which raises the number by two, and the command is done without it.
+is_whole_or_short() {
+    if [ "$status" = 0 ] && [ "$told" = "ok sequence $((after + 2))" ]; then
+        [ "$(sequence)" = $((after + 2)) ] || fail "ok was printed, and is gone: $1"
+        [ "$(grep -c missing out)" = 1 ] || fail "other members are lost than the one that failed: $1"
+        are_blocks_right || fail "a block has other bytes than old or new ones: $1"
+    else
+        is_whole "$1"
+    fi
+}
+
+is_one_of() {
+    for number_of in $numbers; do
+        [ "$1" != "$number_of" ] || return 0
+    done
+    return 1
+}
+
+# Whether each block of the mirror is an old one or a new one.
+are_blocks_right() {
+    ends 0 "" $images -- read v 0 128
+    [ "$(wc -c <out)" = 65536 ] && ! fold -b -w 512 out | LC_ALL=C grep -a -v -x -F -q -f either
+}
+
+# The faults of one command: `after` is the number that it gives, and `numbers` those that a stop may leave.
+try_command() {
+    for kind in read write sync; do
+        each_call $kind fails is_whole_or_short "$@"
+    done
+    each_call any gone is_whole "$@"
+    for how in kill cut-none cut-second; do
+        each_call any $how is_whole "$@"
+    done
+    each_call write full is_whole "$@"
+    for how in interrupted short; do
+        each_call read $how is_done "$@"
+        each_call write $how is_done "$@"
+    done
+    each_call sync interrupted is_done "$@"
+    try_end "$@"
+}
+
+# What a command printed `ok` for is sure when it ends: nothing is lost that no sync made sure.
+try_end() {
+    restore
+    fault=CUT_AT_END=yes
+    ends 0 "ok sequence $after" $images -- "$@"
+    fault=
+    [ "$(sequence)" = "$after" ] || fail "what ok was printed for wasn't made sure: $*"
+    are_blocks_right || fail "a block has other bytes than old or new ones"
+    [ "$1" != write ] || cmp -s out input || fail "blocks weren't made sure: $*"
+    echo "faults: what $* printed ok for is sure"
+}
+
+# Sectors of a disk that can't be read or written.
+try_bad_sectors() {
+    restore
+    over_bad a.img BAD_READS 5-6 0 "" $images -- read v 0 128
+    cmp -s out blocks_of_group || fail "a mirror with a bad sector gave other blocks"
+    over_bad b.img BAD_READS 32999-32999 0 "group" $images -- show
+    grep -q " absent$" out || fail "a disk whose anchor can't be read was taken into its group"
+    over_bad b.img BAD_READS 32900-32998 0 "group" $images -- show
+    grep -q " absent$" out || fail "a disk whose records can't be read was taken into its group"
+    mark_time
+    for command in "create x jbod 0 single 2@8" "delete v" "spare 2 global"; do
+        over_bad a.img BAD_WRITES 32900-32999 3 "disk fault slot 0" $images -- $command
+        ends 0 "group" $images -- show
+        ! grep -q "absent\|sequence 6" out || fail "a change that no disk took counts"
+    done
+    over_bad a.img BAD_WRITES 5-6 3 "disk fault slot 0" $images -- write v 0 128
+    ends 1 "refused 24 marked" $images -- write v 0 128
+    over_bad b.img BAD_WRITES 5-6 3 "disk fault slot 1" $images -- resync v
+    over_bad b.img BAD_WRITES 5-6 0 "ok sequence" $images -- fail b.img
+    over_bad b.img BAD_WRITES 5-6 0 "ok sequence" $images -- resync v
+    over_bad b.img BAD_WRITES 5-6 0 "ok sequence" $images -- write v 0 128
+    ends 0 "" $images -- read v 0 128
+    cmp -s out input || fail "what was written behind a bad disk isn't there"
+    echo "faults: a disk with bad sectors is passed over, told, and taken out of use"
+    truncate -s $((37000 * 512)) p.img
+    ends 0 "ok sequence 1" p.img -- label
+    ends 0 "ok sequence 2" p.img -- create w jbod 0 single 0@4100
+    over_bad p.img BAD_READS 2050-2050 3 "" p.img -- read w 1 4099
+    [ "$(wc -c <out)" = 1048576 ] || fail "other blocks are printed than those of whole pieces: $(wc -c <out) bytes"
+    grep -q "^ddf: read stopped at block 2049: " err || fail "said $(cat err), of a read that stopped"
+    over_bad p.img BAD_READS 2050-2050 3 "disk fault slot 0" p.img -- read w 2049 2
+    echo "faults: a read that stops at a bad sector prints whole pieces, and tells the block"
+}
+
+# A disk that grows or shrinks between two commands. Its anchor isn't in its last sector then.
+try_sizes() {
+    restore
+    size=$((33000 * 512))
+    truncate -s $((size + 100)) b.img
+    ends 0 "group" $images -- show
+    ! grep -q absent out || fail "a disk that grew by less than a sector is absent"
+    for other in $((size + 512)) $((size * 2)); do
+        truncate -s $other b.img
+        ends 0 "slot 0 sectors 33000" $images -- examine
+        grep -q "^slot 1 blank$" out || fail "a disk that grew isn't blank"
+        ends 0 "group" $images -- show
+        grep -q " absent$" out || fail "a disk that grew is taken into its group"
+        truncate -s $size b.img
+        ends 0 "group" $images -- show
+        ! grep -q absent out || fail "a disk that has its size again is absent"
+    done
+    for other in $((size - 1)) $((size - 512)) 512 0; do
+        truncate -s $other b.img
+        ends 0 "group" $images -- show
+        grep -q " absent$" out || fail "a disk that shrank is taken into its group"
+        ends 0 "" $images -- read v 0 128
+        cmp -s out blocks_of_group || fail "a mirror with a disk that shrank gave other blocks"
+        restore
+    done
+    truncate -s $((size + 512)) b.img
+    ends 0 "ok sequence 8" $images -- spare 2 global
+    truncate -s $size b.img
+    ends 0 "group" $images -- assemble
+    grep -q "^member .* missing$" out || fail "a disk that was away came back by itself"
+    echo "faults: a disk that grows or shrinks isn't there, and comes back where no command changed the group meanwhile"
+}
+
+# Images in a file system that is full, and then in one that is read only.
+try_file_system() {
+    mkdir full
+    if ! mount -t tmpfs -o size=20k none full 2>/dev/null; then
+        echo "faults: nothing can be mounted here, so a full file system was not tried"
+        return
+    fi
+    trap 'umount "$work/full"; rm -rf "$work"' EXIT
+    truncate -s $((34000 * 512)) full/d.img full/e.img
+    ends 3 "disk fault slot 0" full/d.img full/e.img -- label
+    ends 0 "slot 0 blank" full/d.img -- examine
+    mount -o remount,size=100k full
+    ends 0 "ok sequence 1" full/d.img full/e.img -- label
+    ends 0 "ok sequence 2" full/d.img full/e.img -- create w raid1 0 single 0,1@1024
+    ends 0 "ok sequence 3" full/d.img full/e.img -- accept w
+    head -c 524288 /dev/urandom >input
+    ends 3 "disk fault slot 0" full/d.img full/e.img -- write w 0 1024
+    ends 1 "refused 24 marked" full/d.img full/e.img -- write w 0 1024
+    mount -o remount,size=10m full
+    ends 0 "ok sequence 5" full/d.img full/e.img -- resync w
+    ends 0 "ok sequence 7" full/d.img full/e.img -- write w 0 1024
+    ends 0 "" full/e.img -- read w 0 1024
+    cmp -s out input || fail "blocks were lost in a file system that was full"
+    mount -o remount,ro full
+    ends 0 "group" full/d.img full/e.img -- show
+    ends 0 "" full/d.img full/e.img -- read w 0 1024
+    cmp -s out input || fail "a file system that is read only gave other blocks"
+    for command in assemble "delete w" "write w 0 1024"; do
+        ends 3 "" full/d.img full/e.img -- $command
+        grep -q "can't be opened: Read-only file system" err || fail "said no reason of: $command"
+    done
+    ends 3 "disk fault slot 0" full/d.img full/e.img -- label
+    umount full
+    trap 'rm -rf "$work"' EXIT
+    echo "faults: a file system that is full or read only is told, and takes nothing that was acknowledged"
+}
+
+# The blocks of the mirror, and those that are written to it: one block of each kind is a line of `either`.
+new_group
+keep
+ends 0 "" $images -- read v 0 128
+cp out blocks_of_group
+cat blocks_of_group input | fold -b -w 512 | LC_ALL=C sort -u >either
+after=6 numbers="5 6"
+try_command spare 2 global
+after=7 numbers="5 6 7"
+try_command write v 0 128
+try_bad_sectors
+try_sizes
+try_file_system

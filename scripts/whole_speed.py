@@ -1,0 +1,69 @@
+"""The speed of one `read` of a whole array beside cat of the same bytes, of one `write` of it beside dd of as many bytes as reach the disks, and what memory they take: see bench.sh."""
+
+import os
+import sys
+
+from measuring import Times, compared, peak_of, row
+from read_speed import SECTOR, STRIP, Layout, in_memory, told, turned
+from scrub_speed import filled
+
+# 512 MiB of data each.
+BLOCKS = 1 << 20
+ARRAYS = (
+    ("RAID 5", Layout("raid5.rnc", 0, BLOCKS // 2, 2, turned), 3, 1.5, "0.6"),
+    ("RAID 1", Layout("raid1", 0, BLOCKS, 1, lambda strips, number: 2 * strips), 2, 2, "0.8"),
+    ("RAID 0", Layout("raid0", 0, BLOCKS // 2, 2, lambda strips, number: strips), 2, 1, "0.8"),
+)
+
+
+def read_row(call: list[str], data: str, work, what: str, goal: str, rounds: int) -> None:
+    """Two rows of a read of all of an array, whose bytes are compared once."""
+    output = in_memory(work)
+    read = [*call, "read", "array", "0", str(BLOCKS)]
+    ours, theirs = Times(), Times()
+    ours.add(read, str(output))
+    with open(output, "rb") as given, open(data, "rb") as wanted:
+        if any(given.read(STRIP) != wanted.read(STRIP) for _ in range(SECTOR * BLOCKS // STRIP)):
+            sys.exit(f"bench: {what} gives other bytes than were placed")
+    for _ in range(rounds):
+        ours.add(read, str(output))
+        theirs.add(["cat", data], str(output))
+    compared(f"`read` of 512 MiB of {what}", ours, theirs, "cat", goal)
+    output.unlink()
+
+
+def write_row(call: list[str], data: str, reach: float, what: str, goal: str, rounds: int) -> None:
+    """Two rows of a write of all of an array, and what memory it takes beside one of no block."""
+    longer = data + ".reach"
+    with open(data, "rb") as given, open(longer, "wb") as made:
+        whole = given.read()
+        made.write((2 * whole)[: int(reach * len(whole))])
+    write = [*call, "write", "array", "0", str(BLOCKS)]
+    ours, theirs = Times(), Times()
+    for _ in range(rounds):
+        ours.add(write, given=data)
+        theirs.add(["dd", f"of={longer}.out", "bs=1M", "conv=fsync,notrunc"], given=longer)
+    compared(f"`write` of 512 MiB of {what}", ours, theirs, "dd of what reaches the disks", goal)
+    peak, start = peak_of(write, data), peak_of([*call, "write", "array", "0", "0"])
+    row("peak memory of that, MB above a write of no block", f"{(peak - start) / 1e6:.1f}", f"start {start / 1e6:.1f}", peak / start, "8 MB")
+    os.remove(longer)
+    os.remove(longer + ".out")
+
+
+def whole_rows(program: str, work, rounds: int) -> None:
+    """The rows of each array, whole and, where its level allows it, short of its first disk."""
+    for what, layout, slots, reach, goal in ARRAYS:
+        data = str(work / "whole-data")
+        images, copies = filled(program, work / f"whole-{layout.level}", layout, slots, data)
+        for copy in copies:
+            os.remove(copy)
+        call = [program, *images, "--"]
+        if what != "RAID 0":
+            told([*call, "accept", "array"])
+        if what == "RAID 5":
+            read_row(call, data, work, what, "0.95", rounds)
+            read_row([program, *images[1:], "--"], data, work, f"{what} short of a disk", "0.6", rounds)
+        write_row(call, data, reach, what, goal, rounds)
+        for image in images:
+            os.remove(image)
+        os.remove(data)
