@@ -12,6 +12,7 @@ pub mod OwnSources
 pub mod WithoutSteps
 pub mod CellSteps
 pub mod SumSteps
+pub mod GivenSteps
 pub mod Writes
 pub mod LyingApart
 pub mod AlongStrips

@@ -78,7 +78,7 @@ cell_on v slot lba is =
 
 -- ---- blocks
 
-in_every : (trusts : Bool) (copied rowed : List Source) (k : ℕ) (x : Source) → slice_get (if trusts then copied ++ rowed else copied) k ≡ Some x → slice_get (copied ++ rowed) k ≡ Some x
+pub in_every : (trusts : Bool) (copied rowed : List Source) (k : ℕ) (x : Source) → slice_get (if trusts then copied ++ rowed else copied) k ≡ Some x → slice_get (copied ++ rowed) k ≡ Some x
 in_every true copied rowed k x e = e
 in_every false copied rowed k x e = at_front copied rowed k x e
 

@@ -11,7 +11,7 @@ use Rattle.ddf_volume.proofs.Tries.{IsGivenBy-wider, NotRead-wider, Within}
 use Rattle.ddf_cells.specs.Without.{own_sources, AreGivenWithout, IsGivenWithout, NoneLeftWithout}
 use Rattle.ddf_cells.proofs.Piecewise.{one_more}
 
-given_wider : {P Q : ℕ → Type 0} → Within P Q → (image : Image) (sources : List Source) (bytes : List ℕ) → IsGivenWithout P image sources bytes → IsGivenWithout Q image sources bytes
+pub given_wider : {P Q : ℕ → Type 0} → Within P Q → (image : Image) (sources : List Source) (bytes : List ℕ) → IsGivenWithout P image sources bytes → IsGivenWithout Q image sources bytes
 given_wider within image [] bytes is = is
 given_wider within image (source ∷ sources) bytes is = IsGivenBy-wider within image (source ∷ sources) bytes is
 

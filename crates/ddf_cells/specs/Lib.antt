@@ -5,6 +5,7 @@ pub mod Without
 pub mod CellSources
 pub mod Degraded
 pub mod RowSums
+pub mod GivenCells
 pub mod Parity
 pub mod Touching
 pub mod Writing

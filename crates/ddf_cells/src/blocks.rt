@@ -8,6 +8,7 @@ ghost use Rattle.ddf_volume.specs.Along.{LieAlong};
 ghost use Rattle.ddf_volume.specs.Given.{AreGiven, NoneLeftIn};
 ghost use Rattle.ddf_volume.specs.Reading.{OnlyReads, Failed};
 ghost use Rattle.ddf_cells.specs.CellSources.{AreCellsAt, IsReadable, IsSure, NoneLeftAmong};
+ghost use Rattle.ddf_cells.specs.GivenCells.{AreCellsGiven};
 
 use ddf_array::View;
 use ddf_bay::Bay;
@@ -82,6 +83,8 @@ pub(crate) fn read_held<B: Bay>(
     ensures within { IfOk result (λ count. count ≤ length out.old) }
     ensures cells { B.tells → IfOk result (λ count. IsSure view.now (B.disks bay.old) (B.disks bay.new)
         → (element position sector : ℕ) → block_at view.now element position sector ≡ Some block → AreCellsAt view.now (B.disks bay.old).held element sector position out.new count) }
+    ensures given { B.tells → IfOk result (λ count. (element position sector : ℕ) → block_at view.now element position sector ≡ Some block
+        → AreCellsGiven (Failed (B.disks bay.old) (B.disks bay.new)) view.now (B.disks bay.old).held element sector position out.new count) }
     ensures left { IfErr result (λ slot. (element position sector : ℕ) (part : Part) → block_at view.now element position sector ≡ Some block
         → NoneLeftAmong (Failed (B.disks bay.old) (B.disks bay.new)) view.now element part sector (length out.old) position slot) }
     ensures reads { OnlyReads (B.disks bay.old) (B.disks bay.new) }

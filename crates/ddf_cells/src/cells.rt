@@ -5,6 +5,7 @@ ghost use Rattle.ddf_array.specs.declared.part.Part.{Part};
 ghost use Rattle.ddf_array.specs.Volume.{Fits};
 ghost use Rattle.ddf_volume.specs.Reading.{OnlyReads, Failed};
 ghost use Rattle.ddf_cells.specs.CellSources.{AreCellsAt, IsReadable, IsSure, NoneLeftAmong};
+ghost use Rattle.ddf_cells.specs.GivenCells.{AreCellsGiven};
 
 use crate::blocks::read_held;
 use crate::inverse::block_at;
@@ -33,6 +34,7 @@ fn read_first<B: Bay>(
     ensures within { IfOk result (λ count. count ≤ length out.old) }
     ensures cells { B.tells → IfOk result (λ count. IsSure view.now (B.disks bay.old) (B.disks bay.new)
         → AreCellsAt view.now (B.disks bay.old).held element sector position out.new count) }
+    ensures given { B.tells → IfOk result (λ count. AreCellsGiven (Failed (B.disks bay.old) (B.disks bay.new)) view.now (B.disks bay.old).held element sector position out.new count) }
     ensures left { IfErr result (λ slot. (part : Part) → slice_get view.now.parts element ≡ Some part
         → NoneLeftAmong (Failed (B.disks bay.old) (B.disks bay.new)) view.now element part sector (length out.old) position slot) }
     ensures reads { OnlyReads (B.disks bay.old) (B.disks bay.new) }
@@ -53,6 +55,8 @@ fn read_first<B: Bay>(
 /// into: those of the blocks that they hold. A cell that holds none has its own bytes where it is available, else those
 /// that the others of its row give where the element keeps parity and all of these are available, else zeros (profile).
 /// Where no read failed on a slot of the array's available places, or the array is redundant, each is exactly that.
+/// In any case it has the bytes of one of its sources, and each source before that one has a slot of which a read failed in
+/// this call.
 ///
 /// # Errors
 /// The slot at which no source of a cell is left.
@@ -71,6 +75,7 @@ pub fn read_cells<B: Bay>(
     requires sectors { (part : Part) → slice_get view.now.parts element ≡ Some part → sector + length out.old ≤ depth_of part.shape }
     ensures cells { B.tells → OnOk result (IsSure view.now (B.disks bay.old) (B.disks bay.new)
         → AreCellsAt view.now (B.disks bay.old).held element sector position out.new (length out.old)) }
+    ensures given { B.tells → OnOk result (AreCellsGiven (Failed (B.disks bay.old) (B.disks bay.new)) view.now (B.disks bay.old).held element sector position out.new (length out.old)) }
     ensures left { IfErr result (λ slot. (part : Part) → slice_get view.now.parts element ≡ Some part
         → NoneLeftAmong (Failed (B.disks bay.old) (B.disks bay.new)) view.now element part sector (length out.old) position slot) }
     ensures reads { OnlyReads (B.disks bay.old) (B.disks bay.new) }

@@ -5,6 +5,7 @@ ghost use Rattle.ddf_array.specs.declared.part.Part.{Part};
 ghost use Rattle.ddf_array.specs.Volume.{Fits};
 ghost use Rattle.ddf_volume.specs.Reading.{OnlyReads, Failed};
 ghost use Rattle.ddf_cells.specs.CellSources.{IsReadable, IsSure, NoneLeftAmong};
+ghost use Rattle.ddf_cells.specs.GivenCells.{AreCellsAdded, AreSumsGiven};
 ghost use Rattle.ddf_cells.specs.RowSums.{AreAddedAt, AreSumsAt, HoldsParityAlong, NoneLeftForSum, is_other};
 
 use crate::cells::read_cells;
@@ -33,6 +34,7 @@ fn add_cells<B: Bay>(
     requires sectors { (part : Part) → slice_get view.now.parts element ≡ Some part → sector + length into.old ≤ depth_of part.shape }
     ensures added { B.tells → OnOk result (IsSure view.now (B.disks bay.old) (B.disks bay.new)
         → AreAddedAt view.now (B.disks bay.old).held element sector (is_other parity other) into.old into.new) }
+    ensures given { B.tells → OnOk result (AreCellsAdded (Failed (B.disks bay.old) (B.disks bay.new)) view.now (B.disks bay.old).held element sector parity other into.old into.new) }
     ensures left { IfErr result (λ slot. (part : Part) → slice_get view.now.parts element ≡ Some part
         → (other ≡ parity → ⊥) × NoneLeftAmong (Failed (B.disks bay.old) (B.disks bay.new)) view.now element part sector (length into.old) other slot) }
     ensures reads { OnlyReads (B.disks bay.old) (B.disks bay.new) }
@@ -69,6 +71,7 @@ pub fn read_sums<B: Bay>(
     requires parity { (part : Part) → slice_get view.now.parts element ≡ Some part → HoldsParityAlong part parity sector (length out.old) }
     ensures sums { B.tells → OnOk result (IsSure view.now (B.disks bay.old) (B.disks bay.new)
         → AreSumsAt view.now (B.disks bay.old).held element sector out.new (length out.old)) }
+    ensures given { B.tells → OnOk result (AreSumsGiven (Failed (B.disks bay.old) (B.disks bay.new)) view.now (B.disks bay.old).held element sector out.new (length out.old)) }
     ensures left { IfErr result (λ slot. (part : Part) → slice_get view.now.parts element ≡ Some part
         → NoneLeftForSum (Failed (B.disks bay.old) (B.disks bay.new)) view.now element part sector (length out.old) slot) }
     ensures reads { OnlyReads (B.disks bay.old) (B.disks bay.new) }

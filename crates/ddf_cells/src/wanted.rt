@@ -6,6 +6,7 @@ ghost use Rattle.ddf_array.specs.Levels.{keeps_parity};
 ghost use Rattle.ddf_array.specs.Volume.{Fits, IsPart};
 ghost use Rattle.ddf_volume.specs.Reading.{OnlyReads, Failed};
 ghost use Rattle.ddf_cells.specs.CellSources.{AreWantedAt, IsInOneRow, IsReadable, IsSure, NoneLeftFor, is_parity};
+ghost use Rattle.ddf_cells.specs.GivenCells.{AreWantedGiven};
 
 use crate::cells::read_cells;
 use crate::sums::read_sums;
@@ -86,6 +87,7 @@ pub fn read_wanted<B: Bay>(
     requires row { (part : Part) → slice_get view.now.parts element ≡ Some part → IsInOneRow part sector (length out.old) }
     ensures wanted { B.tells → OnOk result (IsSure view.now (B.disks bay.old) (B.disks bay.new)
         → AreWantedAt view.now (B.disks bay.old).held element sector position out.new (length out.old)) }
+    ensures given { B.tells → OnOk result (AreWantedGiven (Failed (B.disks bay.old) (B.disks bay.new)) view.now (B.disks bay.old).held element sector position out.new (length out.old)) }
     ensures left { IfErr result (λ slot. (part : Part) → slice_get view.now.parts element ≡ Some part
         → NoneLeftFor (Failed (B.disks bay.old) (B.disks bay.new)) view.now element part sector (length out.old) position slot) }
     ensures reads { OnlyReads (B.disks bay.old) (B.disks bay.new) }

@@ -1,5 +1,5 @@
 -- Behind each event all is kept that was kept before it.
-use Rattle.std.proofs.Common.{◌≡◌, ℕ, zero, suc, Bool, true, false, not, ◌&&◌, ◌||◌, ◌==◌, List, Option, Some, refl, sym, ap, subst, ◌∙◌, arith, if◌then◌else◌}
+use Rattle.std.proofs.Common.{◌≡◌, ℕ, ◌≤◌, zero, suc, Bool, true, false, not, ◌&&◌, ◌||◌, ◌==◌, List, Option, Some, refl, sym, ap, subst, ◌∙◌, arith, if◌then◌else◌}
 use Rattle.std.proofs.Math.Path.{fun_ext}
 use Rattle.std.specs.Prelude.{filter_map}
 use Rattle.std.specs.List.{range_with_len}
@@ -7,6 +7,7 @@ use Rattle.ddf_bytes.specs.Streams.{SourceState}
 use Rattle.ddf_bay.specs.Sectors.{Image, IsLeft}
 use Rattle.ddf_bay.specs.State.{BayState}
 use Rattle.ddf_array.specs.Sound.{AreSectors}
+use Rattle.ddf_array.specs.Values.{given}
 use Rattle.ddf_array.proofs.Bools.{and_first, and_second, not_true}
 use Rattle.std.specs.Map.{lookup}
 use Rattle.ddf_config.specs.declared.array.Array.{Array}
@@ -14,6 +15,8 @@ use Rattle.ddf_config.specs.Members.{same_guid}
 use Rattle.ddf_array.specs.Volume.{Volume}
 use Rattle.ddf_data.specs.Allowed.{Allowed, any_bytes}
 use Rattle.ddf_data.specs.Changing.{IsWritable}
+use Rattle.ddf_data.specs.Kept.{IsKeptData}
+use Rattle.ddf_data.proofs.From.{source_at}
 use Rattle.ddf_data.proofs.Written.{kept_any}
 use Rattle.ddf_config.specs.declared.seat.Seat.{Seat}
 use Rattle.ddf_config.specs.Configuration.{Configuration}
@@ -22,7 +25,7 @@ use Rattle.ddf_keeping.specs.Kept.{KeepsArray}
 use Rattle.ddf_keeping.proofs.Entries.{guid_is}
 use Rattle.ddf_rewrite.proofs.Lists.{some_same}
 use Rattle.ddf_keeping.specs.Over.{IsOver, absent_in}
-use Rattle.ddf_history.specs.Groups.{groups, has_current}
+use Rattle.ddf_history.specs.Groups.{groups, has_current, has_missing}
 use Rattle.ddf_history.specs.History.{KeepsAcked}
 use Rattle.ddf_history.specs.Issued.{IsSince, Past, give_back, lose}
 use Rattle.ddf_history.specs.Promise.{IsKept}
@@ -30,9 +33,9 @@ use Rattle.ddf_history.specs.Scenes.{scene_of}
 use Rattle.ddf_history.proofs.Cutting.{given_back_kept, lost_kept}
 use Rattle.ddf_promise.specs.Promised.{KeepsData, is_seat, seat_if, seats_in, with_promise}
 use Rattle.ddf_promise.proofs.Steps.{by_loss, by_return}
-use Rattle.ddf_data_history.specs.Calls.{exit_of}
-use Rattle.ddf_data_history.specs.Events.{Event, Follows, KeepsOn, Resumes}
-use Rattle.ddf_data_history.specs.Events.Event.{Cut, Ended, Forgotten, Lost, Noticed, Refloored, Returned, Stopped}
+use Rattle.ddf_data_history.specs.Calls.{Call, EndsAt, HasComeTo, MayPromise, PromisesThen, exit_of}
+use Rattle.ddf_data_history.specs.Events.{IsAgreeing, Event, Follows, KeepsOn, Resumes}
+use Rattle.ddf_data_history.specs.Events.Event.{Agreed, Cut, Ended, Forgotten, Lost, Noticed, Refloored, Returned, Stopped}
 use Rattle.ddf_data_history.specs.Moments.{KeepsAll, Moment}
 use Rattle.ddf_data_history.proofs.Bays.{AreBays, held_sectors, sectors}
 use Rattle.ddf_data_history.proofs.Calls.{call_later, cuts, cuts_acked, cuts_floored, ends, ends_acked, ends_floored}
@@ -78,6 +81,36 @@ any_kept guid past floor array writable image sound promises kept number config 
         (writable number config made since here (seats_in guid past floor config) volume over))
     by false differs e = kept number config since other allowed made e there
 
+-- An array that agrees keeps the bytes that it has.
+agreed_kept : (is_absent : ℕ → ℕ → Bool) (volume : Volume) (image : Image) (allowed : Allowed) → AreSectors image → IsAgreeing is_absent volume image allowed → IsKeptData is_absent volume image allowed
+agreed_kept is_absent volume image allowed sound agrees = record {
+  sound = record {
+    are_sectors = sound;
+    redundant = λ unmarked within. agrees.consistent.redundant;
+    parity = λ unmarked within. agrees.consistent.parity;
+  };
+  reads = λ block k source at.
+      let there = source_at volume block k source at in
+      agrees.may block (given image source) (agrees.consistent.redundant.agree block there.0 source there.1);
+  rows = agrees.rows;
+}
+
+agreed_keep : (guid : List ℕ) (past : Past (groups guid)) (floor : ℕ → ℕ) (array : List ℕ) (own : Allowed) (image : Image) → AreSectors image
+    → ((number : ℕ) (config : Configuration) (entry : Array) → IsSince past.changes number config → lookup (same_guid array) config.arrays ≡ Some entry
+    → (volume : Volume) → IsOver (seats_in guid past floor config) entry volume → IsAgreeing (absent_in config.members (seats_in guid past floor config) entry.elements) volume image own)
+    → (promises : Promises) → KeepsData guid past floor image promises → KeepsData guid past floor image (with_promise promises array (Some own))
+agreed_keep guid past floor array own image sound agrees promises kept number config since other allowed made promised there = by (same_guid array other) refl promised
+  where
+    by : (b : Bool) → same_guid array other ≡ b → ◌≡◌ {A = Option Allowed} (if b then Some own else promises other) (Some allowed)
+        → KeepsArray config.members (seats_in guid past floor config) made image allowed
+    by true same e =
+        let one = guid_is array other same in
+        let allowed_is : own ≡ allowed = sym (some_same e refl) in
+        let here : lookup (same_guid array) config.arrays ≡ Some made = ap (λ (g : List ℕ). lookup (same_guid g) config.arrays) one ∙ there in
+        subst (KeepsArray config.members (seats_in guid past floor config) made image) allowed_is
+        (λ volume over. agreed_kept (absent_in config.members (seats_in guid past floor config) made.elements) volume image own sound (agrees number config made since here volume over))
+    by false differs e = kept number config since other allowed made e there
+
 module _ {B : Type 0} {tells : Type 0} (told : tells) (disks : B → BayState B) {S : Type 0} (tells_bytes : Type 0) (streams : S → SourceState) (guid : List ℕ) (are : AreBays disks) where
   -- a moment that follows an event, at which all is kept
   record HasNext (old : Moment guid B) (event : Event told disks tells_bytes streams guid old) : Type 0 where
@@ -86,7 +119,7 @@ module _ {B : Type 0} {tells : Type 0} (told : tells) (disks : B → BayState B)
     pub acked : KeepsAcked old.past next.past
     pub keeps : KeepsAll disks next
 
-  resumed : (old : Moment guid B) (bay : B) (Left : Image → Type 0) → Resumes (disks old.bay) (disks bay) Left → (past : Past (groups guid)) (promises : Promises)
+  pub resumed : (old : Moment guid B) (bay : B) (Left : Image → Type 0) → Resumes (disks old.bay) (disks bay) Left → (past : Past (groups guid)) (promises : Promises)
       → ((image : Image) → Left image → IsKept past (scene_of (disks old.bay).sizes image)) → ((image : Image) → Left image → KeepsData guid past old.floor image promises)
       → ((image : Image) → Left image → HaveFloorsIn guid past (disks old.bay).sizes image old.floor)
       → KeepsAll disks (record { past = past; bay = bay; promises = promises; floor = old.floor; small = old.small })
@@ -96,12 +129,25 @@ module _ {B : Type 0} {tells : Type 0} (told : tells) (disks : B → BayState B)
     floored = by_slots guid disks are past old.floor bay resumes.tells_left (disks old.bay).sizes resumes.same_sizes (λ image left. floored image (resumes.is_left image left));
   }
 
-  happens : (old : Moment guid B) → KeepsAll disks old → (event : Event told disks tells_bytes streams guid old) → HasNext old event
-  happens old all (Ended call tells_left same_sizes) =
+  -- A call came to an end, or a stop cut it: so far the history came, and so is promised.
+  pub record HasCome (old : Moment guid B) (bay : B) (Comes : Past (groups guid) → Type 0) (Is : Promises → Type 0) : Type 0 where
+    pub now : Past (groups guid)
+    pub promised : Promises
+    pub comes : Comes now
+    pub is_so : Is promised
+    pub acked : KeepsAcked old.past now
+    pub keeps : KeepsAll disks (record { past = now; bay = bay; promises = promised; floor = old.floor; small = old.small })
+
+  pub ended : (old : Moment guid B) → KeepsAll disks old → (call : Call told disks tells_bytes streams guid old) → (disks (exit_of told disks tells_bytes streams guid call)).tells_left
+      → (disks (exit_of told disks tells_bytes streams guid call)).sizes ≡ (disks old.bay).sizes
+      → HasCome old (exit_of told disks tells_bytes streams guid call) (EndsAt told disks tells_bytes streams guid call) (PromisesThen told disks tells_bytes streams guid call)
+  ended old all call tells_left same_sizes =
       let both = ends told disks tells_bytes streams guid are old all call tells_left in
       record {
-        next = record { past = both.now; bay = exit_of told disks tells_bytes streams guid call; promises = both.promised; floor = old.floor; small = old.small };
-        follows = record { comes = both.ends; is_bay = refl; is_promised = both.is_so; is_floor = refl };
+        now = both.now;
+        promised = both.promised;
+        comes = both.ends;
+        is_so = both.is_so;
         acked = ends_acked told disks tells_bytes streams guid are old all call both.now both.ends;
         keeps = record {
           shows = both.all_kept;
@@ -111,13 +157,19 @@ module _ {B : Type 0} {tells : Type 0} (told : tells) (disks : B → BayState B)
               (are.counts (exit_of told disks tells_bytes streams guid call) (disks old.bay).moment image (call_later told disks tells_bytes streams guid are old all call) left));
         };
       }
-  happens old all (Cut call image was_left bay resumes) =
+
+  pub was_cut : (old : Moment guid B) → KeepsAll disks old → (call : Call told disks tells_bytes streams guid old) (image : Image)
+      → (disks (exit_of told disks tells_bytes streams guid call)).left_since (disks old.bay).moment image → (bay : B) → Resumes (disks old.bay) (disks bay) (λ left. left ≡ image)
+      → HasCome old bay (HasComeTo told disks tells_bytes streams guid call) (MayPromise told disks tells_bytes streams guid call)
+  was_cut old all call image was_left bay resumes =
       let held_is : (disks bay).held ≡ image = resumes.is_left (disks bay).held (are.held bay resumes.tells_left) in
       let sound : AreSectors image = subst AreSectors held_is (held_sectors disks are bay resumes.tells_left) in
       let both = cuts told disks tells_bytes streams guid are old all call image was_left sound in
       record {
-        next = record { past = both.now; bay = bay; promises = both.promised; floor = old.floor; small = old.small };
-        follows = record { comes = both.goes; is_bay = refl; is_promised = both.may; is_floor = refl };
+        now = both.now;
+        promised = both.promised;
+        comes = both.goes;
+        is_so = both.may;
         acked = cuts_acked told disks tells_bytes streams guid are old all call both.now both.goes;
         keeps = resumed old bay (λ left. left ≡ image) resumes both.now both.promised
             (λ left same. subst (λ (one : Image). IsKept both.now (scene_of (disks old.bay).sizes one)) (sym same) both.is_kept)
@@ -125,23 +177,15 @@ module _ {B : Type 0} {tells : Type 0} (told : tells) (disks : B → BayState B)
             (λ left same. subst (λ (one : Image). HaveFloorsIn guid both.now (disks old.bay).sizes one old.floor) (sym same)
             (cuts_floored told disks tells_bytes streams guid are old all call both.now both.goes image was_left));
       }
-  happens old all (Stopped bay resumes) = record {
-    next = record { past = old.past; bay = bay; promises = old.promises; floor = old.floor; small = old.small };
-    follows = record { comes = refl; is_bay = refl; is_promised = refl; is_floor = refl };
-    acked = record { later = omega arith; same = λ i config le at. at };
-    keeps = resumed old bay (IsLeft (disks old.bay).may_hold) resumes old.past old.promises all.shows all.keeps (by_image guid disks are old.past old.floor old.bay all.floored);
-  }
-  happens old all (Lost slot own) = record {
-    next = record { past = lose old.past slot; bay = old.bay; promises = old.promises; floor = old.floor; small = old.small };
-    follows = record { comes = refl; is_bay = refl; is_promised = refl; is_floor = refl };
-    acked = record { later = omega arith; same = λ i config le at. at };
-    keeps = record {
-      shows = λ image left. lost_kept old.past (scene_of (disks old.bay).sizes image) slot own (all.shows image left);
-      keeps = λ image left.
-          let after = lose old.past slot in
-          by_loss guid old.floor old.small old.past image old.promises (all.keeps image left) (all.shows image left).alone after.lost after.returned (λ other gone. still (old.past.lost other) (other == slot) gone);
-      floored = λ other number config since stays current. all.floored other number config (record { late = since.late; is_there = since.is_there }) (not_either (old.past.lost other) (other == slot) stays) current;
-    };
+
+  pub lost_keeps : (old : Moment guid B) → KeepsAll disks old → (slot : ℕ) → old.past.changes.own_from ≤ old.past.changes.acked
+      → KeepsAll disks (record { past = lose old.past slot; bay = old.bay; promises = old.promises; floor = old.floor; small = old.small })
+  lost_keeps old all slot own = record {
+    shows = λ image left. lost_kept old.past (scene_of (disks old.bay).sizes image) slot own (all.shows image left);
+    keeps = λ image left.
+        let after = lose old.past slot in
+        by_loss guid old.floor old.small old.past image old.promises (all.keeps image left) (all.shows image left).alone after.lost after.returned (λ other gone. still (old.past.lost other) (other == slot) gone);
+    floored = λ other number config since stays current. all.floored other number config (record { late = since.late; is_there = since.is_there }) (not_either (old.past.lost other) (other == slot) stays) current;
   }
     where
       still : (b c : Bool) → b ≡ true → (b || c) ≡ true
@@ -151,15 +195,14 @@ module _ {B : Type 0} {tells : Type 0} (told : tells) (disks : B → BayState B)
       not_either : (b c : Bool) → (b || c) ≡ false → b ≡ false
       not_either true c stays = absurd cc
       not_either false c stays = refl
-  happens old all (Returned slot own missing) = record {
-    next = record { past = give_back old.past slot; bay = old.bay; promises = old.promises; floor = old.floor; small = old.small };
-    follows = record { comes = refl; is_bay = refl; is_promised = refl; is_floor = refl };
-    acked = record { later = omega arith; same = λ i config le at. at };
-    keeps = record {
-      shows = λ image left. given_back_kept old.past (scene_of (disks old.bay).sizes image) slot own (all.shows image left) missing;
-      keeps = λ image left. by_return guid old.floor old.small old.past image old.promises (all.keeps image left) slot missing;
-      floored = λ other number config since stays current. by_slot other number config (record { late = since.late; is_there = since.is_there }) stays current (other == slot) refl;
-    };
+
+  pub returned_keeps : (old : Moment guid B) → KeepsAll disks old → (slot : ℕ) → old.past.changes.own_from ≤ old.past.changes.acked
+      → ((number : ℕ) (config : Configuration) → IsSince old.past.changes number config → has_missing config (old.past.disk slot) ≡ true)
+      → KeepsAll disks (record { past = give_back old.past slot; bay = old.bay; promises = old.promises; floor = old.floor; small = old.small })
+  returned_keeps old all slot own missing = record {
+    shows = λ image left. given_back_kept old.past (scene_of (disks old.bay).sizes image) slot own (all.shows image left) missing;
+    keeps = λ image left. by_return guid old.floor old.small old.past image old.promises (all.keeps image left) slot missing;
+    floored = λ other number config since stays current. by_slot other number config (record { late = since.late; is_there = since.is_there }) stays current (other == slot) refl;
   }
     where
       was_not : (b c : Bool) → c ≡ false → (b && not c) ≡ false → b ≡ false
@@ -171,6 +214,42 @@ module _ {B : Type 0} {tells : Type 0} (told : tells) (disks : B → BayState B)
       by_slot other number config since stays current true here =
           absurd ((groups_are_sound guid).not_both config (old.past.disk slot) (subst (λ (n : ℕ). has_current config (old.past.disk n) ≡ true) (eqb-true other slot here) current) (missing number config since))
       by_slot other number config since stays current false differs = all.floored other number config since (was_not (old.past.lost other) (other == slot) differs stays) current
+
+  happens : (old : Moment guid B) → KeepsAll disks old → (event : Event told disks tells_bytes streams guid old) → HasNext old event
+  happens old all (Ended call tells_left same_sizes) =
+      let on = ended old all call tells_left same_sizes in
+      record {
+        next = record { past = on.now; bay = exit_of told disks tells_bytes streams guid call; promises = on.promised; floor = old.floor; small = old.small };
+        follows = record { comes = on.comes; is_bay = refl; is_promised = on.is_so; is_floor = refl };
+        acked = on.acked;
+        keeps = on.keeps;
+      }
+  happens old all (Cut call image was_left bay resumes) =
+      let on = was_cut old all call image was_left bay resumes in
+      record {
+        next = record { past = on.now; bay = bay; promises = on.promised; floor = old.floor; small = old.small };
+        follows = record { comes = on.comes; is_bay = refl; is_promised = on.is_so; is_floor = refl };
+        acked = on.acked;
+        keeps = on.keeps;
+      }
+  happens old all (Stopped bay resumes) = record {
+    next = record { past = old.past; bay = bay; promises = old.promises; floor = old.floor; small = old.small };
+    follows = record { comes = refl; is_bay = refl; is_promised = refl; is_floor = refl };
+    acked = record { later = omega arith; same = λ i config le at. at };
+    keeps = resumed old bay (IsLeft (disks old.bay).may_hold) resumes old.past old.promises all.shows all.keeps (by_image guid disks are old.past old.floor old.bay all.floored);
+  }
+  happens old all (Lost slot own) = record {
+    next = record { past = lose old.past slot; bay = old.bay; promises = old.promises; floor = old.floor; small = old.small };
+    follows = record { comes = refl; is_bay = refl; is_promised = refl; is_floor = refl };
+    acked = record { later = omega arith; same = λ i config le at. at };
+    keeps = lost_keeps old all slot own;
+  }
+  happens old all (Returned slot own missing) = record {
+    next = record { past = give_back old.past slot; bay = old.bay; promises = old.promises; floor = old.floor; small = old.small };
+    follows = record { comes = refl; is_bay = refl; is_promised = refl; is_floor = refl };
+    acked = record { later = omega arith; same = λ i config le at. at };
+    keeps = returned_keeps old all slot own missing;
+  }
   happens old all (Forgotten fewer less) = record {
     next = record { past = old.past; bay = old.bay; promises = fewer; floor = old.floor; small = old.small };
     follows = record { comes = refl; is_bay = refl; is_promised = refl; is_floor = refl };
@@ -184,6 +263,17 @@ module _ {B : Type 0} {tells : Type 0} (told : tells) (disks : B → BayState B)
     keeps = record {
       shows = all.shows;
       keeps = λ image left. any_kept guid old.past old.floor array writable image (sectors disks are old.bay image left) old.promises (all.keeps image left);
+      floored = all.floored;
+    };
+  }
+  happens old all (Agreed array allowed agrees) = record {
+    next = record { past = old.past; bay = old.bay; promises = with_promise old.promises array (Some allowed); floor = old.floor; small = old.small };
+    follows = record { comes = refl; is_bay = refl; is_promised = refl; is_floor = refl };
+    acked = record { later = omega arith; same = λ i config le at. at };
+    keeps = record {
+      shows = all.shows;
+      keeps = λ image left.
+          agreed_keep guid old.past old.floor array allowed image (sectors disks are old.bay image left) (λ number config entry. agrees image left number config entry) old.promises (all.keeps image left);
       floored = all.floored;
     };
   }

@@ -5,3 +5,6 @@ pub mod Changed
 pub mod Blocks
 pub mod Calls
 pub mod Happening
+pub mod Standing
+pub mod Beginning
+pub mod Scrubbed

@@ -1,5 +1,5 @@
 -- What happens to a group and to its data, and that all is kept however it goes on.
-use Rattle.std.specs.Prelude.{◌≡◌, ℕ, zero, suc, ◌<◌, ◌≤◌, ◌^◌, true, false, List, Some}
+use Rattle.std.specs.Prelude.{◌≡◌, ℕ, zero, suc, ◌<◌, ◌≤◌, ◌^◌, Bool, true, false, List, Some}
 use Rattle.ddf_bytes.specs.Streams.{SourceState}
 use Rattle.ddf_bay.specs.Sectors.{Image, IsLeft}
 use Rattle.ddf_bay.specs.State.{BayState}
@@ -10,10 +10,11 @@ use Rattle.ddf_config.specs.Configuration.{Configuration}
 use Rattle.ddf_config.specs.Members.{same_guid}
 use Rattle.ddf_array.specs.Volume.{Volume}
 use Rattle.ddf_data.specs.Allowed.{Allowed, any_bytes}
-use Rattle.ddf_data.specs.Changing.{IsWritable}
+use Rattle.ddf_data.specs.Changing.{IsConsistentNow, IsWritable, ValuesMay}
+use Rattle.ddf_data.specs.Rows.{AreRowsKept}
 use Rattle.ddf_keeping.specs.Grouped.{Promises}
-use Rattle.ddf_keeping.specs.Over.{IsOver}
-use Rattle.ddf_promise.specs.Promised.{with_promise}
+use Rattle.ddf_keeping.specs.Over.{IsOver, absent_in}
+use Rattle.ddf_promise.specs.Promised.{seats_in, with_promise}
 use Rattle.ddf_history.specs.Groups.{groups, has_current, has_missing}
 use Rattle.ddf_history.specs.History.{KeepsAcked}
 use Rattle.ddf_history.specs.Issued.{IsSince, Past, give_back, lose}
@@ -25,6 +26,20 @@ pub record Resumes {D : Type 0} (old new : BayState D) (Left : Image → Type 0)
   pub tells_left : new.tells_left
   pub same_sizes : new.sizes ≡ old.sizes
   pub is_left : (image : Image) → IsLeft new.may_hold image → Left image
+
+-- An array agrees in an image, where the disks of these positions are only not read: it is consistent, marked or not, the rows that count as rebuilt hold what they
+-- should, and each block has bytes that are among these.
+pub record IsAgreeing (is_absent : ℕ → ℕ → Bool) (volume : Volume) (image : Image) (allowed : Allowed) : Type 0 where
+  pub consistent : IsConsistentNow is_absent volume image
+  pub rows : AreRowsKept is_absent volume image
+  pub may : ValuesMay volume image allowed
+
+-- So it does in whatever a stop may leave at a moment, under each configuration since the last acknowledged one that has it, over the members' disks that aren't lost.
+abbrev pub AgreesAt : {guid : List ℕ} {B : Type 0} → (disks : B → BayState B) → Moment guid B → (array : List ℕ) → Allowed → Type 0
+AgreesAt {guid = guid} disks moment array allowed =
+    (image : Image) → IsLeft (disks moment.bay).may_hold image → (number : ℕ) (config : Configuration) (entry : Array) → IsSince moment.past.changes number config
+    → lookup (same_guid array) config.arrays ≡ Some entry → (volume : Volume) → IsOver (seats_in guid moment.past moment.floor config) entry volume
+    → IsAgreeing (absent_in config.members (seats_in guid moment.past moment.floor config) entry.elements) volume image allowed
 
 module _ {B : Type 0} {tells : Type 0} (told : tells) (disks : B → BayState B) {S : Type 0} (tells_bytes : Type 0) (streams : S → SourceState) (guid : List ℕ) where
   pub data Event (old : Moment guid B) : Type 0 where
@@ -48,6 +63,8 @@ module _ {B : Type 0} {tells : Type 0} (told : tells) (disks : B → BayState B)
     Noticed : (array : List ℕ)
         → ((number : ℕ) (config : Configuration) (entry : Array) → IsSince old.past.changes number config → lookup (same_guid array) config.arrays ≡ Some entry
         → (seats : List Seat) (volume : Volume) → IsOver seats entry volume → IsWritable volume) → Event old
+    -- Of an array whose disks agree, as one from elsewhere that isn't marked, the bytes that its blocks have are promised from now on.
+    Agreed : (array : List ℕ) (allowed : Allowed) → AgreesAt disks old array allowed → Event old
     -- Slots have other floors, whose disks are no current members or are lost.
     Refloored : (floor : ℕ → ℕ) → ((slot : ℕ) → floor slot < 2 ^ 64)
         → ((slot number : ℕ) (config : Configuration) → IsSince old.past.changes number config → old.past.lost slot ≡ false → has_current config (old.past.disk slot) ≡ true → floor slot ≡ old.floor slot)
@@ -71,6 +88,7 @@ module _ {B : Type 0} {tells : Type 0} (told : tells) (disks : B → BayState B)
   Follows old (Forgotten fewer are) new = IsBehind new (λ now. now ≡ old.past) old.bay (λ promised. promised ≡ fewer) old.floor
   Follows old (Noticed array writable) new =
       IsBehind new (λ now. now ≡ old.past) old.bay (λ promised. promised ≡ with_promise old.promises array (Some any_bytes)) old.floor
+  Follows old (Agreed array allowed agrees) new = IsBehind new (λ now. now ≡ old.past) old.bay (λ promised. promised ≡ with_promise old.promises array (Some allowed)) old.floor
   Follows old (Refloored floor small same) new = IsBehind new (λ now. now ≡ old.past) old.bay (λ promised. promised ≡ old.promises) floor
 
   -- All is kept at a moment, and stays so however it goes on, for so many events: whichever comes that the moment admits, a moment follows it to which what was

@@ -1,16 +1,34 @@
 // Laws of whole histories of groups and of their data: functions that do nothing, whose contracts are the laws.
-ghost use Rattle.std.specs.Prelude.{◌≡◌, ℕ, List, length, Option, Some, Ok};
+ghost use Rattle.std.specs.Prelude.{◌≡◌, ℕ, Bool, false, List, [], length, Option, Some, Ok};
+ghost use Rattle.ddf_bytes.specs.declared.stamp.Stamp.{Stamp};
+ghost use Rattle.ddf_bay.specs.Moments.{IsSettled};
+ghost use Rattle.ddf_bay.specs.Sectors.{Image, IsLeft};
+ghost use Rattle.ddf_header.specs.declared.kind.Revision.{Revision};
+ghost use Rattle.ddf_update.specs.NewCopies.{group_of as name_of};
 ghost use Rattle.ddf_config.specs.declared.array.Array.{Array};
-ghost use Rattle.ddf_data.specs.Allowed.{Allowed};
+ghost use Rattle.ddf_cells.specs.Degraded.{is_degraded};
+ghost use Rattle.ddf_resync.specs.declared.outcome.Scrub.TheVariants.{Clean};
+ghost use Rattle.ddf_data.specs.Allowed.{Allowed, once_consistent};
+ghost use Rattle.ddf_data.specs.Rows.{HasNoRows};
 ghost use Rattle.ddf_history.specs.Answer.{HasMember, IsReadable};
+ghost use Rattle.ddf_history.specs.Groups.{groups};
+ghost use Rattle.ddf_history.specs.Issued.{Past};
 ghost use Rattle.ddf_history.specs.Scenes.{scene_of};
 ghost use Rattle.ddf_assembly.specs.Group.{GroupValue, group_of};
-ghost use Rattle.ddf_stops.specs.Kept.{is_read};
+ghost use Rattle.ddf_stops.specs.Founding.{AreNamesNew, IsNewGroup};
+ghost use Rattle.ddf_stops.specs.Going.{IsAdmitted};
+ghost use Rattle.ddf_stops.specs.Kept.{is_read, is_slot};
+ghost use Rattle.ddf_promise.specs.Promised.{IsAlone};
+ghost use Rattle.ddf_memory_history.specs.Found.{BeginsFound};
 ghost use Rattle.ddf_request.specs.Named.{named_array};
 ghost use Rattle.ddf_answer.specs.Call.{work_of};
 ghost use Rattle.ddf_data_commands.specs.Read.{HasRead, Outcome};
+ghost use Rattle.ddf_data_commands.specs.Scrub.{HasScrubbed, IsArrayScrubbed};
 ghost use Rattle.ddf_data_calls.specs.Reading.{MayBe, Means, blocks_printed};
-ghost use Rattle.ddf_data_history.specs.Events.{KeepsOn};
+ghost use Rattle.ddf_disk_commands.specs.Label.{IsTried, label_copy, label_slots};
+ghost use Rattle.ddf_command.specs.Cut.{IsLeftByLabel, IsNewLabel};
+ghost use Rattle.ddf_data_history.specs.Beginnings.{Begins};
+ghost use Rattle.ddf_data_history.specs.Events.{AgreesAt, KeepsOn};
 ghost use Rattle.ddf_data_history.specs.Moments.{KeepsAll, Moment};
 
 use ddf_bay::Bay;
@@ -22,6 +40,43 @@ use ddf_bytes::Source;
 /// interrupted the old or the new ones.
 pub fn a_group_keeps_its_history_and_its_data_at_every_moment<B: Bay, S: Source>()
     ensures { (told : B.tells) (group : List ℕ) (start : Moment group B) → KeepsAll B.disks start → (events : ℕ) → KeepsOn told B.disks S.tells S.input group events start }
+{}
+
+/// A history of a new group and of its data begins where a `label` was done: there is no array, so that nothing is promised of any, and the disk of each member has the floor of its new copy.
+/// The names of the group and of its disks are new, so that no other slot shows them.
+pub fn a_label_begins_a_history_of_data<B: Bay>()
+    ensures { (told : B.tells) (revision : Revision) (stamp : Stamp) (named : List ℕ) (old new : B) → IsTried (work_of B.tells (B.disks old) (B.disks new)) revision stamp named (Ok tt)
+        → (B.disks new).sizes ≡ (B.disks old).sizes → IsLeft (B.disks old).may_hold (B.disks old).held → (B.disks new).tells_left
+        → ((image : Image) → IsLeft (B.disks old).may_hold image
+        → AreNamesNew (name_of stamp) (is_slot (label_slots (B.disks old).sizes named)) (label_copy revision stamp (B.disks old).sizes named) (scene_of (B.disks old).sizes image))
+        → (past : Past (groups (name_of stamp)))
+        → IsNewGroup (name_of stamp) past (B.disks old).sizes (label_slots (B.disks old).sizes named) (label_copy revision stamp (B.disks old).sizes named) (is_slot (label_slots (B.disks old).sizes named))
+        → Begins (name_of stamp) B.disks past new }
+{}
+
+/// A `label` that a stop cut short begins one too, of the disks that had their copies by then.
+pub fn a_label_cut_short_begins_a_history_of_data<B: Bay>()
+    ensures { (revision : Revision) (stamp : Stamp) (named : List ℕ) (old new cut : B) (founded : ℕ → Bool) → IsNewLabel (B.disks old) (B.disks new) revision stamp named
+        → IsLeftByLabel (B.disks old) (B.disks new) (B.disks cut) revision stamp named founded → (B.disks cut).tells_left → (past : Past (groups (name_of stamp)))
+        → IsNewGroup (name_of stamp) past (B.disks old).sizes (label_slots (B.disks old).sizes named) (label_copy revision stamp (B.disks old).sizes named) founded → Begins (name_of stamp) B.disks past cut }
+{}
+
+/// So does a group from elsewhere that was found whole on disks of which nothing is pending. Nothing is promised of its arrays: what they hold counts once they are told to agree, as events of
+/// the history, or by an `accept` or a `resync`.
+pub fn a_group_that_was_found_whole_begins_a_history_of_data<B: Bay>()
+    ensures { (group : List ℕ) (bay : B) (found : GroupValue) (begins : BeginsFound group (B.disks bay) found) → (B.disks bay).tells_left
+        → ((slot : ℕ) → IsSettled (B.disks bay).may_hold (B.disks bay).held slot) → Begins group B.disks begins.past bay }
+{}
+
+/// A `scrub` tells that an array agrees, as one from elsewhere of which nothing is promised: where its history admits the call, no member was absent, and the group has one configuration since the
+/// last acknowledged one; where nothing is pending on the disks, no element of the array that keeps parity lacks a position, and no rows count as rebuilt. So what its blocks hold may count from then on.
+pub fn an_array_that_a_scrub_found_clean_agrees<B: Bay>()
+    ensures { (told : B.tells) (group : List ℕ) (moment : Moment group B) → KeepsAll B.disks moment → (B.disks moment.bay).tells_left → (new : B) (word : List ℕ)
+        → (scrubbed : HasScrubbed (work_of B.tells (B.disks moment.bay) (B.disks new)) (Some group) word (Ok Clean)) → (found : GroupValue) → group_of scrubbed.newest (Some group) ≡ Ok found
+        → IsAdmitted group moment.past (B.disks moment.bay) scrubbed.left found → found.absent ≡ [] → IsAlone group moment.past found.config
+        → ((slot : ℕ) → IsSettled (B.disks moment.bay).may_hold (B.disks moment.bay).held slot)
+        → (scrub : IsArrayScrubbed (work_of B.tells (B.disks moment.bay) (B.disks new)) found.config found.seats word Clean) → is_degraded scrub.used.1 ≡ false → HasNoRows scrub.used.1
+        → AgreesAt B.disks moment scrub.used.0 (once_consistent scrub.used.1 (B.disks moment.bay).held) }
 {}
 
 /// A read at a moment at which all is kept, that is admitted then, prints of each block of the named array bytes that the block may have by what is promised at that

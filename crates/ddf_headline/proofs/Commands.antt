@@ -1,5 +1,5 @@
 -- What commands over a group of disks in memory leave of its history, and what they tell.
-use Rattle.std.proofs.Common.{◌≡◌, ◌∙◌, ◌⊎◌, ℕ, List, Option, Some, Result, Ok, Err, refl, sym, subst, inl, inr, arith}
+use Rattle.std.proofs.Common.{◌≡◌, ◌∙◌, ◌⊎◌, ℕ, false, List, Option, Some, Result, Ok, Err, refl, sym, subst, inl, inr, arith}
 use Rattle.ddf_bay.specs.Memory.{disks_of}
 use Rattle.ddf_bay.specs.ReadsOnly.{ReadsOnly}
 use Rattle.ddf_bay.specs.Sectors.{Image}
@@ -14,6 +14,7 @@ use Rattle.ddf_assembly.specs.Group.{GroupValue, group_of}
 use Rattle.ddf_assembly.specs.Recovery.{config_recovered}
 use Rattle.ddf_stops.specs.Going.{changes_in}
 use Rattle.ddf_stops.specs.Kept.{is_read, told_answer}
+use Rattle.ddf_stops.proofs.SlotsKept.{ends_slots}
 use Rattle.ddf_stops.proofs.Told.{found_name}
 use Rattle.ddf_answer.specs.declared.failure.Failure.{Failure}
 use Rattle.ddf_answer.specs.declared.failure.Failure.TheVariants.{Conflict, Disk, Memory, Refused, Split}
@@ -89,10 +90,18 @@ module _ (group : List ℕ) (old exit : MemoryBay) (command : IsCommand group ol
 
     pub command_ends : (disks_of exit).tells_left → GoesOnTo group past exit
     command_ends told = elim came [
-      | inl reads ↦ record { now = past; history = reads_history group past old exit history command.well reads; acked = acked_start group past }
+      | inl reads ↦ record {
+        now = past;
+        same_disks = refl;
+        same_returned = refl;
+        history = reads_history group past old exit history command.well reads;
+        acked = acked_start group past;
+      }
       | inr asked ↦ (
           let leaves = asked_ends asked.0 asked.1 told in
-          record { now = leaves.now; history = leaves.history; acked = leaves.acked })
+          let slots =
+          ends_slots group past (is_read command.has.taken.left) asked.0.found (changes_in asked.0.found asked.0.steps) (is_done command.outcome) leaves.now leaves.ends in
+          record { now = leaves.now; same_disks = slots.same_disks; same_returned = slots.same_returned; history = leaves.history; acked = leaves.acked })
     ]
 
     -- ---- where a stop cut it
@@ -116,10 +125,17 @@ module _ (group : List ℕ) (old exit : MemoryBay) (command : IsCommand group ol
 
       pub command_cut : GoesOnTo group past cut
       command_cut = elim came [
-        | inl reads ↦ record { now = past; history = reads_cut group past old exit history command.well reads cut image was_left is_cut; acked = acked_start group past }
+        | inl reads ↦ record {
+          now = past;
+          same_disks = refl;
+          same_returned = refl;
+          history = reads_cut group past old exit history command.well reads cut image was_left is_cut;
+          acked = acked_start group past;
+        }
         | inr asked ↦ (
             let leaves = ample_cut asked.0 asked.1 in
-            record { now = leaves.now; history = leaves.history; acked = leaves.acked })
+            let slots = ends_slots group past (is_read command.has.taken.left) asked.0.found (changes_in asked.0.found asked.0.steps) false leaves.now leaves.goes in
+            record { now = leaves.now; same_disks = slots.same_disks; same_returned = slots.same_returned; history = leaves.history; acked = leaves.acked })
       ]
 
     -- ---- what it tells

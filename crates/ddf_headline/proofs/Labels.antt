@@ -84,7 +84,7 @@ module _ (group : List ℕ) (sizes : List ℕ) (copy : ℕ → DiskCopy) where
   abbrev disk_in : ℕ → Disk
   disk_in slot = if nat_lt slot (length sizes) then disk_of (view_of (copy slot)) else stranger (founding_config copy)
 
-  abbrev begins : Past (groups group)
+  abbrev pub begins : Past (groups group)
   begins = record {
     changes = record { issued = founding_config copy ∷ []; acked = 0; own_from = 0 };
     slots = length sizes;
@@ -93,10 +93,10 @@ module _ (group : List ℕ) (sizes : List ℕ) (copy : ℕ → DiskCopy) where
     returned = λ slot. false;
   }
 
-  named_in : (slot : ℕ) → slot < length sizes → disk_in slot ≡ disk_of (view_of (copy slot))
+  pub named_in : (slot : ℕ) → slot < length sizes → disk_in slot ≡ disk_of (view_of (copy slot))
   named_in slot low = ap (λ (here : Bool). if here then disk_of (view_of (copy slot)) else stranger (founding_config copy)) (lt-ltb slot (length sizes) low)
 
-  is_new : IsNewGroup group begins sizes (label_slots sizes []) copy (is_slot (label_slots sizes []))
+  pub is_new : IsNewGroup group begins sizes (label_slots sizes []) copy (is_slot (label_slots sizes []))
   is_new = record {
     issued_is = refl;
     acked_is = refl;
@@ -113,7 +113,7 @@ module _ (group : List ℕ) (sizes : List ℕ) (copy : ℕ → DiskCopy) where
   }
 
 -- The founding configuration is the only one.
-only_one : {C : Type 0} (first config : C) (number : ℕ) → slice_get (first ∷ []) number ≡ Some config → first ≡ config
+pub only_one : {C : Type 0} (first config : C) (number : ℕ) → slice_get (first ∷ []) number ≡ Some config → first ≡ config
 only_one first config zero at = cc
 only_one first config (suc number) at = absurd cc
 
@@ -135,7 +135,7 @@ module _ (revision : Revision) (stamp : Stamp) (old new : MemoryBay)
   new_group : IsNewGroup (name_of stamp) first sizes slots copy (is_slot slots)
   new_group = is_new (name_of stamp) sizes copy
 
-  listed : (slot : ℕ) → slot < length sizes → has_current (founding_config copy) (first.disk slot) ≡ true
+  pub listed : (slot : ℕ) → slot < length sizes → has_current (founding_config copy) (first.disk slot) ≡ true
   listed slot low =
       founded_listed revision stamp sizes slots (chosen_once sizes []) (disks_of new).held (is_slot slots)
       (all_founded (disks_of old) (disks_of new) slots copy (tried tt).1) first new_group (λ one. true) slot (slot_there sizes slot low)
@@ -151,6 +151,10 @@ module _ (revision : Revision) (stamp : Stamp) (old new : MemoryBay)
       own = omega arith;
       lost_gone = λ slot there lost. absurd cc;
     };
+    issued_is = refl;
+    acked_is = refl;
+    lost_none = λ slot. refl;
+    returned_none = λ slot. refl;
     names = λ slot low. named_in (name_of stamp) sizes copy slot low;
     members = λ slot low number config since.
         let same = only_one (founding_config copy) config number since.is_there in

@@ -1,3 +1,3 @@
-mod Labels
+pub mod Labels
 mod Commands
 mod Lives

@@ -1,5 +1,6 @@
 -- A life of a group on disks in memory, step by step.
-use Rattle.std.proofs.Common.{◌≡◌, ◌≢◌, ◌∙◌, ℕ, zero, suc, ◌<◌, Bool, true, false, List, [], ◌∷◌, length, Result, Ok, Err, refl, sym, ap, subst, arith}
+use Rattle.std.proofs.Common.{◌≡◌, ◌≢◌, ◌∙◌, ℕ, zero, suc, ◌<◌, ◌==◌, ◌&&◌, ◌||◌, not, Bool, true, false, List, [], ◌∷◌, length, Result, Ok, Err, refl, sym, ap, subst, arith}
+use Rattle.std.proofs.lemmas.Bool.{eqb-true}
 use Rattle.std.specs.Prelude.{slice_index_or, slice_set}
 use Rattle.ddf_bytes.specs.declared.stamp.Stamp.{Stamp}
 use Rattle.ddf_header.specs.declared.kind.Revision.{Revision}
@@ -224,6 +225,9 @@ module _ (revision : Revision) (stamp : Stamp) (kept lost : ℕ) (life : IsLife 
   third_over : IsOver group after_second (is_read third_left) life.third_asked.found third_changes after_third
   third_over = is_over group after_second (is_read third_left) life.third_asked.found third_changes life.third.outcome life.third_sequence life.third_done after_third third_leaves.ends
 
+  third_slots : KeepsSlots group after_second after_third (is_read third_left) life.third_asked.found
+  third_slots = ends_slots group after_second (is_read third_left) life.third_asked.found third_changes true after_third third_over
+
   third_current : (number : ℕ) (config : Configuration) → IsSince after_third.changes number config → has_current config (after_third.disk kept) ≡ true
   third_current =
       let ready = asked_changes group life.second_exit life.third_exit life.third life.third_asked in
@@ -235,6 +239,17 @@ module _ (revision : Revision) (stamp : Stamp) (kept lost : ℕ) (life : IsLife 
       members.stays_missing group after_second after_third (is_read third_left) life.third_asked.found ready.changes life.third.timestamp life.third_asked.steps true ready.is third_over lost second_missing
 
   -- ---- the return
+
+  -- No other disk than the lost one has come back.
+  none_returned : (slot : ℕ) → after_third.returned slot ≡ false
+  none_returned slot =
+      let first : after_first.returned slot ≡ false = ap (λ (returned : ℕ → Bool). returned slot) first_slots.same_returned ∙ begun.returned_none slot in
+      let second : after_second.returned slot ≡ false =
+      ap (λ (returned : ℕ → Bool). returned slot) second_slots.same_returned ∙ ap (λ (b : Bool). b && not (slot == lost)) first in
+      ap (λ (returned : ℕ → Bool). returned slot) third_slots.same_returned ∙ second
+
+  one_returned : (slot : ℕ) → (after_third.returned slot || (slot == lost)) ≡ true → slot ≡ lost
+  one_returned slot is = eqb-true slot lost (rw (none_returned slot) at is)
 
   abbrev in_the_end : Past (groups group)
   in_the_end = give_back after_third lost
@@ -252,22 +267,23 @@ module _ (revision : Revision) (stamp : Stamp) (kept lost : ℕ) (life : IsLife 
 
   pub outlives : Outlives revision stamp kept lost life
   outlives = record {
-    founded = founded;
+    begun = begun;
     after_first = after_first;
+    first_shown = cut_leaves.history;
     first_goes = cut_leaves.goes;
-    after_loss = after_loss;
-    same_changes = refl;
     after_second = after_second;
+    second_shown = second_leaves.history;
     second_over = second_over;
     after_third = after_third;
+    third_shown = third_leaves.history;
     third_over = third_over;
-    in_the_end = in_the_end;
-    changes_stay = refl;
+    end_shown = end_history;
+    one_returned = one_returned;
     none_behind = over_length group after_second (is_read third_left) life.third_asked.found third_changes after_third third_over;
     is_last = over_last group after_second (is_read third_left) life.third_asked.found third_changes after_third third_over;
     all_acked =
-        acked_then group founded after_first in_the_end cut_leaves.acked
-        (acked_then group after_first after_second in_the_end
+        acked_then group founded after_first after_third cut_leaves.acked
+        (acked_then group after_first after_second after_third
         (record { later = second_leaves.acked.later; same = second_leaves.acked.same })
         (record { later = third_leaves.acked.later; same = third_leaves.acked.same }));
     is_told = command_tells group life.back life.last_exit life.last in_the_end end_history end_member life.last_ample life.last_tells;

@@ -1,5 +1,5 @@
 -- Commands over a group of disks in memory, as the contracts of the program's calls promise them.
-use Rattle.std.specs.Prelude.{◌≡◌, ℕ, ◌<◌, true, List, Some, Result, Ok, slice_get}
+use Rattle.std.specs.Prelude.{◌≡◌, ℕ, ◌<◌, true, false, List, [], ◌∷◌, Some, Result, Ok, slice_get}
 use Rattle.ddf_bay.specs.Memory.{disks_of}
 use Rattle.ddf_bay.specs.declared.memory.MemoryBay.{MemoryBay}
 use Rattle.ddf_config.specs.Configuration.{Configuration}
@@ -11,6 +11,7 @@ use Rattle.ddf_history.specs.History.{KeepsAcked}
 use Rattle.ddf_history.specs.Issued.{IsSince, Past}
 use Rattle.ddf_assembly.specs.Group.{GroupValue, group_of}
 use Rattle.ddf_assembly.specs.Steps.{Step}
+use Rattle.ddf_stops.specs.Founding.{founding_config}
 use Rattle.ddf_stops.specs.Kept.{is_read, told_answer}
 use Rattle.ddf_answer.specs.declared.failure.Failure.{Failure}
 use Rattle.ddf_answer.specs.Call.{work_of}
@@ -41,16 +42,22 @@ KeepDisk steps disk = (place : ℕ) (step : Step) → slice_get steps place ≡ 
 abbrev pub IsToldAsPromised : (group : List ℕ) → Past (groups group) → (old exit : MemoryBay) → IsCommand group old exit → Type 0
 IsToldAsPromised group past old exit command = IsPromised past (is_read command.has.taken.left) (told_answer (group_of command.has.taken.newest (Some group)))
 
--- The history goes on with all that was acknowledged.
+-- The history goes on with all that was acknowledged. The disk in each slot stays, and which of them have come back.
 pub record GoesOnTo (group : List ℕ) (past : Past (groups group)) (bay : MemoryBay) : Type 0 where
   pub now : Past (groups group)
+  pub same_disks : now.disk ≡ past.disk
+  pub same_returned : now.returned ≡ past.returned
   pub history : IsHistoryOn group now bay
   pub acked : KeepsAcked past now
 
--- A history begins: the disk of each of the first slots, so many, is the one that its new copy names, and is a current member of the founding
--- configuration.
+-- A history begins: the founding configuration alone was issued, and is acknowledged; nothing is lost, and nothing has come back. The disk of each of
+-- the first slots, so many, is the one that its new copy names, and is a current member of it.
 pub record IsBegun (group : List ℕ) (count : ℕ) (copy : ℕ → DiskCopy) (bay : MemoryBay) : Type 0 where
   pub past : Past (groups group)
   pub history : IsHistoryOn group past bay
+  pub issued_is : past.changes.issued ≡ founding_config copy ∷ []
+  pub acked_is : past.changes.acked ≡ 0
+  pub lost_none : (slot : ℕ) → past.lost slot ≡ false
+  pub returned_none : (slot : ℕ) → past.returned slot ≡ false
   pub names : (slot : ℕ) → slot < count → past.disk slot ≡ disk_of (view_of (copy slot))
   pub members : (slot : ℕ) → slot < count → (number : ℕ) (config : Configuration) → IsSince past.changes number config → has_current config (past.disk slot) ≡ true

@@ -9,14 +9,14 @@ use Rattle.ddf_update.specs.NewCopies.{group_of as name_of}
 use Rattle.ddf_view.specs.View.{view_of}
 use Rattle.ddf_history.specs.Groups.{Disk, disk_of, groups, has_current}
 use Rattle.ddf_history.specs.History.{KeepsAcked}
-use Rattle.ddf_history.specs.Issued.{Past}
+use Rattle.ddf_history.specs.Issued.{Past, give_back, lose}
 use Rattle.ddf_stops.specs.Going.{Goes, IsOver, changes_in}
 use Rattle.ddf_stops.specs.Kept.{is_read}
 use Rattle.ddf_answer.specs.declared.failure.Failure.TheVariants.{Memory}
 use Rattle.ddf_answer.specs.Call.{work_of}
 use Rattle.ddf_disk_commands.specs.Label.{IsTried, label_copy}
-use Rattle.ddf_memory_history.specs.Histories.{IsCutAt, IsStopped}
-use Rattle.ddf_headline.specs.Commands.{IsAsked, IsCommand, IsToldAsPromised, KeepDisk}
+use Rattle.ddf_memory_history.specs.Histories.{IsCutAt, IsHistoryOn, IsStopped}
+use Rattle.ddf_headline.specs.Commands.{IsAsked, IsBegun, IsCommand, IsToldAsPromised, KeepDisk}
 
 -- the disk that the label makes of a slot
 abbrev pub labelled_disk : Revision → Stamp → (sizes : List ℕ) → ℕ → Disk
@@ -79,23 +79,25 @@ pub record IsLife (revision : Revision) (stamp : Stamp) (kept lost : ℕ) : Type
   pub last_ample : last.outcome ≡ Err Memory → ⊥
   pub last_tells : (disks_of last_exit).tells_left
 
--- What was issued and acknowledged by the end: the first command's changes as far as it came, and all those of the second and the third one, each behind
--- the other; none is issued behind them. What the last command found is promised: the configuration behind them, or, where it reads the disk that has
--- come back, maybe two records that contradict each other.
+-- What was issued and acknowledged by the end, from the founding configuration on: the first command's changes as far as it came, and all those of the second
+-- and the third one, each behind the other; none is issued behind them. At each of these moments the disks show what they should. What the last command
+-- found is promised: the configuration behind them, or, where it reads the disk that has come back, maybe two records that contradict each other. No other
+-- disk has come back.
 pub record Outlives (revision : Revision) (stamp : Stamp) (kept lost : ℕ) (life : IsLife revision stamp kept lost) : Type 0 where
-  pub founded : Past (groups (name_of stamp))
+  pub begun : IsBegun (name_of stamp) (length (disks_of life.blank).sizes) (label_copy revision stamp (disks_of life.blank).sizes []) life.labelled
   pub after_first : Past (groups (name_of stamp))
-  pub first_goes : Goes (name_of stamp) founded (is_read life.first.has.taken.left) life.first_asked.found (changes_in life.first_asked.found life.first_asked.steps) after_first
-  pub after_loss : Past (groups (name_of stamp))
-  pub same_changes : after_loss.changes ≡ after_first.changes
+  pub first_shown : IsHistoryOn (name_of stamp) after_first life.cut
+  pub first_goes : Goes (name_of stamp) begun.past (is_read life.first.has.taken.left) life.first_asked.found (changes_in life.first_asked.found life.first_asked.steps) after_first
   pub after_second : Past (groups (name_of stamp))
-  pub second_over : IsOver (name_of stamp) after_loss (is_read life.second.has.taken.left) life.second_asked.found (changes_in life.second_asked.found life.second_asked.steps) after_second
+  pub second_shown : IsHistoryOn (name_of stamp) after_second life.second_exit
+  pub second_over : IsOver (name_of stamp) (lose after_first lost) (is_read life.second.has.taken.left) life.second_asked.found (changes_in life.second_asked.found life.second_asked.steps) after_second
   pub after_third : Past (groups (name_of stamp))
+  pub third_shown : IsHistoryOn (name_of stamp) after_third life.third_exit
   pub third_over : IsOver (name_of stamp) after_second (is_read life.third.has.taken.left) life.third_asked.found (changes_in life.third_asked.found life.third_asked.steps) after_third
-  pub in_the_end : Past (groups (name_of stamp))
-  pub changes_stay : in_the_end.changes ≡ after_third.changes
-  pub none_behind : length in_the_end.changes.issued ≡ in_the_end.changes.acked + 1
-  pub is_last : slice_get in_the_end.changes.issued in_the_end.changes.acked
+  pub end_shown : IsHistoryOn (name_of stamp) (give_back after_third lost) life.back
+  pub one_returned : (slot : ℕ) → (give_back after_third lost).returned slot ≡ true → slot ≡ lost
+  pub none_behind : length after_third.changes.issued ≡ after_third.changes.acked + 1
+  pub is_last : slice_get after_third.changes.issued after_third.changes.acked
       ≡ slice_get (life.third_asked.found.config ∷ changes_in life.third_asked.found life.third_asked.steps) (length (changes_in life.third_asked.found life.third_asked.steps))
-  pub all_acked : KeepsAcked founded in_the_end
-  pub is_told : IsToldAsPromised (name_of stamp) in_the_end life.back life.last_exit life.last
+  pub all_acked : KeepsAcked begun.past after_third
+  pub is_told : IsToldAsPromised (name_of stamp) (give_back after_third lost) life.back life.last_exit life.last

@@ -49,7 +49,7 @@ module _ {r : Reading} (changes : Changes r) (disk : r.Disk) (before after : Sho
   part_shows shows = record { copy = shows.copy; is_copy = part_copy before after part shows.copy shows.is_copy; is_standing = shows.is_standing }
 
   -- a slot that shows less of what it showed is as it should
-  part_right : IsRight changes disk before → IsRight changes disk after
+  pub part_right : IsRight changes disk before → IsRight changes disk after
   part_right (inl on) = inl (part_on on)
   part_right (inr (inl outside)) = inr (inl (record {
     no_member = outside.no_member;

@@ -39,13 +39,17 @@ module _ (group : List ℕ) (past : Past (groups group)) (old : MemoryBay) (hist
     stopped_gone : (s : ℕ) → s < length (disks_of cut).sizes → back s ≡ false → past.lost s ≡ true → (disks_of cut).gone s
     stopped_gone s there away lost = is.still_gone s away (history.lost_gone s (subst (λ (sizes : List ℕ). s < length sizes) is.same_sizes there) lost)
 
-  pub stopped : (cut : MemoryBay) → IsStopped old cut (λ slot. false) → IsHistoryOn group past cut
-  stopped cut is = record {
-    kept = stopped_kept cut (λ slot. false) is;
-    same_slots = stopped_slots cut (λ slot. false) is;
+  -- each slot that counts as lost is still away
+  pub stopped_but : (cut : MemoryBay) (back : ℕ → Bool) → IsStopped old cut back → ((slot : ℕ) → past.lost slot ≡ true → back slot ≡ false) → IsHistoryOn group past cut
+  stopped_but cut back is away = record {
+    kept = stopped_kept cut back is;
+    same_slots = stopped_slots cut back is;
     own = history.own;
-    lost_gone = λ s there lost. stopped_gone cut (λ slot. false) is s there refl lost;
+    lost_gone = λ s there lost. stopped_gone cut back is s there (away s lost) lost;
   }
+
+  pub stopped : (cut : MemoryBay) → IsStopped old cut (λ slot. false) → IsHistoryOn group past cut
+  stopped cut is = stopped_but cut (λ slot. false) is (λ s lost. refl)
 
   -- ---- a disk comes back
 

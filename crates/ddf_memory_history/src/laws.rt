@@ -43,9 +43,11 @@ pub fn a_call_that_only_reads_leaves_its_history()
         → ReadsOnly (disks_of old) (disks_of exit) → (disks_of exit).left_since (disks_of old).moment image → IsCutAt old image cut → IsHistoryOn group past cut }
 {}
 
-/// A stop between calls goes on in the history, where each disk that is lost is still away.
+/// A stop between calls goes on in the history, where each disk that is lost is still away. A slot that was unplugged, and whose disk doesn't count as lost, may be
+/// there again.
 pub fn a_stop_goes_on_in_its_history()
-    ensures { (group : List ℕ) (past : Past (groups group)) (old cut : MemoryBay) → IsHistoryOn group past old → IsStopped old cut (λ slot. false) → IsHistoryOn group past cut }
+    ensures { (group : List ℕ) (past : Past (groups group)) (old cut : MemoryBay) (back : ℕ → Bool) → IsHistoryOn group past old → IsStopped old cut back
+        → ((slot : ℕ) → past.lost slot ≡ true → back slot ≡ false) → IsHistoryOn group past cut }
 {}
 
 /// Where a slot is unplugged its disk is lost. Until a call goes on without it, it may be counted as not lost too.
@@ -102,7 +104,7 @@ pub fn a_bay_still_tells_behind_counted_calls()
 {}
 
 /// A call over a bay in memory leaves out no slot but those that are unplugged.
-pub fn every_read_slot_is_plugged()
+pub fn no_plugged_slot_is_left_out()
     ensures { (group : List ℕ) (old exit : MemoryBay) (readable : List Bool) (found : GroupValue) (changes : List Configuration) (done : Bool)
         → GoesWell old exit → IsTaken group old exit readable found changes done → (disks_of exit).tells_left → AreRead old readable }
 {}

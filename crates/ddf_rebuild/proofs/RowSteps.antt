@@ -1,5 +1,5 @@
 -- Rows of the target, by its sectors.
-use Rattle.std.proofs.Common.{◌≡◌, ◌∙◌, ℕ, ◌+◌, ◌-◌, ◌*◌, ◌<◌, ◌≤◌, Some, sym, ap, subst, arith, slice_get}
+use Rattle.std.proofs.Common.{◌≡◌, ◌∙◌, ℕ, ◌+◌, ◌-◌, ◌*◌, ◌<◌, ◌≤◌, List, Some, sym, ap, subst, arith, slice_get}
 use Rattle.std.specs.Prelude.{min}
 use Rattle.ddf_bay.specs.State.{BayState}
 use Rattle.ddf_bay.specs.Moments.{StopsLeave}
@@ -10,11 +10,12 @@ use Rattle.ddf_array.specs.declared.place.Place.{Place}
 use Rattle.ddf_array.specs.Volume.{Volume}
 use Rattle.ddf_volume.specs.Reading.{NoneLeft}
 use Rattle.ddf_cells.specs.CellSources.{cell_sources, needed_positions, wanted}
+use Rattle.ddf_cells.specs.GivenCells.{IsWantedGiven}
 use Rattle.ddf_cells.specs.Writing.{AddsBut, AsksFor, IsAmongSectors, IsLeftBut, StaysBut}
 use Rattle.ddf_cells.proofs.Writes.{adds_wider, asks_start, asks_then, stays_wider, stops_wider}
 use Rattle.ddf_rebuild.specs.declared.aim.Aim.{Aim}
-use Rattle.ddf_rebuild.specs.Rebuilding.{HasRebuilt, NoneLeftInRows, sectors_of}
-use Rattle.ddf_rebuild.specs.Sectors.{AreRebuilt, NoneLeftIn}
+use Rattle.ddf_rebuild.specs.Rebuilding.{HasGiven, HasRebuilt, NoneLeftInRows, sectors_of}
+use Rattle.ddf_rebuild.specs.Sectors.{AreGiven, AreRebuilt, NoneLeftIn}
 use Rattle.ddf_rebuild.specs.Target.{IsAim, IsInRows, IsTarget, IsTargetCell, IsTargetSlot}
 use Rattle.ddf_rebuild.proofs.Aiming.{same_target}
 
@@ -77,6 +78,17 @@ module _ (v : Volume) (aim : Aim) (aims : IsAim v aim) (own : Part) (own_is : ow
       let here = all part (ap (slice_get v.parts) element_is ∙ target.is_part) sector (omega (arith, rows'.from_is, first_is)) (omega (arith, rows'.to_is, rows'.below, end_is)) in
       ap (λ n. image n (place.start + sector)) slot_is ∙ ap (image aim.slot) start ∙ same (aim.start + sector) ∙ here
       ∙ ap (λ n. wanted v before n part sector aim.position) element_is ∙ ap (wanted v before element part sector) position_is
+
+  pub rows_given : (failed : ℕ → Type 0) (before now : Image) → AreGiven failed v aim first end before now → HasGiven failed v element position from to before now
+  rows_given failed before now all part place slot sector target rows =
+      let looked = same_target v element position aims.part part aims.place place target_is.is_part target.is_part target_is.is_place target.is_place in
+      let slot_is : slot ≡ aim.slot = slots_are slot aim.slot (sym target.is_there ∙ ap (λ (p : Place). p.slot) (sym looked.1) ∙ aims.is_target.is_there) in
+      let start : place.start + sector ≡ aim.start + sector = ap (λ (p : Place). p.start + sector) (sym looked.1) ∙ ap (λ n. n + sector) aims.start_is in
+      let rows' : IsInRows aims.part.shape from to sector = subst (λ (p : Part). IsInRows p.shape from to sector) (sym looked.0) rows in
+      let here = all part (ap (slice_get v.parts) element_is ∙ target.is_part) sector (omega (arith, rows'.from_is, first_is)) (omega (arith, rows'.to_is, rows'.below, end_is)) in
+      subst (λ (bytes : List ℕ). IsWantedGiven failed v before element part sector position bytes) (sym (ap (λ n. now n (place.start + sector)) slot_is ∙ ap (now aim.slot) start))
+      (subst (λ n. IsWantedGiven failed v before element part sector n (now aim.slot (aim.start + sector))) position_is
+      (subst (λ n. IsWantedGiven failed v before n part sector aim.position (now aim.slot (aim.start + sector))) element_is here))
 
   pub rows_left : (failed : ℕ → Type 0) (slot : ℕ) → NoneLeftIn failed v aim first end slot → NoneLeftInRows failed v element position from to slot
   rows_left failed slot left =

@@ -1,5 +1,5 @@
 -- The target's sectors, piece by piece.
-use Rattle.std.proofs.Common.{◌≡◌, ◌∙◌, inl, inr, ⊎_elim, ℕ, ◌+◌, ◌-◌, ◌<◌, ◌≤◌, Some, sym, subst, arith, slice_get}
+use Rattle.std.proofs.Common.{◌≡◌, ◌∙◌, inl, inr, ⊎_elim, ℕ, ◌+◌, ◌-◌, ◌<◌, ◌≤◌, List, Some, sym, subst, arith, slice_get}
 use Rattle.std.proofs.lemmas.Bool.{cases_lt}
 use Rattle.ddf_bytes.specs.Counts.{Rose}
 use Rattle.ddf_bay.specs.Sectors.{Image}
@@ -13,10 +13,12 @@ use Rattle.ddf_volume.specs.Reading.{Failed}
 use Rattle.ddf_volume.proofs.Tries.{NotRead-wider, Within}
 use Rattle.ddf_cells.specs.Alike.{AreAlike}
 use Rattle.ddf_cells.specs.CellSources.{IsSure, NoneLeftFor, cell_sources, wanted}
+use Rattle.ddf_cells.specs.GivenCells.{IsWantedGiven}
 use Rattle.ddf_cells.specs.Writing.{AsksFor, IsAmongSectors, StaysBut}
 use Rattle.ddf_cells.proofs.Alike.{copy_is_cell, depth_below, redundant_same, wanted_same}
+use Rattle.ddf_cells.proofs.GivenSteps.{wanted_given_same, wanted_wider}
 use Rattle.ddf_rebuild.specs.declared.aim.Aim.{Aim}
-use Rattle.ddf_rebuild.specs.Sectors.{AreRebuilt, NoneLeftIn}
+use Rattle.ddf_rebuild.specs.Sectors.{AreGiven, AreRebuilt, NoneLeftIn}
 
 -- ---- counts that rise
 
@@ -24,7 +26,7 @@ module _ {D : Type 0} {a b c : BayState D} {n m : ℕ} (one : AsksFor a b n) (ne
   pub failed_later : Within (Failed b c) (Failed a c)
   failed_later slot rose = rose_since (a.failed_reads slot) (b.failed_reads slot) (c.failed_reads slot) (one.reads_rise slot) rose
 
-  failed_earlier : Within (Failed a b) (Failed a c)
+  pub failed_earlier : Within (Failed a b) (Failed a c)
   failed_earlier slot rose = rose_then (a.failed_reads slot) (b.failed_reads slot) (c.failed_reads slot) (one.reads_rise slot) rose (next.reads_rise slot)
 
   pub written_later : (slot : ℕ) → Rose (b.failed_writes slot) (c.failed_writes slot) → Rose (a.failed_writes slot) (c.failed_writes slot)
@@ -43,6 +45,10 @@ module _ {D : Type 0} {a b c : BayState D} {n m : ℕ} (one : AsksFor a b n) (ne
         λ block j k one other at at'.
             sym (alike one.slot one.lba (copy_is_cell v known block j one at)) ∙ is.1 block j k one other at at' ∙ alike other.slot other.lba (copy_is_cell v known block k other at'),
       ))
+
+-- calls behind them of which no read failed
+pub failed_still : {D : Type 0} (a b c : BayState D) → c.failed_reads ≡ b.failed_reads → Within (Failed a b) (Failed a c)
+failed_still a b c same slot rose = subst (λ (counts : ℕ → ℕ). Rose (a.failed_reads slot) (counts slot)) (sym same) rose
 
 -- ---- one piece more
 
@@ -64,6 +70,29 @@ module _ (v : Volume) (known : IsVolume v) (aim : Aim) where
       let inside : s < depth_of part.shape = omega (arith, deep part part_at, below) in
       subst (λ n. new aim.slot (aim.start + n) ≡ wanted v now aim.element part n aim.position) same (here part part_at (s - sector) (omega arith))
       ∙ sym (wanted_same v known before now alike aim.element part part_at s aim.position (depth_below v known part s inside)))
+      (cases_lt s sector)
+
+  pub given_more : {P Q R : ℕ → Type 0} → Within P R → Within Q R → (from sector count : ℕ) (before now new : Image) → AreAlike v before now
+      → ((part : Part) → slice_get v.parts aim.element ≡ Some part → sector + count ≤ depth_of part.shape)
+      → StaysBut (IsAmongSectors aim.slot (aim.start + sector) count) now new
+      → AreGiven P v aim from sector before now
+      → ((part : Part) → slice_get v.parts aim.element ≡ Some part → (k : ℕ) → k < count → IsWantedGiven Q v now aim.element part (sector + k) aim.position (new aim.slot (aim.start + (sector + k))))
+      → AreGiven R v aim from (sector + count) before new
+  given_more {Q = Q} {R = R} first last from sector count before now new alike deep stays so_far here part part_at s from_is below =
+      ⊎_elim
+      (λ (earlier : s < sector).
+      ⊎_elim
+      (λ same.
+      subst (λ (bytes : List ℕ). IsWantedGiven R v before aim.element part s aim.position bytes) (sym same)
+      (wanted_wider first v before aim.element part s aim.position (now aim.slot (aim.start + s)) (so_far part part_at s from_is earlier)))
+      (λ (among : IsAmongSectors aim.slot (aim.start + sector) count aim.slot (aim.start + s)). absurd (omega (arith, among.from, earlier)))
+      (stays aim.slot (aim.start + s)))
+      (λ (later : sector ≤ s).
+      let same : sector + (s - sector) ≡ s = omega arith in
+      let inside : s < depth_of part.shape = omega (arith, deep part part_at, below) in
+      wanted_given_same R v known now before (λ slot lba is. sym (alike slot lba is)) aim.element part part_at s (depth_below v known part s inside) aim.position (new aim.slot (aim.start + s))
+      (wanted_wider last v now aim.element part s aim.position (new aim.slot (aim.start + s))
+      (subst (λ n. IsWantedGiven Q v now aim.element part n aim.position (new aim.slot (aim.start + n))) same (here part part_at (s - sector) (omega arith)))))
       (cases_lt s sector)
 
 -- sectors of a piece are sectors of the whole

@@ -14,6 +14,7 @@ use Rattle.ddf_volume.specs.declared.fault.VolumeFault.{VolumeFault}
 use Rattle.ddf_volume.specs.declared.fault.VolumeFault.TheVariants.{Range, Degraded, Lost, Unsure, Disk}
 use Rattle.ddf_volume.specs.Reading.{Failed, NoneLeft}
 use Rattle.ddf_cells.specs.CellSources.{cell_sources, needed_positions, wanted}
+use Rattle.ddf_cells.specs.GivenCells.{IsWantedGiven}
 use Rattle.ddf_rebuild.specs.Target.{IsInRows, IsTarget, IsTargetSlot}
 
 -- The target's sectors at these rows hold what they should by an image: the values of their cells, and the sums of rows
@@ -22,6 +23,13 @@ abbrev pub HasRebuilt : Volume → (element position from to : ℕ) → (before 
 HasRebuilt volume element position from to before image =
     (part : Part) (place : Place) (slot sector : ℕ) → IsTarget volume element position part place slot → IsInRows part.shape from to sector
     → image slot (place.start + sector) ≡ wanted volume before element part sector position
+
+-- The target's sectors at these rows hold what was read for them, by an image: the bytes of a source of their cells, and sums of such bytes where the position
+-- holds parity. Each source before that one has a slot of which a read failed.
+abbrev pub HasGiven : (failed : ℕ → Type 0) → Volume → (element position from to : ℕ) → (before image : Image) → Type 0
+HasGiven failed volume element position from to before image =
+    (part : Part) (place : Place) (slot sector : ℕ) → IsTarget volume element position part place slot → IsInRows part.shape from to sector
+    → IsWantedGiven failed volume before element part sector position (image slot (place.start + sector))
 
 -- no source is left at a slot for what the target should hold at a sector of these rows
 pub record NoneLeftInRows (failed : ℕ → Type 0) (volume : Volume) (element position from to slot : ℕ) : Type 0 where

@@ -5,6 +5,7 @@ use Rattle.ddf_array.specs.declared.part.Part.{Part}
 use Rattle.ddf_array.specs.Volume.{Volume}
 use Rattle.ddf_volume.specs.Reading.{NoneLeft}
 use Rattle.ddf_cells.specs.CellSources.{cell_sources, needed_positions, wanted}
+use Rattle.ddf_cells.specs.GivenCells.{IsWantedGiven}
 use Rattle.ddf_rebuild.specs.declared.aim.Aim.{Aim}
 
 -- each of them holds what it should
@@ -12,6 +13,12 @@ abbrev pub AreRebuilt : Volume → Aim → (from end : ℕ) → (before image : 
 AreRebuilt volume aim from end before image =
     (part : Part) → slice_get volume.parts aim.element ≡ Some part → (sector : ℕ) → from ≤ sector → sector < end
     → image aim.slot (aim.start + sector) ≡ wanted volume before aim.element part sector aim.position
+
+-- each of them holds what was read for it
+abbrev pub AreGiven : (failed : ℕ → Type 0) → Volume → Aim → (from end : ℕ) → (before image : Image) → Type 0
+AreGiven failed volume aim from end before image =
+    (part : Part) → slice_get volume.parts aim.element ≡ Some part → (sector : ℕ) → from ≤ sector → sector < end
+    → IsWantedGiven failed volume before aim.element part sector aim.position (image aim.slot (aim.start + sector))
 
 -- no source is left at a slot for what the target should hold at one of them
 pub record NoneLeftIn (failed : ℕ → Type 0) (volume : Volume) (aim : Aim) (from end slot : ℕ) : Type 0 where

@@ -9,6 +9,7 @@ ghost use Rattle.ddf_array.specs.Sound.{AreSectors};
 ghost use Rattle.ddf_array.specs.Volume.{Fits, IsPart, IsVolume};
 ghost use Rattle.ddf_volume.specs.Reading.{Failed};
 ghost use Rattle.ddf_cells.specs.CellSources.{IsInOneRow, IsReadable, IsSure, NoneLeftFor, wanted};
+ghost use Rattle.ddf_cells.specs.GivenCells.{IsWantedGiven};
 ghost use Rattle.ddf_cells.specs.Writing.{AddsBut, AsksFor, IsAmongSectors, IsLeftBut, StaysBut};
 ghost use Rattle.ddf_rebuild.specs.Target.{IsAim};
 
@@ -36,6 +37,8 @@ pub(crate) fn rebuild_piece<B: Bay>(
     requires row { (part : Part) → slice_get view.now.parts aim.element ≡ Some part → IsInOneRow part sector count }
     ensures written { B.tells → OnOk result (IsSure view.now (B.disks bay.old) (B.disks bay.new) → (part : Part) → slice_get view.now.parts aim.element ≡ Some part → (k : ℕ) → k < count
         → (B.disks bay.new).held aim.slot (aim.start + (sector + k)) ≡ wanted view.now (B.disks bay.old).held aim.element part (sector + k) aim.position) }
+    ensures given { B.tells → OnOk result ((part : Part) → slice_get view.now.parts aim.element ≡ Some part → (k : ℕ) → k < count
+        → IsWantedGiven (Failed (B.disks bay.old) (B.disks bay.new)) view.now (B.disks bay.old).held aim.element part (sector + k) aim.position ((B.disks bay.new).held aim.slot (aim.start + (sector + k)))) }
     ensures whole { B.tells → OnOk result (AreSectors (B.disks bay.old).held → AreSectors (B.disks bay.new).held) }
     ensures held { B.tells → StaysBut (IsAmongSectors aim.slot (aim.start + sector) count) (B.disks bay.old).held (B.disks bay.new).held }
     ensures left { AddsBut (IsAmongSectors aim.slot (aim.start + sector) count) (B.disks bay.old).may_hold (B.disks bay.new).may_hold }

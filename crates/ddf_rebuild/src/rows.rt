@@ -13,8 +13,8 @@ ghost use Rattle.ddf_array.specs.Within.{is_within};
 ghost use Rattle.ddf_volume.specs.Reading.{Failed};
 ghost use Rattle.ddf_cells.specs.CellSources.{IsReadable, IsSure, wanted};
 ghost use Rattle.ddf_cells.specs.Writing.{AddsBut, AsksFor, IsAmongSectors, IsLeftBut, StaysBut};
-ghost use Rattle.ddf_rebuild.specs.Rebuilding.{HasRebuilt, IsRebuildFault, sectors_of};
-ghost use Rattle.ddf_rebuild.specs.Sectors.{NoneLeftIn, AreRebuilt};
+ghost use Rattle.ddf_rebuild.specs.Rebuilding.{HasGiven, HasRebuilt, IsRebuildFault, sectors_of};
+ghost use Rattle.ddf_rebuild.specs.Sectors.{AreGiven, AreRebuilt, NoneLeftIn};
 ghost use Rattle.ddf_rebuild.specs.Target.{IsAim, IsOut, IsTarget, IsTargetCell, row_count};
 
 use crate::aim::Aim;
@@ -43,6 +43,7 @@ fn rebuild_sectors<B: Bay>(
     requires sectors { (part : Part) → slice_get view.now.parts aim.element ≡ Some part → end ≤ depth_of part.shape }
     ensures rebuilt { B.tells → OnOk result (IsSure view.now (B.disks bay.old) (B.disks bay.new)
         → AreRebuilt view.now aim from end (B.disks bay.old).held (B.disks bay.new).held) }
+    ensures given { B.tells → OnOk result (AreGiven (Failed (B.disks bay.old) (B.disks bay.new)) view.now aim from end (B.disks bay.old).held (B.disks bay.new).held) }
     ensures held { B.tells → StaysBut (IsAmongSectors aim.slot (aim.start + from) (end - from)) (B.disks bay.old).held (B.disks bay.new).held }
     ensures left { AddsBut (IsAmongSectors aim.slot (aim.start + from) (end - from)) (B.disks bay.old).may_hold (B.disks bay.new).may_hold }
     ensures any_moment { StopsLeave (B.disks bay.old) (B.disks bay.new) (IsLeftBut (IsAmongSectors aim.slot (aim.start + from) (end - from)) (B.disks bay.old).may_hold) }
@@ -78,6 +79,7 @@ fn rebuild_surely<B: Bay>(
     requires sectors { (part : Part) → slice_get view.now.parts aim.element ≡ Some part → end ≤ depth_of part.shape }
     ensures rebuilt { B.tells → OnOk result (IsSure view.now (B.disks bay.old) (B.disks bay.new)
         → AreRebuilt view.now aim from end (B.disks bay.old).held (B.disks bay.new).held) }
+    ensures given { B.tells → OnOk result (AreGiven (Failed (B.disks bay.old) (B.disks bay.new)) view.now aim from end (B.disks bay.old).held (B.disks bay.new).held) }
     ensures durable { OnOk result (IsSettled (B.disks bay.new).may_hold (B.disks bay.new).held aim.slot) }
     ensures held { B.tells → StaysBut (IsAmongSectors aim.slot (aim.start + from) (end - from)) (B.disks bay.old).held (B.disks bay.new).held }
     ensures left { AddsBut (IsAmongSectors aim.slot (aim.start + from) (end - from)) (B.disks bay.old).may_hold (B.disks bay.new).may_hold }
@@ -141,8 +143,10 @@ fn sectors_between(part: &Part, from: u64, to: u64) -> (u64, u64)
 /// Writes what a position that is out of sync should hold, in the rows from one on up to another, and makes it sure: the
 /// values of blocks, and the exclusive-or of the values of a row's data cells where the position holds parity. A cell that
 /// holds no block gets what the others of its row give where the element keeps parity and these are available, else zeros
-/// (profile). A row is one of strips of the element, and a last part strip is a row of its own. Nothing else is written, and
-/// the position stays out of sync: what it holds counts only once the configuration says so.
+/// (profile). Where reads fail, a cell is taken from the first of its sources that can be read: each source before that one
+/// has a slot of which a read failed in this call. A row is one of strips of the element, and a last part strip is a row of
+/// its own. Nothing else is written, and the position stays out of sync: what it holds counts only once the configuration
+/// says so.
 ///
 /// # Errors
 /// `Lost` where the array isn't within its level, and then nothing is read or written. `Disk` where a write or the sync of
@@ -172,6 +176,7 @@ pub fn rebuild_rows<B: Bay>(
         → HasRebuilt view.now target.now.element target.now.position from to (B.disks bay.old).held (B.disks bay.new).held) }
     ensures rebuilt { B.tells → OnOk result (IsSure view.now (B.disks bay.old) (B.disks bay.new) → (image : Image) → IsLeft (B.disks bay.new).may_hold image
         → HasRebuilt view.now target.now.element target.now.position from to (B.disks bay.old).held image) }
+    ensures given { B.tells → OnOk result (HasGiven (Failed (B.disks bay.old) (B.disks bay.new)) view.now target.now.element target.now.position from to (B.disks bay.old).held (B.disks bay.new).held) }
     ensures durable { OnOk result ((part : Part) (place : Place) (slot : ℕ) → IsTarget view.now target.now.element target.now.position part place slot
         → IsSettled (B.disks bay.new).may_hold (B.disks bay.new).held slot) }
     ensures settled { B.tells → OnOk result ((slot : ℕ) → IsSettled (B.disks bay.old).may_hold (B.disks bay.old).held slot → IsSettled (B.disks bay.new).may_hold (B.disks bay.new).held slot) }

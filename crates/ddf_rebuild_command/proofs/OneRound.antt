@@ -1,5 +1,5 @@
 -- One round of a rebuild, by what the calls promise that fill its rows and write its step.
-use Rattle.std.proofs.Common.{◌≡◌, ℕ, ◌<◌, ◌≤◌, Bool, true, false, List, [], ◌∷◌, Option, if◌then◌else◌, refl, sym, ap, subst, ◌∙◌, inl, inr, ⊎_elim, arith}
+use Rattle.std.proofs.Common.{◌≡◌, ℕ, ◌+◌, ◌<◌, ◌≤◌, Bool, true, false, List, [], ◌∷◌, Option, if◌then◌else◌, refl, sym, ap, subst, ◌∙◌, inl, inr, ⊎_elim, arith}
 use Rattle.std.proofs.lemmas.Bool.{false≢true}
 use Rattle.ddf_bay.specs.Moments.{StopsLeave}
 use Rattle.ddf_bay.specs.Sectors.{Image}
@@ -7,9 +7,10 @@ use Rattle.ddf_bay.specs.State.{BayState}
 use Rattle.ddf_bay.proofs.Steps.{stops_then, stops_weaken}
 use Rattle.ddf_array.specs.Volume.{Volume}
 use Rattle.ddf_cells.specs.CellSources as cells
+use Rattle.ddf_cells.proofs.GivenSteps.{wanted_wider}
 use Rattle.ddf_cells.specs.Touching.{GoesBetween}
 use Rattle.ddf_cells.specs.Writing.{AddsBut, IsLeftBut, StaysBut}
-use Rattle.ddf_rebuild.specs.Rebuilding.{HasRebuilt, IsRebuildFault}
+use Rattle.ddf_rebuild.specs.Rebuilding.{HasGiven, HasRebuilt, IsRebuildFault}
 use Rattle.ddf_rebuild.specs.Target.{IsTargetCell}
 use Rattle.ddf_repair.specs.declared.first.Target.{Target}
 use Rattle.ddf_volume.specs.declared.fault.VolumeFault.{VolumeFault}
@@ -58,6 +59,7 @@ pub record FillsRows {D : Type 0} (tells : Type 0) (old new : BayState D) (volum
   pub held : tells → StaysBut (IsTargetCell volume target.element target.position from row) old.held new.held
   pub stays : tells → done ≡ true → StaySettled old new
   pub rebuilt : tells → done ≡ true → cells.IsSure volume old new → HasRebuilt volume target.element target.position from row old.held new.held
+  pub was_given : tells → done ≡ true → HasGiven (Failed old new) volume target.element target.position from row old.held new.held
 
 pub stops_both : {D : Type 0} (old new : BayState D) (P Q : Image → Type 0) → StopsLeave old new P → StopsLeave old new Q → StopsLeave old new (λ image. P image × Q image)
 stops_both old new P Q one other = record {
@@ -180,6 +182,8 @@ module _ {D : Type 0} (tells : Type 0) (old middle : BayState D) (volume : Volum
       is_filled : tells → IsFilled (Failed old new) new.tells_left volume target from row old.held middle.held
       is_filled told = record {
         rebuilt = λ sure. rows.rebuilt told is_so (sure_by sure);
+        was_given = λ part place slot sector at below.
+            wanted_wider to_new volume old.held target.element part sector target.position (middle.held slot (place.start + sector)) (rows.was_given told is_so part place slot sector at below);
         stays = rows.held told;
         are_sectors = λ left_told s l. (tells_old.whole s l (old.held s l) (tells_old.held (rows.told (next.told left_told)) s l)).size;
       }

@@ -1,5 +1,5 @@
 -- What is said of rounds stays so where more reads failed, and where more might be left before.
-use Rattle.std.proofs.Common.{◌≡◌, ℕ, ◌*◌, ◌≤◌, Bool, true, false, List, [], ◌∷◌, take, refl, subst, inl, inr, ⊎_elim, arith}
+use Rattle.std.proofs.Common.{◌≡◌, ℕ, ◌+◌, ◌*◌, ◌≤◌, Bool, true, false, List, [], ◌∷◌, take, refl, subst, inl, inr, ⊎_elim, arith}
 use Rattle.std.proofs.Math.Nat.{mul-le-mul_right}
 use Rattle.std.proofs.Math.Path.{fun_ext}
 use Rattle.std.proofs.lemmas.Option.{slice_get_within}
@@ -14,6 +14,7 @@ use Rattle.ddf_repair.specs.declared.first.Target.{Target}
 use Rattle.ddf_rewrite.proofs.Lists.{map_get}
 use Rattle.ddf_volume.proofs.Tries.{NotRead-wider}
 use Rattle.ddf_cells.specs.CellSources.{cell_sources}
+use Rattle.ddf_cells.proofs.GivenSteps.{wanted_wider}
 use Rattle.ddf_assembly.specs.Committed.{HoldsGroup, slots_of}
 use Rattle.ddf_assembly.specs.Group.{GroupValue}
 use Rattle.ddf_stops.specs.Kept.{is_slot}
@@ -34,7 +35,13 @@ module _ (P Q : ℕ → Type 0) (more : (slot : ℕ) → P slot → Q slot) (ear
   sure_less image (inr redundant) = inr redundant
 
   pub filled_more : (from to : ℕ) (before after : Image) → IsFilled P early volume target from to before after → IsFilled Q late volume target from to before after
-  filled_more from to before after is = record { rebuilt = λ sure. is.rebuilt (sure_less before sure); stays = is.stays; are_sectors = λ told. is.are_sectors (back told) }
+  filled_more from to before after is = record {
+    rebuilt = λ sure. is.rebuilt (sure_less before sure);
+    was_given = λ part place slot sector at rows.
+        wanted_wider more volume before target.element part sector target.position (after slot (place.start + sector)) (is.was_given part place slot sector at rows);
+    stays = is.stays;
+    are_sectors = λ told. is.are_sectors (back told);
+  }
 
   pub rounds_more : (sizes : List ℕ) (from : ℕ) (before : Image) (rounds : List Round) (after : Image) → AreRounds P early sizes volume target from before rounds after
       → AreRounds Q late sizes volume target from before rounds after

@@ -6,7 +6,7 @@ use Rattle.ddf_array.specs.Sound.{AreSectors}
 use Rattle.ddf_array.specs.Volume.{Volume}
 use Rattle.ddf_volume.specs.Reading.{IsOn}
 use Rattle.ddf_cells.specs.Writing.{StaysBut}
-use Rattle.ddf_rebuild.specs.Rebuilding.{HasRebuilt}
+use Rattle.ddf_rebuild.specs.Rebuilding.{HasGiven, HasRebuilt}
 use Rattle.ddf_rebuild.specs.Target.{IsTargetCell}
 use Rattle.ddf_repair.specs.declared.first.Target.{Target}
 use Rattle.ddf_assembly.specs.Steps.{Step}
@@ -34,10 +34,12 @@ row_before from (round ∷ rounds) (suc number) = row_before round.row rounds nu
 abbrev pub IsSure : (failed : ℕ → Type 0) → Volume → Image → Type 0
 IsSure failed volume image = ((slot : ℕ) → IsOn volume slot → failed slot → ⊥) ⊎ (AreSectors image × IsRedundant volume image)
 
--- The position's sectors at these rows hold what they should by an image, where what is read of it is sure, and nothing else is another one than in it. The sectors of that
--- image have 512 bytes, where the bay still tells what a stop may leave.
+-- The position's sectors at these rows hold what was read for them by an image: of each cell the bytes of a source, behind others with a slot of which a read failed. Where
+-- what is read of it is sure these are what they should hold. Nothing else is another one than in it. The sectors of that image have 512 bytes, where the bay still tells what a
+-- stop may leave.
 pub record IsFilled (failed : ℕ → Type 0) (told : Type 0) (volume : Volume) (target : Target) (from to : ℕ) (before after : Image) : Type 0 where
   pub rebuilt : IsSure failed volume before → HasRebuilt volume target.element target.position from to before after
+  pub was_given : HasGiven failed volume target.element target.position from to before after
   pub stays : StaysBut (IsTargetCell volume target.element target.position from to) before after
   pub are_sectors : told → AreSectors before
 

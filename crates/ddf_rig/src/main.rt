@@ -1,31 +1,10 @@
 //! Plays written scenarios: calls of `ddf` over disks in memory, and tells where one is answered otherwise than is written.
 #![tactic(auto)]
 
-mod answer;
-mod call;
-mod compare;
-mod disks;
-mod edit;
-mod input;
-mod lines;
-mod numbers;
-mod outcomes;
-mod placing;
-mod play;
-mod report;
-mod row;
-mod run;
-mod script;
-mod stop;
-mod sweep;
-mod tiers;
-mod told;
-mod variables;
-mod vectors;
-mod words;
+mod ddf;
 
-use crate::play::play;
-use crate::script::steps_of;
+use crate::ddf::Ddf;
+use ddf_scenario::{play, steps_of};
 use std::process::ExitCode;
 use std::rt::{Env, Files};
 use std::{env, fs};
@@ -48,7 +27,7 @@ fn play_all<R: Files + Env + Print + AllocGlobal>(rt: &R) -> anyhow::Result<bool
     let mut is_well = true;
     for path in env::args(rt)?.skip(1) {
         let text = fs::read_to_string(rt, path.as_str())?;
-        let report = play(alloc, steps_of(alloc, text.as_str())?.as_slice())?;
+        let report = play(alloc, &Ddf, steps_of(alloc, text.as_str())?.as_slice())?;
         println!(rt;
             "{path}: {} steps, {} otherwise",
             report.steps, report.wrong

@@ -93,7 +93,7 @@ pub has_its_reference : (slots : List GroupShown) (reference slot : ℕ) (view :
 has_its_reference slots reference slot view is has = eqb-true view.reference reference (rw is at has)
 
 -- A listed reference is among them.
-listed_among : (references : List ℕ) (place reference : ℕ) → slice_get references place ≡ Some reference → is_among references reference ≡ true
+pub listed_among : (references : List ℕ) (place reference : ℕ) → slice_get references place ≡ Some reference → is_among references reference ≡ true
 listed_among [] place reference at = absurd cc
 listed_among (one ∷ references) zero reference at =
     let same : one ≡ reference = cc in
@@ -102,13 +102,13 @@ listed_among (one ∷ references) (suc place) reference at =
     or_right (nat_eq reference one) (list_any (nat_eq reference) references) (listed_among references place reference at)
 
 -- Where an item passes a test, some does.
-any_there : {X : Type 0} (test : X → Bool) (xs : List X) (place : ℕ) (x : X) → slice_get xs place ≡ Some x → test x ≡ true → list_any test xs ≡ true
+pub any_there : {X : Type 0} (test : X → Bool) (xs : List X) (place : ℕ) (x : X) → slice_get xs place ≡ Some x → test x ≡ true → list_any test xs ≡ true
 any_there test [] place x at is = absurd cc
 any_there test (first ∷ xs) zero x at is = let same : first ≡ x = cc in or_left (test first) (list_any test xs) (ap test same ∙ is)
 any_there test (first ∷ xs) (suc place) x at is = or_right (test first) (list_any test xs) (any_there test xs place x at is)
 
 -- No seat has a reference that is absent.
-absent_none : (slots : List GroupShown) (seats : List ℕ) (reference : ℕ) (members : List (ℕ × Member)) → is_among (absent slots seats members) reference ≡ true
+pub absent_none : (slots : List GroupShown) (seats : List ℕ) (reference : ℕ) (members : List (ℕ × Member)) → is_among (absent slots seats members) reference ≡ true
     → list_any (has_reference slots reference) seats ≡ false
 absent_none slots seats reference [] among = absurd (false≢true among)
 absent_none slots seats reference (entry ∷ members) among = go (absent_none slots seats reference members) (is_absent slots seats entry) refl among

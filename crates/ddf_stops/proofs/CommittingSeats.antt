@@ -43,6 +43,11 @@ no_copy = new_copy R200 (record { seconds = 0; salt = 0 }) [] 0
 pub copy_in : List (Option Newest) → ℕ → DiskCopy
 copy_in newest slot = unwrap_or (copy_at newest slot) no_copy
 
+-- Where one does it is that.
+pub copy_found : (newest : List (Option Newest)) (slot : ℕ) (copy : DiskCopy) → copy_at newest slot ≡ Some copy → copy_in newest slot ≡ copy
+unfolding copy_in
+copy_found newest slot copy is = ap (λ (one : Option DiskCopy). unwrap_or one no_copy) is
+
 -- In a settled group it is that of the disk.
 pub copy_is : (found : GroupValue) → IsSettledGroup found → (place : ℕ) (disk : Seated) → slice_get (seated found) place ≡ Some disk
     → copy_in found.newest disk.seat.slot ≡ disk.copy

@@ -1,6 +1,6 @@
 -- A change of a group that stands at the end of its history: whatever a stop leaves shows what it should, and behind it the change is acknowledged.
 use Rattle.std.proofs.Common.{◌≡◌, ℕ, ◌<◌, ◌^◌, Bool, true, false, not, ◌&&◌, nat_eq, eqb, List, [], ◌∷◌, length, Some, None, refl, ap, sym, ◌∙◌, inl, inr, subst, if◌then◌else◌}
-use Rattle.std.proofs.lemmas.Bool.{and_parts, eq-eqb, eqb-true, false≢true}
+use Rattle.std.proofs.lemmas.Bool.{and_parts}
 use Rattle.std.proofs.Math.Path.{fun_ext}
 use Rattle.std.specs.Prelude.{slice_get}
 use Rattle.std.specs.Map.{lookup}
@@ -46,24 +46,15 @@ use Rattle.ddf_stops.proofs.Changing.{change_acknowledged, change_joins_last, ch
 use Rattle.ddf_stops.proofs.ChangingCopies.{changed_views}
 use Rattle.ddf_stops.proofs.CommittingScenes.{seat_shows}
 use Rattle.ddf_stops.proofs.CommittingSeats.{IsWritten, can_change, copy_in, copy_is, is_written, new_is_copy, renewed, stays_written}
+use Rattle.ddf_stops.proofs.JoinMembers.{either_way}
 use Rattle.ddf_stops.proofs.Slots.{slot_placed}
 use Rattle.ddf_stops.proofs.StepMembers.{AreMembers, after_members, stays_member}
 use Rattle.ddf_stops.proofs.Stops.{unwritten_here}
 
 -- ---- lists
 
--- Numbers are equal either way.
-either_way : (one other : ℕ) → nat_eq one other ≡ eqb other one
-either_way one other = go (nat_eq one other) refl (eqb other one) refl
-  where
-    go : (here : Bool) → nat_eq one other ≡ here → (there : Bool) → eqb other one ≡ there → nat_eq one other ≡ eqb other one
-    go true h true t = h ∙ sym t
-    go false h false t = h ∙ sym t
-    go true h false t = absurd (false≢true (sym t ∙ eq-eqb other one (sym (eqb-true one other h))))
-    go false h true t = absurd (false≢true (sym h ∙ eq-eqb one other (sym (eqb-true other one t))))
-
 -- The reference of a current member is current.
-current_listed : (config : Configuration) (disk : Disk) → has_current config disk ≡ true → is_current config.members disk.reference ≡ true
+pub current_listed : (config : Configuration) (disk : Disk) → has_current config disk ≡ true → is_current config.members disk.reference ≡ true
 current_listed config disk is =
     let is_here = λ (member : Member). bytes_eq member.guid disk.guid && not member.missing in
     let there = value_there is_here (lookup (λ reference. eqb reference disk.reference) config.members) is in

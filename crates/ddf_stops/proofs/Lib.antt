@@ -65,3 +65,14 @@ pub mod LastStep
 pub mod LeftMissing
 pub mod MembersKept
 pub mod FoundedMember
+pub mod JoinMembers
+pub mod TheoryJoin
+pub mod JoinTries
+pub mod JoinSeats
+pub mod JoinScenes
+pub mod JoinStep
+pub mod JoinKeeps
+pub mod JoinBrings
+pub mod JoinTaken
+pub mod JoinCalling
+pub mod JoinForeign

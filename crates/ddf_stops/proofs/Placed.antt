@@ -1,5 +1,5 @@
 -- A disk keeps its floor while it gets a copy of the same floor.
-use Rattle.std.proofs.Common.{◌≡◌, ◌⊎◌, ◌∙◌, ℕ, ◌<◌, ◌≤◌, if◌then◌else◌, List, Some, Result, Ok, length, ap, refl, sym, subst, inl, inr, ⊎_elim, arith, min}
+use Rattle.std.proofs.Common.{◌≡◌, ◌∙◌, ℕ, ◌<◌, ◌≤◌, if◌then◌else◌, List, Some, Result, Ok, length, ap, refl, sym, subst, inl, inr, ⊎_elim, arith, min}
 use Rattle.std.proofs.lemmas.Bool.{cases_lt}
 use Rattle.std.proofs.Math.Path.{fun_ext}
 use Rattle.std.specs.Prelude.{slice_get}

@@ -1,5 +1,5 @@
 -- `recover` by itself keeps a history that admits it, and the group stands at the end of the history behind it.
-use Rattle.std.proofs.Common.{◌≡◌, ◌⊎◌, ℕ, zero, suc, ◌+◌, Bool, true, false, List, [], ◌∷◌, length, Option, Some, Result, Ok, Err, refl, ap, sym, ◌∙◌, subst, inl, inr, append-nil, arith, zero-add}
+use Rattle.std.proofs.Common.{◌≡◌, ◌⊎◌, ℕ, zero, suc, ◌+◌, Bool, true, false, List, [], ◌∷◌, ◌++◌, length, Option, Some, Result, Ok, Err, refl, ap, sym, ◌∙◌, subst, inl, inr, append-nil, arith, zero-add}
 use Rattle.std.specs.Prelude.{slice_get}
 use Rattle.ddf_header.specs.declared.reading.Header.{Header}
 use Rattle.ddf_bay.specs.Moments.{StopsLeave}
@@ -30,7 +30,7 @@ use Rattle.ddf_stops.specs.Going.{Goes, IsAdmitted, IsOver, IsUnderway, KeepsHis
 use Rattle.ddf_stops.specs.Kept.{AreAllKept, ReadsTrue, is_read}
 use Rattle.ddf_stops.specs.Steps.{IsRecovery, StandsReady, WasTaken, behind_recovery, recovery_changes}
 use Rattle.ddf_stops.proofs.CommittingFirst.{tried_on}
-use Rattle.ddf_stops.proofs.Recovering.{recovery_done, recovery_goes, recovery_kept, recovery_last, recovery_over, recovery_past, synced_kept}
+use Rattle.ddf_stops.proofs.Recovering.{recovery_done, recovery_goes, recovery_goes_on, recovery_kept, recovery_last, recovery_over, recovery_past, synced_kept}
 
 -- ---- what is held
 
@@ -58,7 +58,7 @@ held_from disks first (out ∷ left) (suc place) newest h =
     subst (λ (slot : ℕ). IsHeldOn disks slot newest) there (held_from disks (suc first) left place newest h)
 
 -- The slots of an assembled group hold its newest copies.
-group_held : {D : Type 0} (disks : BayState D) (left : List Bool) (named : Option (List ℕ)) (found : GroupValue) → group_of (newest_from disks 0 left) named ≡ Ok found
+pub group_held : {D : Type 0} (disks : BayState D) (left : List Bool) (named : Option (List ℕ)) (found : GroupValue) → group_of (newest_from disks 0 left) named ≡ Ok found
     → AreHeldOn disks found.newest
 group_held disks left named found is slot newest at =
     let read : slice_get (newest_from disks 0 left) slot ≡ Some (Some newest) =
@@ -172,3 +172,10 @@ module _ {group : List ℕ} {D : Type 0} (past : Past (groups group)) (state : B
         are_steps = tried_on found timestamp ready asked taken.was_readied;
       },
     )
+
+    -- However many changes are to come, the call is under way with them then.
+    pub recovery_further : (new : BayState D) (is : IsRecovery state new found ready true) (now_left : IsLeft new.may_hold new.held) (later : List Configuration)
+        → IsUnderway group past (is_read left) found (recovery_changes timestamp found ++ later) (recovery_stands new is now_left).0
+    unfolding held may recovery_stands
+    recovery_further new is now_left later =
+        recovery_goes_on past state left named found kept admitted reads taken.every_slot taken.is_found same_group held taken.stand taken.under taken.fit asked timestamp ready taken.was_readied may later

@@ -102,7 +102,7 @@ changed_map : (g : ℕ → Member → Member) (entries : List (ℕ × Member)) �
 changed_map g [] = refl
 changed_map g (entry ∷ entries) = ap (λ (l : List (ℕ × Member)). (entry.0, g entry.0 entry.1) ∷ l) (changed_map g entries)
 
-lose_leaves : (config : Configuration) (references : List ℕ) (reference : ℕ) → is_among references reference ≡ false → is_current config.members reference ≡ true
+pub lose_leaves : (config : Configuration) (references : List ℕ) (reference : ℕ) → is_among references reference ≡ false → is_current config.members reference ≡ true
     → is_current (members_after config (Lose references)) reference ≡ true
 lose_leaves config references reference free is =
     ap (λ (members : List (ℕ × Member)). is_current members reference) (changed_map (member_after config (Lose references)) config.members)

@@ -29,12 +29,12 @@ use Rattle.ddf_stops.proofs.Slots.{slot_is as slot_among, slot_placed}
 use Rattle.ddf_stops.proofs.Stops.{AreInTurn}
 
 -- The group by which a disk's view is known is its header's.
-view_group : (copy : DiskCopy) → (view_of copy).group ≡ copy.header.guid
+pub view_group : (copy : DiskCopy) → (view_of copy).group ≡ copy.header.guid
 unfolding view_of
 view_group copy = refl
 
 -- Bytes are compared either way.
-bytes_turned : (one other : List ℕ) → bytes_eq one other ≡ bytes_eq other one
+pub bytes_turned : (one other : List ℕ) → bytes_eq one other ≡ bytes_eq other one
 bytes_turned one other = elim (which (bytes_eq one other)) [
   | inl same ↦ let is = same_bytes one other same in same ∙ sym (ap (λ (x : List ℕ). bytes_eq x one) (sym is) ∙ bytes_same one)
   | inr differ ↦ elim (which (bytes_eq other one)) [

@@ -56,7 +56,7 @@ copy_there newest slot view at = go (copy_at newest slot) refl (sym (view_at new
 -- ---- a seat
 
 -- A seat at a slot is that of its copy.
-seat_there : (newest : List (Option Newest)) (slot : ℕ) (seat : Seat) → seat_at newest slot ≡ Some seat
+pub seat_there : (newest : List (Option Newest)) (slot : ℕ) (seat : Seat) → seat_at newest slot ≡ Some seat
     → (copy : DiskCopy) × (copy_at newest slot ≡ Some copy) × (seat_of slot copy ≡ seat)
 seat_there newest slot seat at = go (copy_at newest slot) refl at
   where
@@ -92,7 +92,7 @@ module _ (newest : List (Option Newest)) (group : List ℕ) (g : GroupValue) (ma
   group_made = ap (group_as newest) (sym (found_as slots group made.found made.is_answer)) ∙ made.is_group
 
   -- Its seats are those of the slots that it claims.
-  seats_are : g.seats ≡ seats_of newest (filter (claims slots group) (numbers slots))
+  pub seats_are : g.seats ≡ seats_of newest (filter (claims slots group) (numbers slots))
   unfolding assembled_as claimed
   seats_are = sym (ap (λ (one : GroupValue). one.seats) group_made)
 

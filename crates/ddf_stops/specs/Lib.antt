@@ -5,3 +5,4 @@ pub mod Steps
 pub mod Founding
 pub mod Floors
 pub mod Members
+pub mod Joins

@@ -1,6 +1,6 @@
 -- What a write of blocks came to since its entry, by what its calls promise: what it read of its group, the first piece of the input, and what it wrote.
-use Rattle.std.proofs.Common.{◌≡◌, ◌∙◌, ◌⊎◌, ⊎_elim, ℕ, ◌+◌, ◌*◌, ◌≤◌, List, [], ◌++◌, length, take, drop, Option, Result, Ok, Err, refl, sym, ap, subst, arith, length-append}
-use Rattle.std.proofs.lemmas.List.{append_assoc, drop-drop, drop_at}
+use Rattle.std.proofs.Common.{◌≡◌, ◌∙◌, ◌⊎◌, ⊎_elim, ℕ, ◌+◌, ◌*◌, ◌<◌, ◌≤◌, List, [], ◌∷◌, ◌++◌, length, take, drop, Option, Result, Ok, Err, refl, sym, ap, subst, arith, length-append}
+use Rattle.std.proofs.lemmas.List.{append_assoc, drop-drop, drop_at, length-take-le}
 use Rattle.ddf_bytes.specs.Counts.{Rose}
 use Rattle.ddf_bytes.specs.Streams.{GivesFront, SourceState}
 use Rattle.ddf_bay.specs.ReadsOnly.{ReadsOnly}
@@ -44,6 +44,15 @@ module _ (tells : Type 0) (before between after : SourceState) (count : ℕ) (ro
 
   payload_given : (sectors : List (List ℕ)) (left : List ℕ) → AreGiven tells between first count sectors left → IsPayload (input_of tells before after) count sectors left
   payload_given sectors left given = record { whole = given.come.whole; pieces = given.pieces; bytes = bytes_given sectors left given }
+
+  -- where more blocks are asked for than came, the first piece has some, and it came
+  first_long : 0 < count → 0 < length first
+  first_long some = let long : length first ≡ 512 * first_piece count = length-take-le (512 * first_piece count) room (omega (arith, is_first.size)) in omega (arith, some, long)
+
+  some_came : (sectors : List (List ℕ)) (left : List ℕ) → AreGiven tells between first count sectors left → length sectors < count → 0 < length sectors
+  some_came [] left given less =
+      let none : 0 ≡ length first + length given.come.came = ap length given.come.are ∙ length-append first given.come.came in omega (arith, none, first_long less)
+  some_came (one ∷ more) left given less = omega arith
 
   -- a front of what is left behind a front is a front
   front_behind : (front left : List ℕ) → before.left ≡ front ++ left → GivesFront (record between { left = left }) after → GivesFront before after
@@ -155,6 +164,7 @@ module _ (tells : Type 0) (before between after : SourceState) (count : ℕ) (ro
               (
                 has.given.0,
                 payload_given sectors has.given.0 has.given.1,
+                some_came sectors has.given.0 has.given.1 has.given.2,
                 has.given.2,
                 subst (λ n. Rose n after.faults) is_first.same_faults has.given.3,
               ),

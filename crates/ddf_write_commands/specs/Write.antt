@@ -79,7 +79,7 @@ writing start sectors = record {
 
 -- ---- what came of it
 
--- What came of a write: these sectors were given to be written, and this came of the work; they were written, and then a read of the input failed; the input ended within the
+-- What came of a write: these sectors were given to be written, and this came of the work; these, one at least, were written, and then a read of the input failed; the input ended within the
 -- first piece; a read of it failed there; or nothing was taken from it, for this reason.
 pub data Outcome : Type 0 where
   Taken : (sectors : List (List ℕ)) → (worked : Result ℕ Failure) → Outcome
@@ -112,7 +112,7 @@ module _ {D : Type 0} (work : Work D) (input : Input) (timestamp : ℕ) (word : 
       ((left : List ℕ) × IsPayload input count sectors left × IsTakenBy input count sectors left worked) × IsAccepted timestamp request meaning
       × IsWorkedIn (writing start sectors) work timestamp word request meaning worked
   IsWriteIn meaning (Broken sectors) =
-      ((left : List ℕ) × IsPayload input count sectors left × (length sectors < count) × InputRose input) × IsAccepted timestamp request meaning
+      ((left : List ℕ) × IsPayload input count sectors left × (0 < length sectors) × (length sectors < count) × InputRose input) × IsAccepted timestamp request meaning
       × IsLeftIn (writing start sectors) work timestamp word request meaning
   IsWriteIn meaning (Short found) = IsShort input count found × IsAccepted timestamp request meaning × ReadsOnly work.old work.new
   IsWriteIn meaning NotRead = InputRose input × IsAccepted timestamp request meaning × ReadsOnly work.old work.new

@@ -1,7 +1,10 @@
-use Rattle.std.proofs.Common.{◌∙◌, ◌+◌, arith}
+use Rattle.std.proofs.Common.{◌∙◌, ◌+◌, sym, subst, arith}
 use Rattle.std.proofs.lemmas.List.{get_or_append_left, length-take-le}
 use Rattle.std.proofs.lemmas.Result.{err_from_is_err_and}
+use Rattle.ddf_volume.specs.Reading.{Failed}
+use Rattle.ddf_cells.specs.GivenCells.{IsCellGiven}
 use Rattle.ddf_cells.proofs.CellSteps.{left_held}
+use Rattle.ddf_cells.proofs.GivenSteps.{cell_held}
 use Rattle.ddf_cells.proofs.Surely.{cell_of_block}
 use Rattle.ddf_cells.proofs.blocks.read_held.Goals as goal
 
@@ -26,3 +29,14 @@ returns-clause-cells g c = λ tells sure element position sector at part part_at
     get_or_append_left c.read_run.new.out _ _ k (omega (arith, long, c.read_run.auto.out, below))
     ∙ cell_of_block c.args.view.now (g.B.Bay.disks c.args.bay.now) (g.B.Bay.disks c.read_run.new.bay) element part position (sector + k) sure (c.args.block + k) _
     (c.blocks_along-count.ensures.follow element position sector k at below) (c.in_ok-read_run.ensures.given tells k (omega (arith, long, below)))
+
+pub returns-clause-given : goal.returns-clause-given
+returns-clause-given g c = λ tells element position sector at part part_at k below.
+    let old = g.B.Bay.disks c.args.bay.now in
+    let new = g.B.Bay.disks c.read_run.new.bay in
+    let count = c.blocks_along-count.result in
+    let long = length-take-le count c.args.out.now c.blocks_along-count.ensures.within in
+    subst (λ bytes. IsCellGiven (Failed old new) c.args.view.now old.held element part (sector + k) position bytes)
+    (sym (get_or_append_left c.read_run.new.out _ _ k (omega (arith, long, c.read_run.auto.out, below))))
+    (cell_held (Failed old new) c.args.view.now old.held element part (sector + k) position _ (c.args.block + k)
+    (c.blocks_along-count.ensures.follow element position sector k at below) (c.in_ok-read_run.ensures.given tells k (omega (arith, long, below))))

@@ -3,6 +3,7 @@ use Rattle.std.proofs.lemmas.Result.{err_from_is_err_and}
 use Rattle.ddf_primary.specs.Cells.{depth_of}
 use Rattle.ddf_primary.proofs.ShapeFacts.{depth_le}
 use Rattle.ddf_cells.proofs.BlockOf.{block_within}
+use Rattle.ddf_cells.proofs.GivenSteps.{cell_empty}
 use Rattle.ddf_cells.proofs.Surely.{cell_without}
 use Rattle.ddf_cells.proofs.cells.read_first.Goals as goal
 
@@ -29,3 +30,10 @@ pub returns-in_err-count-in-Some-clause-left : goal.returns-in_err-count-in-Some
 returns-in_err-count-in-Some-clause-left g c =
     let p = err_from_is_err_and c.from_residual.result c.from_residual.ensures.1 in
     rw (p.1, p.2) (λ part part_at. c.in_err-count-in-Some.ensures.left c.args.element c.args.position c.args.sector part (sym c.in-Some.ensures))
+
+pub returns-in_ok-count-in-None-clause-given : goal.returns-in_ok-count-in-None-clause-given
+returns-in_ok-count-in-None-clause-given g c = λ tells part part_at k below.
+    cell_empty _ c.args.view.now _ c.args.element part (c.args.sector + k) c.args.position _ (c.in_ok-count-in-None.ensures.empty k below) (c.in_ok-count-in-None.ensures.given tells part part_at k below)
+
+pub returns-in_ok-count-in-Some-clause-given : goal.returns-in_ok-count-in-Some-clause-given
+returns-in_ok-count-in-Some-clause-given g c = λ tells. c.in_ok-count-in-Some.ensures.given tells c.args.element c.args.position c.args.sector (sym c.in-Some.ensures)

@@ -36,6 +36,7 @@ write_step-requires g c =
       held = c.rebuild_rows.ensures.held;
       stays = λ told so. c.in-Ok.ensures.settled told;
       rebuilt = λ told so. c.in-Ok.ensures.now told;
+      was_given = λ told so. c.in-Ok.ensures.given told;
     } in
     stands_behind g.B.Bay.tells old middle filling.view filling.target c.args.from c.args.row c.requires.fills.0 c.args.group.now can c.args.ready.now.recovery true rows refl c.args.ready.now.steps c.requires.many c.requires.stands
 
@@ -54,6 +55,7 @@ returns-in-Ok-clause-goes g c =
       held = c.rebuild_rows.ensures.held;
       stays = λ told so. c.in-Ok.ensures.settled told;
       rebuilt = λ told so. c.in-Ok.ensures.now told;
+      was_given = λ told so. c.in-Ok.ensures.given told;
     } in
     let new = g.B.Bay.disks c.write_step.new.bay in
     let tells_old : IsTold (g.B.Bay.disks c.args.bay.now) = record {
@@ -94,6 +96,7 @@ returns-in-Ok-clause-filled g c =
       held = c.rebuild_rows.ensures.held;
       stays = λ told so. c.in-Ok.ensures.settled told;
       rebuilt = λ told so. c.in-Ok.ensures.now told;
+      was_given = λ told so. c.in-Ok.ensures.given told;
     } in
     let new = g.B.Bay.disks c.write_step.new.bay in
     let tells_old : IsTold (g.B.Bay.disks c.args.bay.now) = record {
@@ -137,6 +140,7 @@ returns-in-Ok-clause-failed g c =
       held = c.rebuild_rows.ensures.held;
       stays = λ told so. c.in-Ok.ensures.settled told;
       rebuilt = λ told so. c.in-Ok.ensures.now told;
+      was_given = λ told so. c.in-Ok.ensures.given told;
     } in
     let new = g.B.Bay.disks c.write_step.new.bay in
     let tells_old : IsTold (g.B.Bay.disks c.args.bay.now) = record {
@@ -180,6 +184,7 @@ returns-in-Err-clause-goes g c =
       held = c.rebuild_rows.ensures.held;
       stays = λ told so. absurd (false≢true so);
       rebuilt = λ told so. absurd (false≢true so);
+      was_given = λ told so. absurd (false≢true so);
     } in
     rows_failed g.B.Bay.tells old middle filling.view filling.target c.args.from c.args.row c.requires.fills.0 c.args.group.now can c.args.ready.now.recovery false rows c.args.ready.now.steps c.requires.many c.requires.stands
 
@@ -198,6 +203,7 @@ returns-in-Err-clause-failed g c =
       held = c.rebuild_rows.ensures.held;
       stays = λ told so. absurd (false≢true so);
       rebuilt = λ told so. absurd (false≢true so);
+      was_given = λ told so. absurd (false≢true so);
     } in
     subst (λ (failure : Failure). IsFillFault g.B.Bay.tells old middle filling.view filling.target c.args.from (rounds_in (c.args.row ∷ []) c.args.ready.now.steps) c.args.group.now c.args.ready.now c.args.row failure)
     (sym c.failure_of.ensures)

@@ -1,6 +1,7 @@
 // A scenario, played step by step.
 use crate::answer::answer;
 use crate::disks::Disks;
+use crate::program::Program;
 use crate::report::Report;
 use crate::script::Step;
 use crate::sweep::sweep;
@@ -17,7 +18,7 @@ struct Player {
 }
 
 /// Plays a scenario.
-pub fn play(alloc: Global, steps: &[Step]) -> anyhow::Result<Report> {
+pub fn play<P: Program>(alloc: Global, program: &P, steps: &[Step]) -> anyhow::Result<Report> {
     let mut player = Player {
         disks: Disks::new(),
         report: Report::new(alloc),
@@ -25,7 +26,7 @@ pub fn play(alloc: Global, steps: &[Step]) -> anyhow::Result<Report> {
     };
     for (place, step) in steps.iter().enumerate() {
         player
-            .follow(alloc, steps, place, step)
+            .follow(alloc, program, steps, place, step)
             .with_context(|| format!(in alloc; "line {}", step.line))?;
     }
     if player.begun.is_some() {
@@ -36,9 +37,10 @@ pub fn play(alloc: Global, steps: &[Step]) -> anyhow::Result<Report> {
 
 impl Player {
     /// Follows the step at a place: it begins a sweep, is a part of one, ends it, or is one by itself.
-    fn follow(
+    fn follow<P: Program>(
         &mut self,
         alloc: Global,
+        program: &P,
         steps: &[Step],
         place: usize,
         step: &Step,
@@ -48,14 +50,14 @@ impl Player {
             Some(first) if asked == "% end" => {
                 self.begun = None;
                 let swept = steps.get(first..place).unwrap_or(&[]);
-                sweep(alloc, &mut self.disks, swept, &mut self.report)?
+                sweep(alloc, program, &mut self.disks, swept, &mut self.report)?
             }
             Some(_) => return Ok(()),
             None if asked.starts_with("% each ") => {
                 self.begun = Some(place);
                 return Ok(());
             }
-            None => answer(alloc, &mut self.disks, asked)?,
+            None => answer(alloc, program, &mut self.disks, asked)?,
         };
         self.report.compare(alloc, step, asked, told.as_str())
     }

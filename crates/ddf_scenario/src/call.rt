@@ -1,13 +1,13 @@
-// The call that the program makes, over the disks of a scenario.
+// The call of the program over the disks of a scenario.
 use crate::disks::{ALL, Disks, Output, new_bay};
 use crate::input::empty;
+use crate::program::Program;
 use crate::run::{sync_slot, write_sectors};
 use crate::told::text_of;
 use crate::words::{push_words, words_over};
 use anyhow::bail;
 use ddf_bay::{Bay, MemoryBay};
 use ddf_bytes::{MemorySink, MemorySource, Stamp};
-use ddf_command::{Command, DiskStyle, asked, serve, slot_paths};
 use ddf_linux::Turned;
 use std::alloc::Global;
 
@@ -15,10 +15,15 @@ use std::alloc::Global;
 const SMALL: [u64; 64] = [9; 64];
 
 /// The answer of a command over all disks.
-pub fn command(alloc: Global, disks: &mut Disks, text: &str) -> anyhow::Result<String> {
+pub fn command<P: Program>(
+    alloc: Global,
+    program: &P,
+    disks: &mut Disks,
+    text: &str,
+) -> anyhow::Result<String> {
     let inner = disks.take()?;
     let words = words_over(alloc, inner.slots(), text)?;
-    let mut bay = Turned::new(inner, are_for_linux(alloc, words.as_slice()));
+    let mut bay = Turned::new(inner, program.is_for_linux(alloc, words.as_slice()));
     if disks.loses_anchors {
         lose_anchors(&mut bay)?;
         disks.loses_anchors = false;
@@ -29,6 +34,7 @@ pub fn command(alloc: Global, disks: &mut Disks, text: &str) -> anyhow::Result<S
     };
     let answer = call(
         alloc,
+        program,
         &mut bay,
         words.as_slice(),
         disks.stamp,
@@ -40,13 +46,21 @@ pub fn command(alloc: Global, disks: &mut Disks, text: &str) -> anyhow::Result<S
 }
 
 /// The answer of a call with all its words, over as many small blank disks as they name, to which nothing can be written.
-pub fn command_alone(alloc: Global, stamp: Stamp, text: &str) -> anyhow::Result<String> {
+pub fn command_alone<P: Program>(
+    alloc: Global,
+    program: &P,
+    stamp: Stamp,
+    text: &str,
+) -> anyhow::Result<String> {
     let mut words = Vec::new(alloc);
     push_words(alloc, &mut words, text)?;
-    let sizes = &SMALL[..slot_paths(words.as_slice()).len()];
+    let Some(sizes) = SMALL.get(..program.disks(words.as_slice())) else {
+        bail!("there are too many disks");
+    };
     let mut bay = Turned::new(new_bay(alloc, sizes, 0)?, false);
     call(
         alloc,
+        program,
         &mut bay,
         words.as_slice(),
         stamp,
@@ -55,31 +69,15 @@ pub fn command_alone(alloc: Global, stamp: Stamp, text: &str) -> anyhow::Result<
     )
 }
 
-/// Whether words ask for disks for Linux.
-fn are_for_linux(alloc: Global, words: &[String]) -> bool {
-    match asked(alloc, words) {
-        Ok(asked) => matches!(
-            asked.command,
-            Command::Label {
-                style: DiskStyle::Linux,
-                ..
-            }
-        ),
-        Err(_) => false,
-    }
-}
-
-fn call(
+fn call<P: Program>(
     alloc: Global,
+    program: &P,
     bay: &mut Turned<MemoryBay>,
     words: &[String],
     stamp: Stamp,
     input: &mut MemorySource,
     output: Output,
 ) -> anyhow::Result<String> {
-    if bay.slots() != slot_paths(words).len() {
-        bail!("the words name another number of disks");
-    }
     let mut failing = Vec::new(alloc);
     if let Some(call) = output.failing {
         failing.push(call)?;
@@ -87,7 +85,9 @@ fn call(
     let Ok(mut sink) = MemorySink::new(alloc, output.room, failing) else {
         bail!("memory ran out");
     };
-    let status = serve(alloc, words, bay, input, &mut sink, stamp);
+    let Some(status) = program.call(alloc, words, bay, input, &mut sink, stamp) else {
+        bail!("the words name another number of disks");
+    };
     Ok(text_of(alloc, sink.bytes(), status)?)
 }
 

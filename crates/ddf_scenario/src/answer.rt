@@ -4,6 +4,7 @@ use crate::compare::{compare, look_for_linux};
 use crate::disks::Disks;
 use crate::edit::edit_disks;
 use crate::input::input_of;
+use crate::program::Program;
 use crate::row::fill_row;
 use crate::vectors::vector;
 use anyhow::bail;
@@ -11,12 +12,17 @@ use std::alloc::Global;
 
 /// The answer of a line: one that begins with `$$` is a call with all its words over small blank disks, with `$` a command of `ddf`
 /// over all disks of the scenario, and with `%` something else.
-pub fn answer(alloc: Global, disks: &mut Disks, asked: &str) -> anyhow::Result<String> {
+pub fn answer<P: Program>(
+    alloc: Global,
+    program: &P,
+    disks: &mut Disks,
+    asked: &str,
+) -> anyhow::Result<String> {
     if let Some(words) = asked.strip_prefix("$$") {
-        return command_alone(alloc, disks.stamp, words);
+        return command_alone(alloc, program, disks.stamp, words);
     }
     if let Some(words) = asked.strip_prefix('$') {
-        return command(alloc, disks, words);
+        return command(alloc, program, disks, words);
     }
     let rest = asked.strip_prefix('%').unwrap_or(asked);
     let words: Vec<&str> = rest.split_whitespace().collect(alloc)?;

@@ -2,6 +2,7 @@
 use crate::answer::answer;
 use crate::disks::Disks;
 use crate::outcomes::Outcomes;
+use crate::program::Program;
 use crate::report::Report;
 use crate::script::Step;
 use crate::variables::{Variable, filled, rounds_of, variables_of};
@@ -10,8 +11,9 @@ use std::alloc::Global;
 
 /// Plays the steps behind the first, which names the values, in each way, and gives the different outcomes. An outcome is the answers
 /// of the steps that are told as `?`. One that is told as `...` may be answered as it likes.
-pub fn sweep(
+pub fn sweep<P: Program>(
     alloc: Global,
+    program: &P,
     disks: &mut Disks,
     steps: &[Step],
     report: &mut Report,
@@ -22,15 +24,24 @@ pub fn sweep(
     let variables = variables_of(alloc, head.asked.as_str())?;
     let mut outcomes = Outcomes::new(alloc);
     for number in 0..rounds_of(variables.as_slice()) {
-        let outcome = round(alloc, disks, variables.as_slice(), number, body, report)?;
+        let outcome = round(
+            alloc,
+            program,
+            disks,
+            variables.as_slice(),
+            number,
+            body,
+            report,
+        )?;
         outcomes.add(outcome)?;
     }
     Ok(outcomes.text(alloc)?)
 }
 
 /// Plays a round, and gives its outcome.
-fn round(
+fn round<P: Program>(
     alloc: Global,
+    program: &P,
     disks: &mut Disks,
     variables: &[Variable],
     number: usize,
@@ -40,7 +51,7 @@ fn round(
     let mut outcome = String::new(alloc);
     for step in body {
         let asked = filled(alloc, step.asked.as_str(), variables, number)?;
-        let told = answer(alloc, disks, asked.as_str())?;
+        let told = answer(alloc, program, disks, asked.as_str())?;
         match step.told.as_str() {
             "?\n" => outcome.push_str(told.as_str())?,
             "...\n" => (),

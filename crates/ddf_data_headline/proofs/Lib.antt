@@ -1,0 +1,9 @@
+pub mod Memory
+pub mod Goes
+pub mod Calls
+pub mod Losses
+pub mod Young
+pub mod Printed
+pub mod Kept
+pub mod Labels
+pub mod Lives

@@ -1,0 +1,21 @@
+-- What bays in memory tell.
+use Rattle.std.proofs.Common.{ℕ, ◌≤◌, ◌^◌}
+use Rattle.std.specs.Prelude.{slice_index}
+use Rattle.ddf_bay.specs.LoggedLaws.{left_whole}
+use Rattle.ddf_bay.specs.Memory.{disks_of}
+use Rattle.ddf_bay.specs.MemoryLaws.{left_counts, left_only, size_small}
+use Rattle.ddf_bay.specs.declared.memory.MemoryBay.{MemoryBay}
+use Rattle.ddf_memory_history.proofs.Slots.{reads_left}
+use Rattle.ddf_data_history.proofs.Bays.{AreBays}
+
+pub bays : AreBays disks_of
+bays = record {
+  only_now = λ bay image left. left_only bay.clock bay.log.logged.items image left;
+  counts = λ bay t image le left. left_counts bay.clock bay.log.logged.items t image le left;
+  held = λ bay told. reads_left bay told;
+  since = λ bay t image left. left.0;
+  whole = λ bay s l bytes left. left_whole bay.clock bay.log.logged.items s l bytes bay.log.whole left.1;
+}
+
+pub small_sizes : (bay : MemoryBay) (slot : ℕ) → slice_index (disks_of bay).sizes slot ≤ 2 ^ 55
+small_sizes bay slot = size_small bay.sizes.items slot bay.small

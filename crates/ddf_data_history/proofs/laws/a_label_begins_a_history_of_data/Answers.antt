@@ -1,0 +1,19 @@
+use Rattle.ddf_disk_commands.specs.Label.{label_copy, label_slots}
+use Rattle.ddf_disk_commands.proofs.Chosen.{chosen_once}
+use Rattle.ddf_stops.specs.Kept.{is_slot}
+use Rattle.ddf_stops.proofs.Founding.{founded_since}
+use Rattle.ddf_update.specs.NewCopies.{group_of as name_of}
+use Rattle.ddf_data_history.proofs.Bays.{AreBays}
+use Rattle.ddf_data_history.proofs.Beginning.{all_in, founded_begins}
+use Rattle.ddf_data_history.proofs.laws.a_label_begins_a_history_of_data.Goals as goal
+
+pub returns : goal.returns
+returns g c = λ told revision stamp named old new tried same_sizes is_left tells_left names_new past is_new.
+    let are : AreBays g.B.Bay.disks = record { only_now = g.met.B.Bay.only_now; counts = g.met.B.Bay.counts_now; held = g.met.B.Bay.held_is_left; since = g.met.B.Bay.told_since; whole = g.met.B.Bay.whole } in
+    let before = g.B.Bay.disks old in
+    let slots = label_slots before.sizes named in
+    let copy = label_copy revision stamp before.sizes named in
+    let one = tried told in
+    founded_begins g.B.Bay.disks are g.met.B.Bay.small (name_of stamp) past new tells_left before.sizes slots same_sizes copy (is_slot slots) is_new
+    (λ image left. all_in before (g.B.Bay.disks new) slots copy one.1 image left)
+    (founded_since revision stamp before (g.B.Bay.disks new) same_sizes slots (chosen_once before.sizes named) one.1 past is_new is_left names_new)
