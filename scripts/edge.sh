@@ -87,6 +87,17 @@ for word in --help -h help; do
 done
 echo "edge: wrong words are told"
 
+ends 0 "" "" "./ddf d0.img -- batch </dev/null"
+ends 0 "group" "" "echo show | ./ddf d0.img -- batch"
+ends 1 "refused 10 word 0" "" "echo read a 0 1 | ./ddf d0.img -- batch"
+ends 1 "refused 36 batch over 65536" "" "yes show | head -c 65537 | ./ddf d0.img -- batch"
+ends 1 "refused 12 no group" "" "echo show | ./ddf d1.img -- batch"
+ends 2 "refused 10 word 3" "batch doesn't take the word x: it wants nothing more there" "./ddf d0.img -- batch x"
+ends 3 "" "nothing was done" "echo show | ./ddf d0.img missing.img -- batch"
+ends 6 "" "ddf: standard input failed: no line was run" "./ddf d0.img -- batch <&-"
+ends 6 "" "ddf: the output failed" "echo show | ./ddf d0.img -- batch >&-"
+echo "edge: lines of a batch are run"
+
 # Root may write to everything, so that another user is asked for.
 user=
 if [ "$(id -u)" = 0 ]; then

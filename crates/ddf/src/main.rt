@@ -1,9 +1,11 @@
 //! The program `ddf`: it opens the images that its words name, and does what they ask for.
 #![tactic(auto)]
 
+use ddf_batch::serve;
+use ddf_batch_words::{Order, order_of};
 use ddf_bay::Bay;
 use ddf_bytes::{StdSink, StdSource};
-use ddf_command::{Asked, Command, WordFault, asked, refuse_words, serve, slot_paths};
+use ddf_command::{Asked, Command, WordFault, asked, refuse_words, slot_paths};
 use ddf_edge::{
     CountingSink, Failure, Meter, NO_MEMORY, NotingSource, STREAM_FAULT, USAGE, agrees, answer,
     any_unopened, explain, hold_streams, is_risky, keep_freed, makes_for_linux, name_no_texts,
@@ -22,6 +24,15 @@ fn main(rt: HostRuntime) -> ExitCode {
     let sees = rt.stderr().is_terminal();
     let answers = sees && rt.stdin().is_terminal();
     ExitCode::from(status(&rt, Person { sees, answers }))
+}
+
+/// What the words ask for.
+#[derive(Clone, Copy, PartialEq, Eq)]
+enum Kind {
+    /// One command.
+    Command,
+    /// A batch: before its lines are known it counts as `assemble`, over the same group.
+    Batch,
 }
 
 /// Who started the program, as far as the standard streams tell.
@@ -87,8 +98,26 @@ where
             Err(_) => Err(Failure::Stream),
         };
     }
+    match order_of(rt.alloc(), words)? {
+        Order::Other => obey_command(rt, words, person),
+        Order::Batch(group) => {
+            let asked = Asked {
+                group,
+                command: Command::Assemble,
+            };
+            perform(rt, words, &asked, Kind::Batch, person)
+        }
+        Order::Wrong(place) => explain_refusal(rt, words, place),
+    }
+}
+
+/// Does what words ask for that aren't a batch's.
+fn obey_command<R>(rt: &R, words: &[String], person: Person) -> Result<u8, Failure>
+where
+    R: Files<File = File> + Clock + Input + Print + Eprint + AllocGlobal + Clone + Drop,
+{
     match asked(rt.alloc(), words) {
-        Ok(asked) => perform(rt, words, &asked, person),
+        Ok(asked) => perform(rt, words, &asked, Kind::Command, person),
         Err(WordFault::Place(place)) => explain_refusal(rt, words, place),
         Err(WordFault::Memory) => Err(Failure::Memory),
     }
@@ -131,7 +160,13 @@ fn changes_group(command: &Command) -> bool {
 }
 
 /// Opens the disks, and hands them to the command. A group isn't changed where a disk that is named can't be opened.
-fn perform<R>(rt: &R, words: &[String], asked: &Asked, person: Person) -> Result<u8, Failure>
+fn perform<R>(
+    rt: &R,
+    words: &[String],
+    asked: &Asked,
+    kind: Kind,
+    person: Person,
+) -> Result<u8, Failure>
 where
     R: Files<File = File> + Clock + Input + Print + Eprint + AllocGlobal + Clone + Drop,
 {
@@ -140,7 +175,8 @@ where
     if let Some(place) = same_disk(rt, paths)? {
         return refuse(rt, place);
     }
-    let stamp = stamp_for(rt, &asked.command).map_err(Failure::Chance)?;
+    let makes_names = kind == Kind::Batch || asked.command.traits().makes_names;
+    let stamp = stamp_for(rt, makes_names).map_err(Failure::Chance)?;
     let files = open_disks(rt, paths, &asked.command)?;
     if changes_group(&asked.command) && any_unopened(&files) {
         return Err(Failure::Unopened);
@@ -176,7 +212,10 @@ where
         name_untaken(rt, &bay, paths, &asked.command);
     }
     if status == STREAM_FAULT && source.failed() {
-        return Err(Failure::Input);
+        return Err(match kind {
+            Kind::Command => Failure::Input,
+            Kind::Batch => Failure::Batch,
+        });
     }
     answered(status, asked.command.traits().may_write)
 }

@@ -20,6 +20,8 @@ pub enum Failure {
     Stream,
     /// The input of a command that takes bytes from it failed: before anything was written, or behind pieces that are written.
     Input,
+    /// The input of a batch failed, and no line of it was run.
+    Batch,
     /// The output failed at the end of a command that may write to disks.
     StreamBehind,
     /// The descriptors of the standard streams can't be kept in use.
@@ -40,6 +42,7 @@ impl Failure {
             Failure::Unopened | Failure::Declined => DISK_FAULT,
             Failure::Stream
             | Failure::Input
+            | Failure::Batch
             | Failure::StreamBehind
             | Failure::Streams(_)
             | Failure::Chance(_) => STREAM_FAULT,
@@ -63,6 +66,7 @@ impl fmt::Display for Failure {
                 f,
                 "standard input failed: nothing was written, or whole pieces of 2048 blocks were; show tells of a mark"
             ),
+            Failure::Batch => write!(f, "standard input failed: no line was run"),
             Failure::StreamBehind => write!(
                 f,
                 "the output failed: what was asked for may have been done; show tells"

@@ -42,11 +42,15 @@ Commands:
   spare SLOT global | spare SLOT for NAME.. | spare SLOT off
                    say what a disk may stand in for
   fail SLOT        take a disk out of use for good; it isn't written any more
+  batch            do the commands on the lines of standard input, one after another,
+                   each as above without IMAGE words and @; one that is refused ends
+                   nothing, and one that ends with a status from 3 on is the last
 
 Each but examine and label is over a group: the only one that the disks show, or the one that is
 named, by @ and the 48 hexadecimal digits of its GUID. All of these but show, read and scrub
 recover it first: a member whose disk is left out of the words, or shows nothing, is listed as
-missing, for good. Standard error names it first, and on a terminal you are asked.
+missing, for good. Standard error names it first, and on a terminal you are asked. A line of
+batch may be any of these but read, write and batch.
 
 Disks are opened for reading alone by commands that write nothing. Others don't touch a
 disk that is mounted, swapped to, part of another device, or protected from writes. Each
@@ -56,7 +60,7 @@ touched. A program that holds a disk in another way isn't found.
 Exit status: 0 done, 1 refused, 2 words that are no command's, 3 a disk failed,
 4 records of the group contradict each other, 5 no memory, 6 the input or the output
 failed, or there was no chance for new names, 7 the input of write ended early, and the
-first blocks are written. At 1, 2, 4 and 5 nothing was written.
+first blocks are written. At 1, 2, 4 and 5 nothing was written, but by other lines of batch.
 ";
 
 const VERSION: &str = "ddf 0.1.0\n";

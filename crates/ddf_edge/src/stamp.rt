@@ -1,16 +1,14 @@
 // The moment and the chance for new names.
 use ddf_bytes::Stamp;
-use ddf_words::Command;
 use std::fs::File;
 use std::io;
 use std::io::Read;
 use std::rt::{Clock, Files};
 use std::time::{SystemTime, UNIX_EPOCH};
 
-/// The clock's seconds, 0 where it can't be read, and 16 random bytes where the command makes names. It makes none without
-/// chance.
-pub fn stamp_for<R: Clock + Files>(rt: &R, command: &Command) -> io::Result<Stamp> {
-    let salt = if command.traits().makes_names {
+/// The clock's seconds, 0 where it can't be read, and 16 random bytes where names are made. None are made without chance.
+pub fn stamp_for<R: Clock + Files>(rt: &R, makes_names: bool) -> io::Result<Stamp> {
+    let salt = if makes_names {
         u128::from_be_bytes(chance(rt)?)
     } else {
         0

@@ -1,7 +1,8 @@
 // The program whose scenarios these are.
+use ddf_batch::serve;
 use ddf_bay::{Bay, MemoryBay};
 use ddf_bytes::{MemorySink, MemorySource, Stamp};
-use ddf_command::{Command, DiskStyle, asked, serve, slot_paths};
+use ddf_command::{Command, DiskStyle, asked, slot_paths};
 use ddf_linux::Turned;
 use ddf_scenario::Program;
 use std::alloc::Global;

@@ -1,0 +1,126 @@
+-- Lines of a batch are events of histories.
+use Rattle.std.proofs.Common.{◌≡◌, ◌∙◌, ◌⊎◌, inl, inr, ⊎_elim, ℕ, ◌≤◌, Bool, true, false, List, length, Option, Result, Ok, Err, refl, sym, subst, arith}
+use Rattle.std.proofs.lemmas.Bool.{false≢true}
+use Rattle.ddf_bytes.specs.declared.stamp.Stamp.{Stamp}
+use Rattle.ddf_bytes.specs.Streams.{SinkState}
+use Rattle.ddf_bay.specs.Sectors.{Image}
+use Rattle.ddf_bay.specs.State.{BayState}
+use Rattle.ddf_view.specs.View.{View}
+use Rattle.ddf_assembly.specs.Group.{GroupValue}
+use Rattle.ddf_group.specs.declared.answer.Assembly.{Assembly}
+use Rattle.ddf_history.specs.Groups.{groups}
+use Rattle.ddf_history.specs.History.{Moment}
+use Rattle.ddf_history.specs.Issued.{Past}
+use Rattle.ddf_history.specs.Promise.{IsKept}
+use Rattle.ddf_history.specs.Reading.{Scene}
+use Rattle.ddf_history.specs.Scenes.{scene_of}
+use Rattle.ddf_stops.specs.Going.{Ends, Goes, IsOver, changes_in}
+use Rattle.ddf_stops.specs.Kept.{AreAllKept, is_read}
+use Rattle.ddf_words.specs.Traits.{traits_of}
+use Rattle.ddf_words.specs.declared.command.Command.{Command}
+use Rattle.ddf_words.specs.declared.command.Command.TheVariants.{Assemble, Change, Examine, Label, Read, Rebuild, Resync, Scrub, Show, Write}
+use Rattle.ddf_answer.specs.Answers.{IsToldFailure}
+use Rattle.ddf_answer.specs.Call.{Answer, answer_of, work_of}
+use Rattle.ddf_answer.specs.declared.failure.Failure.{Failure}
+use Rattle.ddf_answer.specs.declared.failure.Failure.TheVariants.{Conflict, Disk, Memory, Refused, Split}
+use Rattle.ddf_answer.specs.Tells.{IsCutShort}
+use Rattle.ddf_group_commands.specs.Assemble.{IsTold}
+use Rattle.ddf_group_commands.specs.Change.{IsToldChange, is_done}
+use Rattle.ddf_command.specs.History.{GroupCall, IsCut, IsEnd, Leaves, kept_by, past_at}
+use Rattle.ddf_command.specs.Run.{IsCommandDone}
+use Rattle.ddf_batch_words.specs.Lines.{is_for_lines}
+use Rattle.ddf_batch.specs.Batch.{point}
+use Rattle.ddf_batch.specs.History.{IsLineOf, LineTook}
+use Rattle.ddf_batch.specs.Line.{Point, no_input}
+
+-- ---- status 0 is that of a call that was done
+
+short : (code : ℕ) → IsCutShort code → code ≡ 0 → ⊥
+short code cut zero = ⊎_elim (λ five. omega (arith, zero, five)) (λ six. omega (arith, zero, six)) cut
+
+failed : (failure : Failure) (answer : Answer) → IsToldFailure failure answer → answer.status ≡ 0 → ⊥
+failed (Refused refusal) answer told zero = ⊎_elim (λ one. omega (arith, zero, one)) (λ cut. short answer.status cut zero) told.ends
+failed (Disk slot) answer told zero = ⊎_elim (λ three. omega (arith, zero, three)) (λ six. omega (arith, zero, six)) told.ends
+failed (Conflict i j sequence differ) answer told zero = ⊎_elim (λ four. omega (arith, zero, four)) (λ cut. short answer.status cut zero) told.ends
+failed (Split i j) answer told zero = ⊎_elim (λ four. omega (arith, zero, four)) (λ cut. short answer.status cut zero) told.ends
+failed Memory answer told zero = omega (arith, zero, told.0)
+
+changed_done : (outcome : Result ℕ Failure) (answer : Answer) → IsToldChange outcome answer → answer.status ≡ 0 → is_done outcome ≡ true
+changed_done (Ok sequence) answer told zero = refl
+changed_done (Err failure) answer told zero = absurd (failed failure answer told zero)
+
+told_done : (found : Result GroupValue Assembly) (outcome : Result ℕ Failure) (answer : Answer) → IsTold found outcome answer → answer.status ≡ 0 → is_done outcome ≡ true
+told_done (Ok group) (Ok sequence) answer told zero = refl
+told_done (Err fault) (Ok sequence) answer told zero = refl
+told_done (Ok group) (Err failure) answer told zero = absurd (failed failure answer told zero)
+told_done (Err fault) (Err failure) answer told zero = absurd (failed failure answer told zero)
+
+-- ---- what it took
+
+module _ {B : Type 0} (tells : Type 0) (disks : B → BayState B) (told : Type 0) (stamp : Stamp) (group : Option (List ℕ)) (from to : Point B) (code : ℕ) where
+  pub line_took : (command : Command) → is_for_lines command ≡ true → (traits_of command).may_write ≡ true
+      → IsCommandDone (work_of tells (disks from.bay) (disks to.bay)) no_input stamp group command (answer_of told from.output to.output code)
+      → LineTook tells disks stamp group command from to code
+  line_took Examine line writes done = absurd (false≢true line)
+  line_took (Label style slots) line writes done = absurd (false≢true line)
+  line_took (Read name start count) line writes done = absurd (false≢true line)
+  line_took (Write name start count) line writes done = absurd (false≢true line)
+  line_took Show line writes done = absurd (false≢true writes)
+  line_took (Scrub name) line writes done = absurd (false≢true writes)
+  line_took Assemble line writes done = record { done = is_done done.outcome; taken = done.has.taken; is_done = told_done _ done.outcome (answer_of told from.output to.output code) done.ends }
+  line_took (Resync name) line writes done = record { done = is_done done.outcome; taken = done.has.taken; is_done = changed_done done.outcome (answer_of told from.output to.output code) done.ends }
+  line_took (Rebuild name) line writes done = record { done = is_done done.outcome; taken = done.has.taken; is_done = changed_done done.outcome (answer_of told from.output to.output code) done.ends }
+  line_took (Change wish) line writes done = record { done = is_done done.outcome; taken = done.has.taken; is_done = changed_done done.outcome (answer_of told from.output to.output code) done.ends }
+
+-- ---- its call in a history
+
+module _ {B : Type 0} {tells : Type 0} (told : tells) (disks : B → BayState B) (stamp : Stamp) (group : Option (List ℕ)) (command : Command) (guid : List ℕ) (old : Moment (groups guid) B)
+    (output : SinkState) (to : Point B) (code : ℕ) (took : LineTook tells disks stamp group command (point old.bay output) to code)
+    (is : IsLineOf tells disks stamp group command guid old output to code took) (kept : AreAllKept guid old.past (disks old.bay)) where
+  abbrev call : GroupCall told disks guid old
+  call = record {
+    exit = to.bay;
+    named = group;
+    timestamp = _;
+    request = _;
+    done = took.done;
+    taken = took.taken;
+    group = is.found;
+    is_group = is.is_group;
+    same_group = is.same_group;
+    steps = is.steps;
+    are_asked = is.are_asked;
+    admitted = is.admitted;
+  }
+
+  pub ends : (disks to.bay).tells_left → (new : Moment (groups guid) B) × (end : IsEnd told disks guid old new) × (new.bay ≡ to.bay) × (code ≡ 0 → end.call.done ≡ true)
+  ends tells_left = (
+    record { past = ((kept_by told disks guid old call kept).ends tells_left).0; bay = to.bay },
+    record { call = call; kept = kept; tells_left = tells_left; is_left = λ scene leaves. leaves; is_past = refl },
+    refl,
+    took.is_done,
+  )
+
+  pub cuts : (cut : B) (image : Image) → (disks to.bay).left_since (disks old.bay).moment image
+      → ((scene : Scene View) → Leaves told disks guid cut scene → scene ≡ scene_of (disks old.bay).sizes image)
+      → (new : Moment (groups guid) B) × (new.bay ≡ cut) × IsCut told disks guid old new
+  cuts cut image was_left is_left =
+      let since : (disks old.bay).moment ≤ (disks old.bay).moment = omega arith in (
+        record {
+          past = past_at told disks guid {P = Goes guid old.past (is_read call.taken.left) call.group (changes_in call.group call.steps)} {Q = λ now. IsKept now (scene_of (disks old.bay).sizes image)}
+              old.past ((kept_by told disks guid old call kept).any_moment.since (disks old.bay).moment image since was_left);
+          bay = cut;
+        },
+        refl,
+        record { call = call; kept = kept; image = image; since = since; was_left = was_left; is_left = is_left; is_past = refl },
+      )
+
+-- ---- what it acknowledged
+
+pub is_over : {B : Type 0} {tells : Type 0} (told : tells) (disks : B → BayState B) (guid : List ℕ) (old new : Moment (groups guid) B) (end : IsEnd told disks guid old new) → end.call.done ≡ true
+    → IsOver guid old.past (is_read end.call.taken.left) end.call.group (changes_in end.call.group end.call.steps) new.past
+is_over told disks guid old new end done =
+    let own = (kept_by told disks guid old end.call end.kept).ends end.tells_left in
+    let over : Ends guid old.past (is_read end.call.taken.left) end.call.group (changes_in end.call.group end.call.steps) true own.0 =
+    subst (λ (whole : Bool). Ends guid old.past (is_read end.call.taken.left) end.call.group (changes_in end.call.group end.call.steps) whole own.0) done own.1 in
+    subst (λ (past : Past (groups guid)). IsOver guid old.past (is_read end.call.taken.left) end.call.group (changes_in end.call.group end.call.steps) past) (sym end.is_past) over

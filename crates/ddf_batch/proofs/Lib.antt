@@ -1,0 +1,4 @@
+pub mod Nothing
+pub mod LineRuns
+pub mod Runs
+pub mod Events

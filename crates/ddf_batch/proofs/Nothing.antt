@@ -1,0 +1,161 @@
+-- A call of a command that did nothing before memory ran out.
+use Rattle.std.proofs.Common.{◌≡◌, inl, inr, ℕ, List, [], length, replicate, false, Option, Result, Ok, Err, refl, sym, arith}
+use Rattle.std.proofs.lemmas.List.{append-nil, length-replicate}
+use Rattle.ddf_bytes.specs.declared.stamp.Stamp.{Stamp}
+use Rattle.ddf_bytes.specs.Stamps.{timestamp_of}
+use Rattle.ddf_bytes.specs.Streams.{SinkState, SourceState}
+use Rattle.ddf_bay.specs.State.{BayState}
+use Rattle.ddf_bay.proofs.Looks.{failed_padded, none_failed, reads_start}
+use Rattle.ddf_bay.proofs.Steps.{stops_start}
+use Rattle.ddf_update.specs.Group.{IsLeftFoundingAll}
+use Rattle.ddf_group.specs.declared.answer.Assembly.{Assembly}
+use Rattle.ddf_assembly.specs.Committed.{slots_of}
+use Rattle.ddf_assembly.specs.Group.{GroupValue, group_of}
+use Rattle.ddf_assembly.specs.Slots.{IsLooked, newest_from}
+use Rattle.ddf_words.specs.declared.command.Command.{Command}
+use Rattle.ddf_words.specs.declared.command.Command.TheVariants.{Assemble, Change, Examine, Label, Read, Rebuild, Resync, Scrub, Show, Write}
+use Rattle.ddf_answer.specs.Call.{Answer, Work, answer_of, work_of}
+use Rattle.ddf_answer.specs.declared.failure.Failure.TheVariants.{Memory}
+use Rattle.ddf_disk_commands.specs.Examine.{IsExamined}
+use Rattle.ddf_disk_commands.specs.Label.{label_copy, label_slots, revision_of}
+use Rattle.ddf_group_commands.proofs.Beside.{reads_beside}
+use Rattle.ddf_group_commands.proofs.ChangeEnds.{assembled_nothing, changed_nothing}
+use Rattle.ddf_group_commands.proofs.Keeping.{reads_keep}
+use Rattle.ddf_group_commands.proofs.ShowEnds.{shown_nothing}
+use Rattle.ddf_group_commands.specs.Change.{Request, TakesGroup}
+use Rattle.ddf_group_commands.specs.Requests.{request_for}
+use Rattle.ddf_data_commands.proofs.LeftOut.{has_no_place}
+use Rattle.ddf_data_commands.proofs.ReadBlocks.{memory_in}
+use Rattle.ddf_data_commands.proofs.Scrubbed.{scrubbed_nothing}
+use Rattle.ddf_data_commands.specs.Read.{NotRead}
+use Rattle.ddf_write_commands.specs.Doing.{Doing}
+use Rattle.ddf_write_commands.specs.Payload.{input_of}
+use Rattle.ddf_write_commands.specs.Resync.{IsResyncDone, resync_request, resyncing}
+use Rattle.ddf_write_commands.specs.Worked.{IsWorkedIn}
+use Rattle.ddf_write_commands.proofs.Since.{none_along}
+use Rattle.ddf_rebuild_command.specs.Asked.{rebuild_request}
+use Rattle.ddf_rebuild_command.specs.Rebuilt.{IsRebuildDone, IsRebuiltIn}
+use Rattle.ddf_rebuild_command.proofs.Costs.{none_cost}
+use Rattle.ddf_write_commands.specs.Write.{IsWriteDone, write_request, writing}
+use Rattle.ddf_write_commands.specs.Write.Outcome.{Unfit}
+use Rattle.ddf_command.specs.Run.{IsCommandDone}
+
+-- ---- before anything was done
+
+-- no slot was looked at
+none_looked : {D : Type 0} (old : BayState D) → IsLooked old old
+none_looked old = record {
+  left = replicate (length old.sizes) false;
+  every_slot = length-replicate (length old.sizes) false;
+  are_failed = failed_padded old old [] (length old.sizes) (none_failed old old) (λ s le. (refl, refl));
+}
+
+-- nothing was done before memory ran out
+nothing_done : {D : Type 0} (old : BayState D) (tells told : Type 0) (before : SinkState) → IsExamined (work_of tells old old) (answer_of told before before 5)
+nothing_done old tells told before = record {
+  failed = replicate (length old.sizes) false;
+  every_slot = length-replicate (length old.sizes) false;
+  are_failed = failed_padded old old [] (length old.sizes) (none_failed old old) (λ s le. (refl, refl));
+  ends = inr (inl refl);
+  tells = λ disks output. record { whole = λ low. absurd (omega (arith, low)); front = record { count = 0; within = omega arith; front = sym (append-nil before.taken) } };
+}
+
+-- nothing of a group was changed
+taken_nothing : {D : Type 0} (old : BayState D) (tells : Type 0) (named : Option (List ℕ)) (timestamp : ℕ) (request : Request) → TakesGroup (work_of tells old old) named timestamp request false
+taken_nothing old tells named timestamp request = record {
+  left = (none_looked old).left;
+  every_slot = (none_looked old).every_slot;
+  failed = (none_looked old).are_failed.rose;
+  newest = newest_from old 0 (none_looked old).left;
+  read = λ tells. refl;
+  beside = λ told found is. reads_beside old old (slots_of found.seats) (reads_start old);
+  keeps = λ told found is steps asked. reads_keep old old (none_looked old).left found steps (reads_start old);
+}
+
+-- and no blocks were worked on
+worked_nothing : {D : Type 0} (doing : Doing) (old : BayState D) (tells : Type 0) (timestamp : ℕ) (word : List ℕ) (request : Request) (meaning : Result GroupValue Assembly)
+    → IsWorkedIn doing (work_of tells old old) timestamp word request meaning (Err Memory)
+worked_nothing doing old tells timestamp word request (Ok found) = reads_start old
+worked_nothing doing old tells timestamp word request (Err fault) = (inr refl, reads_start old)
+
+-- and no position was filled
+none_rebuilt : {D : Type 0} (old : BayState D) (tells : Type 0) (timestamp : ℕ) (word : List ℕ) (meaning : Result GroupValue Assembly)
+    → IsRebuiltIn (work_of tells old old) timestamp word meaning (Err Memory)
+none_rebuilt old tells timestamp word (Ok found) = reads_start old
+none_rebuilt old tells timestamp word (Err fault) = (inr refl, reads_start old)
+
+module _ {D : Type 0} (old : BayState D) (tells told : Type 0) (before : SinkState) (named : Option (List ℕ)) (timestamp : ℕ) (word : List ℕ) where
+  resynced_nothing : IsResyncDone (work_of tells old old) named timestamp word (answer_of told before before 5)
+  resynced_nothing =
+      let taken = taken_nothing old tells named timestamp (resync_request word) in
+      record {
+        outcome = Err Memory;
+        has = record {
+          taken = taken;
+          gives = worked_nothing resyncing old tells timestamp word (resync_request word) (group_of taken.newest named);
+          leaves = λ tells found is steps asked. stops_start old _;
+          along = λ told. none_along resyncing (work_of tells old old) named timestamp word (resync_request word) (reads_start old) taken.left (group_of taken.newest named);
+        };
+        ends = (refl, λ told. refl);
+      }
+
+  rebuilt_nothing : IsRebuildDone (work_of tells old old) named timestamp word (answer_of told before before 5)
+  rebuilt_nothing =
+      let taken = taken_nothing old tells named timestamp (rebuild_request word) in
+      record {
+        outcome = Err Memory;
+        has = record {
+          taken = taken;
+          gives = none_rebuilt old tells timestamp word (group_of taken.newest named);
+          leaves = λ tells found is steps asked. stops_start old _;
+          along = λ tells found is steps asked group same past kept admitted. inl (refl, reads_start old);
+          costs = none_cost (work_of tells old old) timestamp word (reads_start old) (group_of taken.newest named);
+        };
+        ends = (refl, λ told. refl);
+      }
+
+  wrote_nothing : (reads : Type 0) (input : SourceState) (start count : ℕ) → IsWriteDone (work_of tells old old) (input_of reads input input) named timestamp word start count (answer_of told before before 5)
+  wrote_nothing reads input start count =
+      let request = write_request word start count in
+      let taken = taken_nothing old tells named timestamp request in
+      record {
+        outcome = Unfit Memory;
+        has = record {
+          taken = taken;
+          gives = (refl, reads_start old, worked_nothing (writing start []) old tells timestamp word request (group_of taken.newest named));
+          leaves = λ tells. tt;
+          along = λ tells. tt;
+        };
+        ends = (refl, λ told. refl);
+      }
+
+pub done_nothing : {D : Type 0} (old : BayState D) (tells told : Type 0) (before : SinkState) (reads : Type 0) (input : SourceState) (stamp : Stamp) (group : Option (List ℕ)) (command : Command)
+    → IsCommandDone (work_of tells old old) (input_of reads input input) stamp group command (answer_of told before before 5)
+done_nothing old tells told before reads input stamp group Examine = nothing_done old tells told before
+done_nothing old tells told before reads input stamp group Assemble = assembled_nothing old tells told before group (timestamp_of stamp) (none_looked old)
+done_nothing old tells told before reads input stamp group Show = shown_nothing old tells told before group (none_looked old)
+done_nothing old tells told before reads input stamp group (Label style slots) = record {
+  outcome = Err Memory;
+  tried = reads_start old;
+  ends = (refl, λ told. refl);
+  any_moment = λ tells. stops_start old (IsLeftFoundingAll old (label_slots old.sizes slots) (label_copy (revision_of style) stamp old.sizes slots));
+  refused = λ tells refusal is. reads_start old;
+}
+done_nothing old tells told before reads input stamp group (Read name start count) = record {
+  outcome = NotRead Memory;
+  has = record {
+    left = (none_looked old).left;
+    every_slot = (none_looked old).every_slot;
+    failed = (none_looked old).are_failed.rose;
+    newest = newest_from old 0 (none_looked old).left;
+    read = λ tells. refl;
+    no_place = λ tells slot out. has_no_place old (none_looked old).left (newest_from old 0 (none_looked old).left) group slot refl out;
+    gives = memory_in (work_of tells old old) name start count (group_of (newest_from old 0 (none_looked old).left) group);
+  };
+  ends = (refl, λ told. refl);
+}
+done_nothing old tells told before reads input stamp group (Scrub name) = scrubbed_nothing old tells told before group name (none_looked old)
+done_nothing old tells told before reads input stamp group (Resync name) = resynced_nothing old tells told before group (timestamp_of stamp) name
+done_nothing old tells told before reads input stamp group (Rebuild name) = rebuilt_nothing old tells told before group (timestamp_of stamp) name
+done_nothing old tells told before reads input stamp group (Write name start count) = wrote_nothing old tells told before group (timestamp_of stamp) name reads input start count
+done_nothing old tells told before reads input stamp group (Change wish) = changed_nothing old tells told before group (timestamp_of stamp) (none_looked old) (request_for (length old.sizes) stamp wish)

@@ -1,0 +1,13 @@
+use Rattle.ddf_batch.proofs.Events.{cuts, ends, line_took}
+use Rattle.ddf_batch.proofs.laws.a_line_is_an_event_of_its_history.Goals as goal
+
+pub returns-clause-took : goal.returns-clause-took
+returns-clause-took g c = λ stamp group words from to code command run asks writes.
+    line_took g.B.Bay.tells g.B.Bay.disks g.K.Sink.tells stamp group from to code command asks.is_for_lines writes (run.done command asks)
+
+pub returns-clause-ends : goal.returns-clause-ends
+returns-clause-ends g c = λ told stamp group command guid old output to code took is kept tells_left. ends told g.B.Bay.disks stamp group command guid old output to code took is kept tells_left
+
+pub returns-clause-cut : goal.returns-clause-cut
+returns-clause-cut g c = λ told stamp group command guid old output to code took is kept cut image was_left is_left.
+    cuts told g.B.Bay.disks stamp group command guid old output to code took is kept cut image was_left is_left

@@ -1,0 +1,11 @@
+use Rattle.ddf_batch.proofs.Events.{is_over}
+use Rattle.ddf_batch.proofs.laws.what_lines_acknowledged_is_held.Goals as goal
+
+pub returns-clause-acknowledged : goal.returns-clause-acknowledged
+returns-clause-acknowledged g c = λ told guid old new end done. is_over told g.B.Bay.disks guid old new end done
+
+pub returns-clause-held : goal.returns-clause-held
+returns-clause-held g c = λ told guid new history kept is. (
+  c.a_group_is_assembled_at_every_moment_of_its_history.ensures.acknowledged told guid new history kept is,
+  c.a_group_is_assembled_at_every_moment_of_its_history.ensures.answers told guid new history kept is,
+)

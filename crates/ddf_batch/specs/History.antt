@@ -1,0 +1,44 @@
+-- What the lines of a batch are to the histories of a group.
+use Rattle.std.specs.Prelude.{◌≡◌, ℕ, Bool, true, List, length, Option, Ok}
+use Rattle.ddf_bytes.specs.declared.stamp.Stamp.{Stamp}
+use Rattle.ddf_bytes.specs.Stamps.{timestamp_of}
+use Rattle.ddf_bytes.specs.Streams.{SinkState}
+use Rattle.ddf_bay.specs.State.{BayState}
+use Rattle.ddf_assembly.specs.Group.{GroupValue, group_of}
+use Rattle.ddf_assembly.specs.Steps.{Step}
+use Rattle.ddf_history.specs.Groups.{groups}
+use Rattle.ddf_history.specs.History.{Moment}
+use Rattle.ddf_stops.specs.Going.{IsAdmitted}
+use Rattle.ddf_words.specs.declared.command.Command.{Command}
+use Rattle.ddf_words.specs.declared.command.Command.TheVariants.{Change, Rebuild, Resync}
+use Rattle.ddf_answer.specs.Call.{work_of}
+use Rattle.ddf_group_commands.specs.Assemble.{no_change}
+use Rattle.ddf_group_commands.specs.Change.{Request, TakesGroup, steps_of}
+use Rattle.ddf_group_commands.specs.Requests.{request_for}
+use Rattle.ddf_write_commands.specs.Resync.{resync_request}
+use Rattle.ddf_rebuild_command.specs.Asked.{rebuild_request}
+use Rattle.ddf_batch.specs.Batch.{point}
+use Rattle.ddf_batch.specs.Line.{Point}
+
+-- the changes that the command of a line asks of a group, on so many slots
+abbrev pub request_of_line : (slots : ℕ) → Stamp → Command → Request
+request_of_line slots stamp (Resync name) = resync_request name
+request_of_line slots stamp (Rebuild name) = rebuild_request name
+request_of_line slots stamp (Change wish) = request_for slots stamp wish
+request_of_line slots stamp other = no_change
+
+module _ {B : Type 0} (tells : Type 0) (disks : B → BayState B) (stamp : Stamp) (group : Option (List ℕ)) (command : Command) where
+  -- The line took the group that it found as a call of the program does, and was done where its status is 0.
+  pub record LineTook (from to : Point B) (code : ℕ) : Type 0 where
+    pub done : Bool
+    pub taken : TakesGroup (work_of tells (disks from.bay) (disks to.bay)) group (timestamp_of stamp) (request_of_line (length (disks from.bay).sizes) stamp command) done
+    pub is_done : code ≡ 0 → done ≡ true
+
+  -- The group that it found is that of a history, it wasn't refused, and the history admits it.
+  pub record IsLineOf (guid : List ℕ) (old : Moment (groups guid) B) (output : SinkState) (to : Point B) (code : ℕ) (took : LineTook (point old.bay output) to code) : Type 0 where
+    pub found : GroupValue
+    pub is_group : group_of took.taken.newest group ≡ Ok found
+    pub same_group : found.config.group ≡ guid
+    pub steps : List Step
+    pub are_asked : steps_of found (timestamp_of stamp) (request_of_line (length (disks old.bay).sizes) stamp command) ≡ Ok steps
+    pub admitted : IsAdmitted guid old.past (disks old.bay) took.taken.left found

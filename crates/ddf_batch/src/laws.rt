@@ -1,0 +1,55 @@
+// Laws of batches: functions that do nothing, whose contracts are the laws.
+ghost use Rattle.std.specs.Prelude.{◌≡◌, ℕ, List, Option, true, ◌∷◌};
+ghost use Rattle.ddf_bytes.specs.declared.stamp.Stamp.{Stamp};
+ghost use Rattle.ddf_bytes.specs.Streams.{SinkState};
+ghost use Rattle.ddf_bay.specs.Sectors.{Image};
+ghost use Rattle.ddf_view.specs.View.{View};
+ghost use Rattle.ddf_history.specs.Groups.{groups};
+ghost use Rattle.ddf_history.specs.History.{AllKept, Answers, IsHistory, KeepsAcked, Moment};
+ghost use Rattle.ddf_history.specs.Reading.{Each, Scene};
+ghost use Rattle.ddf_history.specs.Scenes.{scene_of};
+ghost use Rattle.ddf_stops.specs.Going.{IsOver, changes_in};
+ghost use Rattle.ddf_stops.specs.Kept.{AreAllKept, is_read};
+ghost use Rattle.ddf_words.specs.Traits.{traits_of};
+ghost use Rattle.ddf_words.specs.Words.{Word};
+ghost use Rattle.ddf_words.specs.declared.command.Command.{Command};
+ghost use Rattle.ddf_command.specs.History.{IsCall, IsCut, IsEnd, Leaves};
+ghost use Rattle.ddf_batch_words.specs.Lines.{AsksFor};
+ghost use Rattle.ddf_batch.specs.Batch.{point};
+ghost use Rattle.ddf_batch.specs.History.{IsLineOf, LineTook};
+ghost use Rattle.ddf_batch.specs.Line.{IsLineRun, Point};
+
+use ddf_bay::Bay;
+use ddf_bytes::Sink;
+use ddf_command::a_group_is_assembled_at_every_moment_of_its_history;
+
+/// A line whose command may write takes the group that it finds as a call of the program does. Where it finds the group of a history that admits it, it is
+/// a call of that history: at its end, done where its status is 0, and at each moment within it, with whatever image a stop left since it began. So the
+/// calls of a batch's lines are calls of one history, each from where the one before it ended.
+pub fn a_line_is_an_event_of_its_history<B: Bay, K: Sink>()
+    ensures took { (stamp : Stamp) (group : Option (List ℕ)) (words : List Word) (from to : Point B) (code : ℕ) (command : Command)
+        → IsLineRun B.tells B.disks K.tells stamp group words from to code → AsksFor words command → (traits_of command).may_write ≡ true
+        → LineTook B.tells B.disks stamp group command from to code }
+    ensures ends { (told : B.tells) (stamp : Stamp) (group : Option (List ℕ)) (command : Command) (guid : List ℕ) (old : Moment (groups guid) B) (output : SinkState) (to : Point B) (code : ℕ)
+        (took : LineTook B.tells B.disks stamp group command (point old.bay output) to code) → IsLineOf B.tells B.disks stamp group command guid old output to code took
+        → AreAllKept guid old.past (B.disks old.bay) → (B.disks to.bay).tells_left
+        → (new : Moment (groups guid) B) × (end : IsEnd told B.disks guid old new) × (new.bay ≡ to.bay) × (code ≡ 0 → end.call.done ≡ true) }
+    ensures cut { (told : B.tells) (stamp : Stamp) (group : Option (List ℕ)) (command : Command) (guid : List ℕ) (old : Moment (groups guid) B) (output : SinkState) (to : Point B) (code : ℕ)
+        (took : LineTook B.tells B.disks stamp group command (point old.bay output) to code) → IsLineOf B.tells B.disks stamp group command guid old output to code took
+        → AreAllKept guid old.past (B.disks old.bay) → (cut : B) (image : Image) → (B.disks to.bay).left_since (B.disks old.bay).moment image
+        → ((scene : Scene View) → Leaves told B.disks guid cut scene → scene ≡ scene_of (B.disks old.bay).sizes image)
+        → (new : Moment (groups guid) B) × (new.bay ≡ cut) × IsCut told B.disks guid old new }
+{}
+
+/// What a line acknowledged is held at each moment since: where it was done all of its changes are issued and acknowledged, and at every later moment of
+/// the history, within the lines behind it or after any stop, they are so still, and assembly gives the configuration after a prefix of the issued
+/// changes that holds them.
+pub fn what_lines_acknowledged_is_held<B: Bay>()
+    ensures acknowledged { (told : B.tells) (guid : List ℕ) (old new : Moment (groups guid) B) (end : IsEnd told B.disks guid old new) → end.call.done ≡ true
+        → IsOver guid old.past (is_read end.call.taken.left) end.call.group (changes_in end.call.group end.call.steps) new.past }
+    ensures held { (told : B.tells) (guid : List ℕ) (new : Moment (groups guid) B) (history : List (Moment (groups guid) B))
+        → AllKept (Leaves told B.disks guid) new → IsHistory (Leaves told B.disks guid) (IsCall told B.disks guid) new history
+        → Each (λ later. KeepsAcked new.past later.past) history × Each (Answers (Leaves told B.disks guid)) (new ∷ history) }
+{
+    a_group_is_assembled_at_every_moment_of_its_history::<B>();
+}

@@ -1,0 +1,4 @@
+pub mod Batch
+pub mod Lines
+pub mod Input
+pub mod Text
