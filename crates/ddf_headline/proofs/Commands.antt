@@ -1,5 +1,5 @@
 -- What commands over a group of disks in memory leave of its history, and what they tell.
-use Rattle.std.proofs.Common.{◌≡◌, ◌∙◌, ◌⊎◌, ℕ, false, List, Option, Some, Result, Ok, Err, refl, sym, subst, inl, inr, arith}
+use Rattle.std.proofs.Common.{◌≡◌, ◌∙◌, ◌⊎◌, ℕ, false, List, Option, Some, None, Result, Ok, Err, refl, sym, ap, subst, inl, inr, arith}
 use Rattle.ddf_bay.specs.Memory.{disks_of}
 use Rattle.ddf_bay.specs.ReadsOnly.{ReadsOnly}
 use Rattle.ddf_bay.specs.Sectors.{Image}
@@ -22,10 +22,11 @@ use Rattle.ddf_answer.specs.Call.{Work, work_of}
 use Rattle.ddf_group_commands.specs.Change.{IsChanged, IsChangedIn, is_done, steps_of}
 use Rattle.ddf_group_commands.proofs.Outcomes.{AreReadied, readied_by}
 use Rattle.ddf_memory_history.specs.Histories.{HasMemberOn, IsCutAt, IsHistoryOn, IsTaken, LeavesCut, LeavesHistory}
+use Rattle.ddf_memory_history.proofs.Alone.{meant_alone}
 use Rattle.ddf_memory_history.proofs.Calls.{leaves_cut, leaves_history, reads_cut, reads_history}
 use Rattle.ddf_memory_history.proofs.Slots.{before_told, left_gone}
 use Rattle.ddf_memory_history.proofs.Stops.{answered}
-use Rattle.ddf_headline.specs.Commands.{GoesOnTo, IsAsked, IsCommand, IsToldAsPromised}
+use Rattle.ddf_headline.specs.Commands.{GoesOnTo, IsAsked, IsCommand, IsToldAsPromised, Means}
 
 pub acked_start : (group : List ℕ) (past : Past (groups group)) → KeepsAcked past past
 acked_start group past = record { later = omega arith; same = λ i config le at. at }
@@ -36,12 +37,21 @@ acked_then group one two three first second = record {
   same = λ i config le at. second.same i config (let up = first.later in omega (arith, le, up)) (first.same i config le at);
 }
 
+-- What the words mean is this group.
+means_it : (group : List ℕ) (newest : List (Option Newest)) (named : Option (List ℕ)) → Means group newest named → group_of newest named ≡ group_of newest (Some group)
+means_it group newest (Some name) is = ap (λ (one : List ℕ). group_of newest (Some one)) is
+means_it group newest None alone = meant_alone newest group alone
+
 module _ (group : List ℕ) (old exit : MemoryBay) (command : IsCommand group old exit) where
   abbrev work : Work MemoryBay
   work = work_of (Unit {0}) (disks_of old) (disks_of exit)
 
   abbrev newest : List (Option Newest)
   newest = command.has.taken.newest
+
+  -- what its words mean is the group
+  same : group_of newest command.named ≡ group_of newest (Some group)
+  same = means_it group newest command.named command.means
 
   -- the changes that were asked for
   pub asked_changes : (asked : IsAsked group old exit command) → AreReadied asked.found command.timestamp asked.steps
@@ -57,7 +67,7 @@ module _ (group : List ℕ) (old exit : MemoryBay) (command : IsCommand group ol
         failed = own.failed;
         gone = command.has.gone ample;
         is_found = subst (λ (copies : List (Option Newest)). group_of copies (Some group) ≡ Ok asked.found) (own.read tt) asked.is_found;
-        keeps = λ one kept admitted. own.keeps tt asked.found asked.is_found asked.steps asked.are_asked group (found_name newest group asked.found asked.is_found) one kept admitted;
+        keeps = λ one kept admitted. own.keeps tt asked.found (same ∙ asked.is_found) asked.steps asked.are_asked group (found_name newest group asked.found asked.is_found) one kept admitted;
       }
 
   -- It asked for steps, with memory ample, or it only read.
@@ -65,18 +75,18 @@ module _ (group : List ℕ) (old exit : MemoryBay) (command : IsCommand group ol
   Came = ReadsOnly (disks_of old) (disks_of exit) ⊎ (IsAsked group old exit command × (command.outcome ≡ Err Memory → ⊥))
 
   came : Came
-  came = by_found (group_of newest (Some group)) refl command.has.gives
+  came = by_found (group_of newest command.named) refl command.has.gives
     where
-      by_outcome : (found : GroupValue) → group_of newest (Some group) ≡ Ok found → (outcome : Result ℕ Failure) → command.outcome ≡ outcome
+      by_outcome : (found : GroupValue) → group_of newest command.named ≡ Ok found → (outcome : Result ℕ Failure) → command.outcome ≡ outcome
           → IsChanged work found (steps_of found command.timestamp command.request) outcome → Came
-      by_outcome found at (Ok sequence) is done = inr (record { found = found; is_found = at; steps = done.steps; are_asked = done.are_asked }, λ spent. absurd (let both = sym is ∙ spent in cc))
+      by_outcome found at (Ok sequence) is done = inr (record { found = found; is_found = sym same ∙ at; steps = done.steps; are_asked = done.are_asked }, λ spent. absurd (let both = sym is ∙ spent in cc))
       by_outcome found at (Err (Refused refusal)) is done = inl done.1
-      by_outcome found at (Err (Disk slot)) is done = inr (record { found = found; is_found = at; steps = done.steps; are_asked = done.are_asked }, λ spent. absurd (let both = sym is ∙ spent in cc))
+      by_outcome found at (Err (Disk slot)) is done = inr (record { found = found; is_found = sym same ∙ at; steps = done.steps; are_asked = done.are_asked }, λ spent. absurd (let both = sym is ∙ spent in cc))
       by_outcome found at (Err Memory) is done = inl done
       by_outcome found at (Err (Conflict i j sequence differ)) is done = absurd done
       by_outcome found at (Err (Split i j)) is done = absurd done
 
-      by_found : (answer : Result GroupValue Assembly) → group_of newest (Some group) ≡ answer → IsChangedIn work command.timestamp command.request answer command.outcome → Came
+      by_found : (answer : Result GroupValue Assembly) → group_of newest command.named ≡ answer → IsChangedIn work command.timestamp command.request answer command.outcome → Came
       by_found (Ok found) at gives = by_outcome found at command.outcome refl gives
       by_found (Err fault) at gives = inl gives.1
 

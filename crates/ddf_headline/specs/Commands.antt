@@ -1,9 +1,12 @@
 -- Commands over a group of disks in memory, as the contracts of the program's calls promise them.
-use Rattle.std.specs.Prelude.{◌≡◌, ℕ, ◌<◌, true, false, List, [], ◌∷◌, Some, Result, Ok, slice_get}
+use Rattle.std.specs.Prelude.{◌≡◌, ℕ, ◌<◌, true, false, List, [], ◌∷◌, map, Option, Some, None, Result, Ok, slice_get}
 use Rattle.ddf_bay.specs.Memory.{disks_of}
 use Rattle.ddf_bay.specs.declared.memory.MemoryBay.{MemoryBay}
 use Rattle.ddf_config.specs.Configuration.{Configuration}
 use Rattle.ddf_copy.specs.declared.copy.DiskCopy.{DiskCopy}
+use Rattle.ddf_copy.specs.declared.newest_copy.Newest.{Newest}
+use Rattle.ddf_group.specs.Shown.{shown_of}
+use Rattle.ddf_group.specs.Slots.{group_shown, slot_at}
 use Rattle.ddf_view.specs.View.{view_of}
 use Rattle.ddf_history.specs.Answer.{IsPromised}
 use Rattle.ddf_history.specs.Groups.{Disk, disk_of, groups, has_current}
@@ -18,13 +21,20 @@ use Rattle.ddf_answer.specs.Call.{work_of}
 use Rattle.ddf_group_commands.specs.Change.{HasChanged, Request, steps_of}
 use Rattle.ddf_memory_history.specs.Histories.{GoesWell, IsHistoryOn}
 
--- A command that takes the group, which its words name: `assemble`, and each that changes a group and writes no blocks. It came to this (`has`, which
+-- The words name the group; or they name none, and no disk shows another one.
+abbrev pub Means : (group : List ℕ) → List (Option Newest) → (named : Option (List ℕ)) → Type 0
+Means group newest (Some name) = name ≡ group
+Means group newest None = (slot : ℕ) (other : List ℕ) → group_shown (slot_at (map shown_of newest) slot) ≡ Some other → other ≡ group
+
+-- A command that takes the group, which its words mean: `assemble`, and each that changes a group and writes no blocks. It came to this (`has`, which
 -- `IsAssembleDone` and `IsChangeDone` hold of the program's calls), over disks in memory of which no call is listed to fail.
 pub record IsCommand (group : List ℕ) (old exit : MemoryBay) : Type 0 where
   pub timestamp : ℕ
   pub request : Request
   pub outcome : Result ℕ Failure
-  pub has : HasChanged (work_of (Unit {0}) (disks_of old) (disks_of exit)) (Some group) timestamp request outcome
+  pub named : Option (List ℕ)
+  pub has : HasChanged (work_of (Unit {0}) (disks_of old) (disks_of exit)) named timestamp request outcome
+  pub means : Means group has.taken.newest named
   pub well : GoesWell old exit
 
 -- The group that it found, and the steps that it asked for.

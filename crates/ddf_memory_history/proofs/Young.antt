@@ -1,27 +1,30 @@
 -- The first calls on a group from elsewhere that was found on disks in memory.
-use Rattle.std.proofs.Common.{◌≡◌, ◌∙◌, ℕ, ◌+◌, ◌<◌, ◌≤◌, Bool, true, false, List, [], length, sym, ap, subst, inl, inr, arith}
+use Rattle.std.proofs.Common.{◌≡◌, ◌⊎◌, ◌∙◌, ℕ, ◌+◌, ◌<◌, ◌≤◌, Bool, true, false, List, [], ◌∷◌, length, take, Some, if◌then◌else◌, refl, sym, ap, subst, inl, inr, arith}
 use Rattle.std.proofs.Math.Path.{fun_ext}
-use Rattle.std.proofs.lemmas.Bool.{false_from_ne_true}
-use Rattle.std.specs.Prelude.{slice_index_or}
+use Rattle.std.proofs.lemmas.Bool.{cases_lt, false_from_ne_true}
+use Rattle.std.specs.Prelude.{slice_get, slice_index_or}
 use Rattle.ddf_bay.specs.Memory.{disks_of}
 use Rattle.ddf_bay.specs.Moments.{IsSettled}
+use Rattle.ddf_bay.specs.ReadsOnly.{ReadsOnly}
 use Rattle.ddf_bay.specs.Sectors.{Image}
 use Rattle.ddf_bay.specs.declared.memory.MemoryBay.{MemoryBay}
 use Rattle.ddf_config.specs.Configuration.{Configuration}
 use Rattle.ddf_view.specs.View.{View}
-use Rattle.ddf_history.specs.Groups.{groups}
-use Rattle.ddf_history.specs.Issued.{Past}
+use Rattle.ddf_history.specs.Groups.{Disk, groups, has_current}
+use Rattle.ddf_history.specs.History.{KeepsAcked}
+use Rattle.ddf_history.specs.Issued.{Past, issue, leave_out, take_off}
 use Rattle.ddf_history.specs.Promise.{IsKept}
-use Rattle.ddf_history.specs.Reading.{Scene}
+use Rattle.ddf_history.specs.Reading.{IsCopyOf, Scene}
 use Rattle.ddf_history.specs.Scenes.{scene_of}
 use Rattle.ddf_history.proofs.Members.{leading_member}
 use Rattle.ddf_history.proofs.Sound.{groups_are_sound}
 use Rattle.ddf_assembly.specs.Group.{GroupValue}
-use Rattle.ddf_stops.specs.Going.{Ends, IsAdmitted, IsOver, KeepsHistory, KeepsSlots}
+use Rattle.ddf_assembly.specs.Recovery.{some}
+use Rattle.ddf_stops.specs.Going.{Ends, IsAdmitted, IsOver, KeepsHistory, KeepsSlots, begun, issue_all}
 use Rattle.ddf_stops.specs.Kept.{AreAllKept, is_read}
 use Rattle.ddf_stops.proofs.Acked.{ends_keeps}
 use Rattle.ddf_stops.proofs.SlotsKept.{ends_slots}
-use Rattle.ddf_memory_history.specs.Found.{BeginsFound, IsYoungOn, LeadsOn, LeavesOurs}
+use Rattle.ddf_memory_history.specs.Found.{BeginsFound, IsYoungOn, LeadsOn, LeavesFound, LeavesOurs, StandsFound, shown_on}
 use Rattle.ddf_memory_history.specs.Histories.{GoesWell, IsHistoryOn, IsTaken}
 use Rattle.ddf_memory_history.proofs.Found.{shown_within}
 use Rattle.ddf_memory_history.proofs.Slots.{becomes, before_told, left_gone, read_at, read_below, reads_left}
@@ -120,5 +123,100 @@ module _ (group : List ℕ) (past : Past (groups group)) (old exit : MemoryBay) 
       done_ours = λ is some. ours (over_own (over_of is) some);
     }
 
+    -- ---- where the sectors stay as they were
+
+    issue_lost : (one : Past (groups group)) (some : List Configuration) → (issue_all group one some).lost ≡ one.lost
+    issue_lost one [] = refl
+    issue_lost one (next ∷ others) = issue_lost (issue one next) others
+
+    begun_lost : (number : ℕ) → (begun group past (is_read readable) found number).lost ≡ past.lost
+    begun_lost number = ap (λ (all : List ℕ). (if some all then take_off (leave_out past (is_read readable) found.config) number else take_off past number).lost) absent
+
+    same_lost : (b : Bool) → Ends group past (is_read readable) found changes b now → now.lost ≡ past.lost
+    same_lost true over =
+        ap (λ (one : Past (groups group)). one.lost) over.is_now ∙ issue_lost (begun group past (is_read readable) found over.number) changes ∙ begun_lost over.number
+    same_lost false (inl same) = ap (λ (one : Past (groups group)). one.lost) same
+    same_lost false (inr is) =
+        ap (λ (one : Past (groups group)). one.lost) is.is_now ∙ issue_lost (begun group past (is_read readable) found is.number) (take is.issued changes) ∙ begun_lost is.number
+
+    acked : KeepsAcked past now
+    acked = ends_keeps group past now (is_read readable) found changes done ends
+
+    still_young : now.changes.acked ≡ 0 → IsYoungOn group now exit
+    still_young none = record {
+      kept = all_kept;
+      same_slots = slots.same_slots ∙ history.same_slots ∙ sym (ap length same_sizes);
+      acked_is = none;
+      own = slots.same_own ∙ history.own;
+      lost_none = λ s. ap (λ (lost : ℕ → Bool). lost s) (same_lost done ends) ∙ history.lost_none s;
+      plugged = λ s there gone.
+          history.plugged s (subst (λ (sizes : List ℕ). s < length sizes) same_sizes there)
+          (ap (λ (unplugged : List Bool). slice_index_or unplugged s false) (sym (becomes old exit well).same_unplugged) ∙ gone);
+    }
+
+    still_leads : now.changes.acked ≡ 0 → ((s l : ℕ) → (disks_of exit).held s l ≡ (disks_of old).held s l) → LeadsOn group now (disks_of exit)
+    still_leads none held =
+        let same_held : (disks_of exit).held ≡ (disks_of old).held = fun_ext (λ s. fun_ext (λ l. held s l)) in
+        let same_shown : shown_on (disks_of exit) ≡ shown_on (disks_of old) =
+        ap (λ (sizes : List ℕ). scene_of sizes (disks_of exit).held) same_sizes ∙ ap (scene_of (disks_of old).sizes) same_held in
+        let first : slice_get past.changes.issued 0 ≡ Some leads.config = subst (λ (n : ℕ). slice_get past.changes.issued n ≡ Some leads.config) history.acked_is leads.is_last in
+        record {
+          slot = leads.slot;
+          there = subst (λ (sizes : List ℕ). leads.slot < length sizes) (sym same_sizes) leads.there;
+          config = leads.config;
+          is_last = subst (λ (n : ℕ). slice_get now.changes.issued n ≡ Some leads.config) (sym none) (acked.same 0 leads.config (omega arith) first);
+          is_current = ap (λ (disk : ℕ → Disk). has_current leads.config (disk leads.slot)) slots.same_disks ∙ leads.is_current;
+          copy = leads.copy;
+          is_copy = subst (λ (scene : Scene View). IsCopyOf (scene leads.slot) leads.copy) (sym same_shown) leads.is_copy;
+          is_standing = leads.is_standing;
+          late = leads.late;
+        }
+
+    pub stays_found : ((s l : ℕ) → (disks_of exit).held s l ≡ (disks_of old).held s l) → LeavesFound group past exit readable found changes done
+    stays_found held = record {
+      now = now;
+      ends = ends;
+      goes_on = elim (cases_lt 0 now.changes.acked) [
+        | inl later ↦ inr (ours (let same = slots.same_own in let own = history.own in omega (arith, later, same, own)))
+        | inr none ↦ (let zero_acked : now.changes.acked ≡ 0 = omega (arith, none) in inl (record { young = still_young zero_acked; leads = still_leads zero_acked held }))
+      ];
+    }
+
   pub leaves_ours : LeavesOurs group past exit readable found changes done
   leaves_ours = let ends = keeps.ends told in ended ends.0 ends.1 ends.2
+
+  pub leaves_found : ((s l : ℕ) → (disks_of exit).held s l ≡ (disks_of old).held s l) → LeavesFound group past exit readable found changes done
+  leaves_found held = let ends = keeps.ends told in stays_found ends.0 ends.1 ends.2 held
+
+-- ---- a call that only reads
+
+module _ (group : List ℕ) (past : Past (groups group)) (old exit : MemoryBay) (history : IsYoungOn group past old) (leads : LeadsOn group past (disks_of old)) (well : GoesWell old exit)
+    (reads : ReadsOnly (disks_of old) (disks_of exit)) where
+  pub read_found : StandsFound group past exit
+  read_found = record {
+    young = record {
+      kept = λ image left.
+          subst (λ (sizes : List ℕ). IsKept past (scene_of sizes image)) (sym reads.same_sizes) (history.kept image (λ s l. reads.keeps s l (image s l) (left s l)));
+      same_slots = history.same_slots ∙ sym (ap length reads.same_sizes);
+      acked_is = history.acked_is;
+      own = history.own;
+      lost_none = history.lost_none;
+      plugged = λ s there gone.
+          history.plugged s (subst (λ (sizes : List ℕ). s < length sizes) reads.same_sizes there)
+          (ap (λ (unplugged : List Bool). slice_index_or unplugged s false) (sym (becomes old exit well).same_unplugged) ∙ gone);
+    };
+    leads =
+        let same_shown : shown_on (disks_of exit) ≡ shown_on (disks_of old) =
+        ap (λ (sizes : List ℕ). scene_of sizes (disks_of exit).held) reads.same_sizes ∙ ap (scene_of (disks_of old).sizes) reads.same_held in
+        record {
+          slot = leads.slot;
+          there = subst (λ (sizes : List ℕ). leads.slot < length sizes) (sym reads.same_sizes) leads.there;
+          config = leads.config;
+          is_last = leads.is_last;
+          is_current = leads.is_current;
+          copy = leads.copy;
+          is_copy = subst (λ (scene : Scene View). IsCopyOf (scene leads.slot) leads.copy) (sym same_shown) leads.is_copy;
+          is_standing = leads.is_standing;
+          late = leads.late;
+        };
+  }

@@ -1,5 +1,5 @@
 -- A group that was found on disks, as a history begins with it.
-use Rattle.std.specs.Prelude.{◌≡◌, ℕ, ◌<◌, ◌≤◌, true, false, Bool, List, [], ◌∷◌, length, Some, Ok, slice_get, slice_index_or}
+use Rattle.std.specs.Prelude.{◌≡◌, ◌⊎◌, ℕ, ◌<◌, ◌≤◌, true, false, Bool, List, [], ◌∷◌, length, Some, Ok, slice_get, slice_index_or}
 use Rattle.ddf_bay.specs.Memory.{disks_of}
 use Rattle.ddf_bay.specs.State.{BayState}
 use Rattle.ddf_bay.specs.declared.memory.MemoryBay.{MemoryBay}
@@ -75,6 +75,17 @@ pub record IsYoungOn (group : List ℕ) (past : Past (groups group)) (bay : Memo
   pub own : past.changes.own_from ≡ 1
   pub lost_none : (slot : ℕ) → past.lost slot ≡ false
   pub plugged : (slot : ℕ) → slot < length (disks_of bay).sizes → (disks_of bay).gone slot → ⊥
+
+-- The group can be taken as it was found: no change of this engine is acknowledged yet, and a slot leads.
+pub record StandsFound (group : List ℕ) (past : Past (groups group)) (bay : MemoryBay) : Type 0 where
+  pub young : IsYoungOn group past bay
+  pub leads : LeadsOn group past (disks_of bay)
+
+-- A call that left the sectors as they were leaves it so, or a change of this engine is acknowledged behind it.
+pub record LeavesFound (group : List ℕ) (past : Past (groups group)) (exit : MemoryBay) (readable : List Bool) (found : GroupValue) (changes : List Configuration) (done : Bool) : Type 0 where
+  pub now : Past (groups group)
+  pub ends : Ends group past (is_read readable) found changes done now
+  pub goes_on : StandsFound group now exit ⊎ IsHistoryOn group now exit
 
 -- A call leaves the group as a history of it that goes on, as far as the call came. Once a change of this engine is acknowledged nothing has to be
 -- assumed of the group any more.

@@ -1,5 +1,5 @@
 // Laws of histories of a group on disks in memory: functions that do nothing, whose contracts are the laws.
-ghost use Rattle.std.specs.Prelude.{◌≡◌, ◌<◌, ◌≤◌, ◌+◌, ◌-◌, ◌^◌, ℕ, Bool, true, false, ◌==◌, [], List, map, Option, Some, Ok, length};
+ghost use Rattle.std.specs.Prelude.{◌≡◌, ◌<◌, ◌≤◌, ◌+◌, ◌-◌, ◌^◌, ℕ, Bool, true, false, ◌==◌, [], List, map, Option, None, Some, Ok, length};
 ghost use Rattle.ddf_bay.specs.Memory.{disks_of, state_of, without};
 ghost use Rattle.ddf_bay.specs.Moments.{IsSettled};
 ghost use Rattle.ddf_bay.specs.ReadsOnly.{ReadsOnly};
@@ -13,13 +13,13 @@ ghost use Rattle.ddf_group.specs.Shown.{shown_of};
 ghost use Rattle.ddf_group.specs.Slots.{group_shown, shows_group, slot_at};
 ghost use Rattle.ddf_history.specs.Groups.{groups, has_current, has_missing};
 ghost use Rattle.ddf_history.specs.Issued.{IsSince, Past, give_back, lose};
-ghost use Rattle.ddf_assembly.specs.Group.{GroupValue};
+ghost use Rattle.ddf_assembly.specs.Group.{GroupValue, group_of};
 ghost use Rattle.ddf_assembly.specs.Ready.{readied};
 ghost use Rattle.ddf_assembly.specs.Slots.{AreOut};
 ghost use Rattle.ddf_assembly.specs.Steps.{Step};
 ghost use Rattle.ddf_stops.specs.Going.{Ends, IsOver, changes_in};
 ghost use Rattle.ddf_stops.specs.Kept.{is_read};
-ghost use Rattle.ddf_memory_history.specs.Found.{BeginsFound, IsFoundWhole, IsYoungOn, LeadsOn, LeavesOurs};
+ghost use Rattle.ddf_memory_history.specs.Found.{BeginsFound, IsFoundWhole, IsYoungOn, LeadsOn, LeavesFound, LeavesOurs, StandsFound};
 ghost use Rattle.ddf_memory_history.specs.Histories.{AreRead, GoesWell, HasMemberOn, IsAnswered, IsCutAt, IsHistoryOn, IsStopped, IsTaken, LeavesCut, LeavesHistory, StaysMember};
 
 use ddf_bay::Bay;
@@ -123,10 +123,19 @@ pub fn a_group_that_was_found_whole_goes_on()
     ensures goes_on { (group : List ℕ) (past : Past (groups group)) (old exit : MemoryBay) (readable : List Bool) (found : GroupValue) (changes : List Configuration) (done : Bool)
         → IsYoungOn group past old → LeadsOn group past (disks_of old) → GoesWell old exit → IsTaken group old exit readable found changes done → found.absent ≡ []
         → (disks_of exit).tells_left → LeavesOurs group past exit readable found changes done }
+
+    // A call that leaves the sectors as they were, as one that has nothing to write, leaves it so that the next call may be the first to change it; so does one that only reads.
+    ensures stays { (group : List ℕ) (past : Past (groups group)) (old exit : MemoryBay) (readable : List Bool) (found : GroupValue) (changes : List Configuration) (done : Bool)
+        → IsYoungOn group past old → LeadsOn group past (disks_of old) → GoesWell old exit → IsTaken group old exit readable found changes done → found.absent ≡ []
+        → (disks_of exit).tells_left → ((slot lba : ℕ) → (disks_of exit).held slot lba ≡ (disks_of old).held slot lba) → LeavesFound group past exit readable found changes done }
+    ensures reads { (group : List ℕ) (past : Past (groups group)) (old exit : MemoryBay) → IsYoungOn group past old → LeadsOn group past (disks_of old) → GoesWell old exit
+        → ReadsOnly (disks_of old) (disks_of exit) → StandsFound group past exit }
 {}
 
-/// A group that is shown isn't absorbed where no other one is shown.
+/// A group that is shown isn't absorbed where no other one is shown, and is the one that is meant where none is named.
 pub fn a_group_that_is_shown_alone_isnt_absorbed()
-    ensures { (newest : List (Option Newest)) (group : List ℕ) (slot : ℕ) → shows_group group (slot_at (map shown_of newest) slot) ≡ true
+    ensures free { (newest : List (Option Newest)) (group : List ℕ) (slot : ℕ) → shows_group group (slot_at (map shown_of newest) slot) ≡ true
         → ((other : ℕ) (found : List ℕ) → group_shown (slot_at (map shown_of newest) other) ≡ Some found → found ≡ group) → is_absorbed (map shown_of newest) group ≡ false }
+    ensures meant { (newest : List (Option Newest)) (group : List ℕ)
+        → ((slot : ℕ) (other : List ℕ) → group_shown (slot_at (map shown_of newest) slot) ≡ Some other → other ≡ group) → group_of newest None ≡ group_of newest (Some group) }
 {}
