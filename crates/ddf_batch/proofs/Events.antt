@@ -1,15 +1,16 @@
 -- Lines of a batch are events of histories.
-use Rattle.std.proofs.Common.{◌≡◌, ◌∙◌, ◌⊎◌, inl, inr, ⊎_elim, ℕ, ◌≤◌, Bool, true, false, List, length, Option, Result, Ok, Err, refl, sym, subst, arith}
+use Rattle.std.proofs.Common.{◌≡◌, ◌∙◌, ◌⊎◌, ◌||◌, ap, inl, inr, ⊎_elim, ℕ, ◌≤◌, Bool, true, false, nat_lt, List, [], ◌∷◌, length, Option, Result, Ok, Err, refl, sym, subst, arith}
 use Rattle.std.proofs.lemmas.Bool.{false≢true}
 use Rattle.ddf_bytes.specs.declared.stamp.Stamp.{Stamp}
 use Rattle.ddf_bytes.specs.Streams.{SinkState}
-use Rattle.ddf_bay.specs.Sectors.{Image}
+use Rattle.ddf_bay.specs.ReadsOnly.{ReadsOnly}
+use Rattle.ddf_bay.specs.Sectors.{Image, IsLeft}
 use Rattle.ddf_bay.specs.State.{BayState}
 use Rattle.ddf_view.specs.View.{View}
 use Rattle.ddf_assembly.specs.Group.{GroupValue}
 use Rattle.ddf_group.specs.declared.answer.Assembly.{Assembly}
 use Rattle.ddf_history.specs.Groups.{groups}
-use Rattle.ddf_history.specs.History.{Moment}
+use Rattle.ddf_history.specs.History.{IsHistory, Moment}
 use Rattle.ddf_history.specs.Issued.{Past}
 use Rattle.ddf_history.specs.Promise.{IsKept}
 use Rattle.ddf_history.specs.Reading.{Scene}
@@ -17,6 +18,7 @@ use Rattle.ddf_history.specs.Scenes.{scene_of}
 use Rattle.ddf_stops.specs.Going.{Ends, Goes, IsOver, changes_in}
 use Rattle.ddf_stops.specs.Kept.{AreAllKept, is_read}
 use Rattle.ddf_words.specs.Traits.{traits_of}
+use Rattle.ddf_words.specs.Words.{Word}
 use Rattle.ddf_words.specs.declared.command.Command.{Command}
 use Rattle.ddf_words.specs.declared.command.Command.TheVariants.{Assemble, Change, Examine, Label, Read, Rebuild, Resync, Scrub, Show, Write}
 use Rattle.ddf_answer.specs.Answers.{IsToldFailure}
@@ -24,13 +26,14 @@ use Rattle.ddf_answer.specs.Call.{Answer, answer_of, work_of}
 use Rattle.ddf_answer.specs.declared.failure.Failure.{Failure}
 use Rattle.ddf_answer.specs.declared.failure.Failure.TheVariants.{Conflict, Disk, Memory, Refused, Split}
 use Rattle.ddf_answer.specs.Tells.{IsCutShort}
+use Rattle.ddf_group_commands.proofs.Beside.{reads_beside}
 use Rattle.ddf_group_commands.specs.Assemble.{IsTold}
 use Rattle.ddf_group_commands.specs.Change.{IsToldChange, is_done}
-use Rattle.ddf_command.specs.History.{GroupCall, IsCut, IsEnd, Leaves, kept_by, past_at}
+use Rattle.ddf_command.specs.History.{GroupCall, IsCall, IsCut, IsEnd, IsOther, Leaves, OtherCall, kept_by, past_at}
 use Rattle.ddf_command.specs.Run.{IsCommandDone}
 use Rattle.ddf_batch_words.specs.Lines.{is_for_lines}
-use Rattle.ddf_batch.specs.Batch.{point}
-use Rattle.ddf_batch.specs.History.{IsLineOf, LineTook}
+use Rattle.ddf_batch.specs.Batch.{AreLinesRun, Going, goes_on, point}
+use Rattle.ddf_batch.specs.History.{AreCallsOf, Behind, IsLineOf, LineTook}
 use Rattle.ddf_batch.specs.Line.{Point, no_input}
 
 -- ---- status 0 is that of a call that was done
@@ -115,6 +118,34 @@ module _ {B : Type 0} {tells : Type 0} (told : tells) (disks : B → BayState B)
         record { call = call; kept = kept; image = image; since = since; was_left = was_left; is_left = is_left; is_past = refl },
       )
 
+-- ---- it wrote nothing
+
+module _ {B : Type 0} {tells : Type 0} (told : tells) (disks : B → BayState B) (counts_now : (bay : B) (t : ℕ) (image : Image) → t ≤ (disks bay).moment → IsLeft (disks bay).may_hold image → (disks bay).left_since t image)
+    (guid : List ℕ) (old : Moment (groups guid) B) (to : Point B) (reads : ReadsOnly (disks old.bay) (disks to.bay)) (held : IsLeft (disks old.bay).may_hold (disks old.bay).held) where
+  abbrev other : OtherCall told disks guid old
+  other = record {
+    exit = to.bay;
+    written = [];
+    leaves_others = reads_beside (disks old.bay) (disks to.bay) [] reads;
+    is_held = held;
+    are_aside = λ image left slot is. absurd (false≢true is);
+  }
+
+  pub reads_other : (new : Moment (groups guid) B) × (new.bay ≡ to.bay) × IsOther told disks guid old new
+  reads_other = (
+    record { past = old.past; bay = to.bay },
+    refl,
+    record {
+      call = other;
+      same_past = refl;
+      was_left = λ scene leaves. (
+        leaves.image,
+        counts_now to.bay (disks old.bay).moment leaves.image reads.any_moment.later leaves.is_left,
+        leaves.is_shown ∙ ap (λ (sizes : List ℕ). scene_of sizes leaves.image) reads.same_sizes,
+      );
+    },
+  )
+
 -- ---- what it acknowledged
 
 pub is_over : {B : Type 0} {tells : Type 0} (told : tells) (disks : B → BayState B) (guid : List ℕ) (old new : Moment (groups guid) B) (end : IsEnd told disks guid old new) → end.call.done ≡ true
@@ -124,3 +155,30 @@ is_over told disks guid old new end done =
     let over : Ends guid old.past (is_read end.call.taken.left) end.call.group (changes_in end.call.group end.call.steps) true own.0 =
     subst (λ (whole : Bool). Ends guid old.past (is_read end.call.taken.left) end.call.group (changes_in end.call.group end.call.steps) whole own.0) done own.1 in
     subst (λ (past : Past (groups guid)). IsOver guid old.past (is_read end.call.taken.left) end.call.group (changes_in end.call.group end.call.steps) past) (sym end.is_past) over
+
+-- ---- the moments behind lines
+
+module _ {B : Type 0} {tells : Type 0} (told : tells) (disks : B → BayState B) (sink : Type 0) (stamp : Stamp) (group : Option (List ℕ)) (images : List Word) (guid : List ℕ) where
+  abbrev History : (old : Moment (groups guid) B) → List (Moment (groups guid) B) → Type 0
+  History old moments = IsHistory (Leaves told disks guid) (IsCall told disks guid) old moments
+
+  no_more : (old : Moment (groups guid) B) (moments : List (Moment (groups guid) B)) → moments ≡ [] → History old moments
+  no_more old moments none = subst (λ (some : List (Moment (groups guid) B)). History old some) (sym none) tt
+
+  by_going : (going_on : Bool) (follows ends : Type 0) (going : Going going_on follows ends) (of_others : follows → Type 0) (at_end goal : Type 0)
+      → ((others : follows) → of_others others → goal) → (at_end → goal) → Behind going_on follows ends going of_others at_end → goal
+  by_going true follows ends going of_others at_end goal others last is = others going is
+  by_going false follows ends going of_others at_end goal others last is = last is
+
+  pub lines_history : (lines : List (List ℕ)) (from to : Point B) (refused : Bool) (status : ℕ) (ran : AreLinesRun tells disks sink stamp group images lines from to refused status)
+      (old : Moment (groups guid) B) (moments : List (Moment (groups guid) B)) → AreCallsOf told disks sink stamp group images guid lines from to refused status ran old moments → History old moments
+  lines_history [] from to refused status ran old moments none = no_more old moments none
+  lines_history (line ∷ lines) from to refused status ran old [] is = absurd is
+  lines_history (line ∷ lines) from to refused status ran old (new ∷ moments) is = (
+    inl is.0,
+    by_going (goes_on ran.1) (AreLinesRun tells disks sink stamp group images lines ran.0 to (refused || nat_lt 0 ran.1) status) ((to ≡ ran.0) × (status ≡ ran.1)) ran.3
+        (λ others. AreCallsOf told disks sink stamp group images guid lines ran.0 to (refused || nat_lt 0 ran.1) status others new moments) (moments ≡ []) (History new moments)
+        (λ others calls. lines_history lines ran.0 to (refused || nat_lt 0 ran.1) status others new moments calls)
+        (no_more new moments)
+        is.2,
+  )

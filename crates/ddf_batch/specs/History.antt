@@ -1,5 +1,5 @@
 -- What the lines of a batch are to the histories of a group.
-use Rattle.std.specs.Prelude.{◌≡◌, ℕ, Bool, true, List, length, Option, Ok}
+use Rattle.std.specs.Prelude.{◌≡◌, ℕ, Bool, true, false, ◌||◌, nat_lt, List, [], ◌∷◌, length, Option, Ok}
 use Rattle.ddf_bytes.specs.declared.stamp.Stamp.{Stamp}
 use Rattle.ddf_bytes.specs.Stamps.{timestamp_of}
 use Rattle.ddf_bytes.specs.Streams.{SinkState}
@@ -9,6 +9,7 @@ use Rattle.ddf_assembly.specs.Steps.{Step}
 use Rattle.ddf_history.specs.Groups.{groups}
 use Rattle.ddf_history.specs.History.{Moment}
 use Rattle.ddf_stops.specs.Going.{IsAdmitted}
+use Rattle.ddf_words.specs.Words.{Word}
 use Rattle.ddf_words.specs.declared.command.Command.{Command}
 use Rattle.ddf_words.specs.declared.command.Command.TheVariants.{Change, Rebuild, Resync}
 use Rattle.ddf_answer.specs.Call.{work_of}
@@ -17,7 +18,8 @@ use Rattle.ddf_group_commands.specs.Change.{Request, TakesGroup, steps_of}
 use Rattle.ddf_group_commands.specs.Requests.{request_for}
 use Rattle.ddf_write_commands.specs.Resync.{resync_request}
 use Rattle.ddf_rebuild_command.specs.Asked.{rebuild_request}
-use Rattle.ddf_batch.specs.Batch.{point}
+use Rattle.ddf_command.specs.History.{IsCall}
+use Rattle.ddf_batch.specs.Batch.{AreLinesRun, Going, goes_on, point}
 use Rattle.ddf_batch.specs.Line.{Point}
 
 -- the changes that the command of a line asks of a group, on so many slots
@@ -42,3 +44,20 @@ module _ {B : Type 0} (tells : Type 0) (disks : B → BayState B) (stamp : Stamp
     pub steps : List Step
     pub are_asked : steps_of found (timestamp_of stamp) (request_of_line (length (disks old.bay).sizes) stamp command) ≡ Ok steps
     pub admitted : IsAdmitted guid old.past (disks old.bay) took.taken.left found
+
+-- what holds of what follows, or else of the end
+abbrev pub Behind : (goes_on : Bool) → (follows ends : Type 0) → Going goes_on follows ends → (of_others : follows → Type 0) → (at_end : Type 0) → Type 0
+Behind true follows ends going of_others at_end = of_others going
+Behind false follows ends going of_others at_end = at_end
+
+module _ {B : Type 0} {tells : Type 0} (told : tells) (disks : B → BayState B) (sink : Type 0) (stamp : Stamp) (group : Option (List ℕ)) (images : List Word) (guid : List ℕ) where
+  -- The calls of lines that were run belong to a history of a group: behind each line stands a moment, with the bay that the line left, and the call from
+  -- the moment before is one of the history, or one that doesn't take its group.
+  abbrev pub AreCallsOf : (lines : List (List ℕ)) → (from to : Point B) → (refused : Bool) → (status : ℕ) → AreLinesRun tells disks sink stamp group images lines from to refused status
+      → (old : Moment (groups guid) B) → List (Moment (groups guid) B) → Type 0
+  AreCallsOf [] from to refused status ran old moments = moments ≡ []
+  AreCallsOf (line ∷ lines) from to refused status ran old [] = ⊥
+  AreCallsOf (line ∷ lines) from to refused status ran old (new ∷ moments) =
+      IsCall told disks guid old new × (new.bay ≡ ran.0.bay)
+      × Behind (goes_on ran.1) (AreLinesRun tells disks sink stamp group images lines ran.0 to (refused || nat_lt 0 ran.1) status) ((to ≡ ran.0) × (status ≡ ran.1)) ran.3
+      (λ others. AreCallsOf lines ran.0 to (refused || nat_lt 0 ran.1) status others new moments) (moments ≡ [])

@@ -1,8 +1,9 @@
 // Laws of batches: functions that do nothing, whose contracts are the laws.
-ghost use Rattle.std.specs.Prelude.{◌≡◌, ℕ, List, Option, true, ◌∷◌};
+ghost use Rattle.std.specs.Prelude.{◌≡◌, ℕ, Bool, List, Option, true, ◌∷◌};
 ghost use Rattle.ddf_bytes.specs.declared.stamp.Stamp.{Stamp};
 ghost use Rattle.ddf_bytes.specs.Streams.{SinkState};
-ghost use Rattle.ddf_bay.specs.Sectors.{Image};
+ghost use Rattle.ddf_bay.specs.ReadsOnly.{ReadsOnly};
+ghost use Rattle.ddf_bay.specs.Sectors.{Image, IsLeft};
 ghost use Rattle.ddf_view.specs.View.{View};
 ghost use Rattle.ddf_history.specs.Groups.{groups};
 ghost use Rattle.ddf_history.specs.History.{AllKept, Answers, IsHistory, KeepsAcked, Moment};
@@ -13,10 +14,10 @@ ghost use Rattle.ddf_stops.specs.Kept.{AreAllKept, is_read};
 ghost use Rattle.ddf_words.specs.Traits.{traits_of};
 ghost use Rattle.ddf_words.specs.Words.{Word};
 ghost use Rattle.ddf_words.specs.declared.command.Command.{Command};
-ghost use Rattle.ddf_command.specs.History.{IsCall, IsCut, IsEnd, Leaves};
+ghost use Rattle.ddf_command.specs.History.{IsCall, IsCut, IsEnd, IsOther, Leaves};
 ghost use Rattle.ddf_batch_words.specs.Lines.{AsksFor};
-ghost use Rattle.ddf_batch.specs.Batch.{point};
-ghost use Rattle.ddf_batch.specs.History.{IsLineOf, LineTook};
+ghost use Rattle.ddf_batch.specs.Batch.{AreLinesRun, point};
+ghost use Rattle.ddf_batch.specs.History.{AreCallsOf, IsLineOf, LineTook};
 ghost use Rattle.ddf_batch.specs.Line.{IsLineRun, Point};
 
 use ddf_bay::Bay;
@@ -39,17 +40,25 @@ pub fn a_line_is_an_event_of_its_history<B: Bay, K: Sink>()
         → AreAllKept guid old.past (B.disks old.bay) → (cut : B) (image : Image) → (B.disks to.bay).left_since (B.disks old.bay).moment image
         → ((scene : Scene View) → Leaves told B.disks guid cut scene → scene ≡ scene_of (B.disks old.bay).sizes image)
         → (new : Moment (groups guid) B) × (new.bay ≡ cut) × IsCut told B.disks guid old new }
+
+    // A line that wrote nothing, as one that is refused, belongs to each history whose disks as they read are one of the images that a stop might have left.
+    ensures reads { (told : B.tells) (guid : List ℕ) (old : Moment (groups guid) B) (to : Point B) → ReadsOnly (B.disks old.bay) (B.disks to.bay) → IsLeft (B.disks old.bay).may_hold (B.disks old.bay).held
+        → (new : Moment (groups guid) B) × (new.bay ≡ to.bay) × IsOther told B.disks guid old new }
 {}
 
 /// What a line acknowledged is held at each moment since: where it was done all of its changes are issued and acknowledged, and at every later moment of
 /// the history, within the lines behind it or after any stop, they are so still, and assembly gives the configuration after a prefix of the issued
-/// changes that holds them.
-pub fn what_lines_acknowledged_is_held<B: Bay>()
+/// changes that holds them. The moments behind the lines of a batch are such a history.
+pub fn what_lines_acknowledged_is_held<B: Bay, K: Sink>()
     ensures acknowledged { (told : B.tells) (guid : List ℕ) (old new : Moment (groups guid) B) (end : IsEnd told B.disks guid old new) → end.call.done ≡ true
         → IsOver guid old.past (is_read end.call.taken.left) end.call.group (changes_in end.call.group end.call.steps) new.past }
     ensures held { (told : B.tells) (guid : List ℕ) (new : Moment (groups guid) B) (history : List (Moment (groups guid) B))
         → AllKept (Leaves told B.disks guid) new → IsHistory (Leaves told B.disks guid) (IsCall told B.disks guid) new history
         → Each (λ later. KeepsAcked new.past later.past) history × Each (Answers (Leaves told B.disks guid)) (new ∷ history) }
+    ensures lines { (told : B.tells) (stamp : Stamp) (group : Option (List ℕ)) (images : List Word) (guid : List ℕ) (lines : List (List ℕ)) (from to : Point B) (refused : Bool) (status : ℕ)
+        (ran : AreLinesRun B.tells B.disks K.tells stamp group images lines from to refused status) (old : Moment (groups guid) B) (moments : List (Moment (groups guid) B))
+        → AreCallsOf told B.disks K.tells stamp group images guid lines from to refused status ran old moments
+        → IsHistory (Leaves told B.disks guid) (IsCall told B.disks guid) old moments }
 {
     a_group_is_assembled_at_every_moment_of_its_history::<B>();
 }

@@ -1,4 +1,4 @@
-use Rattle.ddf_batch.proofs.Events.{cuts, ends, line_took}
+use Rattle.ddf_batch.proofs.Events.{cuts, ends, line_took, reads_other}
 use Rattle.ddf_batch.proofs.laws.a_line_is_an_event_of_its_history.Goals as goal
 
 pub returns-clause-took : goal.returns-clause-took
@@ -11,3 +11,6 @@ returns-clause-ends g c = λ told stamp group command guid old output to code to
 pub returns-clause-cut : goal.returns-clause-cut
 returns-clause-cut g c = λ told stamp group command guid old output to code took is kept cut image was_left is_left.
     cuts told g.B.Bay.disks stamp group command guid old output to code took is kept cut image was_left is_left
+
+pub returns-clause-reads : goal.returns-clause-reads
+returns-clause-reads g c = λ told guid old to reads held. reads_other told g.B.Bay.disks g.met.B.Bay.counts_now guid old to reads held
