@@ -7,9 +7,9 @@ ghost use Rattle.ddf_batch_words.specs.Text.{IsReadAs, ascii_of};
 use std::str;
 
 /// The byte that stands for others than text: it is in no command's words.
-const NO_TEXT: u8 = 0x7f;
+const NO_TEXT: u8 = 0x00;
 
-/// Takes the end of the last line away, and makes text of the bytes before: where they aren't UTF-8, each from 80 on becomes 7F, which stands in no
+/// Takes the end of the last line away, and makes text of the bytes before: where they aren't UTF-8, each from 80 on becomes 00, which stands in no
 /// command's words.
 pub fn make_text(bytes: &mut Vec<u8>)
     ensures { IsReadAs (without_end bytes.old.items) bytes.new.items }

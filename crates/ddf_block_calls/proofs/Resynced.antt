@@ -11,6 +11,8 @@ use Rattle.ddf_config.specs.Members.{same_guid}
 use Rattle.ddf_plan.specs.declared.change.Change.TheVariants.{Unmark}
 use Rattle.ddf_array.specs.Sound.{AreSectors}
 use Rattle.ddf_array.specs.Viewing.{is_array_within, view_of}
+use Rattle.ddf_array.specs.Volume.{IsVolume}
+use Rattle.ddf_array.specs.Within.{is_within}
 use Rattle.ddf_cells.specs.Alike.{AreAlike}
 use Rattle.ddf_cells.proofs.Alike.{value_same}
 use Rattle.ddf_data.specs.Allowed.{Allowed, once_consistent}
@@ -110,6 +112,10 @@ module _ {D : Type 0} (tells : Type 0) (told : tells) (old new : BayState D) (gr
   is_split =
       prepared.is_split group old past floor promises resynced.taken.left resynced.taken.newest named found called timestamp word resync_refusals resync_behind plan has (Some (Unmark plan.entry.0 wholly)) refl
       (λ change is. (wholly, let same : Unmark plan.entry.0 wholly ≡ change = cc in sym same))
+
+  -- So the array was within its level.
+  pub was_within : (is_within plan.volume ≡ true) × IsVolume plan.volume
+  was_within = let split = is_split in (split.within, split.known)
 
   carried : IsCarried old new promises plan.entry.0 resyncing by_resync plan.volume
   carried = record {

@@ -1,7 +1,7 @@
 -- A life of a group and of its data on disks in memory, step by step.
 use Rattle.std.proofs.Common.{◌≡◌, ◌≢◌, ◌&&◌, nat_eq, ◌⊎◌, ◌∙◌, ℕ, zero, suc, ◌<◌, ◌+◌, ◌++◌, Bool, true, false, List, [], ◌∷◌, length, Option, Some, None, Result, Ok, if◌then◌else◌, refl, sym, ap, subst, inl, inr, ⊎_elim, arith}
 use Rattle.std.proofs.lemmas.Bool.{eq-eqb, false_from_ne_true}
-use Rattle.std.specs.Prelude.{IsTrue, option_map, slice_index_or, slice_set}
+use Rattle.std.specs.Prelude.{IsTrue, is_some, option_map, slice_index_or, slice_set}
 use Rattle.ddf_bytes.specs.declared.stamp.Stamp.{Stamp}
 use Rattle.ddf_header.specs.declared.kind.Revision.{Revision}
 use Rattle.ddf_bay.specs.Sectors.{Image}
@@ -12,6 +12,10 @@ use Rattle.ddf_config.specs.Configuration.{Configuration}
 use Rattle.ddf_config.specs.Members.{same_guid}
 use Rattle.ddf_copy.specs.declared.newest_copy.Newest.{Newest}
 use Rattle.ddf_plan.specs.declared.change.Change.TheVariants.{Create}
+use Rattle.ddf_array.specs.Values.{value}
+use Rattle.ddf_array.specs.Volume.{IsVolume, capacity}
+use Rattle.ddf_array.specs.Within.{is_within}
+use Rattle.ddf_array.proofs.Losses.{some_value}
 use Rattle.ddf_update.specs.NewCopies.{group_of as name_of}
 use Rattle.ddf_data.specs.Allowed.{Allowed, IsOneOf, May, any_bytes, is_in, new_bytes, once_consistent, once_written, while_written}
 use Rattle.ddf_keeping.specs.Grouped.{Promises}
@@ -42,6 +46,7 @@ use Rattle.ddf_data_history.specs.Beginnings.{first_moment, none_promised}
 use Rattle.ddf_data_history.specs.Calls.{ResyncCall, once_changed, once_resynced}
 use Rattle.ddf_data_history.specs.Calls.Call.{Changes, Resyncs, Writes}
 use Rattle.ddf_data_history.specs.Moments.{Moment}
+use Rattle.ddf_data_history.proofs.Blocks.{resync_within as within_then}
 use Rattle.ddf_data_headline.specs.Commands.{IsCreate, IsResync, IsWrite}
 use Rattle.ddf_data_headline.specs.Histories.{CallOn, CutOn, EndsOn, IsDataBegun, IsDataHistoryOn, LeavesLostOut, behind, read_as}
 use Rattle.ddf_data_headline.specs.Life.{AreAllPlugged, IsLife, Outlives, acknowledged, in_the_end}
@@ -49,6 +54,7 @@ use Rattle.ddf_data_headline.proofs.Calls.{cut_on, ends_on, finds}
 use Rattle.ddf_data_headline.proofs.Kept.{create_keeps, resync_keeps, still_current, write_keeps}
 use Rattle.ddf_data_headline.proofs.Labels.{label_begins}
 use Rattle.ddf_data_headline.proofs.Losses.{unplugged}
+use Rattle.ddf_data_headline.proofs.Memory.{bays}
 use Rattle.ddf_data_headline.proofs.Printed.{printed}
 
 -- ---- slots and promises
@@ -223,6 +229,9 @@ module _ (group : List ℕ) (kept : ℕ) (disk : Disk) where
       abbrev resync_call : CallOn group old
       resync_call = Resyncs resync_asked
 
+      resync_within : (is_within resync.plan.volume ≡ true) × IsVolume resync.plan.volume
+      resync_within = within_then {tells = Unit {0}} tt disks_of (Unit {0}) read_as group bays old stands.data_history.keeps resync_asked
+
       resync_on : EndsOn group old resync_call
       resync_on = ends_on group old stands.data_history resync_call resync.took.well told
 
@@ -375,6 +384,25 @@ module _ {revision : Revision} {stamp : Stamp} {guid : List ℕ} {kept lost : �
       ap (λ (promises : Promises). promises guid) (on_resync).is_promised
       ∙ ap (λ (own : List ℕ). with_promise (on_create).promises own new guid) life.resync_names ∙ with_own (on_create).promises guid new
 
+  -- Of each block of it something is promised then, and behind the writes too.
+  some_written : (allowed : Allowed) (start : ℕ) (sectors : List (List ℕ)) (block : ℕ) → is_some (allowed block) ≡ true → is_some (once_written allowed start sectors block) ≡ true
+  some_written allowed start sectors block some = by (is_in start (length sectors) block)
+    where
+      by : (b : Bool) → is_some (if b then Some (new_bytes start sectors block ∷ []) else allowed block) ≡ true
+      by true = refl
+      by false = some
+
+  some_counted : (o : Option (List ℕ)) → is_some o ≡ true → is_some (option_map (λ (bytes : List ℕ). bytes ∷ []) o) ≡ true
+  some_counted None some = absurd cc
+  some_counted (Some bytes) some = refl
+
+  each_acknowledged : (block : ℕ) → block < capacity life.resync.plan.volume → is_some (acknowledged life block) ≡ true
+  each_acknowledged block below =
+      let within = resync_within group kept disk with_array (on_create).stands life.resynced resynced_told life.resync in
+      let held = (disks_of life.resynced).held in
+      some_written (once_consistent life.resync.plan.volume held) life.write.start life.write.sectors block
+      (some_counted (value life.resync.plan.volume held block) (some_value life.resync.plan.volume held block within.1 within.0 below))
+
   -- ---- writes
 
   on_write : Next group kept disk agreeing life.written (IsOver group (on_resync).past (is_read life.write.has.taken.left) life.write.took.found (changes_in life.write.took.found (life.write.plan.first ++ life.write.plan.last))) (λ promised. promised ≡ once_done life.write.plan.entry.0 life.write.start life.write.sectors (on_resync).promises)
@@ -459,6 +487,7 @@ module _ {revision : Revision} {stamp : Stamp} {guid : List ℕ} {kept lost : �
   pub outlives : Outlives life
   outlives = record {
     printed = end_printed;
+    each = each_acknowledged;
     begun = begun;
     after_create = (on_create).past;
     create_over = (on_create).comes;

@@ -1,11 +1,12 @@
 -- A life of a group and of its data on disks in memory, from the label to a read without one of the disks: what it rests on, and what it ends with.
-use Rattle.std.specs.Prelude.{◌≡◌, ◌≢◌, ◌⊎◌, ℕ, ◌<◌, true, List, [], length, Some, Ok, ◌++◌}
+use Rattle.std.specs.Prelude.{◌≡◌, ◌≢◌, ◌⊎◌, ℕ, ◌<◌, true, List, [], length, is_some, Some, Ok, ◌++◌}
 use Rattle.ddf_bytes.specs.declared.stamp.Stamp.{Stamp}
 use Rattle.ddf_header.specs.declared.kind.Revision.{Revision}
 use Rattle.ddf_bay.specs.Memory.{disks_of, state_of, without}
 use Rattle.ddf_bay.specs.Sectors.{Image}
 use Rattle.ddf_bay.specs.declared.memory.MemoryBay.{MemoryBay}
 use Rattle.ddf_update.specs.NewCopies.{group_of as name_of}
+use Rattle.ddf_array.specs.Volume.{capacity}
 use Rattle.ddf_data.specs.Allowed.{Allowed, once_consistent, once_written, while_written}
 use Rattle.ddf_history.specs.Groups.{groups}
 use Rattle.ddf_history.specs.Issued.{Past}
@@ -27,7 +28,7 @@ AreAllPlugged bay = (slot : ℕ) → slot < length (disks_of bay).sizes → (dis
 -- All slots of a bay are labelled, and an array is created and resynced. Blocks of it are written, and the write is acknowledged. Another write, of any of its blocks, is cut by a stop
 -- anywhere, or behind it. Then a slot is unplugged, so that its disk is lost, and blocks of the array are read.
 --
--- It rests on this: no slot is unplugged before the loss, and there is one that isn't the lost one. All commands name the array that was created, and no call is listed to fail. The bay
+-- It rests on this: no slot is unplugged before the loss, and there is one that isn't the lost one. All commands name the group, and the array that was created, and no call is listed to fail. The bay
 -- still tells what a stop may leave behind the stop and behind the read, and behind the second write by the image that was left: a command on blocks makes as many calls as they need, so
 -- that no bound of its calls tells so.
 pub record IsLife (revision : Revision) (stamp : Stamp) (guid : List ℕ) (kept lost : ℕ) : Type 0 where
@@ -83,11 +84,12 @@ module _ {revision : Revision} {stamp : Stamp} {guid : List ℕ} {kept lost : �
   abbrev pub in_the_end : Allowed
   in_the_end = while_written acknowledged life.second.start life.second.sectors
 
-  -- The read printed of each block bytes that it may have in the end. So the history came there from the label on: each command that was done issued and acknowledged its changes, one behind the
+  -- The read printed, of each block that it printed, bytes that it may have in the end; of each block of the array something is acknowledged. So the history came there from the label on: each command that was done issued and acknowledged its changes, one behind the
   -- other, and the second write those of a front. It stands on the bay without the lost disk, which counts as not lost until a call goes on without it, and may go on from there: of the array
   -- that is promised which was acknowledged, or, where the second write was begun, that and its new bytes.
   pub record Outlives : Type 0 where
     pub printed : MayBe in_the_end life.read.start (blocks_printed life.read.outcome)
+    pub each : (block : ℕ) → block < capacity life.resync.plan.volume → is_some (acknowledged block) ≡ true
     pub begun : IsDataBegun (name_of stamp) (length (disks_of life.blank).sizes) (label_copy revision stamp (disks_of life.blank).sizes []) life.labelled
     pub after_create : Past (groups (name_of stamp))
     pub create_over : IsOver (name_of stamp) begun.past (is_read life.create.has.taken.left) life.create.took.found (changes_in life.create.took.found life.create.steps) after_create

@@ -84,8 +84,8 @@ pub fn a_group_that_was_found_whole_goes_on_with_its_data()
         → (disks_of (exit_on group old call)).tells_left → EndsOurs group old call }
 {}
 
-/// From the label on, through an array that is created and resynced, a write of blocks that is acknowledged, another one that a stop cuts anywhere, and a disk that is lost: a read prints of
-/// each block the bytes of its last acknowledged write, of one that was given to the interrupted write those or its new ones, and of one that was never written those that it had once the
+/// From the label on, through an array that is created and resynced, a write of blocks that is acknowledged, another one that a stop cuts anywhere, and a disk that is lost: a read prints, of
+/// each block that it prints, the bytes of its last acknowledged write, of one that was given to the interrupted write those or its new ones, and of one that was never written those that it had once the
 /// array was resynced.
 pub fn what_was_written_outlives_a_stop_and_a_lost_disk()
     ensures { (revision : Revision) (stamp : Stamp) (guid : List ℕ) (kept lost : ℕ) (life : IsLife revision stamp guid kept lost) → Outlives life }

@@ -2,6 +2,8 @@
 use Rattle.std.proofs.Common.{◌≡◌, ◌&&◌, ℕ, Bool, true, false, List, ◌++◌, Option, Result, Ok, Err, refl}
 use Rattle.ddf_bytes.specs.Streams.{SourceState}
 use Rattle.ddf_bay.specs.State.{BayState}
+use Rattle.ddf_array.specs.Volume.{IsVolume}
+use Rattle.ddf_array.specs.Within.{is_within}
 use Rattle.ddf_plan.specs.declared.change.Change.{Change}
 use Rattle.ddf_copy.specs.declared.newest_copy.Newest.{Newest}
 use Rattle.ddf_history.specs.Groups.{groups}
@@ -68,6 +70,12 @@ module _ {B : Type 0} {tells : Type 0} (told : tells) (disks : B → BayState B)
     pub resync_readied : readied call.finds.found (option_to_list (mark_of call.plan.entry) ++ resync_behind call.plan.entry) call.timestamp ≡ Ok (call.plan.first ++ call.plan.last)
     resync_readied =
         resyncs.are_readied tells told (disks old.bay) (disks call.exit) guid old.past old.floor old.small old.promises call.named call.timestamp call.word call.outcome call.resynced call.finds.found
+        call.finds.is_found call.finds.own (admits call.resynced.taken.left call.resynced.taken.newest call.named call.finds) (are.held old.bay call.finds.tells_left)
+        (held_sectors disks are old.bay call.finds.tells_left) call.plan (λ image left. sectors disks are call.exit image left)
+
+    pub resync_within : (is_within call.plan.volume ≡ true) × IsVolume call.plan.volume
+    resync_within =
+        resyncs.was_within tells told (disks old.bay) (disks call.exit) guid old.past old.floor old.small old.promises call.named call.timestamp call.word call.outcome call.resynced call.finds.found
         call.finds.is_found call.finds.own (admits call.resynced.taken.left call.resynced.taken.newest call.named call.finds) (are.held old.bay call.finds.tells_left)
         (held_sectors disks are old.bay call.finds.tells_left) call.plan (λ image left. sectors disks are call.exit image left)
 

@@ -28,15 +28,14 @@ use Rattle.ddf_assembly.specs.Recovery.{config_lost, config_recovered, some}
 use Rattle.ddf_assembly.specs.Slots.{newest_from}
 use Rattle.ddf_stops.specs.Going.{IsAdmitted}
 use Rattle.ddf_stops.specs.Kept.{is_read}
-use Rattle.ddf_stops.proofs.Told.{found_name}
 use Rattle.ddf_promise.specs.Promised.{IsAlone, seats_in}
 use Rattle.ddf_carrying.specs.Seats.{AreAlikeSeats}
 use Rattle.ddf_carrying.proofs.Alike.{view_same}
 use Rattle.ddf_answer.specs.Call.{work_of}
 use Rattle.ddf_data_commands.specs.Scrub.{IsArrayScrubbed}
 use Rattle.ddf_data_calls.specs.Calls.{left_over}
-use Rattle.ddf_data_calls.specs.Reading.{AdmitsRead}
-use Rattle.ddf_data_calls.proofs.Printed.{known}
+use Rattle.ddf_data_calls.specs.Reading.{AdmitsRead, Means}
+use Rattle.ddf_data_calls.proofs.Printed.{known, meant_group}
 use Rattle.ddf_data_calls.proofs.Recovered.{recovered_alike}
 use Rattle.ddf_block_calls.proofs.OneArray.{over_one}
 use Rattle.ddf_data_history.specs.Events.{AgreesAt, IsAgreeing}
@@ -46,7 +45,7 @@ use Rattle.ddf_data_history.proofs.Floors.{by_held}
 
 module _ {B : Type 0} (tells : Type 0) (told : tells) (disks : B → BayState B) (are : AreBays disks) (group : List ℕ) (moment : Moment group B) (all : KeepsAll disks moment)
     (tells_left : (disks moment.bay).tells_left) (new : B) (left : List Bool) (long : length left ≡ length (disks moment.bay).sizes) (newest : List (Option Newest))
-    (read : newest ≡ newest_from (disks moment.bay) 0 left) (found : GroupValue) (is_found : group_of newest (Some group) ≡ Ok found)
+    (read : newest ≡ newest_from (disks moment.bay) 0 left) (named : Option (List ℕ)) (means : Means group newest named) (found : GroupValue) (is_found : group_of newest named ≡ Ok found)
     (admitted : IsAdmitted group moment.past (disks moment.bay) left found) (absent : found.absent ≡ []) (alone : IsAlone group moment.past found.config)
     (settled : (slot : ℕ) → IsSettled (disks moment.bay).may_hold (disks moment.bay).held slot) (word : List ℕ)
     (scrub : IsArrayScrubbed (work_of tells (disks moment.bay) (disks new)) found.config found.seats word Clean) (whole : is_degraded scrub.used.1 ≡ false) (no_rows : HasNoRows scrub.used.1) where
@@ -59,9 +58,6 @@ module _ {B : Type 0} (tells : Type 0) (told : tells) (disks : B → BayState B)
   abbrev v : Volume
   v = scrub.used.1
 
-  own : found.config.group ≡ group
-  own = found_name newest group found is_found
-
   admits : AdmitsRead group moment.past moment.floor moment.promises (disks moment.bay) left
   admits = record {
     same_slots = admitted.same_slots;
@@ -72,9 +68,12 @@ module _ {B : Type 0} (tells : Type 0) (told : tells) (disks : B → BayState B)
     have_floors = by_held group disks are moment.past moment.floor moment.bay all.floored tells_left;
   }
 
+  own : found.config.group ≡ group
+  own = meant_group group (disks moment.bay) left newest long read moment.past moment.floor moment.promises admits named means found is_found
+
   known_view : IsVolume scrub.used.1
   known_view =
-      known group tells told (disks moment.bay) (disks new) moment.past moment.floor moment.small moment.promises left admits newest long read (Some group) found is_found own guid v scrub.usable.is_view
+      known group tells told (disks moment.bay) (disks new) moment.past moment.floor moment.small moment.promises left admits newest long read named found is_found own guid v scrub.usable.is_view
 
   -- ---- the seats
 
@@ -95,7 +94,7 @@ module _ {B : Type 0} (tells : Type 0) (told : tells) (disks : B → BayState B)
   alike =
       subst (λ (past : Past (groups group)). AreAlikeSeats found.seats (seats_in group past moment.floor found.config)) over_is
       (subst (λ (config : Configuration). AreAlikeSeats found.seats (seats_in group (left_over group moment.past (is_read left) found) moment.floor config)) config_is
-      (recovered_alike group (disks moment.bay) left newest long read moment.past admitted.same_slots admitted.is_kept admitted.may_read admitted.member (Some group) found is_found own
+      (recovered_alike group (disks moment.bay) left newest long read moment.past admitted.same_slots admitted.is_kept admitted.may_read admitted.member named found is_found own
       moment.floor (by_held group disks are moment.past moment.floor moment.bay all.floored tells_left)))
 
   use_of : IsUsed found.config scrub.used.0 (seats_in group moment.past moment.floor found.config) scrub.used.1

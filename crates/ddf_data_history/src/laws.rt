@@ -72,7 +72,8 @@ pub fn a_group_that_was_found_whole_begins_a_history_of_data<B: Bay>()
 /// last acknowledged one; where nothing is pending on the disks, no element of the array that keeps parity lacks a position, and no rows count as rebuilt. So what its blocks hold may count from then on.
 pub fn an_array_that_a_scrub_found_clean_agrees<B: Bay>()
     ensures { (told : B.tells) (group : List ℕ) (moment : Moment group B) → KeepsAll B.disks moment → (B.disks moment.bay).tells_left → (new : B) (word : List ℕ)
-        → (scrubbed : HasScrubbed (work_of B.tells (B.disks moment.bay) (B.disks new)) (Some group) word (Ok Clean)) → (found : GroupValue) → group_of scrubbed.newest (Some group) ≡ Ok found
+        → (named : Option (List ℕ)) → (scrubbed : HasScrubbed (work_of B.tells (B.disks moment.bay) (B.disks new)) named word (Ok Clean)) → Means group scrubbed.newest named
+        → (found : GroupValue) → group_of scrubbed.newest named ≡ Ok found
         → IsAdmitted group moment.past (B.disks moment.bay) scrubbed.left found → found.absent ≡ [] → IsAlone group moment.past found.config
         → ((slot : ℕ) → IsSettled (B.disks moment.bay).may_hold (B.disks moment.bay).held slot)
         → (scrub : IsArrayScrubbed (work_of B.tells (B.disks moment.bay) (B.disks new)) found.config found.seats word Clean) → is_degraded scrub.used.1 ≡ false → HasNoRows scrub.used.1
