@@ -17,7 +17,6 @@ use Rattle.ddf_history.specs.Reading.{Scene}
 use Rattle.ddf_history.specs.Scenes.{scene_of}
 use Rattle.ddf_stops.specs.Going.{Ends, Goes, IsOver, changes_in}
 use Rattle.ddf_stops.specs.Kept.{AreAllKept, is_read}
-use Rattle.ddf_words.specs.Traits.{traits_of}
 use Rattle.ddf_words.specs.Words.{Word}
 use Rattle.ddf_words.specs.declared.command.Command.{Command}
 use Rattle.ddf_words.specs.declared.command.Command.TheVariants.{Assemble, Change, Examine, Label, Read, Rebuild, Resync, Scrub, Show, Write}
@@ -33,7 +32,7 @@ use Rattle.ddf_command.specs.History.{GroupCall, IsCall, IsCut, IsEnd, IsOther, 
 use Rattle.ddf_command.specs.Run.{IsCommandDone}
 use Rattle.ddf_batch_words.specs.Lines.{is_for_lines}
 use Rattle.ddf_batch.specs.Batch.{AreLinesRun, Going, goes_on, point}
-use Rattle.ddf_batch.specs.History.{AreCallsOf, Behind, IsLineOf, LineTook}
+use Rattle.ddf_batch.specs.History.{AreCallsOf, Behind, IsLineOf, LineTook, takes_steps}
 use Rattle.ddf_batch.specs.Line.{Point, no_input}
 
 -- ---- status 0 is that of a call that was done
@@ -61,13 +60,13 @@ told_done (Err fault) (Err failure) answer told zero = absurd (failed failure an
 -- ---- what it took
 
 module _ {B : Type 0} (tells : Type 0) (disks : B → BayState B) (told : Type 0) (stamp : Stamp) (group : Option (List ℕ)) (from to : Point B) (code : ℕ) where
-  pub line_took : (command : Command) → is_for_lines command ≡ true → (traits_of command).may_write ≡ true
+  pub line_took : (command : Command) → is_for_lines command ≡ true → takes_steps command ≡ true
       → IsCommandDone (work_of tells (disks from.bay) (disks to.bay)) no_input stamp group command (answer_of told from.output to.output code)
       → LineTook tells disks stamp group command from to code
-  line_took Examine line writes done = absurd (false≢true line)
-  line_took (Label style slots) line writes done = absurd (false≢true line)
-  line_took (Read name start count) line writes done = absurd (false≢true line)
-  line_took (Write name start count) line writes done = absurd (false≢true line)
+  line_took Examine line writes done = absurd (false≢true writes)
+  line_took (Label style slots) line writes done = absurd (false≢true writes)
+  line_took (Read name start count) line writes done = absurd (false≢true writes)
+  line_took (Write name start count) line writes done = absurd (false≢true writes)
   line_took Show line writes done = absurd (false≢true writes)
   line_took (Scrub name) line writes done = absurd (false≢true writes)
   line_took Assemble line writes done = record { done = is_done done.outcome; taken = done.has.taken; is_done = told_done _ done.outcome (answer_of told from.output to.output code) done.ends }

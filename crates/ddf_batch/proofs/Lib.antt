@@ -1,4 +1,3 @@
-pub mod Nothing
 pub mod LineRuns
 pub mod Runs
 pub mod Events

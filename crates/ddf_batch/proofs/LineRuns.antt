@@ -21,7 +21,7 @@ use Rattle.ddf_answer.specs.Tells.{EndsWith}
 use Rattle.ddf_command.specs.Run.{IsCommandDone}
 use Rattle.ddf_batch_words.specs.Lines.{AsksFor, IsLine}
 use Rattle.ddf_batch.specs.Line.{IsLineRun, Point, no_input}
-use Rattle.ddf_batch.proofs.Nothing.{done_nothing}
+use Rattle.ddf_command.proofs.Endings.{done_nothing}
 
 -- words go wrong at one place
 pub one_place : (accepted : List Word → Type 0) (words : List Word) (p q : ℕ) → GoWrongAt accepted words p → GoWrongAt accepted words q → p ≡ q

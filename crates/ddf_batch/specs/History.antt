@@ -11,7 +11,7 @@ use Rattle.ddf_history.specs.History.{Moment}
 use Rattle.ddf_stops.specs.Going.{IsAdmitted}
 use Rattle.ddf_words.specs.Words.{Word}
 use Rattle.ddf_words.specs.declared.command.Command.{Command}
-use Rattle.ddf_words.specs.declared.command.Command.TheVariants.{Change, Rebuild, Resync}
+use Rattle.ddf_words.specs.declared.command.Command.TheVariants.{Assemble, Change, Rebuild, Resync}
 use Rattle.ddf_answer.specs.Call.{work_of}
 use Rattle.ddf_group_commands.specs.Assemble.{no_change}
 use Rattle.ddf_group_commands.specs.Change.{Request, TakesGroup, steps_of}
@@ -28,6 +28,14 @@ request_of_line slots stamp (Resync name) = resync_request name
 request_of_line slots stamp (Rebuild name) = rebuild_request name
 request_of_line slots stamp (Change wish) = request_for slots stamp wish
 request_of_line slots stamp other = no_change
+
+-- the commands of lines that write the steps of one group
+abbrev pub takes_steps : Command → Bool
+takes_steps Assemble = true
+takes_steps (Resync name) = true
+takes_steps (Rebuild name) = true
+takes_steps (Change wish) = true
+takes_steps other = false
 
 module _ {B : Type 0} (tells : Type 0) (disks : B → BayState B) (stamp : Stamp) (group : Option (List ℕ)) (command : Command) where
   -- The line took the group that it found as a call of the program does, and was done where its status is 0.

@@ -13,9 +13,10 @@ pub fn line_words(alloc: Global, images: &[String], line: &str) -> Result<Vec<St
     ensures { IfOk result (λ words. words_of words.items ≡ dashes ∷ numbered (words_of images.now) (parts_of line.now)) }
 {
     let mut words = parts(alloc, line)?;
-    if let Some(slot) = slot_in(images, &words) {
-        words[2] = format!(in alloc; "{slot}")?;
-    }
+    let Some(slot) = slot_in(images, &words) else {
+        return Ok(words);
+    };
+    words[2] = format!(in alloc; "{slot}")?;
     Ok(words)
 }
 

@@ -1,4 +1,4 @@
-mod Endings
+pub mod Endings
 mod Events
 mod Happening
 mod StepsCopies

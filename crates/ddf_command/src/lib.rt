@@ -4,7 +4,6 @@
 mod dispatch;
 mod laws;
 mod refusing;
-mod serving;
 
 pub use ddf_config::{FullTable, Refusal};
 pub use ddf_words::{
@@ -22,4 +21,3 @@ pub use laws::{
     a_steps_copies_name_their_group_and_disks,
 };
 pub use refusing::refuse_words;
-pub use serving::serve;

@@ -8,7 +8,7 @@ use Rattle.ddf_batch_words.specs.Batch.{AskForBatch, IsOrder, IsServed}
 use Rattle.ddf_batch_words.specs.declared.order.Order.{Order}
 use Rattle.ddf_batch.specs.Batch.{IsBatchRun, point}
 use Rattle.ddf_batch.proofs.LineRuns.{one_place}
-use Rattle.ddf_batch.proofs.Nothing.{done_nothing}
+use Rattle.ddf_command.proofs.Endings.{done_nothing}
 use Rattle.ddf_batch.proofs.running.run.Goals as goal
 
 pub returns-in-Ok-Batch-clause-batch : goal.returns-in-Ok-Batch-clause-batch
