@@ -72,6 +72,7 @@ complete -c ddf -n __ddf_wants_command -a create -d 'Make an array'
 complete -c ddf -n __ddf_wants_command -a delete -d 'Remove an array from the records'
 complete -c ddf -n __ddf_wants_command -a spare -d 'Say what a disk may stand in for'
 complete -c ddf -n __ddf_wants_command -a fail -d 'Take a disk out of use for good'
+complete -c ddf -n __ddf_wants_command -a import -d 'Take the disks and arrays of another group in'
 complete -c ddf -n __ddf_wants_command -a batch -d 'Do the commands on the lines of standard input'
 
 complete -c ddf -n '__ddf_at label 1' -a linux -d "Disks that Linux's mdadm takes"

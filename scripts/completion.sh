@@ -47,6 +47,7 @@ ddf d0.img d1.img -- fail |d0.img d1.img
 ddf d0.img d1.img -- fail d0.img |
 ddf d0.img d1.img -- read |
 ddf d0.img d1.img -- resync |
+ddf d0.img d1.img -- import |
 ddf d0.img d1.img -- write |
 ddf d0.img d1.img -- examine |
 ddf d|d0.img d1.img

@@ -32,7 +32,7 @@ try_scenarios() {
     [ "$wrong" = 0 ]
 }
 
-images="a.img b.img c.img d.img"
+images="a.img b.img c.img d.img e.img"
 
 # Keeps the images as they are, and brings them back with an old time, by which it is seen whether one was written to.
 keep() {
@@ -62,7 +62,7 @@ judge() {
         return
     fi
     same=$((same + 1))
-    ./ddf $images -- show >shown 2>/dev/null || true
+    ./ddf $named -- show >shown 2>/dev/null || true
     restore
     if [ "$status" != "$wanted_status" ] || ! is_the_same "$1"; then
         wrong=$((wrong + 1))
@@ -81,7 +81,7 @@ refuse() {
     keep
     wanted_status=0
     ./ddf $named -- "$@" <input >wanted 2>wanted-err || wanted_status=$?
-    ./ddf $images -- show >wanted-shown 2>/dev/null || true
+    ./ddf $named -- show >wanted-shown 2>/dev/null || true
     restore
     runs 0 $named -- "$@"
     while [ -e hit ]; do
@@ -93,7 +93,12 @@ refuse() {
     faults=$((faults + wrong))
 }
 
-# Each command, with all disks there, and then without one of them, which is lost.
+# group_of IMAGE..: the GUID of the group that these images show.
+group_of() {
+    ./ddf "$@" -- show | sed -n 's/^group \([0-9a-f]*\) .*/\1/p'
+}
+
+# Each command, with all disks there, and then without one of them, which is lost. The last disk is a group of its own at first, which joins.
 try_memory() {
     if ! command -v gcc >/dev/null; then
         echo "hostile: no gcc here, so no memory was refused"
@@ -105,7 +110,8 @@ try_memory() {
     truncate -s $((33000 * 512)) $images
     head -c 9216 /dev/urandom >input
     faults=0
-    named=$images
+    ./ddf e.img -- label >/dev/null 2>&1
+    named="a.img b.img c.img d.img"
     refuse label
     refuse assemble
     refuse create vol raid5.rnc 0 single 0,1,2@9
@@ -121,14 +127,17 @@ try_memory() {
     refuse delete other
     refuse spare 3 for vol
     refuse spare 3 global
-    named="a.img c.img d.img"
+    group=$(group_of a.img) other=$(group_of e.img)
+    named="a.img b.img c.img d.img e.img"
+    refuse "@$group" import "$other"
+    named="a.img c.img d.img e.img"
     refuse show
     refuse read vol 0 18
     refuse rebuild vol
     refuse assemble
     refuse rebuild vol
     refuse fail d.img
-    named="a.img d.img"
+    named="a.img d.img e.img"
     refuse delete vol
     refuse assemble
     [ "$faults" = 0 ]

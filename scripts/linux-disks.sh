@@ -3,7 +3,7 @@
 # reader found; and reads their arrays, whole and without each disk that the level can do without, and compares the checksum of all
 # blocks with the one that Linux found. Linux has resynced these arrays, so `scrub` finds them clean; a copy of one with a byte changed it doesn't.
 # By these commands nothing may be written to an image. Then blocks are written to a copy of each set by `write`, and are read back with all others as they were, whole and
-# without each disk; a second resync of the array finds it as it was. An image that `label` made has the standard's checksums. The disks aren't part of
+# without each disk; a second resync of the array finds it as it was. Disks of one of the groups join another one by `import`. An image that `label` made has the standard's checksums. The disks aren't part of
 # this repository: DDF_DISKS names a folder of NAME.tar.xz with the images, and NAME.examine.txt and NAME.assemble.txt with the
 # wanted texts; and DDF_MIDSYNC one with a mirror whose first resync Linux didn't finish. Where there is none, nothing is compared.
 set -eu
@@ -95,6 +95,31 @@ write_blocks() {
     compare_all "a resynced $label" "$blocks" "$wanted" "$@"
 }
 
+# The group that a set of images shows.
+group_of() {
+    "$top/ddf" "$@" -- show 2>/dev/null | sed -n 's/^group \([0-9a-f]*\) .*/\1/p'
+}
+
+# Takes the disks of one of Linux's groups into another one, whose tables are as large, and compares the blocks of their array. A disk that was labelled here has smaller tables, and can't join.
+import_group() {
+    mkdir "$work/own" "$work/its"
+    tar -xJf "$disks/r10.tar.xz" -C "$work/own"
+    tar -xJf "$disks/r5-ra.tar.xz" -C "$work/its"
+    own=$(group_of "$work/own"/*.img) its=$(group_of "$work/its"/*.img)
+    told=$("$top/ddf" "$work/own"/*.img "$work/its"/*.img -- "@$own" import "$its" 2>/dev/null) || true
+    [ "$told" = "refused 17 name taken" ] || fail "an import of an array with a name that is taken says $told"
+    "$top/ddf" "$work/own"/*.img -- delete data >/dev/null 2>&1 || fail "delete of Linux's array failed"
+    told=$("$top/ddf" "$work/own"/*.img "$work/its"/*.img -- "@$own" import "$its" 2>/dev/null) || fail "an import of Linux's disks says $told"
+    sums=$(sum_of r5-ra)
+    compare_all "an imported r5-ra" "${sums% *}" "${sums#* }" "$work/own"/*.img "$work/its"/*.img
+    truncate -s 64M "$work/linux.img"
+    "$top/ddf" "$work/linux.img" -- label linux >/dev/null 2>&1 || fail "label linux failed"
+    told=$("$top/ddf" "$work/own"/*.img "$work/its"/*.img "$work/linux.img" -- "@$own" import "$(group_of "$work/linux.img")" 2>"$work/said") || true
+    [ "$told" = "refused 29 geometry" ] || fail "an import of a disk with smaller tables says $told"
+    grep -q "has tables for 15 disks, 15 arrays" "$work/said" || fail "an import says of tables: $(cat "$work/said")"
+    echo "linux-disks: disks of one group joined another one with their array, and one with smaller tables was refused"
+}
+
 work=$(mktemp -d)
 trap 'rm -rf "$work"' EXIT
 for archive in "$disks"/*.tar.xz; do
@@ -123,6 +148,10 @@ for archive in "$disks"/*.tar.xz; do
     rm -rf "${work:?}/$name"
     echo "linux-disks: $name is as wanted, and no image was written to but by write and resync"
 done
+
+if [ -f "$disks/r10.tar.xz" ] && [ -f "$disks/r5-ra.tar.xz" ]; then
+    import_group
+fi
 
 # A mirror that Linux left within its first resync: its records call it consistent, and standard error names it.
 archive=${DDF_MIDSYNC:-$top/../shared/linux-midsync}/r1-midsync-quiet.tar.xz

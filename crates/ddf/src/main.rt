@@ -35,6 +35,10 @@ enum Kind {
     Batch,
 }
 
+/// When a batch loses what was named.
+const BATCH_LOSSES: &str =
+    "ddf: a batch does so at its first line that changes the group, and else not at all\n";
+
 /// Who started the program, as far as the standard streams tell.
 #[derive(Clone, Copy)]
 struct Person {
@@ -182,7 +186,11 @@ where
         return Err(Failure::Unopened);
     }
     let mut bay = Turned::new(files, makes_for_linux(&asked.command));
-    if is_risky(rt, &mut bay, paths, asked)? && person.answers && !agrees(rt) {
+    let risky = is_risky(rt, &mut bay, paths, asked)?;
+    if risky && kind == Kind::Batch {
+        let _ = rt.eprint(BATCH_LOSSES);
+    }
+    if risky && person.answers && !agrees(rt) {
         return Err(Failure::Declined);
     }
     let to_write = if person.sees {

@@ -62,6 +62,9 @@ pub mod JoinHoldable
 pub mod BothSides
 pub mod ImportSides
 pub mod ImportAnswers
+pub mod FirstCauses
+pub mod LeftOut
+pub mod SeatClash
 pub mod BothOrder
 pub mod JoinWritten
 pub mod JoinReadied

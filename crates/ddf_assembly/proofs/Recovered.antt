@@ -13,7 +13,7 @@ use Rattle.ddf_view.specs.View.{view_of}
 use Rattle.ddf_view.proofs.Tests.{all_map, bytes_same}
 use Rattle.ddf_copy.specs.declared.newest_copy.Newest.{Newest}
 use Rattle.ddf_group.specs.declared.shown.Shown.{Shown}
-use Rattle.ddf_group.specs.Choice.{shows_unabsorbed}
+use Rattle.ddf_group.specs.Taking.{shows_untaken}
 use Rattle.ddf_group.specs.Shown.{shown_of}
 use Rattle.ddf_assembly.specs.declared.fault.GroupFault.TheVariants.{Refused}
 use Rattle.ddf_assembly.specs.declared.seated.Seated.{Seated}
@@ -52,8 +52,8 @@ module _ (config : Configuration) (disk : Seated) (is_shown : shows config (view
 
   not_of_another : (slots : List Shown) → IsOfGroup config disk → is_of_another slots config disk ≡ false
   not_of_another slots of_group =
-      ap (λ (guid : List ℕ). not (bytes_eq guid config.group) && shows_unabsorbed slots config.group disk.seat.slot) of_group.same_group
-      ∙ ap (λ (b : Bool). not b && shows_unabsorbed slots config.group disk.seat.slot) (bytes_same config.group)
+      ap (λ (guid : List ℕ). not (bytes_eq guid config.group) && shows_untaken slots config.group disk.seat.slot) of_group.same_group
+      ∙ ap (λ (b : Bool). not b && shows_untaken slots config.group disk.seat.slot) (bytes_same config.group)
 
   not_only_record : (newest : List (Option Newest)) → holds_only_record newest config disk ≡ false
   not_only_record newest = rw is_shown refl

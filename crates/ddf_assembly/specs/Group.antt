@@ -1,5 +1,5 @@
 -- A group of disks, by the newest copies of the slots of a bay.
-use Rattle.std.specs.Prelude.{◌≡◌, ◌⊎◌, ℕ, Bool, false, is_none, is_some, List, length, map, filter_map, min, slice_get, Option, option_map, Result, Ok, Err}
+use Rattle.std.specs.Prelude.{◌≡◌, ◌⊎◌, ℕ, Bool, is_some, List, length, map, filter_map, min, slice_get, Option, option_map, Result, Ok, Err}
 use Rattle.std.specs.Option.{option_map_or, option_and_then}
 use Rattle.ddf_copy.specs.declared.copy.DiskCopy.{DiskCopy}
 use Rattle.ddf_copy.specs.declared.newest_copy.Newest.{Newest}
@@ -44,10 +44,6 @@ abbrev pub seats_of : List (Option Newest) → (slots : List ℕ) → List Seat
 seats_of newest slots = filter_map (seat_at newest) slots
 
 -- ---- slots
-
--- assembly left a slot out, since a read of it failed
-abbrev pub is_left_out : List (Option Newest) → (slot : ℕ) → Bool
-is_left_out newest slot = option_map_or is_none (slice_get newest slot) false
 
 -- a newest copy of the slot is kept
 abbrev pub is_kept : List (Option Newest) → (slot : ℕ) → Bool

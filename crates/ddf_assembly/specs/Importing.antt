@@ -1,6 +1,6 @@
 -- What is written of an import, and what the disks hold of the group then.
-use Rattle.std.specs.Prelude.{◌≡◌, ◌≢◌, ℕ, ◌<◌, Bool, true, false, ◌||◌, ◌++◌, List, [], ◌∷◌, Option, Some, None, option_map, slice_get, Result, Ok, Err, if◌then◌else◌}
-use Rattle.std.specs.List.{AllByRecursion}
+use Rattle.std.specs.Prelude.{◌≡◌, ◌≢◌, ℕ, ◌<◌, Bool, true, false, ◌||◌, ◌==◌, ◌++◌, List, [], ◌∷◌, Option, Some, None, option_map, slice_get, Result, Ok, Err, if◌then◌else◌}
+use Rattle.std.specs.List.{AllByRecursion, list_any}
 use Rattle.std.specs.Str.{bytes_eq}
 use Rattle.ddf_bay.specs.State.{BayState}
 use Rattle.ddf_config.specs.declared.refusal.Refusal.{Refusal}
@@ -15,7 +15,7 @@ use Rattle.ddf_assembly.specs.declared.fault.GroupFault.{GroupFault}
 use Rattle.ddf_assembly.specs.declared.fault.GroupFault.TheVariants.{Refused, SequenceSpent, Memory}
 use Rattle.ddf_assembly.specs.declared.seated.Seated.{Seated}
 use Rattle.ddf_assembly.specs.Committed.{slots_of, synced}
-use Rattle.ddf_assembly.specs.Group.{GroupValue}
+use Rattle.ddf_assembly.specs.Group.{GroupValue, is_kept}
 use Rattle.ddf_assembly.specs.declared.importing.ReadyImport.{ReadyImport}
 use Rattle.ddf_assembly.specs.Joining.{Joining, bad_refusal, both_disks, config_joining, has_no_seats, has_strays, numbers_differ}
 use Rattle.ddf_assembly.specs.JoinValue.{JoinValue}
@@ -72,6 +72,20 @@ early_causes native other =
     ∷ refuse_if (has_strays native other) refusals.Unsettled
     ∷ join_cause (config_recovered native) (config_joining other)
     ∷ refuse_if (numbers_differ (seated native ++ seated other)) refusals.Geometry
+    ∷ []
+
+-- A joining disk's copy is of the group that is joined: the disk may have moved there.
+abbrev pub has_own : (native other : GroupValue) → Bool
+has_own native other = list_any (λ disk. bytes_eq disk.copy.header.guid native.config.group) (seated other)
+
+-- What refuses it whatever the tables of the disks hold, in order: a group has no disk; one must not be written over; a disk or an array is there
+-- already, or an array's name; a joining disk's copy is of the group that is joined.
+abbrev pub first_causes : (native other : GroupValue) → List (Option Refusal)
+first_causes native other =
+    refuse_if (has_no_seats native other) refusals.NoGroup
+    ∷ refuse_if (has_strays native other) refusals.Unsettled
+    ∷ join_cause (config_recovered native) (config_joining other)
+    ∷ refuse_if (has_own native other) refusals.Unsettled
     ∷ []
 
 -- Nothing of that refuses it, and this is what joins; or this does.
@@ -133,3 +147,9 @@ pub record IsJoinOf (timestamp : ℕ) (leaders : Before) (group other : GroupVal
   pub same_newest : AllByRecursion (λ disk. slice_get group.newest disk.seat.slot ≡ slice_get other.newest disk.seat.slot) (seated other)
   pub are_apart : AreApart (seated group) (seated other)
   pub of_another : IsOfAnother join.one.step.config (seated other)
+
+-- Of the slot of each of another group's seats a group keeps the newest copy that the other one does, and it is none of its own seats'.
+pub record KnowsDisks (group other : GroupValue) : Type 0 where
+  pub same_newest : AllByRecursion (λ seat. slice_get group.newest seat.slot ≡ slice_get other.newest seat.slot) other.seats
+  pub are_kept : AllByRecursion (λ seat. is_kept group.newest seat.slot ≡ true) other.seats
+  pub are_apart : AllByRecursion (λ seat. list_any (λ own. own.slot == seat.slot) group.seats ≡ false) other.seats

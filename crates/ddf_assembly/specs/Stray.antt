@@ -16,7 +16,7 @@ use Rattle.ddf_config.specs.Members.{same_guid}
 use Rattle.ddf_view.specs.View.{element_of, lists_current, view_of}
 use Rattle.ddf_view.specs.Shows.{shows}
 use Rattle.ddf_group.specs.declared.shown.Shown.{Shown}
-use Rattle.ddf_group.specs.Choice.{shows_unabsorbed}
+use Rattle.ddf_group.specs.Taking.{shows_untaken}
 use Rattle.ddf_assembly.specs.declared.seated.Seated.{Seated}
 
 -- Its copy is of the group, and of the configuration's sequence number or of a later one, and doesn't show the configuration, so that a stop
@@ -27,10 +27,10 @@ is_ahead config disk =
     && nat_le config.sequence disk.copy.header.sequence
     && not (shows config (view_of disk.copy))
 
--- Its slot shows another group, which this one doesn't absorb: the disk may have moved there.
+-- Its slot shows another group, which hasn't joined this one, or which has lost the disk since: it may have moved there, or have missed what was written.
 abbrev pub is_of_another : List Shown → Configuration → Seated → Bool
 is_of_another slots config disk =
-    not (bytes_eq disk.copy.header.guid config.group) && shows_unabsorbed slots config.group disk.seat.slot
+    not (bytes_eq disk.copy.header.guid config.group) && shows_untaken slots config.group disk.seat.slot
 
 -- ---- the only record of an element
 

@@ -1,5 +1,5 @@
 //! Assembly: which group the disks of a bay are.
-ghost use Rattle.std.specs.Prelude.{◌≡◌, ◌+◌, ◌*◌, ◌≤◌, ℕ, List, [], length, map, IfOk};
+ghost use Rattle.std.specs.Prelude.{◌≡◌, ◌+◌, ◌*◌, ◌≤◌, ℕ, List, [], false, length, map, slice_index_or, IfOk};
 ghost use Rattle.ddf_bay.specs.ReadsOnly.{ReadsOnly};
 ghost use Rattle.ddf_config.specs.Seats.{SeatsFit};
 ghost use Rattle.ddf_group.specs.Assembled.{UpToMemory as FoundUpToMemory, assembled};
@@ -8,7 +8,7 @@ ghost use Rattle.ddf_assembly.specs.Assembled.{IsAssembledGroup};
 ghost use Rattle.ddf_assembly.specs.Group.{UpToMemory, group_of};
 ghost use Rattle.ddf_assembly.specs.Reading.{AreNewest, HaveAnchors};
 ghost use Rattle.ddf_assembly.specs.Settled.{IsSettledGroup};
-ghost use Rattle.ddf_assembly.specs.Slots.{IsAssembled};
+ghost use Rattle.ddf_assembly.specs.Slots.{IsAssembled, IsAssembledLeavingOut, LeaveNone, first_left_out};
 ghost use Rattle.ddf_assembly.specs.Held.{StandUnder};
 
 use crate::Group;
@@ -16,6 +16,7 @@ use crate::reading::read_slots;
 use crate::seats::seats_of;
 use ddf_bay::Bay;
 use ddf_bytes::{Guid, NoMemory, Seq};
+use ddf_config::Seat;
 use ddf_copy::Newest;
 use ddf_group::{Assembled, Assembly, Shown, assembled, shown_of};
 use std::alloc::Global;
@@ -88,6 +89,34 @@ fn group_of(
     })
 }
 
+/// A group, and which slots of the bay its assembly left out.
+#[derive(Drop)]
+pub struct AssembledGroup {
+    /// The group.
+    pub group: Group,
+    /// Of each slot of the bay whether it was left out, since a call on it failed.
+    pub left_out: Seq<bool>,
+}
+
+fn is_left_out(left_out: &[bool], slot: usize) -> bool
+    ensures { result ≡ slice_index_or left_out.now slot false }
+{
+    match left_out.get(slot) {
+        Some(out) => *out,
+        None => false,
+    }
+}
+
+/// The first of these seats' slots that an assembly left out.
+pub fn first_left_out(left_out: &[bool], seats: &[Seat]) -> Option<usize>
+    ensures { result ≡ first_left_out left_out.now seats.now }
+{
+    match seats.iter().find(|seat| is_left_out(left_out, seat.slot)) {
+        Some(seat) => Some(seat.slot),
+        None => None,
+    }
+}
+
 /// Reads the newest copy of each slot of a bay and answers the group that they give together (SNIA DDF 2.0, and profile where it is
 /// silent): the named one, or the only one that no other absorbs. Nothing is written. A slot is left out where one of its reads
 /// failed in this call, or where it has no sector and failed its sync.
@@ -116,8 +145,41 @@ pub fn assemble<B: Bay>(alloc: Global, bay: &mut B, group: Option<Guid>) -> Resu
     // At most so many calls are made.
     ensures calls { (B.disks bay.new).calls ≤ (B.disks bay.old).calls + 15 * length (B.disks bay.old).sizes }
 {
-    match read_slots(alloc, bay) {
-        Ok(newest) => group_of(alloc, newest, group),
-        Err(NoMemory) => Err(Assembly::Memory),
+    match assemble_with_left_out(alloc, bay, group) {
+        Ok(made) => Ok(made.group),
+        Err(fault) => Err(fault),
     }
+}
+
+/// Assembles a group as `assemble` does, and answers too of each slot whether it was left out.
+///
+/// # Errors
+/// Those of `assemble`.
+pub fn assemble_with_left_out<B: Bay>(
+    alloc: Global,
+    bay: &mut B,
+    group: Option<Guid>,
+) -> Result<AssembledGroup, Assembly>
+    ensures assembled { IsAssembledLeavingOut B.tells (B.disks bay.old) (B.disks bay.new) group result }
+    ensures none { IfOk result (λ made. LeaveNone made.left_out made.group.newest) }
+
+    // What is said of the group that `assemble` answers.
+    ensures under { IfOk result (λ made. HaveAnchors (B.disks bay.old).sizes made.group.newest) }
+    ensures stand { B.tells → IfOk result (λ made. StandUnder (B.disks bay.old) made.group.newest) }
+    ensures seats { IfOk result (λ made. SeatsFit (B.disks bay.old).sizes made.group.seats) }
+    ensures recovers { IfOk result (λ made. IsAssembledGroup made.group) }
+    ensures settled { IfOk result (λ made. made.group.absent ≡ [] → made.group.lagging ≡ [] → IsSettledGroup made.group) }
+
+    // Counts of failures never fall, nothing is written, and at most so many calls are made.
+    ensures never_falls { (slot : ℕ) → (B.disks bay.old).failed_reads slot ≤ (B.disks bay.new).failed_reads slot }
+    ensures writes_never_fall { (slot : ℕ) → (B.disks bay.old).failed_writes slot ≤ (B.disks bay.new).failed_writes slot }
+    ensures reads { ReadsOnly (B.disks bay.old) (B.disks bay.new) }
+    ensures calls { (B.disks bay.new).calls ≤ (B.disks bay.old).calls + 15 * length (B.disks bay.old).sizes }
+{
+    let slots = read_slots(alloc, bay)?;
+    let made = group_of(alloc, slots.newest, group)?;
+    Ok(AssembledGroup {
+        group: made,
+        left_out: Seq::new(slots.left_out),
+    })
 }

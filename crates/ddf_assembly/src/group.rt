@@ -30,7 +30,7 @@ impl Model for Group {
 
 impl Group {
     ghost use Rattle.std.specs.Prelude.{◌≡◌};
-    ghost use Rattle.ddf_assembly.specs.Group.{is_kept, is_left_out};
+    ghost use Rattle.ddf_assembly.specs.Group.{is_kept};
 
     /// The configuration, as its newest disks record it.
     pub fn config(&self) -> &Config
@@ -58,16 +58,6 @@ impl Group {
         ensures { result.now ≡ self.now.lagging }
     {
         self.lagging.as_slice()
-    }
-
-    /// Whether assembly left a slot out, since a read of it failed. One past the last is none.
-    pub fn left(&self, slot: usize) -> bool
-        ensures { result ≡ is_left_out self.now.newest slot }
-    {
-        match self.newest.get(slot) {
-            Some(newest) => newest.is_none(),
-            None => false,
-        }
     }
 
     /// Whether the group keeps a newest copy of a slot.

@@ -1,6 +1,7 @@
 //! The import of another group: what it is, ready to be written, and how it is written.
 ghost use Rattle.std.specs.Prelude.{◌≡◌, ◌⊎◌, ◌+◌, ◌&&◌, ◌∷◌, ℕ, [], false, length, Option, None, Ok, IfErr, IfOk, IfSome, OnErr, OnOk};
 ghost use Rattle.std.specs.Option.{option_map_or};
+ghost use Rattle.std.specs.Str.{bytes_eq};
 ghost use Rattle.ddf_bytes.specs.Counts.{Rose};
 ghost use Rattle.ddf_bay.specs.Moments.{SpendsOver, StopsLeave};
 ghost use Rattle.ddf_bay.specs.Sectors.{IsLeft};
@@ -12,8 +13,8 @@ ghost use Rattle.ddf_update.specs.Group.{IsOneOf, LieOnSlots};
 ghost use Rattle.ddf_update.specs.Prepared.{all_calls, all_sectors};
 ghost use Rattle.ddf_assembly.specs.Assembled.{IsAssembledGroup};
 ghost use Rattle.ddf_assembly.specs.Committed.{AreSettled, HaveSlots, LeavesSynced, slots_of, synced};
-ghost use Rattle.ddf_assembly.specs.Importing.{IsEarly, IsFinished, IsImportReadied, early_causes, group_joined, join_slots, join_updates, last_cause};
-ghost use Rattle.ddf_assembly.specs.Joining.{config_joining, has_no_seats, has_strays, join_disks, joining};
+ghost use Rattle.ddf_assembly.specs.Importing.{IsEarly, IsFinished, IsImportReadied, IsOfAnother, early_causes, first_causes, has_own, group_joined, join_slots, join_updates, last_cause};
+ghost use Rattle.ddf_assembly.specs.Joining.{config_joining, has_no_seats, has_strays, join_config, join_disks, joining};
 ghost use Rattle.ddf_assembly.specs.Ready.{is_spent};
 ghost use Rattle.ddf_assembly.specs.Recovery.{config_recovered, some};
 ghost use Rattle.ddf_assembly.specs.Seated.{seated};
@@ -34,7 +35,7 @@ use crate::steps::Step;
 use crate::stray::any_stray;
 use ddf_bay::{Bay, DiskFault};
 use ddf_bytes::{NoMemory, Seq};
-use ddf_config::{Config, Refusal, Seat, refuse_if};
+use ddf_config::{Config, Refusal, Seat, first_refusal, refuse_if};
 use std::alloc::Global;
 use std::marker::Model;
 
@@ -82,6 +83,38 @@ fn first_cause(
     let own = any_stray(alloc, native, disks)?;
     let its = any_stray(alloc, other, joining)?;
     Ok(refuse_if(own || its, Refusal::Unsettled))
+}
+
+/// Whether a disk, an array or an array's name of another group is there already.
+fn clash_with(
+    alloc: Global,
+    native: &Group,
+    config: &Config,
+    other: &Group,
+) -> Result<Option<Refusal>, NoMemory>
+    requires { config.now ≡ config_recovered native.now }
+    ensures { IfOk result (λ refusal. refusal ≡ join_cause (config_recovered native.now) (config_joining other.now)) }
+{
+    match config_joining(alloc, config, other).err() {
+        None => Ok(None),
+        Some(GroupFault::Refused(refusal)) => Ok(Some(refusal)),
+        Some(GroupFault::SequenceSpent | GroupFault::Memory) => Err(NoMemory),
+    }
+}
+
+/// Whether a disk's copy is of a group.
+fn is_of(config: &Config, disk: &Disk) -> bool
+    ensures { result ≡ bytes_eq disk.now.copy.header.guid config.now.group }
+{
+    disk.copy.header.guid == config.group
+}
+
+/// Whether that of a joining disk is of the group that is joined.
+fn has_own(native: &Group, other: &Group, joining: &[Disk]) -> bool
+    requires { joining.now ≡ seated other.now }
+    ensures { result ≡ has_own native.now other.now }
+{
+    joining.iter().any(|disk| is_of(&native.config, disk))
 }
 
 /// What joins a group, by its configuration behind its recovery.
@@ -228,6 +261,28 @@ fn import_of(alloc: Global, both: &Both, timestamp: u32) -> Result<ReadyImport, 
 }
 
 impl Group {
+    /// Why another group's disks can't join this one, whatever their tables hold: the first of these. `NoGroup` where a group has no
+    /// disk. `Unsettled` where a disk of either group must not be written over. `Clash` where a disk, an array or a reference of the
+    /// other group is there, `NameTaken` where the name of one of its arrays is. `Unsettled` where the copy of a joining disk is of
+    /// this group, so that the disk may have moved here.
+    ///
+    /// # Errors
+    /// Memory ran out.
+    pub fn refuses_join(&self, alloc: Global, other: &Group) -> Result<Option<Refusal>, NoMemory>
+        ensures first { IfOk result (λ refusal. refusal ≡ first_refusal (first_causes self.now other.now)) }
+
+        // Where none does each disk that joins is of another group than the one that it is to be of.
+        ensures of_another { IfOk result (λ refusal. refusal ≡ None → IsOfAnother (join_config self.now other.now) (seated other.now)) }
+    {
+        let disks = disks_of(alloc, self)?;
+        let joining = disks_of(alloc, other)?;
+        let first = first_cause(alloc, self, &disks, other, &joining)?;
+        let config = config_recovered(alloc, self)?;
+        let clash = clash_with(alloc, self, &config, other)?;
+        let own = refuse_if(has_own(self, other, &joining), Refusal::Unsettled);
+        Ok(first_refusal(&[first, clash, own]))
+    }
+
     /// The recovery of this group, and the join of another one's disks behind it, each with all sectors that it writes. Nothing is
     /// written. The members of the other group that are absent are lost to it. Its other members and its arrays come last in the
     /// tables, an array with a number that is taken under the least free one, and a missing member of this group to which no element

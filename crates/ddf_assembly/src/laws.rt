@@ -1,5 +1,5 @@
 // Laws of a group's changes: functions that do nothing, whose contracts are the laws.
-ghost use Rattle.std.specs.Prelude.{◌≡◌, ◌<◌, ◌^◌, ◌∷◌, ◌++◌, slice_get, IfSome, ℕ, List, [], length, Option, None, Some, Ok, true, false};
+ghost use Rattle.std.specs.Prelude.{◌≡◌, ◌<◌, ◌^◌, ◌∷◌, ◌++◌, slice_get, IfSome, ℕ, Bool, List, [], length, Option, None, Some, Ok, true, false};
 ghost use Rattle.ddf_copy.specs.declared.newest_copy.Newest.{Newest};
 ghost use Rattle.ddf_config.specs.Configuration.{Configuration};
 ghost use Rattle.ddf_plan.specs.Changes.{after};
@@ -17,10 +17,12 @@ ghost use Rattle.ddf_update.specs.Changes.{AreChanged};
 ghost use Rattle.ddf_rewrite.specs.Before.{Before};
 ghost use Rattle.ddf_assembly.specs.Committed.{HoldsGroup, WasReadied, group_recovered, slots_of, synced};
 ghost use Rattle.ddf_assembly.specs.JoinValue.{JoinValue};
-ghost use Rattle.ddf_assembly.specs.Importing.{AreApart, IsJoinOf, IsOfAnother, IsOfGroupAll, MayJoinDisks, group_joined, join_slots, join_updates, was_readied};
-ghost use Rattle.ddf_assembly.specs.Joining.{both_disks, join_config, join_disks, join_leaders, join_step, joining};
-ghost use Rattle.ddf_assembly.specs.Recovery.{disks_recovered};
+ghost use Rattle.ddf_assembly.specs.Importing.{AreApart, IsJoinOf, IsOfAnother, IsOfGroupAll, KnowsDisks, MayJoinDisks, group_joined, join_slots, join_updates, was_readied};
+ghost use Rattle.ddf_assembly.specs.Joining.{both_disks, config_joining, join_config, join_disks, join_leaders, join_step, joining};
+ghost use Rattle.ddf_assembly.specs.Recovery.{config_recovered, disks_recovered};
+ghost use Rattle.ddf_assembly.specs.Slots.{first_left_out, newest_from};
 ghost use Rattle.ddf_assembly.specs.Trying.{Follows, SlotsRise};
+ghost use Rattle.ddf_import.specs.Clash.{join_cause};
 ghost use Rattle.ddf_assembly.specs.Seated.{seated, seats_in};
 ghost use Rattle.ddf_assembly.specs.Settled.{IsSettledGroup};
 ghost use Rattle.ddf_assembly.specs.Steps.{Step, disks_after, in_order, step_of};
@@ -96,4 +98,12 @@ pub fn an_import_is_a_recovery_and_a_join()
         → AllByRecursion (λ disk. slice_get (group_recovered native recovery.recovery).newest disk.seat.slot ≡ slice_get other.newest disk.seat.slot) (seated other)
         → AreApart (disks_recovered timestamp native) (seated other) → IsOfAnother (join_config native other) (seated other)
         → IsJoinOf timestamp (join_leaders timestamp native other) (group_recovered native recovery.recovery) other join }
+{}
+
+/// Two groups that were assembled from the same disks, where the looks may have left out different slots: where no disk, array or name of the
+/// other is there already, and the first left none of the other's disks out, it knows each of them as the other does, and none is one of its own.
+pub fn a_group_knows_the_disks_that_it_did_not_leave_out<B: Bay>()
+    ensures { (bay : B) (left also : List Bool) (named called : Option (List ℕ)) (native other : GroupValue) → length left ≡ length also
+        → group_of (newest_from (B.disks bay) 0 left) named ≡ Ok native → group_of (newest_from (B.disks bay) 0 also) called ≡ Ok other
+        → join_cause (config_recovered native) (config_joining other) ≡ None → first_left_out left other.seats ≡ None → KnowsDisks native other }
 {}

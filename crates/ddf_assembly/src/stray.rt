@@ -14,7 +14,7 @@ use ddf_bytes::NoMemory;
 use ddf_config::{Array, Config, Member};
 use ddf_configs::{Element, RecordSlot};
 use ddf_copy::{DiskCopy, Newest};
-use ddf_group::{Slots, shows_unabsorbed};
+use ddf_group::{Slots, shows_untaken};
 use ddf_view::{View, element_of, shows};
 use std::alloc::Global;
 
@@ -28,11 +28,11 @@ fn is_ahead(config: &Config, disk: &Disk) -> bool
         && !shows(&View::new(disk.copy), config)
 }
 
-/// Whether its slot shows another group, which this one doesn't absorb.
+/// Whether its slot shows another group, which hasn't joined this one, or which has lost the disk since.
 fn is_of_another(slots: &Slots, config: &Config, disk: &Disk) -> bool
     ensures { result ≡ is_of_another slots.now config.now disk.now }
 {
-    disk.copy.header.guid != config.group && shows_unabsorbed(slots, &config.group, disk.seat.slot)
+    disk.copy.header.guid != config.group && shows_untaken(slots, &config.group, disk.seat.slot)
 }
 
 // ---- the only record of an element

@@ -17,9 +17,10 @@ use Rattle.ddf_history.specs.Reading.{Scene}
 use Rattle.ddf_history.specs.Scenes.{scene_of}
 use Rattle.ddf_stops.specs.Going.{Ends, Goes, IsOver, changes_in}
 use Rattle.ddf_stops.specs.Kept.{AreAllKept, is_read}
+use Rattle.ddf_words.specs.Traits.{traits_of}
 use Rattle.ddf_words.specs.Words.{Word}
 use Rattle.ddf_words.specs.declared.command.Command.{Command}
-use Rattle.ddf_words.specs.declared.command.Command.TheVariants.{Assemble, Change, Examine, Label, Read, Rebuild, Resync, Scrub, Show, Write}
+use Rattle.ddf_words.specs.declared.command.Command.TheVariants.{Assemble, Change, Examine, Import, Label, Read, Rebuild, Resync, Scrub, Show, Write}
 use Rattle.ddf_answer.specs.Answers.{IsToldFailure}
 use Rattle.ddf_answer.specs.Call.{Answer, answer_of, work_of}
 use Rattle.ddf_answer.specs.declared.failure.Failure.{Failure}
@@ -32,7 +33,7 @@ use Rattle.ddf_command.specs.History.{GroupCall, IsCall, IsCut, IsEnd, IsOther, 
 use Rattle.ddf_command.specs.Run.{IsCommandDone}
 use Rattle.ddf_batch_words.specs.Lines.{is_for_lines}
 use Rattle.ddf_batch.specs.Batch.{AreLinesRun, Going, goes_on, point}
-use Rattle.ddf_batch.specs.History.{AreCallsOf, Behind, IsLineOf, LineTook, takes_steps}
+use Rattle.ddf_batch.specs.History.{AreCallsOf, Behind, IsLineOf, LineJoined, LineTook, is_join}
 use Rattle.ddf_batch.specs.Line.{Point, no_input}
 
 -- ---- status 0 is that of a call that was done
@@ -60,19 +61,25 @@ told_done (Err fault) (Err failure) answer told zero = absurd (failed failure an
 -- ---- what it took
 
 module _ {B : Type 0} (tells : Type 0) (disks : B → BayState B) (told : Type 0) (stamp : Stamp) (group : Option (List ℕ)) (from to : Point B) (code : ℕ) where
-  pub line_took : (command : Command) → is_for_lines command ≡ true → takes_steps command ≡ true
+  pub line_took : (command : Command) → is_for_lines command ≡ true → (traits_of command).may_write ≡ true → is_join command ≡ false
       → IsCommandDone (work_of tells (disks from.bay) (disks to.bay)) no_input stamp group command (answer_of told from.output to.output code)
       → LineTook tells disks stamp group command from to code
-  line_took Examine line writes done = absurd (false≢true writes)
-  line_took (Label style slots) line writes done = absurd (false≢true writes)
-  line_took (Read name start count) line writes done = absurd (false≢true writes)
-  line_took (Write name start count) line writes done = absurd (false≢true writes)
-  line_took Show line writes done = absurd (false≢true writes)
-  line_took (Scrub name) line writes done = absurd (false≢true writes)
-  line_took Assemble line writes done = record { done = is_done done.outcome; taken = done.has.taken; is_done = told_done _ done.outcome (answer_of told from.output to.output code) done.ends }
-  line_took (Resync name) line writes done = record { done = is_done done.outcome; taken = done.has.taken; is_done = changed_done done.outcome (answer_of told from.output to.output code) done.ends }
-  line_took (Rebuild name) line writes done = record { done = is_done done.outcome; taken = done.has.taken; is_done = changed_done done.outcome (answer_of told from.output to.output code) done.ends }
-  line_took (Change wish) line writes done = record { done = is_done done.outcome; taken = done.has.taken; is_done = changed_done done.outcome (answer_of told from.output to.output code) done.ends }
+  line_took Examine line writes joins done = absurd (false≢true line)
+  line_took (Label style slots) line writes joins done = absurd (false≢true line)
+  line_took (Read name start count) line writes joins done = absurd (false≢true line)
+  line_took (Write name start count) line writes joins done = absurd (false≢true line)
+  line_took (Import other) line writes joins done = absurd (false≢true (sym joins))
+  line_took Show line writes joins done = absurd (false≢true writes)
+  line_took (Scrub name) line writes joins done = absurd (false≢true writes)
+  line_took Assemble line writes joins done = record { done = is_done done.outcome; taken = done.has.taken; is_done = told_done _ done.outcome (answer_of told from.output to.output code) done.ends }
+  line_took (Resync name) line writes joins done = record { done = is_done done.outcome; taken = done.has.taken; is_done = changed_done done.outcome (answer_of told from.output to.output code) done.ends }
+  line_took (Rebuild name) line writes joins done = record { done = is_done done.outcome; taken = done.has.taken; is_done = changed_done done.outcome (answer_of told from.output to.output code) done.ends }
+  line_took (Change wish) line writes joins done = record { done = is_done done.outcome; taken = done.has.taken; is_done = changed_done done.outcome (answer_of told from.output to.output code) done.ends }
+
+  -- The line of an import came to what a call of the program does.
+  pub line_joined : (other : List ℕ) → IsCommandDone (work_of tells (disks from.bay) (disks to.bay)) no_input stamp group (Import other) (answer_of told from.output to.output code)
+      → LineJoined tells disks stamp group other from to code
+  line_joined other done = record { outcome = done.outcome; has = done.has; was_done = changed_done done.outcome (answer_of told from.output to.output code) done.ends }
 
 -- ---- its call in a history
 

@@ -1,5 +1,5 @@
 -- What the lines of a batch are to the histories of a group.
-use Rattle.std.specs.Prelude.{◌≡◌, ℕ, Bool, true, false, ◌||◌, nat_lt, List, [], ◌∷◌, length, Option, Ok}
+use Rattle.std.specs.Prelude.{◌≡◌, ℕ, Bool, true, false, ◌||◌, nat_lt, List, [], ◌∷◌, length, Option, Result, Ok}
 use Rattle.ddf_bytes.specs.declared.stamp.Stamp.{Stamp}
 use Rattle.ddf_bytes.specs.Stamps.{timestamp_of}
 use Rattle.ddf_bytes.specs.Streams.{SinkState}
@@ -11,12 +11,14 @@ use Rattle.ddf_history.specs.History.{Moment}
 use Rattle.ddf_stops.specs.Going.{IsAdmitted}
 use Rattle.ddf_words.specs.Words.{Word}
 use Rattle.ddf_words.specs.declared.command.Command.{Command}
-use Rattle.ddf_words.specs.declared.command.Command.TheVariants.{Assemble, Change, Rebuild, Resync}
+use Rattle.ddf_words.specs.declared.command.Command.TheVariants.{Change, Import, Rebuild, Resync}
 use Rattle.ddf_answer.specs.Call.{work_of}
+use Rattle.ddf_answer.specs.declared.failure.Failure.{Failure}
 use Rattle.ddf_group_commands.specs.Assemble.{no_change}
-use Rattle.ddf_group_commands.specs.Change.{Request, TakesGroup, steps_of}
+use Rattle.ddf_group_commands.specs.Change.{Request, TakesGroup, is_done, steps_of}
 use Rattle.ddf_group_commands.specs.Requests.{request_for}
 use Rattle.ddf_write_commands.specs.Resync.{resync_request}
+use Rattle.ddf_import_command.specs.Import.{HasImported}
 use Rattle.ddf_rebuild_command.specs.Asked.{rebuild_request}
 use Rattle.ddf_command.specs.History.{IsCall}
 use Rattle.ddf_batch.specs.Batch.{AreLinesRun, Going, goes_on, point}
@@ -29,13 +31,16 @@ request_of_line slots stamp (Rebuild name) = rebuild_request name
 request_of_line slots stamp (Change wish) = request_for slots stamp wish
 request_of_line slots stamp other = no_change
 
--- the commands of lines that write the steps of one group
-abbrev pub takes_steps : Command → Bool
-takes_steps Assemble = true
-takes_steps (Resync name) = true
-takes_steps (Rebuild name) = true
-takes_steps (Change wish) = true
-takes_steps other = false
+-- by it another group joins
+abbrev pub is_join : Command → Bool
+is_join (Import other) = true
+is_join command = false
+
+-- What the line of an import came to, as a call of the program does, and it was done where its status is 0.
+pub record LineJoined {B : Type 0} (tells : Type 0) (disks : B → BayState B) (stamp : Stamp) (group : Option (List ℕ)) (other : List ℕ) (from to : Point B) (code : ℕ) : Type 0 where
+  pub outcome : Result ℕ Failure
+  pub has : HasImported (work_of tells (disks from.bay) (disks to.bay)) group other (timestamp_of stamp) outcome
+  pub was_done : code ≡ 0 → is_done outcome ≡ true
 
 module _ {B : Type 0} (tells : Type 0) (disks : B → BayState B) (stamp : Stamp) (group : Option (List ℕ)) (command : Command) where
   -- The line took the group that it found as a call of the program does, and was done where its status is 0.

@@ -14,6 +14,7 @@ use ddf_bay::Bay;
 use ddf_bytes::{Sink, Stamp};
 use ddf_data_commands::scrub_disks;
 use ddf_group_commands::{assemble_disks, change, show};
+use ddf_import_command::import;
 use ddf_rebuild_command::rebuild;
 use ddf_words::{Asked, Command};
 use ddf_write_commands::resync_disks;
@@ -56,6 +57,7 @@ fn obey<B: Bay, K: Sink>(
             resync_disks(alloc, asked.group, name.items(), bay, sink, stamp)
         }
         Command::Rebuild { name } => rebuild(alloc, asked.group, name.items(), bay, sink, stamp),
+        Command::Import { group } => import(alloc, asked.group, *group, bay, sink, stamp),
         Command::Change(wish) => change(alloc, asked.group, wish, bay, sink, stamp),
         _ => Status::Words,
     }

@@ -1,5 +1,5 @@
 // Laws of batches: functions that do nothing, whose contracts are the laws.
-ghost use Rattle.std.specs.Prelude.{◌≡◌, ℕ, Bool, List, Option, true, ◌∷◌};
+ghost use Rattle.std.specs.Prelude.{◌≡◌, ℕ, Bool, List, Option, true, false, ◌∷◌};
 ghost use Rattle.ddf_bytes.specs.declared.stamp.Stamp.{Stamp};
 ghost use Rattle.ddf_bytes.specs.Streams.{SinkState};
 ghost use Rattle.ddf_bay.specs.ReadsOnly.{ReadsOnly};
@@ -11,25 +11,29 @@ ghost use Rattle.ddf_history.specs.Reading.{Each, Scene};
 ghost use Rattle.ddf_history.specs.Scenes.{scene_of};
 ghost use Rattle.ddf_stops.specs.Going.{IsOver, changes_in};
 ghost use Rattle.ddf_stops.specs.Kept.{AreAllKept, is_read};
+ghost use Rattle.ddf_words.specs.Traits.{traits_of};
 ghost use Rattle.ddf_words.specs.Words.{Word};
 ghost use Rattle.ddf_words.specs.declared.command.Command.{Command};
 ghost use Rattle.ddf_command.specs.History.{IsCall, IsCut, IsEnd, IsOther, Leaves};
 ghost use Rattle.ddf_batch_words.specs.Lines.{AsksFor};
 ghost use Rattle.ddf_batch.specs.Batch.{AreLinesRun, point};
-ghost use Rattle.ddf_batch.specs.History.{AreCallsOf, IsLineOf, LineTook, takes_steps};
+ghost use Rattle.ddf_batch.specs.History.{AreCallsOf, IsLineOf, LineJoined, LineTook, is_join};
 ghost use Rattle.ddf_batch.specs.Line.{IsLineRun, Point};
 
 use ddf_bay::Bay;
 use ddf_bytes::Sink;
 use ddf_command::a_group_is_assembled_at_every_moment_of_its_history;
 
-/// A line whose command writes the steps of a group takes the group that it finds as a call of the program does. Where it finds the group of a history that admits it, it is
-/// a call of that history: at its end, done where its status is 0, and at each moment within it, with whatever image a stop left since it began. So the
+/// A line whose command may write takes the group that it finds as a call of the program does, and one by which another group joins takes both. Where it
+/// finds the group of a history that admits it, it is a call of that history: at its end, done where its status is 0, and at each moment within it, with whatever image a stop left since it began. So the
 /// calls of a batch's lines are calls of one history, each from where the one before it ended.
 pub fn a_line_is_an_event_of_its_history<B: Bay, K: Sink>()
     ensures took { (stamp : Stamp) (group : Option (List ℕ)) (words : List Word) (from to : Point B) (code : ℕ) (command : Command)
-        → IsLineRun B.tells B.disks K.tells stamp group words from to code → AsksFor words command → takes_steps command ≡ true
-        → LineTook B.tells B.disks stamp group command from to code }
+        → IsLineRun B.tells B.disks K.tells stamp group words from to code → AsksFor words command → (traits_of command).may_write ≡ true
+        → is_join command ≡ false → LineTook B.tells B.disks stamp group command from to code }
+    ensures joined { (stamp : Stamp) (group : Option (List ℕ)) (words : List Word) (from to : Point B) (code : ℕ) (other : List ℕ)
+        → IsLineRun B.tells B.disks K.tells stamp group words from to code → AsksFor words (Command.Import other)
+        → LineJoined B.tells B.disks stamp group other from to code }
     ensures ends { (told : B.tells) (stamp : Stamp) (group : Option (List ℕ)) (command : Command) (guid : List ℕ) (old : Moment (groups guid) B) (output : SinkState) (to : Point B) (code : ℕ)
         (took : LineTook B.tells B.disks stamp group command (point old.bay output) to code) → IsLineOf B.tells B.disks stamp group command guid old output to code took
         → AreAllKept guid old.past (B.disks old.bay) → (B.disks to.bay).tells_left

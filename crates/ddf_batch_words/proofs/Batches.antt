@@ -1,5 +1,5 @@
 -- Words that ask for a batch, and where others go wrong.
-use Rattle.std.proofs.Common.{◌≡◌, ◌∙◌, ◌⊎◌, inl, inr, ⊎_elim, ℕ, ◌+◌, ◌<◌, ◌≤◌, List, [], ◌∷◌, ◌++◌, length, length-append, get_or, take, drop, Option, Some, None, Result, Ok, Err, true, false, String, Global, string_bytes, refl, sym, ap, subst, arith, append_assoc}
+use Rattle.std.proofs.Common.{◌≡◌, ◌≢◌, ◌∙◌, ◌⊎◌, inl, inr, ⊎_elim, ℕ, ◌+◌, ◌<◌, ◌≤◌, List, [], ◌∷◌, ◌++◌, length, length-append, get_or, take, drop, Option, Some, None, Result, Ok, Err, true, false, String, Global, string_bytes, refl, sym, ap, subst, codes, arith, append_assoc}
 use Rattle.std.specs.Prelude.{IfOk}
 use Rattle.std.specs.Result.{result_err}
 use Rattle.std.specs.Str.{bytes_eq}
@@ -7,17 +7,26 @@ use Rattle.std.proofs.lemmas.Bool.{cases_lt, false≢true, true≢false}
 use Rattle.std.proofs.lemmas.Slice.Eq.{bytes_eq-Decides}
 use Rattle.std.proofs.lemmas.List.{append-nil, append_cancel_right, drop_more, get_or_append_left, get_or_past, get_or-take, length-take-le, take-append-drop, take-append-le, take-take, take_all, take_at, take_more, take-map}
 use Rattle.std.proofs.Math.Seq.{get_or-append_seam}
+use Rattle.ddf_words.proofs.Commands.{assemble, at_sign, begins_with, name_of, no_name_of_group}
+use Rattle.ddf_words.proofs.Dashes.{same_rest}
+use Rattle.ddf_words.proofs.Places.{wrong_word}
+use Rattle.ddf_words.proofs.Wishes.{first_word, no_wish, unlike}
 use Rattle.ddf_words.specs.Words.{Word, Begins, GoWrongAt, IsAccepted, IsAsked, NamesGroup, Spells, SpellsAsked, dashes, words_of}
 use Rattle.ddf_words.specs.declared.command.Asked.{Asked}
 use Rattle.ddf_words.specs.declared.words.WordFault.{WordFault}
 use Rattle.ddf_words.specs.declared.words.WordFault.TheVariants as words
 use Rattle.ddf_words.specs.declared.command.Command.{Command}
-use Rattle.ddf_words.specs.declared.command.Command.TheVariants.{Examine, Label, Assemble, Show, Read, Scrub, Resync, Rebuild, Write, Change}
+use Rattle.ddf_words.specs.declared.command.Command.TheVariants.{Assemble, Change}
 use Rattle.ddf_batch_words.specs.Batch.{AskForBatch, AskForNone, AsksForBatch, IsBatch, IsServed, assembling, is_assemble}
-use Rattle.ddf_batch_words.proofs.Behind.{same_rest}
-use Rattle.ddf_batch_words.proofs.Spelling.{assemble, at_sign, batch, begins_with, first_word, not_at, not_batch, wrong_word}
+
+abbrev batch : Word
+batch = codes "batch"
 
 -- ---- no other command is called so
+
+not_batch : (command : Command) → batch ≢ name_of command
+not_batch (Change wish) = no_wish batch (refl, refl, refl, refl, refl) wish
+not_batch command = unlike batch (name_of command) refl
 
 no_batch : (rest : List Word) (command : Command) → Spells command (batch ∷ rest) → ⊥
 no_batch rest command spells = not_batch command (begins_with (batch ∷ rest) command spells)
@@ -30,8 +39,7 @@ alone rest (Some group) command spells =
     omega (arith, at_sign group spells.word spells.names_group, first)
 
 behind_group : (named : List ℕ) (word : Word) → NamesGroup named word → (rest : List Word) (group : Option (List ℕ)) (command : Command) → SpellsAsked group command (word ∷ batch ∷ rest) → ⊥
-behind_group named word names rest None command spells =
-    not_at command (ap (λ (w : Word). get_or w 0 0) (sym (begins_with (word ∷ batch ∷ rest) command spells)) ∙ at_sign named word names)
+behind_group named word names rest None command spells = no_name_of_group named word (batch ∷ rest) command names spells
 behind_group named word names rest (Some group) command spells =
     let others : spells.others ≡ batch ∷ rest = ap (drop 1) (sym spells.parts) in
     no_batch rest command (subst (λ (ws : List Word). Spells command ws) others spells.spells)
@@ -95,16 +103,24 @@ shorter words more n place group lt le at =
       like = subst (λ (ws : List Word). IsAsked (ws ++ assemble ∷ []) (assembling group)) front at.like;
     }
 
--- at the end of the words of a batch
-last_at : (words : List Word) (group : Option (List ℕ)) (asks : AsksForBatch words group) → BatchAt words (length asks.front) group
-last_at words group asks =
-    let long : length words ≡ length asks.front + 1 = ap length asks.parts ∙ length-append asks.front (batch ∷ []) in
-    let front : take (length asks.front) words ≡ asks.front = ap (take (length asks.front)) asks.parts ∙ take_at asks.front (batch ∷ []) (length asks.front) refl in
-    record {
-      within = omega (arith, long);
-      here = ap (λ (ws : List Word). get_or ws (length asks.front) []) asks.parts ∙ get_or-append_seam asks.front batch [] [];
-      like = subst (λ (ws : List Word). IsAsked (ws ++ assemble ∷ []) (assembling group)) (sym front) asks.like_assemble;
-    }
+-- the words of a batch
+module _ (words : List Word) (group : Option (List ℕ)) (asks : AsksForBatch words group) where
+  long_by_one : length words ≡ length asks.front + 1
+  long_by_one = ap length asks.parts ∙ length-append asks.front (batch ∷ [])
+
+  is_front : take (length asks.front) words ≡ asks.front
+  is_front = ap (take (length asks.front)) asks.parts ∙ take_at asks.front (batch ∷ []) (length asks.front) refl
+
+  like_front : IsAsked (take (length asks.front) words ++ assemble ∷ []) (assembling group)
+  like_front = subst (λ (ws : List Word). IsAsked (ws ++ assemble ∷ []) (assembling group)) (sym is_front) asks.like_assemble
+
+  -- it stands at their end
+  last_at : BatchAt words (length asks.front) group
+  last_at = record {
+    within = omega (arith, long_by_one);
+    here = ap (λ (ws : List Word). get_or ws (length asks.front) []) asks.parts ∙ get_or-append_seam asks.front batch [] [];
+    like = like_front;
+  }
 
 -- words that are no other command's go wrong there
 pub same_place : (words : List Word) (place : ℕ) → GoWrongAt IsAccepted words place → (at : ℕ) (group : Option (List ℕ)) → BatchAt words at group → at ≡ place
@@ -199,13 +215,11 @@ module _ (words : List Word) (place : ℕ) (group : Option (List ℕ)) (at : Bat
   served_behind : place + 1 < length words → IsServed words → ⊥
   served_behind more (inl is) = no_accepted words place group at is
   served_behind more (inr is) =
-      let front : List Word = is.asks.front in
-      let long : length words ≡ length front + 1 = ap length is.asks.parts ∙ length-append front (batch ∷ []) in
-      let le : place < length front = omega (arith, long, more) in
-      let same : take (length front) words ≡ front = ap (take (length front)) is.asks.parts ∙ take_at front (batch ∷ []) (length front) refl in
-      let there : BatchAt (take (length front) words ++ assemble ∷ []) place group = longer words (assemble ∷ []) (length front) place group le (omega (arith, long)) at in
-      no_other (take (length front) words ++ assemble ∷ []) place group there (assembling is.group)
-      (subst (λ (ws : List Word). IsAsked (ws ++ assemble ∷ []) (assembling is.group)) (sym same) is.asks.like_assemble)
+      let count : ℕ = length is.asks.front in
+      let long = long_by_one words is.group is.asks in
+      let le : place < count = omega (arith, long, more) in
+      let there : BatchAt (take count words ++ assemble ∷ []) place group = longer words (assemble ∷ []) count place group le (omega (arith, long)) at in
+      no_other (take count words ++ assemble ∷ []) place group there (assembling is.group) (like_front words is.group is.asks)
 
 pub words_behind : (words : List Word) (place : ℕ) (group : Option (List ℕ)) → BatchAt words place group → place + 1 < length words → GoWrongAt IsServed words (place + 1)
 words_behind words place group at more =
@@ -233,9 +247,8 @@ module _ (words : List Word) (place : ℕ) (group : Option (List ℕ)) (at : Bat
   ask_for_batch one = record {
     asks = asks_for_batch;
     alone = λ other asks.
-        let long : length words ≡ length asks.front + 1 = ap length asks.parts ∙ length-append asks.front (batch ∷ []) in
-        let here : place ≡ length asks.front = omega (arith, long, last) in
-        let front : take place words ≡ asks.front = ap (λ (n : ℕ). take n words) here ∙ ap (take (length asks.front)) asks.parts ∙ take_at asks.front (batch ∷ []) (length asks.front) refl in
+        let here : place ≡ length asks.front = omega (arith, long_by_one words other asks, last) in
+        let front : take place words ≡ asks.front = ap (λ (n : ℕ). take n words) here ∙ is_front words other asks in
         ap (λ (asked : Asked). asked.group) (one (assembling other) (subst (λ (ws : List Word). IsAsked (ws ++ assemble ∷ []) (assembling other)) (sym front) asks.like_assemble));
     no_command = no_accepted words place group at;
   }
@@ -244,15 +257,7 @@ module _ (words : List Word) (place : ℕ) (group : Option (List ℕ)) (at : Bat
 
 is_assembling : (command : Command) → is_assemble command ≡ true → command ≡ Assemble
 is_assembling Assemble e = refl
-is_assembling Examine e = absurd (false≢true e)
-is_assembling (Label style slots) e = absurd (false≢true e)
-is_assembling Show e = absurd (false≢true e)
-is_assembling (Read name start count) e = absurd (false≢true e)
-is_assembling (Scrub name) e = absurd (false≢true e)
-is_assembling (Resync name) e = absurd (false≢true e)
-is_assembling (Rebuild name) e = absurd (false≢true e)
-is_assembling (Write name start count) e = absurd (false≢true e)
-is_assembling (Change wish) e = absurd (false≢true e)
+is_assembling command e = absurd (false≢true e)
 
 with_command : Option (List ℕ) → Command → Asked
 with_command group command = record { group = group; command = command }

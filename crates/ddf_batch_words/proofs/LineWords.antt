@@ -1,37 +1,29 @@
 -- The words of a line, seen as those of the program without images.
-use Rattle.std.proofs.Common.{◌≡◌, ◌≢◌, ◌∙◌, ℕ, zero, suc, ◌+◌, ◌-◌, ◌<◌, ◌≤◌, List, [], ◌∷◌, ◌++◌, length, get_or, take, drop, Option, Some, None, Bool, true, false, refl, sym, ap, subst, arith}
+use Rattle.std.proofs.Common.{◌≡◌, ◌≢◌, ◌∙◌, ℕ, zero, suc, ◌-◌, ◌<◌, List, [], ◌∷◌, ◌++◌, length, get_or, take, Option, Some, None, Bool, true, false, refl, sym, ap, subst, arith}
 use Rattle.std.proofs.lemmas.Bool.{false≢true}
 use Rattle.std.proofs.lemmas.List.{get_or_default}
 use Rattle.std.proofs.lemmas.List.Folds.{Any-from_list_any}
 use Rattle.std.proofs.lemmas.Slice.Eq.{bytes_eq-Decides}
 use Rattle.std.specs.Str.{bytes_eq}
+use Rattle.ddf_words.proofs.Commands.{assemble, at_sign, begins_with, name_of, no_words}
+use Rattle.ddf_words.proofs.Dashes.{no_images, same_rest}
+use Rattle.ddf_words.proofs.Places.{wanting_words, wrong_word}
+use Rattle.ddf_words.proofs.Wishes.{first_word}
 use Rattle.ddf_words.specs.Words.{Word, Begins, GoWrongAt, IsAccepted, IsAsked, NamesGroup, Spells, SpellsAsked, dashes}
 use Rattle.ddf_words.specs.declared.command.Asked.{Asked}
 use Rattle.ddf_words.specs.declared.command.Command.{Command}
-use Rattle.ddf_words.specs.declared.command.Command.TheVariants.{Examine, Label, Assemble, Show, Read, Scrub, Resync, Rebuild, Write, Change}
-use Rattle.ddf_words.specs.declared.command.Wish.TheVariants.{Create, Delete, Accept, Spare, Fail}
+use Rattle.ddf_words.specs.declared.command.Command.TheVariants.{Examine, Assemble, Change}
+use Rattle.ddf_words.specs.declared.command.Wish.TheVariants.{Create}
 use Rattle.ddf_batch_words.specs.Lines.{AsksFor, IsLine, is_for_lines, is_line_name, line_names}
-use Rattle.ddf_batch_words.proofs.Behind.{same_rest}
-use Rattle.ddf_batch_words.proofs.Spelling.{assemble, at_sign, begins_with, first_word, name_of, no_images, no_words, wanting_words, wrong_word}
 
 -- ---- names
 
 -- the names are those of the commands that a line may ask for
 names_only : (command : Command) → is_line_name (name_of command) ≡ is_for_lines command
 names_only Examine = refl
-names_only (Label style slots) = refl
-names_only Assemble = refl
-names_only Show = refl
-names_only (Read name start count) = refl
-names_only (Scrub name) = refl
-names_only (Resync name) = refl
-names_only (Rebuild name) = refl
-names_only (Write name start count) = refl
 names_only (Change (Create creation)) = refl
-names_only (Change (Delete name)) = refl
-names_only (Change (Accept name)) = refl
-names_only (Change (Spare slot word)) = refl
-names_only (Change (Fail slot)) = refl
+names_only (Change wish) = refl
+names_only command = refl
 
 -- so the first word of a line tells whether it may ask for its command
 pub named_for_lines : (line : List Word) (command : Command) → Spells command line → is_line_name (first_word line) ≡ is_for_lines command
@@ -49,7 +41,8 @@ no_sign (suc (suc (suc (suc (suc (suc zero)))))) lt e = omega (arith, e)
 no_sign (suc (suc (suc (suc (suc (suc (suc zero))))))) lt e = omega (arith, e)
 no_sign (suc (suc (suc (suc (suc (suc (suc (suc zero)))))))) lt e = omega (arith, e)
 no_sign (suc (suc (suc (suc (suc (suc (suc (suc (suc zero))))))))) lt e = omega (arith, e)
-no_sign (suc (suc (suc (suc (suc (suc (suc (suc (suc (suc k)))))))))) lt e = omega (arith, lt)
+no_sign (suc (suc (suc (suc (suc (suc (suc (suc (suc (suc zero)))))))))) lt e = omega (arith, e)
+no_sign (suc (suc (suc (suc (suc (suc (suc (suc (suc (suc (suc k))))))))))) lt e = omega (arith, lt)
 
 no_group : (group : List ℕ) (word : Word) → is_line_name word ≡ true → NamesGroup group word → ⊥
 no_group group word is names =

@@ -5,7 +5,7 @@ use Rattle.std.specs.Str.{bytes_eq}
 use Rattle.std.specs.Fmt.{decimal}
 use Rattle.ddf_words.specs.Words.{Word, Spells}
 use Rattle.ddf_words.specs.declared.command.Command.{Command}
-use Rattle.ddf_words.specs.declared.command.Command.TheVariants.{Examine, Label, Assemble, Show, Read, Scrub, Resync, Rebuild, Write, Change}
+use Rattle.ddf_words.specs.declared.command.Command.TheVariants.{Examine, Label, Assemble, Show, Read, Scrub, Resync, Rebuild, Write, Import, Change}
 use Rattle.ddf_batch_words.specs.Text.{IsReadAs}
 
 -- ---- lines
@@ -64,7 +64,7 @@ numbered images words = words
 abbrev pub line_names : List Word
 line_names =
     codes "assemble" ∷ codes "show" ∷ codes "create" ∷ codes "delete" ∷ codes "spare" ∷ codes "fail" ∷ codes "rebuild" ∷ codes "resync" ∷ codes "accept"
-    ∷ codes "scrub" ∷ []
+    ∷ codes "scrub" ∷ codes "import" ∷ []
 
 abbrev pub is_line_name : Word → Bool
 is_line_name word = list_any (λ name. bytes_eq word name) line_names
@@ -80,6 +80,7 @@ is_for_lines (Scrub name) = true
 is_for_lines (Resync name) = true
 is_for_lines (Rebuild name) = true
 is_for_lines (Write name start count) = false
+is_for_lines (Import group) = true
 is_for_lines (Change wish) = true
 
 -- The words of a line are those of a command that it may ask for. They name no group: that of the batch holds.

@@ -24,6 +24,7 @@ fn is_line_name(word: &String) -> bool
             | "resync"
             | "accept"
             | "scrub"
+            | "import"
     )
 }
 

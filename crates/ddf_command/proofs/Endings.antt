@@ -16,7 +16,7 @@ use Rattle.ddf_assembly.specs.Group.{GroupValue, group_of}
 use Rattle.ddf_assembly.specs.Slots.{IsLooked, newest_from}
 use Rattle.ddf_words.specs.declared.command.Asked.{Asked}
 use Rattle.ddf_words.specs.declared.command.Command.{Command}
-use Rattle.ddf_words.specs.declared.command.Command.TheVariants.{Assemble, Change, Examine, Label, Read, Rebuild, Resync, Scrub, Show, Write}
+use Rattle.ddf_words.specs.declared.command.Command.TheVariants.{Assemble, Change, Examine, Import, Label, Read, Rebuild, Resync, Scrub, Show, Write}
 use Rattle.ddf_words.specs.declared.traits.Traits.{Traits}
 use Rattle.ddf_words.specs.declared.words.WordFault.{WordFault}
 use Rattle.ddf_words.specs.declared.words.WordFault.TheVariants as words
@@ -32,6 +32,7 @@ use Rattle.ddf_group_commands.proofs.Keeping.{reads_keep}
 use Rattle.ddf_group_commands.proofs.ShowEnds.{shown_nothing}
 use Rattle.ddf_group_commands.specs.Change.{Request, TakesGroup}
 use Rattle.ddf_group_commands.specs.Requests.{request_for}
+use Rattle.ddf_import_command.proofs.Ending.{imported_nothing}
 use Rattle.ddf_data_commands.proofs.LeftOut.{has_no_place}
 use Rattle.ddf_data_commands.proofs.ReadBlocks.{memory_in}
 use Rattle.ddf_data_commands.proofs.Scrubbed.{scrubbed_nothing}
@@ -272,4 +273,5 @@ done_nothing old tells told before reads input stamp group (Scrub name) = scrubb
 done_nothing old tells told before reads input stamp group (Resync name) = resynced_nothing old tells told before group (timestamp_of stamp) name
 done_nothing old tells told before reads input stamp group (Rebuild name) = rebuilt_nothing old tells told before group (timestamp_of stamp) name
 done_nothing old tells told before reads input stamp group (Write name start count) = wrote_nothing old tells told before group (timestamp_of stamp) name reads input start count
+done_nothing old tells told before reads input stamp group (Import other) = imported_nothing old tells told before group other (timestamp_of stamp) (none_looked old)
 done_nothing old tells told before reads input stamp group (Change wish) = changed_nothing old tells told before group (timestamp_of stamp) (none_looked old) (request_for (length old.sizes) stamp wish)

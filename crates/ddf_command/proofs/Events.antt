@@ -20,7 +20,8 @@ use Rattle.ddf_stops.specs.Kept.{AreAllKept, is_read, is_slot}
 use Rattle.ddf_stops.specs.Going.{Goes, changes_in}
 use Rattle.ddf_stops.proofs.Acked.{ends_keeps, goes_keeps}
 use Rattle.ddf_stops.proofs.Stops.{same_scene}
-use Rattle.ddf_command.specs.History.{IsCall, IsCut, IsEnd, IsOther, Leaves, OtherCall, kept_by, past_at}
+use Rattle.ddf_group_commands.specs.Change.{is_done}
+use Rattle.ddf_command.specs.History.{IsCall, IsCut, IsEnd, IsJoinCut, IsJoinEnd, IsOther, Leaves, OtherCall, joins_of, kept_by, kept_by_join, past_at}
 
 module _ {B : Type 0} {tells : Type 0} (told : tells) (disks : B → BayState B) (group : List ℕ)
     (only_now : (bay : B) (image : Image) → (disks bay).left_since (disks bay).moment image → IsLeft (disks bay).may_hold image) where
@@ -55,6 +56,29 @@ module _ {B : Type 0} {tells : Type 0} (told : tells) (disks : B → BayState B)
   cut_kept old new cut kept =
       let at = (kept_by told disks group old cut.call cut.kept).any_moment.since (disks old.bay).moment cut.image cut.since cut.was_left in
       let both = at_moment old.past (is_read cut.call.taken.left) cut.call.group (changes_in cut.call.group cut.call.steps) (scene_of (disks old.bay).sizes cut.image)
+      (λ first. cut.kept cut.image (only_now old.bay cut.image first)) at in (
+        λ scene leaves. rw (cut.is_past, cut.is_left scene leaves) both.0,
+        rw cut.is_past both.1,
+      )
+
+  -- A call by which another group joined, at its end
+  join_end_kept : (old new : Moment (groups group) B) → IsJoinEnd told disks group old new → AllKept (Leaves told disks group) old
+      → AllKept (Leaves told disks group) new × KeepsAcked old.past new.past
+  join_end_kept old new end kept =
+      let keeps = (kept_by_join told disks group old end.call end.kept).ends end.tells_left in (
+        λ scene leaves.
+            let last = end.is_left scene leaves in
+            rw (end.is_past, last.is_shown) (keeps.2 last.image last.is_left),
+        rw end.is_past
+            (ends_keeps group old.past keeps.0 (is_read end.call.imported.first.left) end.call.group (joins_of told disks group old end.call) (is_done end.call.outcome) keeps.1),
+      )
+
+  -- and cut by a stop.
+  join_cut_kept : (old new : Moment (groups group) B) → IsJoinCut told disks group old new → AllKept (Leaves told disks group) old
+      → AllKept (Leaves told disks group) new × KeepsAcked old.past new.past
+  join_cut_kept old new cut kept =
+      let at = (kept_by_join told disks group old cut.call cut.kept).any_moment.since (disks old.bay).moment cut.image cut.since cut.was_left in
+      let both = at_moment old.past (is_read cut.call.imported.first.left) cut.call.group (joins_of told disks group old cut.call) (scene_of (disks old.bay).sizes cut.image)
       (λ first. cut.kept cut.image (only_now old.bay cut.image first)) at in (
         λ scene leaves. rw (cut.is_past, cut.is_left scene leaves) both.0,
         rw cut.is_past both.1,
@@ -112,7 +136,9 @@ module _ {B : Type 0} {tells : Type 0} (told : tells) (disks : B → BayState B)
   calls_keep : DoCallsKeep (Leaves told disks group) (IsCall told disks group)
   calls_keep old new (inl end) kept = end_kept old new end kept
   calls_keep old new (inr (inl cut)) kept = cut_kept old new cut kept
-  calls_keep old new (inr (inr other)) kept = other_kept old new other kept
+  calls_keep old new (inr (inr (inl other))) kept = other_kept old new other kept
+  calls_keep old new (inr (inr (inr (inl end)))) kept = join_end_kept old new end kept
+  calls_keep old new (inr (inr (inr (inr cut)))) kept = join_cut_kept old new cut kept
 
   -- So each moment of a history is answered as promised.
   pub history_answers : (start : Moment (groups group) B) (history : List (Moment (groups group) B)) → AllKept (Leaves told disks group) start

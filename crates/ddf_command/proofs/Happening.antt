@@ -10,7 +10,7 @@ use Rattle.ddf_history.specs.Promise.{IsKept}
 use Rattle.ddf_history.specs.Scenes.{scene_of}
 use Rattle.ddf_stops.specs.Kept.{AreAllKept, is_read}
 use Rattle.ddf_stops.specs.Going.{Goes, changes_in}
-use Rattle.ddf_command.specs.History.{GroupCall, IsCut, IsEnd, Leaves, kept_by, past_at}
+use Rattle.ddf_command.specs.History.{GroupCall, IsCut, IsEnd, IsJoinCut, IsJoinEnd, JoinCall, Leaves, joins_of, kept_by, kept_by_join, past_at}
 
 module _ {B : Type 0} {tells : Type 0} (told : tells) (disks : B → BayState B) (group : List ℕ) (old : Moment (groups group) B) (call : GroupCall told disks group old)
     (kept : AreAllKept group old.past (disks old.bay)) where
@@ -31,6 +31,30 @@ module _ {B : Type 0} {tells : Type 0} (told : tells) (disks : B → BayState B)
         record {
           past = past_at told disks group {P = Goes group old.past (is_read call.taken.left) call.group (changes_in call.group call.steps)} {Q = λ now. IsKept now (scene_of (disks old.bay).sizes image)}
               old.past ((kept_by told disks group old call kept).any_moment.since (disks old.bay).moment image since was_left);
+          bay = cut;
+        },
+        refl,
+        record { call = call; kept = kept; image = image; since = since; was_left = was_left; is_left = is_left; is_past = refl },
+      )
+
+-- So are calls by which another group joins.
+module _ {B : Type 0} {tells : Type 0} (told : tells) (disks : B → BayState B) (group : List ℕ) (old : Moment (groups group) B) (call : JoinCall told disks group old)
+    (kept : AreAllKept group old.past (disks old.bay)) where
+  pub join_ends : (disks call.exit).tells_left → (new : Moment (groups group) B) × (new.bay ≡ call.exit) × IsJoinEnd told disks group old new
+  join_ends tells_left = (
+    record { past = ((kept_by_join told disks group old call kept).ends tells_left).0; bay = call.exit },
+    refl,
+    record { call = call; kept = kept; tells_left = tells_left; is_left = λ scene leaves. leaves; is_past = refl },
+  )
+
+  pub join_cuts : (cut : B) (image : Image) → (disks call.exit).left_since (disks old.bay).moment image
+      → ((scene : Scene View) → Leaves told disks group cut scene → scene ≡ scene_of (disks old.bay).sizes image)
+      → (new : Moment (groups group) B) × (new.bay ≡ cut) × IsJoinCut told disks group old new
+  join_cuts cut image was_left is_left =
+      let since : (disks old.bay).moment ≤ (disks old.bay).moment = omega arith in (
+        record {
+          past = past_at told disks group {P = Goes group old.past (is_read call.imported.first.left) call.group (joins_of told disks group old call)} {Q = λ now. IsKept now (scene_of (disks old.bay).sizes image)}
+              old.past ((kept_by_join told disks group old call kept).any_moment.since (disks old.bay).moment image since was_left);
           bay = cut;
         },
         refl,

@@ -8,3 +8,4 @@ mod Cut
 mod LabelAside
 mod StepsMembers
 mod MembersBehind
+mod JoinedMembers

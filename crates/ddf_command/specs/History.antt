@@ -1,10 +1,12 @@
 -- Histories of a group: their calls are those that the program makes.
-use Rattle.std.specs.Prelude.{◌≡◌, ◌⊎◌, ℕ, ◌≤◌, Bool, true, List, Option, Ok}
+use Rattle.std.specs.Prelude.{◌≡◌, ◌⊎◌, ℕ, ◌≤◌, Bool, true, List, [], ◌∷◌, ◌++◌, Option, Some, Result, Ok}
 use Rattle.std.proofs.Common.{inl, inr}
 use Rattle.ddf_bay.specs.State.{BayState}
 use Rattle.ddf_bay.specs.Sectors.{Image, IsLeft}
+use Rattle.ddf_config.specs.Configuration.{Configuration}
 use Rattle.ddf_view.specs.View.{View}
 use Rattle.ddf_assembly.specs.Group.{GroupValue, group_of}
+use Rattle.ddf_assembly.specs.Joining.{Joining}
 use Rattle.ddf_assembly.specs.Steps.{Step}
 use Rattle.ddf_history.specs.Reading.{Scene}
 use Rattle.ddf_history.specs.Issued.{Past}
@@ -15,9 +17,13 @@ use Rattle.ddf_history.specs.Scenes.{scene_of}
 use Rattle.ddf_history.specs.History.{Moment}
 use Rattle.ddf_stops.specs.Kept.{AreAllKept, is_read, is_slot}
 use Rattle.ddf_stops.specs.Going.{Goes, IsAdmitted, KeepsHistory, changes_in}
+use Rattle.ddf_stops.specs.Joins.{AdmitsCall}
+use Rattle.ddf_stops.specs.Steps.{recovery_changes}
 use Rattle.ddf_answer.specs.Call.{work_of}
-use Rattle.ddf_group_commands.specs.Change.{Request, TakesGroup, steps_of}
+use Rattle.ddf_answer.specs.declared.failure.Failure.{Failure}
+use Rattle.ddf_group_commands.specs.Change.{Request, TakesGroup, is_done, steps_of}
 use Rattle.ddf_group_commands.specs.Others.{LeavesOthers}
+use Rattle.ddf_import_command.specs.Import.{HasImported, import_asked}
 
 -- `disks` is what a bay of type B tells, and `told` that it tells what they hold.
 module _ {B : Type 0} {tells : Type 0} (told : tells) (disks : B → BayState B) (guid : List ℕ) where
@@ -75,6 +81,57 @@ module _ {B : Type 0} {tells : Type 0} (told : tells) (disks : B → BayState B)
         new.past ≡ past_at {P = Goes guid old.past (is_read call.taken.left) call.group (changes_in call.group call.steps)} {Q = λ now. IsKept now (scene_of (disks old.bay).sizes image)}
         old.past ((kept_by old call kept).any_moment.since (disks old.bay).moment image since was_left)
 
+  -- ---- calls by which another group joins
+
+  -- A call by which another group joins this one, as the program's call promises it: the groups that it found are this one and the other, it
+  -- wasn't refused, and the history admits the call and the join.
+  pub record JoinCall (old : Moment (groups guid) B) : Type 0 where
+    pub exit : B
+    pub named : Option (List ℕ)
+    pub other : List ℕ
+    pub timestamp : ℕ
+    pub outcome : Result ℕ Failure
+    pub imported : HasImported (work_of tells (disks old.bay) (disks exit)) named other timestamp outcome
+    pub group : GroupValue
+    pub is_group : group_of imported.first.newest named ≡ Ok group
+    pub same_group : group.config.group ≡ guid
+    pub joining : GroupValue
+    pub is_joining : group_of imported.second.newest (Some other) ≡ Ok joining
+    pub made : Joining
+    pub are_asked : import_asked timestamp imported.first.left group joining ≡ Ok made
+    pub admitted : IsAdmitted guid old.past (disks old.bay) imported.first.left group
+    pub admits_join : AdmitsCall guid old.past (disks old.bay) group joining
+
+  -- the changes that it issues
+  abbrev pub joins_of : (old : Moment (groups guid) B) → JoinCall old → List Configuration
+  joins_of old call = recovery_changes call.timestamp call.group ++ call.made.step.config ∷ []
+
+  -- what it promises of the history
+  abbrev pub kept_by_join : (old : Moment (groups guid) B) (call : JoinCall old) → AreAllKept guid old.past (disks old.bay)
+      → KeepsHistory guid (disks old.bay) (disks call.exit) old.past call.imported.first.left call.group (joins_of old call) (is_done call.outcome)
+  kept_by_join old call kept =
+      call.imported.keeps told call.group call.joining call.is_group call.is_joining call.made call.are_asked guid call.same_group old.past kept call.admitted call.admits_join
+
+  -- It came to its end, where the bay still tells what a stop may leave.
+  pub record IsJoinEnd (old new : Moment (groups guid) B) : Type 0 where
+    pub call : JoinCall old
+    pub kept : AreAllKept guid old.past (disks old.bay)
+    pub tells_left : (disks call.exit).tells_left
+    pub is_left : (scene : Scene View) → Leaves new.bay scene → Leaves call.exit scene
+    pub is_past : new.past ≡ ((kept_by_join old call kept).ends tells_left).0
+
+  -- A stop within it left this image.
+  pub record IsJoinCut (old new : Moment (groups guid) B) : Type 0 where
+    pub call : JoinCall old
+    pub kept : AreAllKept guid old.past (disks old.bay)
+    pub image : Image
+    pub since : (disks old.bay).moment ≤ (disks old.bay).moment
+    pub was_left : (disks call.exit).left_since (disks old.bay).moment image
+    pub is_left : (scene : Scene View) → Leaves new.bay scene → scene ≡ scene_of (disks old.bay).sizes image
+    pub is_past :
+        new.past ≡ past_at {P = Goes guid old.past (is_read call.imported.first.left) call.group (joins_of old call)} {Q = λ now. IsKept now (scene_of (disks old.bay).sizes image)}
+        old.past ((kept_by_join old call kept).any_moment.since (disks old.bay).moment image since was_left)
+
   -- ---- other calls
 
   -- A call that doesn't take the group: it may write these slots alone. A command that changes another group leaves those that are no seats'
@@ -98,4 +155,4 @@ module _ {B : Type 0} {tells : Type 0} (told : tells) (disks : B → BayState B)
 
   -- a call, at its end or within it
   abbrev pub IsCall : Moment (groups guid) B → Moment (groups guid) B → Type 0
-  IsCall old new = IsEnd old new ⊎ IsCut old new ⊎ IsOther old new
+  IsCall old new = IsEnd old new ⊎ IsCut old new ⊎ IsOther old new ⊎ IsJoinEnd old new ⊎ IsJoinCut old new

@@ -7,7 +7,7 @@ use Rattle.ddf_bay.specs.Moments.{GoesOn}
 use Rattle.ddf_bay.specs.ReadsOnly.{ReadsOnly}
 use Rattle.ddf_words.specs.declared.command.Asked.{Asked}
 use Rattle.ddf_words.specs.declared.command.Command.{Command}
-use Rattle.ddf_words.specs.declared.command.Command.TheVariants.{Assemble, Change, Examine, Label, Read, Rebuild, Resync, Scrub, Show, Write}
+use Rattle.ddf_words.specs.declared.command.Command.TheVariants.{Assemble, Change, Examine, Import, Label, Read, Rebuild, Resync, Scrub, Show, Write}
 use Rattle.ddf_words.specs.declared.traits.Traits.{Traits}
 use Rattle.ddf_words.specs.Traits.{traits_of}
 use Rattle.ddf_words.specs.Words.{Word, IsAsked}
@@ -19,6 +19,7 @@ use Rattle.ddf_group_commands.specs.Assemble.{IsAssembleDone}
 use Rattle.ddf_group_commands.specs.Change.{IsChangeDone}
 use Rattle.ddf_group_commands.specs.Requests.{request_for}
 use Rattle.ddf_group_commands.specs.Show.{IsShown}
+use Rattle.ddf_import_command.specs.Import.{IsImportDone}
 use Rattle.ddf_data_commands.specs.Read.{IsReadDone}
 use Rattle.ddf_data_commands.specs.Scrub.{IsScrubDone}
 use Rattle.ddf_write_commands.specs.Payload.{Input}
@@ -51,6 +52,7 @@ IsCommandDone work input stamp group (Scrub name) answer = IsScrubDone work grou
 IsCommandDone work input stamp group (Resync name) answer = IsResyncDone work group (timestamp_of stamp) name answer
 IsCommandDone work input stamp group (Rebuild name) answer = IsRebuildDone work group (timestamp_of stamp) name answer
 IsCommandDone work input stamp group (Write name start count) answer = IsWriteDone work input group (timestamp_of stamp) name start count answer
+IsCommandDone work input stamp group (Import other) answer = IsImportDone work group other (timestamp_of stamp) answer
 IsCommandDone work input stamp group (Change wish) answer = IsChangeDone work group (timestamp_of stamp) (request_for (length work.old.sizes) stamp wish) answer
 
 abbrev pub IsDone : {D : Type 0} → Work D → Input → Stamp → Asked → Answer → Type 0

@@ -24,6 +24,7 @@ use ddf_bytes::{Guid, Sink, Source, Stamp};
 use ddf_data_commands::{read, scrub_disks};
 use ddf_disk_commands::{examine, label};
 use ddf_group_commands::{assemble_disks, change, show};
+use ddf_import_command::import;
 use ddf_rebuild_command::rebuild;
 use ddf_words::{Command, WordFault, asked};
 use ddf_write_commands::{resync_disks, write};
@@ -114,6 +115,7 @@ fn obey<B: Bay, S: Source, K: Sink>(
             sink,
             stamp,
         ),
+        Command::Import { group: other } => import(alloc, group, other, bay, sink, stamp),
         Command::Change(wish) => change(alloc, group, &wish, bay, sink, stamp),
     }
 }

@@ -27,9 +27,9 @@ ghost use Rattle.ddf_stops.specs.Founding.{AreNamesNew, IsNewGroup, founding_con
 ghost use Rattle.ddf_stops.specs.Going.{Ends, changes_in};
 ghost use Rattle.ddf_stops.specs.Kept.{AreAllKept, is_read, is_slot};
 ghost use Rattle.ddf_answer.specs.Call.{work_of};
-ghost use Rattle.ddf_group_commands.specs.Change.{HasChanged, Request};
+ghost use Rattle.ddf_group_commands.specs.Change.{HasChanged, Request, is_done};
 ghost use Rattle.ddf_command.specs.Cut.{AreLabelled, Gives, IsLeftByLabel, IsNewLabel};
-ghost use Rattle.ddf_command.specs.History.{GroupCall, IsCall, IsCut, IsEnd, Leaves, OtherCall};
+ghost use Rattle.ddf_command.specs.History.{GroupCall, IsCall, IsCut, IsEnd, IsJoinCut, IsJoinEnd, JoinCall, Leaves, OtherCall};
 ghost use Rattle.ddf_disk_commands.specs.Label.{IsTried, label_copy, label_slots};
 ghost use Rattle.ddf_stops.specs.Members.{KeepsMembers};
 ghost use Rattle.ddf_group_commands.specs.Others.{LeavesOthers};
@@ -65,6 +65,16 @@ pub fn a_call_is_an_event_of_its_history<B: Bay>()
         → (cut : B) (image : Image) → (B.disks call.exit).left_since (B.disks old.bay).moment image
         → ((scene : Scene View) → Leaves told B.disks group cut scene → scene ≡ scene_of (B.disks old.bay).sizes image)
         → (new : Moment (groups group) B) × (new.bay ≡ cut) × IsCut told B.disks group old new }
+{}
+
+/// So is each call by which another group joins it, where its history admits the call and the join, and no disk that joins showed the group.
+pub fn an_import_is_an_event_of_its_history<B: Bay>()
+    ensures ends { (told : B.tells) (group : List ℕ) (old : Moment (groups group) B) (call : JoinCall told B.disks group old) → AreAllKept group old.past (B.disks old.bay)
+        → (B.disks call.exit).tells_left → (new : Moment (groups group) B) × (new.bay ≡ call.exit) × IsJoinEnd told B.disks group old new }
+    ensures cut { (told : B.tells) (group : List ℕ) (old : Moment (groups group) B) (call : JoinCall told B.disks group old) → AreAllKept group old.past (B.disks old.bay)
+        → (cut : B) (image : Image) → (B.disks call.exit).left_since (B.disks old.bay).moment image
+        → ((scene : Scene View) → Leaves told B.disks group cut scene → scene ≡ scene_of (B.disks old.bay).sizes image)
+        → (new : Moment (groups group) B) × (new.bay ≡ cut) × IsJoinCut told B.disks group old new }
 {}
 
 /// A history of a new group begins where a `label` was done: whatever a stop may leave then shows the group on each of its disks. The names
@@ -139,6 +149,15 @@ pub fn a_call_that_was_done_leaves_current_members<B: Bay>()
     ensures seated { (told : B.tells) (group : List ℕ) (old new : Moment (groups group) B) (end : IsEnd told B.disks group old new) → end.call.done ≡ true
         → new.past.changes.own_from ≤ new.past.changes.acked → (scene : Scene View) → Leaves told B.disks group new.bay scene → (readable : ℕ → Bool)
         → (place : ℕ) (disk : Seated) → slice_get (seated end.call.group) place ≡ Some disk → changes_in end.call.group end.call.steps ≡ [] → readable disk.seat.slot ≡ true
+        → HasMember new.past scene readable }
+{}
+
+/// Behind an import that was done each slot that it read, whose disk is a current member of its configuration, is one, as a history asks that one
+/// is read: in a group from elsewhere once a change of this engine is acknowledged.
+pub fn an_import_that_was_done_leaves_current_members<B: Bay>()
+    ensures { (told : B.tells) (group : List ℕ) (old new : Moment (groups group) B) (end : IsJoinEnd told B.disks group old new) → is_done end.call.outcome ≡ true
+        → new.past.changes.own_from ≤ new.past.changes.acked → (scene : Scene View) → Leaves told B.disks group new.bay scene → (readable : ℕ → Bool)
+        → (slot : ℕ) → is_read end.call.imported.first.left slot ≡ true → has_current end.call.made.step.config (old.past.disk slot) ≡ true → readable slot ≡ true
         → HasMember new.past scene readable }
 {}
 

@@ -18,6 +18,7 @@ pub use laws::{
     a_founded_slot_is_a_current_member, a_group_is_assembled_at_every_moment_of_its_history,
     a_label_begins_a_history, a_label_cut_short_begins_a_history,
     a_label_is_aside_of_other_histories, a_member_that_was_left_out_is_missing,
-    a_steps_copies_name_their_group_and_disks,
+    a_steps_copies_name_their_group_and_disks, an_import_is_an_event_of_its_history,
+    an_import_that_was_done_leaves_current_members,
 };
 pub use refusing::refuse_words;

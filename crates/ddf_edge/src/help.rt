@@ -42,6 +42,9 @@ Commands:
   spare SLOT global | spare SLOT for NAME.. | spare SLOT off
                    say what a disk may stand in for
   fail SLOT        take a disk out of use for good; it isn't written any more
+  import GUID      take the disks and the arrays of another group, named by the 48
+                   hexadecimal digits of its GUID, into the group; its members that
+                   are absent then are lost to it
   batch            do the commands on the lines of standard input, one after another,
                    each as above without IMAGE words and @; one that is refused ends
                    nothing, and one that ends with a status from 3 on is the last

@@ -24,6 +24,7 @@ mod silent;
 mod slot_images;
 mod stamp;
 mod streams;
+mod tables;
 mod to_write;
 mod twins;
 mod wrong_words;

@@ -95,6 +95,7 @@ fn wanted(command: &str, offset: usize) -> &'static str {
         "read" | "write" => wanted_of_blocks(offset),
         "delete" | "accept" | "resync" | "rebuild" | "scrub" if offset == 1 =>
             "the name of an array",
+        "import" if offset == 1 => "the 48 hexadecimal digits of the GUID of the group that joins",
         "spare" | "fail" if offset == 1 => "a slot's number from 0 to 63, or its image",
         "spare" if offset == 2 => "global, for or off",
         "spare" => "the name of an array behind for, and nothing behind global and off",

@@ -29,11 +29,6 @@ absorbs_at slots other slot = option_map_or (λ group. absorbs slots group other
 abbrev pub is_absorbed : List Shown → (group : List ℕ) → Bool
 is_absorbed slots group = list_any (absorbs_at slots group) (numbers slots)
 
--- a slot shows another group than this one, which this one doesn't absorb
-abbrev pub shows_unabsorbed : List Shown → (group : List ℕ) → (slot : ℕ) → Bool
-shows_unabsorbed slots group slot =
-    option_map_or (λ other. not (bytes_eq group other) && not (absorbs slots group other)) (group_shown (slot_at slots slot)) false
-
 -- ---- the group
 
 -- a slot shows a group that isn't absorbed

@@ -1,6 +1,7 @@
 pub mod Slots
 pub mod Shown
 pub mod Choice
+pub mod Taking
 pub mod Pairs
 pub mod Conflicts
 pub mod Names

@@ -2,7 +2,7 @@
 ghost use Rattle.std.specs.Prelude.{◌≡◌, ◌&&◌, ◌||◌, not, option_map};
 ghost use Rattle.std.specs.List.{list_all};
 ghost use Rattle.ddf_group.specs.Slots.{claims_by, numbers, shows_group, slot_at};
-ghost use Rattle.ddf_group.specs.Choice.{absorbs, absorbs_at, chosen, first_free, is_absorbed, is_shown, only_group, other_free, shows_free, shows_unabsorbed};
+ghost use Rattle.ddf_group.specs.Choice.{absorbs, absorbs_at, chosen, first_free, is_absorbed, is_shown, only_group, other_free, shows_free};
 
 use crate::Assembly;
 use crate::slots::Slots;
@@ -45,17 +45,6 @@ fn is_absorbed(slots: &Slots, group: &Guid) -> bool
     ensures { result ≡ is_absorbed slots.now group.now }
 {
     (0..slots.count()).any(|slot| absorbs_at(slots, group, slot))
-}
-
-/// Whether a slot shows another group than this one, which this one doesn't absorb: this one claims not every slot that shows it, or it
-/// claims one that shows this one (profile).
-pub fn shows_unabsorbed(slots: &Slots, group: &Guid, slot: usize) -> bool
-    ensures { result ≡ shows_unabsorbed slots.now group.now slot }
-{
-    match slots.group(slot) {
-        Some(other) => *group != other && !absorbs(slots, group, &other),
-        None => false,
-    }
 }
 
 /// Whether a slot shows a group that isn't absorbed.

@@ -10,9 +10,10 @@ mod pairs;
 mod shown;
 mod slots;
 mod split;
+mod taking;
 
 pub use answer::{Assembled, Assembly, Differ};
-pub use choice::shows_unabsorbed;
 pub use group::assembled;
 pub use shown::{Shown, shown_of};
 pub use slots::Slots;
+pub use taking::shows_untaken;

@@ -75,7 +75,7 @@ module _ {D : Type 0} (old middle : BayState D) (same_sizes : middle.sizes ≡ o
   }
 
 -- The newest copies of disks that were only read are what they were.
-newest_still : {D : Type 0} (old middle : BayState D) → middle.sizes ≡ old.sizes → middle.held ≡ old.held → (slot : ℕ) (left : List Bool) → newest_from middle slot left ≡ newest_from old slot left
+pub newest_still : {D : Type 0} (old middle : BayState D) → middle.sizes ≡ old.sizes → middle.held ≡ old.held → (slot : ℕ) (left : List Bool) → newest_from middle slot left ≡ newest_from old slot left
 newest_still old middle sizes held slot [] = refl
 newest_still old middle sizes held slot (out ∷ left) = rw (sizes, held, newest_still old middle sizes held (suc slot) left) refl
 

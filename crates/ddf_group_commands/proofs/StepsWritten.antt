@@ -77,7 +77,7 @@ module _ {D : Type 0} (old new : BayState D) (disks : List Seated) (one : ReadyS
       }
 
   -- The step was written.
-  step_written : IsWritten old.sizes old.held one.step new.held
+  pub step_written : IsWritten old.sizes old.held one.step new.held
   step_written = record {
     have_copies = copy_of;
     others = λ slot l beside.

@@ -1,10 +1,11 @@
 -- The group that the disks are, or why there is none.
-use Rattle.std.specs.Prelude.{◌≡◌, ◌⊎◌, ℕ, ◌+◌, ◌*◌, ◌<◌, ◌≤◌, Bool, false, List, length, Option, Result, Ok, Err, IsTrue, slice_index_or}
+use Rattle.std.specs.Prelude.{◌≡◌, ◌⊎◌, ℕ, ◌+◌, ◌*◌, ◌<◌, ◌≤◌, Bool, false, List, length, Option, Result, Ok, Err, IfOk, IsTrue, slice_index_or}
 use Rattle.ddf_bay.specs.State.{BayState}
 use Rattle.ddf_bay.specs.ReadsOnly.{LookFailed, SlotSame}
 use Rattle.ddf_copy.specs.declared.newest_copy.Newest.{Newest}
 use Rattle.ddf_config.specs.Seats.{SeatsFit}
 use Rattle.ddf_group.specs.declared.answer.Assembly.{Assembly}
+use Rattle.ddf_assembly.specs.declared.assembling.AssembledGroup.{AssembledGroup}
 use Rattle.ddf_assembly.specs.Assembled.{IsAssembledGroup}
 use Rattle.ddf_assembly.specs.Group.{GroupValue, group_of}
 use Rattle.ddf_assembly.specs.Held.{AreHeldOn, StandUnder}
@@ -31,6 +32,16 @@ pub record IsGroupRead {D : Type 0} (work : Work D) (named : Option (List ℕ)) 
   pub answer : (result ≡ group_or (group_of newest named)) ⊎ (result ≡ Err Memory)
   pub gone : (result ≡ Err Memory → ⊥) → AreOut work.old left
   pub calls : work.new.calls ≤ work.old.calls + 15 * length work.old.sizes
+
+-- the group of what was read
+abbrev pub group_in : Result AssembledGroup Failure → Result GroupValue Failure
+group_in (Ok read) = Ok read.group
+group_in (Err failure) = Err failure
+
+-- A call came to this, and answered which slots it left out.
+pub record IsReadLeavingOut {D : Type 0} (work : Work D) (named : Option (List ℕ)) (result : Result AssembledGroup Failure) : Type 0 where
+  pub read : IsGroupRead work named (group_in result)
+  pub left_out : IfOk result (λ given. given.left_out ≡ read.left)
 
 -- A group that was read from disks that hold it still: it can be recovered, each newest copy is held and can be written again, and each
 -- seat is on a slot that has room for its extents.

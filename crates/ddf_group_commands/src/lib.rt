@@ -9,4 +9,4 @@ mod writing;
 pub use assembling::assemble_disks;
 pub use changing::change;
 pub use showing::show;
-pub use writing::{failure_of, read_group, recovered};
+pub use writing::{failure_of, read_group, read_with_left_out, recovered};

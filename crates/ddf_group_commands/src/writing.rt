@@ -7,15 +7,16 @@ ghost use Rattle.ddf_assembly.specs.Asked.{CanBeAsked};
 ghost use Rattle.ddf_assembly.specs.Committed.{slots_of};
 ghost use Rattle.ddf_assembly.specs.Ready.{readied};
 ghost use Rattle.ddf_assembly.specs.Recovery.{config_recovered, loss_of};
+ghost use Rattle.ddf_assembly.specs.Slots.{LeaveNone};
 ghost use Rattle.ddf_assembly.specs.Steps.{Step};
 ghost use Rattle.ddf_answer.specs.Call.{work_of};
 ghost use Rattle.ddf_group_commands.specs.Change.{IsChanged, KeepsHistories, failure_of_group, is_done, steps_or};
-ghost use Rattle.ddf_group_commands.specs.GroupRead.{IsFoundBy, IsGroupRead, IsReadFrom};
+ghost use Rattle.ddf_group_commands.specs.GroupRead.{IsFoundBy, IsGroupRead, IsReadFrom, IsReadLeavingOut};
 ghost use Rattle.ddf_group_commands.specs.Others.{LeavesOthers};
 ghost use Rattle.ddf_group_commands.specs.Writing.{IsLeftWriting};
 
 use ddf_answer::Failure;
-use ddf_assembly::{Group, GroupFault, assemble};
+use ddf_assembly::{AssembledGroup, Group, GroupFault, assemble_with_left_out};
 use ddf_bay::Bay;
 use ddf_bytes::Guid;
 use ddf_config::{Config, Refusal};
@@ -34,8 +35,28 @@ pub fn read_group<B: Bay>(alloc: Global, named: Option<Guid>, bay: &mut B) -> Re
     ensures reads_rise { (slot : ℕ) → (B.disks bay.old).failed_reads slot ≤ (B.disks bay.new).failed_reads slot }
     ensures writes_rise { (slot : ℕ) → (B.disks bay.old).failed_writes slot ≤ (B.disks bay.new).failed_writes slot }
 {
-    let group = assemble(alloc, bay, named)?;
-    Ok(group)
+    let read = read_with_left_out(alloc, named, bay)?;
+    Ok(read.group)
+}
+
+/// The group that the disks are, and which slots were left out where it was read.
+///
+/// # Errors
+/// Those of `read_group`.
+pub fn read_with_left_out<B: Bay>(
+    alloc: Global,
+    named: Option<Guid>,
+    bay: &mut B,
+) -> Result<AssembledGroup, Failure>
+    ensures read { IsReadLeavingOut (work_of B.tells (B.disks bay.old) (B.disks bay.new)) named result }
+    ensures none { IfOk result (λ read. LeaveNone read.left_out read.group.newest) }
+    ensures from { IfOk result (λ read. IsReadFrom B.tells (B.disks bay.old) read.group) }
+    ensures reads { ReadsOnly (B.disks bay.old) (B.disks bay.new) }
+    ensures reads_rise { (slot : ℕ) → (B.disks bay.old).failed_reads slot ≤ (B.disks bay.new).failed_reads slot }
+    ensures writes_rise { (slot : ℕ) → (B.disks bay.old).failed_writes slot ≤ (B.disks bay.new).failed_writes slot }
+{
+    let read = assemble_with_left_out(alloc, bay, named)?;
+    Ok(read)
 }
 
 /// The configuration of a group once it is recovered: the one in which its absent members are lost, where some are.

@@ -20,10 +20,11 @@ use Rattle.ddf_assembly.proofs.JoinReadied.{is_join}
 use Rattle.ddf_assembly.proofs.JoinWritten.{may_join}
 use Rattle.ddf_assembly.proofs.RecoveryWritten.{may_recover, recovered_held}
 use Rattle.ddf_stops.specs.Going.{Goes, IsAdmitted, IsOver, IsUnderway, KeepsHistory, begun, issue_all}
-use Rattle.ddf_stops.specs.Joins.{AdmitsImport, IsImport, KeepsJoin, StandsToJoin, WereBothTaken, behind_join, import_changes, with_join}
+use Rattle.ddf_stops.specs.Joins.{AdmitsCall, IsImport, KeepsJoin, StandsToJoin, WereBothTaken, behind_join, import_changes, with_join}
 use Rattle.ddf_stops.specs.Kept.{AreAllKept, ReadsTrue, is_read}
 use Rattle.ddf_stops.specs.Steps.{IsRecovery, StandsReady, WasTaken, behind_recovery, recovery_changes}
 use Rattle.ddf_stops.proofs.CommittingGoes.{change_goes, change_over}
+use Rattle.ddf_stops.proofs.JoinAdmits.{admits_behind}
 use Rattle.ddf_stops.proofs.JoinKeeps.{import_keeps}
 use Rattle.ddf_stops.proofs.JoinTaken.{are_apart, same_newest, stands_to_join, was_taken}
 use Rattle.ddf_stops.proofs.RecoveringKeeps.{group_held, recovery_further, recovery_keeps, recovery_stands}
@@ -92,7 +93,7 @@ module _ (group : List ℕ) {D : Type 0} (past : Past (groups group)) (state : B
       }
 
   module _ (middle : BayState D) (recovered : IsRecovery state middle native recovery true) (others : IsOfAnother (join_config native other) (seated other))
-      (admits : (now : Past (groups group)) → IsOver group past readable native first now → AdmitsImport group now middle native other) where
+      (call : AdmitsCall group past state native other) where
     -- The join may be written to the disks as the recovery left them.
     holds : HoldsGroup middle (group_recovered native recovery.recovery)
     holds =
@@ -118,7 +119,9 @@ module _ (group : List ℕ) {D : Type 0} (past : Past (groups group)) (state : B
 
       stands : StandsToJoin group behind middle timestamp native other recovery join
       stands =
-          stands_to_join state left also_left named also_named native other timestamp recovery join taken group behind middle stood.2.at_end others (admits behind stood.1)
+          stands_to_join state left also_left named also_named native other timestamp recovery join taken group behind middle stood.2.at_end others
+          (admits_behind group past state left also_left named also_named native other timestamp recovery join taken same_group kept admitted reads middle recovered behind stood.1
+          stood.2.at_end call)
 
       behind_goes : Goes group past readable native all behind
       unfolding stood

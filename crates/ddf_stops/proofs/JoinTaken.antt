@@ -76,7 +76,7 @@ one_held disks all others held also slot one other at there =
 -- ---- a group's own disks behind its recovery
 
 -- Each is on the slot of a seat.
-recovered_on : (timestamp : ℕ) (native : GroupValue) (k : ℕ) (disk : Seated) → slice_get (disks_recovered timestamp native) k ≡ Some disk
+pub recovered_on : (timestamp : ℕ) (native : GroupValue) (k : ℕ) (disk : Seated) → slice_get (disks_recovered timestamp native) k ≡ Some disk
     → (j : ℕ) × (before : Seated) × (slice_get (seated native) j ≡ Some before) × (before.seat.slot ≡ disk.seat.slot)
 unfolding disks_recovered
 recovered_on timestamp native k disk at = by (some native.absent) at
@@ -136,7 +136,7 @@ module _ {D : Type 0} (disks : BayState D) (left also_left : List Bool) (named a
   brings_members = brings (newest_from disks 0 also_left) also_named other taken.is_found_too disks.sizes also_under taken.other_assembled
 
   -- The disk of a seat of the first group is a current member behind its recovery.
-  recovered_current : (j : ℕ) (before : Seated) → slice_get (seated native) j ≡ Some before → has_current (config_recovered native) (disk_of (view_of before.copy)) ≡ true
+  pub recovered_current : (j : ℕ) (before : Seated) → slice_get (seated native) j ≡ Some before → has_current (config_recovered native) (disk_of (view_of before.copy)) ≡ true
   unfolding config_recovered
   recovered_current j before at = by (some native.absent)
     where
@@ -159,7 +159,7 @@ module _ {D : Type 0} (disks : BayState D) (left also_left : List Bool) (named a
       by false = current
 
   -- No slot that joins is that of one of its disks.
-  apart_before : (k : ℕ) (disk : Seated) → slice_get (seated other) k ≡ Some disk → (j : ℕ) (before : Seated) → slice_get (seated native) j ≡ Some before
+  pub apart_before : (k : ℕ) (disk : Seated) → slice_get (seated other) k ≡ Some disk → (j : ℕ) (before : Seated) → slice_get (seated native) j ≡ Some before
       → before.seat.slot ≡ disk.seat.slot → ⊥
   apart_before k disk at j before there same =
       let both = same_before k disk at in

@@ -74,5 +74,6 @@ pub mod JoinStep
 pub mod JoinKeeps
 pub mod JoinBrings
 pub mod JoinTaken
+pub mod JoinAdmits
 pub mod JoinCalling
 pub mod JoinForeign

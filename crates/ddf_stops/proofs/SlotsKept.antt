@@ -14,14 +14,14 @@ or_false false = refl
 
 module _ (group : List ℕ) (past : Past (groups group)) (readable : ℕ → Bool) (found : GroupValue) where
   -- A change that is issued leaves them.
-  record AreSame (before after : Past (groups group)) : Type 0 where
-    same_slots : after.slots ≡ before.slots
-    same_disks : after.disk ≡ before.disk
-    same_returned : after.returned ≡ before.returned
-    same_own : after.changes.own_from ≡ before.changes.own_from
-    same_lost : after.lost ≡ before.lost
+  pub record AreSame (before after : Past (groups group)) : Type 0 where
+    pub same_slots : after.slots ≡ before.slots
+    pub same_disks : after.disk ≡ before.disk
+    pub same_returned : after.returned ≡ before.returned
+    pub same_own : after.changes.own_from ≡ before.changes.own_from
+    pub same_lost : after.lost ≡ before.lost
 
-  issued_same : (one : Past (groups group)) (changes : List Configuration) → AreSame one (issue_all group one changes)
+  pub issued_same : (one : Past (groups group)) (changes : List Configuration) → AreSame one (issue_all group one changes)
   issued_same one [] = record { same_slots = refl; same_disks = refl; same_returned = refl; same_own = refl; same_lost = refl }
   issued_same one (next ∷ others) =
       let rest = issued_same (issue one next) others in

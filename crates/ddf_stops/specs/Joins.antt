@@ -105,6 +105,20 @@ module _ (group : List ℕ) where
   AdmitsImport past disks native other =
       (image : Image) → IsLeft (synced disks (slots_of other.seats)).may_hold image → AdmitsJoin past (scene_of disks.sizes image) (slots_of other.seats) (config_joining other) (join_config native other)
 
+  -- What is asked of a history that admits a call by which another group joins, by what the slots show at its entry: the same, where a disk that
+  -- isn't a current member of what the call assembled is none.
+  pub record AdmitsBoth (past : Past (groups group)) (scene : Scene View) (native other : GroupValue) : Type 0 where
+    pub names : (slot : ℕ) (copy : View) → IsCopyOf (scene slot) copy → (is_slot (slots_of other.seats) slot ≡ true) ⊎ (has_current (config_joining other) (disk_of copy) ≡ true)
+        → disk_of copy ≡ past.disk slot
+    pub alone : (s t : ℕ) → has_current (config_joining other) (past.disk s) ≡ true → past.disk s ≡ past.disk t → s ≡ t
+    pub unlisted : (slot : ℕ) (copy : View) (disk : Disk) → is_away past slot ≡ false → IsCopyOf (scene slot) copy → ShowsGroup (groups group) (scene slot)
+        → has_current native.config (past.disk slot) ≡ false → has_current (config_joining other) disk ≡ true → find_disk disk.reference copy.disks ≡ None
+    pub gone : (slot : ℕ) → past.returned slot ≡ true → has_missing (join_config native other) (past.disk slot) ≡ true
+
+  -- whatever a stop may leave of the disks then
+  abbrev pub AdmitsCall : {D : Type 0} → Past (groups group) → BayState D → (native other : GroupValue) → Type 0
+  AdmitsCall past disks native other = (image : Image) → IsLeft disks.may_hold image → AdmitsBoth past (scene_of disks.sizes image) native other
+
   -- A group stands at the end of a history, behind its recovery, and the join that was readied with that is ready: the group knows of the
   -- slots that join what the other group does, they are none of its own, and they don't show it.
   pub record StandsToJoin {D : Type 0} (past : Past (groups group)) (disks : BayState D) (timestamp : ℕ) (native other : GroupValue) (recovery : ReadyValue) (join : JoinValue) : Type 0 where

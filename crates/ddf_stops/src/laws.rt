@@ -23,7 +23,7 @@ ghost use Rattle.ddf_history.specs.Promise.{IsKept};
 ghost use Rattle.ddf_history.specs.Scenes.{scene_of};
 ghost use Rattle.ddf_stops.specs.AtEnd.{IsAtEnd};
 ghost use Rattle.ddf_stops.specs.Going.{Ends, IsAdmitted, IsOver, KeepsHistory, KeepsSlots};
-ghost use Rattle.ddf_stops.specs.Joins.{AdmitsImport, HasLeft, IsImport, KeepsJoin, StandsToJoin, WereBothTaken, behind_join, import_changes};
+ghost use Rattle.ddf_stops.specs.Joins.{AdmitsCall, AdmitsImport, HasLeft, IsImport, KeepsJoin, StandsToJoin, WereBothTaken, behind_join, import_changes};
 ghost use Rattle.ddf_stops.specs.Kept.{AreAllKept, is_read, is_slot, told_answer};
 ghost use Rattle.ddf_stops.specs.Steps.{IsCommit, IsRecovery, KeepsStep, StandsReady, WasTaken, behind_next, behind_recovery, recovery_changes};
 
@@ -140,9 +140,8 @@ pub fn an_import_is_a_call_of_its_history<B: Bay>()
         (native other : GroupValue) (timestamp : ℕ) (recovery : ReadyValue) (join : JoinValue) (done : Bool)
         → WereBothTaken (B.disks old) left also_left named also_named native other timestamp recovery join
         → native.config.group ≡ group → AreAllKept group past (B.disks old) → IsAdmitted group past (B.disks old) left native
-        → IsOfAnother (join_config native other) (seated other) → IsRecovery (B.disks old) (B.disks middle) native recovery true
-        → ((now : Past (groups group)) → IsOver group past (is_read left) native (recovery_changes timestamp native) now → AdmitsImport group now (B.disks middle) native other)
-        → IsImport (B.disks middle) (B.disks new) join done
+        → IsOfAnother (join_config native other) (seated other) → AdmitsCall group past (B.disks old) native other
+        → IsRecovery (B.disks old) (B.disks middle) native recovery true → IsImport (B.disks middle) (B.disks new) join done
         → KeepsHistory group (B.disks old) (B.disks new) past left native (import_changes group timestamp native join) done }
 
     // So it does where its recovery fails.

@@ -1,12 +1,13 @@
 -- Which words spell which command.
 use Rattle.std.proofs.Common.{◌≡◌, ◌≢◌, ◌^◌, ℕ, List, [], ◌∷◌, get_or, drop, refl, sym, ap, ◌∙◌, arith, codes, true}
+use Rattle.ddf_words.proofs.Guids.{same_guid}
 use Rattle.ddf_words.proofs.Labels.{same_disks}
 use Rattle.ddf_words.proofs.Numbers.{same_number}
 use Rattle.ddf_words.proofs.Wishes.{accept, create, delete, fail, first_word, no_wish, same_wish, spare, unlike, wish_begins, wish_name, wish_not_at, word_at}
 use Rattle.ddf_words.specs.Traits.{traits_of}
-use Rattle.ddf_words.specs.Words.{Word, AreBlocks, NameDisks, Spells, SpellBlocks, SpellCreate, SpellFail, SpellNamed, SpellSpare, IsGroupCommand, IsNamed}
+use Rattle.ddf_words.specs.Words.{Word, AreBlocks, NameDisks, NamesGroup, Spells, SpellBlocks, SpellCreate, SpellFail, SpellImport, SpellNamed, SpellSpare, IsGroupCommand, IsNamed}
 use Rattle.ddf_words.specs.declared.command.Command.{Command}
-use Rattle.ddf_words.specs.declared.command.Command.TheVariants.{Examine, Label, Assemble, Show, Read, Scrub, Resync, Rebuild, Write, Change}
+use Rattle.ddf_words.specs.declared.command.Command.TheVariants.{Examine, Label, Assemble, Show, Read, Scrub, Resync, Rebuild, Write, Import, Change}
 use Rattle.ddf_words.specs.declared.command.Creation.{Creation}
 use Rattle.ddf_words.specs.declared.command.SpareWord.{SpareWord}
 use Rattle.ddf_words.specs.declared.command.Wish.TheVariants.{Create, Delete, Accept, Spare, Fail}
@@ -38,6 +39,9 @@ rebuild = codes "rebuild"
 abbrev pub write : Word
 write = codes "write"
 
+abbrev pub join_words : Word
+join_words = codes "import"
+
 -- the name of a command
 abbrev pub name_of : Command → Word
 name_of Examine = examine
@@ -49,6 +53,7 @@ name_of (Scrub name) = scrub
 name_of (Resync name) = resync
 name_of (Rebuild name) = rebuild
 name_of (Write name start count) = write
+name_of (Import group) = join_words
 name_of (Change wish) = wish_name wish
 
 -- with it the words begin
@@ -62,6 +67,7 @@ begins_with words (Scrub name) spells = ap first_word spells.parts
 begins_with words (Resync name) spells = ap first_word spells.parts
 begins_with words (Rebuild name) spells = ap first_word spells.parts
 begins_with words (Write name start count) spells = ap first_word spells.parts
+begins_with words (Import group) spells = ap first_word spells.parts
 begins_with words (Change wish) spells = wish_begins words wish spells
 
 -- no name begins with `@`
@@ -69,6 +75,14 @@ pub not_at : (command : Command) → get_or (name_of command) 0 0 ≢ 64
 not_at Examine e = omega (arith, e)
 not_at (Change wish) e = wish_not_at wish e
 not_at command e = omega (arith, e)
+
+-- that of a group does
+pub at_sign : (group : List ℕ) (word : Word) → NamesGroup group word → get_or word 0 0 ≡ 64
+at_sign group word names = ap (λ (w : Word). get_or w 0 0) names.spelled
+
+-- so no command begins with a group's
+pub no_name_of_group : (group : List ℕ) (word : Word) (more : List Word) (command : Command) → NamesGroup group word → Spells command (word ∷ more) → ⊥
+no_name_of_group group word more command names spells = not_at command (ap (λ (w : Word). get_or w 0 0) (sym (begins_with (word ∷ more) command spells)) ∙ at_sign group word names)
 
 pub no_words : (command : Command) → Spells command [] → ⊥
 no_words Examine spells = cc
@@ -150,6 +164,11 @@ pub fail_names : (rest : List Word) (command : Command) → Spells command (fail
 fail_names rest (Change (Fail slot)) spells = (slot, spells)
 fail_names rest command spells = absurd (unlike fail (name_of command) refl (begins_with (fail ∷ rest) command spells))
 
+pub import_names : (rest : List Word) (command : Command) → Spells command (join_words ∷ rest) → (group : List ℕ) × SpellImport group (join_words ∷ rest)
+import_names rest (Import group) spells = (group, spells)
+import_names rest (Change wish) spells = absurd (no_wish join_words (refl, refl, refl, refl, refl) wish (wish_begins (join_words ∷ rest) wish spells))
+import_names rest command spells = absurd (unlike join_words (name_of command) refl (begins_with (join_words ∷ rest) command spells))
+
 -- ---- words ask for one command
 
 module _ (word : Word) (words : List Word) (name name' : Word) where
@@ -169,6 +188,10 @@ module _ (word : Word) (words : List Word) (name name' : Word) where
     same_blocks : (command : Word → ℕ → ℕ → Command) → command name start count ≡ command name' start' count'
     same_blocks command = λ i. command (same_array i) (same_start i) (same_count i)
 
+-- the words name one group
+same_import : (words : List Word) (group group' : List ℕ) → SpellImport group words → SpellImport group' words → group ≡ group'
+same_import words group group' spells spells' = same_guid group group' spells.is_guid spells'.is_guid (ap (word_at 1) (sym spells.parts ∙ spells'.parts))
+
 pub same_command : (words : List Word) (command command' : Command) → Spells command words → Spells command' words → command ≡ command'
 same_command words Examine Examine spells spells' = refl
 same_command words Assemble Assemble spells spells' = refl
@@ -182,6 +205,7 @@ same_command words (Scrub name) (Scrub name') spells spells' = ap Scrub (same_na
 same_command words (Resync name) (Resync name') spells spells' = ap Resync (same_named resync words name name' spells spells')
 same_command words (Rebuild name) (Rebuild name') spells spells' = ap Rebuild (same_named rebuild words name name' spells spells')
 same_command words (Write name start count) (Write name' start' count') spells spells' = same_blocks write words name name' start start' count count' spells spells' Write
+same_command words (Import group) (Import group') spells spells' = ap Import (same_import words group group' spells spells')
 same_command words (Change wish) (Change wish') spells spells' = ap Change (same_wish words wish wish' spells spells')
 same_command words (Change wish) command' spells spells' =
     absurd (no_wish (name_of command') (refl, refl, refl, refl, refl) wish (sym (begins_with words command' spells') ∙ wish_begins words wish spells))
@@ -210,6 +234,7 @@ pub record IsOther (name : Word) : Type 0 where
   pub accept : name ≢ codes "accept"
   pub spare : name ≢ codes "spare"
   pub fail : name ≢ codes "fail"
+  pub join : name ≢ codes "import"
 
 pub other_name : (name : Word) → IsOther name → (command : Command) → (traits_of command).takes_group ≡ true → name ≢ name_of command
 other_name name other Examine takes e = cc
@@ -221,6 +246,7 @@ other_name name other (Scrub array) takes e = other.scrub e
 other_name name other (Resync array) takes e = other.resync e
 other_name name other (Rebuild array) takes e = other.rebuild e
 other_name name other (Write array start count) takes e = other.write e
+other_name name other (Import group) takes e = other.join e
 other_name name other (Change (Create creation)) takes e = other.create e
 other_name name other (Change (Delete array)) takes e = other.delete e
 other_name name other (Change (Accept array)) takes e = other.accept e

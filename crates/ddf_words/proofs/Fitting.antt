@@ -4,7 +4,7 @@ use Rattle.std.specs.List.{AllByRecursion}
 use Rattle.ddf_words.specs.Commands.{FitsCommand, FitsElement, FitsSpare, FitsWish}
 use Rattle.ddf_words.specs.Words.{Word, SpellElements, Spells, SpellsAsked, SpellsSpare, SpellsWish}
 use Rattle.ddf_words.specs.declared.command.Command.{Command}
-use Rattle.ddf_words.specs.declared.command.Command.TheVariants.{Examine, Label, Assemble, Show, Read, Scrub, Resync, Rebuild, Write, Change}
+use Rattle.ddf_words.specs.declared.command.Command.TheVariants.{Examine, Label, Assemble, Show, Read, Scrub, Resync, Rebuild, Write, Import, Change}
 use Rattle.ddf_words.specs.declared.command.CreateElement.{CreateElement}
 use Rattle.ddf_words.specs.declared.command.SpareWord.{SpareWord}
 use Rattle.ddf_words.specs.declared.command.SpareWord.TheVariants as spares
@@ -56,6 +56,7 @@ fits (Scrub name) words spells = tt
 fits (Resync name) words spells = tt
 fits (Rebuild name) words spells = tt
 fits (Write name start count) words spells = tt
+fits (Import group) words spells = tt
 fits (Change wish) words spells = fits_wish wish words spells
 
 -- the command that is asked for keeps within

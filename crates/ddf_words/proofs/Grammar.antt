@@ -1,14 +1,15 @@
 -- Where the words of slots, and images and dashes, go wrong.
-use Rattle.std.proofs.Common.{◌≡◌, ◌≢◌, ℕ, ◌+◌, ◌-◌, ◌<◌, ◌≤◌, List, [], ◌∷◌, ◌++◌, map, length, get_or, take, drop, suc, refl, sym, ap, ◌∙◌, ⊎_elim, arith, append_assoc, length-append, length-take, length-drop, add-zero, None}
+use Rattle.std.proofs.Common.{◌≡◌, ◌≢◌, ℕ, ◌+◌, ◌-◌, ◌<◌, ◌≤◌, List, [], ◌∷◌, ◌++◌, map, length, get_or, take, drop, suc, refl, sym, ap, ◌∙◌, ⊎_elim, arith, append_assoc, length-append, length-take, length-drop, None}
 use Rattle.std.proofs.lemmas.Grind.{common_steps}
 use Rattle.std.proofs.lemmas.Bool.{cases_lt}
-use Rattle.std.proofs.lemmas.List.{get_or_append_left, get_or-append-add, append-nil, take-append-drop, append_cancel_left, take_at, drop_more, take_more, map_push, get_or-take, get_or_default}
+use Rattle.std.proofs.lemmas.List.{get_or_append_left, append-nil, take-append-drop, drop_more, take_more, map_push, get_or-take, get_or_default}
 use Rattle.std.proofs.Math.Seq.{take-add, get_or-append_seam}
 use Rattle.std.specs.Prelude.{Contains}
 use Rattle.std.specs.Fmt.{decimal}
 use Rattle.ddf_words.proofs.Numbers.{many_slots, word_of_slot, small_slot, same_slot}
 use Rattle.ddf_words.proofs.Places.{wrong_word, wanting_words}
 use Rattle.ddf_words.proofs.Commands.{examine}
+use Rattle.ddf_words.proofs.Dashes.{HasNoDashes, same_rest, within_images}
 use Rattle.ddf_words.proofs.Requests.{same_request}
 use Rattle.ddf_words.specs.Words.{Word, dashes, AreImages, AreSlotWords, NameSlots, IsNextImage, SpellsAsked, IsAsked, IsAccepted, IsRequest, Begins, GoWrongAt, LeadsWithImages}
 use Rattle.ddf_words.specs.declared.command.Asked.{Asked}
@@ -77,21 +78,7 @@ module _ (words : List Word) (slots : List ℕ) (place : ℕ) (lt : place < leng
 
 -- ---- images and dashes
 
-abbrev HasNoDashes : List Word → Type 0
-HasNoDashes words = (k : ℕ) → k < length words → get_or words k [] ≢ dashes
-
-at_dashes : (images rest : List Word) → get_or (images ++ dashes ∷ rest) (length images) [] ≡ dashes
-at_dashes images rest = ap (λ (n : ℕ). get_or (images ++ dashes ∷ rest) n []) (sym (add-zero (length images))) ∙ get_or-append-add images (dashes ∷ rest) 0 []
-
--- words without dashes, and then more: where dashes stand, these words are over
-within_images : (front more images rest : List Word) → HasNoDashes front → front ++ more ≡ images ++ dashes ∷ rest → length front ≤ length images
-within_images front more images rest none e = ⊎_elim
-    (λ under. absurd (none (length images) under
-    (sym (get_or_append_left front more [] (length images) under) ∙ ap (λ (ws : List Word). get_or ws (length images) []) e ∙ at_dashes images rest)))
-    (λ over. over)
-    (cases_lt (length images) (length front))
-
--- and are images
+-- words without dashes, and then more, are images before the dashes
 same_image : (front more images rest : List Word) → HasNoDashes front → front ++ more ≡ images ++ dashes ∷ rest
     → (k : ℕ) → k < length front → get_or images k [] ≡ get_or front k []
 same_image front more images rest none e k lt =
@@ -107,9 +94,6 @@ images_begin images are = record {
     is_asked = record { images = images; rest = examine ∷ []; are_images = are; parts = refl; spells = refl };
   };
 }
-
-pub no_images : AreImages []
-no_images = record { few = omega arith; named = λ i lt. absurd (omega (arith, lt)); paths = λ i lt. absurd (omega (arith, lt)); different = λ i j lt le. absurd (omega (arith, le)) }
 
 module _ (words : List Word) (place : ℕ) (lt : place < length words) (so_far : AreImages (take place words)) (other : get_or words place [] ≢ dashes) where
   pub front : List Word
@@ -184,23 +168,6 @@ no_dashes_left words are = wanting_words IsAccepted words (images_begin words ar
     omega (arith, ap length asked.parts, length-append asked.images (dashes ∷ asked.rest)))
 
 -- ---- images, dashes and a command
-
--- the first dashes part the words in one way
-same_length : (images rest images' rest' : List Word) → AreImages images → AreImages images' → images ++ dashes ∷ rest ≡ images' ++ dashes ∷ rest' → length images ≡ length images'
-same_length images rest images' rest' are are' e =
-    let one = within_images images (dashes ∷ rest) images' rest' are.paths e in
-    let other = within_images images' (dashes ∷ rest') images rest are'.paths (sym e) in
-    omega (arith, one, other)
-
-same_images : (images rest images' rest' : List Word) → length images ≡ length images' → images ++ dashes ∷ rest ≡ images' ++ dashes ∷ rest' → images ≡ images'
-same_images images rest images' rest' long e =
-    sym (take_at images (dashes ∷ rest) (length images) refl) ∙ ap (take (length images)) e ∙ take_at images' (dashes ∷ rest') (length images) (sym long)
-
-same_rest : (images rest images' rest' : List Word) → AreImages images → AreImages images' → images ++ dashes ∷ rest ≡ images' ++ dashes ∷ rest' → rest ≡ rest'
-same_rest images rest images' rest' are are' e =
-    let same = same_images images rest images' rest' (same_length images rest images' rest' are are' e) e in
-    let tails : dashes ∷ rest ≡ dashes ∷ rest' = append_cancel_left images (dashes ∷ rest) (dashes ∷ rest') (e ∙ ap (λ (ws : List Word). ws ++ dashes ∷ rest') (sym same)) in
-    cc
 
 module _ (words : List Word) (count : ℕ) (leads : LeadsWithImages words count) where
   rest : List Word

@@ -4,8 +4,8 @@ use Rattle.std.specs.List.{AllPass}
 use Rattle.std.proofs.lemmas.Bool.{cases_lt}
 use Rattle.std.proofs.lemmas.List.{get_or_past, take_all, drop_more}
 use Rattle.std.proofs.lemmas.List.Elements.{All-head, All-tail}
-use Rattle.hex.specs.Hex.{encode_with, encode_lower, lower_digits}
-use Rattle.hex.proofs.HexLemmas.{length-encode_with}
+use Rattle.hex.specs.Hex.{decode_of, encode_with, encode_lower, lower_digits}
+use Rattle.hex.proofs.HexLemmas.{decode_of-encode_lower, decode_of-same, length-encode_with}
 use Rattle.ddf_bytes.specs.Guids.{IsGuid, is_lower_digit}
 use Rattle.ddf_words.specs.Words.{Word, NamesGroup}
 
@@ -37,6 +37,11 @@ guid_of_digits bytes digits e long lower = record {
   count = omega (arith, length-encode_with lower_digits bytes, ap length e, long);
   each = small_bytes bytes (rw e lower);
 }
+
+-- digits are of one GUID
+pub same_guid : (group group' : List ℕ) → IsGuid group → IsGuid group' → encode_lower group ≡ encode_lower group' → group ≡ group'
+same_guid group group' is is' digits =
+    decode_of-same (encode_lower group) group group' (decode_of-encode_lower group is.each) (ap decode_of digits ∙ decode_of-encode_lower group' is'.each)
 
 -- what `@` and then digits name
 pub reads_group : (word : Word) (found : Option (List ℕ)) → 1 ≤ length word → slice_index word 0 ≡ 64

@@ -1,19 +1,21 @@
 mod Arrays
 mod Blocks
-mod Commands
+pub mod Commands
+pub mod Dashes
 mod Disks
 mod Elements
 mod Faults
 mod Fields
 mod Fitting
 mod Levels
-mod Lists
+pub mod Lists
 mod Guids
-mod Places
+pub mod Places
 mod Requests
 mod Labels
 mod Grammar
 mod Names
 mod Numbers
 pub mod Finds
-mod Wishes
+pub mod Wishes
+pub mod Imports

@@ -1,7 +1,7 @@
 -- Lists of words, seen through their bytes.
-use Rattle.std.proofs.Common.{◌≢◌, ◌≤◌, get_or, String, Global, string_bytes, ◌≡◌, ℕ, List, [], ◌∷◌, Bool, map, take, length, refl, sym, ap, length-take, length-drop, drop, ◌-◌, ◌∙◌, suc, arith, ◌<◌}
+use Rattle.std.proofs.Common.{◌≢◌, ◌≤◌, get_or, String, Global, string_bytes, ◌≡◌, ℕ, List, [], ◌∷◌, Bool, map, take, length, refl, sym, ap, length-take, length-drop, drop, ◌-◌, ◌∙◌, arith, ◌<◌}
 use Rattle.std.specs.Prelude.{not, position, All}
-use Rattle.std.proofs.lemmas.List.{get_or-map, get_or-take, take_all, drop-map}
+use Rattle.std.proofs.lemmas.List.{get_or-map, get_or-take, length-map, take_all, drop-map}
 use Rattle.ddf_words.specs.Words.{Word, words_of}
 use Rattle.std.specs.List.{prefix_len}
 
@@ -9,12 +9,8 @@ prefix_len-map : {X Y : Type 0} (p : Y → Bool) (f : X → Y) (xs : List X) →
 prefix_len-map p f [] = refl
 prefix_len-map p f (x ∷ xs) = rw (prefix_len-map p f xs) refl
 
-length-map : {X Y : Type 0} (f : X → Y) (xs : List X) → length (map f xs) ≡ length xs
-length-map f [] = refl
-length-map f (x ∷ xs) = ap suc (length-map f xs)
-
 pub position-map : {X Y : Type 0} (p : Y → Bool) (f : X → Y) (xs : List X) → position p (map f xs) ≡ position (λ x. p (f x)) xs
-position-map p f xs = rw (prefix_len-map (λ y. not (p y)) f xs, length-map f xs) refl
+position-map p f xs = rw (prefix_len-map (λ y. not (p y)) f xs, length-map xs f) refl
 
 pub none_left : {X : Type 0} (xs : List X) → length xs ≡ 0 → xs ≡ []
 none_left [] e = refl

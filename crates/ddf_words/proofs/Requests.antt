@@ -1,8 +1,7 @@
 -- Where the words of a command, and those behind the dashes, go wrong.
-use Rattle.std.proofs.Common.{◌≡◌, ◌≢◌, ℕ, ◌+◌, List, [], ◌∷◌, get_or, take, drop, refl, sym, ap, ◌∙◌, Option, Some, None, true, arith}
-use Rattle.hex.specs.Hex.{decode_of, encode_lower}
-use Rattle.hex.proofs.HexLemmas.{decode_of-encode_lower, decode_of-same}
-use Rattle.ddf_words.proofs.Commands.{examine, label, assemble, name_of, begins_with, not_at, no_words, examine_alone, label_names, same_command, over_group}
+use Rattle.std.proofs.Common.{◌≡◌, ◌≢◌, ℕ, ◌+◌, List, [], ◌∷◌, take, drop, refl, sym, ap, ◌∙◌, Option, Some, None, true, arith}
+use Rattle.ddf_words.proofs.Guids.{same_guid}
+use Rattle.ddf_words.proofs.Commands.{examine, label, assemble, name_of, begins_with, no_name_of_group, no_words, examine_alone, label_names, same_command, over_group}
 use Rattle.ddf_words.proofs.Wishes.{first_word}
 use Rattle.ddf_words.proofs.Places.{begins_itself, wrong_word, wanting_words, wrong_among, wrong_behind}
 use Rattle.ddf_words.specs.Traits.{traits_of}
@@ -59,17 +58,7 @@ more_group_words name is alone words rest next e = rw e (wrong_word IsGroupComma
 
 -- a word names one group
 same_group : (group group' : List ℕ) (word : Word) → NamesGroup group word → NamesGroup group' word → group ≡ group'
-same_group group group' word names names' =
-    let digits : encode_lower group ≡ encode_lower group' = ap (drop 1) (sym names.spelled ∙ names'.spelled) in
-    decode_of-same (encode_lower group) group group' (decode_of-encode_lower group names.is_guid.each)
-    (ap decode_of digits ∙ decode_of-encode_lower group' names'.is_guid.each)
-
-at_sign : (group : List ℕ) (word : Word) → NamesGroup group word → get_or word 0 0 ≡ 64
-at_sign group word names = ap (λ (w : Word). get_or w 0 0) names.spelled
-
--- no command begins with the name of a group
-no_name_of_group : (group : List ℕ) (word : Word) (more : List Word) (command : Command) → NamesGroup group word → Spells command (word ∷ more) → ⊥
-no_name_of_group group word more command names spells = not_at command (ap (λ (w : Word). get_or w 0 0) (sym (begins_with (word ∷ more) command spells)) ∙ at_sign group word names)
+same_group group group' word names names' = same_guid group group' names.is_guid names'.is_guid (ap (drop 1) (sym names.spelled ∙ names'.spelled))
 
 one_group : (words : List Word) (group : List ℕ) (command command' : Command) → Spells command words → SpellOverGroup group command' words → ⊥
 one_group words group command command' spells over = no_name_of_group group over.word over.others command over.names_group (rw over.parts at spells)

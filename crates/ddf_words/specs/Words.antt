@@ -9,7 +9,7 @@ use Rattle.hex.specs.Hex.{encode_lower}
 use Rattle.ddf_bytes.specs.Guids.{IsGuid}
 use Rattle.ddf_words.specs.declared.command.Asked.{Asked}
 use Rattle.ddf_words.specs.declared.command.Command.{Command}
-use Rattle.ddf_words.specs.declared.command.Command.TheVariants.{Examine, Label, Assemble, Show, Read, Scrub, Resync, Rebuild, Write, Change}
+use Rattle.ddf_words.specs.declared.command.Command.TheVariants.{Examine, Label, Assemble, Show, Read, Scrub, Resync, Rebuild, Write, Import, Change}
 use Rattle.ddf_words.specs.declared.command.CreateElement.{CreateElement}
 use Rattle.ddf_words.specs.declared.command.Creation.{Creation}
 use Rattle.ddf_words.specs.declared.command.DiskStyle.{DiskStyle}
@@ -230,6 +230,16 @@ SpellsWish (Accept name) words = SpellNamed (codes "accept") name words
 SpellsWish (Spare slot word) words = SpellSpare slot word words
 SpellsWish (Fail slot) words = SpellFail slot words
 
+-- The word is the 48 lower-case hexadecimal digits of a group's GUID.
+pub record SpellsGuid (group : List ℕ) (word : Word) : Type 0 where
+  pub is_guid : IsGuid group
+  pub spelled : word ≡ encode_lower group
+
+-- The words are `import` and the GUID of the group whose disks are to join.
+pub record SpellImport (group : List ℕ) (words : List Word) : Type 0 where
+  pub parts : words ≡ codes "import" ∷ encode_lower group ∷ []
+  pub is_guid : IsGuid group
+
 -- and of each command
 abbrev pub Spells : Command → List Word → Type 0
 Spells Examine words = words ≡ codes "examine" ∷ []
@@ -241,6 +251,7 @@ Spells (Scrub name) words = SpellNamed (codes "scrub") name words
 Spells (Resync name) words = SpellNamed (codes "resync") name words
 Spells (Rebuild name) words = SpellNamed (codes "rebuild") name words
 Spells (Write name start count) words = SpellBlocks (codes "write") name start count words
+Spells (Import group) words = SpellImport group words
 Spells (Change wish) words = SpellsWish wish words
 
 -- The word is `@` and the 48 lower-case hexadecimal digits of the group's GUID.
@@ -318,6 +329,11 @@ pub record NameDisks (words : List Word) : Type 0 where
 pub record IsNumber (most : ℕ) (word : Word) : Type 0 where
   pub number : ℕ
   pub spells : SpellsNumber most number word
+
+-- the GUID of some group is spelled so
+pub record IsGuidWord (word : Word) : Type 0 where
+  pub group : List ℕ
+  pub spells : SpellsGuid group word
 
 -- some level is spelled so
 pub record IsLevel (word : Word) : Type 0 where

@@ -60,6 +60,11 @@ pub enum Command {
         /// How many blocks, at most 2^60.
         count: u64,
     },
+    /// Takes the disks and the arrays of another group into a group.
+    Import {
+        /// The other group.
+        group: Guid,
+    },
     /// Changes a group.
     Change(Wish),
 }

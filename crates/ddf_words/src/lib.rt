@@ -7,6 +7,7 @@ mod command;
 mod disk_words;
 mod element_words;
 mod ends;
+mod import_words;
 mod label_words;
 mod level_words;
 mod name_words;

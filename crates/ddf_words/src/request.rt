@@ -7,6 +7,7 @@ use crate::array_words::{create_of, named_of};
 use crate::block_words::{Blocks, blocks_of};
 use crate::command::{Asked, Command, Wish};
 use crate::disk_words::{fail_of, spare_of};
+use crate::import_words::import_of;
 use crate::label_words::label_of;
 use crate::words::WordFault;
 use ddf_bytes::Guid;
@@ -72,6 +73,7 @@ fn group_command_of(alloc: Global, words: &[String]) -> Result<Command, WordFaul
         }
         "spare" => spare_of(alloc, words),
         "fail" => fail_of(words),
+        "import" => import_of(words),
         _ => Err(WordFault::Place(0)),
     }
 }

@@ -47,7 +47,10 @@ impl Command {
                 makes_names: false,
                 takes_input: false,
             },
-            Command::Assemble | Command::Resync { .. } | Command::Rebuild { .. } => Traits {
+            Command::Assemble
+            | Command::Resync { .. }
+            | Command::Rebuild { .. }
+            | Command::Import { .. } => Traits {
                 takes_group: true,
                 may_write: true,
                 may_refuse: true,

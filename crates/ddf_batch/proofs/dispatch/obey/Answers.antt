@@ -33,6 +33,12 @@ returns-in-Rebuild-clause-done g c = rw c.in-Rebuild.is (rw c.items-in-Rebuild.e
 pub returns-in-Rebuild-clause-ends : goal.returns-in-Rebuild-clause-ends
 returns-in-Rebuild-clause-ends g c = rw c.in-Rebuild.is (ends_for _ refl refl refl _ _ _ _ (λ rose. rose) c.rebuild.ensures.ends)
 
+pub returns-in-Import-clause-done : goal.returns-in-Import-clause-done
+returns-in-Import-clause-done g c = rw c.in-Import.is c.import.ensures.done
+
+pub returns-in-Import-clause-ends : goal.returns-in-Import-clause-ends
+returns-in-Import-clause-ends g c = rw c.in-Import.is c.import.ensures.ends
+
 pub change-requires : goal.change-requires
 change-requires g c = rw c.in-Change.is at c.requires.fits
 

@@ -1,9 +1,14 @@
-use Rattle.ddf_batch.proofs.Events.{cuts, ends, line_took, reads_other}
+use Rattle.ddf_words.specs.declared.command.Command.TheVariants.{Import}
+use Rattle.ddf_batch.proofs.Events.{cuts, ends, line_joined, line_took, reads_other}
 use Rattle.ddf_batch.proofs.laws.a_line_is_an_event_of_its_history.Goals as goal
 
 pub returns-clause-took : goal.returns-clause-took
-returns-clause-took g c = λ stamp group words from to code command run asks writes.
-    line_took g.B.Bay.tells g.B.Bay.disks g.K.Sink.tells stamp group from to code command asks.is_for_lines writes (run.done command asks)
+returns-clause-took g c = λ stamp group words from to code command run asks writes joins.
+    line_took g.B.Bay.tells g.B.Bay.disks g.K.Sink.tells stamp group from to code command asks.is_for_lines writes joins (run.done command asks)
+
+pub returns-clause-joined : goal.returns-clause-joined
+returns-clause-joined g c = λ stamp group words from to code other run asks.
+    line_joined g.B.Bay.tells g.B.Bay.disks g.K.Sink.tells stamp group from to code other (run.done (Import other) asks)
 
 pub returns-clause-ends : goal.returns-clause-ends
 returns-clause-ends g c = λ told stamp group command guid old output to code took is kept tells_left. ends told g.B.Bay.disks stamp group command guid old output to code took is kept tells_left

@@ -1,5 +1,5 @@
-use Rattle.std.proofs.Common.{◌≡◌, ◌∙◌, ◌-◌, ◌∷◌, [], ℕ, List, None, Ok, Err, inl, inr, ⊎_elim, get_or, sym, ap, subst, arith, true, false}
-use Rattle.ddf_words.specs.Words.{Word, GoWrongAt, IsAccepted, IsAsked, dashes, words_of}
+use Rattle.std.proofs.Common.{◌≡◌, ◌∙◌, ◌-◌, ℕ, List, None, Ok, Err, inl, sym, ap, subst, arith}
+use Rattle.ddf_words.specs.Words.{Word, GoWrongAt, IsAccepted, IsAsked, words_of}
 use Rattle.ddf_words.specs.declared.command.Asked.{Asked}
 use Rattle.ddf_batch_words.specs.Lines.{IsLine}
 use Rattle.ddf_batch_words.proofs.Batches.{one_asked}

@@ -1,7 +1,6 @@
-use Rattle.std.proofs.Common.{◌≡◌, ◌∙◌, ◌++◌, ◌∷◌, [], List, ⊎_elim, string_bytes, length, sym, subst, arith, true}
+use Rattle.std.proofs.Common.{◌∙◌, List, ⊎_elim, string_bytes, sym, subst, arith}
 use Rattle.std.proofs.lemmas.List.{length-map}
 use Rattle.ddf_words.specs.Words.{Word, IsAsked, words_of}
-use Rattle.ddf_words.specs.declared.command.Asked.{Asked}
 use Rattle.ddf_batch_words.specs.Batch.{assembling}
 use Rattle.ddf_batch_words.proofs.Batches.{ask_for_batch, assembles, batch_at, not_assembling, not_like, not_there, one_asked, same_twin, words_behind}
 use Rattle.ddf_batch_words.proofs.order.order_at.Goals as goal

@@ -1,6 +1,5 @@
-use Rattle.std.proofs.Common.{◌≡◌, ◌∙◌, None, Some, ap, sym}
+use Rattle.std.proofs.Common.{◌∙◌, Some, ap, sym}
 use Rattle.ddf_words.specs.Words.{words_of}
-use Rattle.ddf_words.specs.declared.words.WordFault.TheVariants.{Place}
 use Rattle.ddf_batch_words.proofs.Batches.{is_asked_for, wrong_in}
 use Rattle.ddf_batch_words.proofs.order.order_of.Goals as goal
 

@@ -1,9 +1,9 @@
-use Rattle.std.proofs.Common.{◌≡◌, ◌∙◌, false, string_bytes, sym, ap}
+use Rattle.std.proofs.Common.{◌≡◌, ◌∙◌, false, string_bytes, sym}
 use Rattle.std.specs.List.{list_all}
 use Rattle.std.specs.Str.{bytes_eq}
+use Rattle.ddf_words.proofs.Lists.{position-map}
 use Rattle.ddf_words.specs.Words.{Word}
 use Rattle.ddf_batch_words.specs.Lines.{is_digit}
-use Rattle.ddf_batch_words.proofs.Mapped.{position-map}
 use Rattle.ddf_batch_words.proofs.parts.slot_named.Goals as goal
 
 pub returns : goal.returns

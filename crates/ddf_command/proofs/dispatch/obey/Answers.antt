@@ -58,6 +58,12 @@ returns-in-Write-clause-done g c = rw c.in-Write.is (rw c.items-in-Write.ensures
 pub returns-in-Write-clause-ends : goal.returns-in-Write-clause-ends
 returns-in-Write-clause-ends g c = rw c.in-Write.is (may_be_cut refl refl refl refl (λ rose. ⊎_elim inl (λ input. inr (refl, input)) rose) c.write.ensures.ends)
 
+pub returns-in-Import-clause-done : goal.returns-in-Import-clause-done
+returns-in-Import-clause-done g c = rw c.in-Import.is c.import.ensures.done
+
+pub returns-in-Import-clause-ends : goal.returns-in-Import-clause-ends
+returns-in-Import-clause-ends g c = rw c.in-Import.is (not_cut (ends_by _ _ _ inl c.import.ensures.ends))
+
 pub change-requires : goal.change-requires
 change-requires g c = rw c.in-Change.is at c.requires
 

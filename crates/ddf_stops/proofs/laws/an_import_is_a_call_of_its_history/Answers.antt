@@ -5,10 +5,10 @@ use Rattle.ddf_stops.proofs.JoinCalling.{import_call, import_fails, may}
 use Rattle.ddf_stops.proofs.laws.an_import_is_a_call_of_its_history.Goals as goal
 
 pub returns-clause-keeps : goal.returns-clause-keeps
-returns-clause-keeps g c = λ group past old middle new left also_left named also_named native other timestamp recovery join done taken same_group kept admitted others recovered admits is.
+returns-clause-keeps g c = λ group past old middle new left also_left named also_named native other timestamp recovery join done taken same_group kept admitted others call recovered is.
     let bay = g.met.B.Bay in
     let before = g.B.Bay.disks old in
-    import_call group past before left also_left named also_named native other timestamp recovery join taken same_group kept admitted (g.B.Bay.disks middle) recovered others admits
+    import_call group past before left also_left named also_named native other timestamp recovery join taken same_group kept admitted (g.B.Bay.disks middle) recovered others call
     (g.B.Bay.disks new) (bay.told_since new) (bay.held_is_left new) (bay.held_is_left middle)
     (λ tells.
     let is_left = bay.held_is_left old tells in

@@ -2,7 +2,7 @@ use Rattle.std.proofs.Common.{◌≡◌, ◌∷◌, ◌∙◌, List, drop, refl,
 use Rattle.ddf_words.specs.Words.{Word, words_of, AreBlocks, IsGroupCommand, IsNamed}
 use Rattle.ddf_words.specs.declared.command.Command.TheVariants.{Assemble, Show, Read, Scrub, Resync, Rebuild, Write, Change}
 use Rattle.ddf_words.specs.declared.command.Wish.TheVariants.{Delete, Accept}
-use Rattle.ddf_words.proofs.Commands.{accept_names, assemble, assemble_alone, delete_names, other_name, read, read_names, rebuild, rebuild_names, resync, resync_names, scrub, scrub_names, show, show_alone, write, write_names}
+use Rattle.ddf_words.proofs.Commands.{accept_names, assemble, assemble_alone, delete_names, join_words, other_name, read, read_names, rebuild, rebuild_names, resync, resync_names, scrub, scrub_names, show, show_alone, write, write_names}
 use Rattle.ddf_words.proofs.Faults.{passed_on}
 use Rattle.ddf_words.proofs.Places.{wrong_among}
 use Rattle.ddf_words.proofs.Requests.{no_group_command, other_group_command, more_group_words}
@@ -32,6 +32,7 @@ returns-in_default-as_str-clause-place c = λ place e.
       accept = λ e. c.in_default-as_str.not-accept (c.as_str.ensures.value ∙ e);
       spare = λ e. c.in_default-as_str.not-spare (c.as_str.ensures.value ∙ e);
       fail = λ e. c.in_default-as_str.not-fail (c.as_str.ensures.value ∙ e);
+      join = λ e. c.in_default-as_str.not-import (c.as_str.ensures.value ∙ e);
     })))
 
 pub returns-in_default-rest-clause-place : goal.returns-in_default-rest-clause-place
@@ -62,6 +63,11 @@ pub returns-in-fail-clause-place : goal.returns-in-fail-clause-place
 returns-in-fail-clause-place c = λ place e.
     rw (named_words (words_of c.args.words.now) (words_of c.in-Some.rest.now) (string_bytes c.in-Some.name.now) fail (ap words_of c.in-Some.ensures.cases.0) (sym c.as_str.ensures.value ∙ c.in-fail.is))
     (c.fail_of.ensures.place place e)
+
+pub returns-in-import-clause-place : goal.returns-in-import-clause-place
+returns-in-import-clause-place c = λ place e.
+    rw (named_words (words_of c.args.words.now) (words_of c.in-Some.rest.now) (string_bytes c.in-Some.name.now) join_words (ap words_of c.in-Some.ensures.cases.0) (sym c.as_str.ensures.value ∙ c.in-import.is))
+    (c.import_of.ensures.place place e)
 
 is_read : (words : List Word) → AreBlocks read words → IsGroupCommand words
 is_read words is = record { command = Read is.name is.start is.count; takes_one = refl; spells = is.spells }

@@ -1,0 +1,92 @@
+//! Disks of another group that this one takes over: those that have joined it.
+ghost use Rattle.std.specs.Prelude.{◌≡◌, ◌||◌, not, filter_map, option_map};
+ghost use Rattle.std.specs.List.{list_all};
+ghost use Rattle.ddf_view.specs.View.{disk_of, lists_current};
+ghost use Rattle.ddf_group.specs.Slots.{slot_at};
+ghost use Rattle.ddf_group.specs.Taking.{has_joined, has_lost, have_joined, lists, shows_untaken, takes_over};
+
+use crate::slots::Slots;
+use ddf_bytes::Guid;
+use ddf_tables::{DiskEntry, DiskRow};
+use ddf_view::View;
+
+/// The disk of a row that is used.
+fn disk_of(row: &DiskRow) -> Option<DiskEntry>
+    ensures { result ≡ disk_of row.now }
+{
+    match row {
+        DiskRow::Entry(entry) => Some(*entry),
+        DiskRow::Unused(_) => None,
+    }
+}
+
+/// Whether a copy lists a disk, as a current member or as a missing one.
+fn lists(view: &View, disk: &DiskEntry) -> bool
+    ensures { result ≡ lists view.now disk.now }
+{
+    view.lists_current(&disk.guid, disk.reference) || view.lists_missing(&disk.guid, disk.reference)
+}
+
+/// Whether each disk of these rows that the former group counts as a current member is listed by this one.
+fn lists_members(leader: &View, former: &View, rows: &[DiskRow]) -> bool
+    ensures { result ≡ list_all (λ disk. not (lists_current former.now disk.guid disk.reference) || lists leader.now disk) (filter_map disk_of rows.now) }
+{
+    rows.iter().filter_map(disk_of).all(|disk| {
+        !former.lists_current(&disk.guid, disk.reference) || lists(leader, &disk)
+    })
+}
+
+/// Whether each disk of these rows is listed.
+fn lists_all(view: &View, rows: &[DiskRow]) -> bool
+    ensures { result ≡ list_all (lists view.now) (filter_map disk_of rows.now) }
+{
+    rows.iter()
+        .filter_map(disk_of)
+        .all(|disk| lists(view, &disk))
+}
+
+/// Whether the former group has joined this one: its members are listed here, beside disks that it doesn't know.
+fn has_joined(leader: &View, former: &View) -> bool
+    ensures { result ≡ has_joined leader.now former.now }
+{
+    lists_members(leader, former, former.disk_rows()) && !lists_all(former, leader.disk_rows())
+}
+
+/// The same of the groups' leaders.
+fn have_joined(leader: Option<&View>, former: Option<&View>) -> bool
+    ensures { result ≡ have_joined (option_map (λ view. view.now) leader.entry) (option_map (λ view. view.now) former.entry) }
+{
+    match (leader, former) {
+        (Some(leader), Some(former)) => has_joined(leader, former),
+        (None, _) | (Some(_), None) => false,
+    }
+}
+
+/// Whether the former group lists a slot's disk as missing.
+fn has_lost(slots: &Slots, former: Option<&View>, slot: usize) -> bool
+    ensures { result ≡ has_lost (option_map (λ view. view.now) former.entry) (slot_at slots.now slot) }
+{
+    match (former, slots.view(slot)) {
+        (Some(former), Some(disk)) => former.lists_missing(&disk.guid(), disk.reference()),
+        (None, _) | (Some(_), None) => false,
+    }
+}
+
+/// Whether the group that a slot shows has joined this one, and hasn't lost the slot's disk since.
+fn takes_over(slots: &Slots, group: &Guid, other: &Guid, slot: usize) -> bool
+    ensures { result ≡ takes_over slots.now group.now other.now slot }
+{
+    let former = slots.leading_view(other);
+    have_joined(slots.leading_view(group), former) && !has_lost(slots, former, slot)
+}
+
+/// Whether a slot shows another group than this one, and its disk isn't taken over: that group hasn't joined this one, or it has lost the
+/// disk since (profile).
+pub fn shows_untaken(slots: &Slots, group: &Guid, slot: usize) -> bool
+    ensures { result ≡ shows_untaken slots.now group.now slot }
+{
+    match slots.group(slot) {
+        Some(other) => *group != other && !takes_over(slots, group, &other, slot),
+        None => false,
+    }
+}

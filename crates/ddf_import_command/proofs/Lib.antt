@@ -1,0 +1,8 @@
+mod Asked
+mod Known
+mod Placed
+mod Written
+mod Keeping
+mod Leaving
+mod Both
+pub mod Ending
