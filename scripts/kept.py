@@ -42,6 +42,8 @@ def give_one(kept, crate) -> bool:
     key, note = kept.key(crate), f"{crate.folder}/out/rlib/given"
     if crate.is_built() and os.path.exists(note) and open(note, encoding="utf-8").read() == key:
         return True
+    # What is given is the store's own files by other names, so none that stands there may be written over.
+    shutil.rmtree(f"{crate.folder}/out/rlib", ignore_errors=True)
     os.makedirs(f"{crate.folder}/out", exist_ok=True)
     if not kept.give(crate, False, key):
         return False

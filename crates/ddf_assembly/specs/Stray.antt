@@ -13,7 +13,7 @@ use Rattle.ddf_config.specs.declared.array.Array.{Array}
 use Rattle.ddf_config.specs.declared.member.Member.{Member}
 use Rattle.ddf_config.specs.Configuration.{Configuration}
 use Rattle.ddf_config.specs.Members.{same_guid}
-use Rattle.ddf_view.specs.View.{element_of, lists_current, view_of}
+use Rattle.ddf_view.specs.View.{element_of, lists_missing, view_of}
 use Rattle.ddf_view.specs.Shows.{shows}
 use Rattle.ddf_group.specs.declared.shown.Shown.{Shown}
 use Rattle.ddf_group.specs.Taking.{shows_untaken}
@@ -66,9 +66,9 @@ holds_only_record newest config disk = not (shows config (view_of disk.copy)) &&
 
 -- ---- an image from before
 
--- a member that the disk lists as current, and that the group has lost since
+-- A member that is missing and that the disk doesn't list so: the group has lost it since, also one that joined by the change that the disk has missed.
 abbrev pub is_lost_since : Seated → (ℕ × Member) → Bool
-is_lost_since disk entry = entry.1.missing && lists_current (view_of disk.copy) entry.1.guid entry.0
+is_lost_since disk entry = entry.1.missing && not (lists_missing (view_of disk.copy) entry.1.guid entry.0)
 
 -- How many sequence numbers stops and failing disks leave a disk behind at the most. Behind a change that isn't on all disks nothing is issued but
 -- losses; the change takes two numbers at the most, and each loss two, with a member at least.

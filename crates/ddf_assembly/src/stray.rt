@@ -104,11 +104,11 @@ fn holds_only_record(newest: &[Option<Newest>], config: &Config, disk: &Disk) ->
 
 // ---- an image from before
 
-/// Whether a disk lists a member as current that the group has lost.
+/// Whether a member is missing that a disk doesn't list as missing.
 fn is_lost_since(disk: &Disk, reference: u32, member: &Member) -> bool
     ensures { result ≡ is_lost_since disk.now (reference, member.now) }
 {
-    member.missing && View::new(disk.copy).lists_current(&member.guid, reference)
+    member.missing && !View::new(disk.copy).lists_missing(&member.guid, reference)
 }
 
 /// How many sequence numbers stops and failing disks leave a disk behind at the most (profile).

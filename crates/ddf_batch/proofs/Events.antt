@@ -48,11 +48,13 @@ failed (Conflict i j sequence differ) answer told zero = ⊎_elim (λ four. omeg
 failed (Split i j) answer told zero = ⊎_elim (λ four. omega (arith, zero, four)) (λ cut. short answer.status cut zero) told.ends
 failed Memory answer told zero = omega (arith, zero, told.0)
 
-changed_done : (outcome : Result ℕ Failure) (answer : Answer) → IsToldChange outcome answer → answer.status ≡ 0 → is_done outcome ≡ true
+-- At status 0 a change was done,
+pub changed_done : (outcome : Result ℕ Failure) (answer : Answer) → IsToldChange outcome answer → answer.status ≡ 0 → is_done outcome ≡ true
 changed_done (Ok sequence) answer told zero = refl
 changed_done (Err failure) answer told zero = absurd (failed failure answer told zero)
 
-told_done : (found : Result GroupValue Assembly) (outcome : Result ℕ Failure) (answer : Answer) → IsTold found outcome answer → answer.status ≡ 0 → is_done outcome ≡ true
+-- and so was a recovery.
+pub told_done : (found : Result GroupValue Assembly) (outcome : Result ℕ Failure) (answer : Answer) → IsTold found outcome answer → answer.status ≡ 0 → is_done outcome ≡ true
 told_done (Ok group) (Ok sequence) answer told zero = refl
 told_done (Err fault) (Ok sequence) answer told zero = refl
 told_done (Ok group) (Err failure) answer told zero = absurd (failed failure answer told zero)

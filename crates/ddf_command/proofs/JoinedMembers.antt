@@ -15,15 +15,10 @@ use Rattle.ddf_history.proofs.Sound.{groups_are_sound}
 use Rattle.ddf_stops.specs.Going.{Ends, IsOver, KeepsSlots}
 use Rattle.ddf_stops.specs.Kept.{AreAllKept, is_read}
 use Rattle.ddf_stops.specs.Steps.{recovery_changes}
-use Rattle.ddf_stops.proofs.LastIssued.{over_last}
+use Rattle.ddf_stops.proofs.LastIssued.{last_more, over_last}
 use Rattle.ddf_stops.proofs.SlotsKept.{ends_slots}
 use Rattle.ddf_group_commands.specs.Change.{is_done}
 use Rattle.ddf_command.specs.History.{IsJoinEnd, JoinCall, Leaves, joins_of, kept_by_join}
-
--- The last of some changes and one more is that one.
-last_more : {X : Type 0} (first : X) (xs : List X) (x : X) → slice_get (first ∷ (xs ++ x ∷ [])) (length (xs ++ x ∷ [])) ≡ Some x
-last_more first [] x = refl
-last_more first (y ∷ xs) x = last_more y xs x
 
 module _ {B : Type 0} {tells : Type 0} (told : tells) (disks : B → BayState B) (group : List ℕ) (old new : Moment (groups group) B) (end : IsJoinEnd told disks group old new)
     (done : is_done end.call.outcome ≡ true) where

@@ -26,8 +26,8 @@ use Rattle.ddf_memory_history.proofs.Found.{shown_within}
 use Rattle.ddf_memory_history.proofs.Slots.{becomes, before_told, left_gone, read_at, read_below, reads_left}
 use Rattle.ddf_memory_history.proofs.Young.{young}
 use Rattle.ddf_data_history.specs.Beginnings.{Begins}
-use Rattle.ddf_data_history.specs.Calls.{EndsAt}
-use Rattle.ddf_data_history.specs.Calls.Call.{Accepts, Changes, Others, Reads, Rebuilds, Resyncs, Writes}
+use Rattle.ddf_data_history.specs.Calls.{EndsAt, joins_in}
+use Rattle.ddf_data_history.specs.Calls.Call.{Accepts, Changes, Joins, Others, Reads, Rebuilds, Resyncs, Writes}
 use Rattle.ddf_data_history.specs.Moments.{Moment}
 use Rattle.ddf_data_history.proofs.Beginning.{found_begins}
 use Rattle.ddf_data_history.proofs.Happening.{ended}
@@ -120,6 +120,8 @@ module _ (group : List ℕ) (old : Moment group MemoryBay) (all : IsYoungDataOn 
       (is_written call.outcome) now ends kept own
   ours_by (Rebuilds call) well told now ends kept own =
       took_ours call.exit well told call.rebuilt.taken.left call.rebuilt.taken.every_slot call.rebuilt.taken.failed call.finds.found (changes_in call.finds.found call.steps) (is_done call.outcome) now ends kept own
+  ours_by (Joins call) well told now ends kept own =
+      took_ours call.join.exit well told call.join.imported.first.left call.join.imported.first.every_slot call.join.imported.first.failed call.join.group (joins_in {tells = Unit {0}} tt disks_of (Unit {0}) read_as group call) (is_done call.join.outcome) now ends kept own
   ours_by (Others call) well told now same kept own = absurd (none_ours now same own)
   ours_by (Reads exit reads) well told now same kept own = absurd (none_ours now same own)
 

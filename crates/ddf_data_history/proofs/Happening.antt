@@ -35,7 +35,7 @@ use Rattle.ddf_promise.specs.Promised.{KeepsData, is_seat, seat_if, seats_in, wi
 use Rattle.ddf_promise.proofs.Steps.{by_loss, by_return}
 use Rattle.ddf_data_history.specs.Calls.{Call, EndsAt, HasComeTo, MayPromise, PromisesThen, exit_of}
 use Rattle.ddf_data_history.specs.Events.{IsAgreeing, Event, Follows, KeepsOn, Resumes}
-use Rattle.ddf_data_history.specs.Events.Event.{Agreed, Cut, Ended, Forgotten, Lost, Noticed, Refloored, Returned, Stopped}
+use Rattle.ddf_data_history.specs.Events.Event.{Agreed, Cut, Ended, Forgotten, Kept, Lost, Noticed, Refloored, Returned, Stopped}
 use Rattle.ddf_data_history.specs.Moments.{KeepsAll, Moment}
 use Rattle.ddf_data_history.proofs.Bays.{AreBays, held_sectors, sectors}
 use Rattle.ddf_data_history.proofs.Calls.{call_later, cuts, cuts_acked, cuts_floored, ends, ends_acked, ends_floored}
@@ -63,23 +63,30 @@ floors_keep guid past floor other same image promises keeps number config since 
             (and_second (not (past.lost slot)) (has_current config (past.disk slot)) is)))
         by false is = refl
 
+-- Data are kept where of an array that keeps them by it a promise is made.
+promised_keep : (guid : List ℕ) (past : Past (groups guid)) (floor : ℕ → ℕ) (array : List ℕ) (own : Allowed) (image : Image)
+    → ((number : ℕ) (config : Configuration) (entry : Array) → IsSince past.changes number config → lookup (same_guid array) config.arrays ≡ Some entry
+    → KeepsArray config.members (seats_in guid past floor config) entry image own)
+    → (promises : Promises) → KeepsData guid past floor image promises → KeepsData guid past floor image (with_promise promises array (Some own))
+promised_keep guid past floor array own image keeps promises kept number config since other allowed made promised there = by (same_guid array other) refl promised
+  where
+    by : (b : Bool) → same_guid array other ≡ b → ◌≡◌ {A = Option Allowed} (if b then Some own else promises other) (Some allowed)
+        → KeepsArray config.members (seats_in guid past floor config) made image allowed
+    by true same e =
+        let one = guid_is array other same in
+        let allowed_is : own ≡ allowed = sym (some_same e refl) in
+        let here : lookup (same_guid array) config.arrays ≡ Some made = ap (λ (g : List ℕ). lookup (same_guid g) config.arrays) one ∙ there in
+        subst (KeepsArray config.members (seats_in guid past floor config) made image) allowed_is (keeps number config made since here)
+    by false differs e = kept number config since other allowed made e there
+
 -- Data are kept where of an array it is promised alone that its blocks may have any bytes.
 any_kept : (guid : List ℕ) (past : Past (groups guid)) (floor : ℕ → ℕ) (array : List ℕ)
     → ((number : ℕ) (config : Configuration) (entry : Array) → IsSince past.changes number config → lookup (same_guid array) config.arrays ≡ Some entry
     → (seats : List Seat) (volume : Volume) → IsOver seats entry volume → IsWritable volume)
     → (image : Image) → AreSectors image → (promises : Promises) → KeepsData guid past floor image promises → KeepsData guid past floor image (with_promise promises array (Some any_bytes))
-any_kept guid past floor array writable image sound promises kept number config since other allowed made promised there = by (same_guid array other) refl promised
-  where
-    by : (b : Bool) → same_guid array other ≡ b → ◌≡◌ {A = Option Allowed} (if b then Some any_bytes else promises other) (Some allowed)
-        → KeepsArray config.members (seats_in guid past floor config) made image allowed
-    by true same e =
-        let one = guid_is array other same in
-        let allowed_is : any_bytes ≡ allowed = sym (some_same e refl) in
-        let here : lookup (same_guid array) config.arrays ≡ Some made = ap (λ (g : List ℕ). lookup (same_guid g) config.arrays) one ∙ there in
-        subst (KeepsArray config.members (seats_in guid past floor config) made image) allowed_is
-        (λ volume over. kept_any (absent_in config.members (seats_in guid past floor config) made.elements) volume image sound
-        (writable number config made since here (seats_in guid past floor config) volume over))
-    by false differs e = kept number config since other allowed made e there
+any_kept guid past floor array writable image sound =
+    promised_keep guid past floor array any_bytes image (λ number config entry since there volume over.
+    kept_any (absent_in config.members (seats_in guid past floor config) entry.elements) volume image sound (writable number config entry since there (seats_in guid past floor config) volume over))
 
 -- An array that agrees keeps the bytes that it has.
 agreed_kept : (is_absent : ℕ → ℕ → Bool) (volume : Volume) (image : Image) (allowed : Allowed) → AreSectors image → IsAgreeing is_absent volume image allowed → IsKeptData is_absent volume image allowed
@@ -99,17 +106,9 @@ agreed_keep : (guid : List ℕ) (past : Past (groups guid)) (floor : ℕ → ℕ
     → ((number : ℕ) (config : Configuration) (entry : Array) → IsSince past.changes number config → lookup (same_guid array) config.arrays ≡ Some entry
     → (volume : Volume) → IsOver (seats_in guid past floor config) entry volume → IsAgreeing (absent_in config.members (seats_in guid past floor config) entry.elements) volume image own)
     → (promises : Promises) → KeepsData guid past floor image promises → KeepsData guid past floor image (with_promise promises array (Some own))
-agreed_keep guid past floor array own image sound agrees promises kept number config since other allowed made promised there = by (same_guid array other) refl promised
-  where
-    by : (b : Bool) → same_guid array other ≡ b → ◌≡◌ {A = Option Allowed} (if b then Some own else promises other) (Some allowed)
-        → KeepsArray config.members (seats_in guid past floor config) made image allowed
-    by true same e =
-        let one = guid_is array other same in
-        let allowed_is : own ≡ allowed = sym (some_same e refl) in
-        let here : lookup (same_guid array) config.arrays ≡ Some made = ap (λ (g : List ℕ). lookup (same_guid g) config.arrays) one ∙ there in
-        subst (KeepsArray config.members (seats_in guid past floor config) made image) allowed_is
-        (λ volume over. agreed_kept (absent_in config.members (seats_in guid past floor config) made.elements) volume image own sound (agrees number config made since here volume over))
-    by false differs e = kept number config since other allowed made e there
+agreed_keep guid past floor array own image sound agrees =
+    promised_keep guid past floor array own image (λ number config entry since there volume over.
+    agreed_kept (absent_in config.members (seats_in guid past floor config) entry.elements) volume image own sound (agrees number config entry since there volume over))
 
 module _ {B : Type 0} {tells : Type 0} (told : tells) (disks : B → BayState B) {S : Type 0} (tells_bytes : Type 0) (streams : S → SourceState) (guid : List ℕ) (are : AreBays disks) where
   -- a moment that follows an event, at which all is kept
@@ -274,6 +273,16 @@ module _ {B : Type 0} {tells : Type 0} (told : tells) (disks : B → BayState B)
       shows = all.shows;
       keeps = λ image left.
           agreed_keep guid old.past old.floor array allowed image (sectors disks are old.bay image left) (λ number config entry. agrees image left number config entry) old.promises (all.keeps image left);
+      floored = all.floored;
+    };
+  }
+  happens old all (Kept array allowed keeps) = record {
+    next = record { past = old.past; bay = old.bay; promises = with_promise old.promises array (Some allowed); floor = old.floor; small = old.small };
+    follows = record { comes = refl; is_bay = refl; is_promised = refl; is_floor = refl };
+    acked = record { later = omega arith; same = λ i config le at. at };
+    keeps = record {
+      shows = all.shows;
+      keeps = λ image left. promised_keep guid old.past old.floor array allowed image (λ number config entry. keeps image left number config entry) old.promises (all.keeps image left);
       floored = all.floored;
     };
   }

@@ -31,7 +31,9 @@ use Rattle.ddf_rebuild_command.specs.Rebuilt.{HasRebuiltArray}
 use Rattle.ddf_data_calls.specs.Calls.{MayAsk}
 use Rattle.ddf_block_calls.specs.Agreed.{DoDisksAgree}
 use Rattle.ddf_block_calls.specs.Promised.{HasGiven, IsWrittenOf, MayBeWritten, counted}
-use Rattle.ddf_command.specs.History.{OtherCall as CallBeside}
+use Rattle.ddf_assembly.specs.Joining.{config_joining}
+use Rattle.ddf_command.specs.History.{JoinCall as GroupsJoin, OtherCall as CallBeside, joins_of}
+use Rattle.ddf_data_history.specs.Joins.{HaveJoiningFloors, IsNonePromised}
 use Rattle.ddf_data_history.specs.Moments.{Moment}
 
 -- `disks` is what a bay of type B tells, and `told` that it tells what they hold; `streams` is what an input of type S tells.
@@ -125,6 +127,19 @@ module _ {B : Type 0} {tells : Type 0} (told : tells) (disks : B → BayState B)
     pub steps : List Step
     pub are_asked : steps_of finds.found timestamp (rebuild_request word) ≡ Ok steps
 
+  -- ---- a command by which another group joins
+
+  -- A call of `import` that wasn't refused, as the histories of its group have it: its own group is this one. Nothing is promised of the arrays that join, and the disks that join have their floors.
+  pub record JoinCall (old : Moment guid B) : Type 0 where
+    pub join : GroupsJoin told disks guid (record { past = old.past; bay = old.bay })
+    pub tells_left : (disks old.bay).tells_left
+    pub none_promised : IsNonePromised (config_joining join.joining) old.promises
+    pub floors : HaveJoiningFloors guid old.past (disks old.bay) old.floor join.joining
+
+  -- what it issues
+  abbrev pub joins_in : {old : Moment guid B} → JoinCall old → List Configuration
+  joins_in {old = old} call = joins_of told disks guid (record { past = old.past; bay = old.bay }) call.join
+
   -- ---- calls that don't change the group
 
   -- A call that doesn't take the group, as its histories have it: one that changes another group, or labels disks. None of the slots that it may write has the
@@ -143,6 +158,7 @@ module _ {B : Type 0} {tells : Type 0} (told : tells) (disks : B → BayState B)
     Resyncs : ResyncCall old → Call old
     Writes : WriteCall old → Call old
     Rebuilds : RebuildCall old → Call old
+    Joins : JoinCall old → Call old
     Others : OtherCall old → Call old
     Reads : (exit : B) → ReadsOnly (disks old.bay) (disks exit) → Call old
 
@@ -153,6 +169,7 @@ module _ {B : Type 0} {tells : Type 0} (told : tells) (disks : B → BayState B)
     exit_of (Resyncs call) = call.exit
     exit_of (Writes call) = call.exit
     exit_of (Rebuilds call) = call.exit
+    exit_of (Joins call) = call.join.exit
     exit_of (Others call) = call.beside.exit
     exit_of (Reads exit reads) = exit
 
@@ -164,6 +181,7 @@ module _ {B : Type 0} {tells : Type 0} (told : tells) (disks : B → BayState B)
     HasComeTo (Resyncs call) now = Goes guid old.past (is_read call.resynced.taken.left) call.finds.found (changes_in call.finds.found (call.plan.first ++ call.plan.last)) now
     HasComeTo (Writes call) now = Goes guid old.past (is_read call.wrote.taken.left) call.finds.found (changes_in call.finds.found (call.plan.first ++ call.plan.last)) now
     HasComeTo (Rebuilds call) now = Goes guid old.past (is_read call.rebuilt.taken.left) call.finds.found (changes_in call.finds.found call.steps) now
+    HasComeTo (Joins call) now = Goes guid old.past (is_read call.join.imported.first.left) call.join.group (joins_in call) now
     HasComeTo (Others call) now = now ≡ old.past
     HasComeTo (Reads exit reads) now = now ≡ old.past
 
@@ -173,6 +191,7 @@ module _ {B : Type 0} {tells : Type 0} (told : tells) (disks : B → BayState B)
     MayPromise (Resyncs call) promised = Stays old.promises promised
     MayPromise (Writes call) promised = MayBeWritten call.plan.entry.0 call.start call.sectors old.promises promised
     MayPromise (Rebuilds call) promised = Stays old.promises promised
+    MayPromise (Joins call) promised = Stays old.promises promised
     MayPromise (Others call) promised = Stays old.promises promised
     MayPromise (Reads exit reads) promised = Stays old.promises promised
 
@@ -184,6 +203,7 @@ module _ {B : Type 0} {tells : Type 0} (told : tells) (disks : B → BayState B)
     EndsAt (Resyncs call) now = Ends guid old.past (is_read call.resynced.taken.left) call.finds.found (changes_in call.finds.found (call.plan.first ++ call.plan.last)) (is_done call.outcome) now
     EndsAt (Writes call) now = Ends guid old.past (is_read call.wrote.taken.left) call.finds.found (changes_in call.finds.found (call.plan.first ++ call.plan.last)) (is_written call.outcome) now
     EndsAt (Rebuilds call) now = Ends guid old.past (is_read call.rebuilt.taken.left) call.finds.found (changes_in call.finds.found call.steps) (is_done call.outcome) now
+    EndsAt (Joins call) now = Ends guid old.past (is_read call.join.imported.first.left) call.join.group (joins_in call) (is_done call.join.outcome) now
     EndsAt (Others call) now = now ≡ old.past
     EndsAt (Reads exit reads) now = now ≡ old.past
 
@@ -193,5 +213,6 @@ module _ {B : Type 0} {tells : Type 0} (told : tells) (disks : B → BayState B)
     PromisesThen (Resyncs call) promised = promised ≡ once_resynced call (call.counts && is_done call.outcome)
     PromisesThen (Writes call) promised = IsWrittenOf (is_written call.outcome) call.plan.entry.0 call.start call.sectors old.promises promised
     PromisesThen (Rebuilds call) promised = Stays old.promises promised
+    PromisesThen (Joins call) promised = Stays old.promises promised
     PromisesThen (Others call) promised = Stays old.promises promised
     PromisesThen (Reads exit reads) promised = Stays old.promises promised

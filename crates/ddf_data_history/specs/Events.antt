@@ -13,6 +13,7 @@ use Rattle.ddf_data.specs.Allowed.{Allowed, any_bytes}
 use Rattle.ddf_data.specs.Changing.{IsConsistentNow, IsWritable, ValuesMay}
 use Rattle.ddf_data.specs.Rows.{AreRowsKept}
 use Rattle.ddf_keeping.specs.Grouped.{Promises}
+use Rattle.ddf_keeping.specs.Kept.{KeepsArray}
 use Rattle.ddf_keeping.specs.Over.{IsOver, absent_in}
 use Rattle.ddf_promise.specs.Promised.{seats_in, with_promise}
 use Rattle.ddf_history.specs.Groups.{groups, has_current, has_missing}
@@ -41,6 +42,13 @@ AgreesAt {guid = guid} disks moment array allowed =
     → lookup (same_guid array) config.arrays ≡ Some entry → (volume : Volume) → IsOver (seats_in guid moment.past moment.floor config) entry volume
     → IsAgreeing (absent_in config.members (seats_in guid moment.past moment.floor config) entry.elements) volume image allowed
 
+-- An array keeps in whatever a stop may leave at a moment the bytes that its blocks may have by this, under each configuration since the last acknowledged one that has it, over the members' disks that aren't
+-- lost.
+abbrev pub KeepsAt : {guid : List ℕ} {B : Type 0} → (disks : B → BayState B) → Moment guid B → (array : List ℕ) → Allowed → Type 0
+KeepsAt {guid = guid} disks moment array allowed =
+    (image : Image) → IsLeft (disks moment.bay).may_hold image → (number : ℕ) (config : Configuration) (entry : Array) → IsSince moment.past.changes number config
+    → lookup (same_guid array) config.arrays ≡ Some entry → KeepsArray config.members (seats_in guid moment.past moment.floor config) entry image allowed
+
 module _ {B : Type 0} {tells : Type 0} (told : tells) (disks : B → BayState B) {S : Type 0} (tells_bytes : Type 0) (streams : S → SourceState) (guid : List ℕ) where
   pub data Event (old : Moment guid B) : Type 0 where
     -- A call comes to its end, where the bay still tells what a stop may leave. Its slots stay what they are.
@@ -65,6 +73,8 @@ module _ {B : Type 0} {tells : Type 0} (told : tells) (disks : B → BayState B)
         → (seats : List Seat) (volume : Volume) → IsOver seats entry volume → IsWritable volume) → Event old
     -- Of an array whose disks agree, as one from elsewhere that isn't marked, the bytes that its blocks have are promised from now on.
     Agreed : (array : List ℕ) (allowed : Allowed) → AgreesAt disks old array allowed → Event old
+    -- Of an array that keeps its data by a promise, as one that joined does by that of its former history, this is promised from now on.
+    Kept : (array : List ℕ) (allowed : Allowed) → KeepsAt disks old array allowed → Event old
     -- Slots have other floors, whose disks are no current members or are lost.
     Refloored : (floor : ℕ → ℕ) → ((slot : ℕ) → floor slot < 2 ^ 64)
         → ((slot number : ℕ) (config : Configuration) → IsSince old.past.changes number config → old.past.lost slot ≡ false → has_current config (old.past.disk slot) ≡ true → floor slot ≡ old.floor slot)
@@ -89,6 +99,7 @@ module _ {B : Type 0} {tells : Type 0} (told : tells) (disks : B → BayState B)
   Follows old (Noticed array writable) new =
       IsBehind new (λ now. now ≡ old.past) old.bay (λ promised. promised ≡ with_promise old.promises array (Some any_bytes)) old.floor
   Follows old (Agreed array allowed agrees) new = IsBehind new (λ now. now ≡ old.past) old.bay (λ promised. promised ≡ with_promise old.promises array (Some allowed)) old.floor
+  Follows old (Kept array allowed keeps) new = IsBehind new (λ now. now ≡ old.past) old.bay (λ promised. promised ≡ with_promise old.promises array (Some allowed)) old.floor
   Follows old (Refloored floor small same) new = IsBehind new (λ now. now ≡ old.past) old.bay (λ promised. promised ≡ old.promises) floor
 
   -- All is kept at a moment, and stays so however it goes on, for so many events: whichever comes that the moment admits, a moment follows it to which what was

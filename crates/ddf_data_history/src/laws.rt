@@ -1,11 +1,13 @@
 // Laws of whole histories of groups and of their data: functions that do nothing, whose contracts are the laws.
-ghost use Rattle.std.specs.Prelude.{◌≡◌, ℕ, Bool, false, List, [], length, Option, Some, Ok};
+ghost use Rattle.std.specs.Prelude.{◌≡◌, ℕ, Bool, false, true, List, [], length, Option, Some, Ok};
+ghost use Rattle.std.specs.Map.{lookup};
 ghost use Rattle.ddf_bytes.specs.declared.stamp.Stamp.{Stamp};
 ghost use Rattle.ddf_bay.specs.Moments.{IsSettled};
 ghost use Rattle.ddf_bay.specs.Sectors.{Image, IsLeft};
 ghost use Rattle.ddf_header.specs.declared.kind.Revision.{Revision};
 ghost use Rattle.ddf_update.specs.NewCopies.{group_of as name_of};
 ghost use Rattle.ddf_config.specs.declared.array.Array.{Array};
+ghost use Rattle.ddf_config.specs.Members.{same_guid};
 ghost use Rattle.ddf_cells.specs.Degraded.{is_degraded};
 ghost use Rattle.ddf_resync.specs.declared.outcome.Scrub.TheVariants.{Clean};
 ghost use Rattle.ddf_data.specs.Allowed.{Allowed, once_consistent};
@@ -27,8 +29,13 @@ ghost use Rattle.ddf_data_commands.specs.Scrub.{HasScrubbed, IsArrayScrubbed};
 ghost use Rattle.ddf_data_calls.specs.Reading.{MayBe, Means, blocks_printed};
 ghost use Rattle.ddf_disk_commands.specs.Label.{IsTried, label_copy, label_slots};
 ghost use Rattle.ddf_command.specs.Cut.{IsLeftByLabel, IsNewLabel};
+ghost use Rattle.ddf_command.specs.History.{JoinCall as GroupsJoin};
 ghost use Rattle.ddf_data_history.specs.Beginnings.{Begins};
-ghost use Rattle.ddf_data_history.specs.Events.{AgreesAt, KeepsOn};
+ghost use Rattle.ddf_group_commands.specs.Change.{is_done};
+ghost use Rattle.ddf_data_history.specs.Calls.{EndsAt, JoinCall};
+ghost use Rattle.ddf_data_history.specs.Calls.Call.{Joins};
+ghost use Rattle.ddf_data_history.specs.Events.{AgreesAt, KeepsAt, KeepsOn};
+ghost use Rattle.ddf_data_history.specs.Joins.{HaveJoiningFloors, JoinsWholly};
 ghost use Rattle.ddf_data_history.specs.Moments.{KeepsAll, Moment};
 
 use ddf_bay::Bay;
@@ -78,6 +85,22 @@ pub fn an_array_that_a_scrub_found_clean_agrees<B: Bay>()
         → ((slot : ℕ) → IsSettled (B.disks moment.bay).may_hold (B.disks moment.bay).held slot)
         → (scrub : IsArrayScrubbed (work_of B.tells (B.disks moment.bay) (B.disks new)) found.config found.seats word Clean) → is_degraded scrub.used.1 ≡ false → HasNoRows scrub.used.1
         → AgreesAt B.disks moment scrub.used.0 (once_consistent scrub.used.1 (B.disks moment.bay).held) }
+{}
+
+/// The disks of a group that joins another one wholly have their floors, as its own history knows them: so that an import has what it asks for.
+pub fn disks_that_join_wholly_have_their_floors<B: Bay>()
+    ensures { (told : B.tells) (group : List ℕ) (old : Moment group B) → (B.disks old.bay).tells_left → (join : GroupsJoin told B.disks group (record { past = old.past; bay = old.bay }))
+        → (theirs : Moment join.other B) → JoinsWholly B.disks old join.other join.imported.second.left join.joining theirs
+        → HaveJoiningFloors group old.past (B.disks old.bay) old.floor join.joining }
+{}
+
+/// What the history of a group promised of its arrays they keep in the history of the group that it joined, once the import was done and the group joined it wholly: so it may be promised there from then
+/// on, as an event of that history.
+pub fn arrays_that_joined_keep_what_was_promised_of_them<B: Bay, S: Source>()
+    ensures { (told : B.tells) (group : List ℕ) (old : Moment group B) → KeepsAll B.disks old → (call : JoinCall told B.disks S.tells S.input group old) → is_done call.join.outcome ≡ true
+        → (new : Moment group B) → new.bay ≡ call.join.exit → new.floor ≡ old.floor → EndsAt told B.disks S.tells S.input group (Joins call) new.past
+        → (theirs : Moment call.join.other B) → JoinsWholly B.disks old call.join.other call.join.imported.second.left call.join.joining theirs
+        → (guid : List ℕ) (array : Array) (allowed : Allowed) → lookup (same_guid guid) call.join.joining.config.arrays ≡ Some array → theirs.promises guid ≡ Some allowed → KeepsAt B.disks new guid allowed }
 {}
 
 /// A read at a moment at which all is kept, that is admitted then, prints of each block of the named array bytes that the block may have by what is promised at that

@@ -80,7 +80,7 @@ newest_still old middle sizes held slot [] = refl
 newest_still old middle sizes held slot (out ∷ left) = rw (sizes, held, newest_still old middle sizes held (suc slot) left) refl
 
 -- One group is found.
-found_same : (one other : GroupValue) → ◌≡◌ {A = Result GroupValue Assembly} (Ok one) (Ok other) → one ≡ other
+pub found_same : (one other : GroupValue) → ◌≡◌ {A = Result GroupValue Assembly} (Ok one) (Ok other) → one ≡ other
 found_same one other is = cc
 
 -- The steps that are asked are those that were readied.

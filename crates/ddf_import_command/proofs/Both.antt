@@ -16,13 +16,9 @@ use Rattle.ddf_group_commands.specs.Change.{is_done}
 use Rattle.ddf_group_commands.specs.GroupRead.{IsFoundBy, IsGroupRead, group_or}
 use Rattle.ddf_group_commands.specs.Writing.{IsLeftWriting}
 use Rattle.ddf_group_commands.proofs.LeftWriting.{leaves_since, reads_leave}
-use Rattle.ddf_group_commands.proofs.Outcomes.{group_read, newest_still}
+use Rattle.ddf_group_commands.proofs.Outcomes.{found_same, group_read, newest_still}
 use Rattle.ddf_import_command.specs.Import.{HasImported, IsImported, IsImportedIn, IsLook, IsNone, KeepsJoins, import_asked, import_steps}
 use Rattle.ddf_import_command.proofs.Keeping.{join_since, reads_join}
-
--- One group is found.
-found_same : (one other : GroupValue) → ◌≡◌ {A = Result GroupValue Assembly} (Ok one) (Ok other) → one ≡ other
-found_same one other is = cc
 
 -- a look failed, also where the disks were only read before
 look_later : {D : Type 0} (old middle new : BayState D) (slot : ℕ) → middle.sizes ≡ old.sizes → old.failed_reads slot ≤ middle.failed_reads slot → old.failed_writes slot ≤ middle.failed_writes slot

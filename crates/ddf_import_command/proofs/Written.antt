@@ -26,24 +26,13 @@ use Rattle.ddf_assembly.proofs.JoinWritten.{may_join}
 use Rattle.ddf_assembly.proofs.LeftOut.{kept_there}
 use Rattle.ddf_assembly.proofs.RecoveredGroup.{rewriting}
 use Rattle.ddf_assembly.proofs.RecoveryWritten.{may_recover, recovered_held}
+use Rattle.ddf_stops.proofs.JoinTaken.{one_held}
 use Rattle.ddf_answer.specs.Call.{work_of}
 use Rattle.ddf_group_commands.specs.GroupRead.{IsReadFrom}
 use Rattle.ddf_group_commands.specs.Written.{AreWritten, IsWritten}
 use Rattle.ddf_group_commands.proofs.StepsWritten.{recovery_written, settled_still, step_written, steps_in}
 use Rattle.ddf_import_command.specs.Import.{IsImportReady, IsJoined, import_asked, import_steps}
 use Rattle.ddf_import_command.proofs.Placed.{apart_before, are_apart, joining_seats, kept_each, step_joined, was_first}
-
-same_ok : {A E : Type 0} (one other : A) → ◌≡◌ {A = Result A E} (Ok one) (Ok other) → one ≡ other
-same_ok one other is = cc
-
--- What a slot holds is one newest copy.
-one_held : {D : Type 0} (disks : BayState D) (all others : List (Option Newest)) → AreHeldOn disks all → AreHeldOn disks others → (slot : ℕ) (one other : Newest)
-    → slice_get all slot ≡ Some (Some one) → slice_get others slot ≡ Some (Some other) → one ≡ other
-one_held disks all others held also slot one other at there =
-    let first = held slot one at in
-    let second = also slot other there in
-    let anchors : first.anchor ≡ second.anchor = same_ok first.anchor second.anchor (sym first.is_anchored ∙ second.is_anchored) in
-    sym first.is_newest ∙ ap (λ (anchor : Header). newest_of (size_of disks slot) (disks.held slot) anchor) anchors ∙ second.is_newest
 
 -- the steps of a recovery and a join
 steps_are : (next : Option ReadyStep) (join : ReadyStep) → steps_in (option_to_list next ++ join ∷ []) ≡ option_to_list (option_map (λ one. one.step) next) ++ join.step ∷ []

@@ -1,24 +1,20 @@
 -- A history that admits an import at its entry does so behind the recovery.
-use Rattle.std.proofs.Common.{◌≡◌, ◌⊎◌, ℕ, ◌+◌, ◌&&◌, ◌||◌, not, Bool, true, false, List, [], length, Option, Some, None, if◌then◌else◌, refl, ap, sym, ◌∙◌, inl, inr, ⊎_elim, subst}
-use Rattle.std.proofs.lemmas.Bool.{and_from, false≢true, or_right, true≢false}
+use Rattle.std.proofs.Common.{◌≡◌, ℕ, ◌&&◌, ◌||◌, not, Bool, true, false, List, [], length, Option, Some, if◌then◌else◌, refl, ap, sym, ◌∙◌, inl, inr, ⊎_elim, subst}
+use Rattle.std.proofs.lemmas.Bool.{and_from, or_right, true≢false}
 use Rattle.std.proofs.Math.Path.{fun_ext}
 use Rattle.std.specs.Prelude.{slice_get}
 use Rattle.ddf_bay.specs.Sectors.{Image, IsLeft}
 use Rattle.ddf_bay.specs.State.{BayState}
 use Rattle.ddf_config.specs.declared.seat.Seat.{Seat}
 use Rattle.ddf_config.specs.Configuration.{Configuration}
-use Rattle.ddf_copy.specs.declared.newest_copy.Newest.{Newest}
 use Rattle.ddf_plan.specs.Lose.{is_among}
 use Rattle.ddf_plan.specs.declared.change.Change.TheVariants.{Lose}
 use Rattle.ddf_update.specs.Changes.{AreChanged}
-use Rattle.ddf_update.specs.Group.{IsOneOf}
-use Rattle.ddf_view.specs.View.{View, find_disk, view_of}
-use Rattle.ddf_rewrite.proofs.Lists.{get_map, map_get}
-use Rattle.ddf_history.specs.Reading.{IsCopyOf, Scene, Shown, ShowsGroup}
-use Rattle.ddf_history.specs.Reading.Shown.{One}
+use Rattle.ddf_view.specs.View.{View, view_of}
+use Rattle.ddf_rewrite.proofs.Lists.{map_get}
+use Rattle.ddf_history.specs.Reading.{IsCopyOf, Shown, ShowsGroup}
 use Rattle.ddf_history.specs.Groups.{Disk, disk_of, groups, has_current, has_missing}
 use Rattle.ddf_history.specs.Issued.{Past, is_away, leave_out, take_off}
-use Rattle.ddf_history.specs.Promise.{IsOutside}
 use Rattle.ddf_history.specs.Scenes.{scene_of}
 use Rattle.ddf_history.proofs.Calls.{seen_copy}
 use Rattle.ddf_history.proofs.Since.{first_is_copy, which}
@@ -29,7 +25,7 @@ use Rattle.ddf_assembly.specs.Group.{GroupValue}
 use Rattle.ddf_assembly.specs.Joining.{config_joining, join_config}
 use Rattle.ddf_assembly.specs.JoinValue.{JoinValue}
 use Rattle.ddf_assembly.specs.Ready.{ReadyValue}
-use Rattle.ddf_assembly.specs.Recovery.{config_lost, config_recovered, disks_recovered, leading, lost_step, mended_or_kept, some}
+use Rattle.ddf_assembly.specs.Recovery.{config_lost, config_recovered, some}
 use Rattle.ddf_assembly.specs.Seated.{seated, seats_in}
 use Rattle.ddf_assembly.specs.Slots.{newest_from}
 use Rattle.ddf_assembly.proofs.CommittedSeats.{seated_is}
@@ -37,7 +33,7 @@ use Rattle.ddf_assembly.proofs.Lists.{get_within}
 use Rattle.ddf_assembly.proofs.RecoveredGroup.{is_recovered}
 use Rattle.ddf_assembly.proofs.RecoveryWritten.{may_recover, recovery_on_seats}
 use Rattle.ddf_stops.specs.AtEnd.{IsAtEnd}
-use Rattle.ddf_stops.specs.Going.{IsAdmitted, IsOver, KeepsSlots, begun, issue_all}
+use Rattle.ddf_stops.specs.Going.{IsAdmitted, IsOver, KeepsSlots, issue_all}
 use Rattle.ddf_stops.specs.Joins.{AdmitsBoth, AdmitsCall, AdmitsImport, AdmitsJoin, WereBothTaken}
 use Rattle.ddf_stops.specs.Kept.{AreAllKept, ReadsTrue, is_read, is_slot, unwritten}
 use Rattle.ddf_stops.specs.Steps.{IsRecovery, WasTaken, recovery_changes}
@@ -46,7 +42,7 @@ use Rattle.ddf_stops.proofs.Claimed as claims
 use Rattle.ddf_stops.proofs.CommittingScenes.{seat_shows}
 use Rattle.ddf_stops.proofs.CommittingStep.{current_listed}
 use Rattle.ddf_stops.proofs.JoinMembers.{joins_no_member}
-use Rattle.ddf_stops.proofs.JoinTaken.{apart_before, brings_members, recovered_current, recovered_on, was_taken}
+use Rattle.ddf_stops.proofs.JoinTaken.{apart_before, recovered_current, was_taken}
 use Rattle.ddf_stops.proofs.JoinTries.{free, members_apart}
 use Rattle.ddf_stops.proofs.RecoveringEntry.{IsTaken, claimed_is_current, issued, member_claimed, not_absent}
 use Rattle.ddf_stops.proofs.RecoveringKeeps.{group_held}

@@ -1,18 +1,17 @@
 -- What an import leaves of the disks that join, as a history of their former group tells of it.
-use Rattle.std.proofs.Common.{◌≡◌, ◌⊎◌, ℕ, Bool, true, false, List, ap, sym, ◌∙◌, inl, inr, ⊎_elim, subst}
+use Rattle.std.proofs.Common.{◌≡◌, ◌⊎◌, ℕ, true, false, List, ap, sym, ◌∙◌, inl, inr, subst}
 use Rattle.std.specs.Str.{bytes_eq}
 use Rattle.ddf_bay.specs.Moments.{StopsLeave}
-use Rattle.ddf_bay.specs.Sectors.{Image, IsLeft}
+use Rattle.ddf_bay.specs.Sectors.{IsLeft}
 use Rattle.ddf_bay.specs.State.{BayState}
 use Rattle.ddf_bay.proofs.Steps.{stops_weaken}
 use Rattle.ddf_config.specs.Configuration.{Configuration}
 use Rattle.ddf_view.specs.View.{View}
 use Rattle.ddf_view.proofs.Tests.{same_bytes}
 use Rattle.ddf_history.specs.Reading.{Scene, Shown}
-use Rattle.ddf_history.specs.Reading.Shown.{One}
 use Rattle.ddf_history.specs.Groups.{groups}
 use Rattle.ddf_history.specs.Issued.{Past, is_away}
-use Rattle.ddf_history.specs.Promise.{IsKept, IsRight}
+use Rattle.ddf_history.specs.Promise.{IsRight}
 use Rattle.ddf_history.specs.Scenes.{scene_of}
 use Rattle.ddf_history.proofs.Writing.{part_right}
 use Rattle.ddf_assembly.specs.Committed.{slots_of}

@@ -1,9 +1,7 @@
 -- What two assemblies of one bay found, and what was readied of both, stands ready once the first group is recovered.
 use Rattle.std.proofs.Common.{◌≡◌, ◌≢◌, ℕ, Bool, true, false, not, List, [], map, Option, Some, None, Result, Ok, if◌then◌else◌, refl, ap, sym, ◌∙◌, subst}
-use Rattle.std.proofs.lemmas.Bool.{false≢true}
-use Rattle.std.specs.Prelude.{is_some, slice_get}
+use Rattle.std.specs.Prelude.{slice_get}
 use Rattle.std.specs.List.{AllByRecursion}
-use Rattle.std.specs.Option.{option_and_then}
 use Rattle.ddf_bay.specs.Sectors.{IsLeft}
 use Rattle.ddf_bay.specs.State.{BayState, size_of}
 use Rattle.ddf_header.specs.declared.reading.Header.{Header}
@@ -22,7 +20,7 @@ use Rattle.ddf_history.specs.Scenes.{scene_of}
 use Rattle.ddf_history.proofs.Since.{some_is}
 use Rattle.ddf_assembly.specs.declared.seated.Seated.{Seated}
 use Rattle.ddf_assembly.specs.Committed.{IsRewritten, WasReadied, group_recovered, slots_of, synced}
-use Rattle.ddf_assembly.specs.Group.{GroupValue, is_kept}
+use Rattle.ddf_assembly.specs.Group.{GroupValue}
 use Rattle.ddf_assembly.specs.Held.{AreHeldOn}
 use Rattle.ddf_assembly.specs.Importing.{AreApart, IsOfAnother}
 use Rattle.ddf_assembly.specs.Joining.{config_joining, join_config}
@@ -36,6 +34,7 @@ use Rattle.ddf_assembly.specs.Steps.{Step, levelled}
 use Rattle.ddf_assembly.proofs.CommittedLevels.{level_else}
 use Rattle.ddf_assembly.proofs.CommittedSeats.{seated_is}
 use Rattle.ddf_assembly.proofs.JoinReadied.{was}
+use Rattle.ddf_assembly.proofs.LeftOut.{kept_there}
 use Rattle.ddf_assembly.proofs.RecoveredGroup.{rewriting}
 use Rattle.ddf_assembly.proofs.SettledHeld.{newest_kept}
 use Rattle.ddf_stops.specs.AtEnd.{IsAtEnd}
@@ -53,19 +52,8 @@ use Rattle.ddf_stops.proofs.RecoveringLoss.{lose_leaves}
 same_ok : {A E : Type 0} (one other : A) → ◌≡◌ {A = Result A E} (Ok one) (Ok other) → one ≡ other
 same_ok one other is = cc
 
--- A newest copy that is kept is there.
-kept_there : (newest : List (Option Newest)) (slot : ℕ) → is_kept newest slot ≡ true → (one : Newest) × (slice_get newest slot ≡ Some (Some one))
-kept_there newest slot kept = by (slice_get newest slot) refl
-  where
-    by : (found : Option (Option Newest)) → slice_get newest slot ≡ found → (one : Newest) × (slice_get newest slot ≡ Some (Some one))
-    by None e =
-        absurd (false≢true (sym (ap (λ (one : Option (Option Newest)). is_some (option_and_then (λ n. option_and_then standing_copy n) one)) e) ∙ kept))
-    by (Some None) e =
-        absurd (false≢true (sym (ap (λ (one : Option (Option Newest)). is_some (option_and_then (λ n. option_and_then standing_copy n) one)) e) ∙ kept))
-    by (Some (Some one)) e = (one, e)
-
 -- What a slot holds is one newest copy.
-one_held : {D : Type 0} (disks : BayState D) (all others : List (Option Newest)) → AreHeldOn disks all → AreHeldOn disks others → (slot : ℕ) (one other : Newest)
+pub one_held : {D : Type 0} (disks : BayState D) (all others : List (Option Newest)) → AreHeldOn disks all → AreHeldOn disks others → (slot : ℕ) (one other : Newest)
     → slice_get all slot ≡ Some (Some one) → slice_get others slot ≡ Some (Some other) → one ≡ other
 one_held disks all others held also slot one other at there =
     let first = held slot one at in

@@ -1,5 +1,5 @@
 -- The last change of a call that was done is the last acknowledged one, and none is issued behind it.
-use Rattle.std.proofs.Common.{◌≡◌, ℕ, suc, ◌+◌, Bool, true, false, List, [], ◌∷◌, ◌++◌, length, take, Some, if◌then◌else◌, sym, subst, arith}
+use Rattle.std.proofs.Common.{◌≡◌, ℕ, suc, ◌+◌, Bool, true, false, List, [], ◌∷◌, ◌++◌, length, take, Some, if◌then◌else◌, refl, sym, subst, arith}
 use Rattle.std.proofs.lemmas.List.{length-append, length-take}
 use Rattle.std.specs.Prelude.{slice_get}
 use Rattle.ddf_config.specs.Configuration.{Configuration}
@@ -9,6 +9,11 @@ use Rattle.ddf_history.proofs.Lists.{get_last, get_within, taken_get}
 use Rattle.ddf_assembly.specs.Group.{GroupValue}
 use Rattle.ddf_assembly.specs.Recovery.{some}
 use Rattle.ddf_stops.specs.Going.{IsOver, begun, issue_all}
+
+-- The last of some changes and one more is that one.
+pub last_more : {X : Type 0} (first : X) (xs : List X) (x : X) → slice_get (first ∷ (xs ++ x ∷ [])) (length (xs ++ x ∷ [])) ≡ Some x
+last_more first [] x = refl
+last_more first (y ∷ xs) x = last_more y xs x
 
 module _ (group : List ℕ) where
   -- The last of changes that are issued one after another stands last, or where there is none what stood so before.
