@@ -58,7 +58,7 @@ _ddf() {
     if [[ ${#behind[@]} -eq 0 ]]; then
         _ddf_before "$cur" "${#images[@]}"
     elif [[ ${#behind[@]} -eq 1 ]]; then
-        _ddf_offer "examine label assemble show read scrub accept resync rebuild write create delete spare fail import batch" "$cur"
+        _ddf_offer "examine label assemble show read scrub accept resync rebuild write create delete spare fail import batch exercise" "$cur"
     elif [[ ${#behind[@]} -eq 2 && ${behind[1]} == @* ]]; then
         _ddf_offer "assemble show read scrub accept resync rebuild write create delete spare fail import batch" "$cur"
     elif [[ ${behind[1]} == @* ]]; then

@@ -60,6 +60,7 @@ complete -c ddf -n __ddf_before -l version -d 'Show the version'
 
 complete -c ddf -n '__ddf_wants_command; and __ddf_ungrouped' -a examine -d 'Show what each disk holds'
 complete -c ddf -n '__ddf_wants_command; and __ddf_ungrouped' -a label -d 'Make a new group of blank disks'
+complete -c ddf -n '__ddf_wants_command; and __ddf_ungrouped' -a exercise -d 'Try the program on disks in memory'
 complete -c ddf -n __ddf_wants_command -a assemble -d 'Recover the group, and show its members and arrays'
 complete -c ddf -n __ddf_wants_command -a show -d 'Show the group as its disks record it'
 complete -c ddf -n __ddf_wants_command -a read -d 'Print blocks of an array'

@@ -13,7 +13,7 @@ fail() {
 
 # The commands that --help lists, one a line.
 sed -n '/^Commands:$/,/^$/s/^  \([a-z][a-z]*\).*/\1/p' "$top/crates/ddf_edge/src/help.rt" | sort -u >"$work/commands"
-over=$(grep -v -x -e examine -e label "$work/commands" | tr '\n' ' ')
+over=$(grep -v -x -e examine -e label -e exercise "$work/commands" | tr '\n' ' ')
 all=$(tr '\n' ' ' <"$work/commands")
 for file in ddf.bash _ddf ddf.fish; do
     while read -r command; do

@@ -19,6 +19,8 @@ cp "${DDF:-$top/crates/ddf/out/ddf}" "$work/ddf"
 gcc -O1 -shared -fPIC -o "$work/faults.so" "$top/scripts/faults.c" -ldl
 cd "$work"
 images="a.img b.img c.img"
+# The group that is named, by `@`, and the group that joins it: none but in an import.
+named='' other=''
 
 fail() {
     echo "faults: $*; it printed $(cat out), and said $(cat err)" >&2
@@ -80,10 +82,10 @@ is_untouched() {
 
 # The number of the group that `assemble` gives, which settles it: the next one writes nothing.
 sequence() {
-    ends 0 "group" $images -- assemble
+    ends 0 "group" $images -- $named assemble
     sed -n 's/^group .* sequence //p' out
     mark_time
-    ends 0 "group" $images -- assemble
+    ends 0 "group" $images -- $named assemble
     is_untouched || fail "a second assemble wrote to an image"
 }
 
@@ -122,7 +124,7 @@ is_done() {
     [ "$(sequence)" = "$after" ] || fail "not done: $1"
 }
 
-# The command was stopped, or failed: it has happened or it hasn't, and where it printed `ok` it has. No member is lost by a stop.
+# The command was stopped, or failed: it has happened or it hasn't, and where it printed `ok` it has. No member is lost by a stop. An import that hasn't happened is given again.
 is_whole() {
     now=$(sequence)
     case $status$told in
@@ -131,6 +133,7 @@ is_whole() {
     *) fail "status $status: $1" ;;
     esac
     ! grep -q missing out || fail "a member is lost: $1"
+    [ -z "$other" ] || [ "$now" = "$after" ] || ends 0 "ok sequence $after" $images -- $named import "$other"
     are_blocks_right || fail "a block has other bytes than old or new ones: $1"
 }
 
@@ -138,7 +141,7 @@ is_whole() {
 is_whole_or_short() {
     if [ "$status" = 0 ] && [ "$told" = "ok sequence $((after + 2))" ]; then
         [ "$(sequence)" = $((after + 2)) ] || fail "ok was printed, and is gone: $1"
-        [ "$(grep -c missing out)" = 1 ] || fail "other members are lost than the one that failed: $1"
+        [ "$(grep -c "^member .* slot " out)" = "$(($(echo $images | wc -w) - 1))" ] || fail "other members are lost than the one that failed: $1"
         are_blocks_right || fail "a block has other bytes than old or new ones: $1"
     else
         is_whole "$1"
@@ -152,9 +155,13 @@ is_one_of() {
     return 1
 }
 
-# Whether each block of the mirror is an old one or a new one.
+# Whether each block of the mirror is an old one or a new one, and those of a group that has joined are what they were.
 are_blocks_right() {
-    ends 0 "" $images -- read v 0 128
+    if [ -n "$other" ]; then
+        ends 0 "" $images -- $named read w 0 64
+        cmp -s out blocks_of_other || return 1
+    fi
+    ends 0 "" $images -- $named read v 0 128
     [ "$(wc -c <out)" = 65536 ] && ! fold -b -w 512 out | LC_ALL=C grep -a -v -x -F -q -f either
 }
 
@@ -292,6 +299,28 @@ try_file_system() {
     echo "faults: a file system that is full or read only is told, and takes nothing that was acknowledged"
 }
 
+# Another disk, which is a group of its own with an array, joins that of the mirror. No block of either changes.
+try_import() {
+    restore
+    truncate -s $((33000 * 512)) d.img
+    ends 0 "ok sequence 1" d.img -- label
+    ends 0 "ok sequence 2" d.img -- create w jbod 0 single 0@64
+    head -c 32768 /dev/zero | tr '\0' '\063' >input
+    ends 0 "ok sequence 2" d.img -- write w 0 64
+    cp input blocks_of_other
+    fold -b -w 512 blocks_of_group | LC_ALL=C sort -u >either
+    named=@$(group_of a.img) other=$(group_of d.img) images="$images d.img"
+    keep
+    after=6 numbers="5 6"
+    try_command "$named" import "$other"
+}
+
+# group_of IMAGE: the GUID of the group that this image shows.
+group_of() {
+    ends 0 "slot 0" "$1" -- examine
+    sed -n 's/^slot 0 .* group \([0-9a-f]*\) .*/\1/p' out
+}
+
 # The blocks of the mirror, and those that are written to it: one block of each kind is a line of `either`.
 new_group
 keep
@@ -305,3 +334,4 @@ try_command write v 0 128
 try_bad_sectors
 try_sizes
 try_file_system
+try_import

@@ -1,17 +1,20 @@
 //! The program `ddf`: it opens the images that its words name, and does what they ask for.
 #![tactic(auto)]
 
+ghost use Rattle.std.specs.Prelude.{◌≤◌};
+
 use ddf_batch::serve;
-use ddf_batch_words::{Order, order_of};
 use ddf_bay::Bay;
 use ddf_bytes::{StdSink, StdSource};
-use ddf_command::{Asked, Command, WordFault, asked, refuse_words, slot_paths};
+use ddf_command::{Asked, Command, refuse_words, slot_paths};
 use ddf_edge::{
     CountingSink, Failure, Meter, NO_MEMORY, NotingSource, STREAM_FAULT, USAGE, agrees, answer,
     any_unopened, explain, hold_streams, is_risky, keep_freed, makes_for_linux, name_no_texts,
     name_turned, name_unfinished, name_untaken, number_slots, open_disks, same_disk,
     sectors_to_write, stamp_for, tell_end,
 };
+use ddf_exercise::exercise_new_disks;
+use ddf_exercise_words::{Asking, asking_of};
 use ddf_linux::Turned;
 use ddf_progress::Watched;
 use std::fs::File;
@@ -102,29 +105,30 @@ where
             Err(_) => Err(Failure::Stream),
         };
     }
-    match order_of(rt.alloc(), words)? {
-        Order::Other => obey_command(rt, words, person),
-        Order::Batch(group) => {
+    match asking_of(rt.alloc(), words)? {
+        Asking::Command(asked) => perform(rt, words, &asked, Kind::Command, person),
+        Asking::Batch(group) => {
             let asked = Asked {
                 group,
                 command: Command::Assemble,
             };
             perform(rt, words, &asked, Kind::Batch, person)
         }
-        Order::Wrong(place) => explain_refusal(rt, words, place),
+        Asking::Exercise { seed, rounds } => exercise_commands(rt, seed, rounds),
+        Asking::Wrong(place) => explain_refusal(rt, words, place),
     }
 }
 
-/// Does what words ask for that aren't a batch's.
-fn obey_command<R>(rt: &R, words: &[String], person: Person) -> Result<u8, Failure>
+/// Exercises the program's commands on disks in memory. No image is touched.
+fn exercise_commands<R>(rt: &R, seed: u64, rounds: u64) -> Result<u8, Failure>
 where
-    R: Files<File = File> + Clock + Input + Print + Eprint + AllocGlobal + Clone + Drop,
+    R: Files + Clock + Print + AllocGlobal,
+    requires { rounds ≤ 256 }
 {
-    match asked(rt.alloc(), words) {
-        Ok(asked) => perform(rt, words, &asked, Kind::Command, person),
-        Err(WordFault::Place(place)) => explain_refusal(rt, words, place),
-        Err(WordFault::Memory) => Err(Failure::Memory),
-    }
+    let stamp = stamp_for(rt, true).map_err(Failure::Chance)?;
+    let mut sink = StdSink::new(io::writer(rt));
+    let status = exercise_new_disks(rt.alloc(), seed, rounds, &mut sink, stamp);
+    answered(status.code(), false)
 }
 
 /// Refuses words that are no command's, and says what is wrong with them. No disk is opened.

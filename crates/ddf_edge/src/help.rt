@@ -48,12 +48,16 @@ Commands:
   batch            do the commands on the lines of standard input, one after another,
                    each as above without IMAGE words and @; one that is refused ends
                    nothing, and one that ends with a status from 3 on is the last
+  exercise SEED ROUNDS
+                   try the commands on disks in memory, with 3 times so many writes
+                   that the seed gives: arrays are made, disks are lost, and what was
+                   written is read; no IMAGE is touched, and there may be none
 
-Each but examine and label is over a group: the only one that the disks show, or the one that is
+Each but examine, label and exercise is over a group: the only one that the disks show, or the one that is
 named, by @ and the 48 hexadecimal digits of its GUID. All of these but show, read and scrub
 recover it first: a member whose disk is left out of the words, or shows nothing, is listed as
 missing, for good. Standard error names it first, and on a terminal you are asked. A line of
-batch may be any of these but read, write and batch.
+batch may be any of these but read, write, batch and exercise.
 
 Disks are opened for reading alone by commands that write nothing. Others don't touch a
 disk that is mounted, swapped to, part of another device, or protected from writes. Each

@@ -4,6 +4,7 @@ use ddf_assembly::{Assembly, assemble};
 use ddf_bay::Bay;
 use ddf_bytes::{Guid, NoMemory};
 use ddf_copy::anchor_of;
+use ddf_header::{Geometry, RECORDS};
 
 /// How much the tables of a disk hold.
 #[derive(Clone, Copy, PartialEq, Eq)]
@@ -11,6 +12,7 @@ struct Tables {
     disks: u16,
     arrays: u16,
     members: u16,
+    records: u32,
     record: u16,
 }
 
@@ -77,10 +79,20 @@ fn tables_of<B: Bay>(bay: &mut B, slot: usize) -> Option<Tables> {
             disks: anchor.geometry.max_disks,
             arrays: anchor.geometry.max_arrays,
             members: anchor.geometry.max_members,
+            records: records_in(&anchor.geometry),
             record: anchor.geometry.record_length,
         }),
         Err(_) => None,
     }
+}
+
+/// How many records a disk has room for.
+fn records_in(geometry: &Geometry) -> u32 {
+    let record = u32::from(geometry.record_length);
+    if record == 0 {
+        return 0;
+    }
+    geometry.sections[RECORDS].length / record
 }
 
 fn tell_tables<R: Eprint>(rt: &R, paths: &[String], slot: usize, tables: Tables) {
@@ -90,10 +102,11 @@ fn tell_tables<R: Eprint>(rt: &R, paths: &[String], slot: usize, tables: Tables)
             disks,
             arrays,
             members,
+            records,
             record,
         } = tables;
         let _ = eprintln!(rt;
-            "ddf: slot {slot} ({path}) has tables for {disks} disks, {arrays} arrays and {members} members of an array, in records of {record} sectors"
+            "ddf: slot {slot} ({path}) has tables for {disks} disks, {arrays} arrays and {members} members of an array, in {records} records of {record} sectors"
         );
     }
 }

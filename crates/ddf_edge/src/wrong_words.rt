@@ -67,7 +67,7 @@ fn explain_request(words: &[String], first: usize, place: usize) -> Wrong<'_> {
 fn explain_over_group(words: &[String], first: usize, place: usize) -> Wrong<'_> {
     let name = first.saturating_add(1);
     match words.get(name) {
-        Some(command) if matches!(command.as_str(), "examine" | "label") => {
+        Some(command) if matches!(command.as_str(), "examine" | "label" | "exercise") => {
             Wrong::Groupless(command)
         }
         _ => explain_command(words, name, place),
@@ -96,6 +96,8 @@ fn wanted(command: &str, offset: usize) -> &'static str {
         "delete" | "accept" | "resync" | "rebuild" | "scrub" if offset == 1 =>
             "the name of an array",
         "import" if offset == 1 => "the 48 hexadecimal digits of the GUID of the group that joins",
+        "exercise" if offset == 1 => "a seed below 2^64",
+        "exercise" if offset == 2 => "a number of rounds from 0 to 256",
         "spare" | "fail" if offset == 1 => "a slot's number from 0 to 63, or its image",
         "spare" if offset == 2 => "global, for or off",
         "spare" => "the name of an array behind for, and nothing behind global and off",

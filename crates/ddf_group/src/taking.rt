@@ -1,9 +1,8 @@
 //! Disks of another group that this one takes over: those that have joined it.
-ghost use Rattle.std.specs.Prelude.{◌≡◌, ◌||◌, not, filter_map, option_map};
-ghost use Rattle.std.specs.List.{list_all};
-ghost use Rattle.ddf_view.specs.View.{disk_of, lists_current};
-ghost use Rattle.ddf_group.specs.Slots.{slot_at};
-ghost use Rattle.ddf_group.specs.Taking.{has_joined, has_lost, have_joined, lists, shows_untaken, takes_over};
+ghost use Rattle.std.specs.Prelude.{◌≡◌, ◌&&◌, ◌||◌, not, filter_map, option_map};
+ghost use Rattle.std.specs.List.{list_all, list_any};
+ghost use Rattle.ddf_view.specs.View.{disk_of, lists_current, lists_missing};
+ghost use Rattle.ddf_group.specs.Taking.{has_joined, has_lost, lists, shows_untaken, takes_over};
 
 use crate::slots::Slots;
 use ddf_bytes::Guid;
@@ -45,16 +44,30 @@ fn lists_all(view: &View, rows: &[DiskRow]) -> bool
         .all(|disk| lists(view, &disk))
 }
 
-/// Whether the former group has joined this one: its members are listed here, beside disks that it doesn't know.
+/// Whether the former group has lost a disk of these rows that is a current member of this one.
+fn has_lost(leader: &View, former: &View, rows: &[DiskRow]) -> bool
+    ensures { result ≡ list_any (λ disk. lists_missing former.now disk.guid disk.reference && lists_current leader.now disk.guid disk.reference) (filter_map disk_of rows.now) }
+{
+    rows.iter().filter_map(disk_of).any(|disk| {
+        former.lists_missing(&disk.guid, disk.reference)
+            && leader.lists_current(&disk.guid, disk.reference)
+    })
+}
+
+/// Whether the former group has joined this one: its members are listed here, beside disks that it doesn't know, and none that it has lost
+/// is one.
 fn has_joined(leader: &View, former: &View) -> bool
     ensures { result ≡ has_joined leader.now former.now }
 {
-    lists_members(leader, former, former.disk_rows()) && !lists_all(former, leader.disk_rows())
+    let rows = former.disk_rows();
+    lists_members(leader, former, rows)
+        && !lists_all(former, leader.disk_rows())
+        && !has_lost(leader, former, rows)
 }
 
-/// The same of the groups' leaders.
-fn have_joined(leader: Option<&View>, former: Option<&View>) -> bool
-    ensures { result ≡ have_joined (option_map (λ view. view.now) leader.entry) (option_map (λ view. view.now) former.entry) }
+/// The same of the groups' leaders: the other group's disks are taken over.
+fn takes_over(leader: Option<&View>, former: Option<&View>) -> bool
+    ensures { result ≡ takes_over (option_map (λ view. view.now) leader.entry) (option_map (λ view. view.now) former.entry) }
 {
     match (leader, former) {
         (Some(leader), Some(former)) => has_joined(leader, former),
@@ -62,31 +75,15 @@ fn have_joined(leader: Option<&View>, former: Option<&View>) -> bool
     }
 }
 
-/// Whether the former group lists a slot's disk as missing.
-fn has_lost(slots: &Slots, former: Option<&View>, slot: usize) -> bool
-    ensures { result ≡ has_lost (option_map (λ view. view.now) former.entry) (slot_at slots.now slot) }
-{
-    match (former, slots.view(slot)) {
-        (Some(former), Some(disk)) => former.lists_missing(&disk.guid(), disk.reference()),
-        (None, _) | (Some(_), None) => false,
-    }
-}
-
-/// Whether the group that a slot shows has joined this one, and hasn't lost the slot's disk since.
-fn takes_over(slots: &Slots, group: &Guid, other: &Guid, slot: usize) -> bool
-    ensures { result ≡ takes_over slots.now group.now other.now slot }
-{
-    let former = slots.leading_view(other);
-    have_joined(slots.leading_view(group), former) && !has_lost(slots, former, slot)
-}
-
-/// Whether a slot shows another group than this one, and its disk isn't taken over: that group hasn't joined this one, or it has lost the
-/// disk since (profile).
+/// Whether a slot shows another group than this one, whose disks aren't taken over: that group hasn't joined this one, or it has lost a
+/// disk of this one since (profile).
 pub fn shows_untaken(slots: &Slots, group: &Guid, slot: usize) -> bool
     ensures { result ≡ shows_untaken slots.now group.now slot }
 {
     match slots.group(slot) {
-        Some(other) => *group != other && !takes_over(slots, group, &other, slot),
+        Some(other) => {
+            *group != other && !takes_over(slots.leading_view(group), slots.leading_view(&other))
+        }
         None => false,
     }
 }

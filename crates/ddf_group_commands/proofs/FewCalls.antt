@@ -55,7 +55,7 @@ all_few (update ∷ updates) each =
     let both = sum_by-cons most_calls update updates in
     omega (arith, here, rest, both)
 
-prepared_few : (disks : List Seated) (updates : List Prepared) → ArePrepared disks updates → all_calls updates ≤ 25 * length updates
+pub prepared_few : (disks : List Seated) (updates : List Prepared) → ArePrepared disks updates → all_calls updates ≤ 25 * length updates
 prepared_few disks updates are = all_few updates (λ place update at.
     let within = below updates place update at in
     let counted = are.counted in
@@ -91,12 +91,12 @@ place_of slot (first ∷ slots) any = elim (or_cases (eqb slot first) (list_any 
   | inr later ↦ (let rest = place_of slot slots later in (suc rest.0, rest.1))
 ]
 
-slots_few : (sizes slots : List ℕ) → AreSlots sizes slots → length slots ≤ length sizes
+pub slots_few : (sizes slots : List ℕ) → AreSlots sizes slots → length slots ≤ length sizes
 slots_few sizes slots are =
     length-le_from_distinct_below slots (length sizes) (differ_from slots are.differ) (λ slot any. let at = place_of slot slots any in are.there at.0 slot at.1)
 
 -- Seats whose slots rise, from one on, are no more than the slots from it on.
-rise_few : (first count : ℕ) (seats : List Seat) → SlotsRise seats → ((place : ℕ) (seat : Seat) → slice_get seats place ≡ Some seat → (first ≤ seat.slot) × (seat.slot < first + count)) → length seats ≤ count
+pub rise_few : (first count : ℕ) (seats : List Seat) → SlotsRise seats → ((place : ℕ) (seat : Seat) → slice_get seats place ≡ Some seat → (first ≤ seat.slot) × (seat.slot < first + count)) → length seats ≤ count
 rise_few first count [] rise each = omega arith
 rise_few first count (seat ∷ seats) rise each =
     let here = each 0 seat refl in
@@ -124,10 +124,10 @@ module _ {D : Type 0} (tells : Type 0) (old : BayState D) (group : GroupValue) (
   abbrev count : ℕ
   count = length old.sizes
 
-  seats_few : length group.seats ≤ count
+  pub seats_few : length group.seats ≤ count
   seats_few = rise_few 0 count group.seats was.assembled.slots_rise (λ place seat at. let low = slots_there tells old group changes timestamp ready from was place seat at in (omega arith, omega (arith, low)))
 
-  recovery_few : all_calls (recovery_updates ready) ≤ 25 * count
+  pub recovery_few : all_calls (recovery_updates ready) ≤ 25 * count
   recovery_few =
       let lies = first_lies tells old group changes timestamp ready from was in
       let slots = slots_few old.sizes (recovery_slots ready) lies.are_slots in

@@ -9,4 +9,4 @@ pub mod ShowEnds
 mod ToldGroup
 mod Requested
 pub mod SeatReferences
-mod FewCalls
+pub mod FewCalls

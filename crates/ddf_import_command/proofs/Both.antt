@@ -1,5 +1,5 @@
 -- What an import comes to, by two looks at the disks and what was written then.
-use Rattle.std.proofs.Common.{◌≡◌, ◌⊎◌, ℕ, ◌≤◌, Bool, List, Option, Some, Result, Ok, Err, inl, inr, ⊎_elim, refl, ap, sym, subst, ◌∙◌, arith}
+use Rattle.std.proofs.Common.{◌≡◌, ◌⊎◌, ℕ, ◌≤◌, Bool, List, Option, Some, Result, Ok, Err, inl, inr, ⊎_elim, refl, ap, sym, subst, ◌∙◌, arith, ◌+◌, ◌*◌, ◌<◌, length, false}
 use Rattle.ddf_bay.specs.Moments.{StopsLeave}
 use Rattle.ddf_bay.specs.ReadsOnly.{LookFailed, ReadsOnly}
 use Rattle.ddf_bay.specs.State.{BayState}
@@ -112,12 +112,19 @@ module _ {D : Type 0} (tells : Type 0) where
     none_first new failure rise reads read = record {
       first = record { left = read.left; every_slot = read.every_slot; failed = read.failed; newest = read.newest; read = read.read };
       second = record { left = read.left; every_slot = read.every_slot; failed = read.failed; newest = read.newest; read = read.read };
+      seen = λ slot below kept also_kept. (read.seen slot below kept).0;
+      gone = λ given. read.gone (λ spent. given (ap (λ (one : Failure). Err one) (memory_is failure spent)));
+      calls = let most = read.calls in omega (arith, most);
       gives = none_at_first new read.left read.left failure (group_of read.newest named) (group_of read.newest (Some other)) reads read.answer;
       keeps = λ told native joined is is_joined made asked. reads_join old new read.left native joined timestamp made reads;
       leaves = λ told native joined is is_joined made asked. reads_leave old new (import_steps made) reads;
     }
 
     module _ (first : BayState D) (native : GroupValue) (rise : Rises old first) (reads : ReadsOnly old first) (read : IsGroupRead (work_of tells old first) named (Ok native)) where
+      -- A slot of the first look is one of another behind it.
+      below_too : (left : List Bool) → length left ≡ length first.sizes → (slot : ℕ) → slot < length read.left → slot < length left
+      below_too left every slot below = let same = ap (λ (sizes : List ℕ). length sizes) reads.same_sizes in let own = read.every_slot in omega (arith, below, every, same, own)
+
       -- The second did.
       pub none_second : (new : BayState D) (failure : Failure) → Rises first new → Rises old new → ReadsOnly first new → IsGroupRead (work_of tells first new) (Some other) (Err failure)
           → HasImported (work_of tells old new) named other timestamp (Err failure)
@@ -127,6 +134,9 @@ module _ {D : Type 0} (tells : Type 0) where
           record {
             first = first_look old first new named (Ok native) rise then read;
             second = second_look old first new new (Some other) (Err failure) reads rise whole (record { reads = λ slot. omega arith; writes = λ slot. omega arith }) also;
+            seen = λ slot below kept also_kept. (also.seen slot (below_too also.left also.every_slot slot below) also_kept).0 ∙ (read.seen slot below kept).0;
+            gone = λ given. read.gone (λ spent. absurd cc);
+            calls = let most = read.calls in let then = also.calls in let same = ap (λ (sizes : List ℕ). length sizes) reads.same_sizes in omega (arith, most, then, same);
             gives = subst (λ (one : Result GroupValue Assembly). IsImportedIn (work_of tells old new) timestamp read.left also.left one (group_of also.newest (Some other)) (Err failure))
                 (sym (group_read (work_of tells old first) named native read)) (none_behind new read.left also.left failure native (group_of also.newest (Some other)) all also.answer);
             keeps = λ told one joined is is_joined made asked. reads_join old new read.left one joined timestamp made all;
@@ -162,16 +172,22 @@ module _ {D : Type 0} (tells : Type 0) where
         imported_before new out asked (Err (Conflict i j sequence differ)) done = absurd done
         imported_before new out asked (Err (Split i j)) done = absurd done
 
-        both_found : (new : BayState D) (outcome : Result ℕ Failure) → Rises middle new → Rises first new
+        both_found : (new : BayState D) (outcome : Result ℕ Failure) → Rises middle new → Rises first new → ((slot : ℕ) → new.failed_reads slot ≡ middle.failed_reads slot)
+            → new.calls ≤ middle.calls + 52 * length middle.sizes
             → IsImported (work_of tells middle new) also.left native joined (import_asked timestamp read.left native joined) outcome
             → (tells → (left also_left : List Bool) (called also_called : Option (List ℕ)) → IsFoundBy middle left called native → IsFoundBy middle also_left also_called joined
             → (made : Joining) → import_asked timestamp read.left native joined ≡ Ok made → KeepsJoins middle new left native joined timestamp made (is_done outcome))
             → (tells → (made : Joining) → import_asked timestamp read.left native joined ≡ Ok made → StopsLeave middle new (IsLeftWriting middle (import_steps made)))
             → HasImported (work_of tells old new) named other timestamp outcome
         unfolding first_look second_look
-        both_found new outcome later since imported keeps leaves = record {
+        both_found new outcome later since same_reads written imported keeps leaves = record {
           first = first_look old first new named (Ok native) rise since read;
           second = second_look old first middle new (Some other) (Ok joined) reads rise whole later also;
+          seen = λ slot below kept also_kept. same_reads slot ∙ (also.seen slot (below_too also.left also.every_slot slot below) also_kept).0 ∙ (read.seen slot below kept).0;
+          gone = λ given. read.gone (λ spent. absurd cc);
+          calls =
+              let most = read.calls in let then = also.calls in let same = ap (λ (sizes : List ℕ). length sizes) reads.same_sizes in
+              let same_too = ap (λ (sizes : List ℕ). length sizes) more.same_sizes in omega (arith, most, then, written, same, same_too);
           gives = subst (λ (one : Result GroupValue Assembly). IsImportedIn (work_of tells old new) timestamp read.left also.left one (group_of also.newest (Some other)) outcome)
               (sym (group_read (work_of tells old first) named native read))
               (subst (λ (one : Result GroupValue Assembly). IsImportedIn (work_of tells old new) timestamp read.left also.left (Ok native) one outcome)
@@ -205,10 +221,11 @@ module _ {D : Type 0} (tells : Type 0) where
 
         -- Both found one.
         pub has_imported : (left out : List Bool) → left ≡ read.left → out ≡ also.left → (new : BayState D) (outcome : Result ℕ Failure) → Rises middle new → Rises first new
+            → ((slot : ℕ) → new.failed_reads slot ≡ middle.failed_reads slot) → new.calls ≤ middle.calls + 52 * length middle.sizes
             → IsImported (work_of tells middle new) out native joined (import_asked timestamp left native joined) outcome
             → (tells → (one two : List Bool) (called also_called : Option (List ℕ)) → IsFoundBy middle one called native → IsFoundBy middle two also_called joined
             → (made : Joining) → import_asked timestamp left native joined ≡ Ok made → KeepsJoins middle new one native joined timestamp made (is_done outcome))
             → (tells → (made : Joining) → import_asked timestamp left native joined ≡ Ok made → StopsLeave middle new (IsLeftWriting middle (import_steps made)))
             → HasImported (work_of tells old new) named other timestamp outcome
-        has_imported left out is_left is_out new outcome later since imported keeps leaves =
-            both_found new outcome later since (rw (is_left, is_out) at imported) (rw is_left at keeps) (rw is_left at leaves)
+        has_imported left out is_left is_out new outcome later since same_reads written imported keeps leaves =
+            both_found new outcome later since same_reads written (rw (is_left, is_out) at imported) (rw is_left at keeps) (rw is_left at leaves)

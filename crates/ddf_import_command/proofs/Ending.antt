@@ -93,6 +93,9 @@ imported_nothing {D = D} old tells told before named other timestamp looked =
       has = record {
         first = look;
         second = look;
+        seen = λ slot below kept also_kept. refl;
+        gone = λ given. absurd (given refl);
+        calls = omega arith;
         gives = spent tells old named other timestamp old look.left look.left (group_of look.newest named) (group_of look.newest (Some other)) (reads_start old);
         keeps = λ told native joined is is_joined made asked. reads_join old old look.left native joined timestamp made (reads_start old);
         leaves = λ told native joined is is_joined made asked. reads_leave old old (import_steps made) (reads_start old);

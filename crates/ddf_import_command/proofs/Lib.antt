@@ -4,5 +4,6 @@ mod Placed
 mod Written
 mod Keeping
 mod Leaving
+mod FewCalls
 mod Both
 pub mod Ending

@@ -1,5 +1,5 @@
 -- What the command does by which another group joins the group that the disks are, and how it ends.
-use Rattle.std.specs.Prelude.{◌≡◌, ◌⊎◌, ℕ, ◌<◌, ◌==◌, ◌&&◌, not, Bool, true, false, List, [], ◌∷◌, ◌++◌, length, Option, Some, None, Result, Ok, Err, IfSome, IsTrue, option_to_list, slice_index_or}
+use Rattle.std.specs.Prelude.{◌≡◌, ◌⊎◌, ℕ, ◌+◌, ◌*◌, ◌<◌, ◌≤◌, ◌==◌, ◌&&◌, not, Bool, true, false, List, [], ◌∷◌, ◌++◌, length, Option, Some, None, Result, Ok, Err, IfSome, IsTrue, option_to_list, slice_index_or}
 use Rattle.std.specs.List.{list_all, list_any}
 use Rattle.ddf_bytes.specs.Counts.{Rose}
 use Rattle.ddf_bay.specs.Moments.{StopsLeave}
@@ -21,7 +21,7 @@ use Rattle.ddf_assembly.specs.Joining.{Joining, join_config, join_disks, joining
 use Rattle.ddf_assembly.specs.JoinValue.{JoinValue}
 use Rattle.ddf_assembly.specs.Ready.{ReadyValue}
 use Rattle.ddf_assembly.specs.Seated.{seated}
-use Rattle.ddf_assembly.specs.Slots.{first_left_out, newest_from}
+use Rattle.ddf_assembly.specs.Slots.{AreOut, first_left_out, newest_from}
 use Rattle.ddf_assembly.specs.Steps.{Step}
 use Rattle.ddf_assembly.specs.Trying.{Follows}
 use Rattle.ddf_history.specs.Groups.{groups}
@@ -154,11 +154,20 @@ pub record IsLook {D : Type 0} (work : Work D) : Type 0 where
   pub newest : List (Option Newest)
   pub read : work.tells → newest ≡ newest_from work.old 0 left
 
+-- The most calls that it makes of a bay of so many slots: 15 to look at each, twice, one sync of each for the recovery and for the join, and 25 for each
+-- copy of both.
+abbrev pub most_calls : (slots : ℕ) → ℕ
+most_calls slots = 82 * slots
+
 -- A call came to this: what it made of the groups that two looks at the disks found, each by its own. Where the first found none there was no
--- second.
+-- second. A slot that neither left out was read without a failure, and one of which every call fails is left out by the first, but where memory ran out.
 pub record HasImported {D : Type 0} (work : Work D) (named : Option (List ℕ)) (other : List ℕ) (timestamp : ℕ) (outcome : Result ℕ Failure) : Type 0 where
   pub first : IsLook work
   pub second : IsLook work
+  pub seen : (slot : ℕ) → slot < length first.left → slice_index_or first.left slot false ≡ false → slice_index_or second.left slot false ≡ false
+      → work.new.failed_reads slot ≡ work.old.failed_reads slot
+  pub gone : (outcome ≡ Err Memory → ⊥) → AreOut work.old first.left
+  pub calls : work.new.calls ≤ work.old.calls + most_calls (length work.old.sizes)
   pub gives : IsImportedIn work timestamp first.left second.left (group_of first.newest named) (group_of second.newest (Some other)) outcome
   pub keeps : work.tells → (native joined : GroupValue) → group_of first.newest named ≡ Ok native → group_of second.newest (Some other) ≡ Ok joined → (made : Joining)
       → import_asked timestamp first.left native joined ≡ Ok made → KeepsJoins work.old work.new first.left native joined timestamp made (is_done outcome)

@@ -18,5 +18,6 @@ mod traits;
 mod words;
 
 pub use command::{Asked, Command, CreateElement, Creation, DiskStyle, SpareWord, Wish};
+pub use number_words::number_of;
 pub use traits::Traits;
 pub use words::{MOST_IMAGES, WordFault, asked, image_paths, slot_paths};

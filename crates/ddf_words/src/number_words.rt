@@ -18,7 +18,7 @@ fn is_decimal(text: &str, number: u64) -> bool
 }
 
 /// The number that a text is, where it is at most so much.
-pub(crate) fn number_of(text: &str, most: u64) -> Option<u64>
+pub fn number_of(text: &str, most: u64) -> Option<u64>
     ensures found { IfSome result (λ number. SpellsNumber most number text.now) }
     ensures every { (number : ℕ) → SpellsNumber most number text.now → result ≡ Some number }
 {

@@ -12,6 +12,7 @@ use Rattle.ddf_group_commands.proofs.LeftWriting.{reads_leave}
 use Rattle.ddf_import_command.specs.Import.{import_steps}
 use Rattle.ddf_import_command.proofs.Leaving.{import_leaves, recover_leaves}
 use Rattle.ddf_import_command.proofs.Asked.{not_readied}
+use Rattle.ddf_import_command.proofs.FewCalls.{import_calls, recover_calls}
 use Rattle.ddf_import_command.proofs.Placed.{first_lies, join_failed, join_lies, join_there, recover_failed, slots_there}
 use Rattle.ddf_import_command.proofs.Written.{all_written, joined_to, joins_settled, native_settled}
 use Rattle.ddf_import_command.proofs.Keeping.{import_keeps, reads_join, recovery_keeps}
@@ -250,3 +251,26 @@ returns-clause-leaves g c = λ told joined asked.
     c.requires.from c.requires.also c.ranges.timestamp.fits made told (reads_true old (g.met.B.Bay.held_is_left c.args.bay.now) (g.met.B.Bay.whole c.args.bay.now))
     (g.met.B.Bay.only_now c.args.bay.now) joined asked middle c.recover.ensures.spends.same_sizes (c.recover.ensures.any_moment told) tell
     (c.in_ok-recover.ensures.changed told) (reads_true middle (g.met.B.Bay.held_is_left c.recover.new.bay) (g.met.B.Bay.whole c.recover.new.bay)) new (c.import.ensures.any_moment told) tell_new
+
+pub returns-in_err-recover-clause-calls : goal.returns-in_err-recover-clause-calls
+returns-in_err-recover-clause-calls g c =
+    let ready = c.in_ok-ready.ready in
+    let made = c.in_ok-ready.ensures.readied in
+    recover_calls g.B.Bay.tells (g.B.Bay.disks c.args.bay.now) c.args.group.now c.args.joining.now.group c.args.timestamp c.args.left_out.now ready.recovery ready.join
+    c.requires.from c.requires.also c.ranges.timestamp.fits made (g.B.Bay.disks c.recover.new.bay) c.recover.ensures.spends.costs
+
+pub returns-in_err-import-clause-calls : goal.returns-in_err-import-clause-calls
+returns-in_err-import-clause-calls g c =
+    let ready = c.in_ok-ready.ready in
+    let made = c.in_ok-ready.ensures.readied in
+    import_calls g.B.Bay.tells (g.B.Bay.disks c.args.bay.now) c.args.group.now c.args.joining.now.group c.args.timestamp c.args.left_out.now ready.recovery ready.join
+    c.requires.from c.requires.also c.ranges.timestamp.fits made (g.B.Bay.disks c.recover.new.bay) c.recover.ensures.spends.costs
+    (g.B.Bay.disks c.import.new.bay) c.import.ensures.spends.costs
+
+pub returns-clause-calls : goal.returns-clause-calls
+returns-clause-calls g c =
+    let ready = c.in_ok-ready.ready in
+    let made = c.in_ok-ready.ensures.readied in
+    import_calls g.B.Bay.tells (g.B.Bay.disks c.args.bay.now) c.args.group.now c.args.joining.now.group c.args.timestamp c.args.left_out.now ready.recovery ready.join
+    c.requires.from c.requires.also c.ranges.timestamp.fits made (g.B.Bay.disks c.recover.new.bay) c.recover.ensures.spends.costs
+    (g.B.Bay.disks c.import.new.bay) c.import.ensures.spends.costs

@@ -1,0 +1,22 @@
+use Rattle.std.proofs.Common.{◌∙◌, inl, refl, arith}
+use Rattle.ddf_answer.specs.Call.{answer_of}
+use Rattle.ddf_answer.specs.Status.{code_of}
+use Rattle.ddf_exercise.proofs.ReadBack.{tells_line}
+use Rattle.ddf_exercise.proofs.exercising.exercise.Goals as goal
+
+pub returns-in-Ok-clause-done : goal.returns-in-Ok-clause-done
+returns-in-Ok-clause-done g c = record {
+  came_to = 0;
+  exercised = c.in-Ok.ensures.0;
+  answered = inl (
+    refl,
+    tells_line (answer_of g.K.Sink.tells (g.K.Sink.output c.args.sink.now) (g.K.Sink.output c.tell.new.sink) (code_of c.tell.result)) c.args.seed c.args.rounds
+        c.in-Ok.found c.as_bytes.result.now (c.as_bytes.ensures.value ∙ c.deref.ensures.0 ∙ c.line_saying-line.ensures) c.in-Ok.ensures.1 c.tell.ensures.ends,
+  );
+}
+
+pub returns-in-Ok-clause-told : goal.returns-in-Ok-clause-told
+returns-in-Ok-clause-told g c = λ zero tells.
+    let closes = tells_line (answer_of g.K.Sink.tells (g.K.Sink.output c.args.sink.now) (g.K.Sink.output c.tell.new.sink) (code_of c.tell.result)) c.args.seed c.args.rounds
+    c.in-Ok.found c.as_bytes.result.now (c.as_bytes.ensures.value ∙ c.deref.ensures.0 ∙ c.line_saying-line.ensures) c.in-Ok.ensures.1 c.tell.ensures.ends in
+    (closes.tells tells).whole (omega (arith, zero))

@@ -1,0 +1,5 @@
+mod Standing
+mod Wrongly
+mod Leading
+mod Numbers
+mod Telling
