@@ -1,3 +1,4 @@
 mod Told
 pub mod Causes
 pub mod Rises
+pub mod Costs

@@ -3,3 +3,4 @@ pub mod Status
 pub mod Tells
 pub mod Answers
 pub mod Ends
+pub mod Costs

@@ -1,5 +1,5 @@
 -- How a call of the program ends.
-use Rattle.std.proofs.Common.{◌≡◌, ◌∙◌, ◌⊎◌, inl, inr, ⊎_elim, ℕ, List, [], length, replicate, true, false, Option, Result, Ok, Err, refl, sym, subst, arith}
+use Rattle.std.proofs.Common.{◌≡◌, ◌∙◌, ◌⊎◌, inl, inr, ⊎_elim, ℕ, ◌*◌, List, [], length, replicate, true, false, Option, Result, Ok, Err, refl, sym, subst, arith}
 use Rattle.std.specs.Prelude.{IsTrue}
 use Rattle.std.proofs.lemmas.Bool.{cases_lt, false≢true}
 use Rattle.std.proofs.lemmas.List.{append-nil, length-replicate}
@@ -25,7 +25,8 @@ use Rattle.ddf_answer.specs.Call.{Answer, Work, answer_of, work_of}
 use Rattle.ddf_answer.specs.Ends.{EndsBy, HasCause, SomeSlotRose}
 use Rattle.ddf_answer.specs.declared.failure.Failure.TheVariants.{Memory}
 use Rattle.ddf_disk_commands.specs.Examine.{IsExamined}
-use Rattle.ddf_disk_commands.specs.Label.{label_copy, label_slots, revision_of}
+use Rattle.ddf_answer.proofs.Costs.{none_written, writes_most}
+use Rattle.ddf_disk_commands.specs.Label.{label_copy, label_sectors, label_slots, revision_of}
 use Rattle.ddf_group_commands.proofs.Beside.{reads_beside}
 use Rattle.ddf_group_commands.proofs.ChangeEnds.{assembled_nothing, changed_nothing}
 use Rattle.ddf_group_commands.proofs.Keeping.{reads_keep}
@@ -43,6 +44,7 @@ use Rattle.ddf_write_commands.specs.Ending.{EndsCut}
 use Rattle.ddf_write_commands.specs.Payload.{input_of}
 use Rattle.ddf_write_commands.specs.Resync.{IsResyncDone, resync_request, resyncing}
 use Rattle.ddf_write_commands.specs.Worked.{IsWorkedIn}
+use Rattle.ddf_write_commands.proofs.Costs.{unwritten_costs}
 use Rattle.ddf_write_commands.proofs.Since.{none_along}
 use Rattle.ddf_rebuild_command.specs.Asked.{rebuild_request}
 use Rattle.ddf_rebuild_command.specs.Rebuilt.{IsRebuildDone, IsRebuiltIn}
@@ -207,9 +209,11 @@ module _ {D : Type 0} (old : BayState D) (tells told : Type 0) (before : SinkSta
         outcome = Err Memory;
         has = record {
           taken = taken;
+          gone = λ given. absurd (given refl);
           gives = worked_nothing resyncing old tells timestamp word (resync_request word) (group_of taken.newest named);
           leaves = λ tells found is steps asked. stops_start old _;
           along = λ told. none_along resyncing (work_of tells old old) named timestamp word (resync_request word) (reads_start old) taken.left (group_of taken.newest named);
+          costs = unwritten_costs resyncing (work_of tells old old) timestamp word (resync_request word) (reads_start old) (group_of taken.newest named);
         };
         ends = (refl, λ told. refl);
       }
@@ -221,6 +225,7 @@ module _ {D : Type 0} (old : BayState D) (tells told : Type 0) (before : SinkSta
         outcome = Err Memory;
         has = record {
           taken = taken;
+          gone = λ given. absurd (given refl);
           gives = none_rebuilt old tells timestamp word (group_of taken.newest named);
           leaves = λ tells found is steps asked. stops_start old _;
           along = λ tells found is steps asked group same past kept admitted. inl (refl, reads_start old);
@@ -237,9 +242,11 @@ module _ {D : Type 0} (old : BayState D) (tells told : Type 0) (before : SinkSta
         outcome = Unfit Memory;
         has = record {
           taken = taken;
+          gone = λ given. absurd (given refl);
           gives = (refl, reads_start old, worked_nothing (writing start []) old tells timestamp word request (group_of taken.newest named));
           leaves = λ tells. tt;
           along = λ tells. tt;
+          costs = none_written (work_of tells old old) (reads_start old);
         };
         ends = (refl, λ told. refl);
       }
@@ -254,6 +261,7 @@ done_nothing old tells told before reads input stamp group (Label style slots) =
   tried = reads_start old;
   ends = (refl, λ told. refl);
   any_moment = λ tells. stops_start old (IsLeftFoundingAll old (label_slots old.sizes slots) (label_copy (revision_of style) stamp old.sizes slots));
+  costs = writes_most (label_sectors * length (label_slots old.sizes slots)) (omega arith) (none_written (work_of tells old old) (reads_start old));
   refused = λ tells refusal is. reads_start old;
 }
 done_nothing old tells told before reads input stamp group (Read name start count) = record {
@@ -265,6 +273,7 @@ done_nothing old tells told before reads input stamp group (Read name start coun
     newest = newest_from old 0 (none_looked old).left;
     read = λ tells. refl;
     no_place = λ tells slot out. has_no_place old (none_looked old).left (newest_from old 0 (none_looked old).left) group slot refl out;
+    gone = λ given. absurd (given refl);
     gives = memory_in (work_of tells old old) name start count (group_of (newest_from old 0 (none_looked old).left) group);
   };
   ends = (refl, λ told. refl);

@@ -1,5 +1,5 @@
 -- Behind an import that was done each current member of its configuration whose slot it read is one, as a history asks that one is read.
-use Rattle.std.proofs.Common.{◌≡◌, ℕ, ◌≤◌, Bool, true, List, [], ◌∷◌, ◌++◌, length, Some, refl, ap, sym, ◌∙◌, subst}
+use Rattle.std.proofs.Common.{◌≡◌, ℕ, ◌≤◌, Bool, true, List, Some, ap, sym, ◌∙◌, subst}
 use Rattle.std.specs.Prelude.{slice_get}
 use Rattle.ddf_bay.specs.State.{BayState}
 use Rattle.ddf_config.specs.Configuration.{Configuration}
@@ -41,7 +41,7 @@ module _ {B : Type 0} {tells : Type 0} (told : tells) (disks : B → BayState B)
       subst (IsOver group old.past readable ended.group issued) (sym end.is_past)
       (subst (λ (b : Bool). Ends group old.past readable ended.group issued b ends.0) done ends.1)
 
-  slots : KeepsSlots group old.past new.past readable ended.group
+  pub slots : KeepsSlots group old.past new.past readable ended.group
   slots = ends_slots group old.past readable ended.group issued true new.past over
 
   -- The join's configuration is the last acknowledged one.
@@ -51,7 +51,7 @@ module _ {B : Type 0} {tells : Type 0} (told : tells) (disks : B → BayState B)
       ∙ last_more ended.group.config (recovery_changes ended.timestamp ended.group) ended.made.step.config
 
   module _ (own : new.past.changes.own_from ≤ new.past.changes.acked) (scene : Scene View) (leaves : Leaves told disks group new.bay scene) (reads : ℕ → Bool) where
-    kept : IsKept new.past scene
+    pub kept : IsKept new.past scene
     unfolding ends
     kept = let last = end.is_left scene leaves in rw (end.is_past, last.is_shown) (ends.2 last.image last.is_left)
 

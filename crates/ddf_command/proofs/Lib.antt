@@ -9,3 +9,5 @@ mod LabelAside
 mod StepsMembers
 mod MembersBehind
 mod JoinedMembers
+mod CutJoins
+mod JoinsAgain

@@ -1,5 +1,5 @@
 // Laws of histories: functions that do nothing, whose contracts are the laws.
-ghost use Rattle.std.specs.Prelude.{◌≡◌, ◌<◌, ◌≤◌, ◌+◌, ◌-◌, ◌^◌, ℕ, Bool, true, false, ◌∷◌, [], List, length, Option, Some, Result, Ok, slice_get};
+ghost use Rattle.std.specs.Prelude.{◌≡◌, ◌⊎◌, ◌<◌, ◌≤◌, ◌+◌, ◌-◌, ◌^◌, ℕ, Bool, true, false, ◌∷◌, [], List, length, Option, Some, Result, Ok, slice_get};
 ghost use Rattle.std.specs.Str.{bytes_eq};
 ghost use Rattle.ddf_bytes.specs.declared.stamp.Stamp.{Stamp};
 ghost use Rattle.ddf_header.specs.declared.kind.Revision.{Revision};
@@ -10,8 +10,10 @@ ghost use Rattle.ddf_plan.specs.declared.change.Change.{Change};
 ghost use Rattle.ddf_update.specs.Group.{IsLeftFoundingAll};
 ghost use Rattle.ddf_update.specs.NewCopies.{group_of};
 ghost use Rattle.ddf_view.specs.View.{View, view_of};
-ghost use Rattle.ddf_history.specs.Answer.{HasMember};
+ghost use Rattle.ddf_history.specs.Answer.{HasMember, IsAnswer, IsReadable};
 ghost use Rattle.ddf_history.specs.Calls.{IsAside};
+ghost use Rattle.ddf_history.specs.Leaders.{seen};
+ghost use Rattle.ddf_history.specs.Answer.Answer.{Is};
 ghost use Rattle.ddf_history.specs.Groups.{disk_of, groups, has_current, has_missing};
 ghost use Rattle.ddf_history.specs.History.{AllKept, Answers, IsHistory, KeepsAcked, Moment};
 ghost use Rattle.ddf_history.specs.Issued.{IsSince, Past};
@@ -24,12 +26,12 @@ ghost use Rattle.ddf_assembly.specs.Seated.{seated};
 ghost use Rattle.ddf_assembly.specs.Steps.{Step};
 ghost use Rattle.ddf_assembly.specs.declared.seated.Seated.{Seated};
 ghost use Rattle.ddf_stops.specs.Founding.{AreNamesNew, IsNewGroup, founding_config};
-ghost use Rattle.ddf_stops.specs.Going.{Ends, changes_in};
+ghost use Rattle.ddf_stops.specs.Going.{Ends, IsAdmitted, changes_in};
 ghost use Rattle.ddf_stops.specs.Kept.{AreAllKept, is_read, is_slot};
 ghost use Rattle.ddf_answer.specs.Call.{work_of};
 ghost use Rattle.ddf_group_commands.specs.Change.{HasChanged, Request, is_done};
 ghost use Rattle.ddf_command.specs.Cut.{AreLabelled, Gives, IsLeftByLabel, IsNewLabel};
-ghost use Rattle.ddf_command.specs.History.{GroupCall, IsCall, IsCut, IsEnd, IsJoinCut, IsJoinEnd, JoinCall, Leaves, OtherCall};
+ghost use Rattle.ddf_command.specs.History.{GroupCall, IsCall, IsCut, IsEnd, IsJoinCut, IsJoinEnd, JoinCall, Leaves, OtherCall, joins_of};
 ghost use Rattle.ddf_disk_commands.specs.Label.{IsTried, label_copy, label_slots};
 ghost use Rattle.ddf_stops.specs.Members.{KeepsMembers};
 ghost use Rattle.ddf_group_commands.specs.Others.{LeavesOthers};
@@ -215,4 +217,25 @@ pub fn a_change_of_another_group_is_aside<B: Bay>()
         → ((image : Image) → IsLeft (B.disks old.bay).may_hold image → (slot : ℕ) → is_slot (slots_of other.seats) slot ≡ true
         → IsAside old.past slot (scene_of (B.disks old.bay).sizes image slot))
         → (call : OtherCall told B.disks group old) × (call.exit ≡ exit) × (call.written ≡ slots_of other.seats) }
+{}
+
+/// Where a stop cut an import of a group behind whose last acknowledged configuration none was issued, what is assembled is that one, or one of the
+/// changes of the import: the loss of absent members, or the join.
+pub fn an_import_that_was_cut_is_before_or_behind_a_change<B: Bay>()
+    ensures { (told : B.tells) (group : List ℕ) (old new : Moment (groups group) B) (cut : IsJoinCut told B.disks group old new) → AllKept (Leaves told B.disks group) old
+        → length old.past.changes.issued ≡ old.past.changes.acked + 1 → (scene : Scene View) → Leaves told B.disks group new.bay scene → (readable : ℕ → Bool)
+        → IsReadable new.past scene readable → HasMember new.past scene readable → (config : Configuration)
+        → IsAnswer (groups group) new.past.slots (seen readable scene) (Is config)
+        → (slice_get old.past.changes.issued old.past.changes.acked ≡ Some config)
+        ⊎ ((n : ℕ) × (slice_get (joins_of told B.disks group old cut.call) n ≡ Some config)) }
+{}
+
+/// Behind an import that was done a call is admitted that reads a slot that the import read, whose disk is a current member of its configuration, and none
+/// that is lost.
+pub fn a_call_behind_an_import_is_admitted<B: Bay>()
+    ensures { (told : B.tells) (group : List ℕ) (old new : Moment (groups group) B) (end : IsJoinEnd told B.disks group old new) → is_done end.call.outcome ≡ true
+        → new.past.changes.own_from ≤ new.past.changes.acked → (B.disks new.bay).sizes ≡ (B.disks old.bay).sizes → IsLeft (B.disks new.bay).may_hold (B.disks new.bay).held
+        → (left : List Bool) → ((slot : ℕ) → is_read left slot ≡ true → slot < length (B.disks new.bay).sizes) → (found : GroupValue)
+        → (slot : ℕ) → is_read end.call.imported.first.left slot ≡ true → has_current end.call.made.step.config (old.past.disk slot) ≡ true → is_read left slot ≡ true
+        → ((s : ℕ) → is_read left s ≡ true → new.past.lost s ≡ false) → IsAdmitted group new.past (B.disks new.bay) left found }
 {}

@@ -268,6 +268,10 @@ fault_in work word start count fault (Ok one) (inr is) =
 fault_in work word start count fault (Err other) (inl is) = let same : fault ≡ other = cc in inl (ap (λ (f : Assembly). NotRead (failure_of f)) same)
 fault_in work word start count fault (Err other) (inr is) = let same : fault ≡ assembly.Memory = cc in inr (ap (λ (f : Assembly). NotRead (failure_of f)) same)
 
+-- what it tells where memory ran out
+pub not_read_told : (fault : Assembly) → ◌≡◌ {A = Result GroupValue Assembly} (Err fault) (Err assembly.Memory) → NotRead (failure_of fault) ≡ NotRead Memory
+not_read_told fault spent = let same : fault ≡ assembly.Memory = cc in ap (λ (one : Assembly). NotRead (failure_of one)) same
+
 -- where memory ran out
 pub memory_in : {D : Type 0} (work : Work D) (word : List ℕ) (start count : ℕ) (answer : Result GroupValue Assembly) → IsReadIn work word start count answer (NotRead Memory)
 memory_in work word start count (Ok group) = tt

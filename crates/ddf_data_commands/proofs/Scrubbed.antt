@@ -145,6 +145,10 @@ no_group_in work word fault (Ok one) (inr is) =
 no_group_in work word fault (Err other) (inl is) = let same : fault ≡ other = cc in inl (ap (λ (f : Assembly). Err (failure_of f)) same)
 no_group_in work word fault (Err other) (inr is) = let same : fault ≡ assembly.Memory = cc in inr (ap (λ (f : Assembly). Err (failure_of f)) same)
 
+-- what it tells where memory ran out
+pub not_scrubbed_told : (fault : Assembly) → ◌≡◌ {A = Result GroupValue Assembly} (Err fault) (Err assembly.Memory) → ◌≡◌ {A = Result Scrub Failure} (Err (failure_of fault)) (Err Memory)
+not_scrubbed_told fault spent = let same : fault ≡ assembly.Memory = cc in ap (λ (one : Assembly). Err (failure_of one)) same
+
 -- ---- before anything was done
 
 -- memory runs out
@@ -162,6 +166,7 @@ scrubbed_nothing old tells told before named word looked = record {
     failed = looked.are_failed.rose;
     newest = newest_from old 0 looked.left;
     read = λ tells. refl;
+    gone = λ given. absurd (given refl);
     gives = memory_in (work_of tells old old) word (group_of (newest_from old 0 looked.left) named);
   };
   ends = (refl, λ told. refl);

@@ -17,7 +17,7 @@ use Rattle.ddf_volume.specs.Refused.{is_unsure}
 pub use Rattle.ddf_pieces.specs.Pieces.{bytes_of, piece_blocks}
 use Rattle.ddf_group.specs.declared.answer.Assembly.{Assembly}
 use Rattle.ddf_assembly.specs.Group.{GroupValue, group_of}
-use Rattle.ddf_assembly.specs.Slots.{newest_from}
+use Rattle.ddf_assembly.specs.Slots.{AreOut, newest_from}
 use Rattle.ddf_request.specs.Named.{named_array}
 use Rattle.ddf_answer.specs.declared.failure.Failure.{Failure}
 use Rattle.ddf_answer.specs.declared.failure.Failure.TheVariants.{Conflict, Disk, Memory, Refused, Split}
@@ -117,7 +117,7 @@ HasNoPlace (Ok group) slot = (guid : List ℕ) (volume : Volume) → view_of gro
 HasNoPlace (Err fault) slot = Unit {0}
 
 -- A call came to this: what the group gives that the newest copies of the slots are that aren't left out. A slot is left out only
--- where a call of this call failed on it, and then no array has an available place on it.
+-- where a call of this call failed on it, and then no array has an available place on it; each of which every call fails is, but where memory ran out.
 pub record HasRead {D : Type 0} (work : Work D) (named : Option (List ℕ)) (word : List ℕ) (start count : ℕ) (outcome : Outcome) : Type 0 where
   pub left : List Bool
   pub every_slot : length left ≡ length work.old.sizes
@@ -125,6 +125,7 @@ pub record HasRead {D : Type 0} (work : Work D) (named : Option (List ℕ)) (wor
   pub newest : List (Option Newest)
   pub read : work.tells → newest ≡ newest_from work.old 0 left
   pub no_place : work.tells → (slot : ℕ) → IsTrue (slice_index_or left slot false) → HasNoPlace (group_of newest named) slot
+  pub gone : (outcome ≡ NotRead Memory → ⊥) → AreOut work.old left
   pub gives : IsReadIn work word start count (group_of newest named) outcome
 
 -- ---- what it tells

@@ -18,7 +18,7 @@ use Rattle.ddf_resync.specs.declared.outcome.Scrub.{Scrub}
 use Rattle.ddf_resync.specs.declared.outcome.Scrub.TheVariants.{Clean, Differs}
 use Rattle.ddf_group.specs.declared.answer.Assembly.{Assembly}
 use Rattle.ddf_assembly.specs.Group.{GroupValue, group_of}
-use Rattle.ddf_assembly.specs.Slots.{newest_from}
+use Rattle.ddf_assembly.specs.Slots.{AreOut, newest_from}
 use Rattle.ddf_request.specs.Named.{named_array}
 use Rattle.ddf_answer.specs.declared.failure.Failure.{Failure}
 use Rattle.ddf_answer.specs.declared.failure.Failure.TheVariants.{Conflict, Disk, Memory, Refused, Split}
@@ -61,13 +61,14 @@ IsScrubIn work word (Ok group) result = IsScrubOf work group.config group.seats 
 IsScrubIn work word (Err fault) result = (result ≡ Err (failure_of fault)) ⊎ (result ≡ Err Memory)
 
 -- A call came to this: what the group gives that the newest copies of the slots are that aren't left out. A slot is left out only where a call of
--- this call failed on it.
+-- this call failed on it; each of which every call fails is, but where memory ran out.
 pub record HasScrubbed {D : Type 0} (work : Work D) (named : Option (List ℕ)) (word : List ℕ) (result : Result Scrub Failure) : Type 0 where
   pub left : List Bool
   pub every_slot : length left ≡ length work.old.sizes
   pub failed : (slot : ℕ) → slot < length left → IsTrue (slice_index_or left slot false) → LookFailed work.old work.new slot
   pub newest : List (Option Newest)
   pub read : work.tells → newest ≡ newest_from work.old 0 left
+  pub gone : (result ≡ Err Memory → ⊥) → AreOut work.old left
   pub gives : IsScrubIn work word (group_of newest named) result
 
 -- the line that says what was found

@@ -5,4 +5,5 @@ pub mod Chosen
 mod Fits
 mod LabelEnds
 mod Labelled
+mod LabelCosts
 mod Quiet

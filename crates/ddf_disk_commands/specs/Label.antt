@@ -1,5 +1,5 @@
 -- What `label` does, and how it ends.
-use Rattle.std.specs.Prelude.{◌≡◌, ℕ, ◌<◌, List, length, codes, Some, None, Result, Ok, Err}
+use Rattle.std.specs.Prelude.{◌≡◌, ℕ, ◌*◌, ◌<◌, List, length, codes, Some, None, Result, Ok, Err}
 use Rattle.ddf_bytes.specs.declared.stamp.Stamp.{Stamp}
 use Rattle.ddf_bay.specs.Moments.{StopsLeave}
 use Rattle.ddf_bay.specs.ReadsOnly.{ReadsOnly, SlotRose}
@@ -15,6 +15,7 @@ use Rattle.ddf_words.specs.declared.command.DiskStyle.{DiskStyle}
 use Rattle.ddf_words.specs.declared.command.DiskStyle.TheVariants.{Linux, Standard}
 use Rattle.ddf_answer.specs.Answers.{IsToldFailure}
 use Rattle.ddf_answer.specs.Call.{Answer, Work}
+use Rattle.ddf_answer.specs.Costs.{WritesAtMost}
 use Rattle.ddf_disk_commands.specs.LabelRefusal.{chosen, label_refusal}
 use Rattle.ddf_answer.specs.Tells.{ClosesWith}
 
@@ -30,6 +31,10 @@ revision_of Linux = R120
 -- the copy that each of them gets, by its place
 abbrev pub label_copy : Revision → Stamp → List ℕ → (named : List ℕ) → ℕ → DiskCopy
 label_copy revision stamp sizes named = new_copy revision stamp (slot_sizes sizes (label_slots sizes named))
+
+-- the most sectors that each of them gets written: its two copies, of 39 sectors and a header that is written twice, and the anchor
+abbrev pub label_sectors : ℕ
+label_sectors = 83
 
 -- What it did, by its answer: the slots have their copies, sure; or else it was refused and nothing was written, or a call on a
 -- slot failed, or memory ran out and nothing was written.
@@ -52,10 +57,12 @@ IsToldLabel (Ok done) answer = ClosesWith 0 (codes "ok sequence 1\n") answer
 IsToldLabel (Err failure) answer = IsToldFailure failure answer
 
 -- It did this, and said so. A stop leaves each slot as it might have left it before, or blank, or with its copy, and no sector
--- before both places of the copy is written. Where it is to be refused nothing is written, whatever it answers.
+-- before both places of the copy is written. Where it is to be refused nothing is written, whatever it answers; and no more than the sectors
+-- of the slots' copies ever are.
 pub record IsLabelled {D : Type 0} (work : Work D) (revision : Revision) (stamp : Stamp) (named : List ℕ) (answer : Answer) : Type 0 where
   pub outcome : Result (Unit {0}) Failure
   pub tried : IsTried work revision stamp named outcome
   pub ends : IsToldLabel outcome answer
   pub any_moment : work.tells → StopsLeave work.old work.new (IsLeftFoundingAll work.old (label_slots work.old.sizes named) (label_copy revision stamp work.old.sizes named))
+  pub costs : WritesAtMost work (label_sectors * length (label_slots work.old.sizes named))
   pub refused : work.tells → (refusal : Refusal) → label_refusal work.old.sizes work.old.held named ≡ Some refusal → ReadsOnly work.old work.new

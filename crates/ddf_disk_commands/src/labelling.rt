@@ -1,13 +1,14 @@
 // `label`: the first copies of a new group's disks.
-ghost use Rattle.std.specs.Prelude.{◌≡◌, ◌<◌, Some, All, IfOk, length};
+ghost use Rattle.std.specs.Prelude.{◌≡◌, ◌*◌, ◌<◌, Some, All, IfOk, length};
 ghost use Rattle.ddf_bay.specs.Moments.{GoesOn, StopsLeave};
 ghost use Rattle.ddf_bay.specs.ReadsOnly.{ReadsOnly};
 ghost use Rattle.ddf_update.specs.Group.{AreFirst, IsLeftFoundingAll, slot_sizes};
 ghost use Rattle.ddf_update.specs.NewCopies.{new_copy};
 ghost use Rattle.ddf_config.specs.declared.refusal.Refusal.{Refusal};
-ghost use Rattle.ddf_disk_commands.specs.Label.{IsLabelled, IsTried, label_copy, label_slots, revision_of};
+ghost use Rattle.ddf_disk_commands.specs.Label.{IsLabelled, IsTried, label_copy, label_sectors, label_slots, revision_of};
 ghost use Rattle.ddf_disk_commands.specs.LabelRefusal.{IsFit, label_refusal};
 ghost use Rattle.ddf_answer.specs.Call.{answer_of, work_of};
+ghost use Rattle.ddf_answer.specs.Costs.{WritesAtMost};
 ghost use Rattle.ddf_answer.specs.Ends.{Ends};
 ghost use Rattle.ddf_words.specs.Traits.{traits_of};
 ghost use Rattle.ddf_words.specs.declared.command.Command.{Command};
@@ -62,6 +63,7 @@ fn labelled<B: Bay>(
     ensures any_moment { B.tells → StopsLeave (B.disks bay.old) (B.disks bay.new) (IsLeftFoundingAll (B.disks bay.old) (label_slots (B.disks bay.old).sizes named.now) (label_copy revision stamp.now (B.disks bay.old).sizes named.now)) }
     ensures goes_on { GoesOn (B.disks bay.old) (B.disks bay.new) }
     ensures same_sizes { (B.disks bay.new).sizes ≡ (B.disks bay.old).sizes }
+    ensures costs { WritesAtMost (work_of B.tells (B.disks bay.old) (B.disks bay.new)) (label_sectors * length (label_slots (B.disks bay.old).sizes named.now)) }
     ensures refused { B.tells → (refusal : Refusal) → label_refusal (B.disks bay.old).sizes (B.disks bay.old).held named.now ≡ Some refusal → ReadsOnly (B.disks bay.old) (B.disks bay.new) }
 {
     let slots = match fit_slots(alloc, named, bay) {

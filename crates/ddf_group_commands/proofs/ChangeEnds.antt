@@ -19,6 +19,7 @@ use Rattle.ddf_group_commands.specs.Change.{HasChanged, IsChangeDone, IsChangedI
 use Rattle.ddf_answer.specs.Ends.{Ends, HasCause, is_unwritten}
 use Rattle.ddf_assembly.specs.Committed.{slots_of}
 use Rattle.ddf_group_commands.proofs.Beside.{reads_beside}
+use Rattle.ddf_group_commands.proofs.Costs.{none_cost}
 use Rattle.ddf_group_commands.proofs.Keeping.{reads_keep}
 use Rattle.ddf_group_commands.proofs.LeftWriting.{reads_leave}
 use Rattle.ddf_answer.proofs.Causes.{closes_wrote, contradicted_told, fault_told, memory_cause, no_disk, refused_told, stream_cause, wrote}
@@ -109,6 +110,7 @@ spent_first old tells named timestamp request looked = record {
   seen = λ slot below kept. refl;
   gone = λ given. absurd (given refl);
   calls = omega arith;
+  costs = none_cost (work_of tells old old) timestamp request (group_of (newest_from old 0 looked.left) named) (reads_start old);
   gives = nothing_in old tells timestamp request (group_of (newest_from old 0 looked.left) named);
   leaves = λ told found is steps asked. reads_leave old old steps (reads_start old);
 }

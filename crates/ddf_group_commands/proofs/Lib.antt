@@ -10,3 +10,4 @@ mod ToldGroup
 mod Requested
 pub mod SeatReferences
 pub mod FewCalls
+pub mod Costs

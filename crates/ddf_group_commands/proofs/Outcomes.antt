@@ -26,12 +26,14 @@ use Rattle.ddf_answer.specs.declared.failure.Failure.{Failure}
 use Rattle.ddf_answer.specs.declared.failure.Failure.TheVariants.{Conflict, Disk, Memory, Refused, Split}
 use Rattle.ddf_answer.specs.Answers.{failure_of, failure_of_plan}
 use Rattle.ddf_answer.specs.Call.{Work, work_of}
-use Rattle.ddf_group_commands.specs.Change.{HasChanged, IsChanged, IsChangedIn, KeepsHistories, Request, TakesGroup, failure_of_group, is_done, steps_asked, steps_of, steps_or}
+use Rattle.ddf_group_commands.specs.Costs.{CostsOfAsked}
+use Rattle.ddf_group_commands.specs.Change.{CostsOfSteps, HasChanged, IsChanged, IsChangedIn, KeepsHistories, Request, TakesGroup, failure_of_group, is_done, steps_asked, steps_of, steps_or}
 use Rattle.ddf_group_commands.specs.GroupRead.{IsFoundBy, IsGroupRead, IsReadFrom, group_or}
 use Rattle.ddf_group_commands.specs.Requests.{at_most_one}
 use Rattle.ddf_group_commands.specs.Others.{LeavesOthers}
 use Rattle.ddf_group_commands.specs.Writing.{IsLeftWriting}
 use Rattle.ddf_group_commands.proofs.Beside.{beside_since, reads_beside}
+use Rattle.ddf_group_commands.proofs.Costs.{asked_since, none_cost}
 use Rattle.ddf_group_commands.proofs.Keeping.{reads_keep, since_entry}
 use Rattle.ddf_group_commands.proofs.LeftWriting.{leaves_since, reads_leave}
 use Rattle.ddf_answer.proofs.Rises.{look_still, rose_later}
@@ -134,7 +136,7 @@ takes_reading work named timestamp request found read reads = record {
   keeps = λ told one is steps asked. reads_keep work.old work.new read.left one steps reads;
 }
 
-memory_told : (failure : Failure) → ◌≡◌ {A = Result GroupValue Failure} (Err failure) (Err Memory) → ◌≡◌ {A = Result ℕ Failure} (Err failure) (Err Memory)
+pub memory_told : (failure : Failure) → ◌≡◌ {A = Result GroupValue Failure} (Err failure) (Err Memory) → ◌≡◌ {A = Result ℕ Failure} (Err failure) (Err Memory)
 memory_told failure spent = let same : failure ≡ Memory = cc in ap (λ (one : Failure). Err one) same
 
 -- where there is none, or memory ran out
@@ -146,6 +148,7 @@ none_read work named timestamp request failure read reads = record {
   seen = λ slot below kept. (read.seen slot below kept).0;
   gone = λ given. read.gone (λ spent. given (memory_told failure spent));
   calls = let most = read.calls in omega (arith, most);
+  costs = none_cost work timestamp request (group_of read.newest named) reads;
   gives = none_in work timestamp request (group_of read.newest named) failure reads read.answer;
   leaves = λ told found is steps asked. reads_leave work.old work.new steps reads;
 }
@@ -161,6 +164,7 @@ module _ {D : Type 0} (work : Work D) (named : Option (List ℕ)) (timestamp : �
     seen = λ slot below kept. (read.seen slot below kept).0;
     gone = λ given. read.gone (λ spent. absurd cc);
     calls = let most = read.calls in omega (arith, most);
+    costs = none_cost work timestamp request (group_of read.newest named) reads;
     gives = subst (λ (one : Result GroupValue Assembly). IsChangedIn work timestamp request one (Err failure)) (sym (group_read work named group read)) is;
     leaves = λ told found is steps asked. reads_leave work.old work.new steps reads;
   }
@@ -195,6 +199,7 @@ pub record HasWritten {D : Type 0} (tells : Type 0) (middle new : BayState D) (g
       → KeepsHistories middle new left group steps (is_done outcome)
   pub same_reads : new.failed_reads ≡ middle.failed_reads
   pub calls : new.calls ≤ middle.calls + 51 * length middle.sizes
+  pub costs : CostsOfAsked (work_of tells middle new) (steps_or (readied group changes timestamp))
   pub writes_rise : (slot : ℕ) → middle.failed_writes slot ≤ new.failed_writes slot
 
 module _ {D : Type 0} (tells : Type 0) (old middle new : BayState D) (reads : ReadsOnly old middle)
@@ -255,6 +260,9 @@ module _ {D : Type 0} (tells : Type 0) (old middle new : BayState D) (reads : Re
         seen = λ slot below kept. same_reads slot ∙ (read.seen slot below kept).0;
         gone = λ given. read.gone (λ spent. absurd cc);
         calls = let first = read.calls in let then = written.calls in let same = ap (λ (sizes : List ℕ). length sizes) reads.same_sizes in omega (arith, first, then, same);
+        costs = subst (λ (one : Result GroupValue Assembly). CostsOfSteps (work_of tells old new) timestamp request one) (sym (group_read (work_of tells old middle) named group read))
+            (subst (λ (asked : Result (List Step) Failure). CostsOfAsked (work_of tells old new) asked) (sym steps)
+            (asked_since tells old middle new reads (steps_or (readied group changes timestamp)) written.costs));
         gives = subst (λ (one : Result GroupValue Assembly). IsChangedIn (work_of tells old new) timestamp request one outcome) (sym (group_read (work_of tells old middle) named group read))
             (subst (λ (asked : Result (List Step) Failure). IsChanged (work_of tells old new) group asked outcome) (sym steps)
             (changed_before group (steps_or (readied group changes timestamp)) outcome written.changed));

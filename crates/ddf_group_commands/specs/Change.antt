@@ -29,6 +29,8 @@ use Rattle.ddf_answer.specs.declared.failure.Failure.{Failure}
 use Rattle.ddf_answer.specs.declared.failure.Failure.TheVariants.{Conflict, Disk, Memory, Refused, Split}
 use Rattle.ddf_answer.specs.Answers.{IsToldFailure, failure_of}
 use Rattle.ddf_answer.specs.Call.{Answer, Work}
+use Rattle.ddf_answer.specs.Costs.{WritesAtMost}
+use Rattle.ddf_group_commands.specs.Costs.{CostsOfAsked}
 use Rattle.ddf_group_commands.specs.Others.{LeavesOthers}
 use Rattle.ddf_answer.specs.Tells.{ClosesWith}
 use Rattle.ddf_group_commands.specs.Writing.{IsLeftWriting}
@@ -99,6 +101,11 @@ IsChangedIn work timestamp request (Ok group) outcome = IsChanged work group (st
 IsChangedIn work timestamp request (Err fault) outcome =
     ((outcome ≡ Err (failure_of fault)) ⊎ (outcome ≡ Err Memory)) × ReadsOnly work.old work.new
 
+-- It costs no more than the steps that were asked of the group that was found; without a group nothing.
+abbrev pub CostsOfSteps : {D : Type 0} → Work D → (timestamp : ℕ) → Request → Result GroupValue Assembly → Type 0
+CostsOfSteps work timestamp request (Ok found) = CostsOfAsked work (steps_of found timestamp request)
+CostsOfSteps work timestamp request (Err fault) = WritesAtMost work 0
+
 -- ---- what it means to histories
 
 abbrev pub is_done : Result ℕ Failure → Bool
@@ -136,6 +143,7 @@ pub record HasChanged {D : Type 0} (work : Work D) (named : Option (List ℕ)) (
   pub seen : (slot : ℕ) → slot < length taken.left → slice_index_or taken.left slot false ≡ false → work.new.failed_reads slot ≡ work.old.failed_reads slot
   pub gone : (outcome ≡ Err Memory → ⊥) → AreOut work.old taken.left
   pub calls : work.new.calls ≤ work.old.calls + most_calls (length work.old.sizes)
+  pub costs : CostsOfSteps work timestamp request (group_of taken.newest named)
   pub gives : IsChangedIn work timestamp request (group_of taken.newest named) outcome
   pub leaves : work.tells → (found : GroupValue) → group_of taken.newest named ≡ Ok found → (steps : List Step) → steps_of found timestamp request ≡ Ok steps
       → StopsLeave work.old work.new (IsLeftWriting work.old steps)

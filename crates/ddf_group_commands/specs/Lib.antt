@@ -1,6 +1,7 @@
 pub mod Others
 pub mod Written
 pub mod Writing
+pub mod Costs
 pub mod Change
 pub mod GroupRead
 pub mod Requests

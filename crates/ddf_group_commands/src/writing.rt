@@ -11,6 +11,7 @@ ghost use Rattle.ddf_assembly.specs.Slots.{LeaveNone};
 ghost use Rattle.ddf_assembly.specs.Steps.{Step};
 ghost use Rattle.ddf_answer.specs.Call.{work_of};
 ghost use Rattle.ddf_group_commands.specs.Change.{IsChanged, KeepsHistories, failure_of_group, is_done, steps_or};
+ghost use Rattle.ddf_group_commands.specs.Costs.{CostsOfAsked};
 ghost use Rattle.ddf_group_commands.specs.GroupRead.{IsFoundBy, IsGroupRead, IsReadFrom, IsReadLeavingOut};
 ghost use Rattle.ddf_group_commands.specs.Others.{LeavesOthers};
 ghost use Rattle.ddf_group_commands.specs.Writing.{IsLeftWriting};
@@ -105,6 +106,7 @@ pub(crate) fn write_changes<B: Bay>(
     ensures reads { (B.disks bay.new).failed_reads ≡ (B.disks bay.old).failed_reads }
     ensures writes_rise { (slot : ℕ) → (B.disks bay.old).failed_writes slot ≤ (B.disks bay.new).failed_writes slot }
     ensures calls { (B.disks bay.new).calls ≤ (B.disks bay.old).calls + 51 * length (B.disks bay.old).sizes }
+    ensures costs { CostsOfAsked (work_of B.tells (B.disks bay.old) (B.disks bay.new)) (steps_or (readied group.old changes.now timestamp)) }
 {
     let mut ready = match group.ready(alloc, changes, timestamp) {
         Ok(ready) => ready,

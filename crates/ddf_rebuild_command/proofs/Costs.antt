@@ -1,5 +1,5 @@
 -- How many sectors a rebuild asks for: the calls of a run, one behind another.
-use Rattle.std.proofs.Common.{◌≡◌, ℕ, ◌+◌, ◌-◌, ◌*◌, ◌≤◌, Bool, true, false, List, [], ◌∷◌, Option, None, Some, Ok, Err, Result, inl, subst, arith}
+use Rattle.std.proofs.Common.{◌≡◌, ℕ, ◌+◌, ◌-◌, ◌*◌, ◌≤◌, Bool, true, false, List, [], ◌∷◌, Option, None, Ok, Err, Result, inl, subst, arith}
 use Rattle.std.proofs.Math.Nat.{mul-le-mul_right}
 use Rattle.std.specs.Prelude.{min}
 use Rattle.ddf_bay.specs.Moments.{SpendsOver}
@@ -16,9 +16,13 @@ use Rattle.ddf_assembly.specs.Committed.{left_behind, next_updates, recovery_upd
 use Rattle.ddf_assembly.specs.Group.{GroupValue}
 use Rattle.ddf_assembly.specs.Ready.{ReadyStep, ReadyValue, all_ready}
 use Rattle.ddf_answer.specs.Call.{Work, work_of}
+use Rattle.ddf_answer.specs.Costs.{WritesAtMost}
+use Rattle.ddf_answer.proofs.Costs.{none_written}
+use Rattle.ddf_group_commands.specs.Costs.{ready_sectors}
 use Rattle.ddf_write_commands.specs.Around.{rest}
-use Rattle.ddf_rebuild_command.specs.Costs.{CostsOf, WritesAtMost, sectors_from, step_sectors}
-use Rattle.ddf_rebuild_command.specs.Opened.{sectors_before}
+use Rattle.ddf_write_commands.specs.Costs.{sectors_before}
+use Rattle.ddf_write_commands.proofs.Costs.{before_add}
+use Rattle.ddf_rebuild_command.specs.Costs.{CostsOf, sectors_from}
 
 -- ---- calls
 
@@ -58,18 +62,9 @@ abbrev with_steps : Option ReadyStep → List ReadyStep → ReadyValue
 with_steps recovery steps = record { recovery = recovery; steps = steps }
 
 next_add : (recovery : Option ReadyStep) (steps : List ReadyStep)
-    → all_sectors (next_updates (with_steps recovery steps)) + step_sectors (left_behind (with_steps recovery steps)).steps ≤ step_sectors steps
+    → all_sectors (next_updates (with_steps recovery steps)) + ready_sectors (left_behind (with_steps recovery steps)).steps ≤ ready_sectors steps
 next_add recovery [] = omega arith
 next_add recovery (one ∷ others) = omega arith
-
-before_add : (begins : Bool) (recovery : Option ReadyStep) (steps : List ReadyStep)
-    → sectors_before begins (with_steps recovery steps) + step_sectors (rest begins steps) ≤ step_sectors (all_ready (with_steps recovery steps))
-before_add true None [] = omega arith
-before_add true None (one ∷ others) = omega arith
-before_add true (Some recovery) [] = omega arith
-before_add true (Some recovery) (one ∷ others) = omega arith
-before_add false None steps = omega arith
-before_add false (Some recovery) steps = omega arith
 
 -- ---- the first steps
 
@@ -90,47 +85,41 @@ first_behind false is ready now_ready same recovers writes = absurd cc
 
 module _ {D : Type 0} {old middle : BayState D} (shape : Placement) (from row : ℕ) (ready : ReadyValue) where
   -- The first failed,
-  pub first_asks : AsksFor old middle (sectors_of shape from row + all_sectors (next_updates ready)) → AsksFor old middle (step_sectors ready.steps + sectors_from shape from)
+  pub first_asks : AsksFor old middle (sectors_of shape from row + all_sectors (next_updates ready)) → AsksFor old middle (ready_sectors ready.steps + sectors_from shape from)
   first_asks first =
       let rows = rows_below shape from row in
       let steps = next_add ready.recovery ready.steps in
-      asks_most (step_sectors ready.steps + sectors_from shape from) (omega (arith, rows, steps)) first
+      asks_most (ready_sectors ready.steps + sectors_from shape from) (omega (arith, rows, steps)) first
 
   -- or was done, and others behind it.
   pub rounds_ask : {new : BayState D} → from ≤ row → (now_ready : ReadyValue) → now_ready ≡ left_behind ready → AsksFor old middle (sectors_of shape from row + all_sectors (next_updates ready))
-      → AsksFor middle new (step_sectors now_ready.steps + sectors_from shape row) → AsksFor old new (step_sectors ready.steps + sectors_from shape from)
+      → AsksFor middle new (ready_sectors now_ready.steps + sectors_from shape row) → AsksFor old new (ready_sectors ready.steps + sectors_from shape from)
   rounds_ask {new = new} le now_ready is first others =
       let rows = rows_add shape from row le in
       let steps = next_add ready.recovery ready.steps in
-      asks_then (step_sectors ready.steps + sectors_from shape from) (omega (arith, rows, steps)) first
-      (subst (λ (one : ReadyValue). AsksFor middle new (step_sectors one.steps + sectors_from shape row)) is others)
+      asks_then (ready_sectors ready.steps + sectors_from shape from) (omega (arith, rows, steps)) first
+      (subst (λ (one : ReadyValue). AsksFor middle new (ready_sectors one.steps + sectors_from shape row)) is others)
 
 -- ---- a run
 
 module _ {D : Type 0} {old middle : BayState D} (begins : Bool) (ready : ReadyValue) (most : ℕ) where
   -- The first steps were not written,
-  pub opening_asks : AsksFor old middle (sectors_before begins ready) → AsksFor old middle (step_sectors (all_ready ready) + most)
+  pub opening_asks : AsksFor old middle (sectors_before begins ready) → AsksFor old middle (ready_sectors (all_ready ready) + most)
   opening_asks opens =
       let steps = before_add begins ready.recovery ready.steps in
-      asks_most (step_sectors (all_ready ready) + most) (omega (arith, steps)) opens
+      asks_most (ready_sectors (all_ready ready) + most) (omega (arith, steps)) opens
 
   -- or were, and the rounds behind them.
   pub filling_asks : {new : BayState D} → (now_ready : ReadyValue) → now_ready ≡ record { recovery = None; steps = rest begins ready.steps } → AsksFor old middle (sectors_before begins ready)
-      → AsksFor middle new (step_sectors now_ready.steps + most) → AsksFor old new (step_sectors (all_ready ready) + most)
+      → AsksFor middle new (ready_sectors now_ready.steps + most) → AsksFor old new (ready_sectors (all_ready ready) + most)
   filling_asks {new = new} now_ready is opens rounds =
       let steps = before_add begins ready.recovery ready.steps in
-      asks_then (step_sectors (all_ready ready) + most) (omega (arith, steps)) opens
-      (subst (λ (one : ReadyValue). AsksFor middle new (step_sectors one.steps + most)) is rounds)
+      asks_then (ready_sectors (all_ready ready) + most) (omega (arith, steps)) opens
+      (subst (λ (one : ReadyValue). AsksFor middle new (ready_sectors one.steps + most)) is rounds)
 
 -- ---- a call
 
 -- It only read,
-pub none_written : {D : Type 0} (work : Work D) → ReadsOnly work.old work.new → WritesAtMost work 0
-none_written work reads = record {
-  asked = let same = reads.none_asked in omega (arith, same);
-  written = let same = reads.none_written in omega (arith, same);
-}
-
 pub none_cost : {D : Type 0} (work : Work D) (timestamp : ℕ) (word : List ℕ) → ReadsOnly work.old work.new → (meaning : Result GroupValue Assembly) → CostsOf work timestamp word meaning
 none_cost work timestamp word reads (Ok found) = inl (none_written work reads)
 none_cost work timestamp word reads (Err fault) = none_written work reads

@@ -5,7 +5,6 @@ use Rattle.ddf_bay.specs.ReadsOnly.{ReadsOnly}
 use Rattle.ddf_bay.specs.Sectors.{Image}
 use Rattle.ddf_bay.specs.State.{BayState}
 use Rattle.ddf_config.specs.Seats.{SeatsFit}
-use Rattle.ddf_plan.specs.declared.change.Change.{Change}
 use Rattle.ddf_repair.specs.declared.first.Target.{Target}
 use Rattle.ddf_array.specs.Volume.{Volume}
 use Rattle.ddf_array.specs.declared.part.Part.{Part}
@@ -20,17 +19,24 @@ use Rattle.ddf_assembly.specs.Steps.{Step}
 use Rattle.ddf_data_stops.specs.Floors.{AreFloored}
 use Rattle.ddf_answer.specs.Call.{work_of}
 use Rattle.ddf_answer.specs.declared.failure.Failure.{Failure}
+use Rattle.ddf_answer.specs.Costs.{WritesAtMost}
+use Rattle.ddf_answer.proofs.Costs.{writes_most}
 use Rattle.ddf_group_commands.specs.Change.{steps_of as steps_asked, steps_or}
+use Rattle.ddf_group_commands.specs.Costs.{CostsOfAsked, ready_sectors, steps_sectors}
 use Rattle.ddf_group_commands.specs.GroupRead.{IsReadFrom}
+use Rattle.ddf_group_commands.proofs.Costs.{readied_costs, ready_count, recovery_within}
+use Rattle.ddf_group_commands.proofs.StepsWritten.{steps_in}
 use Rattle.ddf_write_commands.specs.Opened.{AreMembers}
+use Rattle.ddf_write_commands.proofs.OnePlan.{same_ok}
 use Rattle.ddf_rebuild_command.specs.declared.planning.Filling.{Filling}
 use Rattle.ddf_rebuild_command.specs.declared.planning.Plan.{Plan}
-use Rattle.ddf_rebuild_command.specs.Asked.{rebuild_request, rows_in}
-use Rattle.ddf_rebuild_command.specs.Costs.{CostsOf, sectors_from, step_sectors}
+use Rattle.ddf_rebuild_command.specs.Asked.{changes_behind, rebuild_request, rows_in}
+use Rattle.ddf_rebuild_command.specs.Costs.{CostsOf, sectors_from}
 use Rattle.ddf_rebuild_command.specs.Filled.{CanFill}
 use Rattle.ddf_rebuild_command.specs.Opened.{CanOpen}
 use Rattle.ddf_rebuild_command.specs.Planned.{first_row}
-use Rattle.ddf_rebuild_command.specs.Plans.{IsFillingIn, IsFillingOf, IsNothingTo, IsPlanOf, begun_config}
+use Rattle.ddf_rebuild_command.specs.Plans.{IsFillingIn, IsFillingOf, IsPlanOf, begun_config}
+use Rattle.ddf_rebuild_command.specs.Rounds.{steps_of}
 use Rattle.ddf_rebuild_command.specs.Run.{AsksInRun, CanFillBehind, IsRun}
 use Rattle.ddf_rebuild_command.specs.Standing.{recovery_in}
 use Rattle.ddf_rebuild_command.proofs.Costs.{most_since}
@@ -110,20 +116,15 @@ module _ (found : GroupValue) (word : List ℕ) (plan : Plan) (timestamp : ℕ) 
 
   -- What the run costs since the entry of its call.
   module _ {D : Type 0} (tells : Type 0) (entry start new : BayState D) (reads : ReadsOnly entry start) where
-    no_changes : plan.filling ≡ None → plan.changes ≡ []
-    no_changes e =
-        let fills : IsNothingTo (config_recovered found) found.seats is.entry plan.changes = subst (IsFillingIn (config_recovered found) found.seats is.entry plan.changes) e is.fills in
-        fills.no_changes
-
     abbrev AsksFrom : Volume → Target → ℕ → Type 0
-    AsksFrom volume target from = (part : Part) → slice_get volume.parts target.element ≡ Some part → AsksFor start new (step_sectors (all_ready ready) + sectors_from part.shape from)
+    AsksFrom volume target from = (part : Part) → slice_get volume.parts target.element ≡ Some part → AsksFor start new (ready_sectors (all_ready ready) + sectors_from part.shape from)
 
     costs_by : (filling : Option Filling) → plan.filling ≡ filling → AsksInRun start new ready filling → CostsOf (work_of tells entry new) timestamp word (Ok found)
     costs_by None e asks = inr (inl (record {
       idle = (plans.idle found word plan timestamp is members ready was e).0;
-      ready = ready;
-      was = subst (λ (changes : List Change). WasReadied found changes timestamp ready) (no_changes e) was;
-      most = most_since tells entry start new reads (all_sectors (recovery_updates ready)) asks;
+      most = subst (λ (asked : Result (List Step) Failure). CostsOfAsked (work_of tells entry new) asked) (sym (plans.steps_are found word plan timestamp is))
+          (readied_costs found plan.changes timestamp ready was (work_of tells entry new)
+          (writes_most (ready_sectors (all_ready ready)) (recovery_within ready.recovery ready.steps) (most_since tells entry start new reads (all_sectors (recovery_updates ready)) asks)));
     }))
     costs_by (Some filling) e asks =
         let for = planned filling e in
@@ -133,11 +134,13 @@ module _ (found : GroupValue) (word : List ℕ) (plan : Plan) (timestamp : ℕ) 
         subst (λ (volume : Volume). AsksFrom volume fills.target (first_row fills)) (sym for.volume_is)
         (subst (λ (target : Target). AsksFrom filling.view target (first_row fills)) (sym for.target_is)
         (subst (λ (from : ℕ). AsksFrom filling.view filling.target from) (sym for.from_is) asks)) in
+        let rows = sectors_from part.shape (first_row fills) in
+        let same : steps_in (all_ready ready) ≡ fills.first ++ steps_of fills.rounds = same_ok (sym for.was.is_readied ∙ fills.are_readied) in
+        let count = ready_count found (fills.before ++ changes_behind fills.entry fills.target fills.kept) timestamp ready for.was ∙ ap steps_sectors same in
         inr (inr (record {
           plan = fills;
-          ready = ready;
-          was = for.was;
-          most = most_since tells entry start new reads (step_sectors (all_ready ready) + sectors_from part.shape (first_row fills)) (asks_plan part fills.is_out.is_target.is_part);
+          most = subst (λ (n : ℕ). WritesAtMost (work_of tells entry new) (n + rows)) count
+              (most_since tells entry start new reads (ready_sectors (all_ready ready) + rows) (asks_plan part fills.is_out.is_target.is_part));
         }))
 
     pub costs : AsksInRun start new ready plan.filling → CostsOf (work_of tells entry new) timestamp word (Ok found)

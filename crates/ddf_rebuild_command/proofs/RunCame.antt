@@ -27,7 +27,7 @@ use Rattle.ddf_group_commands.specs.GroupRead.{IsFoundBy, IsGroupRead, group_or}
 use Rattle.ddf_group_commands.specs.Others.{LeavesOthers}
 use Rattle.ddf_group_commands.proofs.Beside.{reads_beside}
 use Rattle.ddf_group_commands.proofs.Keeping.{reads_keep}
-use Rattle.ddf_group_commands.proofs.Outcomes.{group_read}
+use Rattle.ddf_group_commands.proofs.Outcomes.{group_read, memory_told}
 use Rattle.ddf_write_commands.specs.Plans.{IsNotReadied}
 use Rattle.ddf_rebuild_command.specs.Along.{ComesAlong}
 use Rattle.ddf_rebuild_command.specs.Asked.{rebuild_request}
@@ -91,6 +91,7 @@ module _ {D : Type 0} (work : Work D) (named : Option (List ℕ)) (timestamp : �
       beside = λ told one is. reads_beside work.old work.new (slots_of one.seats) reads;
       keeps = λ told one is steps asked. reads_keep work.old work.new read.left one steps reads;
     };
+    gone = λ given. read.gone (λ spent. given (memory_told failure spent));
     gives = none_in (group_of read.newest named) failure read.answer;
     leaves = λ told. nothing_left (group_of read.newest named);
     along = λ told. no_along read.left (group_of read.newest named);
@@ -110,6 +111,7 @@ module _ {D : Type 0} (work : Work D) (named : Option (List ℕ)) (timestamp : �
       beside = λ told one is. reads_beside work.old work.new (slots_of one.seats) reads;
       keeps = λ told one is steps asked. reads_keep work.old work.new read.left one steps reads;
     };
+    gone = λ given. read.gone (λ spent. absurd cc);
     gives = subst (λ (one : Result GroupValue Assembly). IsRebuiltIn work timestamp word one (Err failure)) (sym (group_read work named group read)) is;
     leaves = λ told. nothing_left (group_of read.newest named);
     along = λ told. no_along read.left (group_of read.newest named);
@@ -174,6 +176,7 @@ module _ {D : Type 0} (tells : Type 0) (entry start new : BayState D) (reads : R
       keeps = λ told. of_found (λ found. (steps : List Step) → steps_asked found timestamp (rebuild_request word) ≡ Ok steps → KeepsHistories entry new read.left found steps (is_done outcome))
           (λ steps asked. subst (λ (all : List Step). KeepsHistories entry new read.left group all (is_done outcome)) (asked_same steps asked) (has.keeps told read.left named (found_by told)));
     };
+    gone = λ given. read.gone (λ spent. absurd cc);
     gives = subst (λ (one : Result GroupValue Assembly). IsRebuiltIn work timestamp word one outcome) (sym is_group) has.gives;
     leaves = λ told. of_found (λ found. (steps : List Step) → steps_asked found timestamp (rebuild_request word) ≡ Ok steps → StopsLeave entry new (MayBeLeft work found timestamp word steps))
         (λ steps asked. subst (λ (all : List Step). StopsLeave entry new (MayBeLeft work group timestamp word all)) (asked_same steps asked) (has.leaves told));

@@ -1,18 +1,17 @@
 -- A group that is recovered, and whose position gets a spare, so that its rows can be filled.
-use Rattle.std.specs.Prelude.{◌≡◌, ℕ, ◌+◌, ◌≤◌, Bool, true, false, List, [], ◌++◌, length, Option}
+use Rattle.std.specs.Prelude.{◌≡◌, ℕ, ◌≤◌, Bool, List, [], ◌++◌, length, Option, true}
 use Rattle.std.specs.List.{AllByRecursion}
 use Rattle.ddf_bay.specs.Moments.{StopsLeave}
 use Rattle.ddf_bay.specs.Sectors.{Image, IsLeft}
 use Rattle.ddf_bay.specs.State.{BayState}
 use Rattle.ddf_cells.specs.Touching.{GoesBetween}
 use Rattle.ddf_plan.specs.declared.change.Change.{Change}
-use Rattle.ddf_update.specs.Prepared.{all_sectors}
 use Rattle.ddf_history.specs.Groups.{groups}
 use Rattle.ddf_history.specs.Issued.{Past}
 use Rattle.ddf_history.specs.Promise.{IsKept}
 use Rattle.ddf_history.specs.Scenes.{scene_of}
 use Rattle.ddf_assembly.specs.Asked.{CanBeAsked}
-use Rattle.ddf_assembly.specs.Committed.{WasReadied, next_updates, recovery_updates, slots_of}
+use Rattle.ddf_assembly.specs.Committed.{WasReadied, slots_of}
 use Rattle.ddf_assembly.specs.Group.{GroupValue}
 use Rattle.ddf_assembly.specs.Ready.{ReadyValue}
 use Rattle.ddf_assembly.specs.Recovery.{config_recovered, some}
@@ -33,11 +32,6 @@ use Rattle.ddf_rebuild_command.specs.Standing.{AddsNothing, KeepSeats, Stands, n
 -- the steps before the rows: the recovery, and where the position gets a spare, the first of the others
 abbrev pub steps_before : (begins : Bool) → ReadyValue → List Step
 steps_before begins ready = recovery_in ready.recovery ++ next_if begins ready.steps
-
--- and their sectors
-abbrev pub sectors_before : (begins : Bool) → ReadyValue → ℕ
-sectors_before true ready = all_sectors (recovery_updates ready) + all_sectors (next_updates ready)
-sectors_before false ready = all_sectors (recovery_updates ready)
 
 -- A group that was read from disks can be recovered and changed by what was readied of it. Each of its seats is a current member's then, and
 -- stays.

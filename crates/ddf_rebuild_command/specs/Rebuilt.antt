@@ -13,6 +13,7 @@ use Rattle.ddf_stops.specs.Kept.{AreAllKept}
 use Rattle.ddf_group.specs.declared.answer.Assembly.{Assembly}
 use Rattle.ddf_assembly.specs.Committed.{AreSettled, slots_of}
 use Rattle.ddf_assembly.specs.Group.{GroupValue, group_of}
+use Rattle.ddf_assembly.specs.Slots.{AreOut}
 use Rattle.ddf_assembly.specs.Steps.{Step}
 use Rattle.ddf_answer.specs.declared.failure.Failure.{Failure}
 use Rattle.ddf_answer.specs.declared.failure.Failure.TheVariants.{Conflict, Disk, Memory, Refused, Split}
@@ -91,9 +92,10 @@ GoesAlong work timestamp word left meaning done =
 
 -- ---- the command
 
--- A call came to this: what it made of the group that it took.
+-- A call came to this: what it made of the group that it took. A slot of which every call fails is left out, but where memory ran out.
 pub record HasRebuiltArray {D : Type 0} (work : Work D) (named : Option (List ℕ)) (timestamp : ℕ) (word : List ℕ) (outcome : Result ℕ Failure) : Type 0 where
   pub taken : TakesGroup work named timestamp (rebuild_request word) (is_done outcome)
+  pub gone : (outcome ≡ Err Memory → ⊥) → AreOut work.old taken.left
   pub gives : IsRebuiltIn work timestamp word (group_of taken.newest named) outcome
   pub leaves : work.tells → LeavesRebuilding work timestamp word (group_of taken.newest named)
   pub along : work.tells → GoesAlong work timestamp word taken.left (group_of taken.newest named) (is_done outcome)

@@ -8,9 +8,10 @@ use Rattle.ddf_assembly.specs.Committed.{recovery_updates, slots_of}
 use Rattle.ddf_assembly.specs.Group.{GroupValue}
 use Rattle.ddf_assembly.specs.Ready.{ReadyValue, all_ready}
 use Rattle.ddf_answer.specs.declared.failure.Failure.{Failure}
+use Rattle.ddf_group_commands.specs.Costs.{ready_sectors}
 use Rattle.ddf_write_commands.specs.Around.{rest}
 use Rattle.ddf_rebuild_command.specs.declared.planning.Filling.{Filling}
-use Rattle.ddf_rebuild_command.specs.Costs.{sectors_from, step_sectors}
+use Rattle.ddf_rebuild_command.specs.Costs.{sectors_from}
 use Rattle.ddf_rebuild_command.specs.Filled.{AreFilled, CanFill, GoesFilling, IsFillFault, rounds_in}
 use Rattle.ddf_rebuild_command.specs.Opened.{GoesOpening, IsOpened, steps_before}
 use Rattle.ddf_rebuild_command.specs.Rounds.{Round}
@@ -28,7 +29,7 @@ ready_behind filling ready = record { recovery = None; steps = rest filling.begi
 abbrev pub AsksInRun : {D : Type 0} → (old new : BayState D) → ReadyValue → Option Filling → Type 0
 AsksInRun old new ready None = AsksFor old new (all_sectors (recovery_updates ready))
 AsksInRun old new ready (Some filling) =
-    (part : Part) → slice_get filling.view.parts filling.target.element ≡ Some part → AsksFor old new (step_sectors (all_ready ready) + sectors_from part.shape filling.from)
+    (part : Part) → slice_get filling.view.parts filling.target.element ≡ Some part → AsksFor old new (ready_sectors (all_ready ready) + sectors_from part.shape filling.from)
 
 -- Its rows can be filled behind them, and a step is left for each.
 pub record CanFillBehind (sizes : List ℕ) (found : GroupValue) (filling : Filling) (ready : ReadyValue) : Type 0 where

@@ -5,7 +5,8 @@ ghost use Rattle.ddf_array.specs.declared.part.Part.{Part};
 ghost use Rattle.ddf_update.specs.Prepared.{all_sectors};
 ghost use Rattle.ddf_rebuild.specs.Rebuilding.{sectors_of};
 ghost use Rattle.ddf_assembly.specs.Committed.{left_behind, next_updates};
-ghost use Rattle.ddf_rebuild_command.specs.Costs.{sectors_from, step_sectors};
+ghost use Rattle.ddf_group_commands.specs.Costs.{ready_sectors};
+ghost use Rattle.ddf_rebuild_command.specs.Costs.{sectors_from};
 ghost use Rattle.ddf_rebuild_command.specs.Filled.{AreFilled, CanFill, GoesFilling, IsFillFault, rounds_in};
 ghost use Rattle.ddf_rebuild_command.specs.Standing.{Stands};
 
@@ -65,7 +66,7 @@ pub(crate) fn fill<B: Bay>(
     ensures failed { IfErr result (λ failure. (end : ℕ) → CanFill (B.disks bay.old).sizes group.old.seats filling.now.view filling.now.target end from rows.now
         → IsFillFault B.tells (B.disks bay.old) (B.disks bay.new) filling.now.view filling.now.target from (rounds_in rows.now ready.old.steps) group.old ready.old end failure) }
     ensures asks { (part : Part) → slice_get filling.now.view.parts filling.now.target.element ≡ Some part
-        → AsksFor (B.disks bay.old) (B.disks bay.new) (step_sectors ready.old.steps + sectors_from part.shape from) }
+        → AsksFor (B.disks bay.old) (B.disks bay.new) (ready_sectors ready.old.steps + sectors_from part.shape from) }
 {
     let Some((row, later)) = rows.split_first() else {
         return Ok(());

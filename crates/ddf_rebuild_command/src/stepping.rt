@@ -8,8 +8,9 @@ ghost use Rattle.ddf_assembly.specs.Assembled.{IsAssembledGroup};
 ghost use Rattle.ddf_assembly.specs.Committed.{WasReadied, next_updates, recovery_updates, slots_of};
 ghost use Rattle.ddf_assembly.specs.Ready.{readied};
 ghost use Rattle.ddf_write_commands.specs.Around.{rest};
+ghost use Rattle.ddf_write_commands.specs.Costs.{sectors_before};
 ghost use Rattle.ddf_write_commands.specs.Plans.{IsNotReadied};
-ghost use Rattle.ddf_rebuild_command.specs.Opened.{CanOpen, GoesOpening, IsOpened, sectors_before, steps_before};
+ghost use Rattle.ddf_rebuild_command.specs.Opened.{CanOpen, GoesOpening, IsOpened, steps_before};
 ghost use Rattle.ddf_rebuild_command.specs.Standing.{GoesNext, IsNextWritten, IsSlotFault, Stands, recovery_in};
 
 use crate::planning::Plan;

@@ -69,10 +69,6 @@ last_behind : (config : Configuration) (first last : List Step) → last_sequenc
 last_behind config [] last = refl
 last_behind config (step ∷ first) last = last_behind step.config first last
 
-none_first : {X : Type 0} (first last : List X) → first ++ last ≡ [] → (first ≡ []) × (last ≡ [])
-none_first [] last none = (refl, none)
-none_first (x ∷ first) last none = absurd cc
-
 -- ---- a call that failed before the blocks
 
 module _ {D : Type 0} (doing : Doing) (work : Work D) (found : GroupValue) (timestamp : ℕ) (word : List ℕ) (request : Request) where
@@ -341,12 +337,6 @@ module _ {D : Type 0} (tells : Type 0) (doing : Doing) (steady : IsSteady doing)
                   (subst (λ (sizes : List ℕ). AreWritten sizes behind.held last new.held) same_sizes_behind (written.are_written told));
               are_settled = subst (λ (seats : List Seat). AreSettled new seats (length seats)) opens.same_seats (written.are_settled told);
             };
-            few_asked = λ none.
-                let parts = none_first plan.first plan.last none in
-                let before = opens.none_asked (sym first_is ∙ parts.0) in
-                let after = written.none_asked (sym last_is ∙ parts.1) in
-                let most = works.asked in
-                subst (λ (v : Volume). new.sectors_asked ≤ old.sectors_asked + doing.most_sectors v) (sym volume_is) (omega (arith, before, after, most));
           }
 
           close_failed : (slot : ℕ) → IsOneOf (slots_of now_found.seats) slot → Rose (behind.failed_writes slot) (new.failed_writes slot) → IsArrayStopped doing all found timestamp word request slot

@@ -10,8 +10,9 @@ pub mod SlotsThere
 mod PlanKept
 mod PlanMade
 mod Works
+pub mod Costs
 pub mod Parts
-mod OnePlan
+pub mod OnePlan
 mod ResyncWorks
 mod Between
 pub mod Arrays

@@ -66,4 +66,4 @@ module _ {D : Type 0} (tells : Type 0) (old opened behind : BayState D) (found :
 -- What the command came to.
 pub has_resynced : {D : Type 0} (work : Work D) (named : Option (List ℕ)) (timestamp : ℕ) (word : List ℕ) (outcome : Result ℕ Failure) → HasComeTo resyncing work named timestamp word (resync_request word) outcome
     → HasResyncedArray work named timestamp word outcome
-has_resynced work named timestamp word outcome come = record { taken = come.taken; gives = come.gives; leaves = come.leaves; along = come.along }
+has_resynced work named timestamp word outcome come = record { taken = come.taken; gone = come.gone; gives = come.gives; leaves = come.leaves; along = come.along; costs = come.costs }

@@ -1,5 +1,5 @@
 -- What a resync promises as a work on the blocks of an array.
-use Rattle.std.proofs.Common.{◌≡◌, ◌⊎◌, ℕ, ◌+◌, ◌<◌, ◌≤◌, Bool, true, false, List, map, Some, if◌then◌else◌, inl, inr, ⊎_elim, refl, arith}
+use Rattle.std.proofs.Common.{◌≡◌, ◌⊎◌, ℕ, ◌+◌, ◌<◌, ◌≤◌, Bool, true, false, List, map, Some, if◌then◌else◌, inl, inr, ⊎_elim, refl}
 use Rattle.ddf_bay.specs.Moments.{StopsLeave}
 use Rattle.ddf_bay.specs.Sectors.{Image}
 use Rattle.ddf_bay.specs.State.{BayState}
@@ -18,6 +18,9 @@ use Rattle.ddf_resync.specs.Several.{resync_sectors}
 use Rattle.ddf_update.specs.Group.{IsOneOf}
 use Rattle.ddf_assembly.specs.Committed.{slots_of}
 use Rattle.ddf_data_stops.specs.Floors.{StaySettled}
+use Rattle.ddf_answer.specs.Call.{work_of}
+use Rattle.ddf_answer.specs.Costs.{WritesAtMost}
+use Rattle.ddf_answer.proofs.Costs.{none_written}
 use Rattle.ddf_write_commands.specs.Resync.{resyncing}
 use Rattle.ddf_write_commands.proofs.Works.{HasStopped, HasWorked, IsSteady}
 
@@ -66,6 +69,16 @@ resync_steady = record {
 
 -- ---- what the call promises
 
+module _ {D : Type 0} (tells : Type 0) (volume : Volume) (old new : BayState D) where
+  costs_by : (b : Bool) → (b ≡ false → IsUntouched old new) → WritesAtMost (work_of tells old new) (resync_sectors volume) → WritesAtMost (work_of tells old new) (if b then resync_sectors volume else 0)
+  costs_by true idle writes = writes
+  costs_by false idle writes = none_written (work_of tells old new) (idle refl).0
+
+  -- It asks for no more than its sectors, and for none where the array keeps what it holds in one place.
+  pub resync_costs : new.sectors_asked ≤ old.sectors_asked + resync_sectors volume → new.sectors_written ≤ old.sectors_written + resync_sectors volume
+      → (is_redundant volume ≡ false → IsUntouched old new) → WritesAtMost (work_of tells old new) (resyncing.most_sectors volume)
+  resync_costs asked written idle = costs_by (is_redundant volume) idle (record { asked = asked; written = written })
+
 module _ {D : Type 0} (tells : Type 0) (volume : Volume) (old new : BayState D) (floor : ℕ → ℕ)
     (under : (s l : ℕ) (bytes : List ℕ) → MayResync volume tells old.held s l bytes → l < floor s) where
   -- what it gives a sector, where the bay tells what it holds
@@ -74,17 +87,11 @@ module _ {D : Type 0} (tells : Type 0) (volume : Volume) (old new : BayState D) 
       (λ taken. inl (record { block = taken.block; i = taken.i; is_cell = taken.is_cell; several = taken.several; held = λ unit. taken.held told }))
       (λ parity. inr parity) may
 
-  asked_by : (b : Bool) → is_redundant volume ≡ b → (b ≡ false → new.sectors_asked ≡ old.sectors_asked) → new.sectors_asked ≤ old.sectors_asked + resync_sectors volume
-      → new.sectors_asked ≤ old.sectors_asked + (if b then resync_sectors volume else 0)
-  asked_by true e idle asked = asked
-  asked_by false e idle asked = let same = idle refl in omega (arith, same)
-
   pub resync_worked : (done : Bool) → (told_back : new.tells_left → old.tells_left)
       → StopsLeave old new (IsAmongResynced volume tells old.held old.may_hold) → AddsResynced volume tells old.held old.may_hold new.may_hold
       → (tells → IsLeftByResync volume tells old.held new.held) → (tells → done ≡ true → HasResynced (Failed old new) volume old.held new.held)
-      → (tells → done ≡ true → StaySettled old new) → GoesBetween old new → new.sectors_asked ≤ old.sectors_asked + resync_sectors volume
-      → (is_redundant volume ≡ false → IsUntouched old new) → HasWorked resyncing tells floor volume old new done
-  resync_worked done told_back moments left held resynced settled goes asked idle = record {
+      → (tells → done ≡ true → StaySettled old new) → GoesBetween old new → HasWorked resyncing tells floor volume old new done
+  resync_worked done told_back moments left held resynced settled goes = record {
     below = λ told. record {
       same_sizes = goes.same_sizes;
       told = told_back;
@@ -96,7 +103,6 @@ module _ {D : Type 0} (tells : Type 0) (volume : Volume) (old new : BayState D) 
     among = λ told. stops_weaken moments (λ image among s l. ⊎_elim inl (λ given. inr (told_given told s l (image s l) given)) (among s l));
     is_left = λ told s l. ⊎_elim inl (λ given. inr (told_given told s l (new.held s l) given)) (held told s l);
     has_done = resynced;
-    asked = asked_by (is_redundant volume) refl (λ none. (idle none).0.none_asked) asked;
     goes = goes;
   }
 

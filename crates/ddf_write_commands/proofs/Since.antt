@@ -16,7 +16,7 @@ use Rattle.ddf_assembly.specs.Committed.{slots_of}
 use Rattle.ddf_assembly.specs.Group.{GroupValue, group_of}
 use Rattle.ddf_assembly.specs.declared.fault.GroupFault.{GroupFault}
 use Rattle.ddf_assembly.specs.Recovery.{config_recovered}
-use Rattle.ddf_assembly.specs.Slots.{newest_from}
+use Rattle.ddf_assembly.specs.Slots.{AreOut, newest_from}
 use Rattle.ddf_assembly.specs.Steps.{Step}
 use Rattle.ddf_history.specs.Groups.{groups}
 use Rattle.ddf_history.specs.Issued.{Past}
@@ -34,14 +34,16 @@ use Rattle.ddf_group_commands.specs.Others.{LeavesOthers}
 use Rattle.ddf_group_commands.specs.Written.{AreWritten}
 use Rattle.ddf_group_commands.proofs.Beside.{beside_since, reads_beside}
 use Rattle.ddf_group_commands.proofs.Keeping.{reads_keep, since_entry}
-use Rattle.ddf_group_commands.proofs.Outcomes.{group_read}
+use Rattle.ddf_group_commands.proofs.Outcomes.{group_read, memory_told}
 use Rattle.ddf_write_commands.specs.Along.{AllComeAlong, ComesAlong, GoesAlong, HasCome, IsAlong, IsLeftAt, Stage}
 use Rattle.ddf_write_commands.specs.Along.Stage.{Closing, Done, Opening, Working}
+use Rattle.ddf_write_commands.specs.Costs.{CostsOfDoing, CostsOfPlan}
 use Rattle.ddf_write_commands.specs.Doing.{Doing}
 use Rattle.ddf_write_commands.specs.Holding.{holding}
 use Rattle.ddf_write_commands.specs.Planned.{Entry, IsPlanned, Refusing, request_around}
 use Rattle.ddf_write_commands.specs.Plans.{IsNotReadied, MayPlan}
 use Rattle.ddf_write_commands.specs.Worked.{IsArrayLeft, IsLeftClosing, IsLeftDoing, IsLeftWorking, IsWorkedIn, IsWorkedOf, LeavesDoing}
+use Rattle.ddf_write_commands.proofs.Costs.{unwritten_costs, plan_since}
 use Rattle.ddf_write_commands.proofs.Works.{IsSteady}
 use Rattle.ddf_stops.proofs.Entering.{admitted_still, kept_still}
 use Rattle.ddf_group_commands.proofs.LeftWriting.{left_still, writing_more, writing_since}
@@ -57,6 +59,7 @@ pub record HasDoneArray {D : Type 0} (doing : Doing) (tells : Type 0) (middle ne
       → KeepsHistories middle new left group steps (is_done outcome)
   pub along : tells → (left : List Bool) (named : Option (List ℕ)) → IsFoundBy middle left named group → AllComeAlong doing (work_of tells middle new) left group timestamp word request (is_done outcome)
   pub goes : GoesBetween middle new
+  pub costs : CostsOfPlan doing (work_of tells middle new) group timestamp word request
 
 -- The same without what came of the work.
 pub record HaveBeenMade {D : Type 0} (doing : Doing) (tells : Type 0) (middle new : BayState D) (group : GroupValue) (timestamp : ℕ) (word : List ℕ) (request : Request) (done : Bool) : Type 0 where
@@ -66,20 +69,25 @@ pub record HaveBeenMade {D : Type 0} (doing : Doing) (tells : Type 0) (middle ne
       → KeepsHistories middle new left group steps done
   pub along : tells → (left : List Bool) (named : Option (List ℕ)) → IsFoundBy middle left named group → AllComeAlong doing (work_of tells middle new) left group timestamp word request done
   pub goes : GoesBetween middle new
+  pub costs : CostsOfPlan doing (work_of tells middle new) group timestamp word request
 
 -- What they promise since the entry of the command.
 pub record HaveSince {D : Type 0} (doing : Doing) (work : Work D) (named : Option (List ℕ)) (timestamp : ℕ) (word : List ℕ) (request : Request) (group : GroupValue) (done : Bool) : Type 0 where
   pub taken : TakesGroup work named timestamp request done
   pub is_group : group_of taken.newest named ≡ Ok group
+  pub gone : AreOut work.old taken.left
   pub leaves : work.tells → LeavesDoing doing work timestamp word request (group_of taken.newest named)
   pub along : work.tells → GoesAlong doing work taken.left timestamp word request done (group_of taken.newest named)
+  pub costs : CostsOfDoing doing work timestamp word request (group_of taken.newest named)
 
 -- A command came to this: what it made of the group that it took.
 pub record HasComeTo {D : Type 0} (doing : Doing) (work : Work D) (named : Option (List ℕ)) (timestamp : ℕ) (word : List ℕ) (request : Request) (outcome : Result ℕ Failure) : Type 0 where
   pub taken : TakesGroup work named timestamp request (is_done outcome)
+  pub gone : (outcome ≡ Err Memory → ⊥) → AreOut work.old taken.left
   pub gives : IsWorkedIn doing work timestamp word request (group_of taken.newest named) outcome
   pub leaves : work.tells → LeavesDoing doing work timestamp word request (group_of taken.newest named)
   pub along : work.tells → GoesAlong doing work taken.left timestamp word request (is_done outcome) (group_of taken.newest named)
+  pub costs : CostsOfDoing doing work timestamp word request (group_of taken.newest named)
 
 found_same : (one other : GroupValue) → ◌≡◌ {A = Result GroupValue Assembly} (Ok one) (Ok other) → one ≡ other
 found_same one other is = cc
@@ -136,9 +144,11 @@ module _ {D : Type 0} (doing : Doing) (work : Work D) (named : Option (List ℕ)
       beside = λ told one is. reads_beside work.old work.new (slots_of one.seats) reads;
       keeps = λ told one is steps asked. reads_keep work.old work.new read.left one steps reads;
     };
+    gone = λ given. read.gone (λ spent. given (memory_told failure spent));
     gives = none_in (group_of read.newest named) failure read.answer;
     leaves = λ told. nothing_left (group_of read.newest named);
     along = λ told. none_along read.left (group_of read.newest named);
+    costs = unwritten_costs doing work timestamp word request reads (group_of read.newest named);
   }
 
   -- It was refused, or memory ran out.
@@ -154,9 +164,11 @@ module _ {D : Type 0} (doing : Doing) (work : Work D) (named : Option (List ℕ)
       beside = λ told one is. reads_beside work.old work.new (slots_of one.seats) reads;
       keeps = λ told one is steps asked. reads_keep work.old work.new read.left one steps reads;
     };
+    gone = λ given. read.gone (λ spent. absurd cc);
     gives = subst (λ (one : Result GroupValue Assembly). IsWorkedIn doing work timestamp word request one (Err failure)) (sym (group_read work named group read)) is;
     leaves = λ told. nothing_left (group_of read.newest named);
     along = λ told. none_along read.left (group_of read.newest named);
+    costs = unwritten_costs doing work timestamp word request reads (group_of read.newest named);
   }
 
   -- and of which group
@@ -164,6 +176,12 @@ module _ {D : Type 0} (doing : Doing) (work : Work D) (named : Option (List ℕ)
       → group_of (unwritten_come group failure read is).taken.newest named ≡ Ok group
   unfolding unwritten_come
   unwritten_found group failure read is = group_read work named group read
+
+  -- and that each slot was left out of which every call fails
+  pub unwritten_out : (group : GroupValue) (failure : Failure) (read : IsGroupRead work named (Ok group)) (is : IsWorkedOf doing work group timestamp word request (Err failure))
+      → AreOut work.old (unwritten_come group failure read is).taken.left
+  unfolding unwritten_come
+  unwritten_out group failure read is = read.gone (λ spent. absurd cc)
 
   -- what it was refused for
   pub not_planned : (refusing : Refusing) (behind : Entry → List Change) (group : GroupValue) (failure : Failure) → request ≡ request_around refusing behind word
@@ -212,7 +230,6 @@ module _ {D : Type 0} (tells : Type 0) (doing : Doing) (steady : IsSteady doing)
       are_sectors = all.are_sectors;
       are_settled = all.are_settled;
     };
-    few_asked = λ none. let few = is.few_asked none in let same = reads.none_asked in omega (arith, few, same);
   }
   worked_since group timestamp word request (Err (Refused refusal)) is = (is.0, reads_then reads is.1)
   worked_since group timestamp word request (Err (Disk slot)) is = record {
@@ -340,6 +357,7 @@ module _ {D : Type 0} (tells : Type 0) (doing : Doing) (steady : IsSteady doing)
             asked;
       };
       is_group = is_group;
+      gone = read.gone (λ spent. absurd cc);
       leaves = λ told found is_found steps asked.
           subst (λ (one : GroupValue). StopsLeave old new (λ image. IsLeft old.may_hold image ⊎ IsLeftDoing doing (work_of tells old new) one timestamp word request image))
           (found_same group found (sym is_group ∙ is_found))
@@ -351,20 +369,24 @@ module _ {D : Type 0} (tells : Type 0) (doing : Doing) (steady : IsSteady doing)
           along_since guid past read.left group timestamp word request plan done kept
           (has.along told read.left named (found_by told) plan guid same past (kept_still guid past old middle reads kept)
           (admitted_still guid past old middle reads read.left group admitted)));
+      costs = subst (λ (one : Result GroupValue Assembly). CostsOfDoing doing (work_of tells old new) timestamp word request one) (sym is_group)
+          (inr (plan_since doing tells old middle new group timestamp word request reads has.costs));
     }
 
     module _ (outcome : Result ℕ Failure) (has : HasDoneArray doing tells middle new group timestamp word request outcome) where
       since : HaveSince doing (work_of tells old new) named timestamp word request group (is_done outcome)
-      since = made_since (is_done outcome) (record { leaves = has.leaves; beside = has.beside; keeps = has.keeps; along = has.along; goes = has.goes })
+      since = made_since (is_done outcome) (record { leaves = has.leaves; beside = has.beside; keeps = has.keeps; along = has.along; goes = has.goes; costs = has.costs })
 
       -- It came to this since its entry.
       pub come_since : HasComeTo doing (work_of tells old new) named timestamp word request outcome
       come_since = record {
         taken = since.taken;
+        gone = λ given. since.gone;
         gives = subst (λ (one : Result GroupValue Assembly). IsWorkedIn doing (work_of tells old new) timestamp word request one outcome) (sym since.is_group)
             (worked_since group timestamp word request outcome has.worked);
         leaves = since.leaves;
         along = since.along;
+        costs = since.costs;
       }
 
       -- and of which group

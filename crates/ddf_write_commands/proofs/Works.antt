@@ -1,5 +1,5 @@
 -- What a work on the blocks of an array has to promise for the command that does it between the steps of a group.
-use Rattle.std.proofs.Common.{◌≡◌, ◌⊎◌, ℕ, ◌+◌, ◌≤◌, Bool, true, List}
+use Rattle.std.proofs.Common.{◌≡◌, ◌⊎◌, ℕ, Bool, true, List}
 use Rattle.ddf_bytes.specs.Counts.{Rose}
 use Rattle.ddf_bay.specs.Moments.{StopsLeave}
 use Rattle.ddf_bay.specs.Sectors.{Image, IsLeft, Outcomes}
@@ -31,7 +31,6 @@ pub record HasWorked {D : Type 0} (doing : Doing) (tells : Type 0) (floor : ℕ 
   pub among : tells → StopsLeave old new (λ image. doing.IsAmong volume old.held old.may_hold image)
   pub is_left : tells → doing.IsLeft volume old.held new.held
   pub has_done : tells → done ≡ true → doing.HasDone (Failed old new) volume old.held new.held
-  pub asked : new.sectors_asked ≤ old.sectors_asked + doing.most_sectors volume
   pub goes : GoesBetween old new
 
 -- It stopped at the slot of a seat: a write or a sync of it failed, or no source is left there.

@@ -1,11 +1,12 @@
 -- Blocks of an array that are written piece by piece between the steps of its group: each end of it, by what the calls promise.
-use Rattle.std.proofs.Common.{◌≡◌, ◌∙◌, ◌⊎◌, ⊎_elim, arith, ℕ, ◌-◌, ◌*◌, ◌<◌, ◌≤◌, Bool, true, false, List, [], length, Option, Ok, Err, Some, refl, sym, subst, inl, inr}
+use Rattle.std.proofs.Common.{◌≡◌, ◌∙◌, ◌⊎◌, ⊎_elim, arith, ℕ, ◌-◌, ◌*◌, ◌<◌, ◌≤◌, Bool, true, false, List, [], length, Option, None, Ok, Err, Some, refl, sym, subst, inl, inr}
 use Rattle.std.proofs.lemmas.Bool.{false≢true}
 use Rattle.std.proofs.lemmas.List.{drop_all}
 use Rattle.ddf_bytes.specs.Streams.{SourceState}
 use Rattle.ddf_bay.specs.Moments.{GoesOn, StopsLeave}
 use Rattle.ddf_bay.specs.State.{BayState}
 use Rattle.ddf_plan.specs.declared.change.Change.{Change}
+use Rattle.ddf_update.specs.Prepared.{all_sectors}
 use Rattle.ddf_volume.specs.declared.fault.VolumeFault.{VolumeFault}
 use Rattle.ddf_volume.specs.declared.fault.VolumeFault.TheVariants as volumes
 use Rattle.ddf_cells.specs.Touching.{GoesBetween}
@@ -13,7 +14,7 @@ use Rattle.ddf_pieces.specs.declared.fault.PieceFault.TheVariants as pieces
 use Rattle.ddf_pieces.specs.Pieces.{piece_of, room_for}
 use Rattle.ddf_pieces.specs.Writing.{ArePiecesWritten, AreWritten, IsStoppedInPieces, IsWrittenTo, LeaveWrites}
 use Rattle.ddf_write.specs.WriteRefused.{write_refusal}
-use Rattle.ddf_assembly.specs.Committed.{WasReadied, slots_of}
+use Rattle.ddf_assembly.specs.Committed.{WasReadied, next_updates, slots_of}
 use Rattle.ddf_assembly.specs.Group.{GroupValue}
 use Rattle.ddf_assembly.specs.Ready.{ReadyValue, readied}
 use Rattle.ddf_assembly.specs.Recovery.{config_recovered}
@@ -24,6 +25,7 @@ use Rattle.ddf_data_stops.specs.Floors.{AreFloored, floor_in}
 use Rattle.ddf_answer.specs.declared.failure.Failure.{Failure}
 use Rattle.ddf_answer.specs.declared.failure.Failure.TheVariants.{Disk}
 use Rattle.ddf_answer.specs.Call.{work_of}
+use Rattle.ddf_answer.specs.Costs.{WritesAtMost}
 use Rattle.ddf_data_commands.specs.Use.{failure_of_volume}
 use Rattle.ddf_group_commands.specs.Change.{IsChanged, KeepsHistories, steps_or}
 use Rattle.ddf_group_commands.specs.GroupRead.{IsFoundBy, IsReadFrom}
@@ -32,12 +34,14 @@ use Rattle.ddf_group_commands.specs.Writing.{IsLeftWriting}
 use Rattle.ddf_write_commands.specs.declared.planning.Plan.{Plan}
 use Rattle.ddf_write_commands.specs.declared.writing.Done.{Done}
 use Rattle.ddf_write_commands.specs.declared.writing.WriteFault.TheVariants as faults
-use Rattle.ddf_write_commands.specs.Around.{front}
+use Rattle.ddf_write_commands.specs.Around.{front, rest}
 use Rattle.ddf_write_commands.specs.Closed.{IsClosed}
+use Rattle.ddf_write_commands.specs.Costs.{sectors_before}
 use Rattle.ddf_write_commands.specs.Opened.{CanGoOn, IsOpened, steps_left}
 use Rattle.ddf_write_commands.specs.Plans.{IsPlanOf}
 use Rattle.ddf_write_commands.specs.Write.{HasWrittenBlocks, IsGivenFor, write_behind, write_refusals, writing}
 use Rattle.ddf_write_commands.proofs.Arrays.{along_of, aside_of, can_close_of, closed_along, closed_aside, closed_keeps, closed_leaves, closed_of, keeps_of, left_of, not_opened_along, not_opened_keeps, not_opened_leaves, not_opened_of, stopped_leaves, stopped_of}
+use Rattle.ddf_write_commands.proofs.Costs.{closed_costs, opened_costs, worked_costs}
 use Rattle.ddf_write_commands.proofs.Courses.{IsTold}
 use Rattle.ddf_write_commands.proofs.PlanWritten.{few_behind}
 use Rattle.ddf_write_commands.proofs.WriteArray.{accepted, under, write_ended}
@@ -50,12 +54,12 @@ module _ {D : Type 0} (tells : Type 0) (old : BayState D) (group : GroupValue) (
   asked = front plan.redundant plan.changes
 
   -- The steps before the blocks weren't written.
-  pub blocks_not_opened : (opened : BayState D) (failure : Failure) → IsChanged (work_of tells old opened) group (steps_or (readied group plan.changes timestamp)) (Err failure)
+  pub blocks_not_opened : (opened : BayState D) (failure : Failure) → WritesAtMost (work_of tells old opened) (sectors_before plan.marks ready) → IsChanged (work_of tells old opened) group (steps_or (readied group plan.changes timestamp)) (Err failure)
       → (tells → LeavesOthers old opened (slots_of group.seats))
       → (tells → (left : List Bool) (named : Option (List ℕ)) → IsFoundBy old left named group → (steps : List Step) → readied group asked timestamp ≡ Ok steps → KeepsHistories old opened left group steps false)
       → (tells → (steps : List Step) → readied group asked timestamp ≡ Ok steps → StopsLeave old opened (IsLeftWriting old steps)) → IsTold old → IsTold opened
       → HasWrittenBlocks tells old opened group plan timestamp start count source_tells before before first [] (Err (faults.Failure failure))
-  blocks_not_opened opened failure changed beside keeps leaves tells_old tells_opened = record {
+  blocks_not_opened opened failure opens changed beside keeps leaves tells_old tells_opened = record {
     given = inl (refl, refl);
     worked = λ word is.
         not_opened_of tells (writing start []) (write_steady start []) old group (write_refusals start count) write_behind plan timestamp ready was word is (few_behind is.entry) opened failure changed;
@@ -68,9 +72,11 @@ module _ {D : Type 0} (tells : Type 0) (old : BayState D) (group : GroupValue) (
     along = λ told left named by word is.
         not_opened_along tells (writing start []) (write_steady start []) old group (write_refusals start count) write_behind plan timestamp ready was word is (few_behind is.entry) opened left
         (keeps told left named by) (leaves told) tells_old tells_opened;
+    costs = λ steps are. opened_costs tells group plan.changes timestamp ready was plan.marks ((writing start []).most_sectors plan.view) steps are opens;
   }
 
   module _ (opened : BayState D) (now_group : GroupValue) (left_ready : ReadyValue) (opens : IsOpened tells old opened group asked plan.changes timestamp now_group left_ready)
+      (before_costs : WritesAtMost (work_of tells old opened) (sectors_before plan.marks ready)) (left_is : left_ready ≡ record { recovery = None; steps = rest plan.marks ready.steps })
       (beside : tells → LeavesOthers old opened (slots_of group.seats)) (leaves : tells → (steps : List Step) → readied group asked timestamp ≡ Ok steps → StopsLeave old opened (IsLeftWriting old steps))
       (goes_on : GoesOn old opened) (same_sizes : opened.sizes ≡ old.sizes) (same_reads : opened.failed_reads ≡ old.failed_reads)
       (opened_rise : (slot : ℕ) → old.failed_writes slot ≤ opened.failed_writes slot) (tells_opened : IsTold opened)
@@ -79,7 +85,10 @@ module _ {D : Type 0} (tells : Type 0) (old : BayState D) (group : GroupValue) (
       works : (done : Bool) → (done ≡ true → AreWritten tells opened behind plan.view start sectors) → HasWorked (writing start sectors) tells (floor_in group.seats) plan.view opened behind done
       works done is =
           write_worked tells plan.view start sectors opened behind (floor_in group.seats) (under tells start count sectors old opened behind group planned.0 plan planned.1 from same_sizes) done told_back leave.any_moment leave.left
-          leave.held (λ told so. (is so).written told) (λ told so. (is so).settled told) goes leave.asked
+          leave.held (λ told so. (is so).written told) (λ told so. (is so).settled told) goes
+
+      works_cost : WritesAtMost (work_of tells opened behind) ((writing start sectors).most_sectors plan.view)
+      works_cost = record { asked = leave.asked; written = leave.written }
 
       works_false : HasWorked (writing start sectors) tells (floor_in group.seats) plan.view opened behind false
       works_false = works false (λ so. absurd (false≢true so))
@@ -104,6 +113,7 @@ module _ {D : Type 0} (tells : Type 0) (old : BayState D) (group : GroupValue) (
         along = λ told left named by word is.
             along_of tells (writing start sectors) (write_steady start sectors) old group (write_refusals start count) write_behind plan timestamp ready was word is (few_behind is.entry) opened now_group left_ready from opens floored
             beside leaves goes_on same_sizes same_reads opened_rise tells_opened behind tells_behind false works_false told left named by;
+        costs = λ steps are. worked_costs tells group plan.changes timestamp ready was plan.marks ((writing start sectors).most_sectors plan.view) steps are before_costs works_cost;
       }
 
       module _ (is_written : AreWritten tells opened behind plan.view start sectors) where
@@ -129,6 +139,7 @@ module _ {D : Type 0} (tells : Type 0) (old : BayState D) (group : GroupValue) (
           along = λ told left named by word is.
               along_of tells (writing start sectors) (write_steady start sectors) old group (write_refusals start count) write_behind plan timestamp ready was word is (few_behind is.entry) opened now_group left_ready from opens floored
               beside leaves goes_on same_sizes same_reads opened_rise tells_opened behind tells_behind true works_true told left named by;
+          costs = λ steps are. worked_costs tells group plan.changes timestamp ready was plan.marks ((writing start sectors).most_sectors plan.view) steps are before_costs works_cost;
         }
 
         -- They are, so that the last step can be.
@@ -138,7 +149,8 @@ module _ {D : Type 0} (tells : Type 0) (old : BayState D) (group : GroupValue) (
             opens floored beside leaves goes_on same_sizes same_reads opened_rise tells_opened behind tells_behind true works_true refl
 
         module _ (new : BayState D) (tells_new : IsTold new) (back : new.tells_left → behind.tells_left) (aside : tells → LeavesOthers behind new (slots_of now_group.seats))
-            (closing : tells → StopsLeave behind new (IsLeftWriting behind (steps_left left_ready))) (new_reads : new.failed_reads ≡ behind.failed_reads) (after : SourceState) where
+            (closing : tells → StopsLeave behind new (IsLeftWriting behind (steps_left left_ready))) (new_reads : new.failed_reads ≡ behind.failed_reads)
+            (last_costs : WritesAtMost (work_of tells behind new) (all_sectors (next_updates left_ready))) (after : SourceState) where
           -- It was,
           pub blocks_done : (done : Done) → IsClosed tells behind new now_group left_ready (Ok done.sequence) → (tells → IsCommit behind new left_ready true)
               → IsGivenFor source_tells before after first count sectors (Ok done) → HasWrittenBlocks tells old new group plan timestamp start count source_tells before after first sectors (Ok done)
@@ -157,6 +169,7 @@ module _ {D : Type 0} (tells : Type 0) (old : BayState D) (group : GroupValue) (
             along = λ told left named by word is.
                 closed_along tells (writing start sectors) (write_steady start sectors) old group (write_refusals start count) write_behind plan timestamp ready was word is (few_behind is.entry) opened now_group left_ready from opens floored
                 beside leaves goes_on same_sizes same_reads opened_rise tells_opened behind tells_behind true works_true refl new tells_new back aside closing new_reads true commits told left named by;
+            costs = λ steps are. closed_costs tells group plan.changes timestamp ready was plan.marks ((writing start sectors).most_sectors plan.view) steps are before_costs works_cost left_ready left_is last_costs;
           }
 
           -- or its write failed.
@@ -178,6 +191,7 @@ module _ {D : Type 0} (tells : Type 0) (old : BayState D) (group : GroupValue) (
             along = λ told left named by word is.
                 closed_along tells (writing start sectors) (write_steady start sectors) old group (write_refusals start count) write_behind plan timestamp ready was word is (few_behind is.entry) opened now_group left_ready from opens floored
                 beside leaves goes_on same_sizes same_reads opened_rise tells_opened behind tells_behind true works_true refl new tells_new back aside closing new_reads false commits told left named by;
+            costs = λ steps are. closed_costs tells group plan.changes timestamp ready was plan.marks ((writing start sectors).most_sectors plan.view) steps are before_costs works_cost left_ready left_is last_costs;
           }
 
     -- ---- by the answer of the write

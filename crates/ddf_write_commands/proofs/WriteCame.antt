@@ -1,5 +1,5 @@
 -- What a write of blocks came to, by what it took from its input.
-use Rattle.std.proofs.Common.{◌≡◌, ◌⊎◌, ℕ, Bool, true, false, List, [], length, ◌==◌, Option, Result, Ok, Err, refl, subst, inl, inr, ⊎_elim}
+use Rattle.std.proofs.Common.{◌≡◌, ◌⊎◌, ℕ, Bool, true, false, List, [], length, ◌==◌, Option, Result, Ok, Err, refl, ap, subst, inl, inr, ⊎_elim}
 use Rattle.std.specs.Prelude.{IsTrue}
 use Rattle.ddf_bay.specs.Moments.{GoesOn}
 use Rattle.ddf_bay.specs.ReadsOnly.{ReadsOnly}
@@ -7,6 +7,7 @@ use Rattle.ddf_bytes.specs.Streams.{SinkRose}
 use Rattle.ddf_config.specs.declared.refusal.Refusal.TheVariants.{ShortPayload}
 use Rattle.ddf_group.specs.declared.answer.Assembly.{Assembly}
 use Rattle.ddf_assembly.specs.Group.{GroupValue, group_of}
+use Rattle.ddf_assembly.specs.Slots.{AreOut}
 use Rattle.ddf_assembly.specs.Steps.{Step}
 use Rattle.ddf_answer.specs.declared.failure.Failure.{Failure}
 use Rattle.ddf_answer.specs.declared.failure.Failure.TheVariants.{Memory, Refused}
@@ -14,6 +15,7 @@ use Rattle.ddf_answer.specs.Answers.{IsToldFailure}
 use Rattle.ddf_answer.specs.Call.{Answer, Work}
 use Rattle.ddf_answer.specs.Ends.{is_unwritten}
 use Rattle.ddf_answer.proofs.Causes.{closes_wrote, wrote}
+use Rattle.ddf_answer.proofs.Costs.{none_written}
 use Rattle.ddf_group_commands.specs.Change.{Request, steps_of}
 use Rattle.ddf_group_commands.specs.GroupRead.{IsGroupRead}
 use Rattle.ddf_write_commands.specs.declared.payload.PayloadFault.{PayloadFault}
@@ -26,17 +28,20 @@ use Rattle.ddf_write_commands.specs.Payload.{Input, InputRose, IsNoPayload, IsSh
 use Rattle.ddf_write_commands.specs.Write.{HasWrittenArray, IsDoneTold, IsSequenceTold, IsWriteTold, IsWriteIn, IsWrittenAs, Outcome, answered, fault_of_payload, write_request, writing}
 use Rattle.ddf_write_commands.specs.Write.Outcome.{Broken, NotRead, Short, Taken, Unfit}
 use Rattle.ddf_write_commands.proofs.Ended.{Cause, failure_cause, failure_unwritten}
-use Rattle.ddf_write_commands.proofs.Since.{HasComeTo, unwritten_come, unwritten_found}
+use Rattle.ddf_write_commands.proofs.Since.{HasComeTo, unwritten_come, unwritten_found, unwritten_out}
 use Rattle.ddf_write_commands.proofs.WriteWorks.{write_steady}
 
 module _ {D : Type 0} (work : Work D) (input : Input) (named : Option (List ℕ)) (timestamp : ℕ) (word : List ℕ) (start count : ℕ) where
   abbrev request : Request
   request = write_request word start count
 
+  unfit_memory : (failure : Failure) → ◌≡◌ {A = Result ℕ Failure} (Err failure) (Err Memory) → Unfit failure ≡ Unfit Memory
+  unfit_memory failure spent = let same : failure ≡ Memory = cc in ap Unfit same
+
   -- nothing was taken from the input
   pub unfit_came : IsUntaken input → ReadsOnly work.old work.new → (failure : Failure) → HasComeTo (writing start []) work named timestamp word request (Err failure)
       → HasWrittenArray work input named timestamp word start count (Unfit failure)
-  unfit_came untaken reads failure come = record { taken = come.taken; gives = (untaken, reads, come.gives); leaves = λ told. tt; along = λ told. tt }
+  unfit_came untaken reads failure come = record { taken = come.taken; gone = λ given. come.gone (λ spent. given (unfit_memory failure spent)); gives = (untaken, reads, come.gives); leaves = λ told. tt; along = λ told. tt; costs = none_written work reads }
 
   module _ (group : GroupValue) (steps : List Step) (are_asked : steps_of group timestamp request ≡ Ok steps) where
     module _ (read : IsGroupRead work named (Ok group)) (reads : ReadsOnly work.old work.new) where
@@ -46,13 +51,16 @@ module _ {D : Type 0} (work : Work D) (input : Input) (named : Option (List ℕ)
       is_group : group_of come.taken.newest named ≡ Ok group
       is_group = unwritten_found (writing start []) work named timestamp word request reads group Memory read reads
 
+      are_out : AreOut work.old come.taken.left
+      are_out = unwritten_out (writing start []) work named timestamp word request reads group Memory read reads
+
       -- the input ended before
       pub short_came : (found : ℕ) → IsShort input count found → HasWrittenArray work input named timestamp word start count (Short found)
-      short_came found short = record { taken = come.taken; gives = (short, record { found = group; is_found = is_group; steps = steps; are_asked = are_asked }, reads); leaves = λ told. tt; along = λ told. tt }
+      short_came found short = record { taken = come.taken; gone = λ given. are_out; gives = (short, record { found = group; is_found = is_group; steps = steps; are_asked = are_asked }, reads); leaves = λ told. tt; along = λ told. tt; costs = none_written work reads }
 
       -- it failed
       pub not_read_came : InputRose input → HasWrittenArray work input named timestamp word start count NotRead
-      not_read_came rose = record { taken = come.taken; gives = (rose, record { found = group; is_found = is_group; steps = steps; are_asked = are_asked }, reads); leaves = λ told. tt; along = λ told. tt }
+      not_read_came rose = record { taken = come.taken; gone = λ given. are_out; gives = (rose, record { found = group; is_found = is_group; steps = steps; are_asked = are_asked }, reads); leaves = λ told. tt; along = λ told. tt; costs = none_written work reads }
 
   -- why there was nothing to write
   pub payload_came : (group : GroupValue) (steps : List Step) → steps_of group timestamp request ≡ Ok steps → IsGroupRead work named (Ok group) → ReadsOnly work.old work.new

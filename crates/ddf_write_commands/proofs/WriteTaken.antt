@@ -14,7 +14,7 @@ use Rattle.ddf_assembly.specs.Recovery.{config_recovered}
 use Rattle.ddf_assembly.specs.Steps.{Step}
 use Rattle.ddf_answer.specs.declared.failure.Failure.{Failure}
 use Rattle.ddf_answer.specs.Call.{work_of}
-use Rattle.ddf_group_commands.specs.Change.{Request, steps_of}
+use Rattle.ddf_group_commands.specs.Change.{Request}
 use Rattle.ddf_group_commands.specs.GroupRead.{IsGroupRead}
 use Rattle.ddf_group_commands.proofs.Outcomes.{asked_of}
 use Rattle.ddf_write_commands.specs.declared.planning.Plan.{Plan}
@@ -26,7 +26,8 @@ use Rattle.ddf_write_commands.specs.Plans.{IsPlanOf}
 use Rattle.ddf_write_commands.specs.Worked.{IsLeftIn, IsWorkedIn}
 use Rattle.ddf_write_commands.specs.Write.{AreGiven, HasWrittenBlocks, IsAccepted, IsWrittenAs, is_all_done, write_behind, write_refusals, write_request, writing}
 use Rattle.ddf_write_commands.specs.Write.Outcome.{Broken, Taken}
-use Rattle.ddf_write_commands.proofs.PlanKept.{steps_are}
+use Rattle.ddf_write_commands.proofs.Costs.{plan_costs}
+use Rattle.ddf_write_commands.proofs.PlanKept.{IsPlannedAs, steps_are}
 use Rattle.ddf_write_commands.proofs.PlanWritten.{few_behind}
 use Rattle.ddf_write_commands.proofs.Since.{HaveBeenMade, HaveSince, array_left_since, made_since, worked_since}
 use Rattle.ddf_write_commands.proofs.WriteWorks.{write_steady}
@@ -81,7 +82,7 @@ module _ (tells : Type 0) (before between after : SourceState) (count : ℕ) (ro
   module _ {D : Type 0} (bay_tells : Type 0) (old middle new : BayState D) (reads : ReadsOnly old middle) (reads_rise : (slot : ℕ) → old.failed_reads slot ≤ middle.failed_reads slot)
       (writes_rise : (slot : ℕ) → old.failed_writes slot ≤ middle.failed_writes slot) (named : Option (List ℕ)) (timestamp : ℕ) (word : List ℕ) (start : ℕ) (group : GroupValue)
       (read : IsGroupRead (work_of bay_tells old middle) named (Ok group)) (plan : Plan) (is : IsPlanOf (write_refusals start count) write_behind (config_recovered group) group.seats word plan)
-      (steps : List Step) (are_asked : steps_of group timestamp (write_request word start count) ≡ Ok steps) (goes : GoesBetween middle new) where
+      {before_blocks behind_blocks : List Step} (plans : IsPlannedAs group timestamp word (write_request word start count) before_blocks behind_blocks plan.view) (goes : GoesBetween middle new) where
     abbrev request : Request
     request = write_request word start count
 
@@ -96,13 +97,14 @@ module _ (tells : Type 0) (before between after : SourceState) (count : ℕ) (ro
             (asked_of (readied group plan.changes timestamp) all (sym (steps_are group (write_refusals start count) write_behind word plan timestamp is (few_behind is.entry)) ∙ asked));
         along = λ told left by found. has.along told left by found word is;
         goes = goes;
+        costs = plan_costs (writing start sectors) (work_of bay_tells middle new) group (write_refusals start count) write_behind word plan timestamp is (few_behind is.entry) plans has.costs;
       }
 
       since : HaveSince (writing start sectors) (work_of bay_tells old new) named timestamp word request group (is_all_done result)
       since = made_since bay_tells (writing start sectors) (write_steady start sectors) old middle new reads reads_rise writes_rise named timestamp word request group read (is_all_done result) made
 
       is_accepted : IsAccepted timestamp request (group_of since.taken.newest named)
-      is_accepted = record { found = group; is_found = since.is_group; steps = steps; are_asked = are_asked }
+      is_accepted = record { found = group; is_found = since.is_group; steps = plans.planned.first ++ plans.planned.last; are_asked = plans.planned.are_asked }
 
     pub come : (sectors : List (List ℕ)) (result : Result Done WriteFault)
         → HasWrittenBlocks bay_tells middle new group plan timestamp start count tells between after first sectors result
@@ -115,6 +117,7 @@ module _ (tells : Type 0) (before between after : SourceState) (count : ℕ) (ro
           is_answered = ap (λ blocks. Ok (record { blocks = blocks; sequence = done.sequence })) (sym has.given.0);
           has = record {
             taken = now.taken;
+            gone = λ given. now.gone;
             gives = (
               (left, payload_given sectors left has.given.2.1, has.given.2.2),
               is_accepted sectors (Ok done) has,
@@ -123,6 +126,7 @@ module _ (tells : Type 0) (before between after : SourceState) (count : ℕ) (ro
             );
             leaves = now.leaves;
             along = now.along;
+            costs = now.costs;
           };
         }
     come sectors (Err (faults.Failure failure)) has =
@@ -132,6 +136,7 @@ module _ (tells : Type 0) (before between after : SourceState) (count : ℕ) (ro
           is_answered = refl;
           has = record {
             taken = now.taken;
+            gone = λ given. now.gone;
             gives = (
               ⊎_elim
                   (λ none. (
@@ -151,6 +156,7 @@ module _ (tells : Type 0) (before between after : SourceState) (count : ℕ) (ro
             );
             leaves = now.leaves;
             along = now.along;
+            costs = now.costs;
           };
         }
     come sectors (Err faults.Input) has =
@@ -160,6 +166,7 @@ module _ (tells : Type 0) (before between after : SourceState) (count : ℕ) (ro
           is_answered = refl;
           has = record {
             taken = now.taken;
+            gone = λ given. now.gone;
             gives = (
               (
                 has.given.0,
@@ -174,5 +181,6 @@ module _ (tells : Type 0) (before between after : SourceState) (count : ℕ) (ro
             );
             leaves = now.leaves;
             along = now.along;
+            costs = now.costs;
           };
         }

@@ -1,5 +1,5 @@
 -- What a write of blocks promises as a work on the blocks of an array.
-use Rattle.std.proofs.Common.{◌≡◌, ℕ, ◌+◌, ◌-◌, ◌*◌, ◌<◌, ◌≤◌, Bool, true, List, length, inl, inr, ⊎_elim}
+use Rattle.std.proofs.Common.{◌≡◌, ℕ, ◌+◌, ◌-◌, ◌*◌, ◌<◌, Bool, true, List, length, inl, inr, ⊎_elim}
 use Rattle.ddf_bay.specs.Moments.{StopsLeave}
 use Rattle.ddf_bay.specs.Sectors.{Image}
 use Rattle.ddf_bay.specs.State.{BayState}
@@ -7,9 +7,8 @@ use Rattle.ddf_bay.proofs.Steps.{stops_weaken}
 use Rattle.ddf_config.specs.declared.seat.Seat.{Seat}
 use Rattle.ddf_array.specs.Volume.{Volume}
 use Rattle.ddf_volume.specs.Reading.{Failed}
-use Rattle.ddf_cells.specs.CellsOn.{copy_cells}
 use Rattle.ddf_cells.specs.Touching.{GoesBetween}
-use Rattle.ddf_write.specs.RowWrites.{IsSure, row_cells}
+use Rattle.ddf_write.specs.RowWrites.{IsSure}
 use Rattle.ddf_write.specs.Writing.{AddsWrites, HasWritten, IsAmongWrites, IsLeftByWrite, MayGive}
 use Rattle.ddf_pieces.specs.Pieces.{piece_blocks, piece_of}
 use Rattle.ddf_write.proofs.RowReads.{sure_fewer}
@@ -53,9 +52,8 @@ module _ {D : Type 0} (tells : Type 0) (volume : Volume) (start : ℕ) (sectors 
   pub write_worked : (done : Bool) → (told_back : new.tells_left → old.tells_left)
       → StopsLeave old new (IsAmongWrites volume start sectors old.may_hold) → AddsWrites volume start sectors old.may_hold new.may_hold
       → (tells → IsLeftByWrite volume start sectors old.held new.held) → (tells → done ≡ true → HasWritten volume start sectors (IsSure (Failed old new) volume old.held) new.held)
-      → (tells → done ≡ true → StaySettled old new) → GoesBetween old new
-      → new.sectors_asked ≤ old.sectors_asked + (copy_cells volume start (length sectors) + row_cells volume (length sectors)) → HasWorked (writing start sectors) tells floor volume old new done
-  write_worked done told_back moments left held written settled goes asked = record {
+      → (tells → done ≡ true → StaySettled old new) → GoesBetween old new → HasWorked (writing start sectors) tells floor volume old new done
+  write_worked done told_back moments left held written settled goes = record {
     below = λ told. record {
       same_sizes = goes.same_sizes;
       told = told_back;
@@ -67,7 +65,6 @@ module _ {D : Type 0} (tells : Type 0) (volume : Volume) (start : ℕ) (sectors 
     among = λ told. moments;
     is_left = held;
     has_done = written;
-    asked = asked;
     goes = goes;
   }
 

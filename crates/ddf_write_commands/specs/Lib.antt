@@ -5,6 +5,7 @@ pub mod Closed
 pub mod Marking
 pub mod Doing
 pub mod Planned
+pub mod Costs
 pub mod Plans
 pub mod Worked
 pub mod Along

@@ -1,5 +1,5 @@
 -- What `resync` does, and how it ends.
-use Rattle.std.specs.Prelude.{◌⊎◌, ℕ, not, List, [], ◌∷◌, ◌++◌, Option, Result, if◌then◌else◌}
+use Rattle.std.specs.Prelude.{◌≡◌, ◌⊎◌, ℕ, not, List, [], ◌∷◌, ◌++◌, Option, Result, Err, if◌then◌else◌}
 use Rattle.ddf_config.specs.declared.refusal.Refusal.{Refusal}
 use Rattle.ddf_config.specs.declared.refusal.Refusal.TheVariants.{Lost, Unsure}
 use Rattle.ddf_config.specs.declared.seat.Seat.{Seat}
@@ -12,12 +12,15 @@ use Rattle.ddf_array.specs.Within.{is_redundant}
 use Rattle.ddf_resync.specs.Resyncing.{HasResynced, IsAmongResynced, IsLeftByResync, NoneLeftOfBlock, NoneLeftOfRow}
 use Rattle.ddf_resync.specs.Several.{resync_sectors}
 use Rattle.ddf_assembly.specs.Group.{group_of}
+use Rattle.ddf_assembly.specs.Slots.{AreOut}
 use Rattle.ddf_answer.specs.declared.failure.Failure.{Failure}
+use Rattle.ddf_answer.specs.declared.failure.Failure.TheVariants.{Memory}
 use Rattle.ddf_answer.specs.Call.{Answer, Work}
 use Rattle.ddf_group_commands.specs.Change.{IsToldChange, Request, TakesGroup, is_done}
 use Rattle.ddf_data_commands.specs.declared.using.Access.TheVariants.{Reads}
 use Rattle.ddf_data_commands.specs.Use.{array_refusals}
 use Rattle.ddf_write_commands.specs.Along.{GoesAlong}
+use Rattle.ddf_write_commands.specs.Costs.{CostsOfDoing}
 use Rattle.ddf_write_commands.specs.Doing.{Doing}
 use Rattle.ddf_write_commands.specs.Planned.{Entry, lacks_position, request_around}
 use Rattle.ddf_write_commands.specs.Worked.{IsWorkedIn, LeavesDoing}
@@ -51,12 +54,14 @@ resyncing = record {
   most_sectors = λ volume. if is_redundant volume then resync_sectors volume else 0;
 }
 
--- A call came to this: what it made of the group that it took.
+-- A call came to this: what it made of the group that it took. A slot of which every call fails is left out, but where memory ran out.
 pub record HasResyncedArray {D : Type 0} (work : Work D) (named : Option (List ℕ)) (timestamp : ℕ) (word : List ℕ) (outcome : Result ℕ Failure) : Type 0 where
   pub taken : TakesGroup work named timestamp (resync_request word) (is_done outcome)
+  pub gone : (outcome ≡ Err Memory → ⊥) → AreOut work.old taken.left
   pub gives : IsWorkedIn resyncing work timestamp word (resync_request word) (group_of taken.newest named) outcome
   pub leaves : work.tells → LeavesDoing resyncing work timestamp word (resync_request word) (group_of taken.newest named)
   pub along : work.tells → GoesAlong resyncing work taken.left timestamp word (resync_request word) (is_done outcome) (group_of taken.newest named)
+  pub costs : CostsOfDoing resyncing work timestamp word (resync_request word) (group_of taken.newest named)
 
 -- It came to this, and said so.
 pub record IsResyncDone {D : Type 0} (work : Work D) (named : Option (List ℕ)) (timestamp : ℕ) (word : List ℕ) (answer : Answer) : Type 0 where

@@ -1,5 +1,5 @@
 -- What came of a command that works on the blocks of an array.
-use Rattle.std.specs.Prelude.{◌≡◌, ◌⊎◌, ℕ, ◌+◌, ◌<◌, ◌≤◌, List, [], ◌++◌, length, Result, Ok, Err}
+use Rattle.std.specs.Prelude.{◌≡◌, ◌⊎◌, ℕ, ◌<◌, List, ◌++◌, length, Result, Ok, Err}
 use Rattle.ddf_bytes.specs.Counts.{Rose}
 use Rattle.ddf_bay.specs.Moments.{StopsLeave}
 use Rattle.ddf_bay.specs.ReadsOnly.{ReadsOnly}
@@ -36,12 +36,11 @@ pub record AreBlocksDone {D : Type 0} (doing : Doing) (work : Work D) (found : G
   pub are_sectors : work.new.tells_left → AreSectors behind
   pub are_settled : AreSettled work.new found.seats (length found.seats)
 
--- All was done, and this is the group's sequence number behind it. Where no step was to be written, no more sectors were asked to be than the work asks for.
+-- All was done, and this is the group's sequence number behind it.
 pub record IsArrayDone {D : Type 0} (doing : Doing) (work : Work D) (found : GroupValue) (timestamp : ℕ) (word : List ℕ) (request : Request) (sequence : ℕ) : Type 0 where
   pub plan : IsPlanned found timestamp word request
   pub is_last : sequence ≡ last_sequence found.config.sequence (plan.first ++ plan.last)
   pub done : work.tells → AreBlocksDone doing work found plan.first plan.last plan.volume
-  pub few_asked : plan.first ++ plan.last ≡ [] → work.new.sectors_asked ≤ work.old.sectors_asked + doing.most_sectors plan.volume
 
 -- It wasn't: a write or a sync of this slot, a seat's, failed in the call; or a read did, and no source is left there of a cell that the work needs.
 pub record IsArrayStopped {D : Type 0} (doing : Doing) (work : Work D) (found : GroupValue) (timestamp : ℕ) (word : List ℕ) (request : Request) (slot : ℕ) : Type 0 where

@@ -22,19 +22,23 @@ use Rattle.ddf_assembly.specs.Committed.{slots_of}
 use Rattle.ddf_assembly.specs.Group.{GroupValue, group_of}
 use Rattle.ddf_assembly.specs.Ready.{readied}
 use Rattle.ddf_assembly.specs.Recovery.{config_recovered}
+use Rattle.ddf_assembly.specs.Slots.{AreOut}
 use Rattle.ddf_text.specs.Done.{cut_line, sequence_line}
 use Rattle.ddf_assembly.specs.Steps.{Step}
 use Rattle.ddf_answer.specs.declared.failure.Failure.{Failure}
 use Rattle.ddf_answer.specs.declared.failure.Failure.TheVariants.{Memory, Refused}
 use Rattle.ddf_answer.specs.Answers.{IsToldFailure}
 use Rattle.ddf_answer.specs.Call.{Answer, Work, work_of}
+use Rattle.ddf_answer.specs.Costs.{WritesAtMost}
 use Rattle.ddf_answer.specs.Tells.{ClosesWith}
 use Rattle.ddf_group_commands.specs.Change.{KeepsHistories, Request, TakesGroup, is_done, steps_of}
+use Rattle.ddf_group_commands.specs.Costs.{steps_sectors}
 use Rattle.ddf_group_commands.specs.GroupRead.{IsFoundBy}
 use Rattle.ddf_group_commands.specs.Others.{LeavesOthers}
 use Rattle.ddf_data_commands.specs.declared.using.Access.TheVariants.{Writes}
 use Rattle.ddf_data_commands.specs.Use.{array_refusals}
 use Rattle.ddf_write_commands.specs.Along.{AllComeAlong, GoesAlong}
+use Rattle.ddf_write_commands.specs.Costs.{CostsOfDoing}
 use Rattle.ddf_write_commands.specs.Doing.{Doing}
 use Rattle.ddf_write_commands.specs.declared.payload.PayloadFault.{PayloadFault}
 use Rattle.ddf_write_commands.specs.declared.payload.PayloadFault.TheVariants as payloads
@@ -134,12 +138,22 @@ module _ {D : Type 0} (work : Work D) (input : Input) (timestamp : ℕ) (word : 
   GoesAlongWriting left meaning NotRead = Unit {0}
   GoesAlongWriting left meaning (Unfit failure) = Unit {0}
 
--- A call came to this: what it made of the group that it took, and of its input.
+  -- what it costs: without the bytes nothing
+  abbrev pub CostsOfWriting : Result GroupValue Assembly → Outcome → Type 0
+  CostsOfWriting meaning (Taken sectors worked) = CostsOfDoing (writing start sectors) work timestamp word request meaning
+  CostsOfWriting meaning (Broken sectors) = CostsOfDoing (writing start sectors) work timestamp word request meaning
+  CostsOfWriting meaning (Short found) = WritesAtMost work 0
+  CostsOfWriting meaning NotRead = WritesAtMost work 0
+  CostsOfWriting meaning (Unfit failure) = WritesAtMost work 0
+
+-- A call came to this: what it made of the group that it took, and of its input. A slot of which every call fails is left out, but where memory ran out before the input was read.
 pub record HasWrittenArray {D : Type 0} (work : Work D) (input : Input) (named : Option (List ℕ)) (timestamp : ℕ) (word : List ℕ) (start count : ℕ) (outcome : Outcome) : Type 0 where
   pub taken : TakesGroup work named timestamp (write_request word start count) (is_written outcome)
+  pub gone : (outcome ≡ Unfit Memory → ⊥) → AreOut work.old taken.left
   pub gives : IsWriteIn work input timestamp word start count (group_of taken.newest named) outcome
   pub leaves : work.tells → LeavesWriting work input timestamp word start count (group_of taken.newest named) outcome
   pub along : work.tells → GoesAlongWriting work input timestamp word start count taken.left (group_of taken.newest named) outcome
+  pub costs : CostsOfWriting work input timestamp word start count (group_of taken.newest named) outcome
 
 -- ---- what is told of it
 
@@ -240,3 +254,4 @@ pub record HasWrittenBlocks {D : Type 0} (tells : Type 0) (old new : BayState D)
   pub along : tells → (left : List Bool) (named : Option (List ℕ)) → IsFoundBy old left named group
       → (word : List ℕ) → IsPlanOf (write_refusals start count) write_behind (config_recovered group) group.seats word plan
       → AllComeAlong (writing start sectors) (work_of tells old new) left group timestamp word (write_request word start count) (is_all_done result)
+  pub costs : (steps : List Step) → readied group plan.changes timestamp ≡ Ok steps → WritesAtMost (work_of tells old new) (steps_sectors steps + (writing start sectors).most_sectors plan.view)

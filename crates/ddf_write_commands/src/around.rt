@@ -1,22 +1,25 @@
 // What is written around the blocks of an array: a group's recovery and the array's mark before them, and the last step behind them.
-ghost use Rattle.std.specs.Prelude.{◌≡◌, ◌≤◌, ℕ, List, Bool, false, Option, Ok, Err, length, IfErr, IfOk, OnOk};
+ghost use Rattle.std.specs.Prelude.{◌≡◌, ◌≤◌, ℕ, List, Bool, false, Option, None, Ok, Err, length, IfErr, IfOk, OnOk};
 ghost use Rattle.std.specs.List.{AllByRecursion, list_any};
 ghost use Rattle.ddf_bay.specs.Moments.{GoesOn, StopsLeave};
 ghost use Rattle.ddf_plan.specs.Same.{is_step};
 ghost use Rattle.ddf_assembly.specs.Asked.{CanBeAsked};
 ghost use Rattle.ddf_assembly.specs.Assembled.{IsAssembledGroup};
-ghost use Rattle.ddf_assembly.specs.Committed.{WasReadied, slots_of};
+ghost use Rattle.ddf_update.specs.Prepared.{all_sectors};
+ghost use Rattle.ddf_assembly.specs.Committed.{WasReadied, next_updates, slots_of};
 ghost use Rattle.ddf_assembly.specs.Ready.{readied};
 ghost use Rattle.ddf_assembly.specs.Recovery.{config_recovered};
 ghost use Rattle.ddf_assembly.specs.Steps.{Step};
 ghost use Rattle.ddf_stops.specs.Steps.{IsCommit};
 ghost use Rattle.ddf_answer.specs.Call.{work_of};
+ghost use Rattle.ddf_answer.specs.Costs.{WritesAtMost};
 ghost use Rattle.ddf_group_commands.specs.Change.{IsChanged, KeepsHistories, is_done, steps_or};
 ghost use Rattle.ddf_group_commands.specs.GroupRead.{IsFoundBy, IsReadFrom};
 ghost use Rattle.ddf_group_commands.specs.Others.{LeavesOthers};
 ghost use Rattle.ddf_group_commands.specs.Writing.{IsLeftWriting};
 ghost use Rattle.ddf_write_commands.specs.Around.{IsMark, front, rest};
 ghost use Rattle.ddf_write_commands.specs.Closed.{IsClosed};
+ghost use Rattle.ddf_write_commands.specs.Costs.{sectors_before};
 ghost use Rattle.ddf_write_commands.specs.Opened.{AreMembers, CanGoOn, IsOpened, steps_left};
 ghost use Rattle.ddf_write_commands.specs.Plans.{IsNotReadied};
 
@@ -65,6 +68,8 @@ pub(crate) fn open_blocks<B: Bay>(
     requires steps { plan.now.marks ≡ list_any (is_step (config_recovered group.old)) (front plan.now.redundant plan.now.changes) }
     requires members { AreMembers (config_recovered group.old) group.old.seats }
     ensures opened { OnOk result (IsOpened B.tells (B.disks bay.old) (B.disks bay.new) group.old (front plan.now.redundant plan.now.changes) plan.now.changes timestamp group.new ready.new) }
+    ensures left { OnOk result (ready.new ≡ record { recovery = None; steps = rest plan.now.marks ready.old.steps }) }
+    ensures costs { WritesAtMost (work_of B.tells (B.disks bay.old) (B.disks bay.new)) (sectors_before plan.now.marks ready.old) }
     ensures failed { IfErr result (λ failure. IsChanged (work_of B.tells (B.disks bay.old) (B.disks bay.new)) group.old (steps_or (readied group.old plan.now.changes timestamp)) (Err failure)) }
 
     // From entry to exit slots that are no seats' are left as before, each history that admits the call is kept by the first steps, and of the seats'
@@ -93,6 +98,7 @@ pub(crate) fn close_blocks<B: Bay>(
 ) -> Result<u32, Failure>
     requires { CanGoOn B.tells (B.disks bay.old) group.old ready.old }
     ensures closed { IsClosed B.tells (B.disks bay.old) (B.disks bay.new) group.old ready.old result }
+    ensures costs { WritesAtMost (work_of B.tells (B.disks bay.old) (B.disks bay.new)) (all_sectors (next_updates ready.old)) }
     ensures beside { B.tells → LeavesOthers (B.disks bay.old) (B.disks bay.new) (slots_of group.old.seats) }
     ensures leaves { B.tells → StopsLeave (B.disks bay.old) (B.disks bay.new) (IsLeftWriting (B.disks bay.old) (steps_left ready.old)) }
 

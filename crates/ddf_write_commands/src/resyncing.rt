@@ -1,5 +1,5 @@
 // `resync`: the copies and the parity of an array are made to agree.
-ghost use Rattle.std.specs.Prelude.{◌≡◌, ℕ, List, Bool, Option, Ok};
+ghost use Rattle.std.specs.Prelude.{◌≡◌, ◌+◌, ℕ, List, Bool, Option, Ok};
 ghost use Rattle.ddf_bytes.specs.Stamps.{timestamp_of};
 ghost use Rattle.ddf_bytes.specs.Streams.{SinkRose};
 ghost use Rattle.ddf_bay.specs.Moments.{GoesOn, StopsLeave};
@@ -11,8 +11,10 @@ ghost use Rattle.ddf_assembly.specs.Seated.{seated};
 ghost use Rattle.ddf_assembly.specs.Steps.{Step};
 ghost use Rattle.ddf_data_stops.specs.Floors.{AreFloored};
 ghost use Rattle.ddf_answer.specs.Call.{answer_of, work_of};
+ghost use Rattle.ddf_answer.specs.Costs.{WritesAtMost};
 ghost use Rattle.ddf_answer.specs.Status.{code_of};
 ghost use Rattle.ddf_group_commands.specs.Change.{KeepsHistories, is_done};
+ghost use Rattle.ddf_group_commands.specs.Costs.{steps_sectors};
 ghost use Rattle.ddf_group_commands.specs.GroupRead.{IsFoundBy, IsReadFrom};
 ghost use Rattle.ddf_group_commands.specs.Others.{LeavesOthers};
 ghost use Rattle.ddf_write_commands.specs.Along.{AllComeAlong};
@@ -95,6 +97,8 @@ fn resync_array<B: Bay>(
     ensures along { B.tells → (left : List Bool) (named : Option (List ℕ)) → IsFoundBy (B.disks bay.old) left named group.old
         → (word : List ℕ) → IsPlanOf resync_refusals resync_behind (config_recovered group.old) group.old.seats word plan.now
         → AllComeAlong resyncing (work_of B.tells (B.disks bay.old) (B.disks bay.new)) left group.old timestamp word (resync_request word) (is_done result) }
+    ensures costs { (steps : List Step) → readied group.old plan.now.changes timestamp ≡ Ok steps
+        → WritesAtMost (work_of B.tells (B.disks bay.old) (B.disks bay.new)) (steps_sectors steps + resyncing.most_sectors plan.now.view) }
     ensures goes { GoesBetween (B.disks bay.old) (B.disks bay.new) }
 {
     open_blocks(group, ready, plan, timestamp, bay)?;

@@ -7,7 +7,7 @@ use Rattle.ddf_answer.specs.Call.{work_of}
 use Rattle.ddf_data_commands.specs.Read.{NotRead}
 use Rattle.ddf_data_commands.proofs.ReadEnds.{read_ends}
 use Rattle.ddf_data_commands.proofs.LeftOut.{has_no_place}
-use Rattle.ddf_data_commands.proofs.ReadBlocks.{fault_in, look_later, read_behind, read_in}
+use Rattle.ddf_data_commands.proofs.ReadBlocks.{fault_in, look_later, not_read_told, read_behind, read_in}
 use Rattle.ddf_data_commands.proofs.reading.read.Goals as goal
 
 pub print_array-requires : goal.print_array-requires
@@ -31,6 +31,7 @@ returns-in-Ok-clause-done g c =
         newest = assembled.newest;
         read = assembled.read;
         no_place = λ tells slot out. has_no_place old assembled.looked.left assembled.newest c.args.named slot (assembled.read tells) out;
+        gone = λ given. assembled.gone (λ spent. absurd cc);
         gives = read_in (work_of g.B.Bay.tells old new) c.args.name.now c.args.start c.args.count c.in-Ok.group (group_of assembled.newest c.args.named) done.outcome assembled.answer of_group;
       };
       ends = done.ends;
@@ -50,6 +51,7 @@ returns-in-Err-clause-done g c =
         newest = assembled.newest;
         read = assembled.read;
         no_place = λ tells slot out. has_no_place old assembled.looked.left assembled.newest c.args.named slot (assembled.read tells) out;
+        gone = λ given. assembled.gone (λ spent. given (not_read_told c.in-Err.fault spent));
         gives = fault_in (work_of g.B.Bay.tells old new) c.args.name.now c.args.start c.args.count c.in-Err.fault (group_of assembled.newest c.args.named) assembled.answer;
       };
       ends = rw c.from.ensures at c.tell_failure.ensures.told;

@@ -6,7 +6,7 @@ use Rattle.ddf_answer.specs.Call.{work_of}
 use Rattle.ddf_answer.specs.declared.failure.Failure.{Failure}
 use Rattle.ddf_data_commands.specs.Scrub.{HasScrubbed}
 use Rattle.ddf_data_commands.proofs.ReadBlocks.{look_later}
-use Rattle.ddf_data_commands.proofs.Scrubbed.{no_group_in, scrub_behind, scrub_in}
+use Rattle.ddf_data_commands.proofs.Scrubbed.{no_group_in, not_scrubbed_told, scrub_behind, scrub_in}
 use Rattle.ddf_data_commands.proofs.scrubbing.scrubbed.Goals as goal
 
 pub scrub_array-requires : goal.scrub_array-requires
@@ -26,6 +26,7 @@ returns-in-Ok-clause-scrubbed g c =
       failed = λ slot below is. look_later old middle new slot c.assemble.ensures.never_falls c.scrub_array.ensures.reads (assembled.looked.are_failed.rose slot below is);
       newest = assembled.newest;
       read = assembled.read;
+      gone = λ given. assembled.gone (λ spent. absurd cc);
       gives = scrub_in (work_of g.B.Bay.tells old new) c.args.name.now c.in-Ok.group (group_of assembled.newest c.args.named) c.scrub_array.result assembled.answer of_group;
     }
 
@@ -44,5 +45,6 @@ returns-in-Err-clause-scrubbed g c =
       failed = assembled.looked.are_failed.rose;
       newest = assembled.newest;
       read = assembled.read;
+      gone = λ given. assembled.gone (λ spent. given (not_scrubbed_told c.in-Err.fault spent));
       gives = no_group_in (work_of g.B.Bay.tells old new) c.args.name.now c.in-Err.fault (group_of assembled.newest c.args.named) assembled.answer;
     })

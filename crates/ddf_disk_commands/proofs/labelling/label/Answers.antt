@@ -9,6 +9,7 @@ returns-in-Ok-clause-done g c = rw (← c.revision_of.ensures) (record {
   tried = c.in-Ok.ensures.tried;
   ends = c.tell.ensures.ends;
   any_moment = c.labelled.ensures.any_moment;
+  costs = c.labelled.ensures.costs;
   refused = c.labelled.ensures.refused;
 })
 
@@ -21,6 +22,7 @@ returns-in-Err-clause-done g c = rw (← c.revision_of.ensures) (record {
   tried = c.in-Err.ensures.tried;
   ends = c.tell_failure.ensures.told;
   any_moment = c.labelled.ensures.any_moment;
+  costs = c.labelled.ensures.costs;
   refused = c.labelled.ensures.refused;
 })
 

@@ -1,5 +1,6 @@
 use Rattle.std.proofs.Common.{◌∙◌, inr}
 use Rattle.ddf_disk_commands.proofs.Chosen.{chosen_once}
+use Rattle.ddf_disk_commands.proofs.LabelCosts.{label_costs}
 use Rattle.ddf_disk_commands.proofs.Labelled.{label_founded, label_stops, slots_lie}
 use Rattle.ddf_disk_commands.proofs.labelling.labelled.Goals as goal
 
@@ -36,3 +37,17 @@ returns-clause-any_moment g c = λ tells.
     let counted = rw c.deref.ensures.value at c.in-Ok-first_updates.ensures.counted in
     let step = rw (c.deref-2.ensures.value, c.deref-3.ensures.value) at (c.found_disks.ensures.any_moment tells) in
     label_stops _ _ c.args.named.now c.in-Ok.slots.items c.args.revision c.args.stamp.now c.in-Ok-first_updates.updates.items c.in-Ok.ensures.reads c.in-Ok.ensures.slots counted first _ (c.in-Ok.ensures.unrefused tells) step
+
+pub returns-in-Ok-found_disks-clause-costs : goal.returns-in-Ok-found_disks-clause-costs
+returns-in-Ok-found_disks-clause-costs g c =
+    let first = rw c.deref.ensures.value at c.in-Ok-first_updates.ensures.first in
+    let counted = rw c.deref.ensures.value at c.in-Ok-first_updates.ensures.counted in
+    let spends = rw c.deref-3.ensures.value at c.found_disks.ensures.spends in
+    label_costs g.B.Bay.tells _ _ c.in-Ok.ensures.reads c.args.named.now c.in-Ok.slots.items c.in-Ok.ensures.slots c.args.revision c.args.stamp.now _ c.in-Ok-first_updates.updates.items first counted _ _ spends
+
+pub returns-clause-costs : goal.returns-clause-costs
+returns-clause-costs g c =
+    let first = rw c.deref.ensures.value at c.in-Ok-first_updates.ensures.first in
+    let counted = rw c.deref.ensures.value at c.in-Ok-first_updates.ensures.counted in
+    let spends = rw c.deref-3.ensures.value at c.found_disks.ensures.spends in
+    label_costs g.B.Bay.tells _ _ c.in-Ok.ensures.reads c.args.named.now c.in-Ok.slots.items c.in-Ok.ensures.slots c.args.revision c.args.stamp.now _ c.in-Ok-first_updates.updates.items first counted _ _ spends

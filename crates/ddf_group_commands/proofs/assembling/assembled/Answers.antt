@@ -38,6 +38,7 @@ returns-in_err-write_changes-clause-told g c =
       keeps = rw c.timestamp.ensures at written.keeps;
       same_reads = written.reads;
       calls = written.calls;
+      costs = rw c.timestamp.ensures at written.costs;
       writes_rise = written.writes_rise;
     })))
 
@@ -53,5 +54,6 @@ returns-clause-told g c =
       keeps = rw c.timestamp.ensures at written.keeps;
       same_reads = written.reads;
       calls = written.calls;
+      costs = rw c.timestamp.ensures at written.costs;
       writes_rise = written.writes_rise;
     }) c.in_ok-write_changes.was text

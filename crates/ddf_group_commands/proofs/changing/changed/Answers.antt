@@ -55,6 +55,7 @@ returns-clause-changed g c =
       keeps = rw (c.listed.ensures, c.timestamp.ensures) at written.keeps;
       same_reads = written.reads;
       calls = written.calls;
+      costs = rw (c.listed.ensures, c.timestamp.ensures) at written.costs;
       writes_rise = written.writes_rise;
     })
 

@@ -16,6 +16,7 @@ use Rattle.ddf_group_commands.proofs.Recovering.{Commits, commit_failed, done_to
 use Rattle.ddf_assembly.proofs.Committed.{may_write_next}
 use Rattle.ddf_assembly.proofs.RecoveredGroup.{recovered_ready}
 use Rattle.ddf_assembly.proofs.RecoveryWritten.{may_recover, recovered_held}
+use Rattle.ddf_group_commands.proofs.Costs.{commit_costs, none_asked_cost, readied_costs, recovery_costs}
 use Rattle.ddf_group_commands.proofs.FewCalls.{committed_few, recovered_few}
 use Rattle.ddf_group_commands.proofs.Beside.{commit_beside, reads_beside, recovery_beside}
 use Rattle.ddf_group_commands.proofs.Keeping.{Tells, commit_keeps, done_keeps, reads_keep, reads_true, recover_keeps}
@@ -312,3 +313,29 @@ returns-clause-calls g c =
     let made = c.in-Ok.ensures in
     let was = was_readied c.args.group.now c.args.changes.now c.args.timestamp c.in-Ok.ready c.requires.from.assembled c.ranges.timestamp.fits made.readied made.recovery made.recovers made.follows in
     committed_few g.B.Bay.tells (g.B.Bay.disks c.args.bay.now) c.args.group.now c.args.changes.now c.args.timestamp c.in-Ok.ready c.requires.from was (g.B.Bay.disks c.recover.new.bay) (g.B.Bay.disks c.commit.new.bay) c.recover.ensures.spends.costs (rw c.recover.ensures.left at c.commit.ensures.spends.costs)
+
+pub returns-in-Err-clause-costs : goal.returns-in-Err-clause-costs
+returns-in-Err-clause-costs g c =
+    let old = g.B.Bay.disks c.args.bay.now in
+    none_asked_cost (work_of g.B.Bay.tells old old) (steps_or (readied c.args.group.now c.args.changes.now c.args.timestamp)) (reads_start old)
+
+pub returns-in_err-recover-clause-costs : goal.returns-in_err-recover-clause-costs
+returns-in_err-recover-clause-costs g c =
+    let made = c.in-Ok.ensures in
+    let was = was_readied c.args.group.now c.args.changes.now c.args.timestamp c.in-Ok.ready c.requires.from.assembled c.ranges.timestamp.fits made.readied made.recovery made.recovers made.follows in
+    readied_costs c.args.group.now c.args.changes.now c.args.timestamp c.in-Ok.ready was (work_of g.B.Bay.tells (g.B.Bay.disks c.args.bay.now) (g.B.Bay.disks c.recover.new.bay))
+    (recovery_costs g.B.Bay.tells c.in-Ok.ready c.recover.ensures.spends.costs)
+
+pub returns-in_err-commit-clause-costs : goal.returns-in_err-commit-clause-costs
+returns-in_err-commit-clause-costs g c =
+    let made = c.in-Ok.ensures in
+    let was = was_readied c.args.group.now c.args.changes.now c.args.timestamp c.in-Ok.ready c.requires.from.assembled c.ranges.timestamp.fits made.readied made.recovery made.recovers made.follows in
+    readied_costs c.args.group.now c.args.changes.now c.args.timestamp c.in-Ok.ready was (work_of g.B.Bay.tells (g.B.Bay.disks c.args.bay.now) (g.B.Bay.disks c.commit.new.bay))
+    (commit_costs g.B.Bay.tells c.in-Ok.ready c.recover.ensures.spends.costs (rw c.recover.ensures.left at c.commit.ensures.spends.costs))
+
+pub returns-clause-costs : goal.returns-clause-costs
+returns-clause-costs g c =
+    let made = c.in-Ok.ensures in
+    let was = was_readied c.args.group.now c.args.changes.now c.args.timestamp c.in-Ok.ready c.requires.from.assembled c.ranges.timestamp.fits made.readied made.recovery made.recovers made.follows in
+    readied_costs c.args.group.now c.args.changes.now c.args.timestamp c.in-Ok.ready was (work_of g.B.Bay.tells (g.B.Bay.disks c.args.bay.now) (g.B.Bay.disks c.commit.new.bay))
+    (commit_costs g.B.Bay.tells c.in-Ok.ready c.recover.ensures.spends.costs (rw c.recover.ensures.left at c.commit.ensures.spends.costs))

@@ -3,6 +3,7 @@ use Rattle.std.proofs.lemmas.Result.{err_from_is_err_and}
 use Rattle.ddf_config.specs.Configuration.{Configuration}
 use Rattle.ddf_assembly.specs.Group.{GroupValue}
 use Rattle.ddf_stops.specs.Steps.{IsCommit}
+use Rattle.ddf_answer.proofs.Costs.{costs_writes}
 use Rattle.ddf_write_commands.specs.Closed.{IsLastWritten}
 use Rattle.ddf_write_commands.proofs.Closing.{last_aside, last_leaves, last_written, lies_next, on_seats}
 use Rattle.ddf_write_commands.proofs.Courses.{IsTold}
@@ -150,3 +151,9 @@ returns-clause-commits g c = λ told. record {
   changed = λ done. c.in_ok-commit.ensures.changed told;
   spends = c.commit.ensures.spends;
 }
+
+pub returns-in_err-commit-clause-costs : goal.returns-in_err-commit-clause-costs
+returns-in_err-commit-clause-costs g c = costs_writes g.B.Bay.tells c.commit.ensures.spends.costs
+
+pub returns-clause-costs : goal.returns-clause-costs
+returns-clause-costs g c = costs_writes g.B.Bay.tells c.commit.ensures.spends.costs

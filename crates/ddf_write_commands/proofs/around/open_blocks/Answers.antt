@@ -5,6 +5,7 @@ use Rattle.ddf_assembly.specs.Committed.{next_slots, next_updates}
 use Rattle.ddf_assembly.specs.Ready.{ReadyValue}
 use Rattle.ddf_stops.specs.Steps.{IsCommit, IsRecovery}
 use Rattle.ddf_group_commands.proofs.Recovering.{commit_failed, first_lies, recover_failed, rest_lies, slots_there}
+use Rattle.ddf_write_commands.proofs.Costs.{alone_costs, behind_costs, left_marked, left_unmarked}
 use Rattle.ddf_write_commands.proofs.Courses.{IsTold}
 use Rattle.ddf_write_commands.proofs.Opening.{commit_aside, commit_leaves_first, is_step_after, mark_keeps, no_step_after, opened_marked, opened_unmarked, recovery_aside, recovery_keeps, recovery_leaves}
 use Rattle.ddf_write_commands.proofs.around.open_blocks.Goals as goal
@@ -397,3 +398,25 @@ returns-clause-leaves g c = λ told steps asked.
           let after = λ (told : g.B.Bay.tells). no_step_after g.B.Bay.tells old c.args.group.now c.args.plan.now.changes c.args.timestamp c.args.ready.now c.requires.from was c.args.plan.now.redundant c.args.plan.now.marks c.requires.steps c.requires.mark c.requires.few c.requires.asked tells_old middle tells_middle recovers c.recover.ensures.spends.same_sizes c.recover.new.ready c.recover.ensures.left w.if-plan.false in
           rw w.bay-is (commit_leaves_first g.B.Bay.tells old c.args.group.now c.args.plan.now.changes c.args.timestamp c.args.ready.now c.requires.from was c.args.plan.now.redundant c.args.plan.now.marks c.requires.steps c.requires.mark c.requires.few c.requires.asked tells_old middle tells_middle recovers c.recover.ensures.spends.same_sizes middle tells_middle true after told steps asked)
     ]
+
+pub returns-in_err-recover-clause-costs : goal.returns-in_err-recover-clause-costs
+returns-in_err-recover-clause-costs g c = alone_costs g.B.Bay.tells c.args.plan.now.marks c.args.ready.now c.recover.ensures.spends.costs
+
+pub returns-in_err-commit-clause-costs : goal.returns-in_err-commit-clause-costs
+returns-in_err-commit-clause-costs g c =
+    behind_costs g.B.Bay.tells c.args.plan.now.marks c.args.ready.now c.recover.ensures.spends.costs c.if-plan.true c.recover.new.ready c.recover.ensures.left c.commit.ensures.spends.costs
+
+pub returns-clause-costs : goal.returns-clause-costs
+returns-clause-costs g c = elim c.if-plan.branch [
+  | then-plan+in_ok-commit w ↦
+      rw w.bay-is
+      (behind_costs g.B.Bay.tells c.args.plan.now.marks c.args.ready.now c.recover.ensures.spends.costs w.if-plan.true c.recover.new.ready c.recover.ensures.left w.commit.ensures.spends.costs)
+  | else-plan w ↦ rw w.bay-is (alone_costs g.B.Bay.tells c.args.plan.now.marks c.args.ready.now c.recover.ensures.spends.costs)
+]
+
+pub returns-clause-left : goal.returns-clause-left
+returns-clause-left g c = elim c.if-plan.branch [
+  | then-plan+in_ok-commit w ↦
+      rw w.ready-is (left_marked c.args.plan.now.marks w.if-plan.true c.args.ready.now c.recover.new.ready w.commit.new.ready c.recover.ensures.left w.commit.ensures.left)
+  | else-plan w ↦ rw w.ready-is (left_unmarked c.args.plan.now.marks w.if-plan.false c.args.ready.now c.recover.new.ready c.recover.ensures.left)
+]

@@ -10,10 +10,11 @@ use Rattle.ddf_group_commands.specs.Change.{is_done}
 use Rattle.ddf_write_commands.specs.Resync.{resync_behind, resync_refusals, resync_request, resyncing}
 use Rattle.ddf_write_commands.specs.Worked.{IsWorkedOf}
 use Rattle.ddf_write_commands.proofs.Arrays.{along_of, aside_of, can_close_of, closed_along, closed_aside, closed_keeps, closed_leaves, closed_of, keeps_of, not_opened_along, not_opened_keeps, not_opened_leaves, not_opened_of, stopped_leaves, stopped_of}
+use Rattle.ddf_write_commands.proofs.Costs.{closed_costs, opened_costs, worked_costs}
 use Rattle.ddf_write_commands.proofs.Courses.{IsTold}
 use Rattle.ddf_write_commands.proofs.PlanKept.{apart_there, fits_there, none_trusted}
 use Rattle.ddf_write_commands.proofs.ResyncArray.{ended, under}
-use Rattle.ddf_write_commands.proofs.ResyncWorks.{resync_steady, resync_worked}
+use Rattle.ddf_write_commands.proofs.ResyncWorks.{resync_costs, resync_steady, resync_worked}
 use Rattle.ddf_write_commands.proofs.Works.{HasWorked}
 use Rattle.ddf_write_commands.proofs.resyncing.resync_array.Goals as goal
 use Rattle.ddf_data_commands.proofs.ArrayUse.{named_is}
@@ -103,7 +104,7 @@ close_blocks-requires g c =
     resync_worked g.B.Bay.tells c.args.plan.now.view opened behind (floor_in c.args.group.now.seats)
     (under g.B.Bay.tells old opened behind c.args.group.now c.requires.planned.0 c.args.plan.now c.requires.planned.1 c.requires.from opens.same_sizes opened.held) true
     (g.met.B.Bay.told_before c.open_blocks.new.bay c.resync.new.bay (c.resync.ensures.goes.goes_on c.resync.new.bay (g.met.B.Bay.leads c.resync.new.bay)))
-    c.resync.ensures.any_moment c.resync.ensures.left c.resync.ensures.held (λ told so. c.in-Ok.ensures.resynced told) (λ told so. c.in-Ok.ensures.settled told) c.resync.ensures.goes c.resync.ensures.asked c.resync.ensures.idle in
+    c.resync.ensures.any_moment c.resync.ensures.left c.resync.ensures.held (λ told so. c.in-Ok.ensures.resynced told) (λ told so. c.in-Ok.ensures.settled told) c.resync.ensures.goes in
     can_close_of g.B.Bay.tells resyncing resync_steady old c.args.group.now resync_refusals resync_behind c.args.plan.now c.args.timestamp c.args.ready.now c.requires.was c.requires.planned.0 c.requires.planned.1 (omega arith) opened c.open_blocks.new.group c.open_blocks.new.ready c.requires.from opens.opened c.requires.floored opens.beside opens.leaves opens.goes_on opens.same_sizes opens.reads
     opens.writes_rise tells_opened behind tells_behind true works refl
 
@@ -131,7 +132,7 @@ returns-in-Ok-clause-worked g c = λ word is.
     resync_worked g.B.Bay.tells c.args.plan.now.view opened behind (floor_in c.args.group.now.seats)
     (under g.B.Bay.tells old opened behind c.args.group.now word c.args.plan.now is c.requires.from opens.same_sizes opened.held) true
     (g.met.B.Bay.told_before c.open_blocks.new.bay c.resync.new.bay (c.resync.ensures.goes.goes_on c.resync.new.bay (g.met.B.Bay.leads c.resync.new.bay)))
-    c.resync.ensures.any_moment c.resync.ensures.left c.resync.ensures.held (λ told so. c.in-Ok.ensures.resynced told) (λ told so. c.in-Ok.ensures.settled told) c.resync.ensures.goes c.resync.ensures.asked c.resync.ensures.idle in
+    c.resync.ensures.any_moment c.resync.ensures.left c.resync.ensures.held (λ told so. c.in-Ok.ensures.resynced told) (λ told so. c.in-Ok.ensures.settled told) c.resync.ensures.goes in
     let new = g.B.Bay.disks c.close_blocks.new.bay in
     let tells_new : IsTold (g.B.Bay.disks c.close_blocks.new.bay) = record {
       held = g.met.B.Bay.held_is_left c.close_blocks.new.bay;
@@ -169,7 +170,7 @@ returns-in-Ok-clause-leaves g c = λ told word is.
     resync_worked g.B.Bay.tells c.args.plan.now.view opened behind (floor_in c.args.group.now.seats)
     (under g.B.Bay.tells old opened behind c.args.group.now word c.args.plan.now is c.requires.from opens.same_sizes opened.held) true
     (g.met.B.Bay.told_before c.open_blocks.new.bay c.resync.new.bay (c.resync.ensures.goes.goes_on c.resync.new.bay (g.met.B.Bay.leads c.resync.new.bay)))
-    c.resync.ensures.any_moment c.resync.ensures.left c.resync.ensures.held (λ told so. c.in-Ok.ensures.resynced told) (λ told so. c.in-Ok.ensures.settled told) c.resync.ensures.goes c.resync.ensures.asked c.resync.ensures.idle in
+    c.resync.ensures.any_moment c.resync.ensures.left c.resync.ensures.held (λ told so. c.in-Ok.ensures.resynced told) (λ told so. c.in-Ok.ensures.settled told) c.resync.ensures.goes in
     let new = g.B.Bay.disks c.close_blocks.new.bay in
     let tells_new : IsTold (g.B.Bay.disks c.close_blocks.new.bay) = record {
       held = g.met.B.Bay.held_is_left c.close_blocks.new.bay;
@@ -207,7 +208,7 @@ returns-in-Ok-clause-beside g c = λ told.
     resync_worked g.B.Bay.tells c.args.plan.now.view opened behind (floor_in c.args.group.now.seats)
     (under g.B.Bay.tells old opened behind c.args.group.now c.requires.planned.0 c.args.plan.now c.requires.planned.1 c.requires.from opens.same_sizes opened.held) true
     (g.met.B.Bay.told_before c.open_blocks.new.bay c.resync.new.bay (c.resync.ensures.goes.goes_on c.resync.new.bay (g.met.B.Bay.leads c.resync.new.bay)))
-    c.resync.ensures.any_moment c.resync.ensures.left c.resync.ensures.held (λ told so. c.in-Ok.ensures.resynced told) (λ told so. c.in-Ok.ensures.settled told) c.resync.ensures.goes c.resync.ensures.asked c.resync.ensures.idle in
+    c.resync.ensures.any_moment c.resync.ensures.left c.resync.ensures.held (λ told so. c.in-Ok.ensures.resynced told) (λ told so. c.in-Ok.ensures.settled told) c.resync.ensures.goes in
     let new = g.B.Bay.disks c.close_blocks.new.bay in
     let tells_new : IsTold (g.B.Bay.disks c.close_blocks.new.bay) = record {
       held = g.met.B.Bay.held_is_left c.close_blocks.new.bay;
@@ -245,7 +246,7 @@ returns-in-Ok-clause-keeps g c = λ told left named by steps asked.
     resync_worked g.B.Bay.tells c.args.plan.now.view opened behind (floor_in c.args.group.now.seats)
     (under g.B.Bay.tells old opened behind c.args.group.now c.requires.planned.0 c.args.plan.now c.requires.planned.1 c.requires.from opens.same_sizes opened.held) true
     (g.met.B.Bay.told_before c.open_blocks.new.bay c.resync.new.bay (c.resync.ensures.goes.goes_on c.resync.new.bay (g.met.B.Bay.leads c.resync.new.bay)))
-    c.resync.ensures.any_moment c.resync.ensures.left c.resync.ensures.held (λ told so. c.in-Ok.ensures.resynced told) (λ told so. c.in-Ok.ensures.settled told) c.resync.ensures.goes c.resync.ensures.asked c.resync.ensures.idle in
+    c.resync.ensures.any_moment c.resync.ensures.left c.resync.ensures.held (λ told so. c.in-Ok.ensures.resynced told) (λ told so. c.in-Ok.ensures.settled told) c.resync.ensures.goes in
     let new = g.B.Bay.disks c.close_blocks.new.bay in
     let tells_new : IsTold (g.B.Bay.disks c.close_blocks.new.bay) = record {
       held = g.met.B.Bay.held_is_left c.close_blocks.new.bay;
@@ -283,7 +284,7 @@ returns-in-Ok-clause-along g c = λ told left named by word is.
     resync_worked g.B.Bay.tells c.args.plan.now.view opened behind (floor_in c.args.group.now.seats)
     (under g.B.Bay.tells old opened behind c.args.group.now word c.args.plan.now is c.requires.from opens.same_sizes opened.held) true
     (g.met.B.Bay.told_before c.open_blocks.new.bay c.resync.new.bay (c.resync.ensures.goes.goes_on c.resync.new.bay (g.met.B.Bay.leads c.resync.new.bay)))
-    c.resync.ensures.any_moment c.resync.ensures.left c.resync.ensures.held (λ told so. c.in-Ok.ensures.resynced told) (λ told so. c.in-Ok.ensures.settled told) c.resync.ensures.goes c.resync.ensures.asked c.resync.ensures.idle in
+    c.resync.ensures.any_moment c.resync.ensures.left c.resync.ensures.held (λ told so. c.in-Ok.ensures.resynced told) (λ told so. c.in-Ok.ensures.settled told) c.resync.ensures.goes in
     let new = g.B.Bay.disks c.close_blocks.new.bay in
     let tells_new : IsTold (g.B.Bay.disks c.close_blocks.new.bay) = record {
       held = g.met.B.Bay.held_is_left c.close_blocks.new.bay;
@@ -321,7 +322,7 @@ returns-in-Err-clause-worked g c = λ word is.
     resync_worked g.B.Bay.tells c.args.plan.now.view opened behind (floor_in c.args.group.now.seats)
     (under g.B.Bay.tells old opened behind c.args.group.now word c.args.plan.now is c.requires.from opens.same_sizes opened.held) false
     (g.met.B.Bay.told_before c.open_blocks.new.bay c.resync.new.bay (c.resync.ensures.goes.goes_on c.resync.new.bay (g.met.B.Bay.leads c.resync.new.bay)))
-    c.resync.ensures.any_moment c.resync.ensures.left c.resync.ensures.held (λ told so. absurd (false≢true so)) (λ told so. absurd (false≢true so)) c.resync.ensures.goes c.resync.ensures.asked c.resync.ensures.idle in
+    c.resync.ensures.any_moment c.resync.ensures.left c.resync.ensures.held (λ told so. absurd (false≢true so)) (λ told so. absurd (false≢true so)) c.resync.ensures.goes in
     let ends = ended g.B.Bay.tells old opened behind c.args.group.now word c.args.plan.now is c.requires.from opens.same_sizes c.in-Err.fault c.in-Err.ensures.fault in
     subst (λ (failure : Failure). IsWorkedOf resyncing (work_of g.B.Bay.tells old behind) c.args.group.now c.args.timestamp word (resync_request word) (Err failure)) (sym (c.failure_of.ensures ∙ ends.is))
     (stopped_of g.B.Bay.tells resyncing resync_steady old c.args.group.now resync_refusals resync_behind c.args.plan.now c.args.timestamp c.args.ready.now c.requires.was word is (omega arith) opened c.open_blocks.new.group c.open_blocks.new.ready c.requires.from opens.opened c.requires.floored opens.beside opens.leaves opens.goes_on opens.same_sizes opens.reads
@@ -351,7 +352,7 @@ returns-in-Err-clause-leaves g c = λ told word is.
     resync_worked g.B.Bay.tells c.args.plan.now.view opened behind (floor_in c.args.group.now.seats)
     (under g.B.Bay.tells old opened behind c.args.group.now word c.args.plan.now is c.requires.from opens.same_sizes opened.held) false
     (g.met.B.Bay.told_before c.open_blocks.new.bay c.resync.new.bay (c.resync.ensures.goes.goes_on c.resync.new.bay (g.met.B.Bay.leads c.resync.new.bay)))
-    c.resync.ensures.any_moment c.resync.ensures.left c.resync.ensures.held (λ told so. absurd (false≢true so)) (λ told so. absurd (false≢true so)) c.resync.ensures.goes c.resync.ensures.asked c.resync.ensures.idle in
+    c.resync.ensures.any_moment c.resync.ensures.left c.resync.ensures.held (λ told so. absurd (false≢true so)) (λ told so. absurd (false≢true so)) c.resync.ensures.goes in
     stopped_leaves g.B.Bay.tells resyncing resync_steady old c.args.group.now resync_refusals resync_behind c.args.plan.now c.args.timestamp c.args.ready.now c.requires.was word is (omega arith) opened c.open_blocks.new.group c.open_blocks.new.ready c.requires.from opens.opened c.requires.floored opens.beside opens.leaves opens.goes_on opens.same_sizes opens.reads
     opens.writes_rise tells_opened behind tells_behind false works told
 
@@ -379,7 +380,7 @@ returns-in-Err-clause-beside g c = λ told.
     resync_worked g.B.Bay.tells c.args.plan.now.view opened behind (floor_in c.args.group.now.seats)
     (under g.B.Bay.tells old opened behind c.args.group.now c.requires.planned.0 c.args.plan.now c.requires.planned.1 c.requires.from opens.same_sizes opened.held) false
     (g.met.B.Bay.told_before c.open_blocks.new.bay c.resync.new.bay (c.resync.ensures.goes.goes_on c.resync.new.bay (g.met.B.Bay.leads c.resync.new.bay)))
-    c.resync.ensures.any_moment c.resync.ensures.left c.resync.ensures.held (λ told so. absurd (false≢true so)) (λ told so. absurd (false≢true so)) c.resync.ensures.goes c.resync.ensures.asked c.resync.ensures.idle in
+    c.resync.ensures.any_moment c.resync.ensures.left c.resync.ensures.held (λ told so. absurd (false≢true so)) (λ told so. absurd (false≢true so)) c.resync.ensures.goes in
     aside_of g.B.Bay.tells resyncing resync_steady old c.args.group.now resync_refusals resync_behind c.args.plan.now c.args.timestamp c.args.ready.now c.requires.was c.requires.planned.0 c.requires.planned.1 (omega arith) opened c.open_blocks.new.group c.open_blocks.new.ready c.requires.from opens.opened c.requires.floored opens.beside opens.leaves opens.goes_on opens.same_sizes opens.reads
     opens.writes_rise tells_opened behind tells_behind false works told
 
@@ -407,7 +408,7 @@ returns-in-Err-clause-keeps g c = λ told left named by steps asked.
     resync_worked g.B.Bay.tells c.args.plan.now.view opened behind (floor_in c.args.group.now.seats)
     (under g.B.Bay.tells old opened behind c.args.group.now c.requires.planned.0 c.args.plan.now c.requires.planned.1 c.requires.from opens.same_sizes opened.held) false
     (g.met.B.Bay.told_before c.open_blocks.new.bay c.resync.new.bay (c.resync.ensures.goes.goes_on c.resync.new.bay (g.met.B.Bay.leads c.resync.new.bay)))
-    c.resync.ensures.any_moment c.resync.ensures.left c.resync.ensures.held (λ told so. absurd (false≢true so)) (λ told so. absurd (false≢true so)) c.resync.ensures.goes c.resync.ensures.asked c.resync.ensures.idle in
+    c.resync.ensures.any_moment c.resync.ensures.left c.resync.ensures.held (λ told so. absurd (false≢true so)) (λ told so. absurd (false≢true so)) c.resync.ensures.goes in
     keeps_of g.B.Bay.tells resyncing resync_steady old c.args.group.now resync_refusals resync_behind c.args.plan.now c.args.timestamp c.args.ready.now c.requires.was c.requires.planned.0 c.requires.planned.1 (omega arith) opened c.open_blocks.new.group c.open_blocks.new.ready c.requires.from opens.opened c.requires.floored opens.beside opens.leaves opens.goes_on opens.same_sizes opens.reads
     opens.writes_rise tells_opened behind tells_behind false works left named by steps asked told
 
@@ -435,6 +436,22 @@ returns-in-Err-clause-along g c = λ told left named by word is.
     resync_worked g.B.Bay.tells c.args.plan.now.view opened behind (floor_in c.args.group.now.seats)
     (under g.B.Bay.tells old opened behind c.args.group.now word c.args.plan.now is c.requires.from opens.same_sizes opened.held) false
     (g.met.B.Bay.told_before c.open_blocks.new.bay c.resync.new.bay (c.resync.ensures.goes.goes_on c.resync.new.bay (g.met.B.Bay.leads c.resync.new.bay)))
-    c.resync.ensures.any_moment c.resync.ensures.left c.resync.ensures.held (λ told so. absurd (false≢true so)) (λ told so. absurd (false≢true so)) c.resync.ensures.goes c.resync.ensures.asked c.resync.ensures.idle in
+    c.resync.ensures.any_moment c.resync.ensures.left c.resync.ensures.held (λ told so. absurd (false≢true so)) (λ told so. absurd (false≢true so)) c.resync.ensures.goes in
     along_of g.B.Bay.tells resyncing resync_steady old c.args.group.now resync_refusals resync_behind c.args.plan.now c.args.timestamp c.args.ready.now c.requires.was word is (omega arith) opened c.open_blocks.new.group c.open_blocks.new.ready c.requires.from opens.opened c.requires.floored opens.beside opens.leaves opens.goes_on opens.same_sizes opens.reads
     opens.writes_rise tells_opened behind tells_behind false works told left named by
+
+pub returns-in_err-open_blocks-clause-costs : goal.returns-in_err-open_blocks-clause-costs
+returns-in_err-open_blocks-clause-costs g c = λ steps are.
+    opened_costs g.B.Bay.tells c.args.group.now c.args.plan.now.changes c.args.timestamp c.args.ready.now c.requires.was c.args.plan.now.marks (resyncing.most_sectors c.args.plan.now.view) steps are c.open_blocks.ensures.costs
+
+pub returns-in-Ok-clause-costs : goal.returns-in-Ok-clause-costs
+returns-in-Ok-clause-costs g c = λ steps are.
+    let works = resync_costs g.B.Bay.tells c.args.plan.now.view (g.B.Bay.disks c.open_blocks.new.bay) (g.B.Bay.disks c.resync.new.bay) c.resync.ensures.asked c.resync.ensures.sectors c.resync.ensures.idle in
+    closed_costs g.B.Bay.tells c.args.group.now c.args.plan.now.changes c.args.timestamp c.args.ready.now c.requires.was c.args.plan.now.marks (resyncing.most_sectors c.args.plan.now.view) steps are c.open_blocks.ensures.costs
+    works c.open_blocks.new.ready c.in_ok-open_blocks.ensures.left c.close_blocks.ensures.costs
+
+pub returns-in-Err-clause-costs : goal.returns-in-Err-clause-costs
+returns-in-Err-clause-costs g c = λ steps are.
+    let works = resync_costs g.B.Bay.tells c.args.plan.now.view (g.B.Bay.disks c.open_blocks.new.bay) (g.B.Bay.disks c.resync.new.bay) c.resync.ensures.asked c.resync.ensures.sectors c.resync.ensures.idle in
+    worked_costs g.B.Bay.tells c.args.group.now c.args.plan.now.changes c.args.timestamp c.args.ready.now c.requires.was c.args.plan.now.marks (resyncing.most_sectors c.args.plan.now.view) steps are c.open_blocks.ensures.costs
+    works

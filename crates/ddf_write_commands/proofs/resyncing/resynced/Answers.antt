@@ -6,7 +6,8 @@ use Rattle.ddf_data_stops.proofs.Floored.{group_floored}
 use Rattle.ddf_answer.specs.Call.{work_of}
 use Rattle.ddf_group_commands.proofs.Outcomes.{asked_of, group_read, read_still}
 use Rattle.ddf_write_commands.specs.Resync.{resync_behind, resync_refusals, resync_request, resyncing}
-use Rattle.ddf_write_commands.proofs.PlanKept.{steps_are}
+use Rattle.ddf_write_commands.proofs.Costs.{plan_costs}
+use Rattle.ddf_write_commands.proofs.PlanKept.{planned, steps_are}
 use Rattle.ddf_write_commands.proofs.ResyncArray.{has_resynced}
 use Rattle.ddf_write_commands.proofs.ResyncWorks.{resync_steady}
 use Rattle.ddf_write_commands.proofs.Since.{HasDoneArray, come_since, none_come, not_planned, not_ready, unwritten_come}
@@ -81,6 +82,8 @@ returns-clause-resynced g c =
           (asked_of (readied group plan.changes c.timestamp-timestamp.result) steps (sym (steps_are group resync_refusals resync_behind word plan c.timestamp-timestamp.result c.in_ok-plan.ensures (omega arith)) ∙ asked));
       along = λ told left named by. array.along told left named by word c.in_ok-plan.ensures;
       goes = array.goes;
+      costs = plan_costs resyncing (work_of g.B.Bay.tells middle new) group resync_refusals resync_behind word plan c.timestamp-timestamp.result c.in_ok-plan.ensures (omega arith)
+          (planned group resync_refusals resync_behind word plan c.timestamp-timestamp.result c.in_ok-plan.ensures (omega arith) c.in_ok-ready.ready c.in_ok-ready.ensures.was) array.costs;
     }) in
     has_resynced (work_of g.B.Bay.tells old new) c.args.named timestamp word c.resync_array.result
     (come_since g.B.Bay.tells resyncing resync_steady old middle new c.read_group.ensures.reads c.read_group.ensures.reads_rise c.read_group.ensures.writes_rise c.args.named timestamp word (resync_request word) group

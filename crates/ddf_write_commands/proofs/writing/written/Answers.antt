@@ -79,5 +79,5 @@ returns-clause-written g c =
     let made = planned c.in_ok-group.group (write_refusals c.args.start c.args.count) write_behind word c.in_ok-plan.plan timestamp is (few_behind is.entry) c.in_ok-ready.ready (rw c.timestamp-timestamp.ensures at c.in_ok-ready.ensures.was) in
     come g.S.Source.tells (g.S.Source.input c.args.source.now) (g.S.Source.input c.read_first.new.source) (g.S.Source.input c.write_array.new.source) c.args.count c.in_ok-room.room.items c.in_ok-room.ensures.read g.B.Bay.tells
     (g.B.Bay.disks c.args.bay.now) (g.B.Bay.disks c.read_group.new.bay) (g.B.Bay.disks c.write_array.new.bay) c.read_group.ensures.reads c.read_group.ensures.reads_rise c.read_group.ensures.writes_rise c.args.named timestamp word c.args.start
-    c.in_ok-group.group c.in_ok-group.ensures.read c.in_ok-plan.plan is (made.planned.first ++ made.planned.last) made.planned.are_asked c.write_array.ensures.goes c.write_array.ensures.done.0 c.write_array.result
+    c.in_ok-group.group c.in_ok-group.ensures.read c.in_ok-plan.plan is made c.write_array.ensures.goes c.write_array.ensures.done.0 c.write_array.result
     (rw (c.timestamp-timestamp.ensures, c.deref_mut.ensures.value) at c.write_array.ensures.done.1)
