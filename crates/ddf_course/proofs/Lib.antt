@@ -1,0 +1,14 @@
+pub mod Bools
+pub mod Levels
+pub mod Seen
+pub mod Tables
+pub mod Steps
+pub mod Causes
+pub mod Trios
+pub mod Made
+pub mod Used
+pub mod Wishes
+pub mod Spares
+pub mod Readable
+pub mod Labelled
+pub mod Asked

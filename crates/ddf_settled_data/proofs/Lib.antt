@@ -1,0 +1,13 @@
+pub mod Whole
+pub mod Held
+pub mod Write
+pub mod Resync
+pub mod Less
+pub mod Ground
+pub mod Rebuild
+pub mod Replaced
+pub mod Aside
+pub mod Marking
+pub mod Rounds
+pub mod Done
+pub mod Lost
