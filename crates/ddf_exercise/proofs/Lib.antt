@@ -6,3 +6,7 @@ mod Counting
 mod ReadBack
 mod Sequences
 mod Counted
+mod Peeling
+mod Stepping
+mod Course
+mod Complete

@@ -1,48 +1,43 @@
 -- How the steps of an exercise are taken: each is a call of the program, or the loss of a disk.
-use Rattle.std.specs.Prelude.{◌≡◌, ◌⊎◌, ◌↔◌, ℕ, ◌+◌, ◌*◌, ◌==◌, ◌&&◌, not, Bool, true, false, List, [], ◌∷◌, replicate, codes, Some, None, IsTrue, if◌then◌else◌}
+use Rattle.std.specs.Prelude.{◌≡◌, ◌⊎◌, ◌↔◌, ℕ, ◌+◌, ◌*◌, ◌==◌, ◌&&◌, not, Bool, true, false, List, [], ◌∷◌, replicate, codes, Some, IsTrue, if◌then◌else◌}
 use Rattle.ddf_bytes.specs.declared.stamp.Stamp.{Stamp}
 use Rattle.ddf_bytes.specs.Streams.{SinkState, SourceState}
 use Rattle.ddf_bay.specs.Memory.{disks_of, state_of, without}
+use Rattle.ddf_bay.specs.Moments.{GoesOn}
+use Rattle.ddf_bay.specs.ReadsOnly.{ReadsOnly}
 use Rattle.ddf_bay.specs.declared.memory.MemoryBay.{MemoryBay}
 use Rattle.ddf_update.specs.NewCopies.{group_of as name_of}
 use Rattle.ddf_words.specs.declared.command.Command.{Command}
 use Rattle.ddf_words.specs.declared.command.Command.TheVariants as commands
-use Rattle.ddf_words.specs.declared.command.Creation.{Creation}
 use Rattle.ddf_words.specs.declared.command.DiskStyle.TheVariants.{Standard}
 use Rattle.ddf_words.specs.declared.command.SpareWord.TheVariants.{Global}
 use Rattle.ddf_words.specs.declared.command.Wish.TheVariants as wishes
 use Rattle.ddf_text.specs.Done.{sequence_line}
+use Rattle.ddf_words.specs.Traits.{traits_of}
 use Rattle.ddf_write_commands.specs.Payload.{input_of}
 use Rattle.ddf_answer.specs.Call.{answer_of, work_of}
 use Rattle.ddf_command.specs.Run.{IsCommandDone}
+pub use Rattle.ddf_course.specs.Words.{creation as array_asked, word as array_name}
+pub use Rattle.ddf_steady.specs.Ending.{unused}
 use Rattle.ddf_exercise.specs.declared.steps.Step.{Step}
 use Rattle.ddf_exercise.specs.declared.steps.Step.TheVariants.{Label, Create, Resync, Spare, Write, Unplug, Rebuild, Scrub}
 use Rattle.ddf_exercise.specs.Steps.{rise}
 
 -- ---- what is asked for
 
--- the name of the array
-abbrev pub array_name : List ℕ
-array_name = codes "ex"
-
--- the array: RAID 5 of three disks, its parity left symmetric, in strips of 8 sectors
-abbrev pub array_asked : Creation
-array_asked = record { name = array_name; level = 5; qualifier = 3; code = 3; secondary = None; elements = record { slots = 0 ∷ 1 ∷ 2 ∷ []; blocks = 4096 } ∷ [] }
-
 -- an input of these bytes
 abbrev pub given : List ℕ → SourceState
 given bytes = record { left = bytes; faults = 0 }
 
--- an output that took nothing yet
-abbrev pub unused : SinkState
-unused = record { taken = []; faults = 0; empty_takes = 0 }
-
 -- ---- calls
 
--- A command of the program was done over the group that the exercise labels, or it told why not: with these bytes to take, on these disks, to this output.
+-- A command of the program was done over the group that the exercise labels, or it told why not: with these bytes to take, on these disks, to this output. It made nothing of the disks
+-- but by their own calls, and where it may not write only read them.
 pub record IsCall (stamp : Stamp) (command : Command) (bytes : List ℕ) (old new : MemoryBay) (before after : SinkState) (status : ℕ) : Type 0 where
   pub left : SourceState
   pub done : IsCommandDone (work_of (Unit {0}) (disks_of old) (disks_of new)) (input_of (Unit {0}) (given bytes) left) stamp (Some (name_of stamp)) command (answer_of (Unit {0}) before after status)
+  pub goes_on : GoesOn (disks_of old) (disks_of new)
+  pub stays : (traits_of command).may_write ≡ false → ReadsOnly (disks_of old) (disks_of new)
 
 -- For want of memory nothing was begun.
 pub record LacksMemory (old new : MemoryBay) (before after : SinkState) (status : ℕ) : Type 0 where
@@ -58,7 +53,7 @@ IsTaken stamp Resync old new before after status = IsCall stamp (commands.Resync
 IsTaken stamp (Spare slot) old new before after status = IsCall stamp (commands.Change (wishes.Spare slot Global)) [] old new before after status
 IsTaken stamp (Write fill) old new before after status =
     IsCall stamp (commands.Write array_name fill.start fill.count) (replicate (512 * fill.count) fill.byte) old new before after status ⊎ LacksMemory old new before after status
-IsTaken stamp (Unplug slot) old new before after status = (state_of new ≡ without (state_of old) slot) × (after ≡ before) × (status ≡ 0)
+IsTaken stamp (Unplug slot) old new before after status = (state_of new ≡ without (state_of old) slot) × (disks_of new).gone slot × (after ≡ before) × (status ≡ 0)
 IsTaken stamp Rebuild old new before after status = IsCall stamp (commands.Rebuild array_name) [] old new before after status
 IsTaken stamp Scrub old new before after status = IsCall stamp (commands.Scrub array_name) [] old new before after status
 

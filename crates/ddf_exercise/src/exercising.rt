@@ -1,5 +1,5 @@
 // The exercise.
-ghost use Rattle.std.specs.Prelude.{◌≡◌, ◌≤◌, ◌++◌, IsTrue, length};
+ghost use Rattle.std.specs.Prelude.{◌≡◌, ◌⊎◌, ◌≤◌, ◌++◌, IsTrue, length};
 ghost use Rattle.std.specs.List.{list_all};
 ghost use Rattle.ddf_bytes.specs.declared.stamp.Stamp.{Stamp};
 ghost use Rattle.ddf_bytes.specs.Streams.{SinkRose};
@@ -36,7 +36,7 @@ pub struct Found {
 /// Exercises the program's commands on new disks in memory: all are labelled, an array of three is created and resynced, and the other two are its spares. So many writes follow, by
 /// numbers that come from the seed; then a disk is lost and the array rebuilt, twice, with so many writes behind each; it is scrubbed, and all of its blocks are read. Each command has
 /// to be done and to tell what it should, and the blocks have to be those that were written: then it tells how many there were, the sum of their bytes, and the sequence number of
-/// the group. Else its status is that of the command that wasn't done, or 3 where one told something else.
+/// the group. Else its status is that of the command that wasn't done, or 3 where one told something else; for want of memory it is 5, and where the output fails 6, and no other comes.
 pub fn exercise<K: Sink>(
     alloc: Global,
     bay: &mut MemoryBay,
@@ -50,6 +50,7 @@ pub fn exercise<K: Sink>(
     ensures done { IsExerciseDone stamp seed rounds bay.old bay.new (answer_of K.tells (K.output sink.old) (K.output sink.new) (code_of result)) }
     ensures told { code_of result ≡ 0 → K.tells → (K.output sink.new).taken ≡ (K.output sink.old).taken ++ exercise_line seed rounds }
     ensures stream { code_of result ≡ 6 → SinkRose (K.output sink.old) (K.output sink.new) }
+    ensures complete { (code_of result ≡ 0) ⊎ (code_of result ≡ 5) ⊎ (code_of result ≡ 6) }
 {
     match exercised(alloc, bay, seed, rounds, &stamp) {
         Ok(found) => {
@@ -71,6 +72,7 @@ pub fn exercise_new_disks<K: Sink>(
     requires { rounds ≤ 256 }
     ensures told { code_of result ≡ 0 → K.tells → (K.output sink.new).taken ≡ (K.output sink.old).taken ++ exercise_line seed rounds }
     ensures stream { code_of result ≡ 6 → SinkRose (K.output sink.old) (K.output sink.new) }
+    ensures complete { (code_of result ≡ 0) ⊎ (code_of result ≡ 5) ⊎ (code_of result ≡ 6) }
 {
     let room = 25_000 + 2_100 * rounds as usize;
     match MemoryBay::new(alloc, &[65_536; 5], room, Vec::new(alloc), None) {

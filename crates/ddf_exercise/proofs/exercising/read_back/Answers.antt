@@ -15,7 +15,7 @@ returns-then-code-ne0 c = λ stamp named.
       inl (record {
         after = output_of c.read-status.new.sink;
         status = code_of c.read-status.result;
-        call = record { left = given []; done = rw (named, c.in-Ok-new.ensures) at c.read-status.ensures.done };
+        call = record { left = given []; done = rw (named, c.in-Ok-new.ensures) at c.read-status.ensures.done; goes_on = c.read-status.ensures.ends.goes_on; stays = c.read-status.ensures.ends.stays };
         counts = record {
           as_it_should = c.is_told.result;
           tells = tells_along c.is_told.result c.bytes.result.now c.read-status.new.sink.taken c.as_slice-2.result.now (bytes_behind c.args.steps.now) c.bytes.ensures bytes c.is_told.ensures;
@@ -33,7 +33,7 @@ returns c = λ stamp named.
       inl (record {
         after = output_of c.read-status.new.sink;
         status = code_of c.read-status.result;
-        call = record { left = given []; done = rw (named, c.in-Ok-new.ensures) at c.read-status.ensures.done };
+        call = record { left = given []; done = rw (named, c.in-Ok-new.ensures) at c.read-status.ensures.done; goes_on = c.read-status.ensures.ends.goes_on; stays = c.read-status.ensures.ends.stays };
         counts = record {
           as_it_should = c.is_told.result;
           tells = tells_along c.is_told.result c.bytes.result.now c.read-status.new.sink.taken c.as_slice-2.result.now (bytes_behind c.args.steps.now) c.bytes.ensures bytes c.is_told.ensures;

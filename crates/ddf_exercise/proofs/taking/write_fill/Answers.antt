@@ -8,4 +8,4 @@ returns-in-Err-clause-taken c = inr (record { same_bay = refl; same_output = ref
 pub returns-clause-taken : goal.returns-clause-taken
 returns-clause-taken c =
     let bytes = c.in-Ok.ensures.items_if_clones_equal (λ y same. same) in
-    inl (record { left = input_of c.write.new.source; done = rw (c.requires.named, c.new-source.ensures, bytes) at c.write.ensures.done })
+    inl (record { left = input_of c.write.new.source; done = rw (c.requires.named, c.new-source.ensures, bytes) at c.write.ensures.done; goes_on = c.write.ensures.ends.goes_on; stays = λ none. absurd cc })
