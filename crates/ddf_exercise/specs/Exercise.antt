@@ -4,7 +4,7 @@ use Rattle.std.specs.Fmt.{decimal}
 use Rattle.std.specs.List.{sum}
 use Rattle.ddf_bytes.specs.declared.stamp.Stamp.{Stamp}
 use Rattle.ddf_bytes.specs.Streams.{SinkState}
-use Rattle.ddf_bay.specs.Memory.{MemoryState, blank}
+use Rattle.ddf_bay.specs.Memory.{MemoryState, blank, state_of}
 use Rattle.ddf_bay.specs.declared.memory.MemoryBay.{MemoryBay}
 use Rattle.ddf_words.specs.declared.command.Command.TheVariants as commands
 use Rattle.ddf_answer.specs.Call.{Answer}
@@ -67,6 +67,11 @@ pub record IsExerciseDone (stamp : Stamp) (seed rounds : ℕ) (old new : MemoryB
   pub came_to : ℕ
   pub exercised : IsExercised stamp seed rounds old new came_to
   pub answered : IsAnswered came_to (exercise_line seed rounds) answer
+
+-- It was done on new disks, or there was no memory for them and it told nothing.
+abbrev pub IsDoneOnNew : Stamp → (seed rounds : ℕ) → Answer → Type 0
+IsDoneOnNew stamp seed rounds answer =
+    ((old : MemoryBay) × (new : MemoryBay) × (state_of old ≡ new_disks rounds) × IsExerciseDone stamp seed rounds old new answer) ⊎ ((answer.status ≡ 5) × (answer.new ≡ answer.old))
 
 -- ---- as it is answered
 

@@ -8,7 +8,7 @@ ghost use Rattle.ddf_update.specs.NewCopies.{group_of as name_of};
 ghost use Rattle.ddf_answer.specs.Call.{answer_of};
 ghost use Rattle.ddf_answer.specs.Status.{code_of};
 ghost use Rattle.ddf_exercise.specs.Blocks.{bytes_behind};
-ghost use Rattle.ddf_exercise.specs.Exercise.{EndsAs, IsExerciseDone, IsExercised, IsTriedRead, exercise_line, new_disks};
+ghost use Rattle.ddf_exercise.specs.Exercise.{EndsAs, IsDoneOnNew, IsExerciseDone, IsExercised, IsTriedRead, exercise_line, new_disks};
 ghost use Rattle.ddf_exercise.specs.Steps.{all_steps, fits};
 
 use crate::blocks::{blocks_behind, blocks_in, bytes_of_blocks, sum_of_blocks};
@@ -70,6 +70,7 @@ pub fn exercise_new_disks<K: Sink>(
     stamp: Stamp,
 ) -> Status
     requires { rounds ≤ 256 }
+    ensures done { IsDoneOnNew stamp seed rounds (answer_of K.tells (K.output sink.old) (K.output sink.new) (code_of result)) }
     ensures told { code_of result ≡ 0 → K.tells → (K.output sink.new).taken ≡ (K.output sink.old).taken ++ exercise_line seed rounds }
     ensures stream { code_of result ≡ 6 → SinkRose (K.output sink.old) (K.output sink.new) }
     ensures complete { (code_of result ≡ 0) ⊎ (code_of result ≡ 5) ⊎ (code_of result ≡ 6) }
