@@ -3,30 +3,38 @@
 
 ghost use Rattle.std.specs.Prelude.{◌≤◌};
 
+use ddf_asking::{
+    Person, Risks, complete, consents, is_short, length_of, makes_for_linux, name_away, name_lines,
+    name_lost_on_linux, name_numbers, name_odd, name_risks, name_sizes, name_strays, name_turned,
+    name_unfinished, name_unrebuilt, name_untaken, tell_end, tell_faulted,
+};
 use ddf_batch::serve;
-use ddf_bay::Bay;
-use ddf_bytes::{StdSink, StdSource};
-use ddf_command::{Asked, Command, refuse_words, slot_paths};
+use ddf_bay::{Bay, FileBay};
+use ddf_bytes::{NoMemory, StdSink, StdSource};
+use ddf_command::{Asked, Command, Wish, refuse_words, slot_paths};
 use ddf_edge::{
-    CountingSink, Failure, Meter, NO_MEMORY, NotingSource, STREAM_FAULT, USAGE, agrees, answer,
-    any_unopened, explain, hold_streams, is_risky, keep_freed, makes_for_linux, name_no_texts,
-    name_turned, name_unfinished, name_untaken, number_slots, open_disks, same_disk,
-    sectors_to_write, stamp_for, tell_end,
+    CountingSink, DISK_FAULT, Failure, Given, Meter, NO_MEMORY, NotingSource, Patient,
+    STREAM_FAULT, USAGE, answer, any_locked, care_of_environment, care_word, command_word, explain,
+    first_unopened, hold_streams, keep_freed, lines_of_input, name_failed, name_no_texts,
+    name_rest, number_sizes, number_slots, open_disks, reason_of, same_disk, stamp_for,
 };
 use ddf_exercise::exercise_new_disks;
 use ddf_exercise_words::{Asking, asking_of};
+use ddf_heard::Heard;
 use ddf_linux::Turned;
 use ddf_progress::Watched;
+use ddf_refusals::{Ear, HearingSink};
 use std::fs::File;
 use std::io::IsTerminal;
 use std::process::ExitCode;
 use std::rt::{Clock, Env, Files};
-use std::{env, io};
+use std::{env, io, str};
 
 fn main(rt: HostRuntime) -> ExitCode {
     let sees = rt.stderr().is_terminal();
-    let answers = sees && rt.stdin().is_terminal();
-    ExitCode::from(status(&rt, Person { sees, answers }))
+    let types = rt.stdin().is_terminal();
+    let care = care_of_environment(&rt);
+    ExitCode::from(status(&rt, Person { sees, types, care }))
 }
 
 /// What the words ask for.
@@ -42,14 +50,8 @@ enum Kind {
 const BATCH_LOSSES: &str =
     "ddf: a batch does so at its first line that changes the group, and else not at all\n";
 
-/// Who started the program, as far as the standard streams tell.
-#[derive(Clone, Copy)]
-struct Person {
-    /// Standard error is a terminal.
-    sees: bool,
-    /// So is standard input.
-    answers: bool,
-}
+/// What is said where a command that was refused would have lost members.
+const NOTHING_LOST: &str = "ddf: nothing was written, so no member was lost\n";
 
 /// Does what the words ask for, or says on standard error why not.
 fn status<R>(rt: &R, person: Person) -> u8
@@ -71,11 +73,12 @@ where
     R: Files<File = File> + Env + Clock + Input + Print + Eprint + AllocGlobal + Clone + Drop,
 {
     let held = hold_streams(rt).map_err(Failure::Streams)?;
-    let outcome = match words(rt) {
-        Ok(words) => obey(rt, &words, person),
+    let mut person = person;
+    let outcome = match words(rt, &mut person) {
+        Ok(mut words) => obey(rt, &mut words, person),
         Err(why) if why.kind() == io::ErrorKind::OutOfMemory => Err(Failure::Memory),
         Err(why) => {
-            let _ = eprintln!(rt; "ddf: the words can't be read: {why}");
+            let _ = eprintln!(rt; "ddf: the arguments can't be read: {why}");
             name_no_texts(rt);
             refuse(rt, 0)
         }
@@ -84,18 +87,25 @@ where
     outcome
 }
 
-/// The words behind the program's name.
-fn words<R: Env + Eprint + AllocGlobal>(rt: &R) -> io::Result<Vec<String>> {
+/// The words after the program's name, but for a first one that says how careful to be.
+fn words<R>(rt: &R, person: &mut Person) -> io::Result<Vec<String>>
+where
+    R: Env + Eprint + AllocGlobal,
+{
     let mut words = Vec::new(rt.alloc());
-    for word in env::args(rt)?.skip(1) {
-        words.push(word)?;
+    for (place, word) in env::args(rt)?.skip(1).enumerate() {
+        match care_word(&word) {
+            Some(care) if place == 0 => person.care = care,
+            _ => words.push(word)?,
+        }
     }
     number_slots(rt, &mut words)?;
+    number_sizes(rt, &mut words)?;
     Ok(words)
 }
 
 /// Does what the words ask for.
-fn obey<R>(rt: &R, words: &[String], person: Person) -> Result<u8, Failure>
+fn obey<R>(rt: &R, words: &mut Vec<String>, person: Person) -> Result<u8, Failure>
 where
     R: Files<File = File> + Clock + Input + Print + Eprint + AllocGlobal + Clone + Drop,
 {
@@ -104,6 +114,9 @@ where
             Ok(()) => Ok(0),
             Err(_) => Err(Failure::Stream),
         };
+    }
+    if is_short(words) {
+        complete_words(rt, words)?;
     }
     match asking_of(rt.alloc(), words)? {
         Asking::Command(asked) => perform(rt, words, &asked, Kind::Command, person),
@@ -117,6 +130,18 @@ where
         Asking::Exercise { seed, rounds } => exercise_commands(rt, seed, rounds),
         Asking::Wrong(place) => explain_refusal(rt, words, place),
     }
+}
+
+/// Looks at the disks, and puts what they show in the place of the words that name it in short.
+fn complete_words<R>(rt: &R, words: &mut Vec<String>) -> Result<(), Failure>
+where
+    R: Files<File = File> + Clock + Eprint + AllocGlobal + Clone + Drop,
+{
+    let files = open_disks(rt, slot_paths(words), &Command::Show)?;
+    check_opened(&files, &Command::Show)?;
+    let mut bay = Turned::new(files, makes_for_linux(&Command::Show));
+    complete(rt, &mut bay, words)?;
+    Ok(())
 }
 
 /// Exercises the program's commands on disks in memory. No image is touched.
@@ -140,7 +165,10 @@ where
         rt.eprint(USAGE)
     } else {
         let wrong = explain(words, place);
-        eprintln!(rt; "ddf: {wrong}; ddf --help shows the words")
+        match wrong.synopsis() {
+            Some(line) => eprintln!(rt; "ddf: {wrong}; the arguments are: {line}"),
+            None => eprintln!(rt; "ddf: {wrong}; ddf --help shows the arguments"),
+        }
     };
     refuse(rt, place)
 }
@@ -155,7 +183,7 @@ fn refuse<R: Print + AllocGlobal>(rt: &R, place: usize) -> Result<u8, Failure> {
 fn answered(status: u8, writes: bool) -> Result<u8, Failure> {
     match status {
         NO_MEMORY => Err(Failure::Memory),
-        STREAM_FAULT if writes => Err(Failure::StreamBehind),
+        STREAM_FAULT if writes => Err(Failure::StreamAfter),
         STREAM_FAULT => Err(Failure::Stream),
         _ => Ok(status),
     }
@@ -167,7 +195,8 @@ fn changes_group(command: &Command) -> bool {
     traits.takes_group && traits.may_write
 }
 
-/// Opens the disks, and hands them to the command. A group isn't changed where a disk that is named can't be opened.
+/// Opens the disks, and hands them to the command. A group isn't changed where a disk that is named can't be opened, and isn't looked
+/// at where one is locked.
 fn perform<R>(
     rt: &R,
     words: &[String],
@@ -186,43 +215,40 @@ where
     let makes_names = kind == Kind::Batch || asked.command.traits().makes_names;
     let stamp = stamp_for(rt, makes_names).map_err(Failure::Chance)?;
     let files = open_disks(rt, paths, &asked.command)?;
-    if changes_group(&asked.command) && any_unopened(&files) {
-        return Err(Failure::Unopened);
-    }
+    check_opened(&files, &asked.command)?;
     let mut bay = Turned::new(files, makes_for_linux(&asked.command));
-    let risky = is_risky(rt, &mut bay, paths, asked)?;
-    if risky && kind == Kind::Batch {
-        let _ = rt.eprint(BATCH_LOSSES);
-    }
-    if risky && person.answers && !agrees(rt) {
-        return Err(Failure::Declined);
-    }
-    let to_write = if person.sees {
-        sectors_to_write(rt, &mut bay, asked)
+    let risks = name_before(rt, &mut bay, paths, asked, kind, person)?;
+    let given = input_of(rt, kind, person)?;
+    let length = if person.sees {
+        length_of(rt, &mut bay, asked)
     } else {
         None
     };
 
     // A look keeps the slots, and no clause of it says so.
     if bay.slots() != paths.len() {
-        return Err(Failure::Unopened);
+        return Err(Failure::Declined);
     }
-    let mut bay = Watched::new(bay, Meter::new(rt, to_write));
-    let mut source = NotingSource::new(StdSource::new(rt.reader()));
-    let mut sink = CountingSink::new(StdSink::new(io::writer(rt)));
+    let lines = lines_in(rt, &given)?;
+    let mut bay = Watched::new(bay, Meter::new(rt, length));
+    let mut source = NotingSource::new(StdSource::new(given));
+    let output = CountingSink::new(StdSink::new(Patient(io::writer(rt))));
+    let ear = Ear::new(rt, command_word(words), text_of(&lines));
+    let mut sink = HearingSink::new(output, ear);
     let status = serve(rt.alloc(), words, &mut bay, &mut source, &mut sink, stamp);
     let (mut bay, meter) = bay.into_parts();
     meter.end();
-    if let Command::Examine | Command::Assemble | Command::Show = asked.command {
-        name_turned(rt, &bay);
+    if kind == Kind::Command {
+        if let Some(refused) = sink.refused() {
+            name_numbers(rt, &mut bay, paths, asked, refused)?;
+        }
     }
-    if let Command::Assemble | Command::Show | Command::Read { .. } = asked.command {
-        name_unfinished(rt, &mut bay, asked.group);
+    tell_end(rt, &asked.command, paths, status, sink.sink().taken())?;
+    name_after(rt, &mut bay, paths, asked, status, risks);
+    if person.sees && matches!(asked.command, Command::Show) {
+        name_sizes(rt, &mut bay, paths, asked.group)?;
     }
-    tell_end(rt, &asked.command, paths, status, sink.taken());
-    if status == 0 {
-        name_untaken(rt, &bay, paths, &asked.command);
-    }
+    name_failed(rt, &bay.into_inner(), paths);
     if status == STREAM_FAULT && source.failed() {
         return Err(match kind {
             Kind::Command => Failure::Input,
@@ -230,4 +256,138 @@ where
         });
     }
     answered(status, asked.command.traits().may_write)
+}
+
+/// Whether a command may go on with the disks that could be opened.
+fn check_opened<R: Files>(files: &FileBay<Heard<R>>, command: &Command) -> Result<(), Failure> {
+    if changes_group(command) {
+        if let Some(why) = first_unopened(files) {
+            return Err(Failure::Unopened(reason_of(&why)));
+        }
+    } else if command.traits().takes_group && any_locked(files) {
+        return Err(Failure::Locked);
+    }
+    Ok(())
+}
+
+/// Names what a command would lose or write over, and asks. Names too what is odd about disks that are looked at.
+fn name_before<R>(
+    rt: &R,
+    bay: &mut Turned<FileBay<Heard<R>>>,
+    paths: &[String],
+    asked: &Asked,
+    kind: Kind,
+    person: Person,
+) -> Result<Risks, Failure>
+where
+    R: Files<File = File> + Input + Eprint + AllocGlobal + Clone + Drop,
+{
+    if let Command::Examine | Command::Show = asked.command {
+        name_odd(rt, bay, paths);
+    }
+    if let Command::Show | Command::Read { .. } | Command::Scrub { .. } = asked.command {
+        name_away(rt, bay, paths, asked.group)?;
+    }
+    if asked.command.traits().takes_group {
+        name_strays(rt, bay, paths, asked.group)?;
+    }
+    let risks = name_risks(rt, bay, paths, asked)?;
+    if risks.losses && kind == Kind::Batch {
+        let _ = rt.eprint(BATCH_LOSSES);
+    }
+    if risks.any() {
+        consents(rt, person)?;
+    }
+    Ok(risks)
+}
+
+/// What the command is given: standard input, or of a batch its lines. Lines that put an end to something are asked for.
+fn input_of<R>(rt: &R, kind: Kind, person: Person) -> Result<Given<R::Reader>, Failure>
+where
+    R: Files<File = File> + Input + Eprint + AllocGlobal,
+{
+    if kind == Kind::Command {
+        return Ok(Given::Stream(Patient(rt.reader())));
+    }
+    let lines = lines_of_input(rt)?;
+    if name_lines(rt, lines.as_slice()) {
+        consents(rt, person)?;
+    }
+    Ok(Given::Lines(lines, 0))
+}
+
+/// The lines of a batch once more, for what is said of them.
+fn lines_in<R, S>(rt: &R, given: &Given<S>) -> Result<Option<Vec<u8>>, NoMemory>
+where
+    R: AllocGlobal,
+{
+    match given {
+        Given::Stream(_) => Ok(None),
+        Given::Lines(lines, _) => Ok(Some(Vec::from_slice(rt.alloc(), lines.as_slice())?)),
+    }
+}
+
+/// The lines of a batch as text, nothing of what isn't text.
+fn text_of(lines: &Option<Vec<u8>>) -> Option<&str> {
+    match lines {
+        Some(lines) => match str::from_utf8(lines.as_slice()) {
+            Ok(text) => Some(text),
+            Err(_) => Some(""),
+        },
+        None => None,
+    }
+}
+
+/// Says what a command left that somebody has to know.
+fn name_after<R>(
+    rt: &R,
+    bay: &mut Turned<FileBay<Heard<R>>>,
+    paths: &[String],
+    asked: &Asked,
+    status: u8,
+    risks: Risks,
+)
+where
+    R: Files<File = File> + Eprint + AllocGlobal + Clone + Drop,
+{
+    if let Command::Examine | Command::Assemble | Command::Show = asked.command {
+        name_turned(rt, bay);
+    }
+    if asked.command.traits().takes_group && !risks.any() {
+        name_unfinished(rt, bay, asked.group);
+    }
+    if let Command::Assemble | Command::Show | Command::Rebuild { .. } = asked.command {
+        name_unrebuilt(rt, bay, asked.group);
+    }
+    if status == 0 {
+        name_done(rt, bay, paths, asked, risks);
+    } else if status == DISK_FAULT {
+        tell_faulted(rt, bay, asked);
+    } else if risks.losses && matches!(status, 1 | 4) {
+        let _ = rt.eprint(NOTHING_LOST);
+    }
+}
+
+/// Says what a command that is done left that somebody has to know.
+fn name_done<R>(
+    rt: &R,
+    bay: &mut Turned<FileBay<Heard<R>>>,
+    paths: &[String],
+    asked: &Asked,
+    risks: Risks,
+)
+where
+    R: Files<File = File> + Eprint + AllocGlobal + Clone + Drop,
+{
+    name_untaken(rt, bay, paths, &asked.command);
+    let takes_a_disk = matches!(
+        &asked.command,
+        Command::Change(Wish::Fail { .. }) | Command::Import { .. }
+    );
+    if risks.losses || takes_a_disk {
+        name_lost_on_linux(rt, bay, asked.group);
+    }
+    if let Command::Write { .. } = asked.command {
+        name_rest(rt);
+    }
 }

@@ -20,11 +20,12 @@ pub record SomeSlotRose {D : Type 0} (old new : BayState D) : Type 0 where
   pub rose : SlotRose old new slot
 
 -- Each status has its cause, of a command that may do this: it was done; memory ran out; it was refused, where it may be; records of the group
--- contradict each other, where it takes one; a call on a slot failed; or a stream did, as `rose` says.
+-- contradict each other, where it takes one; a call on a slot failed; a stream did, as `rose` says; or it was cut behind its first pieces, where it
+-- takes bytes from the input.
 abbrev pub HasCause : {D : Type 0} → Traits → Work D → Answer → (rose : Type 0) → Type 0
 HasCause traits work answer rose =
     (answer.status ≡ 0) ⊎ (answer.status ≡ 5) ⊎ ((answer.status ≡ 1) × (traits.may_refuse ≡ true)) ⊎ ((answer.status ≡ 4) × (traits.takes_group ≡ true))
-    ⊎ ((answer.status ≡ 3) × SomeSlotRose work.old work.new) ⊎ ((answer.status ≡ 6) × rose)
+    ⊎ ((answer.status ≡ 3) × SomeSlotRose work.old work.new) ⊎ ((answer.status ≡ 6) × rose) ⊎ ((answer.status ≡ 7) × (traits.takes_input ≡ true))
 
 -- How a command ends that may do this. At the statuses of calls that wrote nothing nothing was written, and where it may not write at none.
 pub record EndsBy {D : Type 0} (traits : Traits) (work : Work D) (answer : Answer) (rose : Type 0) : Type 0 where

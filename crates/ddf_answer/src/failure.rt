@@ -1,4 +1,4 @@
-// Why a command isn't done.
+//! Why a command isn't done.
 ghost use Rattle.std.specs.Prelude.{◌≡◌};
 ghost use Rattle.ddf_answer.specs.Answers.{IsToldFailure};
 ghost use Rattle.ddf_bytes.specs.Streams.{SinkRose};

@@ -1,3 +1,4 @@
+//! The exit statuses, one value each. What each one means to a script: docs/SCRIPTS.md.
 ghost use Rattle.std.specs.Prelude.{◌≡◌};
 ghost use Rattle.ddf_answer.specs.Status.{code_of};
 

@@ -1,4 +1,4 @@
-// What a command prints at its end.
+//! What a command prints at its end.
 ghost use Rattle.std.specs.Prelude.{◌≡◌, ◌<◌, ◌++◌, codes, IfSome};
 ghost use Rattle.ddf_bytes.specs.Streams.{SinkRose};
 ghost use Rattle.ddf_answer.specs.Call.{answer_of};

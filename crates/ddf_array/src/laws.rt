@@ -1,4 +1,4 @@
-// Laws of what views say of blocks: functions that do nothing, whose contracts are the laws.
+//! Laws of what views say of blocks: functions that do nothing, whose contracts are the laws.
 ghost use Rattle.std.specs.Prelude.{◌≡◌, ◌<◌, ◌/◌, is_some, ℕ, List, Bool, Some, Ok, true, false, slice_get};
 ghost use Rattle.ddf_bay.specs.Sectors.{Image};
 ghost use Rattle.ddf_config.specs.declared.seat.Seat.{Seat};

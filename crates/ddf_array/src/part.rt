@@ -1,3 +1,5 @@
+//! One element of an array over its disks: which of its positions can be read, and whether a row is whole enough for parity to give a
+//! missing one. A row that counts as whole and isn't would give bytes that nobody wrote.
 ghost use Rattle.std.specs.Prelude.{◌≡◌, ◌<◌, is_some, length};
 ghost use Rattle.ddf_array.specs.Places.{site_at};
 ghost use Rattle.ddf_array.specs.Sources.{other_at, row_without, all_of};

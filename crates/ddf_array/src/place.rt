@@ -1,3 +1,4 @@
+//! One position of an element on its disk. A place past the seat's floor counts as absent: a write there would go over the records of the disk.
 ghost use Rattle.std.specs.Prelude.{◌≡◌, ◌+◌, Some};
 ghost use Rattle.ddf_array.specs.Places.{is_available, site, Ends};
 

@@ -1,3 +1,5 @@
+//! A slot and a sector of it: what placing ends in, and what a bay is asked for.
+
 /// A sector of a slot of the bay.
 #[derive(Clone, Copy, PartialEq, Eq)]
 pub struct Site {

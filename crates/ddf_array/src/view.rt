@@ -1,3 +1,5 @@
+//! The view of an array: what all that read, write, resync or rebuild blocks ask for where a block lies and whether parity may be trusted.
+//! It holds no bytes of disks, so it stays true while blocks are written. docs/PLACING.md
 ghost use Rattle.std.specs.Prelude.{◌≡◌, ◌<◌, ◌↔◌, ℕ, slice_get, length, map, Some, None, MatchOption};
 ghost use Rattle.ddf_secondary.specs.Spots.{Holds, spots};
 ghost use Rattle.ddf_array.specs.Volume.{IsPart, IsVolume, volume, capacity, size_of};

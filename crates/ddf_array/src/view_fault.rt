@@ -1,3 +1,4 @@
+//! Why an array can't be viewed, as its callers tell it further.
 ghost use Rattle.std.specs.Prelude.{◌≡◌};
 
 use ddf_bytes::NoMemory;

@@ -24,12 +24,12 @@ use Rattle.ddf_config.specs.Configuration.{Configuration}
 use Rattle.ddf_view.proofs.Tests.{all_map}
 use Rattle.ddf_rewrite.proofs.Lists.{all_at, all_by_get, map_get}
 use Rattle.ddf_update.specs.declared.prepared.Mode.{Mode}
-use Rattle.ddf_update.specs.declared.prepared.Mode.TheVariants.{Adopt, Change, Found}
+use Rattle.ddf_update.specs.declared.prepared.Mode.TheVariants.{Adopt, Change, Found, Move}
 use Rattle.ddf_update.specs.Changes.{MayChangeAll, MayGet, SlotChange}
 use Rattle.ddf_update.specs.Group.{LieOnSlots}
 use Rattle.ddf_update.specs.NewCopies.{new_copy}
 use Rattle.ddf_update.specs.Prepared.{IsPrepared, LiesOn}
-use Rattle.ddf_update.specs.Update.{MayAdopt, MayChange}
+use Rattle.ddf_update.specs.Update.{MayAdopt, MayChange, MayMove}
 use Rattle.ddf_update.proofs.AdoptingShows.{one_kind}
 use Rattle.ddf_update.proofs.Lies.{lies_on}
 use Rattle.ddf_assembly.specs.declared.seated.Seated.{Seated}
@@ -44,7 +44,7 @@ use Rattle.ddf_assembly.proofs.CommittedCopies.{standing_is, standing_read, stan
 use Rattle.ddf_assembly.proofs.CommittedSeats.{get_there, seated_is}
 use Rattle.ddf_assembly.proofs.Lists.{get_within}
 use Rattle.ddf_assembly.proofs.Ordered.{order_all, order_differ, order_from}
-use Rattle.ddf_assembly.proofs.Rewritten.{adopted_other, none_founded, places_under}
+use Rattle.ddf_assembly.proofs.Rewritten.{adopted_other, none_founded, none_moved, places_under}
 
 -- Seats that fit are on slots.
 pub seats_on_slots : (sizes : List ℕ) (seats : List Seat) → SeatsFit sizes seats → HaveSlots sizes seats
@@ -104,10 +104,12 @@ pub record MayReplace (group : GroupValue) (config : Configuration) (disk : Seat
 -- by how it is written
 get_by : {D : Type 0} (state : BayState D) (slot : ℕ) (change : SlotChange) (mode : Mode)
     → (mode ≡ Change → MayChange state slot change.anchor change.last change.old change.new) → (mode ≡ Found → ⊥)
-    → (mode ≡ Adopt → IsSettled state.may_hold state.held slot × MayAdopt state slot change.anchor change.last change.old change.new) → MayGet mode state slot change
-get_by state slot change Change changes founds adopts = changes refl
-get_by state slot change Found changes founds adopts = founds refl
-get_by state slot change Adopt changes founds adopts = adopts refl
+    → (mode ≡ Adopt → IsSettled state.may_hold state.held slot × MayAdopt state slot change.anchor change.last change.old change.new)
+    → (mode ≡ Move → IsSettled state.may_hold state.held slot × MayMove state slot change.anchor change.last change.old change.new) → MayGet mode state slot change
+get_by state slot change Change changes founds adopts moves = changes refl
+get_by state slot change Found changes founds adopts moves = founds refl
+get_by state slot change Adopt changes founds adopts moves = adopts refl
+get_by state slot change Move changes founds adopts moves = moves refl
 
 -- A copy in the places of one that stands under an anchor is in the anchor's places.
 placed_as : (anchor : Header) (old new : DiskCopy) → HasPlacesOf old new → ((which : Which) → place_of which old.header ≡ place_of which anchor) → (which : Which) → place_of which new.header ≡ place_of which anchor
@@ -173,7 +175,8 @@ module _ {D : Type 0} (state : BayState D) (group : GroupValue) (holds : HoldsGr
                     same_sections = is.has_places.same_sections ∙ kind.1;
                     other_group = λ same. adopted_other one.step.config is.before (sym is.has_mode ∙ adopts) (kind.0 ∙ sym same ∙ is.has_group);
                   },
-                ));
+                ))
+                (λ moves. absurd (none_moved one.step.config is.before (sym is.has_mode ∙ moves)));
             has_mode = refl;
             has_last = refl;
             has_new = refl;

@@ -23,7 +23,7 @@ use Rattle.ddf_view.specs.Shows.{shows}
 use Rattle.ddf_view.specs.View.{view_of}
 use Rattle.ddf_rewrite.proofs.Lists.{all_at, all_by_get, all_mapped, get_map, map_get, some_same}
 use Rattle.ddf_update.specs.declared.prepared.Mode.{Mode}
-use Rattle.ddf_update.specs.declared.prepared.Mode.TheVariants.{Adopt, Change, Found}
+use Rattle.ddf_update.specs.declared.prepared.Mode.TheVariants.{Adopt, Change, Found, Move}
 use Rattle.ddf_update.specs.Changes.{AreChanged, MayChangeAll, SlotChange, anchor_after}
 use Rattle.ddf_update.proofs.Getting.{has_old}
 use Rattle.ddf_update.specs.Update.{AreBoth}
@@ -76,10 +76,11 @@ anchor_spelled copy bytes is =
     subst (IsHeaderOf Anchor (anchor_header copy)) (sym same) is
 
 -- by how a disk is written
-mode_elim : {P : Type 0} (mode : Mode) → (mode ≡ Change → P) → (mode ≡ Found → P) → (mode ≡ Adopt → P) → P
-mode_elim Change changes founds adopts = changes refl
-mode_elim Found changes founds adopts = founds refl
-mode_elim Adopt changes founds adopts = adopts refl
+mode_elim : {P : Type 0} (mode : Mode) → (mode ≡ Change → P) → (mode ≡ Found → P) → (mode ≡ Adopt → P) → (mode ≡ Move → P) → P
+mode_elim Change changes founds adopts moves = changes refl
+mode_elim Found changes founds adopts moves = founds refl
+mode_elim Adopt changes founds adopts moves = adopts refl
+mode_elim Move changes founds adopts moves = moves refl
 
 -- ---- a step's disks
 
@@ -170,14 +171,16 @@ module _ (group : GroupValue) (one : ReadyStep) (rise : SlotsRise (seats_in (sea
         let placed = order_at one.step.disks k disk at in
         let update = get_there one.updates placed.0 (let below = get_within (in_order one.step.disks) disk placed.0 placed.1 in let counted = follows.are_prepared.counted in omega (arith, below, counted)) in
         let prepared = follows.are_prepared.each placed.0 disk update.0 placed.1 update.1 in
-        let anchored = mode_elim disk.mode
-        (λ (changes : disk.mode ≡ Change). record { anchor = prior.1.anchor; is_anchor = prior.1.is_anchor; under = under changes })
-        (λ founds. absurd (none_founded one.step.config is.before (sym is.has_mode ∙ founds)))
-        (λ adopts. record {
+        let anew : HasAnchor size (Level disk.copy) = record {
           anchor = anchor_header disk.copy;
           is_anchor = anchor_spelled disk.copy update.0.anchor prepared.anchor_is;
           under = places_under size prior.1.anchor is.before.copy disk.copy before_under can is.has_places;
-        }) in
+        } in
+        let anchored = mode_elim disk.mode
+        (λ (changes : disk.mode ≡ Change). record { anchor = prior.1.anchor; is_anchor = prior.1.is_anchor; under = under changes })
+        (λ founds. absurd (none_founded one.step.config is.before (sym is.has_mode ∙ founds)))
+        (λ adopts. anew)
+        (λ moves. anew) in
         (prior.0, subst (HasAnchor size) (level_is k disk at newest there) anchored)
 
     -- Each newest copy can be written again then, under an anchor of its slot.

@@ -68,3 +68,4 @@ pub mod SeatClash
 pub mod BothOrder
 pub mod JoinWritten
 pub mod JoinReadied
+pub mod Trusted

@@ -27,7 +27,7 @@ use Rattle.ddf_rewrite.proofs.Roomy.{change_can, write_can, roomy_change_can}
 use Rattle.ddf_rewrite.proofs.Under.{changed_under}
 use Rattle.ddf_assembly.specs.declared.seated.Seated.{Seated}
 use Rattle.ddf_assembly.specs.Full.{full_on, record_length}
-use Rattle.ddf_update.specs.declared.prepared.Mode.TheVariants.{Adopt, Change, Found}
+use Rattle.ddf_update.specs.declared.prepared.Mode.TheVariants.{Adopt, Change, Found, Move}
 use Rattle.ddf_update.specs.declared.prepared.Mode.{Mode}
 use Rattle.ddf_view.proofs.Tests.{bytes_same, same_bytes}
 use Rattle.std.specs.Str.{bytes_eq}
@@ -111,6 +111,14 @@ pub none_founded : (config : Configuration) (disk : Seated) → mode_of config d
 none_founded config disk = by (bytes_eq disk.copy.header.guid config.group)
   where
     by : (b : _) → ◌≡◌ {A = Mode} (if b then Change else Adopt) Found → ⊥
+    by true h = absurd cc
+    by false h = absurd cc
+
+-- None is moved yet.
+pub none_moved : (config : Configuration) (disk : Seated) → mode_of config disk ≡ Move → ⊥
+none_moved config disk = by (bytes_eq disk.copy.header.guid config.group)
+  where
+    by : (b : _) → ◌≡◌ {A = Mode} (if b then Change else Adopt) Move → ⊥
     by true h = absurd cc
     by false h = absurd cc
 

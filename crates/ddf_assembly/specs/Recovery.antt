@@ -1,5 +1,5 @@
 -- What recovery makes of a group of which members are absent or seats lag (profile).
-use Rattle.std.specs.Prelude.{ℕ, Bool, true, false, ◌&&◌, ◌==◌, nat_lt, List, [], ◌∷◌, map, filter, fold, Option, Some, None, if◌then◌else◌}
+use Rattle.std.specs.Prelude.{ℕ, Bool, true, false, ◌&&◌, ◌==◌, nat_lt, List, [], ◌∷◌, map, filter, filter_map, fold, Option, Some, None, if◌then◌else◌}
 use Rattle.std.specs.List.{list_any}
 use Rattle.std.specs.Str.{bytes_eq}
 use Rattle.ddf_copy.specs.declared.copy.DiskCopy.{DiskCopy}
@@ -7,6 +7,7 @@ use Rattle.ddf_copy.specs.declared.which.Which.TheVariants.{Primary}
 use Rattle.ddf_copy.specs.Headers.{written_as}
 use Rattle.ddf_config.specs.declared.refusal.FullTable.{FullTable}
 use Rattle.ddf_config.specs.declared.refusal.FullTable.TheVariants.{Records}
+use Rattle.ddf_config.specs.declared.seat.Seat.{Seat}
 use Rattle.ddf_config.specs.Configuration.{Configuration}
 use Rattle.ddf_plan.specs.declared.change.Change.{Change}
 use Rattle.ddf_plan.specs.declared.change.Change.TheVariants.{Lose}
@@ -22,7 +23,7 @@ use Rattle.ddf_assembly.specs.declared.seated.Seated.{Seated}
 use Rattle.ddf_assembly.specs.Group.{GroupValue}
 use Rattle.ddf_assembly.specs.Seated.{seated, views_in}
 use Rattle.ddf_assembly.specs.Steps.{Step, config_after, disks_after, levelled, mode_of}
-use Rattle.ddf_assembly.specs.Stray.{is_stray}
+use Rattle.ddf_assembly.specs.Stray.{is_stray, trusted_seat}
 use Rattle.ddf_assembly.specs.Full.{full_of, lengths_differ, lesser}
 
 -- ---- the leaders
@@ -139,3 +140,7 @@ loss_spent group = some group.absent && nat_lt greatest_sequence (config_lost gr
 -- Some disk is such that recovery must not write over what it holds.
 abbrev pub has_stray : GroupValue → Bool
 has_stray group = list_any (is_stray (map shown_of group.newest) group.newest (are_noted (leading_views group)) group.config) (seated group)
+
+-- The seats of the disks of which that isn't so, in order: those that blocks may be read from.
+unfoldable pub trusted_seats : GroupValue → List Seat
+trusted_seats group = filter_map (trusted_seat (map shown_of group.newest) group.newest (are_noted (leading_views group)) group.config) (seated group)

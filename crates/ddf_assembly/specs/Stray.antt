@@ -1,5 +1,5 @@
 -- Disks of a group that recovery must not write over (profile): what they hold would be lost, or what they show would be wrong.
-use Rattle.std.specs.Prelude.{ℕ, ◌+◌, ◌*◌, Bool, false, not, ◌&&◌, ◌||◌, nat_le, nat_lt, count_by, Option, Some, None, is_some, List, [], ◌∷◌, slice_get}
+use Rattle.std.specs.Prelude.{ℕ, ◌+◌, ◌*◌, Bool, false, not, ◌&&◌, ◌||◌, nat_le, nat_lt, count_by, Option, Some, None, is_some, List, [], ◌∷◌, slice_get, if◌then◌else◌}
 use Rattle.std.specs.Map.{lookup}
 use Rattle.std.specs.List.{list_any}
 use Rattle.std.specs.Option.{option_map_or}
@@ -11,6 +11,7 @@ use Rattle.ddf_copy.specs.declared.newest_copy.Newest.{Newest}
 use Rattle.ddf_copy.specs.declared.newest_copy.Newest.TheVariants.{One, Level, Neither, TwoDiffer}
 use Rattle.ddf_config.specs.declared.array.Array.{Array}
 use Rattle.ddf_config.specs.declared.member.Member.{Member}
+use Rattle.ddf_config.specs.declared.seat.Seat.{Seat}
 use Rattle.ddf_config.specs.Configuration.{Configuration}
 use Rattle.ddf_config.specs.Members.{same_guid}
 use Rattle.ddf_view.specs.View.{element_of, lists_missing, view_of}
@@ -70,10 +71,15 @@ holds_only_record newest config disk = not (shows config (view_of disk.copy)) &&
 abbrev pub is_lost_since : Seated → (ℕ × Member) → Bool
 is_lost_since disk entry = entry.1.missing && not (lists_missing (view_of disk.copy) entry.1.guid entry.0)
 
--- How many sequence numbers stops and failing disks leave a disk behind at the most. Behind a change that isn't on all disks nothing is issued but
--- losses; the change takes two numbers at the most, and each loss two, with a member at least.
+-- How many sequence numbers stops and failing disks leave a disk behind at the most: one change, and two for each member that is missing and that
+-- the disk doesn't list so. For until a change is on all disks nothing else is issued but losses. The change takes one number, or it is a failing
+-- disk's and takes two, and that disk is counted; each loss takes two, and a member of it is counted. This is argued, and not proved of a history.
+-- One more would be too many: a write of a redundant array takes two numbers, for it sets the array's mark and clears it, so a disk that missed one
+-- is two behind.
+-- A loss takes two numbers however many members it has, so where several were lost at once the bound is wider than what was issued, and an image from
+-- before a write may be within it: what disks record tells nothing closer.
 abbrev pub most_behind : Configuration → Seated → ℕ
-most_behind config disk = 2 + 2 * count_by (is_lost_since disk) config.members
+most_behind config disk = 1 + 2 * count_by (is_lost_since disk) config.members
 
 -- The disk is further behind than that in a group that this engine wrote, as its notes tell: it was written elsewhere, or its image is an
 -- older one, and it has missed blocks that were written since.
@@ -87,3 +93,7 @@ is_stale noted config disk =
 abbrev pub is_stray : List Shown → List (Option Newest) → (noted : Bool) → Configuration → Seated → Bool
 is_stray slots newest noted config disk =
     is_ahead config disk || is_of_another slots config disk || holds_only_record newest config disk || is_stale noted config disk
+
+-- The seat of a disk that is none of them. What any other holds is no source of blocks.
+abbrev pub trusted_seat : List Shown → List (Option Newest) → (noted : Bool) → Configuration → Seated → Option Seat
+trusted_seat slots newest noted config disk = if is_stray slots newest noted config disk then None else Some disk.seat

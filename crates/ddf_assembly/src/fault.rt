@@ -1,3 +1,4 @@
+//! Why the steps of a group can't be made ready. Each of these is answered before anything is written.
 ghost use Rattle.std.specs.Prelude.{◌≡◌};
 
 use ddf_bytes::NoMemory;

@@ -1,3 +1,5 @@
+//! A group as it was assembled: its configuration, its seats, and the newest copy of each slot, from which the sectors of the next step are
+//! made. A member without a seat is absent, and a change leaves it out for good.
 use crate::seats::copy_at;
 use ddf_bytes::Seq;
 use ddf_config::{Config, Seat};

@@ -1,4 +1,4 @@
-// Laws of a group's changes: functions that do nothing, whose contracts are the laws.
+//! Laws of a group's changes: functions that do nothing, whose contracts are the laws.
 ghost use Rattle.std.specs.Prelude.{◌≡◌, ◌<◌, ◌^◌, ◌∷◌, ◌++◌, slice_get, IfSome, ℕ, Bool, List, [], length, Option, None, Some, Ok, true, false};
 ghost use Rattle.ddf_copy.specs.declared.newest_copy.Newest.{Newest};
 ghost use Rattle.ddf_config.specs.Configuration.{Configuration};

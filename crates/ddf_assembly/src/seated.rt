@@ -32,7 +32,7 @@ impl Seated {
     pub(crate) fn is_adopted(&self) -> bool
         ensures { result ≡ is_adopted self.now }
     {
-        matches!(self.mode, Mode::Found | Mode::Adopt)
+        matches!(self.mode, Mode::Found | Mode::Adopt | Mode::Move)
     }
 }
 

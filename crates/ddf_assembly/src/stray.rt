@@ -1,17 +1,18 @@
 //! Disks of a group that recovery must not write over.
-ghost use Rattle.std.specs.Prelude.{◌≡◌, ◌<◌, ◌^◌, IfOk};
+ghost use Rattle.std.specs.Prelude.{◌≡◌, ◌<◌, ◌^◌, filter_map, IfOk};
 ghost use Rattle.std.specs.List.{list_any};
 ghost use Rattle.ddf_view.specs.Reading.{are_noted};
-ghost use Rattle.ddf_assembly.specs.Recovery.{has_stray};
+ghost use Rattle.ddf_assembly.specs.Recovery.{has_stray, trusted_seats};
 ghost use Rattle.ddf_assembly.specs.Seated.{seated};
-ghost use Rattle.ddf_assembly.specs.Stray.{copies_in, holds_only_record, holds_untold, is_ahead, is_known, is_lost_since, is_of_another, is_stale, is_stray, is_untold, is_untold_in, most_behind, slot_holds_untold};
+ghost use Rattle.ddf_assembly.specs.Stray.{copies_in, holds_only_record, holds_untold, is_ahead, is_known, is_lost_since, is_of_another, is_stale, is_stray, is_untold, is_untold_in, most_behind, slot_holds_untold, trusted_seat};
 
 use crate::assembling::shown;
 use crate::group::Group;
 use crate::leading::leading_views;
+use crate::ready::disks_of;
 use crate::seated::Disk;
 use ddf_bytes::NoMemory;
-use ddf_config::{Array, Config, Member};
+use ddf_config::{Array, Config, Member, Seat};
 use ddf_configs::{Element, RecordSlot};
 use ddf_copy::{DiskCopy, Newest};
 use ddf_group::{Slots, shows_untaken};
@@ -111,7 +112,7 @@ fn is_lost_since(disk: &Disk, reference: u32, member: &Member) -> bool
     member.missing && !View::new(disk.copy).lists_missing(&member.guid, reference)
 }
 
-/// How many sequence numbers stops and failing disks leave a disk behind at the most (profile).
+/// How many sequence numbers stops and failing disks leave a disk behind at the most (profile): one change, and two for each member that was lost since.
 fn most_behind(config: &Config, disk: &Disk) -> u128
     ensures exact { result ≡ most_behind config.now disk.now }
     ensures small { result < 2 ^ 66 }
@@ -121,7 +122,7 @@ fn most_behind(config: &Config, disk: &Disk) -> u128
         .iter()
         .filter(|entry| is_lost_since(disk, *entry.0, entry.1))
         .count();
-    2 + 2 * (lost as u128)
+    1 + 2 * (lost as u128)
 }
 
 /// Whether a disk is further behind than that, in a group with notes.
@@ -187,4 +188,73 @@ pub(crate) fn any_stray(alloc: Global, group: &Group, disks: &[Disk]) -> Result<
     let noted = are_noted(&leaders);
     let any = some_is_stray(&slots, group.newest.as_slice(), noted, &group.config, disks);
     Ok(any)
+}
+
+// ---- the seats that blocks may be read from
+
+/// The seat of a disk that is none of them.
+fn trusted_seat(
+    slots: &Slots,
+    newest: &[Option<Newest>],
+    noted: bool,
+    config: &Config,
+    disk: &Disk,
+) -> Option<Seat>
+    ensures { result ≡ trusted_seat slots.now newest.now noted config.now disk.now }
+{
+    if is_stray(slots, newest, noted, config, disk) {
+        None
+    } else {
+        Some(disk.seat)
+    }
+}
+
+fn all_trusted(
+    alloc: Global,
+    slots: &Slots,
+    newest: &[Option<Newest>],
+    noted: bool,
+    config: &Config,
+    disks: &[Disk],
+) -> Result<Vec<Seat>, NoMemory>
+    ensures { IfOk result (λ seats. seats.items ≡ filter_map (trusted_seat slots.now newest.now noted config.now) disks.now) }
+{
+    let seats = disks
+        .iter()
+        .filter_map(|disk| trusted_seat(slots, newest, noted, config, disk))
+        .collect(alloc)?;
+    Ok(seats)
+}
+
+/// The seats of those of a group's disks that are none of them.
+#[tactic(auto, unfolding(crate::specs::Recovery::leading_disks, crate::specs::Recovery::trusted_seats))]
+fn trusted_among(alloc: Global, group: &Group, disks: &[Disk]) -> Result<Vec<Seat>, NoMemory>
+    requires { disks.now ≡ seated group.now }
+    ensures { IfOk result (λ seats. seats.items ≡ trusted_seats group.now) }
+{
+    let leaders = leading_views(alloc, &group.config, disks)?;
+    let shown = shown(alloc, group.newest.as_slice())?;
+    let slots = Slots::new(alloc, &shown)?;
+    let noted = are_noted(&leaders);
+    let newest = group.newest.as_slice();
+    let seats = all_trusted(alloc, &slots, newest, noted, &group.config, disks)?;
+    Ok(seats)
+}
+
+impl Group {
+    ghost use Rattle.std.specs.Prelude.{◌≡◌, IfOk};
+    ghost use Rattle.ddf_assembly.specs.Recovery.{trusted_seats};
+
+    /// The seats of those disks that recovery may write over, in the order of their slots. What any other disk holds is no source of blocks: it
+    /// may have missed what was written since, or be another group's by now.
+    ///
+    /// # Errors
+    /// Memory ran out.
+    pub fn trusted_seats(&self, alloc: Global) -> Result<Vec<Seat>, NoMemory>
+        ensures trusted { IfOk result (λ seats. seats.items ≡ trusted_seats self.now) }
+    {
+        let disks = disks_of(alloc, self)?;
+        let seats = trusted_among(alloc, self, &disks)?;
+        Ok(seats)
+    }
 }

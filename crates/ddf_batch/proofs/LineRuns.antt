@@ -1,7 +1,7 @@
 -- How one line of a batch is run.
-use Rattle.std.proofs.Common.{◌≡◌, ◌∙◌, ◌⊎◌, inl, inr, ⊎_elim, ℕ, List, [], Option, Result, Ok, Err, true, refl, sym, subst, ap, arith}
-use Rattle.std.specs.Prelude.{IsTrue, nat_le}
-use Rattle.std.proofs.lemmas.Bool.{cases_lt}
+use Rattle.std.proofs.Common.{◌≡◌, ◌∙◌, ◌⊎◌, inl, inr, ⊎_elim, ℕ, List, [], Option, Result, Ok, Err, true, false, refl, sym, subst, ap, arith}
+use Rattle.std.specs.Prelude.{nat_le}
+use Rattle.std.proofs.lemmas.Bool.{cases_lt, false≢true}
 use Rattle.std.proofs.lemmas.List.{append-nil}
 use Rattle.ddf_bytes.specs.declared.stamp.Stamp.{Stamp}
 use Rattle.ddf_bytes.specs.Streams.{SinkRose, SinkState}
@@ -12,14 +12,16 @@ use Rattle.ddf_text.specs.Refusal.{refusal_line}
 use Rattle.ddf_words.specs.Traits.{traits_of}
 use Rattle.ddf_words.specs.Words.{Word, GoWrongAt}
 use Rattle.ddf_words.specs.declared.command.Command.{Command}
+use Rattle.ddf_words.specs.declared.command.Command.TheVariants.{Assemble, Change, Examine, Import, Label, Read, Rebuild, Resync, Scrub, Show, Write}
 use Rattle.ddf_words.specs.declared.traits.Traits.{Traits}
 use Rattle.ddf_words.specs.declared.words.WordFault.{WordFault}
 use Rattle.ddf_words.specs.declared.words.WordFault.TheVariants as faults
 use Rattle.ddf_answer.specs.Call.{Answer, Work, answer_of, work_of}
-use Rattle.ddf_answer.specs.Ends.{Ends, HasCause, SomeSlotRose, is_unwritten}
+use Rattle.ddf_answer.specs.Ends.{Ends, HasCause}
+use Rattle.ddf_answer.proofs.Causes.{IsFaultless, fault_by, slot_by, stream_by, words_by}
 use Rattle.ddf_answer.specs.Tells.{EndsWith}
 use Rattle.ddf_command.specs.Run.{IsCommandDone}
-use Rattle.ddf_batch_words.specs.Lines.{AsksFor, IsLine}
+use Rattle.ddf_batch_words.specs.Lines.{AsksFor, IsLine, is_for_lines}
 use Rattle.ddf_batch.specs.Line.{IsLineRun, Point, no_input}
 use Rattle.ddf_command.proofs.Endings.{done_nothing}
 
@@ -35,49 +37,38 @@ few code number same is = ap (λ (n : ℕ). nat_le n 6) same ∙ is
 
 -- ---- the command was run
 
-abbrev IsFaultless : Traits → (code : ℕ) → Type 0
-IsFaultless traits code = (code ≡ 0) ⊎ (code ≡ 5) ⊎ ((code ≡ 1) × (traits.may_refuse ≡ true)) ⊎ ((code ≡ 4) × (traits.takes_group ≡ true))
-
 module _ {D : Type 0} (traits : Traits) (work : Work D) (answer : Answer) (rose : Type 0) where
-  few_by : HasCause traits work answer rose → nat_le answer.status 6 ≡ true
-  few_by (inl zero) = few answer.status 0 zero refl
-  few_by (inr (inl five)) = few answer.status 5 five refl
-  few_by (inr (inr (inl one))) = few answer.status 1 one.0 refl
-  few_by (inr (inr (inr (inl four)))) = few answer.status 4 four.0 refl
-  few_by (inr (inr (inr (inr (inl three))))) = few answer.status 3 three.0 refl
-  few_by (inr (inr (inr (inr (inr six))))) = few answer.status 6 six.0 refl
+  few_by : traits.takes_input ≡ false → HasCause traits work answer rose → nat_le answer.status 6 ≡ true
+  few_by none (inl zero) = few answer.status 0 zero refl
+  few_by none (inr (inl five)) = few answer.status 5 five refl
+  few_by none (inr (inr (inl one))) = few answer.status 1 one.0 refl
+  few_by none (inr (inr (inr (inl four)))) = few answer.status 4 four.0 refl
+  few_by none (inr (inr (inr (inr (inl three))))) = few answer.status 3 three.0 refl
+  few_by none (inr (inr (inr (inr (inr (inl six)))))) = few answer.status 6 six.0 refl
+  few_by none (inr (inr (inr (inr (inr (inr seven)))))) = absurd (false≢true (sym none ∙ seven.1))
 
-  words_by : HasCause traits work answer rose → answer.status ≡ 2 → ⊥
-  words_by (inl zero) two = omega (arith, two, zero)
-  words_by (inr (inl five)) two = omega (arith, two, five)
-  words_by (inr (inr (inl one))) two = omega (arith, two, one.0)
-  words_by (inr (inr (inr (inl four)))) two = omega (arith, two, four.0)
-  words_by (inr (inr (inr (inr (inl three))))) two = omega (arith, two, three.0)
-  words_by (inr (inr (inr (inr (inr six))))) two = omega (arith, two, six.0)
+  -- where nothing failed, of a command that takes no input
+  uncut : traits.takes_input ≡ false → IsFaultless traits answer
+      → (answer.status ≡ 0) ⊎ (answer.status ≡ 5) ⊎ ((answer.status ≡ 1) × (traits.may_refuse ≡ true)) ⊎ ((answer.status ≡ 4) × (traits.takes_group ≡ true))
+  uncut none (inl zero) = inl zero
+  uncut none (inr (inl five)) = inr (inl five)
+  uncut none (inr (inr (inl one))) = inr (inr (inl one))
+  uncut none (inr (inr (inr (inl four)))) = inr (inr (inr four))
+  uncut none (inr (inr (inr (inr seven)))) = absurd (false≢true (sym none ∙ seven.1))
 
-  slot_by : HasCause traits work answer rose → answer.status ≡ 3 → SomeSlotRose work.old work.new
-  slot_by (inl zero) e = absurd (omega (arith, e, zero))
-  slot_by (inr (inl five)) e = absurd (omega (arith, e, five))
-  slot_by (inr (inr (inl one))) e = absurd (omega (arith, e, one.0))
-  slot_by (inr (inr (inr (inl four)))) e = absurd (omega (arith, e, four.0))
-  slot_by (inr (inr (inr (inr (inl three))))) e = three.1
-  slot_by (inr (inr (inr (inr (inr six))))) e = absurd (omega (arith, e, six.0))
-
-  stream_by : HasCause traits work answer rose → answer.status ≡ 6 → rose
-  stream_by (inl zero) e = absurd (omega (arith, e, zero))
-  stream_by (inr (inl five)) e = absurd (omega (arith, e, five))
-  stream_by (inr (inr (inl one))) e = absurd (omega (arith, e, one.0))
-  stream_by (inr (inr (inr (inl four)))) e = absurd (omega (arith, e, four.0))
-  stream_by (inr (inr (inr (inr (inl three))))) e = absurd (omega (arith, e, three.0))
-  stream_by (inr (inr (inr (inr (inr six))))) e = six.1
-
-  fault_by : HasCause traits work answer rose → (SomeSlotRose work.old work.new → ⊥) → (rose → ⊥) → IsFaultless traits answer.status
-  fault_by (inl zero) none good = inl zero
-  fault_by (inr (inl five)) none good = inr (inl five)
-  fault_by (inr (inr (inl one))) none good = inr (inr (inl one))
-  fault_by (inr (inr (inr (inl four)))) none good = inr (inr (inr four))
-  fault_by (inr (inr (inr (inr (inl three))))) none good = absurd (none three.1)
-  fault_by (inr (inr (inr (inr (inr six))))) none good = absurd (good six.1)
+-- a line's command takes no input
+takes_none : (command : Command) → is_for_lines command ≡ true → (traits_of command).takes_input ≡ false
+takes_none Examine is = refl
+takes_none (Label style slots) is = refl
+takes_none Assemble is = refl
+takes_none Show is = refl
+takes_none (Read name start count) is = refl
+takes_none (Scrub name) is = refl
+takes_none (Resync name) is = refl
+takes_none (Rebuild name) is = refl
+takes_none (Write name start count) is = absurd (cc)
+takes_none (Import group) is = refl
+takes_none (Change wish) is = refl
 
 module _ {B : Type 0} (tells : Type 0) (disks : B → BayState B) (told : Type 0) (stamp : Stamp) (group : Option (List ℕ)) (words : List Word) where
   pub command_run : (from to : Point B) (code : ℕ) (command : Command) → AsksFor words command → ((other : Command) → AsksFor words other → other ≡ command)
@@ -92,14 +83,15 @@ module _ {B : Type 0} (tells : Type 0) (disks : B → BayState B) (told : Type 0
         wrong_words = λ place wrong. absurd (wrong.refused (record { command = command; asks = asks }));
         wrong_words_only = λ two. absurd (words_by (traits_of command) work answer rose ends.cause two);
         done = λ other also. subst (λ (it : Command). IsCommandDone work no_input stamp group it answer) (sym (one other also)) done;
-        few = few_by (traits_of command) work answer rose ends.cause;
+        few = few_by (traits_of command) work answer rose (takes_none command asks.is_for_lines) ends.cause;
         unwritten = ends.unwritten;
         stays = λ none. ends.stays (none command asks);
         goes_on = ends.goes_on;
         same_sizes = ends.same_sizes;
         disk_fault = slot_by (traits_of command) work answer rose ends.cause;
         stream_fault = stream_by (traits_of command) work answer rose ends.cause;
-        complete = λ other also none good. subst (λ (it : Command). IsFaultless (traits_of it) code) (sym (one other also)) (fault_by (traits_of command) work answer rose ends.cause none good);
+        complete = λ other also none good. subst (λ (it : Command). (code ≡ 0) ⊎ (code ≡ 5) ⊎ ((code ≡ 1) × ((traits_of it).may_refuse ≡ true)) ⊎ ((code ≡ 4) × ((traits_of it).takes_group ≡ true))) (sym (one other also))
+            (uncut (traits_of command) work answer rose (takes_none command asks.is_for_lines) (fault_by (traits_of command) work answer rose ends.cause none good));
       }
 
   -- ---- the words aren't a command's

@@ -1,4 +1,4 @@
-// A batch: its lines one after another.
+//! A batch: its lines one after another.
 ghost use Rattle.std.specs.Prelude.{◌≡◌, ◌||◌, IsTrue, false, nat_lt};
 ghost use Rattle.std.specs.List.{slice_split};
 ghost use Rattle.ddf_bay.specs.Moments.{GoesOn};

@@ -1,4 +1,4 @@
-// The command of a line.
+//! The command of a line.
 ghost use Rattle.std.specs.Prelude.{◌≡◌, true};
 ghost use Rattle.ddf_answer.specs.Call.{answer_of, work_of};
 ghost use Rattle.ddf_answer.specs.Ends.{Ends};

@@ -1,4 +1,4 @@
-// Laws of batches: functions that do nothing, whose contracts are the laws.
+//! Laws of batches: functions that do nothing, whose contracts are the laws.
 ghost use Rattle.std.specs.Prelude.{◌≡◌, ℕ, Bool, List, Option, true, false, ◌∷◌};
 ghost use Rattle.ddf_bytes.specs.declared.stamp.Stamp.{Stamp};
 ghost use Rattle.ddf_bytes.specs.Streams.{SinkState};

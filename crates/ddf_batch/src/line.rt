@@ -1,4 +1,4 @@
-// One line of a batch.
+//! One line of a batch.
 ghost use Rattle.ddf_words.specs.Words.{words_of};
 ghost use Rattle.ddf_batch_words.specs.Lines.{numbered, parts_of};
 ghost use Rattle.ddf_batch.specs.Line.{IsLineRun};

@@ -1,4 +1,4 @@
-// What a call of the program does, batches included, and what it promises.
+//! What a call of the program does, batches included, and what it promises.
 ghost use Rattle.std.specs.Prelude.{◌≡◌, ◌⊎◌, ℕ, List, Option, true, length, IsTrue};
 ghost use Rattle.ddf_bay.specs.Moments.{GoesOn};
 ghost use Rattle.ddf_bay.specs.ReadsOnly.{ReadsOnly};

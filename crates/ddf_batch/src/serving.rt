@@ -1,4 +1,4 @@
-// The call that the program makes.
+//! The call that the program makes.
 ghost use Rattle.std.specs.Prelude.{◌≡◌, length};
 ghost use Rattle.ddf_words.specs.Words.{words_of, slot_count};
 

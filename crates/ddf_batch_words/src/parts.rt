@@ -1,4 +1,4 @@
-// The words of a line.
+//! The words of a line.
 ghost use Rattle.std.specs.Prelude.{◌≡◌, ◌∷◌, IfOk, position, string_bytes};
 ghost use Rattle.std.specs.List.{list_all};
 ghost use Rattle.std.specs.Str.{bytes_eq};

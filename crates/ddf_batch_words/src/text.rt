@@ -1,4 +1,4 @@
-// Bytes as text.
+//! Bytes as text.
 ghost use Rattle.std.specs.Prelude.{◌≡◌, ◌-◌, length, map, slice_index, true, false};
 ghost use Rattle.std.specs.Str.{IsUtf8};
 ghost use Rattle.ddf_batch_words.specs.Lines.{is_end, without_end};

@@ -7,3 +7,4 @@ mod Finding
 mod Opened
 mod Zeros
 pub mod MemorySteps
+pub mod Fronts

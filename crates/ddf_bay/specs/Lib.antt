@@ -10,3 +10,4 @@ pub mod LoggedLaws
 pub mod MemoryLaws
 pub mod Files
 pub mod FileBays
+pub mod Told

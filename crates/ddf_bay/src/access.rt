@@ -1,4 +1,4 @@
-// How the disks of a bay are opened.
+//! How the disks of a bay are opened.
 
 /// What may be done to the disks of a bay.
 #[derive(Clone, Copy, PartialEq, Eq)]

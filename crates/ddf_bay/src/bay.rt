@@ -1,8 +1,9 @@
-// A bay of disks: numbered slots of sectors, of which a stop leaves some of what was written since the last good sync.
+//! A bay of disks: numbered slots of sectors, of which a stop leaves some of what was written since the last good sync.
 ghost use Rattle.std.specs.Prelude.{◌≡◌, ◌<◌, ◌≤◌, ◌+◌, ◌-◌, ◌^◌, [], ◌∷◌, List, ℕ, length, OnOk, OnErr, slice_index};
 ghost use Rattle.ddf_bytes.specs.Counts.{Rose};
-ghost use Rattle.ddf_bay.specs.Sectors.{IsLeft, IsRead, IsWhole, put_run};
+ghost use Rattle.ddf_bay.specs.Sectors.{IsLeft, IsRead, put_run};
 ghost use Rattle.ddf_bay.specs.State.{BayState};
+ghost use Rattle.ddf_bay.specs.Told.{IsTold};
 ghost use Rattle.ddf_bay.specs.Moments.{StopsLeave, Remembers, SpendsReads, SpendsWrites, Keeps, Adds, Mixes, IsSettled, IsAmong};
 
 use ddf_bytes::Sector;
@@ -112,17 +113,8 @@ pub trait Bay {
     /// Slots are small enough that no sector's number overflows.
     ghost small: { (bay : Self) (slot : ℕ) → slice_index (disks bay).sizes slot ≤ 2 ^ 55 };
 
-    /// Since this moment there is no other.
-    ghost only_now: { (bay : Self) (image : ℕ → ℕ → List ℕ) → (disks bay).left_since (disks bay).moment image → IsLeft (disks bay).may_hold image };
-
-    /// This moment is one of those since an earlier one.
-    ghost counts_now: { (bay : Self) (t : ℕ) (image : ℕ → ℕ → List ℕ) → t ≤ (disks bay).moment → IsLeft (disks bay).may_hold image → (disks bay).left_since t image };
-
-    /// Where an image is told, the bay tells at this moment what a stop may leave.
-    ghost told_since: { (bay : Self) (t : ℕ) (image : ℕ → ℕ → List ℕ) → (disks bay).left_since t image → (disks bay).tells_left };
-
-    /// A sector is whole: what a stop may leave in it is 512 bytes.
-    ghost whole: { (bay : Self) (s l : ℕ) (bytes : List ℕ) → (disks bay).may_hold s l bytes → IsWhole bytes };
+    /// What it tells is so.
+    ghost told: { (bay : Self) → IsTold (disks bay) };
 
     /// A bay is one that calls may make of it: none has to change it.
     ghost leads: { (bay : Self) → (disks bay).leads_to bay };
@@ -136,7 +128,4 @@ pub trait Bay {
 
     /// A slot of which every call fails stays so, whatever calls are made.
     ghost stays_gone: { (bay next : Self) (slot : ℕ) → (disks bay).leads_to next → (disks bay).gone slot → (disks next).gone slot };
-
-    /// The bay as it reads is one of its images.
-    ghost held_is_left: { (bay : Self) → (disks bay).tells_left → IsLeft (disks bay).may_hold (disks bay).held };
 }

@@ -1,3 +1,4 @@
+//! Which slot failed. No cause is kept, since no promise rests on one.
 use thiserror::Error;
 
 /// A disk failed: a call on this slot of a bay answered a failure.

@@ -1,4 +1,4 @@
-// A bay over files or block devices, of whose content nothing is told.
+//! A bay over files or block devices, of whose content nothing is told.
 ghost use Rattle.std.specs.Prelude.{◌≡◌, ◌≢◌, ◌<◌, ◌≤◌, ◌+◌, ◌^◌, ◌↔◌, [], List, ℕ, true, false, length, IfOk, IsNone, IsSome, Some, OnOk, OnErr, IsErr, IsTrue, slice_index, nat_le};
 ghost use Rattle.std.specs.List.{list_all};
 ghost use Rattle.ddf_bytes.specs.Counts.{Rose};
@@ -139,13 +139,7 @@ impl<R: Files> Bay for FileBay<R> {
 
     ghost small = { λ b s. size_small b.sizes.items s b.small };
 
-    ghost only_now = { λ b image left. absurd left };
-
-    ghost counts_now = { λ b t image le left. left 0 0 };
-
-    ghost told_since = { λ b t image left. left };
-
-    ghost whole = { λ b s l bytes left. absurd left };
+    ghost told = { λ b. record { held = λ told s l. told; whole = λ s l bytes left. absurd left; only_now = λ image left. absurd left; counts = λ t image le left. left 0 0; since = λ t image left. left } };
 
     ghost leads = { λ b. record { opened = λ s i. has_opened b s; access = λ i. is_writable b } };
 
@@ -154,8 +148,6 @@ impl<R: Files> Bay for FileBay<R> {
     ghost told_before = { λ b next leads told. told };
 
     ghost stays_gone = { λ b next slot leads gone. gone };
-
-    ghost held_is_left = { λ b told s l. told };
 
     fn slots(&self) -> usize {
         self.sizes.len()

@@ -1,4 +1,4 @@
-// Where the newest write of each sector stands.
+//! Where the newest write of each sector stands.
 ghost use Rattle.std.specs.Prelude.{◌<◌, ◌≤◌, ◌+◌, Some};
 ghost use Rattle.std.specs.HashMap.{hash_map_len, spare, Updates};
 

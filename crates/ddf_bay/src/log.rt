@@ -1,3 +1,5 @@
+//! The writes of a bay in memory, one record a sector, kept with the clock of the write and of its sync, so that the bay tells what a stop at
+//! any moment might have left. docs/DISK-MODEL.md#the-bays
 ghost use Rattle.std.specs.Prelude.{◌≡◌, ◌<◌, ◌≤◌, ◌+◌, ◌-◌, ◌^◌, [], ◌∷◌, ◌++◌, List, length, vec_len, vec_capacity, IfOk, IsTrue, nat_lt};
 ghost use Rattle.std.specs.List.{list_all};
 ghost use Rattle.std.specs.HashMap.{hash_map_len, spare};

@@ -1,4 +1,4 @@
-// What a good sync and a stop make of the logged writes of a bay in memory.
+//! What a good sync and a stop make of the logged writes of a bay in memory.
 ghost use Rattle.std.specs.Prelude.{◌≡◌, ◌≤◌, ◌∷◌, List, filter, is_some, vec_len, vec_capacity};
 ghost use Rattle.ddf_bay.specs.Logged.{settled, settled_one, made_sure, marked, survivors};
 

@@ -1,3 +1,4 @@
+//! One record of the log of a bay in memory.
 use ddf_bytes::Sector;
 
 /// A sector's write: where, what, the clock when it was made, and the clock when a sync made it sure.

@@ -1,4 +1,4 @@
-// The calls of a bay in memory.
+//! The calls of a bay in memory.
 ghost use Rattle.std.specs.Prelude.{◌≡◌, ◌≢◌, ◌⊎◌, ◌<◌, ◌≤◌, ◌+◌, ◌-◌, ◌^◌, [], ◌∷◌, ◌||◌, List, ℕ, length, OnOk, OnErr, is_err, slice_index, nat_lt};
 ghost use Rattle.ddf_bytes.specs.Counts.{Rose};
 ghost use Rattle.ddf_bay.specs.Sectors.{IsLeft, IsRead, put_run};
@@ -23,13 +23,13 @@ impl Bay for MemoryBay {
 
     ghost small = { λ b s. size_small b.sizes.items s b.small };
 
-    ghost only_now = { λ b image left. left_only b.clock b.log.logged.items image left };
-
-    ghost counts_now = { λ b t image le left. left_counts b.clock b.log.logged.items t image le left };
-
-    ghost told_since = { λ b t image left. left.0 };
-
-    ghost whole = { λ b s l bytes left. left_whole b.clock b.log.logged.items s l bytes b.log.whole left.1 };
+    ghost told = { λ b. record {
+      held = λ told s l. (told, held_left b.clock b.log.logged.items s l b.past);
+      whole = λ s l bytes left. left_whole b.clock b.log.logged.items s l bytes b.log.whole left.1;
+      only_now = λ image left. left_only b.clock b.log.logged.items image left;
+      counts = λ t image le left. left_counts b.clock b.log.logged.items t image le left;
+      since = λ t image left. left.0;
+    } };
 
     ghost leads = { λ b. becomes_start (state_of b) };
 
@@ -38,8 +38,6 @@ impl Bay for MemoryBay {
     ghost told_before = { λ b next leads told. told_earlier b.clock next.clock leads.later told };
 
     ghost stays_gone = { λ b next slot leads gone. gone_then (state_of b) (state_of next) slot leads gone };
-
-    ghost held_is_left = { λ b told s l. (told, held_left b.clock b.log.logged.items s l b.past) };
 
     fn slots(&self) -> usize {
         self.sizes.len()

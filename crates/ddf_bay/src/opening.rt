@@ -1,4 +1,4 @@
-// A path is opened, or it is told why it can't be.
+//! A path is opened, or it is told why it can't be.
 ghost use Rattle.std.specs.Prelude.{◌≡◌, ◌<◌, ◌^◌, false, is_ok, IfOk};
 
 use crate::access::Access;

@@ -20,7 +20,7 @@ use Rattle.ddf_assembly.specs.Steps.{Step}
 use Rattle.ddf_stops.specs.Floors.{HasFloor}
 use Rattle.ddf_stops.specs.Kept.{is_slot}
 use Rattle.ddf_history.proofs.Since.{which}
-use Rattle.ddf_data_stops.proofs.Above.{floor_same}
+use Rattle.ddf_stops.proofs.Above.{floor_same}
 use Rattle.ddf_answer.specs.Call.{work_of}
 use Rattle.ddf_group_commands.specs.Change.{Request}
 use Rattle.ddf_group_commands.specs.Writing.{IsLeftWriting, IsWrittenOn}

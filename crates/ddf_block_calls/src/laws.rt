@@ -1,4 +1,4 @@
-// Laws of calls on the blocks of arrays and of the data of groups: functions that do nothing, whose contracts are the laws.
+//! Laws of calls on the blocks of arrays and of the data of groups: functions that do nothing, whose contracts are the laws.
 ghost use Rattle.std.specs.Prelude.{◌≡◌, ◌<◌, ◌^◌, ◌++◌, ◌∷◌, [], ℕ, List, Option, Result, Ok, Some, true};
 ghost use Rattle.ddf_bay.specs.ReadsOnly.{ReadsOnly};
 ghost use Rattle.ddf_bay.specs.Sectors.{Image, IsLeft};

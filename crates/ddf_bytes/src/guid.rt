@@ -1,3 +1,5 @@
+//! GUIDs: their 24 bytes, their 48 digits, and how new ones are made: of a kind, the time, a number and chance, so that two of them hardly
+//! ever are the same.
 ghost use Rattle.std.specs.Prelude.{◌≡◌, ◌↔◌, ℕ, List, length, Some, IsSome, IfSome, IsTrue};
 ghost use Rattle.std.specs.List.{AllPass};
 ghost use Rattle.std.specs.Str.{IsAscii};

@@ -1,4 +1,4 @@
-// Numbers as hexadecimal digits, as the program prints signatures, CRCs, references and codes.
+//! Numbers as hexadecimal digits, as the program prints signatures, CRCs, references and codes.
 ghost use Rattle.std.specs.Prelude.{◌≡◌, ◌*◌, ◌∷◌, [], Some, length};
 ghost use Rattle.std.specs.Int.{w16, w32, to_be_bytes};
 ghost use Rattle.std.specs.Str.{IsAscii};

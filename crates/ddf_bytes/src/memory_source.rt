@@ -1,3 +1,4 @@
+//! A source for tests: it fails where it is told to, so that a command whose input fails can be played.
 ghost use Rattle.std.specs.Prelude.{◌≡◌, ◌≤◌, ◌<◌, ◌+◌, ◌-◌, ◌^◌, ℕ, List, [], length, take, min, IfOk, OnOk, OnErr, IsErr, IsTrue, ◌↔◌, vec_len};
 ghost use Rattle.ddf_bytes.specs.Counts.{Rose};
 ghost use Rattle.ddf_bytes.specs.Streams.{Gives};

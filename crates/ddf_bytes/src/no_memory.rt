@@ -1,3 +1,4 @@
+//! Want of memory as an answer: the one answer that contracts leave free.
 use std::alloc::{AllocError, AllocFailed};
 use std::fmt;
 

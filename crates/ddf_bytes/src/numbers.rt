@@ -1,4 +1,4 @@
-// Big-endian numbers within a slice of bytes, as all of the format's numbers stand.
+//! Big-endian numbers within a slice of bytes, as all of the format's numbers stand.
 ghost use Rattle.std.specs.Prelude.{◌≡◌, ◌+◌, ◌≤◌, length};
 ghost use Rattle.std.specs.Int.{w16, w32, w64, to_be_bytes};
 ghost use Rattle.ddf_bytes.specs.Bytes.{number_at, with_bytes_at};

@@ -1,3 +1,4 @@
+//! A list for fields of public types. Contracts compare it by its items, and not by how its memory was taken.
 ghost use Rattle.std.specs.Prelude.{◌≡◌};
 
 use std::marker::Model;

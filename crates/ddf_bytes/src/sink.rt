@@ -1,3 +1,4 @@
+//! Where output goes: the trait, and how a whole piece is written. A write that takes nothing is a fault, or its caller would ask for ever.
 ghost use Rattle.std.specs.Prelude.{◌≡◌, ◌≤◌, ◌<◌, ◌++◌, length, take, IfOk, OnOk, OnErr, IsErrOf};
 ghost use Rattle.ddf_bytes.specs.Counts.{Rose};
 ghost use Rattle.ddf_bytes.specs.Streams.{SinkState, SinkNeverFalls, SinkSame, TakesFront};

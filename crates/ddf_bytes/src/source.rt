@@ -1,3 +1,4 @@
+//! Where input comes from: the trait, and how a piece is filled. A short read isn't the end of the input; only one of no bytes is.
 ghost use Rattle.std.specs.Prelude.{◌≡◌, ◌≤◌, ◌<◌, [], length, min, IfOk, OnOk, OnErr};
 ghost use Rattle.ddf_bytes.specs.Counts.{Rose};
 ghost use Rattle.ddf_bytes.specs.Streams.{SourceState, Gives, GivesFront};

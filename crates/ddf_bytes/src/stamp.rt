@@ -1,3 +1,4 @@
+//! The time and the chance that a call is given, so that what it makes of its words is a function of them.
 ghost use Rattle.std.specs.Prelude.{◌≡◌};
 ghost use Rattle.ddf_bytes.specs.Stamps.{timestamp_of};
 

@@ -1,3 +1,4 @@
+//! Standard input as a source.
 ghost use Rattle.std.specs.Prelude.{◌≡◌, ◌≤◌, length, IfOk, OnOk, OnErr};
 ghost use Rattle.std.specs.Io.KnownBytes.{ReadConsumes};
 ghost use Rattle.ddf_bytes.specs.Counts.{Rose};

@@ -11,7 +11,7 @@ use Rattle.ddf_copy.specs.declared.which.Which.TheVariants.{Primary, Secondary}
 use Rattle.ddf_copy.specs.Runs.{IsInCopy, RunsCover}
 use Rattle.ddf_copy.specs.Which.{other_of, place_of}
 use Rattle.ddf_update.specs.declared.prepared.Mode.{Mode}
-use Rattle.ddf_update.specs.declared.prepared.Mode.TheVariants.{Adopt, Change, Found}
+use Rattle.ddf_update.specs.declared.prepared.Mode.TheVariants.{Adopt, Change, Found, Move}
 use Rattle.ddf_update.specs.declared.prepared.Prepared.{Prepared}
 use Rattle.ddf_update.specs.Changes.{IsGetting, IsLeftChangingAll, MayChangeAll, SlotChange}
 use Rattle.ddf_update.specs.Prepared.{IsPrepared, writes_anchor, written_first}
@@ -87,6 +87,8 @@ module _ {D : Type 0} (start : BayState D) (slots : List ℕ) (seat : ℕ → Sl
     getting Change size before now update one same is gets l = ⊎_elim inl (λ either. inr (inl either)) (gets.outside l)
     getting Found size before now update one same is gets l = absurd gets
     getting Adopt size before now update one same is gets l =
+        ⊎_elim inl (⊎_elim (λ either. inr (inl either)) (λ anchor. inr (inr (ap writes_anchor (is ∙ sym same), anchor)))) (gets.outside l)
+    getting Move size before now update one same is gets l =
         ⊎_elim inl (⊎_elim (λ either. inr (inl either)) (λ anchor. inr (inr (ap writes_anchor (is ∙ sym same), anchor)))) (gets.outside l)
 
     by_turn : (place slot l : ℕ) (update : Prepared) → slice_get slots place ≡ Some slot → slice_get updates place ≡ Some update → (image slot l ≡ start.held slot l) ⊎ IsWritten (size_of start slot) update l

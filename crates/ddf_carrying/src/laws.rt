@@ -1,4 +1,4 @@
-// Laws of groups on disks and of their data: functions that do nothing, whose contracts are the laws.
+//! Laws of groups on disks and of their data: functions that do nothing, whose contracts are the laws.
 ghost use Rattle.std.specs.Prelude.{◌≡◌, ◌⊎◌, ◌-◌, ◌<◌, ◌≤◌, ◌^◌, ℕ, List, Ok, Some, false, true};
 ghost use Rattle.ddf_bay.specs.Moments.{IsSettled};
 ghost use Rattle.ddf_bay.specs.Sectors.{Image, IsLeft};

@@ -36,6 +36,7 @@ fn write_first<B: Bay>(
     ensures within { IfOk result (λ count. at + count ≤ length from.now) }
     ensures set { B.tells → IfOk result (λ count. AreSet view.now element position start at (at + count) from.now (B.disks bay.new).held touched.new) }
     ensures writes { Writes (GivesCells view.now start from.now) B.tells (B.disks bay.old) (B.disks bay.new) touched.old touched.new }
+    ensures unfailed { OnOk result ((B.disks bay.new).failed_writes ≡ (B.disks bay.old).failed_writes) }
     ensures failed { IfErr result (λ slot. Rose ((B.disks bay.old).failed_writes slot) ((B.disks bay.new).failed_writes slot)) }
     ensures touched { IfErr result (IsTouchedSlot touched.new) }
     ensures reads { (B.disks bay.new).failed_reads ≡ (B.disks bay.old).failed_reads }
@@ -78,6 +79,7 @@ fn write_position<B: Bay>(
     requires blocks { start + length from.now ≤ capacity view.now }
     ensures set { B.tells → OnOk result (AreSet view.now element position start 0 (length from.now) from.now (B.disks bay.new).held touched.new) }
     ensures writes { Writes (GivesCells view.now start from.now) B.tells (B.disks bay.old) (B.disks bay.new) touched.old touched.new }
+    ensures unfailed { OnOk result ((B.disks bay.new).failed_writes ≡ (B.disks bay.old).failed_writes) }
     ensures failed { IfErr result (λ slot. Rose ((B.disks bay.old).failed_writes slot) ((B.disks bay.new).failed_writes slot)) }
     ensures touched { IfErr result (IsTouchedSlot touched.new) }
     ensures reads { (B.disks bay.new).failed_reads ≡ (B.disks bay.old).failed_reads }
@@ -108,6 +110,7 @@ fn write_element<B: Bay>(
     requires blocks { start + length from.now ≤ capacity view.now }
     ensures set { B.tells → OnOk result ((position : ℕ) → position < places → AreSet view.now element position start 0 (length from.now) from.now (B.disks bay.new).held touched.new) }
     ensures writes { Writes (GivesCells view.now start from.now) B.tells (B.disks bay.old) (B.disks bay.new) touched.old touched.new }
+    ensures unfailed { OnOk result ((B.disks bay.new).failed_writes ≡ (B.disks bay.old).failed_writes) }
     ensures failed { IfErr result (λ slot. Rose ((B.disks bay.old).failed_writes slot) ((B.disks bay.new).failed_writes slot)) }
     ensures touched { IfErr result (IsTouchedSlot touched.new) }
     ensures reads { (B.disks bay.new).failed_reads ≡ (B.disks bay.old).failed_reads }
@@ -150,6 +153,7 @@ pub fn write_cells<B: Bay>(
     requires blocks { start + length from.now ≤ capacity view.now }
     ensures set { B.tells → OnOk result ((element position : ℕ) → AreSet view.now element position start 0 (length from.now) from.now (B.disks bay.new).held touched.new) }
     ensures writes { Writes (GivesCells view.now start from.now) B.tells (B.disks bay.old) (B.disks bay.new) touched.old touched.new }
+    ensures unfailed { OnOk result ((B.disks bay.new).failed_writes ≡ (B.disks bay.old).failed_writes) }
     ensures failed { IfErr result (λ slot. Rose ((B.disks bay.old).failed_writes slot) ((B.disks bay.new).failed_writes slot)) }
     ensures touched { IfErr result (IsTouchedSlot touched.new) }
     ensures reads { (B.disks bay.new).failed_reads ≡ (B.disks bay.old).failed_reads }

@@ -21,6 +21,7 @@ pub fn sync_touched<B: Bay>(bay: &mut B, touched: &[bool; 64]) -> Result<(), usi
     ensures held { (B.disks bay.new).held ≡ (B.disks bay.old).held }
     ensures left { Keeps (B.disks bay.old).may_hold (B.disks bay.new).may_hold }
     ensures any_moment { StopsLeave (B.disks bay.old) (B.disks bay.new) (IsLeft (B.disks bay.old).may_hold) }
+    ensures unfailed { OnOk result ((B.disks bay.new).failed_writes ≡ (B.disks bay.old).failed_writes) }
     ensures failed { IfErr result (λ slot. Rose ((B.disks bay.old).failed_writes slot) ((B.disks bay.new).failed_writes slot)) }
     ensures touched { IfErr result (IsTouchedSlot touched.now) }
     ensures there { IfErr result (λ slot. slot < length (B.disks bay.old).sizes) }

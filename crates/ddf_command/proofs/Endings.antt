@@ -1,7 +1,7 @@
 -- How a call of the program ends.
 use Rattle.std.proofs.Common.{◌≡◌, ◌∙◌, ◌⊎◌, inl, inr, ⊎_elim, ℕ, ◌*◌, List, [], length, replicate, true, false, Option, Result, Ok, Err, refl, sym, subst, arith}
 use Rattle.std.specs.Prelude.{IsTrue}
-use Rattle.std.proofs.lemmas.Bool.{cases_lt, false≢true}
+use Rattle.std.proofs.lemmas.Bool.{cases_lt}
 use Rattle.std.proofs.lemmas.List.{append-nil, length-replicate}
 use Rattle.ddf_bytes.specs.declared.stamp.Stamp.{Stamp}
 use Rattle.ddf_bytes.specs.Stamps.{timestamp_of}
@@ -25,6 +25,7 @@ use Rattle.ddf_answer.specs.Call.{Answer, Work, answer_of, work_of}
 use Rattle.ddf_answer.specs.Ends.{EndsBy, HasCause, SomeSlotRose}
 use Rattle.ddf_answer.specs.declared.failure.Failure.TheVariants.{Memory}
 use Rattle.ddf_disk_commands.specs.Examine.{IsExamined}
+use Rattle.ddf_answer.proofs.Causes.{IsFaultless, fault_by, slot_by, stream_by, words_by}
 use Rattle.ddf_answer.proofs.Costs.{none_written, writes_most}
 use Rattle.ddf_disk_commands.specs.Label.{label_copy, label_sectors, label_slots, revision_of}
 use Rattle.ddf_group_commands.proofs.Beside.{reads_beside}
@@ -38,9 +39,7 @@ use Rattle.ddf_data_commands.proofs.LeftOut.{has_no_place}
 use Rattle.ddf_data_commands.proofs.ReadBlocks.{memory_in}
 use Rattle.ddf_data_commands.proofs.Scrubbed.{scrubbed_nothing}
 use Rattle.ddf_data_commands.specs.Read.{NotRead}
-use Rattle.ddf_write_commands.proofs.Ended.{Cause, ends_for}
 use Rattle.ddf_write_commands.specs.Doing.{Doing}
-use Rattle.ddf_write_commands.specs.Ending.{EndsCut}
 use Rattle.ddf_write_commands.specs.Payload.{input_of}
 use Rattle.ddf_write_commands.specs.Resync.{IsResyncDone, resync_request, resyncing}
 use Rattle.ddf_write_commands.specs.Worked.{IsWorkedIn}
@@ -51,14 +50,9 @@ use Rattle.ddf_rebuild_command.specs.Rebuilt.{IsRebuildDone, IsRebuiltIn}
 use Rattle.ddf_rebuild_command.proofs.Costs.{none_cost}
 use Rattle.ddf_write_commands.specs.Write.{IsWriteDone, write_request, writing}
 use Rattle.ddf_write_commands.specs.Write.Outcome.{Unfit}
-use Rattle.ddf_command.specs.Run.{IsCommandDone, IsEnded, is_status}
+use Rattle.ddf_command.specs.Run.{IsCommandDone, is_status}
 
 -- ---- what the cause of a status tells
-
-abbrev pub IsFaultless : Traits → Answer → Type 0
-IsFaultless traits answer =
-    (answer.status ≡ 0) ⊎ (answer.status ≡ 5) ⊎ ((answer.status ≡ 1) × (traits.may_refuse ≡ true)) ⊎ ((answer.status ≡ 4) × (traits.takes_group ≡ true))
-    ⊎ ((answer.status ≡ 7) × (traits.takes_input ≡ true))
 
 module _ {D : Type 0} (traits : Traits) (work : Work D) (answer : Answer) (rose : Type 0) where
   -- it is one of those that a call may end with
@@ -68,80 +62,24 @@ module _ {D : Type 0} (traits : Traits) (work : Work D) (answer : Answer) (rose 
   status_by (inr (inr (inl one))) = subst (λ (n : ℕ). IsTrue (is_status n)) (sym one.0) refl
   status_by (inr (inr (inr (inl four)))) = subst (λ (n : ℕ). IsTrue (is_status n)) (sym four.0) refl
   status_by (inr (inr (inr (inr (inl three))))) = subst (λ (n : ℕ). IsTrue (is_status n)) (sym three.0) refl
-  status_by (inr (inr (inr (inr (inr six))))) = subst (λ (n : ℕ). IsTrue (is_status n)) (sym six.0) refl
+  status_by (inr (inr (inr (inr (inr (inl six)))))) = subst (λ (n : ℕ). IsTrue (is_status n)) (sym six.0) refl
+  status_by (inr (inr (inr (inr (inr (inr seven)))))) = subst (λ (n : ℕ). IsTrue (is_status n)) (sym seven.0) refl
 
-  -- the words were good
-  words_by : HasCause traits work answer rose → answer.status ≡ 2 → ⊥
-  words_by (inl zero) two = omega (arith, two, zero)
-  words_by (inr (inl five)) two = omega (arith, two, five)
-  words_by (inr (inr (inl one))) two = omega (arith, two, one.0)
-  words_by (inr (inr (inr (inl four)))) two = omega (arith, two, four.0)
-  words_by (inr (inr (inr (inr (inl three))))) two = omega (arith, two, three.0)
-  words_by (inr (inr (inr (inr (inr six))))) two = omega (arith, two, six.0)
-
-  -- status 3 comes from a slot
-  slot_by : HasCause traits work answer rose → answer.status ≡ 3 → SomeSlotRose work.old work.new
-  slot_by (inl zero) e = absurd (omega (arith, e, zero))
-  slot_by (inr (inl five)) e = absurd (omega (arith, e, five))
-  slot_by (inr (inr (inl one))) e = absurd (omega (arith, e, one.0))
-  slot_by (inr (inr (inr (inl four)))) e = absurd (omega (arith, e, four.0))
-  slot_by (inr (inr (inr (inr (inl three))))) e = three.1
-  slot_by (inr (inr (inr (inr (inr six))))) e = absurd (omega (arith, e, six.0))
-
-  -- and status 6 from a stream
-  stream_by : HasCause traits work answer rose → answer.status ≡ 6 → rose
-  stream_by (inl zero) e = absurd (omega (arith, e, zero))
-  stream_by (inr (inl five)) e = absurd (omega (arith, e, five))
-  stream_by (inr (inr (inl one))) e = absurd (omega (arith, e, one.0))
-  stream_by (inr (inr (inr (inl four)))) e = absurd (omega (arith, e, four.0))
-  stream_by (inr (inr (inr (inr (inl three))))) e = absurd (omega (arith, e, three.0))
-  stream_by (inr (inr (inr (inr (inr six))))) e = six.1
-
-  -- where nothing failed it is done, or memory ran out, or it is refused, or records contradict each other
-  fault_by : HasCause traits work answer rose → (SomeSlotRose work.old work.new → ⊥) → (rose → ⊥) → IsFaultless traits answer
-  fault_by (inl zero) none good = inl zero
-  fault_by (inr (inl five)) none good = inr (inl five)
-  fault_by (inr (inr (inl one))) none good = inr (inr (inl one))
-  fault_by (inr (inr (inr (inl four)))) none good = inr (inr (inr (inl four)))
-  fault_by (inr (inr (inr (inr (inl three))))) none good = absurd (none three.1)
-  fault_by (inr (inr (inr (inr (inr six))))) none good = absurd (good six.1)
-
-module _ {D : Type 0} {traits : Traits} {work : Work D} {answer : Answer} {rose : Type 0} (ends : IsEnded traits work answer rose) where
+module _ {D : Type 0} {traits : Traits} {work : Work D} {answer : Answer} {rose : Type 0} (ends : EndsBy traits work answer rose) where
   pub status_of : IsTrue (is_status answer.status)
-  status_of = ⊎_elim (λ cut. subst (λ (n : ℕ). IsTrue (is_status n)) (sym cut.0) refl) (status_by traits work answer rose) ends.cause
+  status_of = status_by traits work answer rose ends.cause
 
   pub good_words : answer.status ≡ 2 → ⊥
-  good_words two = ⊎_elim (λ cut. omega (arith, two, cut.0)) (λ other. words_by traits work answer rose other two) ends.cause
+  good_words two = words_by traits work answer rose ends.cause two
 
   pub slot_rose : answer.status ≡ 3 → SomeSlotRose work.old work.new
-  slot_rose three = ⊎_elim (λ cut. absurd (omega (arith, three, cut.0))) (λ other. slot_by traits work answer rose other three) ends.cause
+  slot_rose three = slot_by traits work answer rose ends.cause three
 
   pub stream_rose : answer.status ≡ 6 → rose
-  stream_rose six = ⊎_elim (λ cut. absurd (omega (arith, six, cut.0))) (λ other. stream_by traits work answer rose other six) ends.cause
+  stream_rose six = stream_by traits work answer rose ends.cause six
 
-  -- or it is cut
   pub no_fault : (SomeSlotRose work.old work.new → ⊥) → (rose → ⊥) → IsFaultless traits answer
-  no_fault none good = ⊎_elim (λ cut. inr (inr (inr (inr cut)))) (λ other. fault_by traits work answer rose other none good) ends.cause
-
--- ---- which commands may be cut
-
-module _ {D : Type 0} {traits : Traits} {work : Work D} {answer : Answer} where
-  pub not_cut : {rose : Type 0} → EndsBy traits work answer rose → IsEnded traits work answer rose
-  not_cut ends = record { cause = inr ends.cause; unwritten = ends.unwritten; stays = ends.stays; goes_on = ends.goes_on; same_sizes = ends.same_sizes }
-
-  -- one that writes what it takes from the input
-  pub may_be_cut : {rose streams : Type 0} → traits.may_refuse ≡ true → traits.takes_group ≡ true → traits.may_write ≡ true → traits.takes_input ≡ true → (rose → streams) → EndsCut work answer rose
-      → IsEnded traits work answer streams
-  may_be_cut {rose = rose} {streams = streams} refuses grouped writes takes failed ends =
-      let so : Cause work answer rose → EndsBy traits work answer streams =
-      λ cause. ends_for traits refuses grouped writes work answer rose streams failed (record { cause = cause; unwritten = ends.unwritten; goes_on = ends.goes_on; same_sizes = ends.same_sizes }) in
-      record {
-        cause = ⊎_elim (λ seven. inl (seven, takes)) (λ cause. inr (so cause).cause) ends.cause;
-        unwritten = ends.unwritten;
-        stays = λ none. absurd (false≢true (sym none ∙ writes));
-        goes_on = ends.goes_on;
-        same_sizes = ends.same_sizes;
-      }
+  no_fault none good = fault_by traits work answer rose ends.cause none good
 
 -- ---- words
 
@@ -187,6 +125,7 @@ taken_nothing old tells named timestamp request = record {
   read = λ tells. refl;
   beside = λ told found is. reads_beside old old (slots_of found.seats) (reads_start old);
   keeps = λ told found is steps asked. reads_keep old old (none_looked old).left found steps (reads_start old);
+  unfailed = λ done slot below kept. refl;
 }
 
 -- and no blocks were worked on
@@ -260,6 +199,7 @@ done_nothing old tells told before reads input stamp group (Label style slots) =
   outcome = Err Memory;
   tried = reads_start old;
   ends = (refl, λ told. refl);
+  unfailed = tt;
   any_moment = λ tells. stops_start old (IsLeftFoundingAll old (label_slots old.sizes slots) (label_copy (revision_of style) stamp old.sizes slots));
   costs = writes_most (label_sectors * length (label_slots old.sizes slots)) (omega arith) (none_written (work_of tells old old) (reads_start old));
   refused = λ tells refusal is. reads_start old;

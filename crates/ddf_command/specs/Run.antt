@@ -12,7 +12,6 @@ use Rattle.ddf_words.specs.declared.traits.Traits.{Traits}
 use Rattle.ddf_words.specs.Traits.{traits_of}
 use Rattle.ddf_words.specs.Words.{Word, IsAsked}
 use Rattle.ddf_answer.specs.Call.{Answer, Work}
-use Rattle.ddf_answer.specs.Ends.{HasCause, is_unwritten}
 use Rattle.ddf_disk_commands.specs.Examine.{IsExamined}
 use Rattle.ddf_disk_commands.specs.Label.{IsLabelled, revision_of}
 use Rattle.ddf_group_commands.specs.Assemble.{IsAssembleDone}
@@ -61,12 +60,3 @@ IsDone work input stamp asked answer = IsCommandDone work input stamp asked.grou
 -- the statuses that a call may end with
 abbrev pub is_status : ℕ → Bool
 is_status number = list_any (λ status. status == number) (0 ∷ 1 ∷ 2 ∷ 3 ∷ 4 ∷ 5 ∷ 6 ∷ 7 ∷ [])
-
--- How a command ends that may do this: one that takes bytes from the input may be cut, and else each status has its cause. At the statuses of calls that wrote nothing nothing was
--- written, and where it may not write at none.
-pub record IsEnded {D : Type 0} (traits : Traits) (work : Work D) (answer : Answer) (rose : Type 0) : Type 0 where
-  pub cause : ((answer.status ≡ 7) × (traits.takes_input ≡ true)) ⊎ HasCause traits work answer rose
-  pub unwritten : IsTrue (is_unwritten answer.status) → ReadsOnly work.old work.new
-  pub stays : traits.may_write ≡ false → ReadsOnly work.old work.new
-  pub goes_on : GoesOn work.old work.new
-  pub same_sizes : work.new.sizes ≡ work.old.sizes

@@ -1,4 +1,4 @@
-// What a call of the program does, and what it promises.
+//! What a call of the program does, and what it promises.
 ghost use Rattle.std.specs.Prelude.{◌≡◌, ◌⊎◌, ℕ, true, false, length, IsTrue};
 ghost use Rattle.ddf_bay.specs.Moments.{GoesOn};
 ghost use Rattle.ddf_bay.specs.ReadsOnly.{ReadsOnly};
@@ -8,14 +8,14 @@ ghost use Rattle.ddf_text.specs.Refusal.{refusal_line};
 ghost use Rattle.ddf_bytes.specs.Counts.{Rose};
 ghost use Rattle.ddf_bytes.specs.Streams.{SinkRose};
 ghost use Rattle.ddf_answer.specs.Call.{answer_of, work_of};
-ghost use Rattle.ddf_answer.specs.Ends.{SomeSlotRose, StreamRose, is_unwritten};
+ghost use Rattle.ddf_answer.specs.Ends.{EndsBy, SomeSlotRose, StreamRose, is_unwritten};
 ghost use Rattle.ddf_answer.specs.Status.{code_of};
 ghost use Rattle.ddf_answer.specs.Tells.{EndsWith};
 ghost use Rattle.ddf_words.specs.Commands.{FitsCommand};
 ghost use Rattle.ddf_words.specs.Traits.{traits_of};
 ghost use Rattle.ddf_words.specs.Words.{words_of, slot_count, GoWrongAt, IsAccepted, IsAsked};
 ghost use Rattle.ddf_write_commands.specs.Payload.{input_of};
-ghost use Rattle.ddf_command.specs.Run.{AsksForNoWrite, IsCommandDone, IsDone, IsEnded, TakesInput, TakesNoInput, is_status};
+ghost use Rattle.ddf_command.specs.Run.{AsksForNoWrite, IsCommandDone, IsDone, TakesInput, TakesNoInput, is_status};
 
 use crate::refusing::refuse_words;
 use ddf_answer::Status;
@@ -89,7 +89,7 @@ fn obey<B: Bay, S: Source, K: Sink>(
 ) -> Status
     requires { FitsCommand command }
     ensures done { IsCommandDone (work_of B.tells (B.disks bay.old) (B.disks bay.new)) (input_of S.tells (S.input source.old) (S.input source.new)) stamp.now group command (answer_of K.tells (K.output sink.old) (K.output sink.new) (code_of result)) }
-    ensures ends { IsEnded (traits_of command) (work_of B.tells (B.disks bay.old) (B.disks bay.new)) (answer_of K.tells (K.output sink.old) (K.output sink.new) (code_of result))
+    ensures ends { EndsBy (traits_of command) (work_of B.tells (B.disks bay.old) (B.disks bay.new)) (answer_of K.tells (K.output sink.old) (K.output sink.new) (code_of result))
         (StreamRose (traits_of command) (S.input source.old) (S.input source.new) (answer_of K.tells (K.output sink.old) (K.output sink.new) (code_of result))) }
     ensures source { (traits_of command).takes_input ≡ false → source.new ≡ source.old }
 {

@@ -1,4 +1,4 @@
-// Words that are no command's.
+//! Words that are no command's.
 ghost use Rattle.std.specs.Prelude.{◌≡◌};
 ghost use Rattle.ddf_bytes.specs.Streams.{SinkRose};
 ghost use Rattle.ddf_text.specs.Refusal.{refusal_line};

@@ -1,3 +1,5 @@
+//! An array as a configuration has it, with what its state byte says. An element of which no disk tells stays in the list as none: left out,
+//! the others would move up and their blocks be read at wrong places.
 ghost use Rattle.std.specs.Prelude.{◌≡◌, ◌==◌, IfOk, ◌/◌, ◌%◌};
 ghost use Rattle.std.specs.List.{list_any};
 ghost use Rattle.ddf_config.specs.Within.{is_complete, is_mirrored, has_redundancy, is_redundant};

@@ -1,3 +1,4 @@
+//! The configuration of a group: what its members and arrays are, without disks. Changes make one from another, and copies are made of it.
 ghost use Rattle.std.specs.Prelude.{◌≡◌, IfOk};
 
 use crate::table::put_last;

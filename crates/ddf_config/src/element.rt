@@ -1,3 +1,4 @@
+//! An element of an array and its positions, in the order of the member list: the order says which member holds which strip.
 ghost use Rattle.std.specs.Prelude.{◌≡◌, ◌≤◌, length, Ok};
 
 use arrayvec::ArrayVec;

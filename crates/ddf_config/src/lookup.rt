@@ -1,3 +1,4 @@
+//! Whether a reference is that of a current member: neither failed nor missing.
 ghost use Rattle.std.specs.Prelude.{◌≡◌};
 ghost use Rattle.ddf_config.specs.Members.{is_current};
 

@@ -1,3 +1,4 @@
+//! A disk as the group lists it, and what it may stand in for.
 ghost use Rattle.std.specs.Prelude.{◌≡◌, IfOk};
 ghost use Rattle.ddf_config.specs.Members.{is_spare};
 

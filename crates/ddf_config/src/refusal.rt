@@ -1,3 +1,4 @@
+//! Every refusal, with what is told of it. Their numbers stand in scripts of others, so none is ever given to another cause: docs/REFUSALS.md.
 ghost use Rattle.std.specs.Prelude.{◌≡◌};
 ghost use Rattle.ddf_config.specs.Refusals.{first_refusal, refuse_if};
 

@@ -1,3 +1,4 @@
+//! A member's slot, and its floor: the sector at which extents have to end. An extent past the floor would lie over the records of its disk.
 ghost use Rattle.std.specs.Prelude.{◌≡◌};
 ghost use Rattle.ddf_config.specs.Seats.{slot_of, floor_of};
 

@@ -1,4 +1,4 @@
-// A set of positions as bits: position p is bit p mod 8, counted from the lowest, of byte p div 8.
+//! A set of positions as bits: position p is bit p mod 8, counted from the lowest, of byte p div 8.
 ghost use Rattle.std.specs.Prelude.{◌≡◌, ◌*◌, ◌≤◌, ◌<◌, length, slice_index, EachIndex, IfOk};
 ghost use Rattle.ddf_configs.specs.Bits.{bits_of, is_set, positions};
 

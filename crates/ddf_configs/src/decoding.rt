@@ -1,3 +1,5 @@
+//! Configuration records, read: each slot of the section as what it is. With a known signature and a wrong seal in any slot the copy isn't
+//! whole, for an element of an array may be lost there. docs/FORMAT.md#configuration-records
 ghost use Rattle.std.specs.Prelude.{◌≡◌, ◌↔◌, ◌⊎◌, ◌+◌, ◌*◌, ◌<◌, ◌≤◌, List, length, Some, Ok, Err, IfOk, IfErr};
 ghost use Rattle.ddf_bytes.specs.Bytes.{bytes_at};
 ghost use Rattle.ddf_header.specs.Geometry.{IsSound};

@@ -1,4 +1,4 @@
-// Second values of slots.
+//! Second values of slots.
 ghost use Rattle.std.specs.Prelude.{◌≡◌, ◌≤◌, length, IfOk};
 
 use crate::element::Element;

@@ -1,3 +1,4 @@
+//! The record of an element, as a value. docs/FORMAT.md#element-record
 use crate::place::Place;
 use arrayvec::ArrayVec;
 use ddf_bytes::{Guid, Seq};

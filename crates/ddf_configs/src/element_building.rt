@@ -1,4 +1,4 @@
-// Elements over the bytes of other records.
+//! Elements over the bytes of other records.
 ghost use Rattle.std.specs.Prelude.{◌≡◌, ◌≤◌, ◌<◌, ◌^◌, ◌+◌, ◌*◌, ◌∷◌, ℕ, None, length, replicate, IfOk};
 ghost use Rattle.std.specs.List.{AllByRecursion};
 ghost use Rattle.ddf_seal.specs.Seal.{seal_place};

@@ -1,3 +1,5 @@
+//! The record of an element, read. A sealed record whose numbers make no sense is kept by its bytes, and told: read in part, its array would
+//! have its blocks at wrong places. docs/FORMAT.md#element-record
 ghost use Rattle.std.specs.Prelude.{◌≡◌, ◌+◌, ◌*◌, ◌≤◌, length, None, IfOk};
 ghost use Rattle.std.specs.Int.{w16};
 ghost use Rattle.ddf_bytes.specs.Bytes.{number_at};

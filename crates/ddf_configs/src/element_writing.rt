@@ -1,3 +1,4 @@
+//! The record of an element, written: fields into their places, all other bytes stay. docs/FORMAT.md#element-record
 ghost use Rattle.std.specs.Prelude.{◌≡◌, ◌++◌, ◌+◌, ◌*◌, ◌≤◌, length, map};
 ghost use Rattle.std.specs.List.{flat_map};
 ghost use Rattle.std.specs.Int.{w32, w64, to_be_bytes};

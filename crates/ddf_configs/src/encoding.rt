@@ -1,3 +1,5 @@
+//! Configuration records, written: what was read and isn't changed goes back byte by byte, so another controller finds what it wrote.
+//! docs/FORMAT.md#slots-that-are-read-and-written
 ghost use Rattle.std.specs.Prelude.{◌≡◌, ◌+◌, ◌*◌, ◌<◌, ◌≤◌, ◌++◌, ℕ, List, length, take, drop, slice_get, Some};
 ghost use Rattle.ddf_header.specs.Geometry.{IsSound};
 ghost use Rattle.ddf_configs.specs.declared.slot.RecordSlot.{RecordSlot};

@@ -1,3 +1,4 @@
+//! Why an element or a section of records isn't read. docs/FORMAT.md#configuration-records
 ghost use Rattle.std.specs.Prelude.{◌≡◌};
 ghost use Rattle.ddf_configs.specs.declared.fault.SlotFault.TheVariants.{Memory};
 

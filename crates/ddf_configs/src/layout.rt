@@ -1,4 +1,4 @@
-// Where the fields of the configuration records stand (SNIA DDF 2.0).
+//! Where the fields of the configuration records stand (SNIA DDF 2.0).
 use ddf_seal::{SEAL, Span};
 
 pub(crate) const GUID: usize = 8;

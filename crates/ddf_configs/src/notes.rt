@@ -1,3 +1,4 @@
+//! The notes of this project, as values: what the standard has no field for, as which positions are out of sync. docs/FORMAT.md#notes-record
 use ddf_bytes::{Guid, Seq};
 
 /// The notes that this project keeps on each member, in a vendor's record of its own (profile).

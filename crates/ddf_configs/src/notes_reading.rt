@@ -1,3 +1,5 @@
+//! Notes, read. Each byte of a record has to be as it is written, or the record isn't notes: half understood, they would call a position in
+//! sync that isn't. docs/FORMAT.md#notes-record
 ghost use Rattle.std.specs.Prelude.{◌≡◌, ◌+◌, ◌*◌, ◌/◌, ◌≤◌, ◌<◌, ◌==◌, length, IfOk, IsTrue};
 ghost use Rattle.std.specs.List.{list_all, range_with_len};
 ghost use Rattle.ddf_configs.specs.NoteRecords.{

@@ -1,3 +1,4 @@
+//! Notes, written. docs/FORMAT.md#notes-record
 ghost use Rattle.std.specs.Prelude.{◌≡◌, ◌+◌, ◌-◌, ◌*◌, ◌/◌, ◌≤◌, ◌<◌, length, replicate};
 ghost use Rattle.std.specs.List.{AllByRecursion};
 ghost use Rattle.ddf_seal.specs.Records.{record_bytes};

@@ -1,4 +1,4 @@
-// The bounds that types give the numbers of a record. These functions do nothing: their contracts are laws.
+//! The bounds that types give the numbers of a record. These functions do nothing: their contracts are laws.
 ghost use Rattle.std.specs.Prelude.{◌≡◌, ◌<◌, ◌^◌, length, map};
 ghost use Rattle.std.specs.List.{AllByRecursion};
 

@@ -1,3 +1,5 @@
+//! A member's place in the record of an element.
+
 /// Where a member of an element lies.
 #[derive(Clone, Copy, Default, PartialEq, Eq)]
 pub struct Place {

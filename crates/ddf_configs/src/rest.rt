@@ -1,4 +1,4 @@
-// The bytes of a record that no field names.
+//! The bytes of a record that no field names.
 ghost use Rattle.std.specs.Prelude.{◌≡◌, length, IfOk, IsTrue};
 ghost use Rattle.std.specs.List.{list_all};
 ghost use Rattle.ddf_seal.specs.Unread.{cleared, is_within};

@@ -1,4 +1,4 @@
-// How much the records of a geometry hold.
+//! How much the records of a geometry hold.
 ghost use Rattle.std.specs.Prelude.{◌≡◌, ◌↔◌, ◌≤◌, ◌/◌, List, ℕ, IsTrue, length};
 ghost use Rattle.ddf_configs.specs.Elements.{HasRoom, record_size};
 ghost use Rattle.ddf_configs.specs.NoteRecords.{note_place};

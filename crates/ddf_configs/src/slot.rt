@@ -1,3 +1,4 @@
+//! What a slot of the configuration records may hold. What isn't understood is kept with all its bytes, and written back.
 use crate::element::Element;
 use crate::fault::ElementFault;
 use crate::notes::Notes;

@@ -1,3 +1,5 @@
+//! One slot of the configuration records, read by its signature. Notes count only under the header that they were written with: older ones
+//! would speak of positions that have changed since. docs/FORMAT.md#copies-of-element-records
 ghost use Rattle.std.specs.Prelude.{◌≡◌, ◌+◌, ◌*◌, ◌/◌, ◌≤◌, length, IfOk};
 ghost use Rattle.std.specs.Int.{w32};
 ghost use Rattle.ddf_bytes.specs.Bytes.{number_at};

@@ -1,3 +1,4 @@
+//! The record of a spare, as a value. docs/FORMAT.md#spare-record
 use ddf_bytes::{Guid, Seq};
 
 /// A spare assignment record (SNIA DDF 2.0), on the spare's own disk.

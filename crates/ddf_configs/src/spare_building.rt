@@ -1,4 +1,4 @@
-// Spare records over the bytes of others.
+//! Spare records over the bytes of others.
 ghost use Rattle.std.specs.Prelude.{◌≡◌, ◌≤◌, ◌<◌, ◌^◌, ◌+◌, ◌*◌, ◌∷◌, length, map, option_copied, IfOk};
 ghost use Rattle.std.specs.List.{AllByRecursion, range_with_len};
 ghost use Rattle.std.specs.Option.{ForSome};

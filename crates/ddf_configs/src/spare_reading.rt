@@ -1,3 +1,4 @@
+//! The record of a spare, read. docs/FORMAT.md#spare-record
 ghost use Rattle.std.specs.Prelude.{◌≡◌, ◌+◌, ◌*◌, ◌≤◌, length, IfOk};
 ghost use Rattle.ddf_configs.specs.Spares.{arrays_at, spare_at, spare_count, spare_rest};
 

@@ -1,3 +1,4 @@
+//! Which slot has the valid notes: where several do, the lowest alone counts, so that two readers never follow different ones.
 ghost use Rattle.std.specs.Prelude.{◌≡◌, position, slice_get, is_some};
 ghost use Rattle.std.specs.Option.{option_and_then};
 ghost use Rattle.ddf_configs.specs.Slots.{valid_notes, valid_of};

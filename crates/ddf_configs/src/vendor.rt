@@ -1,3 +1,4 @@
+//! A vendor's record: its GUID, and all else kept as it was found. docs/FORMAT.md#vendors-record
 ghost use Rattle.std.specs.Prelude.{◌≡◌, ◌≤◌, length, IfOk};
 ghost use Rattle.ddf_seal.specs.Records.{record_bytes};
 ghost use Rattle.ddf_seal.specs.Unread.{AreBytes};

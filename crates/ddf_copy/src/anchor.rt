@@ -1,3 +1,5 @@
+//! The anchor of a slot: the first thing that is read of a disk, and what says whether it has records at all. A slot that can't be asked is
+//! failed and not blank: a blank one may be labelled. docs/FORMAT.md#whole-copies
 ghost use Rattle.std.specs.Prelude.{◌≡◌, ◌+◌, ◌<◌, ◌≤◌, IfErr, IfOk, Err, true, false, length, slice_index};
 ghost use Rattle.ddf_bay.specs.Moments.{IsSettled};
 ghost use Rattle.ddf_bay.specs.State.{on_slot};

@@ -1,3 +1,4 @@
+//! One whole copy of a disk's records, as a value. docs/FORMAT.md#whole-copies
 ghost use Rattle.std.specs.Prelude.{◌≡◌, IfOk};
 
 use ddf_bytes::{NoMemory, Seq};

@@ -1,3 +1,4 @@
+//! Why a slot has no anchor, and why a copy isn't whole: `examine` prints these. docs/FORMAT.md#whole-copies
 use ddf_header::HeaderFault;
 use ddf_seal::SealFault;
 use ddf_tables::TableFault;

@@ -1,4 +1,4 @@
-// The headers that a copy is written behind.
+//! The headers that a copy is written behind.
 ghost use Rattle.std.specs.Prelude.{◌≡◌};
 ghost use Rattle.ddf_header.specs.Header.{IsWritable};
 ghost use Rattle.ddf_header.specs.declared.kind.HeaderKind.{HeaderKind};

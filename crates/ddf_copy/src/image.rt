@@ -1,4 +1,4 @@
-// The bytes of a copy.
+//! The bytes of a copy.
 ghost use Rattle.std.specs.Prelude.{◌≡◌, ◌*◌, ◌++◌, ℕ, List, IfOk, Ok, length};
 ghost use Rattle.std.specs.List.{flat_map};
 ghost use Rattle.ddf_header.specs.declared.reading.Header.{Header};

@@ -1,4 +1,4 @@
-// Whether two copies are level.
+//! Whether two copies are level.
 ghost use Rattle.std.specs.Prelude.{◌≡◌, ◌*◌, ◌+◌, ◌<◌, ◌≤◌, List, length, slice_get, Some, map};
 ghost use Rattle.std.specs.List.{list_all, range_with_len};
 ghost use Rattle.std.specs.Str.{bytes_eq};

@@ -1,3 +1,5 @@
+//! Which of a disk's two copies counts. Two copies of one sequence that differ are told and not chosen between: nothing says which is right.
+//! docs/FORMAT.md#the-newest-copy
 ghost use Rattle.std.specs.Prelude.{◌≡◌, option_map};
 ghost use Rattle.ddf_copy.specs.Copies.{standing_copy, newest_of_both};
 ghost use Rattle.ddf_copy.specs.Shows.{IsLast, last_of};

@@ -1,4 +1,4 @@
-// The sectors of a copy that are read.
+//! The sectors of a copy that are read.
 ghost use Rattle.std.specs.Prelude.{◌≡◌, ◌+◌, ◌-◌, ◌<◌, ◌≤◌, IfErr, IfOk, length, slice_index};
 ghost use Rattle.ddf_bay.specs.ReadsOnly.{ReadsOnly, LooksAt};
 ghost use Rattle.ddf_header.specs.Geometry.{IsSound};

@@ -1,3 +1,4 @@
+//! A copy as the runs of sectors that are written. docs/FORMAT.md#what-is-written
 ghost use Rattle.std.specs.Prelude.{◌≡◌, IfOk, [], ◌∷◌};
 ghost use Rattle.ddf_copy.specs.Runs.{AreRunsOf, run_of, runs_at};
 ghost use Rattle.ddf_copy.specs.Written.{CanBeCopy};

@@ -1,4 +1,4 @@
-// What the sections of a copy hold.
+//! What the sections of a copy hold.
 ghost use Rattle.std.specs.Prelude.{◌≡◌, ◌+◌, ◌*◌, ◌/◌, ◌<◌, ◌≤◌, IfOk, Some, length, false};
 ghost use Rattle.ddf_header.specs.Geometry.{IsSound, section_of};
 ghost use Rattle.ddf_header.specs.declared.geometry.Section.{Section};

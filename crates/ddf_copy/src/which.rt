@@ -1,3 +1,4 @@
+//! The primary copy or the secondary one, and where its header stands.
 ghost use Rattle.std.specs.Prelude.{◌≡◌};
 ghost use Rattle.ddf_copy.specs.Which.{kind_of, other_of, place_of};
 

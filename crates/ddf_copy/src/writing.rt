@@ -1,4 +1,4 @@
-// The sectors that the sections of a copy are written as.
+//! The sectors that the sections of a copy are written as.
 ghost use Rattle.std.specs.Prelude.{◌≡◌, ◌*◌, ◌/◌, ◌+◌, ◌≤◌, ℕ, List, IfOk, Ok, Some, [], ◌∷◌, length};
 ghost use Rattle.ddf_seal.specs.Unread.{AreBytes};
 ghost use Rattle.ddf_header.specs.Geometry.{IsSound, section_of};

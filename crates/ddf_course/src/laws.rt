@@ -1,4 +1,4 @@
-// Laws of the configurations of an exercise: functions that do nothing, whose contracts are the laws.
+//! Laws of the configurations of an exercise: functions that do nothing, whose contracts are the laws.
 ghost use Rattle.std.specs.Prelude.{◌≡◌, ◌+◌, ◌≤◌, ℕ, Bool, false, true, [], ◌∷◌, List, None, Some, Ok, replicate};
 ghost use Rattle.ddf_bytes.specs.declared.stamp.Stamp.{Stamp};
 ghost use Rattle.ddf_header.specs.declared.kind.Revision.{Revision};

@@ -1,4 +1,4 @@
-// Laws of what arrays keep: functions that do nothing, whose contracts are the laws.
+//! Laws of what arrays keep: functions that do nothing, whose contracts are the laws.
 ghost use Rattle.std.specs.Prelude.{◌≡◌, ◌⊎◌, ℕ, Bool, true, false, List, ◌∷◌, Some, slice_get};
 ghost use Rattle.ddf_bytes.specs.Counts.{Rose};
 ghost use Rattle.ddf_bay.specs.Sectors.{Image};

@@ -19,6 +19,7 @@ use Rattle.ddf_rewrite.proofs.Lists.{some_same}
 use Rattle.ddf_history.specs.Groups.{groups}
 use Rattle.ddf_history.specs.Issued.{Past}
 use Rattle.ddf_assembly.specs.Group.{GroupValue, group_of}
+use Rattle.ddf_assembly.specs.Recovery.{trusted_seats}
 use Rattle.ddf_assembly.specs.Slots.{newest_from}
 use Rattle.ddf_stops.specs.Kept.{is_read}
 use Rattle.ddf_stops.proofs.Alone.{alone_group}
@@ -63,8 +64,8 @@ meant_group group state left newest long is past floor promises admits (Some nam
 module _ (group : List ℕ) {D : Type 0} (tells : Type 0) (told : tells) (old new : BayState D) (past : Past (groups group)) (floor : ℕ → ℕ) (small : (slot : ℕ) → floor slot < 2 ^ 64)
     (promises : Promises) (left : List Bool) (admits : AdmitsRead group past floor promises old left) (newest : List (Option Newest)) (long : length left ≡ length old.sizes)
     (is : newest ≡ newest_from old 0 left) (named : Option (List ℕ)) (found : GroupValue) (at : group_of newest named ≡ Ok found) (own : found.config.group ≡ group) where
-  fewer : AreFewer (seats_in group past floor found.config) found.seats
-  fewer = seating.seats_fewer group old left newest long is past admits.same_slots admits.is_kept admits.may_read admits.member named found at own floor admits.have_floors
+  fewer : AreFewer (seats_in group past floor found.config) (trusted_seats found)
+  fewer = seating.trusted_fewer group old left newest long is past admits.same_slots admits.is_kept admits.may_read admits.member named found at own floor admits.have_floors
 
   few : ArraysFew found.config
   few =
@@ -72,22 +73,22 @@ module _ (group : List ℕ) {D : Type 0} (tells : Type 0) (told : tells) (old ne
       given_few group old.sizes old.held (is_read left) assembled.is_read.leading.sequence past.slots found.config assembled.is_read.is_read
 
   -- an array of it that can be used is what every view keeps
-  pub known : (guid : List ℕ) (v : Volume) → view_of found.config guid found.seats ≡ Ok v → IsVolume v
-  known guid v view = view_is found.seats (fewer_small found.config (seats_in group past floor found.config) found.seats (seats_are group floor small past found.config) fewer) found.config guid v few view
+  pub known : (guid : List ℕ) (v : Volume) → view_of found.config guid (trusted_seats found) ≡ Ok v → IsVolume v
+  known guid v view = view_is (trusted_seats found) (fewer_small found.config (seats_in group past floor found.config) (trusted_seats found) (seats_are group floor small past found.config) fewer) found.config guid v few view
 
   module _ (word : List ℕ) (start count : ℕ) (guid : List ℕ) (array : Array) (is_named : named_array found.config.arrays word ≡ Some (guid, array))
       (allowed : Allowed) (promised : promises guid ≡ Some allowed) where
-    by_blocks : (v : Volume) → IsReadable found.config found.seats word start count v → (sectors : List (List ℕ)) → AreBlocks (work_of tells old new) v start sectors → MayBe allowed start sectors
+    by_blocks : (v : Volume) → IsReadable found.config (trusted_seats found) word start count v → (sectors : List (List ℕ)) → AreBlocks (work_of tells old new) v start sectors → MayBe allowed start sectors
     by_blocks v readable sectors blocks k bytes there =
         let entry_is : readable.entry ≡ (guid, array) = some_same readable.is_named is_named in
-        let view : view_of found.config guid found.seats ≡ Ok v = ap (λ (one : List ℕ × Array). view_of found.config one.0 found.seats) (sym entry_is) ∙ readable.is_view in
+        let view : view_of found.config guid (trusted_seats found) ≡ Ok v = ap (λ (one : List ℕ × Array). view_of found.config one.0 (trusted_seats found)) (sym entry_is) ∙ readable.is_view in
         let since = seating.since group old left newest long is past admits.same_slots admits.is_kept admits.may_read admits.member named found at own in
         let here = blocks.given told k (slice_get_within sectors k bytes there) in
         subst (λ (one : List ℕ). May (allowed (start + k)) one) (get_or_from_slice_get sectors k bytes [] there)
-        (read_since group floor small past since.0 found.config since.1 old.held promises admits.keeps found.seats fewer guid allowed v promised view (known guid v view)
+        (read_since group floor small past since.0 found.config since.1 old.held promises admits.keeps (trusted_seats found) fewer guid allowed v promised view (known guid v view)
         old.failed_reads new.failed_reads (start + k) (slice_index_or sectors k []) here)
 
-    by_outcome : (outcome : Outcome) → IsReadOf (work_of tells old new) found.config found.seats word start count outcome → MayBe allowed start (blocks_printed outcome)
+    by_outcome : (outcome : Outcome) → IsReadOf (work_of tells old new) found.config (trusted_seats found) word start count outcome → MayBe allowed start (blocks_printed outcome)
     by_outcome (Whole sectors) came = by_blocks came.0 came.1 sectors came.2.1
     by_outcome (NotRead failure) came = λ k bytes there. absurd cc
     by_outcome (Stopped front slot) came = by_blocks came.0 came.1 front came.2.1.blocks
@@ -119,7 +120,7 @@ module _ (group : List ℕ) {D : Type 0} (tells : Type 0) (told : tells) (old ne
   abbrev Returned : Type 0
   Returned = HasReturned group past promises read.has.newest named word start count answer
 
-  returned_of : (found : GroupValue) → group_of read.has.newest named ≡ Ok found → (outcome : Outcome) → IsReadTold outcome answer → IsReadOf (work_of tells old new) found.config found.seats word start count outcome
+  returned_of : (found : GroupValue) → group_of read.has.newest named ≡ Ok found → (outcome : Outcome) → IsReadTold outcome answer → IsReadOf (work_of tells old new) found.config (trusted_seats found) word start count outcome
       → Returned
   returned_of found at (Whole sectors) ends came =
       let own = meant_group group old read.has.left read.has.newest read.has.every_slot (read.has.read told) past floor promises admits named means found at in

@@ -28,8 +28,10 @@ use Rattle.ddf_history.proofs.Since.{first_is_copy}
 use Rattle.ddf_history.proofs.Sound.{groups_are_sound}
 use Rattle.ddf_assembly.specs.declared.seated.Seated.{Seated}
 use Rattle.ddf_assembly.specs.Group.{GroupValue, copy_at, floor_of as copy_floor, group_as, group_of, seat_at, seat_of}
+use Rattle.ddf_assembly.specs.Recovery.{trusted_seats}
 use Rattle.ddf_assembly.specs.Seated.{seated}
 use Rattle.ddf_assembly.proofs.CommittedSeats.{seated_is}
+use Rattle.ddf_assembly.proofs.Trusted.{trusted_there}
 use Rattle.ddf_assembly.specs.Slots.{newest_from, newest_or}
 use Rattle.ddf_stops.specs.Kept.{is_read}
 use Rattle.ddf_stops.proofs.Begun.{IsMadeOf, assembled_since}
@@ -261,3 +263,9 @@ module _ (group : List ℕ) {D : Type 0} (state : BayState D) (left : List Bool)
 
     pub seats_fewer : AreFewer (seats_in group past floor g.config) g.seats
     seats_fewer = some_listed group past g.config (in_one group past kept.alone (since).0 g.config (since).1) floor g.seats seats_listed
+
+    -- So it is with those of them that blocks may be read from.
+    pub trusted_fewer : AreFewer (seats_in group past floor g.config) (trusted_seats g)
+    trusted_fewer =
+        some_listed group past g.config (in_one group past kept.alone (since).0 g.config (since).1) floor (trusted_seats g)
+        (λ place seat there. let own = trusted_there g place seat there in seats_listed own.0 seat own.1)

@@ -1,4 +1,4 @@
-// Laws of calls and of the data of arrays: functions that do nothing, whose contracts are the laws.
+//! Laws of calls and of the data of arrays: functions that do nothing, whose contracts are the laws.
 ghost use Rattle.std.specs.Prelude.{◌≡◌, ◌<◌, ◌^◌, ◌∷◌, [], ℕ, Bool, true, List, length, Option, None, Some, Result, Ok, option_to_list};
 ghost use Rattle.ddf_bytes.specs.declared.stamp.Stamp.{Stamp};
 ghost use Rattle.ddf_bay.specs.Sectors.{Image, IsLeft};

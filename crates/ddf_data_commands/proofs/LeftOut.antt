@@ -14,7 +14,9 @@ use Rattle.ddf_group.specs.declared.answer.Assembly.{Assembly}
 use Rattle.ddf_group.specs.Assembled.{assembled}
 use Rattle.ddf_group.specs.Shown.{shown_of}
 use Rattle.ddf_assembly.specs.Group.{GroupValue, copy_at, group_as, group_of, group_or_fault, seat_at, seat_of, seats_of}
+use Rattle.ddf_assembly.specs.Recovery.{trusted_seats}
 use Rattle.ddf_assembly.specs.Slots.{newest_from, newest_or}
+use Rattle.ddf_assembly.proofs.Trusted.{trusted_there}
 use Rattle.ddf_data_commands.specs.Read.{HasNoPlace}
 
 -- ---- the seats of a group
@@ -76,9 +78,10 @@ module _ {D : Type 0} (disks : BayState D) where
 
     by_group : (found : Result GroupValue Assembly) → group_of newest named ≡ found → HasNoPlace found slot
     by_group (Ok group) is = λ guid v view on.
-        let seat = place_seat group.config guid group.seats v on.element on.position slot on.part on.place view on.is_part on.is_place on.is_there in
+        let seat = place_seat group.config guid (trusted_seats group) v on.element on.position slot on.part on.place view on.is_part on.is_place on.is_there in
         let seats = seats_are newest named group is in
-        let shown = seats_show newest seats.0 seat.0 seat.1.0 (ap (λ (l : List Seat). slice_get l seat.0) seats.1 ∙ seat.1.1) in
+        let own = trusted_there group seat.0 seat.1.0 seat.1.1 in
+        let shown = seats_show newest seats.0 own.0 seat.1.0 (ap (λ (l : List Seat). slice_get l own.0) seats.1 ∙ own.1) in
         let contradicted : Some shown.0 ≡ None = sym shown.1 ∙ ap (copy_at newest) seat.1.2 ∙ no_copy in
         absurd cc
     by_group (Err fault) is = tt

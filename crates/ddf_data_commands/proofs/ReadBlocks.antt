@@ -29,6 +29,7 @@ use Rattle.ddf_volume.specs.Refused.{is_unsure}
 use Rattle.ddf_group.specs.declared.answer.Assembly.{Assembly}
 use Rattle.ddf_group.specs.declared.answer.Assembly.TheVariants as assembly
 use Rattle.ddf_assembly.specs.Group.{GroupValue, UpToMemory}
+use Rattle.ddf_assembly.specs.Recovery.{trusted_seats}
 use Rattle.ddf_request.specs.Named.{named_array}
 use Rattle.ddf_answer.specs.declared.failure.Failure.{Failure}
 use Rattle.ddf_answer.specs.declared.failure.Failure.TheVariants.{Conflict, Disk, Memory, Refused, Split}
@@ -253,8 +254,8 @@ module _ {D : Type 0} (tells : Type 0) (old middle new : BayState D)
 
 -- where a group was assembled
 pub read_in : {D : Type 0} (work : Work D) (word : List ℕ) (start count : ℕ) (group : GroupValue) (answer : Result GroupValue Assembly) (outcome : Outcome)
-    → UpToMemory (Ok group) answer → IsReadOf work group.config group.seats word start count outcome → IsReadIn work word start count answer outcome
-read_in work word start count group (Ok one) outcome (inl is) read = let same : group ≡ one = cc in subst (λ (g : GroupValue). IsReadOf work g.config g.seats word start count outcome) same read
+    → UpToMemory (Ok group) answer → IsReadOf work group.config (trusted_seats group) word start count outcome → IsReadIn work word start count answer outcome
+read_in work word start count group (Ok one) outcome (inl is) read = let same : group ≡ one = cc in subst (λ (g : GroupValue). IsReadOf work g.config (trusted_seats g) word start count outcome) same read
 read_in work word start count group (Err fault) outcome (inl is) read = absurd cc
 read_in work word start count group answer outcome (inr is) read = absurd cc
 
@@ -264,7 +265,7 @@ pub fault_in : {D : Type 0} (work : Work D) (word : List ℕ) (start count : ℕ
 fault_in work word start count fault (Ok one) (inl is) = absurd cc
 fault_in work word start count fault (Ok one) (inr is) =
     let same : fault ≡ assembly.Memory = cc in
-    subst (λ (f : Assembly). IsReadOf work one.config one.seats word start count (NotRead (failure_of f))) (sym same) tt
+    subst (λ (f : Assembly). IsReadOf work one.config (trusted_seats one) word start count (NotRead (failure_of f))) (sym same) tt
 fault_in work word start count fault (Err other) (inl is) = let same : fault ≡ other = cc in inl (ap (λ (f : Assembly). NotRead (failure_of f)) same)
 fault_in work word start count fault (Err other) (inr is) = let same : fault ≡ assembly.Memory = cc in inr (ap (λ (f : Assembly). NotRead (failure_of f)) same)
 

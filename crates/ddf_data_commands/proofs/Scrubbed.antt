@@ -25,6 +25,7 @@ use Rattle.ddf_resync.specs.declared.outcome.Scrub.{Scrub}
 use Rattle.ddf_group.specs.declared.answer.Assembly.{Assembly}
 use Rattle.ddf_group.specs.declared.answer.Assembly.TheVariants as assembly
 use Rattle.ddf_assembly.specs.Group.{GroupValue, UpToMemory, group_of}
+use Rattle.ddf_assembly.specs.Recovery.{trusted_seats}
 use Rattle.ddf_assembly.specs.Slots.{IsLooked, newest_from}
 use Rattle.ddf_request.specs.Named.{named_array}
 use Rattle.ddf_words.specs.Traits.{traits_of}
@@ -78,12 +79,6 @@ module _ {D : Type 0} (work : Work D) (config : Configuration) (seats : List Sea
   not_scrubbed (Split i j) may = absurd may
   not_scrubbed Memory may = tt
 
-  -- that of the same configuration and seats
-  pub not_scrubbed_of : (one : Configuration) (these : List Seat) → one ≡ config → these ≡ seats → (failure : Failure) → MayUse Reads one these word 0 0 (Err failure) → IsScrubOf work config seats word (Err failure)
-  not_scrubbed_of one these same alike failure may =
-      not_scrubbed failure
-      (subst (λ (c : Configuration). MayUse Reads c seats word 0 0 (Err failure)) same (subst (λ (s : List Seat). MayUse Reads one s word 0 0 (Err failure)) alike may))
-
   module _ (used : List ℕ × Volume) (usable : IsUsable Reads config seats word 0 0 used) where
     pub was_scrubbed : (found : Scrub) → is_within used.1 ≡ true → (work.tells → AreSectors work.old.held → IsScrubbed used.1 work.old.held found) → IsScrubOf work config seats word (Ok found)
     was_scrubbed found within is = record {
@@ -130,8 +125,8 @@ module _ {D : Type 0} (tells : Type 0) (old middle new : BayState D)
 
 -- where a group was assembled
 pub scrub_in : {D : Type 0} (work : Work D) (word : List ℕ) (group : GroupValue) (answer : Result GroupValue Assembly) (result : Result Scrub Failure)
-    → UpToMemory (Ok group) answer → IsScrubOf work group.config group.seats word result → IsScrubIn work word answer result
-scrub_in work word group (Ok one) result (inl is) scrubbed = let same : group ≡ one = cc in subst (λ (g : GroupValue). IsScrubOf work g.config g.seats word result) same scrubbed
+    → UpToMemory (Ok group) answer → IsScrubOf work group.config (trusted_seats group) word result → IsScrubIn work word answer result
+scrub_in work word group (Ok one) result (inl is) scrubbed = let same : group ≡ one = cc in subst (λ (g : GroupValue). IsScrubOf work g.config (trusted_seats g) word result) same scrubbed
 scrub_in work word group (Err fault) result (inl is) scrubbed = absurd cc
 scrub_in work word group answer result (inr is) scrubbed = absurd cc
 
@@ -141,7 +136,7 @@ pub no_group_in : {D : Type 0} (work : Work D) (word : List ℕ) (fault : Assemb
 no_group_in work word fault (Ok one) (inl is) = absurd cc
 no_group_in work word fault (Ok one) (inr is) =
     let same : fault ≡ assembly.Memory = cc in
-    subst (λ (f : Assembly). IsScrubOf work one.config one.seats word (Err (failure_of f))) (sym same) tt
+    subst (λ (f : Assembly). IsScrubOf work one.config (trusted_seats one) word (Err (failure_of f))) (sym same) tt
 no_group_in work word fault (Err other) (inl is) = let same : fault ≡ other = cc in inl (ap (λ (f : Assembly). Err (failure_of f)) same)
 no_group_in work word fault (Err other) (inr is) = let same : fault ≡ assembly.Memory = cc in inr (ap (λ (f : Assembly). Err (failure_of f)) same)
 

@@ -17,6 +17,7 @@ use Rattle.ddf_volume.specs.Refused.{is_unsure}
 pub use Rattle.ddf_pieces.specs.Pieces.{bytes_of, piece_blocks}
 use Rattle.ddf_group.specs.declared.answer.Assembly.{Assembly}
 use Rattle.ddf_assembly.specs.Group.{GroupValue, group_of}
+use Rattle.ddf_assembly.specs.Recovery.{trusted_seats}
 use Rattle.ddf_assembly.specs.Slots.{AreOut, newest_from}
 use Rattle.ddf_request.specs.Named.{named_array}
 use Rattle.ddf_answer.specs.declared.failure.Failure.{Failure}
@@ -92,14 +93,15 @@ IsArrayRead work volume start count (Stopped front slot) =
     (0 < length front) × AreFirstBlocks work volume start count front × IsWithoutSource work volume (start + length front) (min (count - length front) piece_blocks) slot
 IsArrayRead work volume start count (CutShort front) = AreFirstBlocks work volume start count front
 
--- what came of a group: that it is refused, want of memory, or what came of the array
+-- what came of a configuration and of seats: that it is refused, want of memory, or what came of the array
 abbrev pub IsReadOf : {D : Type 0} → Work D → Configuration → List Seat → (word : List ℕ) → (start count : ℕ) → Outcome → Type 0
 IsReadOf work config seats word start count (NotRead (Refused refusal)) = read_refusal config seats (named_array config.arrays word) start count ≡ Some refusal
 IsReadOf work config seats word start count (NotRead Memory) = Unit {0}
 IsReadOf work config seats word start count outcome = (volume : Volume) × IsReadable config seats word start count volume × IsArrayRead work volume start count outcome
 
+-- what came of a group, by the seats that blocks may be read from: any other counts as absent
 abbrev pub IsReadIn : {D : Type 0} → Work D → (word : List ℕ) → (start count : ℕ) → Result GroupValue Assembly → Outcome → Type 0
-IsReadIn work word start count (Ok group) outcome = IsReadOf work group.config group.seats word start count outcome
+IsReadIn work word start count (Ok group) outcome = IsReadOf work group.config (trusted_seats group) word start count outcome
 IsReadIn work word start count (Err fault) outcome = (outcome ≡ NotRead (failure_of fault)) ⊎ (outcome ≡ NotRead Memory)
 
 -- an array may be read, why it may not, or want of memory
@@ -113,7 +115,7 @@ MayRead config seats word start count (Err (Split i j)) = ⊥
 
 -- no array of the group, if there is one, has an available place on this slot
 abbrev pub HasNoPlace : Result GroupValue Assembly → ℕ → Type 0
-HasNoPlace (Ok group) slot = (guid : List ℕ) (volume : Volume) → view_of group.config guid group.seats ≡ Ok volume → IsOn volume slot → ⊥
+HasNoPlace (Ok group) slot = (guid : List ℕ) (volume : Volume) → view_of group.config guid (trusted_seats group) ≡ Ok volume → IsOn volume slot → ⊥
 HasNoPlace (Err fault) slot = Unit {0}
 
 -- A call came to this: what the group gives that the newest copies of the slots are that aren't left out. A slot is left out only

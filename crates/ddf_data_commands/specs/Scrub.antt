@@ -18,6 +18,7 @@ use Rattle.ddf_resync.specs.declared.outcome.Scrub.{Scrub}
 use Rattle.ddf_resync.specs.declared.outcome.Scrub.TheVariants.{Clean, Differs}
 use Rattle.ddf_group.specs.declared.answer.Assembly.{Assembly}
 use Rattle.ddf_assembly.specs.Group.{GroupValue, group_of}
+use Rattle.ddf_assembly.specs.Recovery.{trusted_seats}
 use Rattle.ddf_assembly.specs.Slots.{AreOut, newest_from}
 use Rattle.ddf_request.specs.Named.{named_array}
 use Rattle.ddf_answer.specs.declared.failure.Failure.{Failure}
@@ -47,7 +48,7 @@ pub record IsScrubStopped {D : Type 0} (work : Work D) (config : Configuration) 
   pub there : slot < length work.old.sizes
   pub stopped : IsScrubFault work.old work.new used.1 (volumes.Disk slot)
 
--- what came of a configuration: what was found of the array, that it is refused, that a read failed, or want of memory
+-- what came of a configuration and of seats: what was found of the array, that it is refused, that a read failed, or want of memory
 abbrev pub IsScrubOf : {D : Type 0} → Work D → Configuration → List Seat → (word : List ℕ) → Result Scrub Failure → Type 0
 IsScrubOf work config seats word (Ok found) = IsArrayScrubbed work config seats word found
 IsScrubOf work config seats word (Err (Refused refusal)) = scrub_refusal config seats (named_array config.arrays word) ≡ Some refusal
@@ -56,8 +57,9 @@ IsScrubOf work config seats word (Err Memory) = Unit {0}
 IsScrubOf work config seats word (Err (Conflict i j sequence differ)) = ⊥
 IsScrubOf work config seats word (Err (Split i j)) = ⊥
 
+-- what came of a group, by the seats that blocks may be read from: any other counts as absent
 abbrev pub IsScrubIn : {D : Type 0} → Work D → (word : List ℕ) → Result GroupValue Assembly → Result Scrub Failure → Type 0
-IsScrubIn work word (Ok group) result = IsScrubOf work group.config group.seats word result
+IsScrubIn work word (Ok group) result = IsScrubOf work group.config (trusted_seats group) word result
 IsScrubIn work word (Err fault) result = (result ≡ Err (failure_of fault)) ⊎ (result ≡ Err Memory)
 
 -- A call came to this: what the group gives that the newest copies of the slots are that aren't left out. A slot is left out only where a call of

@@ -1,4 +1,4 @@
-// Blocks of an array, read and printed piece by piece.
+//! Blocks of an array, read and printed piece by piece.
 ghost use Rattle.std.specs.Prelude.{◌≡◌, ◌<◌, None, length, IfOk};
 ghost use Rattle.ddf_array.specs.Volume.{Fits};
 ghost use Rattle.ddf_bytes.specs.Streams.{SinkRose};

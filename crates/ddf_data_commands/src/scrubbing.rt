@@ -1,8 +1,9 @@
-// `scrub`: whether the copies and the parity of an array agree.
+//! `scrub`: whether the copies and the parity of an array agree.
 ghost use Rattle.std.specs.Prelude.{◌≡◌};
 ghost use Rattle.ddf_bytes.specs.Streams.{SinkRose};
 ghost use Rattle.ddf_bay.specs.ReadsOnly.{ReadsOnly};
 ghost use Rattle.ddf_config.specs.Seats.{SeatsFit};
+ghost use Rattle.ddf_assembly.specs.Recovery.{trusted_seats};
 ghost use Rattle.ddf_volume.specs.Reading.{OnlyReads};
 ghost use Rattle.ddf_answer.specs.Call.{answer_of, work_of};
 ghost use Rattle.ddf_answer.specs.Ends.{Ends};
@@ -11,7 +12,7 @@ ghost use Rattle.ddf_words.specs.Traits.{traits_of};
 ghost use Rattle.ddf_words.specs.declared.command.Command.{Command};
 ghost use Rattle.ddf_data_commands.specs.Scrub.{HasScrubbed, IsScrubDone, IsScrubOf, IsScrubTold};
 
-use crate::using::{Access, failure_of, usable};
+use crate::using::{failure_of, readable_in};
 use ddf_answer::{Failure, Status, tell_failure, tell_line};
 use ddf_assembly::{Group, assemble};
 use ddf_bay::Bay;
@@ -38,7 +39,8 @@ impl fmt::Display for ScrubText {
     }
 }
 
-/// Tells whether the copies and the parity of an array agree, and else the first row that doesn't.
+/// Tells whether the copies and the parity of an array agree, and else the first row that doesn't: on those disks of the group alone that recovery may
+/// write over.
 pub fn scrub_disks<B: Bay, K: Sink>(
     alloc: Global,
     named: Option<Guid>,
@@ -79,11 +81,10 @@ fn scrub_array<B: Bay>(
     bay: &mut B,
 ) -> Result<Scrub, Failure>
     requires { SeatsFit (B.disks bay.old).sizes group.now.seats }
-    ensures scrubbed { IsScrubOf (work_of B.tells (B.disks bay.old) (B.disks bay.new)) group.now.config group.now.seats name.now result }
+    ensures scrubbed { IsScrubOf (work_of B.tells (B.disks bay.old) (B.disks bay.new)) group.now.config (trusted_seats group.now) name.now result }
     ensures reads { OnlyReads (B.disks bay.old) (B.disks bay.new) }
 {
-    let config = group.config();
-    let (_, view) = usable(alloc, config, group.seats(), name, 0, 0, Access::Reads)?;
+    let (_, view) = readable_in(alloc, group, name, 0, 0)?;
     match scrub(bay, &view) {
         Ok(found) => Ok(found),
         Err(fault) => Err(failure_of(fault)),

@@ -1,12 +1,15 @@
-// The use of an array's blocks, and what it is refused for.
+//! The use of an array's blocks, and what it is refused for.
 ghost use Rattle.std.specs.Prelude.{◌≡◌, ℕ, List, Some, ◌+◌, nat_lt, IfOk};
 ghost use Rattle.ddf_array.specs.Viewing.{view_of};
+ghost use Rattle.ddf_assembly.specs.Recovery.{trusted_seats};
 ghost use Rattle.ddf_config.specs.Refusals.{first_refusal};
 ghost use Rattle.ddf_config.specs.Shapes.{array_capacity};
 ghost use Rattle.ddf_request.specs.Named.{named_array};
+ghost use Rattle.ddf_data_commands.specs.declared.using.Access.{Access};
 ghost use Rattle.ddf_data_commands.specs.Use.{IsViewed, MayUse, array_refusals, failure_of_volume, is_forbidden, is_out_of_range};
 
 use ddf_answer::Failure;
+use ddf_assembly::Group;
 use ddf_bytes::{Guid, NoMemory};
 use ddf_config::{Array, Config, Refusal, Seat, array_capacity, first_refusal, refuse_if};
 use ddf_request::{bad_blocks, is_held, is_held_from_writes, named_array, useless};
@@ -44,6 +47,28 @@ pub fn usable(
         ),
         None => Err(Failure::Refused(Refusal::NoArray)),
     }
+}
+
+/// The same over the seats of a group that blocks may be read from. A disk that recovery must not write over counts as absent.
+pub(crate) fn readable_in(
+    alloc: Global,
+    group: &Group,
+    name: &[u8],
+    start: u64,
+    count: u64,
+) -> Result<(Guid, View), Failure>
+    ensures may { MayUse Access.Reads group.now.config (trusted_seats group.now) name.now start count result }
+{
+    let seats = group.trusted_seats(alloc)?;
+    usable(
+        alloc,
+        group.config(),
+        &seats,
+        name,
+        start,
+        count,
+        Access::Reads,
+    )
 }
 
 /// The same of an array of the configuration.

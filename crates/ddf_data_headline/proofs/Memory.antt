@@ -9,12 +9,12 @@ use Rattle.ddf_memory_history.proofs.Slots.{reads_left}
 use Rattle.ddf_data_history.proofs.Bays.{AreBays}
 
 pub bays : AreBays disks_of
-bays = record {
-  only_now = λ bay image left. left_only bay.clock bay.log.logged.items image left;
-  counts = λ bay t image le left. left_counts bay.clock bay.log.logged.items t image le left;
-  held = λ bay told. reads_left bay told;
-  since = λ bay t image left. left.0;
-  whole = λ bay s l bytes left. left_whole bay.clock bay.log.logged.items s l bytes bay.log.whole left.1;
+bays bay = record {
+  held = reads_left bay;
+  whole = λ s l bytes left. left_whole bay.clock bay.log.logged.items s l bytes bay.log.whole left.1;
+  only_now = λ image left. left_only bay.clock bay.log.logged.items image left;
+  counts = λ t image le left. left_counts bay.clock bay.log.logged.items t image le left;
+  since = λ t image left. left.0;
 }
 
 pub small_sizes : (bay : MemoryBay) (slot : ℕ) → slice_index (disks_of bay).sizes slot ≤ 2 ^ 55

@@ -80,11 +80,11 @@ module _ {B : Type 0} (disks : B → BayState B) (are : AreBays disks) (sized : 
   floor_on slot = floor_read (slice_index (disks bay).sizes slot) ((disks bay).held slot)
 
   whole_left : (image : Image) → IsLeft (disks bay).may_hold image → (slot l : ℕ) → IsWhole (image slot l)
-  whole_left image left slot l = are.whole bay slot l (image slot l) (left slot l)
+  whole_left image left slot l = (are bay).whole slot l (image slot l) (left slot l)
 
   floors_small : (slot : ℕ) → floor_on slot < 2 ^ 64
   floors_small slot =
-      let low = read_small (slice_index (disks bay).sizes slot) ((disks bay).held slot) (whole_left (disks bay).held (are.held bay tells_left) slot) (2 ^ 55) (sized bay slot) in
+      let low = read_small (slice_index (disks bay).sizes slot) ((disks bay).held slot) (whole_left (disks bay).held ((are bay).held tells_left) slot) (2 ^ 55) (sized bay slot) in
       omega (arith, low)
 
   pub begins : AreAllKept guid past (disks bay) → AllHaveFloors guid past (disks bay) floor_on → Begins guid disks past bay
@@ -114,7 +114,7 @@ module _ {B : Type 0} (disks : B → BayState B) (are : AreBays disks) (sized : 
     image_floor : (image : Image) → IsLeft (disks bay).may_hold image → (slot : ℕ) → founded slot ≡ true → HasFloor (slice_index sizes slot) (image slot) (floor_on slot)
     image_floor image left slot here =
         let now = are_founded image left in
-        let held = are_founded (disks bay).held (are.held bay tells_left) in
+        let held = are_founded (disks bay).held ((are bay).held tells_left) in
         let place = slot_placed slots slot (now.are_among slot here) in
         let own = written_as (copy place.0) Primary in
         let stands = both_stand (slice_index sizes slot) (image slot) (anchor_header (copy place.0)) (copy place.0) (now.have_copies place.0 slot place.1 here) in
@@ -148,7 +148,7 @@ module _ {B : Type 0} (disks : B → BayState B) (are : AreBays disks) (sized : 
         let low = shown_within (disks bay).sizes (disks bay).held slot shows.0 shows.1 in
         let stands = stands_for (newest_at (size slot) ((disks bay).held slot)) shows.0
         (subst (λ (shown : Shown View). IsCopyOf shown shows.0) (scene_at (disks bay).sizes (disks bay).held slot low) shows.1) in
-        read_floor (size slot) ((disks bay).held slot) (whole_left (disks bay).held (are.held bay tells_left) slot) stands.0 stands.1
+        read_floor (size slot) ((disks bay).held slot) (whole_left (disks bay).held ((are bay).held tells_left) slot) stands.0 stands.1
       where
         not_away : (a b : Bool) → a ≡ false → b ≡ false → (a || b) ≡ false
         not_away a b one other = rw (one, other) refl

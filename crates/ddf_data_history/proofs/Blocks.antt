@@ -55,7 +55,7 @@ module _ {B : Type 0} {tells : Type 0} (told : tells) (disks : B → BayState B)
         (Ends guid old.past (is_read call.resynced.taken.left) call.finds.found (changes_in call.finds.found (call.plan.first ++ call.plan.last)) (is_done call.outcome)) (Stays old.promises) (Stays old.promises)
     resync_keeps =
         resyncs.both_kept tells told (disks old.bay) (disks call.exit) guid old.past old.floor old.small old.promises call.named call.timestamp call.word call.outcome call.resynced call.finds.found
-        call.finds.is_found call.finds.own (admits call.resynced.taken.left call.resynced.taken.newest call.named call.finds) (are.held old.bay call.finds.tells_left)
+        call.finds.is_found call.finds.own (admits call.resynced.taken.left call.resynced.taken.newest call.named call.finds) ((are old.bay).held call.finds.tells_left)
         (held_sectors disks are old.bay call.finds.tells_left) call.plan (λ image left. sectors disks are call.exit image left)
         (call.resynced.along told call.finds.found call.finds.is_found call.plan guid call.finds.own old.past all.shows call.finds.admitted)
 
@@ -63,20 +63,20 @@ module _ {B : Type 0} {tells : Type 0} (told : tells) (disks : B → BayState B)
     pub resync_floors : StopsLeave (disks old.bay) (disks call.exit) (λ image. HaveFloorsIn guid old.past (disks old.bay).sizes image old.floor)
     resync_floors =
         resyncs.floors_kept tells told (disks old.bay) (disks call.exit) guid old.past old.floor old.small old.promises call.named call.timestamp call.word call.outcome call.resynced call.finds.found
-        call.finds.is_found call.finds.own (admits call.resynced.taken.left call.resynced.taken.newest call.named call.finds) (are.held old.bay call.finds.tells_left)
+        call.finds.is_found call.finds.own (admits call.resynced.taken.left call.resynced.taken.newest call.named call.finds) ((are old.bay).held call.finds.tells_left)
         (held_sectors disks are old.bay call.finds.tells_left) call.plan (λ image left. sectors disks are call.exit image left) all.floored
         (call.resynced.along told call.finds.found call.finds.is_found call.plan guid call.finds.own old.past all.shows call.finds.admitted)
 
     pub resync_readied : readied call.finds.found (option_to_list (mark_of call.plan.entry) ++ resync_behind call.plan.entry) call.timestamp ≡ Ok (call.plan.first ++ call.plan.last)
     resync_readied =
         resyncs.are_readied tells told (disks old.bay) (disks call.exit) guid old.past old.floor old.small old.promises call.named call.timestamp call.word call.outcome call.resynced call.finds.found
-        call.finds.is_found call.finds.own (admits call.resynced.taken.left call.resynced.taken.newest call.named call.finds) (are.held old.bay call.finds.tells_left)
+        call.finds.is_found call.finds.own (admits call.resynced.taken.left call.resynced.taken.newest call.named call.finds) ((are old.bay).held call.finds.tells_left)
         (held_sectors disks are old.bay call.finds.tells_left) call.plan (λ image left. sectors disks are call.exit image left)
 
     pub resync_within : (is_within call.plan.volume ≡ true) × IsVolume call.plan.volume
     resync_within =
         resyncs.was_within tells told (disks old.bay) (disks call.exit) guid old.past old.floor old.small old.promises call.named call.timestamp call.word call.outcome call.resynced call.finds.found
-        call.finds.is_found call.finds.own (admits call.resynced.taken.left call.resynced.taken.newest call.named call.finds) (are.held old.bay call.finds.tells_left)
+        call.finds.is_found call.finds.own (admits call.resynced.taken.left call.resynced.taken.newest call.named call.finds) ((are old.bay).held call.finds.tells_left)
         (held_sectors disks are old.bay call.finds.tells_left) call.plan (λ image left. sectors disks are call.exit image left)
 
   -- where it was done, and what its blocks have counts
@@ -88,7 +88,7 @@ module _ {B : Type 0} {tells : Type 0} (told : tells) (disks : B → BayState B)
   counts_by exit named timestamp word (Err failure) resynced finds plan tells_left done = absurd cc
   counts_by exit named timestamp word (Ok sequence) resynced finds plan tells_left done =
       resyncs.counts tells told (disks old.bay) (disks exit) guid old.past old.floor old.small old.promises named timestamp word (Ok sequence) resynced finds.found
-      finds.is_found finds.own (admits resynced.taken.left resynced.taken.newest named finds) (are.held old.bay finds.tells_left)
+      finds.is_found finds.own (admits resynced.taken.left resynced.taken.newest named finds) ((are old.bay).held finds.tells_left)
       (held_sectors disks are old.bay finds.tells_left) plan (λ image left. sectors disks are exit image left)
       (then_settled tells told (disks old.bay) (disks exit) named timestamp word sequence resynced finds.found finds.is_found) tells_left
       (resynced.along told finds.found finds.is_found plan guid finds.own old.past all.shows finds.admitted)
@@ -121,7 +121,7 @@ module _ {B : Type 0} {tells : Type 0} (told : tells) (disks : B → BayState B)
   write_keeps call =
       writes.both_kept tells told (disks old.bay) (disks call.exit) guid old.past old.floor old.small old.promises (input_of tells_bytes (streams call.source_old) (streams call.source_new))
       call.named call.timestamp call.word call.start call.count call.sectors call.outcome call.wrote call.finds.found
-      call.finds.is_found call.finds.own (admits call.wrote.taken.left call.wrote.taken.newest call.named call.finds) (are.held old.bay call.finds.tells_left)
+      call.finds.is_found call.finds.own (admits call.wrote.taken.left call.wrote.taken.newest call.named call.finds) ((are old.bay).held call.finds.tells_left)
       (held_sectors disks are old.bay call.finds.tells_left) call.plan (λ image left. sectors disks are call.exit image left)
       (write_along call call.finds.found call.finds.is_found call.plan guid call.finds.own old.past all.shows call.finds.admitted)
 
@@ -130,7 +130,7 @@ module _ {B : Type 0} {tells : Type 0} (told : tells) (disks : B → BayState B)
   write_floors call =
       writes.floors_kept tells told (disks old.bay) (disks call.exit) guid old.past old.floor old.small old.promises (input_of tells_bytes (streams call.source_old) (streams call.source_new))
       call.named call.timestamp call.word call.start call.count call.sectors call.outcome call.wrote call.finds.found
-      call.finds.is_found call.finds.own (admits call.wrote.taken.left call.wrote.taken.newest call.named call.finds) (are.held old.bay call.finds.tells_left)
+      call.finds.is_found call.finds.own (admits call.wrote.taken.left call.wrote.taken.newest call.named call.finds) ((are old.bay).held call.finds.tells_left)
       (held_sectors disks are old.bay call.finds.tells_left) call.plan (λ image left. sectors disks are call.exit image left) all.floored
       (write_along call call.finds.found call.finds.is_found call.plan guid call.finds.own old.past all.shows call.finds.admitted)
 
@@ -139,7 +139,7 @@ module _ {B : Type 0} {tells : Type 0} (told : tells) (disks : B → BayState B)
   write_readied call =
       writes.are_readied tells told (disks old.bay) (disks call.exit) guid old.past old.floor old.small old.promises (input_of tells_bytes (streams call.source_old) (streams call.source_new))
       call.named call.timestamp call.word call.start call.count call.sectors call.outcome call.wrote call.finds.found
-      call.finds.is_found call.finds.own (admits call.wrote.taken.left call.wrote.taken.newest call.named call.finds) (are.held old.bay call.finds.tells_left)
+      call.finds.is_found call.finds.own (admits call.wrote.taken.left call.wrote.taken.newest call.named call.finds) ((are old.bay).held call.finds.tells_left)
       (held_sectors disks are old.bay call.finds.tells_left) call.plan (λ image left. sectors disks are call.exit image left)
 
   -- ---- `rebuild`
@@ -149,16 +149,16 @@ module _ {B : Type 0} {tells : Type 0} (told : tells) (disks : B → BayState B)
         (Ends guid old.past (is_read call.rebuilt.taken.left) call.finds.found (changes_in call.finds.found call.steps) (is_done call.outcome)) (Stays old.promises) (Stays old.promises)
     rebuild_keeps =
         rebuilds.both_kept tells told (disks old.bay) (disks call.exit) guid old.past old.floor old.small old.promises call.named call.timestamp call.word call.outcome call.rebuilt call.finds.found
-        call.finds.is_found call.finds.own (admits call.rebuilt.taken.left call.rebuilt.taken.newest call.named call.finds) (are.held old.bay call.finds.tells_left)
-        (held_sectors disks are old.bay call.finds.tells_left) (are.only_now old.bay) (are.counts old.bay) (are.counts call.exit) (λ image left. sectors disks are call.exit image left) (are.since call.exit)
+        call.finds.is_found call.finds.own (admits call.rebuilt.taken.left call.rebuilt.taken.newest call.named call.finds) ((are old.bay).held call.finds.tells_left)
+        (held_sectors disks are old.bay call.finds.tells_left) ((are old.bay).only_now) ((are old.bay).counts) ((are call.exit).counts) (λ image left. sectors disks are call.exit image left) ((are call.exit).since)
         call.steps call.are_asked
 
     -- The disks of members keep their floors.
     pub rebuild_floors : StopsLeave (disks old.bay) (disks call.exit) (λ image. HaveFloorsIn guid old.past (disks old.bay).sizes image old.floor)
     rebuild_floors =
         rebuilds.floors_kept tells told (disks old.bay) (disks call.exit) guid old.past old.floor old.small old.promises call.named call.timestamp call.word call.outcome call.rebuilt call.finds.found
-        call.finds.is_found call.finds.own (admits call.rebuilt.taken.left call.rebuilt.taken.newest call.named call.finds) (are.held old.bay call.finds.tells_left)
-        (held_sectors disks are old.bay call.finds.tells_left) (are.only_now old.bay) (are.counts old.bay) (are.counts call.exit) (λ image left. sectors disks are call.exit image left) (are.since call.exit)
+        call.finds.is_found call.finds.own (admits call.rebuilt.taken.left call.rebuilt.taken.newest call.named call.finds) ((are old.bay).held call.finds.tells_left)
+        (held_sectors disks are old.bay call.finds.tells_left) ((are old.bay).only_now) ((are old.bay).counts) ((are call.exit).counts) (λ image left. sectors disks are call.exit image left) ((are call.exit).since)
         call.steps call.are_asked all.floored
 
     pub rebuild_readied : (changes : List Change) × (readied call.finds.found changes call.timestamp ≡ Ok call.steps)

@@ -47,15 +47,15 @@ module _ {B : Type 0} {tells : Type 0} (told : tells) (disks : B → BayState B)
   ends (Reads exit reads) tells_left = (only_reads guid (disks old.bay) (disks exit) old.past old.floor old.promises reads all.shows all.keeps).ends tells_left
   ends (Others call) tells_left =
       let was_left : (image : Image) → IsLeft (disks call.beside.exit).may_hold image → (disks call.beside.exit).left_since (disks old.bay).moment image =
-      λ image left. are.counts call.beside.exit (disks old.bay).moment image call.beside.leaves_others.later left in
+      λ image left. (are call.beside.exit).counts (disks old.bay).moment image call.beside.leaves_others.later left in
       record {
         now = old.past;
         promised = old.promises;
         ends = refl;
         is_so = refl;
         all_kept = λ image left.
-            subst (λ (sizes : List ℕ). IsKept old.past (scene_of sizes image)) (sym call.same_sizes) (other_shows told disks tells_bytes streams guid are.only_now old all call image (was_left image left));
-        all_data = λ image left. other_keeps told disks tells_bytes streams guid are.only_now old all call image (was_left image left) (sectors disks are call.beside.exit image left);
+            subst (λ (sizes : List ℕ). IsKept old.past (scene_of sizes image)) (sym call.same_sizes) (other_shows told disks tells_bytes streams guid (λ bay. (are bay).only_now) old all call image (was_left image left));
+        all_data = λ image left. other_keeps told disks tells_bytes streams guid (λ bay. (are bay).only_now) old all call image (was_left image left) (sectors disks are call.beside.exit image left);
       }
 
   -- where a stop leaves an image that it may have left before, or one behind which the call has come
@@ -63,7 +63,7 @@ module _ {B : Type 0} {tells : Type 0} (told : tells) (disks : B → BayState B)
       → (image : Image) → (disks exit).left_since (disks old.bay).moment image → AreSectors image → IsBoth guid old.floor (disks old.bay).sizes Comes May image
   by_moment exit keeps first same image was_left sound = ⊎_elim
       (λ before.
-      let left = are.only_now old.bay image before in
+      let left = (are old.bay).only_now image before in
       record { now = old.past; promised = old.promises; goes = first; may = same; is_kept = all.shows image left; keeps = all.keeps image left })
       (λ both. both sound)
       (keeps.any_moment.since (disks old.bay).moment image (omega arith) was_left)
@@ -83,8 +83,8 @@ module _ {B : Type 0} {tells : Type 0} (told : tells) (disks : B → BayState B)
     promised = old.promises;
     goes = refl;
     may = refl;
-    is_kept = other_shows told disks tells_bytes streams guid are.only_now old all call image was_left;
-    keeps = other_keeps told disks tells_bytes streams guid are.only_now old all call image was_left sound;
+    is_kept = other_shows told disks tells_bytes streams guid (λ bay. (are bay).only_now) old all call image was_left;
+    keeps = other_keeps told disks tells_bytes streams guid (λ bay. (are bay).only_now) old all call image was_left sound;
   }
 
   -- Its end is no earlier than its entry.
@@ -122,7 +122,7 @@ module _ {B : Type 0} {tells : Type 0} (told : tells) (disks : B → BayState B)
           → (b : Bool) → is_slot call.beside.written slot ≡ b → HasFloor (slice_index (disks old.bay).sizes slot) (image slot) (old.floor slot)
       by slot number config since stays current true here = absurd (call.no_member slot number config here since current)
       by slot number config since stays current false other =
-          all.floored slot number config since stays current (image slot) (λ l. others told disks tells_bytes streams guid are.only_now old all call image was_left slot l other)
+          all.floored slot number config since stays current (image slot) (λ l. others told disks tells_bytes streams guid (λ bay. (are bay).only_now) old all call image was_left slot l other)
 
   -- also those of the members that are then.
   same_past : (now : Past (groups guid)) → now ≡ old.past → (image : Image) → HaveFloorsIn guid old.past (disks old.bay).sizes image old.floor → HaveFloorsIn guid now (disks old.bay).sizes image old.floor

@@ -74,7 +74,7 @@ module _ {B : Type 0} {tells : Type 0} (told : tells) (disks : B → BayState B)
   change_keeps =
       called.keeps_both guid (disks old.bay) (disks call.exit) old.past old.floor old.small call.changed.taken.left call.changed.taken.newest call.named call.finds.found call.steps call.outcome
       took call.finds.own call.finds.admitted (by_held guid disks are old.past old.floor old.bay all.floored call.finds.tells_left) call.timestamp call.request call.are_asked call.change call.is_change old.promises all.keeps call.may all.shows
-      (are.only_now old.bay) (λ image later left. are.counts call.exit (disks old.bay).moment image later left) (λ image left. sectors disks are call.exit image left)
+      ((are old.bay).only_now) (λ image later left. (are call.exit).counts (disks old.bay).moment image later left) (λ image left. sectors disks are call.exit image left)
 
   pub change_readied : readied call.finds.found (option_to_list call.change) call.timestamp ≡ Ok call.steps
   change_readied =
@@ -91,7 +91,7 @@ module _ {B : Type 0} {tells : Type 0} (told : tells) (disks : B → BayState B)
     admitted = call.finds.admitted;
     floors = by_held guid disks are old.past old.floor old.bay all.floored call.finds.tells_left;
     all = all.keeps;
-    told = are.held old.bay call.finds.tells_left;
+    told = (are old.bay).held call.finds.tells_left;
     whole = held_sectors disks are old.bay call.finds.tells_left;
   }
 
@@ -125,7 +125,7 @@ module _ {B : Type 0} {tells : Type 0} (told : tells) (disks : B → BayState B)
   counts_by exit named timestamp request (Err failure) changed finds steps are_asked array init asks agree done both = absurd cc
   counts_by exit named timestamp request (Ok sequence) changed finds steps are_asked array init asks agree done both =
       accepted_counts tells told (disks old.bay) (disks exit) guid old.past old.floor old.small old.promises named timestamp request sequence changed finds.found finds.is_found finds.own steps are_asked
-      (record { all_kept = all.shows; admitted = finds.admitted; all_data = all.keeps; have_floors = by_held guid disks are old.past old.floor old.bay all.floored finds.tells_left }) array init asks (are.held old.bay finds.tells_left)
+      (record { all_kept = all.shows; admitted = finds.admitted; all_data = all.keeps; have_floors = by_held guid disks are old.past old.floor old.bay all.floored finds.tells_left }) array init asks ((are old.bay).held finds.tells_left)
       (held_sectors disks are old.bay finds.tells_left) agree (λ image left. sectors disks are exit image left) both
 
   pub accept_ends : (accept : AcceptCall told disks tells_bytes streams guid old) → (disks accept.call.exit).tells_left → AreBoth guid old.floor (disks accept.call.exit)

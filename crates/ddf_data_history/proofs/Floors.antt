@@ -57,7 +57,7 @@ module _ (guid : List ℕ) where
       where
         by : (b : Bool) → (s == slot) ≡ b → (disks bay).may_hold s l (if b then sector l else (disks bay).held s l)
         by true is = subst (λ (n : ℕ). (disks bay).may_hold n l (sector l)) (sym (eqb-true s slot is)) (left l)
-        by false is = are.held bay tells_left s l
+        by false is = (are bay).held tells_left s l
 
     -- Where each image that may be left has the floors, each slot has its own by whatever may be left of it,
     pub by_slots : (past : Past (groups guid)) (floor : ℕ → ℕ) (bay : B) → (disks bay).tells_left → (sizes : List ℕ) → (disks bay).sizes ≡ sizes
@@ -73,11 +73,11 @@ module _ (guid : List ℕ) where
     by_image past floor bay has image left slot number config since stays current = has slot number config since stays current (image slot) (left slot)
 
     pub by_held : (past : Past (groups guid)) (floor : ℕ → ℕ) (bay : B) → AllHaveFloors guid past (disks bay) floor → (disks bay).tells_left → HaveFloors guid past (disks bay) floor
-    by_held past floor bay has tells_left = by_image past floor bay has (disks bay).held (are.held bay tells_left)
+    by_held past floor bay has tells_left = by_image past floor bay has (disks bay).held ((are bay).held tells_left)
 
     -- What a stop left since a call's entry has them where each image on its way has.
     pub since_entry : (past : Past (groups guid)) (floor : ℕ → ℕ) (old exit : B) → AllHaveFloors guid past (disks old) floor
         → StopsLeave (disks old) (disks exit) (λ image. HaveFloorsIn guid past (disks old).sizes image floor)
         → (image : Image) → (disks exit).left_since (disks old).moment image → HaveFloorsIn guid past (disks old).sizes image floor
     since_entry past floor old exit has way image was_left =
-        ⊎_elim (λ before. by_image past floor old has image (are.only_now old image before)) (λ now. now) (way.since (disks old).moment image (omega arith) was_left)
+        ⊎_elim (λ before. by_image past floor old has image ((are old).only_now image before)) (λ now. now) (way.since (disks old).moment image (omega arith) was_left)

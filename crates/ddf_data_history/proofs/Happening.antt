@@ -153,7 +153,7 @@ module _ {B : Type 0} {tells : Type 0} (told : tells) (disks : B → BayState B)
           keeps = both.all_data;
           floored = by_slots guid disks are both.now old.floor (exit_of told disks tells_bytes streams guid call) tells_left (disks old.bay).sizes same_sizes
               (λ image left. ends_floored told disks tells_bytes streams guid are old all call both.now both.ends image
-              (are.counts (exit_of told disks tells_bytes streams guid call) (disks old.bay).moment image (call_later told disks tells_bytes streams guid are old all call) left));
+              ((are (exit_of told disks tells_bytes streams guid call)).counts (disks old.bay).moment image (call_later told disks tells_bytes streams guid are old all call) left));
         };
       }
 
@@ -161,7 +161,7 @@ module _ {B : Type 0} {tells : Type 0} (told : tells) (disks : B → BayState B)
       → (disks (exit_of told disks tells_bytes streams guid call)).left_since (disks old.bay).moment image → (bay : B) → Resumes (disks old.bay) (disks bay) (λ left. left ≡ image)
       → HasCome old bay (HasComeTo told disks tells_bytes streams guid call) (MayPromise told disks tells_bytes streams guid call)
   was_cut old all call image was_left bay resumes =
-      let held_is : (disks bay).held ≡ image = resumes.is_left (disks bay).held (are.held bay resumes.tells_left) in
+      let held_is : (disks bay).held ≡ image = resumes.is_left (disks bay).held ((are bay).held resumes.tells_left) in
       let sound : AreSectors image = subst AreSectors held_is (held_sectors disks are bay resumes.tells_left) in
       let both = cuts told disks tells_bytes streams guid are old all call image was_left sound in
       record {

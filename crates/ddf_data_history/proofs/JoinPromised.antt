@@ -105,7 +105,7 @@ module _ {B : Type 0} {tells : Type 0} (told : tells) (disks : B → BayState B)
   none_out = (is_readied call.join.timestamp call.join.imported.first.left call.join.group call.join.joining call.join.made call.join.are_asked).1
 
   admits : AdmitsBoth guid old.past (scene_of (disks old.bay).sizes (disks old.bay).held) call.join.group call.join.joining
-  admits = call.join.admits_join (disks old.bay).held (are.held old.bay call.tells_left)
+  admits = call.join.admits_join (disks old.bay).held ((are old.bay).held call.tells_left)
 
   all_joins : config_joining call.join.joining ≡ call.join.joining.config
   all_joins =
@@ -148,12 +148,12 @@ module _ {B : Type 0} {tells : Type 0} (told : tells) (disks : B → BayState B)
 
   their_data : (image : Image) → IsLeft (disks call.join.exit).may_hold image → KeepsData call.join.other theirs.past old.floor image theirs.promises
   their_data image left = ⊎_elim
-      (λ first. their_entry image (are.only_now old.bay image first))
+      (λ first. their_entry image ((are old.bay).only_now image first))
       (λ writing.
       below_floors call.join.other old.floor old.small theirs.past writing.before theirs.promises (their_entry writing.before writing.is_left) image (sectors disks are call.join.exit image left)
       (join_below guid (disks old.bay) (disks call.join.exit) old.past old.floor old.promises call.join.group call.join.joining call.join.timestamp call.join.made call.join.imported.first.left
       (is_done call.join.outcome) import image writing))
-      ((import).leaves.since (disks old.bay).moment image (omega arith) (are.counts call.join.exit (disks old.bay).moment image (import).leaves.later left))
+      ((import).leaves.since (disks old.bay).moment image (omega arith) ((are call.join.exit).counts (disks old.bay).moment image (import).leaves.later left))
 
   -- So it is kept by the history of the group that both have become.
   pub keeps_at : (array : List ℕ) (allowed : Allowed) (entry : Array) → theirs.promises array ≡ Some allowed → lookup (same_guid array) call.join.joining.config.arrays ≡ Some entry → KeepsAt disks new array allowed

@@ -36,7 +36,7 @@ module _ {B : Type 0} {tells : Type 0} (told : tells) (disks : B → BayState B)
         all_kept = all.shows;
         all_data = all.keeps;
         floored = all.floored;
-        held = are.held old.bay call.tells_left;
+        held = (are old.bay).held call.tells_left;
         also_left = join.imported.second.left;
         also_newest = join.imported.second.newest;
         also_read = join.imported.second.read told;
@@ -53,7 +53,7 @@ module _ {B : Type 0} {tells : Type 0} (told : tells) (disks : B → BayState B)
       (Ends guid old.past (is_read call.join.imported.first.left) call.join.group (joins_in told disks tells_bytes streams guid call) (is_done call.join.outcome)) (Stays old.promises) (Stays old.promises)
   join_keeps =
       kept.join_keeps guid (disks old.bay) (disks call.join.exit) old.past old.floor old.promises call.join.group call.join.joining call.join.timestamp call.join.made call.join.imported.first.left (is_done call.join.outcome)
-      took (are.only_now old.bay) (λ image later left. are.counts call.join.exit (disks old.bay).moment image later left) (λ image left. sectors disks are call.join.exit image left)
+      took ((are old.bay).only_now) (λ image later left. (are call.join.exit).counts (disks old.bay).moment image later left) (λ image left. sectors disks are call.join.exit image left)
 
   -- The disks of members have their floors, however far it came.
   pub join_floored : (whole : Bool) (now : Past (groups guid)) → Ends guid old.past (is_read call.join.imported.first.left) call.join.group (joins_in told disks tells_bytes streams guid call) whole now
@@ -61,4 +61,4 @@ module _ {B : Type 0} {tells : Type 0} (told : tells) (disks : B → BayState B)
   join_floored whole now ends image was_left =
       kept.join_floored guid (disks old.bay) (disks call.join.exit) old.past old.floor old.promises call.join.group call.join.joining call.join.timestamp call.join.made call.join.imported.first.left (is_done call.join.outcome)
       took whole now ends image
-      (⊎_elim (λ before. inl (are.only_now old.bay image before)) inr ((took).leaves.since (disks old.bay).moment image (omega arith) was_left))
+      (⊎_elim (λ before. inl ((are old.bay).only_now image before)) inr ((took).leaves.since (disks old.bay).moment image (omega arith) was_left))

@@ -11,6 +11,7 @@ use Rattle.ddf_config.specs.Configuration.{Configuration}
 use Rattle.ddf_config.specs.Members.{same_guid}
 use Rattle.ddf_copy.specs.declared.newest_copy.Newest.{Newest}
 use Rattle.ddf_array.specs.Redundant.{IsRedundant}
+use Rattle.ddf_array.specs.Viewing.{view_of}
 use Rattle.ddf_array.specs.Volume.{IsVolume, Volume}
 use Rattle.ddf_cells.specs.Degraded.{is_degraded}
 use Rattle.ddf_resync.specs.declared.outcome.Scrub.TheVariants.{Clean}
@@ -24,7 +25,7 @@ use Rattle.ddf_rewrite.proofs.Lists.{some_same}
 use Rattle.ddf_history.specs.Groups.{groups}
 use Rattle.ddf_history.specs.Issued.{Past, leave_out}
 use Rattle.ddf_assembly.specs.Group.{GroupValue, group_of}
-use Rattle.ddf_assembly.specs.Recovery.{config_lost, config_recovered, some}
+use Rattle.ddf_assembly.specs.Recovery.{config_lost, config_recovered, some, trusted_seats}
 use Rattle.ddf_assembly.specs.Slots.{newest_from}
 use Rattle.ddf_stops.specs.Going.{IsAdmitted}
 use Rattle.ddf_stops.specs.Kept.{is_read}
@@ -46,9 +47,9 @@ use Rattle.ddf_data_history.proofs.Floors.{by_held}
 module _ {B : Type 0} (tells : Type 0) (told : tells) (disks : B → BayState B) (are : AreBays disks) (group : List ℕ) (moment : Moment group B) (all : KeepsAll disks moment)
     (tells_left : (disks moment.bay).tells_left) (new : B) (left : List Bool) (long : length left ≡ length (disks moment.bay).sizes) (newest : List (Option Newest))
     (read : newest ≡ newest_from (disks moment.bay) 0 left) (named : Option (List ℕ)) (means : Means group newest named) (found : GroupValue) (is_found : group_of newest named ≡ Ok found)
-    (admitted : IsAdmitted group moment.past (disks moment.bay) left found) (absent : found.absent ≡ []) (alone : IsAlone group moment.past found.config)
+    (admitted : IsAdmitted group moment.past (disks moment.bay) left found) (absent : found.absent ≡ []) (trusted : trusted_seats found ≡ found.seats) (alone : IsAlone group moment.past found.config)
     (settled : (slot : ℕ) → IsSettled (disks moment.bay).may_hold (disks moment.bay).held slot) (word : List ℕ)
-    (scrub : IsArrayScrubbed (work_of tells (disks moment.bay) (disks new)) found.config found.seats word Clean) (whole : is_degraded scrub.used.1 ≡ false) (no_rows : HasNoRows scrub.used.1) where
+    (scrub : IsArrayScrubbed (work_of tells (disks moment.bay) (disks new)) found.config (trusted_seats found) word Clean) (whole : is_degraded scrub.used.1 ≡ false) (no_rows : HasNoRows scrub.used.1) where
   abbrev held : Image
   held = (disks moment.bay).held
 
@@ -64,7 +65,7 @@ module _ {B : Type 0} (tells : Type 0) (told : tells) (disks : B → BayState B)
     may_read = admitted.may_read;
     member = admitted.member;
     is_kept = admitted.is_kept;
-    keeps = all.keeps held (are.held moment.bay tells_left);
+    keeps = all.keeps held ((are moment.bay).held tells_left);
     have_floors = by_held group disks are moment.past moment.floor moment.bay all.floored tells_left;
   }
 
@@ -98,7 +99,7 @@ module _ {B : Type 0} (tells : Type 0) (told : tells) (disks : B → BayState B)
       moment.floor (by_held group disks are moment.past moment.floor moment.bay all.floored tells_left)))
 
   use_of : IsUsed found.config scrub.used.0 (seats_in group moment.past moment.floor found.config) scrub.used.1
-  use_of = used found.config guid listed v (sym (view_same found.seats listed alike found.config guid) ∙ scrub.usable.is_view) known_view
+  use_of = used found.config guid listed v (sym (view_same found.seats listed alike found.config guid) ∙ ap (view_of found.config guid) (sym trusted) ∙ scrub.usable.is_view) known_view
 
   -- ---- the array
 

@@ -1,4 +1,4 @@
-// Laws of whole histories of groups and of their data: functions that do nothing, whose contracts are the laws.
+//! Laws of whole histories of groups and of their data: functions that do nothing, whose contracts are the laws.
 ghost use Rattle.std.specs.Prelude.{◌≡◌, ℕ, Bool, false, true, List, [], length, Option, Some, Ok};
 ghost use Rattle.std.specs.Map.{lookup};
 ghost use Rattle.ddf_bytes.specs.declared.stamp.Stamp.{Stamp};
@@ -17,6 +17,7 @@ ghost use Rattle.ddf_history.specs.Groups.{groups};
 ghost use Rattle.ddf_history.specs.Issued.{Past};
 ghost use Rattle.ddf_history.specs.Scenes.{scene_of};
 ghost use Rattle.ddf_assembly.specs.Group.{GroupValue, group_of};
+ghost use Rattle.ddf_assembly.specs.Recovery.{trusted_seats};
 ghost use Rattle.ddf_stops.specs.Founding.{AreNamesNew, IsNewGroup};
 ghost use Rattle.ddf_stops.specs.Going.{IsAdmitted};
 ghost use Rattle.ddf_stops.specs.Kept.{is_read, is_slot};
@@ -76,14 +77,14 @@ pub fn a_group_that_was_found_whole_begins_a_history_of_data<B: Bay>()
 {}
 
 /// A `scrub` tells that an array agrees, as one from elsewhere of which nothing is promised: where its history admits the call, no member was absent, and the group has one configuration since the
-/// last acknowledged one; where nothing is pending on the disks, no element of the array that keeps parity lacks a position, and no rows count as rebuilt. So what its blocks hold may count from then on.
+/// last acknowledged one; where blocks may be read from each seat, nothing is pending on the disks, no element of the array that keeps parity lacks a position, and no rows count as rebuilt. So what its blocks hold may count from then on.
 pub fn an_array_that_a_scrub_found_clean_agrees<B: Bay>()
     ensures { (told : B.tells) (group : List ℕ) (moment : Moment group B) → KeepsAll B.disks moment → (B.disks moment.bay).tells_left → (new : B) (word : List ℕ)
         → (named : Option (List ℕ)) → (scrubbed : HasScrubbed (work_of B.tells (B.disks moment.bay) (B.disks new)) named word (Ok Clean)) → Means group scrubbed.newest named
         → (found : GroupValue) → group_of scrubbed.newest named ≡ Ok found
-        → IsAdmitted group moment.past (B.disks moment.bay) scrubbed.left found → found.absent ≡ [] → IsAlone group moment.past found.config
+        → IsAdmitted group moment.past (B.disks moment.bay) scrubbed.left found → found.absent ≡ [] → trusted_seats found ≡ found.seats → IsAlone group moment.past found.config
         → ((slot : ℕ) → IsSettled (B.disks moment.bay).may_hold (B.disks moment.bay).held slot)
-        → (scrub : IsArrayScrubbed (work_of B.tells (B.disks moment.bay) (B.disks new)) found.config found.seats word Clean) → is_degraded scrub.used.1 ≡ false → HasNoRows scrub.used.1
+        → (scrub : IsArrayScrubbed (work_of B.tells (B.disks moment.bay) (B.disks new)) found.config (trusted_seats found) word Clean) → is_degraded scrub.used.1 ≡ false → HasNoRows scrub.used.1
         → AgreesAt B.disks moment scrub.used.0 (once_consistent scrub.used.1 (B.disks moment.bay).held) }
 {}
 

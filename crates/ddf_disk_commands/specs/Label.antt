@@ -1,5 +1,5 @@
 -- What `label` does, and how it ends.
-use Rattle.std.specs.Prelude.{◌≡◌, ℕ, ◌*◌, ◌<◌, List, length, codes, Some, None, Result, Ok, Err}
+use Rattle.std.specs.Prelude.{◌≡◌, ℕ, ◌*◌, ◌<◌, List, length, codes, Some, None, OnOk, Result, Ok, Err}
 use Rattle.ddf_bytes.specs.declared.stamp.Stamp.{Stamp}
 use Rattle.ddf_bay.specs.Moments.{StopsLeave}
 use Rattle.ddf_bay.specs.ReadsOnly.{ReadsOnly, SlotRose}
@@ -58,11 +58,12 @@ IsToldLabel (Err failure) answer = IsToldFailure failure answer
 
 -- It did this, and said so. A stop leaves each slot as it might have left it before, or blank, or with its copy, and no sector
 -- before both places of the copy is written. Where it is to be refused nothing is written, whatever it answers; and no more than the sectors
--- of the slots' copies ever are.
+-- of the slots' copies ever are. Where it is done no write or sync of any slot failed.
 pub record IsLabelled {D : Type 0} (work : Work D) (revision : Revision) (stamp : Stamp) (named : List ℕ) (answer : Answer) : Type 0 where
   pub outcome : Result (Unit {0}) Failure
   pub tried : IsTried work revision stamp named outcome
   pub ends : IsToldLabel outcome answer
+  pub unfailed : OnOk outcome ((slot : ℕ) → work.new.failed_writes slot ≡ work.old.failed_writes slot)
   pub any_moment : work.tells → StopsLeave work.old work.new (IsLeftFoundingAll work.old (label_slots work.old.sizes named) (label_copy revision stamp work.old.sizes named))
   pub costs : WritesAtMost work (label_sectors * length (label_slots work.old.sizes named))
   pub refused : work.tells → (refusal : Refusal) → label_refusal work.old.sizes work.old.held named ≡ Some refusal → ReadsOnly work.old work.new

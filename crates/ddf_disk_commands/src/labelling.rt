@@ -1,5 +1,5 @@
-// `label`: the first copies of a new group's disks.
-ghost use Rattle.std.specs.Prelude.{◌≡◌, ◌*◌, ◌<◌, Some, All, IfOk, length};
+//! `label`: the first copies of a new group's disks.
+ghost use Rattle.std.specs.Prelude.{◌≡◌, ◌*◌, ◌<◌, ℕ, Some, All, IfOk, OnOk, length};
 ghost use Rattle.ddf_bay.specs.Moments.{GoesOn, StopsLeave};
 ghost use Rattle.ddf_bay.specs.ReadsOnly.{ReadsOnly};
 ghost use Rattle.ddf_update.specs.Group.{AreFirst, IsLeftFoundingAll, slot_sizes};
@@ -60,6 +60,7 @@ fn labelled<B: Bay>(
     stamp: &Stamp,
 ) -> Result<(), Failure>
     ensures tried { IsTried (work_of B.tells (B.disks bay.old) (B.disks bay.new)) revision stamp.now named.now result }
+    ensures unfailed { OnOk result ((slot : ℕ) → (B.disks bay.new).failed_writes slot ≡ (B.disks bay.old).failed_writes slot) }
     ensures any_moment { B.tells → StopsLeave (B.disks bay.old) (B.disks bay.new) (IsLeftFoundingAll (B.disks bay.old) (label_slots (B.disks bay.old).sizes named.now) (label_copy revision stamp.now (B.disks bay.old).sizes named.now)) }
     ensures goes_on { GoesOn (B.disks bay.old) (B.disks bay.new) }
     ensures same_sizes { (B.disks bay.new).sizes ≡ (B.disks bay.old).sizes }

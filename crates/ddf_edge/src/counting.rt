@@ -1,4 +1,4 @@
-// The output, counted.
+//! The output, counted.
 ghost use Rattle.std.specs.Prelude.{◌≡◌};
 
 use ddf_bytes::{Failed, Sink};

@@ -1,4 +1,4 @@
-// Block devices as the system names them: `MAJOR:MINOR`.
+//! Block devices as the system names them: `MAJOR:MINOR`.
 use std::alloc::{AllocError, Global};
 use std::fs::Metadata;
 use std::io::ErrorKind;

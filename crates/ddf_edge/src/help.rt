@@ -1,85 +1,107 @@
-// What the program says of itself.
+//! What the program says of itself.
+use crate::command_help::part_of;
 
-/// The words, and what becomes of them.
+/// The first line of what `--help` prints.
+pub const FIRST_LINE: &str =
+    "Usage: ddf [--careful | --yes] IMAGE.. -- [@GROUP] COMMAND [ARGUMENT..]";
+
+/// The arguments, and what becomes of them.
 pub const USAGE: &str = "\
-Usage: ddf IMAGE.. -- [@GROUP] COMMAND
+Usage: ddf [--careful | --yes] IMAGE.. -- [@GROUP] COMMAND [ARGUMENT..]
 
-Reads and writes RAID metadata in the SNIA Common RAID Disk Data Format (DDF) on disk
-images and block devices. Slots are the images in their order, from 0; behind label,
-spare and fail the word of an image may stand for its SLOT.
+Reads, repairs and changes groups of disks in the SNIA DDF RAID format. IMAGE.. are ALL disks
+of the group, disk images or block devices: a command that changes the group drops a disk that
+isn't named from it, for good. A SLOT is the number of an image, from 0, or the image itself.
+A block is 512 bytes. ddf COMMAND --help tells more of a command.
 
-Commands:
-  examine          show what each disk holds; nothing is written
-  label [linux] [SLOT..]
-                   make a new group of these blank disks, or of all; with linux
-                   of disks that Linux's mdadm takes
-  assemble         recover the group that the disks are, and show its members and
-                   arrays; where all is in order nothing is written
-  show             show the members and arrays of the group as its disks record it,
-                   and what is absent or behind; nothing is recovered or written
+Look, and write nothing:
+  examine          what each disk holds
+  show             the group as its disks record it: its disks and arrays, what is missing
   read NAME START COUNT
-                   print the bytes of so many blocks of an array, from one on, and
-                   nothing else: 512 of each; nothing is written
-  write NAME START COUNT
-                   give so many blocks of an array, from one on, the bytes of standard
-                   input, 512 for each; where it ends early the first are written
-  scrub NAME       tell whether the copies and the parity of an array agree, or the
-                   first row that doesn't; nothing is written
-  accept NAME      take the copies and the parity of a marked array to agree, on
-                   your word
-  resync NAME      make the copies and the parity of an array agree, and take its
-                   mark away
-  rebuild NAME     fill a position of an array that has lost its disk, on a spare, and
-                   put it in sync; it goes on where it was stopped
-  create NAME LEVEL CODE SECONDARY SLOT,SLOT..@BLOCKS..
-                   make an array of these disks, with strips of 2^CODE sectors;
-                   LEVEL is raid0, raid1, raid4.first, raid4.last, raid5.r0,
-                   raid5.rn, raid5.rnc, jbod or concat; SECONDARY is single, or
-                   striped, mirrored, concat or spanned over several elements;
-                   one that keeps its data twice is to be resynced, or accepted
-                   where its disks agree, before it can lose a disk
-  delete NAME      remove an array from the records; its blocks stay as they are
+                   blocks of an array, to standard output
+  scrub NAME       whether the copies and the parity of an array agree
+
+Put in order, and replace a disk:
+  assemble         finish what a crash cut short; members that are missing are dropped
   spare SLOT global | spare SLOT for NAME.. | spare SLOT off
-                   say what a disk may stand in for
-  fail SLOT        take a disk out of use for good; it isn't written any more
-  import GUID      take the disks and the arrays of another group, named by the 48
-                   hexadecimal digits of its GUID, into the group; its members that
-                   are absent then are lost to it
-  batch            do the commands on the lines of standard input, one after another,
-                   each as above without IMAGE words and @; one that is refused ends
-                   nothing, and one that ends with a status from 3 on is the last
+                   what a disk may stand in for
+  rebuild NAME     fill a spare in place of a lost disk; goes on where it was stopped
+  fail SLOT        take a disk out of use, for good
+  import GUID      take in a new disk, or the disks and arrays of another group
+
+Make and fill:
+  label [linux] [SLOT..]
+                   a new group of blank disks; with linux one that Linux's mdadm takes
+  create NAME LEVEL CODE SECONDARY SLOT,SLOT..@BLOCKS..
+                   a new array, as: create home raid5.rnc 7 single 0,1,2@8192
+  resync NAME      make the copies and the parity of a new array agree; do it once
+  accept NAME      or take them to agree, on your word
+  write NAME START COUNT
+                   blocks of an array, from standard input
+  delete NAME      take an array out of the records
+
+And:
+  batch            do the commands on the lines of standard input
   exercise SEED ROUNDS
-                   try the commands on disks in memory, with 3 times so many writes
-                   that the seed gives: arrays are made, disks are lost, and what was
-                   written is read; no IMAGE is touched, and there may be none
+                   try the commands on disks in memory; no image is touched
 
-Each but examine, label and exercise is over a group: the only one that the disks show, or the one that is
-named, by @ and the 48 hexadecimal digits of its GUID. All of these but show, read and scrub
-recover it first: a member whose disk is left out of the words, or shows nothing, is listed as
-missing, for good. Standard error names it first, and on a terminal you are asked. A line of
-batch may be any of these but read, write, batch and exercise.
+LEVEL is raid0, raid1, raid4.first, raid4.last, raid5.r0, raid5.rn, raid5.rnc, jbod or concat.
+mdadm's right-asymmetric is raid5.r0, left-asymmetric raid5.rn, left-symmetric raid5.rnc.
+CODE is n for strips of 2^n sectors: 7 is 64 KiB, 10 is 512 KiB. SECONDARY is single, or over
+several elements striped (RAID 10, 50), mirrored, concat or spanned. BLOCKS are those that each
+disk gives: 2048 are 1 MiB. Sizes with K, M, G or T are taken too, as 64K for CODE 7, and 100% for
+all that is free in one piece.
 
-Disks are opened for reading alone by commands that write nothing. Others don't touch a
-disk that is mounted, swapped to, part of another device, or protected from writes. Each
-disk is locked as long as a command runs, and one that another program has locked isn't
-touched. A program that holds a disk in another way isn't found.
+@GROUP is @ and the 48 digits of a group's GUID, or the first of them, where the disks show more
+than one group.
+Before a command loses a member, writes over a disk that isn't empty, fails a disk or deletes an
+array, standard error says so, and at a terminal you are asked. --yes asks nothing. --careful,
+or DDF_CAREFUL=1 in the environment, does nothing there, and ends with status 3.
 
-Exit status: 0 done, 1 refused, 2 words that are no command's, 3 a disk failed,
-4 records of the group contradict each other, 5 no memory, 6 the input or the output
-failed, or there was no chance for new names, 7 the input of write ended early, and the
-first blocks are written. At 1, 2, 4 and 5 nothing was written, but by other lines of batch.
+Disks are opened for reading alone by commands that write nothing. Others don't touch a disk
+that is mounted, swapped to, part of another device, or protected from writes. Each disk is
+locked as long as a command runs.
+
+Exit status: 0 done, 1 refused, 2 wrong arguments, 3 a disk failed or can't be opened, or you
+said no, 4 records contradict each other, 5 out of memory, 6 input or output failed, 7 input
+ended early. At 1, 2, 4 and 5 nothing was written, but by other lines of a batch.
+
+The manual is ddf(8): each refusal with the way out.
 ";
 
-const VERSION: &str = "ddf 0.1.0\n";
+const VERSION: &str = "ddf 0.2.0\n";
 
-/// The text for `--help`, `--version` or another word for them alone.
+/// The text for `--help`, `--version` or another word for them alone, and for a command whose help is asked for.
 pub fn answer(words: &[String]) -> Option<&'static str> {
-    let [word] = words else {
-        return None;
-    };
-    match word.as_str() {
+    match words {
+        [word] => answer_to(word),
+        [first, second] if is_help(first) => part_of(second),
+        _ => help_of_command(words),
+    }
+}
+
+fn answer_to(word: &str) -> Option<&'static str> {
+    match word {
         "--help" | "-h" | "help" => Some(USAGE),
-        "--version" => Some(VERSION),
+        "--version" | "-V" | "version" => Some(VERSION),
         _ => None,
     }
+}
+
+fn is_help(word: &str) -> bool {
+    matches!(word, "--help" | "-h" | "help")
+}
+
+/// The help of the last word but one, where that is a command that stands alone or after the dashes, and the last word asks for help.
+fn help_of_command(words: &[String]) -> Option<&'static str> {
+    match words {
+        [.., before, command, last] if is_asked(before, last) => part_of(command),
+        [command, last] if is_asked("--", last) => part_of(command),
+        _ => None,
+    }
+}
+
+/// Whether a command's help is asked for by the word after it, where the one before it is the dashes or a group.
+fn is_asked(before: &str, last: &str) -> bool {
+    matches!(last, "--help" | "-h") && (before == "--" || before.starts_with('@'))
 }

@@ -1,4 +1,4 @@
-// What the system tells of the use of a block device: whether it is protected, mounted, swapped to, or part of another device.
+//! What the system tells of the use of a block device: whether it is protected, mounted, swapped to, or part of another device.
 use crate::device::{device_of, if_told, is_held, is_protected, overlap};
 use std::fs::Metadata;
 use std::os::unix::fs::FileTypeExt;

@@ -1,49 +1,51 @@
-//! The edge between the program and the system: images as files that are claimed, words that name them, what standard error tells and asks, and the moment and the
-//! chance for new names.
+//! The edge between the program and the system: images as files that are claimed, words that name them, help and what is wrong with words, the standard streams,
+//! and the moment and the random numbers for new names.
 #![tactic(auto)]
 
-mod asking;
+mod care;
 mod claims;
+mod command_help;
 mod counting;
 mod device;
 mod disks;
-mod done;
+mod element_images;
 mod failure;
-mod filled;
-mod for_linux;
+mod given;
 mod help;
 mod in_use;
-mod losses;
 mod memory;
 mod meter;
 mod no_text;
 mod noting;
 mod one_line;
-mod risks;
-mod silent;
+mod patience;
+mod patient;
+mod reasons;
+mod rest_of_input;
+mod sizes;
 mod slot_images;
 mod stamp;
 mod streams;
-mod tables;
-mod to_write;
 mod twins;
 mod wrong_words;
 
-pub use asking::agrees;
+pub use care::{Care, care_of_environment, care_word};
 pub use counting::CountingSink;
-pub use disks::{any_unopened, name_turned, open_disks};
-pub use done::tell_end;
-pub use failure::{Failure, NO_MEMORY, STREAM_FAULT};
-pub use for_linux::{makes_for_linux, name_unfinished, name_untaken};
-pub use help::{USAGE, answer};
+pub use disks::{any_locked, first_unopened, name_failed, open_disks};
+pub use failure::{DISK_FAULT, Failure, NO_MEMORY, STREAM_FAULT};
+pub use given::{Given, lines_of_input};
+pub use help::{FIRST_LINE, USAGE, answer};
 pub use memory::keep_freed;
-pub use meter::Meter;
+pub use meter::{Length, Meter};
 pub use no_text::name_no_texts;
 pub use noting::NotingSource;
-pub use risks::is_risky;
-pub use slot_images::number_slots;
+pub use one_line::OneLine;
+pub use patient::Patient;
+pub use reasons::{Reason, reason_of};
+pub use rest_of_input::name_rest;
+pub use sizes::{Size, number_sizes};
+pub use slot_images::{command_word, name_place, number_slots, put_word};
 pub use stamp::stamp_for;
 pub use streams::hold_streams;
-pub use to_write::sectors_to_write;
 pub use twins::same_disk;
 pub use wrong_words::explain;

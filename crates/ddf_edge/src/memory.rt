@@ -1,4 +1,4 @@
-// Memory that serves one slot after another.
+//! Memory that serves one slot after another.
 use std::alloc::Global;
 
 /// The bytes of the block that `keep_freed` takes: more than a copy of most disks.

@@ -1,44 +1,64 @@
-// How far the writes of a long command have come, for somebody at a terminal.
+//! How far a long command has come, for somebody at a terminal.
+use crate::sizes::Size;
 use ddf_progress::Progress;
 use std::rt::Clock;
 use std::time::Instant;
 
-/// The sectors of a MiB.
-const MIB: u64 = 2048;
-
 /// How many seconds lie between two lines.
 const PAUSE: u64 = 1;
 
-/// Tells on standard error how many sectors were written, of how many, and how fast.
+/// About how many sectors a long command asks for.
+#[derive(Clone, Copy, PartialEq, Eq)]
+pub enum Length {
+    /// It reads so many.
+    Reads(u64),
+    /// It writes so many.
+    Writes(u64),
+}
+
+/// Tells on standard error how many sectors were read or written, of how many, how fast, and how long the others take at that speed. Each line takes
+/// the place of the one before, and none stays.
 #[derive(Drop)]
 pub struct Meter<'r, R> {
     rt: &'r R,
-    all: Option<u64>,
+    length: Option<Length>,
     done: u64,
     began: Option<Instant>,
     told: u64,
 }
 
 impl<'r, R: Clock + Eprint> Meter<'r, R> {
-    /// Counts from now on. It tells where there is a number of sectors to write, and a clock.
-    pub fn new(rt: &'r R, all: Option<u64>) -> Meter<'r, R> {
+    /// Counts from now on. It tells where a length is given, and there is a clock.
+    pub fn new(rt: &'r R, length: Option<Length>) -> Meter<'r, R> {
         let began = match Instant::now(rt) {
             Ok(now) => Some(now),
             Err(_) => None,
         };
         Meter {
             rt,
-            all,
+            length,
             done: 0,
             began,
             told: 0,
         }
     }
 
-    /// Ends the line, where one was begun.
+    /// Takes the line away, where one was begun.
     pub fn end(&self) {
         if self.told > 0 {
-            let _ = eprintln!(self.rt; "");
+            let _ = self.rt.eprint("\r\x1b[K");
+        }
+    }
+
+    /// Counts sectors, of so many.
+    fn count(&mut self, sectors: u64, all: u64) {
+        self.done = self.done.saturating_add(sectors);
+        let Some(elapsed) = self.elapsed() else {
+            return;
+        };
+        if elapsed >= self.told.saturating_add(PAUSE) {
+            self.told = elapsed;
+            self.tell(all, elapsed);
         }
     }
 
@@ -55,9 +75,13 @@ impl<'r, R: Clock + Eprint> Meter<'r, R> {
     fn tell(&self, all: u64, elapsed: u64) {
         let done = self.done.min(all);
         let part = percent(done, all);
-        let rate = self.done / MIB / elapsed.max(1);
-        let (done, all) = (done / MIB, all / MIB);
-        let _ = eprint!(self.rt; "\rddf: {part} %, {done} of {all} MiB, {rate} MiB/s ");
+        let rate = (self.done / elapsed.max(1)).max(1);
+        let left = all.saturating_sub(done) / rate;
+        let (minutes, seconds) = (left / 60, left % 60);
+        let (done, all, rate) = (Size(done), Size(all), Size(rate));
+        let _ = eprint!(self.rt;
+            "\r\x1b[Kddf: {part} %, {done} of {all}, {rate}/s, {minutes}:{seconds:02} to go "
+        );
     }
 }
 
@@ -67,15 +91,15 @@ fn percent(part: u64, all: u64) -> u64 {
 }
 
 impl<R: Clock + Eprint> Progress for Meter<'_, R> {
-    fn more(&mut self, sectors: u64) {
-        self.done = self.done.saturating_add(sectors);
-        let Some(all) = self.all else { return };
-        let Some(elapsed) = self.elapsed() else {
-            return;
-        };
-        if elapsed >= self.told.saturating_add(PAUSE) {
-            self.told = elapsed;
-            self.tell(all, elapsed);
+    fn read(&mut self, sectors: u64) {
+        if let Some(Length::Reads(all)) = self.length {
+            self.count(sectors, all);
+        }
+    }
+
+    fn wrote(&mut self, sectors: u64) {
+        if let Some(Length::Writes(all)) = self.length {
+            self.count(sectors, all);
         }
     }
 }

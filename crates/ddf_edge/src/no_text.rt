@@ -1,4 +1,4 @@
-// Words that aren't text.
+//! Words that aren't text.
 use crate::one_line::OneLine;
 use std::env::FillError;
 use std::rt::Env;
@@ -29,6 +29,6 @@ fn name_no_text<R: Eprint + AllocGlobal>(rt: &R, word: &[u8]) {
     }
     if let Ok(text) = String::from_utf8_lossy(rt.alloc(), word) {
         let text = OneLine(&text);
-        let _ = eprintln!(rt; "ddf: the word {text} isn't UTF-8 text");
+        let _ = eprintln!(rt; "ddf: the argument {text} isn't UTF-8 text");
     }
 }

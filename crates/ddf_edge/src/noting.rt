@@ -1,4 +1,4 @@
-// The input, and whether it failed.
+//! The input, and whether it failed.
 ghost use Rattle.std.specs.Prelude.{◌≡◌};
 
 use ddf_bytes::{Failed, Source};

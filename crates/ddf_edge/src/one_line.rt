@@ -1,4 +1,4 @@
-// Texts from outside in a line of standard error.
+//! Texts from outside in a line of standard error.
 use std::fmt;
 use std::fmt::Write;
 

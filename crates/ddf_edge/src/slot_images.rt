@@ -1,10 +1,11 @@
-// Slots that the words name by their images.
+//! Slots that the words name by their images.
+use crate::element_images::{is_number, numbered_element, slot_named};
 use ddf_words::image_paths;
 use std::alloc::AllocError;
 use std::ops::Range;
 
-/// Puts the number of its slot for each path of an image that stands where a command takes one slot. A word of digits is a number
-/// already.
+/// Puts the number of its slot for each path of an image that stands where a command takes one slot, or in an element of a new
+/// array. A word of digits is a number already.
 pub fn number_slots<R: Eprint + AllocGlobal>(
     rt: &R,
     words: &mut Vec<String>,
@@ -13,12 +14,31 @@ pub fn number_slots<R: Eprint + AllocGlobal>(
     for place in slot_places(words) {
         if let Some(slot) = slot_at(words, place) {
             let number = format!(in rt.alloc(); "{slot}")?;
-            if let Some(word) = words.get_mut(place) {
-                *word = number;
-            }
+            put_word(words, place, number);
+        }
+    }
+    number_elements(rt, words)
+}
+
+/// Puts the numbers of slots into the elements of `create`.
+fn number_elements<R: AllocGlobal>(rt: &R, words: &mut Vec<String>) -> Result<(), AllocError> {
+    for place in element_places(words) {
+        let numbered = match words.get(place) {
+            Some(word) => numbered_element(rt.alloc(), image_paths(words), word)?,
+            None => None,
+        };
+        if let Some(element) = numbered {
+            put_word(words, place, element);
         }
     }
     Ok(())
+}
+
+/// Puts a word in the place of another.
+pub fn put_word(words: &mut Vec<String>, place: usize, new: String) {
+    if let Some(word) = words.get_mut(place) {
+        *word = new;
+    }
 }
 
 /// Says on standard error where the path of an image is taken for a slot, and would else be the word `linux` of `label`.
@@ -39,12 +59,20 @@ fn name_linux<R: Eprint>(rt: &R, words: &[String]) {
     }
 }
 
-/// The place of the command's name, behind the images, the dashes and perhaps a group.
-fn name_place(words: &[String]) -> usize {
+/// The place of the command's name, after the images, the dashes and perhaps a group.
+pub fn name_place(words: &[String]) -> usize {
     let first = image_paths(words).len().saturating_add(1);
     match words.get(first) {
         Some(group) if group.starts_with('@') => first.saturating_add(1),
         _ => first,
+    }
+}
+
+/// The command's name, empty where there is none.
+pub fn command_word(words: &[String]) -> &str {
+    match words.get(name_place(words)) {
+        Some(word) => word.as_str(),
+        None => "",
     }
 }
 
@@ -61,13 +89,20 @@ fn slot_places(words: &[String]) -> Range<usize> {
     }
 }
 
+/// The places of the elements of a new array: behind `create`, a name, a level, a code and a secondary level.
+fn element_places(words: &[String]) -> Range<usize> {
+    let name = name_place(words);
+    match words.get(name) {
+        Some(command) if command.as_str() == "create" => name.saturating_add(5)..words.len(),
+        _ => 0..0,
+    }
+}
+
 /// The slot of the image whose path stands at a place, where it is no number.
 fn slot_at(words: &[String], place: usize) -> Option<usize> {
     let word = words.get(place)?;
-    if word.bytes().all(|byte| byte.is_ascii_digit()) {
+    if is_number(word) {
         return None;
     }
-    image_paths(words)
-        .iter()
-        .position(|path| path.as_str() == word.as_str())
+    slot_named(image_paths(words), word)
 }

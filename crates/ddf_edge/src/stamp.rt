@@ -1,4 +1,4 @@
-// The moment and the chance for new names.
+//! The moment and the chance for new names.
 use ddf_bytes::Stamp;
 use std::fs::File;
 use std::io;

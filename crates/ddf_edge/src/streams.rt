@@ -1,4 +1,4 @@
-// The standard streams.
+//! The standard streams.
 use std::fs::File;
 use std::io;
 use std::rt::Files;

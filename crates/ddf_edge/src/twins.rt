@@ -1,4 +1,4 @@
-// One disk under two names.
+//! One disk under two names.
 use crate::one_line::OneLine;
 use ddf_bytes::NoMemory;
 use std::fs;

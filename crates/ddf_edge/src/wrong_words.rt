@@ -1,4 +1,5 @@
-// What is wrong with words that are no command's.
+//! What is wrong with words that are no command's.
+use crate::command_help::synopsis_of;
 use crate::one_line::OneLine;
 use ddf_words::{MOST_IMAGES, image_paths};
 use std::fmt;
@@ -100,7 +101,7 @@ fn wanted(command: &str, offset: usize) -> &'static str {
         "exercise" if offset == 2 => "a number of rounds from 0 to 256",
         "spare" | "fail" if offset == 1 => "a slot's number from 0 to 63, or its image",
         "spare" if offset == 2 => "global, for or off",
-        "spare" => "the name of an array behind for, and nothing behind global and off",
+        "spare" => "the name of an array after for, and nothing after global and off",
         _ => "nothing more",
     }
 }
@@ -108,13 +109,14 @@ fn wanted(command: &str, offset: usize) -> &'static str {
 /// What `create` wants so many words behind its name.
 fn wanted_of_array(offset: usize) -> &'static str {
     match offset {
-        1 => "a name of 1 to 16 characters",
+        1 => "a name of 1 to 16 printable ASCII characters without space",
         2 => {
             "a level: raid0, raid1, raid4.first, raid4.last, raid5.r0, raid5.rn, raid5.rnc, jbod or concat"
         }
-        3 => "a number n from 0 to 15, for strips of 2^n sectors",
+        3 => "a number n from 0 to 15, for strips of 2^n sectors, or their size as 64K",
         4 => "single, striped, mirrored, concat or spanned",
-        _ => "slots with commas between, @, and the blocks of each",
+        _ =>
+            "slots or images with commas between, @, and the blocks of each: a number from 1, a size as 4G, or 100%",
     }
 }
 
@@ -122,8 +124,8 @@ fn wanted_of_array(offset: usize) -> &'static str {
 fn wanted_of_blocks(offset: usize) -> &'static str {
     match offset {
         1 => "the name of an array",
-        2 => "the first block",
-        3 => "a count of blocks",
+        2 => "the first block, or a size before it as 4G",
+        3 => "a count of blocks, or a size as 4G",
         _ => "nothing more",
     }
 }
@@ -149,23 +151,46 @@ fn explain_slot<'a>(words: &'a [String], name: usize, word: &'a str) -> Wrong<'a
     }
 }
 
+impl Wrong<'_> {
+    /// The arguments of the command that the words name, where they name one.
+    pub fn synopsis(&self) -> Option<&'static str> {
+        match *self {
+            Wrong::Groupless(command)
+            | Wrong::Short(command, _)
+            | Wrong::Misplaced(command, _, _) => synopsis_of(command),
+            Wrong::SlotTwice(_) | Wrong::NoSlot(_) => synopsis_of("label"),
+            Wrong::NoDashes
+            | Wrong::NoCommand
+            | Wrong::Unnamed
+            | Wrong::Crowd
+            | Wrong::Twice(_)
+            | Wrong::Unknown(_)
+            | Wrong::NoGroup(_) => None,
+        }
+    }
+}
+
 impl fmt::Display for Wrong<'_> {
     fn fmt<W: fmt::Write>(&self, f: &mut fmt::Formatter<W>) -> fmt::Result {
         match *self {
-            Wrong::NoDashes => write!(f, "there is no -- with a command behind it"),
-            Wrong::NoCommand => write!(f, "there is no command behind --"),
-            Wrong::Unnamed => write!(f, "a word for an image is empty"),
+            Wrong::NoDashes => write!(f, "there is no -- with a command after it"),
+            Wrong::NoCommand => write!(f, "there is no command after --"),
+            Wrong::Unnamed => write!(f, "an argument for an image is empty"),
             Wrong::Crowd => write!(f, "there are more than {MOST_IMAGES} images"),
             Wrong::Twice(path) => write!(f, "{} is named twice", OneLine(path)),
             Wrong::Unknown(command) => write!(f, "there is no command {}", OneLine(command)),
             Wrong::NoGroup(word) => {
-                write!(f, "{} isn't @ and the 48 digits of a group", OneLine(word))
+                write!(
+                    f,
+                    "{} isn't @ and the 48 digits of a group, or the first of them",
+                    OneLine(word)
+                )
             }
             Wrong::Groupless(command) => write!(f, "{command} takes no group"),
-            Wrong::Short(command, wanted) => write!(f, "{command} wants more words: {wanted}"),
+            Wrong::Short(command, wanted) => write!(f, "{command} wants more arguments: {wanted}"),
             Wrong::Misplaced(command, word, wanted) => write!(
                 f,
-                "{command} doesn't take the word {}: it wants {wanted} there",
+                "{command} doesn't take the argument {}: it wants {wanted} there",
                 OneLine(word)
             ),
             Wrong::SlotTwice(word) => write!(f, "slot {} is named twice", OneLine(word)),

@@ -1,4 +1,4 @@
-// The blocks of the array, by the byte that fills each.
+//! The blocks of the array, by the byte that fills each.
 ghost use Rattle.std.specs.Prelude.{◌≡◌, ◌≤◌, IfOk, IsTrue, length};
 ghost use Rattle.std.specs.List.{list_all, sum};
 ghost use Rattle.ddf_exercise.specs.Blocks.{behind_step, block_of, blocks_behind, blocks_in, bytes_of_blocks, written_by, zero_blocks};

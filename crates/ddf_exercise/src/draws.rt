@@ -1,4 +1,4 @@
-// What an exercise writes: numbers that follow from a seed.
+//! What an exercise writes: numbers that follow from a seed.
 ghost use Rattle.std.specs.Prelude.{◌≡◌, ◌<◌, ◌^◌};
 ghost use Rattle.ddf_exercise.specs.Draws.{behind_fill, drawn, first_state, next_fill, next_state};
 

@@ -1,4 +1,4 @@
-// Laws of exercises: functions that do nothing, whose contracts are the laws.
+//! Laws of exercises: functions that do nothing, whose contracts are the laws.
 ghost use Rattle.std.specs.Prelude.{◌≡◌, ◌+◌, ◌*◌, ℕ};
 ghost use Rattle.ddf_exercise.specs.Exercise.{exercise_line, line_saying};
 ghost use Rattle.ddf_exercise.specs.Steps.{all_steps, sequence_behind};

@@ -1,4 +1,4 @@
-// What an exercise tells.
+//! What an exercise tells.
 ghost use Rattle.std.specs.Prelude.{◌≡◌};
 ghost use Rattle.ddf_exercise.specs.Exercise.{line_saying};
 

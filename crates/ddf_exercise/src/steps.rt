@@ -1,4 +1,4 @@
-// The steps of an exercise.
+//! The steps of an exercise.
 ghost use Rattle.std.specs.Prelude.{◌≡◌, ◌≤◌, ◌++◌, IfOk, OnOk};
 ghost use Rattle.ddf_exercise.specs.Draws.{behind_fills};
 ghost use Rattle.ddf_exercise.specs.Steps.{all_steps, loss_steps, rise, write_steps};

@@ -1,4 +1,4 @@
-// How the steps of an exercise are taken: each is a command of the program, or the loss of a disk.
+//! How the steps of an exercise are taken: each is a command of the program, or the loss of a disk.
 ghost use Rattle.std.specs.Prelude.{◌≡◌, ◌≢◌, ◌≤◌, ◌↔◌, ◌*◌, IfOk, IsTrue, length};
 ghost use Rattle.std.specs.List.{list_all};
 ghost use Rattle.ddf_bytes.specs.Memory.{output_of};

@@ -1,4 +1,4 @@
-// What the words ask for.
+//! What the words ask for.
 ghost use Rattle.std.specs.Prelude.{◌≡◌, codes, false, IfOk, IsTrue, position, slice_index_or, string_bytes, []};
 ghost use Rattle.std.specs.Str.{bytes_eq};
 ghost use Rattle.ddf_words.specs.Words.{words_of, is_dashes, GoWrongAt};

@@ -1,4 +1,4 @@
-// Numbers among words.
+//! Numbers among words.
 ghost use Rattle.std.specs.Prelude.{◌≡◌, IfSome};
 ghost use Rattle.ddf_words.specs.Words.{words_of, IsNumber, LacksAt, SpellsNumber, StandsAt};
 

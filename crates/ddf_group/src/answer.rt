@@ -1,3 +1,5 @@
+//! What a look at all slots gives: one group, or why there is none. Where records contradict each other, the slots and the first difference
+//! are told, for a person has to choose.
 ghost use Rattle.std.specs.Prelude.{◌≡◌};
 
 use ddf_bytes::{Guid, NoMemory, Seq};

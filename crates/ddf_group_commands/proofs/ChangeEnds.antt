@@ -106,6 +106,7 @@ spent_first old tells named timestamp request looked = record {
     read = λ tells. refl;
     beside = λ told found is. reads_beside old old (slots_of found.seats) (reads_start old);
     keeps = λ told found is steps asked. reads_keep old old looked.left found steps (reads_start old);
+    unfailed = λ done slot below kept. refl;
   };
   seen = λ slot below kept. refl;
   gone = λ given. absurd (given refl);

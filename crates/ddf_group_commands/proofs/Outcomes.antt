@@ -1,5 +1,6 @@
 -- What a command that changes a group comes to.
-use Rattle.std.proofs.Common.{◌≡◌, ◌⊎◌, ℕ, suc, ◌+◌, ◌*◌, ◌≤◌, Bool, false, [], ◌∷◌, List, length, Option, Result, Ok, Err, refl, sym, ap, subst, ◌∙◌, inl, inr, ⊎_elim, arith}
+use Rattle.std.proofs.Common.{◌≡◌, ◌⊎◌, ℕ, suc, ◌+◌, ◌*◌, ◌≤◌, Bool, true, false, [], ◌∷◌, List, length, Option, Result, Ok, Err, refl, sym, ap, subst, ◌∙◌, inl, inr, ⊎_elim, arith}
+use Rattle.std.specs.Prelude.{OnOk}
 use Rattle.ddf_bay.specs.State.{BayState}
 use Rattle.ddf_bay.specs.Moments.{StopsLeave}
 use Rattle.ddf_bay.specs.ReadsOnly.{ReadsOnly}
@@ -134,6 +135,7 @@ takes_reading work named timestamp request found read reads = record {
   read = read.read;
   beside = λ told one is. reads_beside work.old work.new (slots_of one.seats) reads;
   keeps = λ told one is steps asked. reads_keep work.old work.new read.left one steps reads;
+  unfailed = λ done. absurd cc;
 }
 
 pub memory_told : (failure : Failure) → ◌≡◌ {A = Result GroupValue Failure} (Err failure) (Err Memory) → ◌≡◌ {A = Result ℕ Failure} (Err failure) (Err Memory)
@@ -190,6 +192,11 @@ same_asked ask one sizes two three = rw (one, sizes, two, three) refl
 
 -- ---- changes are asked
 
+-- what holds at Ok holds where all was done
+pub where_done : {P : Type 0} (outcome : Result ℕ Failure) → OnOk outcome P → is_done outcome ≡ true → P
+where_done (Ok sequence) holds done = holds
+where_done (Err failure) holds done = absurd cc
+
 -- what the writing of changes promises
 pub record HasWritten {D : Type 0} (tells : Type 0) (middle new : BayState D) (group : GroupValue) (changes : List Change) (timestamp : ℕ) (outcome : Result ℕ Failure) : Type 0 where
   pub changed : IsChanged (work_of tells middle new) group (steps_or (readied group changes timestamp)) outcome
@@ -201,6 +208,7 @@ pub record HasWritten {D : Type 0} (tells : Type 0) (middle new : BayState D) (g
   pub calls : new.calls ≤ middle.calls + 51 * length middle.sizes
   pub costs : CostsOfAsked (work_of tells middle new) (steps_or (readied group changes timestamp))
   pub writes_rise : (slot : ℕ) → middle.failed_writes slot ≤ new.failed_writes slot
+  pub unfailed : OnOk outcome (new.failed_writes ≡ middle.failed_writes)
 
 module _ {D : Type 0} (tells : Type 0) (old middle new : BayState D) (reads : ReadsOnly old middle)
     (reads_rise : (slot : ℕ) → old.failed_reads slot ≤ middle.failed_reads slot) (writes_rise : (slot : ℕ) → old.failed_writes slot ≤ middle.failed_writes slot) where
@@ -256,6 +264,7 @@ module _ {D : Type 0} (tells : Type 0) (old middle new : BayState D) (reads : Re
               })
               asked (asked_of (readied group changes timestamp) asked (sym steps ∙ now_asked))))
               are_asked;
+          unfailed = λ done slot below kept. ap (λ (counts : ℕ → ℕ). counts slot) (where_done outcome written.unfailed done) ∙ (read.seen slot below kept).1;
         };
         seen = λ slot below kept. same_reads slot ∙ (read.seen slot below kept).0;
         gone = λ given. read.gone (λ spent. absurd cc);

@@ -120,7 +120,8 @@ KeepsHistories old new left found steps done =
     → KeepsHistory group old new past left found (changes_in found steps) done
 
 -- A call that came to this took the group, if there is one, that the newest copies of the slots give that aren't left out: it left slots that are no
--- seats' as before, and keeps each history of the group that admits it. A slot is left out only where a call of this call failed on it.
+-- seats' as before, and keeps each history of the group that admits it. A slot is left out only where a call of this call failed on it. Where all was done
+-- no write or sync failed of any other slot.
 pub record TakesGroup {D : Type 0} (work : Work D) (named : Option (List ℕ)) (timestamp : ℕ) (request : Request) (done : Bool) : Type 0 where
   pub left : List Bool
   pub every_slot : length left ≡ length work.old.sizes
@@ -130,6 +131,7 @@ pub record TakesGroup {D : Type 0} (work : Work D) (named : Option (List ℕ)) (
   pub beside : work.tells → (found : GroupValue) → group_of newest named ≡ Ok found → LeavesOthers work.old work.new (slots_of found.seats)
   pub keeps : work.tells → (found : GroupValue) → group_of newest named ≡ Ok found → (steps : List Step) → steps_of found timestamp request ≡ Ok steps
       → KeepsHistories work.old work.new left found steps done
+  pub unfailed : done ≡ true → (slot : ℕ) → slot < length left → slice_index_or left slot false ≡ false → work.new.failed_writes slot ≡ work.old.failed_writes slot
 
 -- The most calls that it makes of a bay of so many slots: 15 to look at each, one sync of each, and 25 for each copy of a recovery and of the step
 -- behind it.

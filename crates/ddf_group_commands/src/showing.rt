@@ -1,4 +1,4 @@
-// `show`: the group that the disks are, as they record it.
+//! `show`: the group that the disks are, as they record it.
 ghost use Rattle.std.specs.Prelude.{◌≡◌};
 ghost use Rattle.ddf_bytes.specs.Streams.{SinkRose};
 ghost use Rattle.ddf_group_commands.specs.Show.{IsGroupShown, IsShown};

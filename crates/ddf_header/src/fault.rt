@@ -1,3 +1,4 @@
+//! Why a sector isn't a header. docs/FORMAT.md#what-is-wrong-with-a-header
 use ddf_seal::SealFault;
 
 /// Why a sector isn't a header of the kind that was asked for: the first of these, in this order.

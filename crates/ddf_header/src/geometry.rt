@@ -1,3 +1,5 @@
+//! The geometry of a header: workspace, sizes of records, and its eight sections. All else on a disk is found by these numbers, so each has
+//! its bounds before it is used. docs/FORMAT.md#what-is-wrong-with-a-header
 ghost use Rattle.std.specs.Prelude.{◌≡◌, [], ◌∷◌, ◌+◌, ◌<◌, ◌≤◌, length, take, slice_get, Some, IfSome};
 ghost use Rattle.std.specs.List.{flat_map, list_any};
 ghost use Rattle.std.specs.Int.{w32, to_be_bytes};

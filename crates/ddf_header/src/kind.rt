@@ -1,3 +1,4 @@
+//! The three headers of a disk, and the revisions of the standard that are read. docs/FORMAT.md#header
 ghost use Rattle.std.specs.Prelude.{◌≡◌};
 ghost use Rattle.ddf_header.specs.Layout.{kind_code, revision_text, revision_of};
 

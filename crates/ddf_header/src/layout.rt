@@ -1,4 +1,4 @@
-// Where the fields of a header stand in its sector (SNIA DDF 2.0).
+//! Where the fields of a header stand in its sector (SNIA DDF 2.0).
 use ddf_seal::{SEAL, Span};
 
 /// The signature of each header (SNIA DDF 2.0).

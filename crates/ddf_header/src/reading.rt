@@ -1,3 +1,4 @@
+//! A header, read. docs/FORMAT.md#header
 ghost use Rattle.std.specs.Prelude.{◌≡◌, ◌↔◌, Ok, IfOk};
 ghost use Rattle.ddf_header.specs.Geometry.{IsSound};
 ghost use Rattle.ddf_header.specs.Header.{IsHeaderOf, IsWritable, decoded, is_open_flag, are_header_places};

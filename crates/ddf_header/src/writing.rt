@@ -1,3 +1,4 @@
+//! A header, written: bytes that no field names go back as they were read. docs/FORMAT.md#header
 ghost use Rattle.std.specs.Prelude.{◌≡◌, ◌≤◌, ℕ, List, length};
 ghost use Rattle.ddf_seal.specs.Records.{record_bytes};
 ghost use Rattle.ddf_seal.specs.Unread.{AreBytes, written};

@@ -1,4 +1,4 @@
-// What assembly answers, as histories tell of it: a function that does nothing, whose contract is the law.
+//! What assembly answers, as histories tell of it: a function that does nothing, whose contract is the law.
 ghost use Rattle.std.specs.Prelude.{ℕ, List, length, Some};
 ghost use Rattle.ddf_copy.specs.Copies.{newest_at};
 ghost use Rattle.ddf_group.specs.declared.shown.Shown.{Shown};

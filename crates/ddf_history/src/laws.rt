@@ -1,4 +1,4 @@
-// Laws of histories: functions that do nothing, whose contracts are the laws.
+//! Laws of histories: functions that do nothing, whose contracts are the laws.
 ghost use Rattle.std.specs.Prelude.{◌≡◌, ◌⊎◌, ◌<◌, ◌≤◌, ℕ, Bool, true, false, List, None, Some, slice_get};
 ghost use Rattle.std.specs.Str.{bytes_eq};
 ghost use Rattle.ddf_copy.specs.declared.copy.DiskCopy.{DiskCopy};

@@ -53,11 +53,12 @@ bound_in own other = first_bound own.members other.members (extents own.arrays)
 
 -- ---- all of them
 
--- a joining array's name is taken
+-- a joining array's name prints as that of an array that is there
 abbrev pub takes_name : Configuration → Configuration → Bool
 takes_name config joining = list_any (λ (entry : List ℕ × Array). has_named config entry.1.name) joining.arrays
 
--- in order: no disk and no array is there, no position is bound to another side's disk, and no name is taken
+-- in order: no disk and no array is there, no position is bound to another side's disk, and no name prints as one that is
+-- there
 abbrev pub join_causes : Configuration → Configuration → List (Option Refusal)
 join_causes config joining =
     disk_clash config.members joining.members

@@ -1,2 +1,3 @@
 pub mod Clash
 pub mod Joined
+pub mod Moving

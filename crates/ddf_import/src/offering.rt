@@ -26,7 +26,7 @@ fn changed_by_loss(alloc: Global, other: &Config, lost: &[u32]) -> Result<Config
 /// # Errors
 /// `Refused` exactly where it can't join, its sequence number aside: with the GUID of the first disk that is there already, by
 /// its GUID or its reference; else with that of the first array; else with that of a disk to which a position of the other side
-/// would be bound, this group's positions first; and then where an array's name is taken. `Memory` where memory ran out.
+/// would be bound, this group's positions first; and then where an array's name prints as one of this group. `Memory` where memory ran out.
 #[tactic(auto, unfolding(crate::specs::Joined::offered))]
 pub fn offer(
     alloc: Global,

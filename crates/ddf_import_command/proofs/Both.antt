@@ -1,5 +1,6 @@
 -- What an import comes to, by two looks at the disks and what was written then.
 use Rattle.std.proofs.Common.{◌≡◌, ◌⊎◌, ℕ, ◌≤◌, Bool, List, Option, Some, Result, Ok, Err, inl, inr, ⊎_elim, refl, ap, sym, subst, ◌∙◌, arith, ◌+◌, ◌*◌, ◌<◌, length, false}
+use Rattle.std.specs.Prelude.{OnOk}
 use Rattle.ddf_bay.specs.Moments.{StopsLeave}
 use Rattle.ddf_bay.specs.ReadsOnly.{LookFailed, ReadsOnly}
 use Rattle.ddf_bay.specs.State.{BayState}
@@ -16,7 +17,7 @@ use Rattle.ddf_group_commands.specs.Change.{is_done}
 use Rattle.ddf_group_commands.specs.GroupRead.{IsFoundBy, IsGroupRead, group_or}
 use Rattle.ddf_group_commands.specs.Writing.{IsLeftWriting}
 use Rattle.ddf_group_commands.proofs.LeftWriting.{leaves_since, reads_leave}
-use Rattle.ddf_group_commands.proofs.Outcomes.{found_same, group_read, newest_still}
+use Rattle.ddf_group_commands.proofs.Outcomes.{found_same, group_read, newest_still, where_done}
 use Rattle.ddf_import_command.specs.Import.{HasImported, IsImported, IsImportedIn, IsLook, IsNone, KeepsJoins, import_asked, import_steps}
 use Rattle.ddf_import_command.proofs.Keeping.{join_since, reads_join}
 
@@ -113,6 +114,7 @@ module _ {D : Type 0} (tells : Type 0) where
       first = record { left = read.left; every_slot = read.every_slot; failed = read.failed; newest = read.newest; read = read.read };
       second = record { left = read.left; every_slot = read.every_slot; failed = read.failed; newest = read.newest; read = read.read };
       seen = λ slot below kept also_kept. (read.seen slot below kept).0;
+      unfailed = λ done. absurd cc;
       gone = λ given. read.gone (λ spent. given (ap (λ (one : Failure). Err one) (memory_is failure spent)));
       calls = let most = read.calls in omega (arith, most);
       gives = none_at_first new read.left read.left failure (group_of read.newest named) (group_of read.newest (Some other)) reads read.answer;
@@ -135,6 +137,7 @@ module _ {D : Type 0} (tells : Type 0) where
             first = first_look old first new named (Ok native) rise then read;
             second = second_look old first new new (Some other) (Err failure) reads rise whole (record { reads = λ slot. omega arith; writes = λ slot. omega arith }) also;
             seen = λ slot below kept also_kept. (also.seen slot (below_too also.left also.every_slot slot below) also_kept).0 ∙ (read.seen slot below kept).0;
+            unfailed = λ done. absurd cc;
             gone = λ given. read.gone (λ spent. absurd cc);
             calls = let most = read.calls in let then = also.calls in let same = ap (λ (sizes : List ℕ). length sizes) reads.same_sizes in omega (arith, most, then, same);
             gives = subst (λ (one : Result GroupValue Assembly). IsImportedIn (work_of tells old new) timestamp read.left also.left one (group_of also.newest (Some other)) (Err failure))
@@ -173,17 +176,19 @@ module _ {D : Type 0} (tells : Type 0) where
         imported_before new out asked (Err (Split i j)) done = absurd done
 
         both_found : (new : BayState D) (outcome : Result ℕ Failure) → Rises middle new → Rises first new → ((slot : ℕ) → new.failed_reads slot ≡ middle.failed_reads slot)
-            → new.calls ≤ middle.calls + 52 * length middle.sizes
+            → OnOk outcome (new.failed_writes ≡ middle.failed_writes) → new.calls ≤ middle.calls + 52 * length middle.sizes
             → IsImported (work_of tells middle new) also.left native joined (import_asked timestamp read.left native joined) outcome
             → (tells → (left also_left : List Bool) (called also_called : Option (List ℕ)) → IsFoundBy middle left called native → IsFoundBy middle also_left also_called joined
             → (made : Joining) → import_asked timestamp read.left native joined ≡ Ok made → KeepsJoins middle new left native joined timestamp made (is_done outcome))
             → (tells → (made : Joining) → import_asked timestamp read.left native joined ≡ Ok made → StopsLeave middle new (IsLeftWriting middle (import_steps made)))
             → HasImported (work_of tells old new) named other timestamp outcome
         unfolding first_look second_look
-        both_found new outcome later since same_reads written imported keeps leaves = record {
+        both_found new outcome later since same_reads unfailed written imported keeps leaves = record {
           first = first_look old first new named (Ok native) rise since read;
           second = second_look old first middle new (Some other) (Ok joined) reads rise whole later also;
           seen = λ slot below kept also_kept. same_reads slot ∙ (also.seen slot (below_too also.left also.every_slot slot below) also_kept).0 ∙ (read.seen slot below kept).0;
+          unfailed = λ done slot below kept also_kept. ap (λ (counts : ℕ → ℕ). counts slot) (where_done outcome unfailed done)
+              ∙ (also.seen slot (below_too also.left also.every_slot slot below) also_kept).1 ∙ (read.seen slot below kept).1;
           gone = λ given. read.gone (λ spent. absurd cc);
           calls =
               let most = read.calls in let then = also.calls in let same = ap (λ (sizes : List ℕ). length sizes) reads.same_sizes in
@@ -221,11 +226,11 @@ module _ {D : Type 0} (tells : Type 0) where
 
         -- Both found one.
         pub has_imported : (left out : List Bool) → left ≡ read.left → out ≡ also.left → (new : BayState D) (outcome : Result ℕ Failure) → Rises middle new → Rises first new
-            → ((slot : ℕ) → new.failed_reads slot ≡ middle.failed_reads slot) → new.calls ≤ middle.calls + 52 * length middle.sizes
+            → ((slot : ℕ) → new.failed_reads slot ≡ middle.failed_reads slot) → OnOk outcome (new.failed_writes ≡ middle.failed_writes) → new.calls ≤ middle.calls + 52 * length middle.sizes
             → IsImported (work_of tells middle new) out native joined (import_asked timestamp left native joined) outcome
             → (tells → (one two : List Bool) (called also_called : Option (List ℕ)) → IsFoundBy middle one called native → IsFoundBy middle two also_called joined
             → (made : Joining) → import_asked timestamp left native joined ≡ Ok made → KeepsJoins middle new one native joined timestamp made (is_done outcome))
             → (tells → (made : Joining) → import_asked timestamp left native joined ≡ Ok made → StopsLeave middle new (IsLeftWriting middle (import_steps made)))
             → HasImported (work_of tells old new) named other timestamp outcome
-        has_imported left out is_left is_out new outcome later since same_reads written imported keeps leaves =
-            both_found new outcome later since same_reads written (rw (is_left, is_out) at imported) (rw is_left at keeps) (rw is_left at leaves)
+        has_imported left out is_left is_out new outcome later since same_reads unfailed written imported keeps leaves =
+            both_found new outcome later since same_reads unfailed written (rw (is_left, is_out) at imported) (rw is_left at keeps) (rw is_left at leaves)

@@ -160,12 +160,14 @@ abbrev pub most_calls : (slots : ℕ) → ℕ
 most_calls slots = 82 * slots
 
 -- A call came to this: what it made of the groups that two looks at the disks found, each by its own. Where the first found none there was no
--- second. A slot that neither left out was read without a failure, and one of which every call fails is left out by the first, but where memory ran out.
+-- second. A slot that neither left out was read without a failure, and where all was done no write or sync of it failed either; one of which every call fails is left out by the first, but where memory ran out.
 pub record HasImported {D : Type 0} (work : Work D) (named : Option (List ℕ)) (other : List ℕ) (timestamp : ℕ) (outcome : Result ℕ Failure) : Type 0 where
   pub first : IsLook work
   pub second : IsLook work
   pub seen : (slot : ℕ) → slot < length first.left → slice_index_or first.left slot false ≡ false → slice_index_or second.left slot false ≡ false
       → work.new.failed_reads slot ≡ work.old.failed_reads slot
+  pub unfailed : is_done outcome ≡ true → (slot : ℕ) → slot < length first.left → slice_index_or first.left slot false ≡ false → slice_index_or second.left slot false ≡ false
+      → work.new.failed_writes slot ≡ work.old.failed_writes slot
   pub gone : (outcome ≡ Err Memory → ⊥) → AreOut work.old first.left
   pub calls : work.new.calls ≤ work.old.calls + most_calls (length work.old.sizes)
   pub gives : IsImportedIn work timestamp first.left second.left (group_of first.newest named) (group_of second.newest (Some other)) outcome

@@ -1,5 +1,5 @@
-// `import`: another group joins the group that the disks are.
-ghost use Rattle.std.specs.Prelude.{◌≡◌, ◌≤◌, ℕ, Bool, List, Option, Ok, Some, ◌+◌, ◌*◌, length};
+//! `import`: another group joins the group that the disks are.
+ghost use Rattle.std.specs.Prelude.{◌≡◌, ◌≤◌, ℕ, Bool, List, Option, Ok, OnOk, Some, ◌+◌, ◌*◌, length};
 ghost use Rattle.ddf_bay.specs.Moments.{GoesOn, StopsLeave};
 ghost use Rattle.ddf_bytes.specs.Stamps.{timestamp_of};
 ghost use Rattle.ddf_answer.specs.Call.{answer_of, work_of};
@@ -136,6 +136,7 @@ fn write_import<B: Bay>(
     ensures reads { (B.disks bay.new).failed_reads ≡ (B.disks bay.old).failed_reads }
     ensures writes_rise { (slot : ℕ) → (B.disks bay.old).failed_writes slot ≤ (B.disks bay.new).failed_writes slot }
     ensures calls { (B.disks bay.new).calls ≤ (B.disks bay.old).calls + 52 * length (B.disks bay.old).sizes }
+    ensures unfailed { OnOk result ((B.disks bay.new).failed_writes ≡ (B.disks bay.old).failed_writes) }
 {
     let ready = readied(alloc, group, left_out, &joining.group, timestamp)?;
     let ReadyImport { recovery, join } = ready;

@@ -1,4 +1,4 @@
-// What holds of every import.
+//! What holds of every import.
 ghost use Rattle.std.specs.Prelude.{◌≡◌, ℕ, List, None, Ok, Option, Result, Some, true};
 ghost use Rattle.ddf_config.specs.Refusals.{first_refusal};
 ghost use Rattle.ddf_assembly.specs.Group.{GroupValue, group_of};

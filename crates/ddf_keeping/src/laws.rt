@@ -1,4 +1,4 @@
-// Laws of what the arrays of groups keep: functions that do nothing, whose contracts are the laws.
+//! Laws of what the arrays of groups keep: functions that do nothing, whose contracts are the laws.
 ghost use Rattle.std.specs.Prelude.{◌≡◌, ◌≢◌, ◌⊎◌, ◌<◌, ℕ, Bool, true, false, List, None, Some, Ok, is_some};
 ghost use Rattle.std.specs.Map.{lookup};
 ghost use Rattle.ddf_bay.specs.Sectors.{Image};

@@ -1,6 +1,5 @@
 mod Adding
 mod Views
-mod Fronts
 mod ZeroSteps
 mod Below
 mod Listed

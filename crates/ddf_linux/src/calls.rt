@@ -1,4 +1,4 @@
-// The calls of a bay of turned records.
+//! The calls of a bay of turned records.
 ghost use Rattle.std.specs.Prelude.{◌≡◌, ◌≢◌, ◌<◌, ◌≤◌, ◌+◌, [], ◌∷◌, ℕ, List, length, refl, true, is_err, OnOk, OnErr, slice_index};
 ghost use Rattle.ddf_bytes.specs.Counts.{Rose};
 ghost use Rattle.ddf_bay.specs.Counting.{one_more, with_one_more};
@@ -27,13 +27,15 @@ impl<B: Bay + Drop> Bay for Turned<B> {
 
     ghost small = { λ t s. B.small t.inner s };
 
-    ghost only_now = { λ t image left. B.only_now t.inner (turned_image t.kinds image) left };
-
-    ghost counts_now = { λ t u image le left. B.counts_now t.inner u (turned_image t.kinds image) le left };
-
-    ghost told_since = { λ t u image left. B.told_since t.inner u (turned_image t.kinds image) left };
-
-    ghost whole = { λ t s l bytes left. turned_whole (kind_at t.kinds s) l bytes (B.whole t.inner s l (turn (kind_at t.kinds s) l bytes) left) };
+    ghost told = { λ t.
+        let inner = B.told t.inner in
+        record {
+          held = λ told. turned_left t.kinds (B.disks t.inner).may_hold (B.disks t.inner).held (inner.held told);
+          whole = λ s l bytes left. turned_whole (kind_at t.kinds s) l bytes (inner.whole s l (turn (kind_at t.kinds s) l bytes) left);
+          only_now = λ image left. inner.only_now (turned_image t.kinds image) left;
+          counts = λ u image le left. inner.counts u (turned_image t.kinds image) le left;
+          since = λ u image left. inner.since u (turned_image t.kinds image) left;
+        } };
 
     ghost leads = { λ t. (B.leads t.inner, refl) };
 
@@ -44,8 +46,6 @@ impl<B: Bay + Drop> Bay for Turned<B> {
     ghost told_before = { λ t next leads told. B.told_before t.inner next.inner leads.0 told };
 
     ghost stays_gone = { λ t next slot leads gone. B.stays_gone t.inner next.inner slot leads.0 gone };
-
-    ghost held_is_left = { λ t told. turned_left t.kinds (B.disks t.inner).may_hold (B.disks t.inner).held (B.held_is_left t.inner told) };
 
     fn slots(&self) -> usize {
         self.inner.slots()

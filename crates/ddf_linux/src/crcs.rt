@@ -1,4 +1,4 @@
-// Records in the two kinds of seal: the standard's, and that of Linux's mdadm.
+//! Records in the two kinds of seal: the standard's, and that of Linux's mdadm.
 ghost use Rattle.std.specs.Prelude.{◌≡◌, ◌↔◌, ◌≤◌, ℕ, length};
 ghost use Rattle.ddf_seal.specs.Seal.{IsSealed};
 ghost use Rattle.ddf_linux.specs.Crcs.{constant_of, linux_crc_of, IsLinuxSealed};

@@ -1,4 +1,4 @@
-// How a slot is seen, by its last sector, and its sectors turned.
+//! How a slot is seen, by its last sector, and its sectors turned.
 ghost use Rattle.std.specs.Prelude.{◌≡◌, ◌↔◌, ◌<◌, ◌≤◌, ◌+◌, ◌-◌, ◌^◌, ℕ, [], IsTrue, true, false, List, length, slice_index_or};
 ghost use Rattle.ddf_header.specs.Header.{header_signature};
 ghost use Rattle.ddf_linux.specs.Crcs.{IsLinuxSealed};

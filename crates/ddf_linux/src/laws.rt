@@ -1,4 +1,4 @@
-// Laws of disks that are founded for Linux: functions that do nothing, whose contracts are the laws.
+//! Laws of disks that are founded for Linux: functions that do nothing, whose contracts are the laws.
 ghost use Rattle.std.specs.Prelude.{◌≡◌, ◌⊎◌, ◌<◌, ◌≤◌, ℕ, List, true, Some, Err, slice_get, slice_index};
 ghost use Rattle.ddf_bytes.specs.declared.stamp.Stamp.{Stamp};
 ghost use Rattle.ddf_bay.specs.ReadsOnly.{ReadsOnly};

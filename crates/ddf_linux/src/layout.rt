@@ -1,4 +1,4 @@
-// The sealed records of a copy, by their signatures.
+//! The sealed records of a copy, by their signatures.
 ghost use Rattle.std.specs.Prelude.{◌≡◌};
 ghost use Rattle.ddf_linux.specs.Layouts.{layout_of, slots_of, records_with};
 

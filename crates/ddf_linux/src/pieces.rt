@@ -1,4 +1,4 @@
-// A run that is written in pieces: those of sectors that aren't turned as they are, and each turned one by itself.
+//! A run that is written in pieces: those of sectors that aren't turned as they are, and each turned one by itself.
 ghost use Rattle.std.specs.Prelude.{◌≡◌, ◌<◌, ◌≤◌, ◌+◌, ◌^◌, [], ◌∷◌, true, false, List, ℕ, length, take, drop, slice_index, slice_index_or, OnOk, OnErr, IfOk};
 ghost use Rattle.ddf_bytes.specs.Counts.{Rose};
 ghost use Rattle.ddf_bay.specs.Sectors.{put_run};

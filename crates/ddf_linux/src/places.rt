@@ -1,4 +1,4 @@
-// Which sectors of a slot are turned, by its anchor.
+//! Which sectors of a slot are turned, by its anchor.
 ghost use Rattle.std.specs.Prelude.{◌≡◌, ◌≤◌};
 ghost use Rattle.ddf_linux.specs.Places.{places_of, new_places, copies_of, constant_at, copies_constant, lie_from, stands_at};
 

@@ -1,4 +1,4 @@
-// Records of one kind of a copy, and where they stand behind its header.
+//! Records of one kind of a copy, and where they stand behind its header.
 ghost use Rattle.std.specs.Prelude.{◌≡◌};
 ghost use Rattle.ddf_header.specs.declared.geometry.Section.{Section};
 ghost use Rattle.ddf_linux.specs.Layouts.{records_at, front_of, whole_of};

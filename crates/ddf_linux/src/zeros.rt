@@ -1,4 +1,4 @@
-// The CRC of zeros, by which the CRCs of the standard and of Linux differ.
+//! The CRC of zeros, by which the CRCs of the standard and of Linux differ.
 ghost use Rattle.std.specs.Prelude.{◌≡◌, ◌+◌, ◌*◌, ◌<◌, ◌^◌, ℕ, List, length, bit_xor};
 ghost use Rattle.ddf_seal.specs.Crc.{bit_step, bit_steps, byte_step, crc_of};
 ghost use Rattle.ddf_linux.specs.Crcs.{constant_of, linux_crc_of};

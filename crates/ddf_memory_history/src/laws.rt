@@ -1,4 +1,4 @@
-// Laws of histories of a group on disks in memory: functions that do nothing, whose contracts are the laws.
+//! Laws of histories of a group on disks in memory: functions that do nothing, whose contracts are the laws.
 ghost use Rattle.std.specs.Prelude.{◌≡◌, ◌<◌, ◌≤◌, ◌+◌, ◌-◌, ◌^◌, ℕ, Bool, true, false, ◌==◌, [], List, map, Option, None, Some, Ok, length};
 ghost use Rattle.ddf_bay.specs.Memory.{disks_of, state_of, without};
 ghost use Rattle.ddf_bay.specs.Moments.{IsSettled};

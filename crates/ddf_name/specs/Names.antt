@@ -1,6 +1,7 @@
 -- The word that the name of an array prints as.
 use Rattle.std.specs.Prelude.{ℕ, Bool, ◌&&◌, ◌||◌, not, ◌==◌, nat_le, List, ◌++◌, drop, take, codes, if◌then◌else◌}
 use Rattle.std.specs.List.{list_all, prefix_len}
+use Rattle.std.specs.Str.{bytes_eq}
 use Rattle.hex.specs.Hex.{encode_lower}
 
 -- a character that isn't a space and prints
@@ -23,3 +24,7 @@ is_plain_name name =
 -- a name as it prints
 abbrev pub name_text : List ℕ → List ℕ
 name_text name = if is_plain_name name then take (plain_len name) name else codes "hex:" ++ encode_lower name
+
+-- Two names print as one word. So do equal names, and names that differ in their padding alone.
+abbrev pub print_alike : (one other : List ℕ) → Bool
+print_alike one other = bytes_eq (name_text one) (name_text other)

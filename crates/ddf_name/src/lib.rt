@@ -4,4 +4,4 @@
 mod plain;
 mod printed;
 
-pub use printed::{NameText, prints_as};
+pub use printed::{NameText, print_alike, prints_as};

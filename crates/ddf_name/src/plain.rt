@@ -1,4 +1,4 @@
-// The plain part of a name, in front of its padding.
+//! The plain part of a name, in front of its padding.
 ghost use Rattle.std.specs.Prelude.{◌≡◌, ◌≤◌, length, take};
 ghost use Rattle.std.specs.Str.{IsAscii};
 ghost use Rattle.ddf_name.specs.Names.{are_all, is_plain, is_plain_name, plain_len};

@@ -1,8 +1,8 @@
-// The word that a name prints as.
+//! The word that a name prints as.
 ghost use Rattle.std.specs.Prelude.{◌≡◌, ◌++◌, codes};
 ghost use Rattle.std.specs.Str.{bytes_eq};
 ghost use Rattle.hex.specs.Hex.{encode_lower};
-ghost use Rattle.ddf_name.specs.Names.{name_text};
+ghost use Rattle.ddf_name.specs.Names.{name_text, print_alike};
 
 use crate::plain::{is_plain_name, plain_len};
 use ddf_bytes::{ascii_text, put_digits};
@@ -39,6 +39,18 @@ pub fn prints_as(name: &[u8; 16], text: &[u8]) -> bool
         return &name[..plain_len(name)] == text;
     }
     is_in_digits(name, text)
+}
+
+/// Whether the names of two arrays print as one word.
+pub fn print_alike(one: &[u8; 16], other: &[u8; 16]) -> bool
+    ensures { result ≡ print_alike one.now other.now }
+{
+    if is_plain_name(other) {
+        return prints_as(one, &other[..plain_len(other)]);
+    }
+    let mut printed = *b"hex:00000000000000000000000000000000";
+    put_digits(other, &mut printed[4..]);
+    prints_as(one, &printed)
 }
 
 /// Whether a text is `hex:` and the digits of a name.

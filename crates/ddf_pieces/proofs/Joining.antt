@@ -128,4 +128,5 @@ module _ {D : Type 0} (tells : Type 0) (v : Volume) (start : ℕ) (xs ys : List 
       written = λ tell. record { cells = λ k i one below at. cell_both tell k i one below at; parity = λ sure element sector part one at. parity_both tell sure element sector part one at };
       durable = λ tell slot written. durable_both tell slot written;
       settled = λ tell slot settled. was.settled tell slot (is.settled tell slot settled);
+      unfailed = was.unfailed ∙ is.unfailed;
     }

@@ -119,6 +119,7 @@ module _ {D : Type 0} (tells : Type 0) (v : Volume) (start count each : ℕ) (so
       };
       durable = λ told slot written. absurd (none_written v start slot written);
       settled = λ told slot settled. settled;
+      unfailed = refl;
     };
     goes = record { goes_on = λ bay leads. leads; same_sizes = refl; reads_rise = λ s. omega arith; writes_rise = λ s. omega arith };
     calls = λ none. omega arith;

@@ -31,11 +31,12 @@ module _ {D : Type 0} (tells : Type 0) (old new : BayState D) (volume : Volume) 
     pub written : new.sectors_written ≤ old.sectors_written + (copy_cells volume start (length sectors) + row_cells volume (length sectors))
 
   -- The blocks are written and synced: each available cell of a block has its bytes, and each parity cell of a row that they touch is the sum of the row where
-  -- no read failed or all copies were equal before. A slot on which nothing was pending has nothing pending.
+  -- no read failed or all copies were equal before. A slot on which nothing was pending has nothing pending. No write or sync failed.
   pub record AreWritten : Type 0 where
     pub written : tells → HasWritten volume start sectors (IsSure (Failed old new) volume old.held) new.held
     pub durable : tells → (slot : ℕ) → IsWritten volume start (length sectors) slot → IsSettled new.may_hold new.held slot
     pub settled : tells → (slot : ℕ) → IsSettled old.may_hold old.held slot → IsSettled new.may_hold new.held slot
+    pub unfailed : new.failed_writes ≡ old.failed_writes
 
 -- ---- one piece
 

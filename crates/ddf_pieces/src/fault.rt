@@ -1,3 +1,4 @@
+//! Why a read or write that goes piece by piece ends early.
 use ddf_bytes::SinkFault;
 use ddf_volume::VolumeFault;
 

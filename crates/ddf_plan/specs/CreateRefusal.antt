@@ -2,7 +2,6 @@
 use Rattle.std.specs.Prelude.{ℕ, Bool, false, not, ◌||◌, List, [], ◌∷◌, Option, Some, None, map, find, length, is_some, nat_eq, nat_lt, option_map}
 use Rattle.std.specs.Map.{lookup}
 use Rattle.std.specs.List.{list_any}
-use Rattle.std.specs.Cmp.Lexicographic.{pointwise}
 use Rattle.ddf_config.specs.declared.element.Position.{Position}
 use Rattle.ddf_config.specs.declared.array.Array.{Array}
 use Rattle.ddf_config.specs.declared.extent.Extent.{Extent}
@@ -17,6 +16,7 @@ use Rattle.ddf_config.specs.Extents.{array_extents}
 use Rattle.ddf_config.specs.Shapes.{has_shapes, has_tiers}
 use Rattle.ddf_config.specs.Levels.{unserved_level}
 use Rattle.ddf_config.specs.Refusals.{refuse_if}
+use Rattle.ddf_name.specs.Names.{print_alike}
 use Rattle.ddf_plan.specs.Refusals.{not_current, refuse_first}
 
 -- the references of an array's positions, by element and position
@@ -24,9 +24,10 @@ abbrev pub references : Array → List ℕ
 references array = map (λ (one : Extent). one.reference) (array_extents array)
 
 abbrev pub has_name : List ℕ → List ℕ × Array → Bool
-has_name name entry = pointwise nat_eq entry.1.name name
+has_name name entry = print_alike entry.1.name name
 
--- that an array has these 16 bytes as its name
+-- that an array's name prints as this one does, be it the same 16 bytes or not: two that print alike couldn't be told apart
+-- by a word
 abbrev pub has_named : Configuration → List ℕ → Bool
 has_named config name = list_any (has_name name) config.arrays
 
@@ -56,8 +57,8 @@ is_spare_disk config reference =
 abbrev pub no_extent : List Seat → Option Position → Option Refusal
 no_extent seats first = option_map (λ (position : Position). NoExtent (slot_of seats position.reference)) first
 
--- in order: each disk is a current member, the name is new, each level is served, the numbers make an array whose elements
--- have no more members than the bound, the GUID is new, and no disk is a spare
+-- in order: each disk is a current member, no array's name prints as this one, each level is served, the numbers make an
+-- array whose elements have no more members than the bound, the GUID is new, and no disk is a spare
 abbrev pub create_causes : Option ℕ → Configuration → List Seat → List ℕ → Array → List (Option Refusal)
 create_causes most config seats guid array =
     not_current config seats (references array)

@@ -1,3 +1,5 @@
+//! The changes of a configuration, a value each. What each makes of one stands in a file of its own beside this, and why it is refused in
+//! `causes.rt`. docs/GROUPS.md#changes
 ghost use Rattle.std.specs.Prelude.{◌≡◌, IfOk};
 
 use ddf_bytes::{Guid, NoMemory, Seq};

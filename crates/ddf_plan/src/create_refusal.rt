@@ -16,6 +16,7 @@ use ddf_config::{
     Array, Config, ElementPlan, Extent, Position, Refusal, Seat, array_extents, first_refusal,
     has_shapes, has_tiers, refuse_if, slot_of, unserved_level,
 };
+use ddf_name::print_alike;
 use std::alloc::Global;
 
 /// The references of an array's positions, by element and position.
@@ -39,11 +40,14 @@ fn extent_references(alloc: Global, own: &[Extent]) -> Result<Vec<u32>, NoMemory
     Ok(all)
 }
 
-/// Whether an array of the configuration has these 16 bytes as its name.
+/// Whether the name of an array of the configuration prints as this one does.
 pub fn has_named(config: &Config, name: &[u8; 16]) -> bool
     ensures { result ≡ has_named config.now name.now }
 {
-    config.arrays.iter().any(|(_, array)| array.name == *name)
+    config
+        .arrays
+        .iter()
+        .any(|(_, array)| print_alike(&array.name, name))
 }
 
 /// Whether a disk is named twice.

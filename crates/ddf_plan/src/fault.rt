@@ -1,3 +1,4 @@
+//! Why a change gives no configuration.
 ghost use Rattle.std.specs.Prelude.{◌≡◌};
 
 use ddf_bytes::NoMemory;

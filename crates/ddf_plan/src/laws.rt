@@ -1,4 +1,4 @@
-// Laws of all changes: functions that do nothing, whose contracts are the laws.
+//! Laws of all changes: functions that do nothing, whose contracts are the laws.
 ghost use Rattle.std.specs.Prelude.{◌≡◌, ℕ, ◌<◌, ◌≤◌, List, Ok, Some, true, false};
 ghost use Rattle.std.specs.List.{list_all};
 ghost use Rattle.std.specs.Map.{keys_of, lookup};

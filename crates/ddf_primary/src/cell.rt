@@ -1,3 +1,5 @@
+//! A cell: a member of an element, and a sector of its extent. docs/PLACING.md#primary-levels
+
 /// A place on one member of an element.
 #[derive(Clone, Copy, PartialEq, Eq)]
 pub struct Cell {

@@ -1,3 +1,5 @@
+//! Why numbers make no element. docs/PLACING.md#numbers
+
 /// Why numbers make no shape. Where several of these hold, the first in this order is told.
 #[derive(Clone, Copy, PartialEq, Eq)]
 pub enum ShapeFault {

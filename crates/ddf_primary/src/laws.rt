@@ -1,4 +1,4 @@
-// Laws of every shape's cells: functions that do nothing, whose contracts are the laws.
+//! Laws of every shape's cells: functions that do nothing, whose contracts are the laws.
 ghost use Rattle.std.specs.Prelude.{◌≡◌, ◌⊎◌, ℕ, ◌<◌, ◌/◌, Some};
 ghost use Rattle.ddf_primary.specs.Placement.{Placement};
 ghost use Rattle.ddf_primary.specs.Levels.{IsShape};

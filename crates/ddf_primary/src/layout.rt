@@ -1,3 +1,5 @@
+//! The primary levels: which codes of the standard are served, with how many members and blocks. Others are refused: guessed at, their blocks
+//! would be read at wrong places. docs/PLACING.md#primary-levels
 ghost use Rattle.std.specs.Prelude.{◌≡◌, IsTrue};
 ghost use Rattle.ddf_primary.specs.Levels.{served_layout, takes_members, takes_blocks};
 

@@ -1,3 +1,5 @@
+//! Where parity lies in the rows of RAID 4 and 5, and in which order the others hold data: in this alone the qualifiers differ.
+//! docs/PLACING.md#primary-levels
 ghost use Rattle.std.specs.Prelude.{◌≡◌, ◌≢◌, ◌<◌, ◌≤◌, ◌+◌, slice_get};
 ghost use Rattle.ddf_primary.specs.Cells.{parity_on, data_around};
 

@@ -1,3 +1,5 @@
+//! An element as numbers: from a block to its cell and back, for every level. That both ways agree is what keeps a write from going over
+//! another block. docs/PLACING.md#primary-levels
 ghost use Rattle.std.specs.Prelude.{◌≡◌, ◌↔◌, ℕ, ◌<◌, ◌≤◌, ◌+◌, ◌*◌, ◌/◌, ◌%◌, ◌^◌};
 ghost use Rattle.std.specs.Prelude.{length, slice_get, IfOk};
 

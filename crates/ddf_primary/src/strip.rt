@@ -1,3 +1,4 @@
+//! Blocks and strips: the arithmetic that all levels with rows share.
 ghost use Rattle.std.specs.Prelude.{◌≡◌, ℕ, ◌<◌, ◌≤◌, ◌+◌, ◌*◌, ◌/◌, ◌%◌, ◌^◌};
 
 /// Where a block stands among the data strips of whole rows.

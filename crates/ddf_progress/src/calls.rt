@@ -1,4 +1,4 @@
-// The calls of a bay that tells of its writes: each is the inner one's.
+//! The calls of a bay that tells of its reads and writes: each is the inner one's.
 ghost use Rattle.std.specs.Prelude.{ℕ, List};
 
 use crate::watched::{Progress, Watched};
@@ -16,13 +16,9 @@ impl<B: Bay + Drop, P: Progress + Drop> Bay for Watched<B, P> {
 
     ghost small = { λ w s. B.small w.inner s };
 
-    ghost only_now = { λ w image left. B.only_now w.inner image left };
-
-    ghost counts_now = { λ w t image le left. B.counts_now w.inner t image le left };
-
-    ghost told_since = { λ w t image left. B.told_since w.inner t image left };
-
-    ghost whole = { λ w s l bytes left. B.whole w.inner s l bytes left };
+    ghost told = { λ w.
+        let inner = B.told w.inner in
+        record { held = inner.held; whole = inner.whole; only_now = inner.only_now; counts = inner.counts; since = inner.since } };
 
     ghost leads = { λ w. B.leads w.inner };
 
@@ -34,8 +30,6 @@ impl<B: Bay + Drop, P: Progress + Drop> Bay for Watched<B, P> {
 
     ghost stays_gone = { λ w next slot leads gone. B.stays_gone w.inner next.inner slot leads gone };
 
-    ghost held_is_left = { λ w told. B.held_is_left w.inner told };
-
     fn slots(&self) -> usize {
         self.inner.slots()
     }
@@ -45,20 +39,22 @@ impl<B: Bay + Drop, P: Progress + Drop> Bay for Watched<B, P> {
     }
 
     fn read(&mut self, slot: usize, lba: u64, into: &mut Sector) -> Result<(), BayFailed> {
+        self.progress.read(1);
         self.inner.read(slot, lba, into)
     }
 
     fn read_run(&mut self, slot: usize, lba: u64, into: &mut [Sector]) -> Result<(), BayFailed> {
+        self.progress.read(into.len() as u64);
         self.inner.read_run(slot, lba, into)
     }
 
     fn write(&mut self, slot: usize, lba: u64, from: &Sector) -> Result<(), BayFailed> {
-        self.progress.more(1);
+        self.progress.wrote(1);
         self.inner.write(slot, lba, from)
     }
 
     fn write_run(&mut self, slot: usize, lba: u64, from: &[Sector]) -> Result<(), BayFailed> {
-        self.progress.more(from.len() as u64);
+        self.progress.wrote(from.len() as u64);
         self.inner.write_run(slot, lba, from)
     }
 

@@ -1,4 +1,4 @@
-//! A bay that tells how many sectors were written while calls go on.
+//! A bay that tells how many sectors were read and written while calls go on.
 #![tactic(auto)]
 
 mod calls;

@@ -1,16 +1,19 @@
-// A bay over another one, and who is told of its writes.
+//! A bay over another one, and who is told of its reads and writes.
 ghost use Rattle.std.specs.Prelude.{◌≡◌};
 ghost use Rattle.ddf_progress.specs.Watching.{inner_of};
 
 use ddf_bay::Bay;
 
-/// Who is told how far writes have come.
+/// Who is told how far calls have come.
 pub trait Progress {
+    /// So many sectors more were asked for.
+    fn read(&mut self, sectors: u64);
+
     /// So many sectors more were asked to be written.
-    fn more(&mut self, sectors: u64);
+    fn wrote(&mut self, sectors: u64);
 }
 
-/// A bay that is another one, and tells of each write.
+/// A bay that is another one, and tells of each read and write.
 #[derive(Drop)]
 pub struct Watched<B, P> {
     pub(crate) inner: B,
@@ -18,7 +21,7 @@ pub struct Watched<B, P> {
 }
 
 impl<B: Bay + Drop, P: Progress + Drop> Watched<B, P> {
-    /// Tells of the writes of this bay from now on.
+    /// Tells of the reads and writes of this bay from now on.
     pub fn new(inner: B, progress: P) -> Watched<B, P>
         ensures { inner_of result ≡ inner }
     {

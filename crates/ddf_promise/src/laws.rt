@@ -1,4 +1,4 @@
-// Laws of histories of data: functions that do nothing, whose contracts are the laws.
+//! Laws of histories of data: functions that do nothing, whose contracts are the laws.
 ghost use Rattle.std.specs.Prelude.{◌≡◌, ◌⊎◌, ◌<◌, ◌^◌, ◌∷◌, ℕ, Bool, true, List, Some, Ok, slice_get};
 ghost use Rattle.ddf_bytes.specs.Counts.{Rose};
 ghost use Rattle.ddf_bay.specs.Sectors.{Image};

@@ -1,3 +1,5 @@
+//! The position that a rebuild fills.
+
 /// What a rebuild aims at: a position that is out of sync, and where its extent lies.
 #[derive(Clone, Copy)]
 pub(crate) struct Aim {

@@ -1,4 +1,4 @@
-// Laws of what a rebuild keeps: functions that do nothing, whose contracts are the laws.
+//! Laws of what a rebuild keeps: functions that do nothing, whose contracts are the laws.
 ghost use Rattle.std.specs.Prelude.{◌≡◌, ℕ};
 ghost use Rattle.ddf_bay.specs.Sectors.{Image, IsLeft};
 ghost use Rattle.ddf_array.specs.Apart.{IsApart};

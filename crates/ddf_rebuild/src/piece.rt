@@ -43,6 +43,7 @@ pub(crate) fn rebuild_piece<B: Bay>(
     ensures held { B.tells → StaysBut (IsAmongSectors aim.slot (aim.start + sector) count) (B.disks bay.old).held (B.disks bay.new).held }
     ensures left { AddsBut (IsAmongSectors aim.slot (aim.start + sector) count) (B.disks bay.old).may_hold (B.disks bay.new).may_hold }
     ensures any_moment { StopsLeave (B.disks bay.old) (B.disks bay.new) (IsLeftBut (IsAmongSectors aim.slot (aim.start + sector) count) (B.disks bay.old).may_hold) }
+    ensures unfailed { OnOk result ((B.disks bay.new).failed_writes ≡ (B.disks bay.old).failed_writes) }
     ensures failed { IfErr result (λ slot. ((slot ≡ aim.slot) × Rose ((B.disks bay.old).failed_writes slot) ((B.disks bay.new).failed_writes slot))
         ⊎ ((part : Part) → slice_get view.now.parts aim.element ≡ Some part → NoneLeftFor (Failed (B.disks bay.old) (B.disks bay.new)) view.now aim.element part sector count aim.position slot)) }
     ensures asks { AsksFor (B.disks bay.old) (B.disks bay.new) count }

@@ -47,6 +47,7 @@ fn rebuild_sectors<B: Bay>(
     ensures held { B.tells → StaysBut (IsAmongSectors aim.slot (aim.start + from) (end - from)) (B.disks bay.old).held (B.disks bay.new).held }
     ensures left { AddsBut (IsAmongSectors aim.slot (aim.start + from) (end - from)) (B.disks bay.old).may_hold (B.disks bay.new).may_hold }
     ensures any_moment { StopsLeave (B.disks bay.old) (B.disks bay.new) (IsLeftBut (IsAmongSectors aim.slot (aim.start + from) (end - from)) (B.disks bay.old).may_hold) }
+    ensures unfailed { OnOk result ((B.disks bay.new).failed_writes ≡ (B.disks bay.old).failed_writes) }
     ensures failed { IfErr result (λ slot. ((slot ≡ aim.slot) × Rose ((B.disks bay.old).failed_writes slot) ((B.disks bay.new).failed_writes slot))
         ⊎ NoneLeftIn (Failed (B.disks bay.old) (B.disks bay.new)) view.now aim from end slot) }
     ensures asks { AsksFor (B.disks bay.old) (B.disks bay.new) (end - from) }
@@ -84,6 +85,7 @@ fn rebuild_surely<B: Bay>(
     ensures held { B.tells → StaysBut (IsAmongSectors aim.slot (aim.start + from) (end - from)) (B.disks bay.old).held (B.disks bay.new).held }
     ensures left { AddsBut (IsAmongSectors aim.slot (aim.start + from) (end - from)) (B.disks bay.old).may_hold (B.disks bay.new).may_hold }
     ensures any_moment { StopsLeave (B.disks bay.old) (B.disks bay.new) (IsLeftBut (IsAmongSectors aim.slot (aim.start + from) (end - from)) (B.disks bay.old).may_hold) }
+    ensures unfailed { OnOk result ((B.disks bay.new).failed_writes ≡ (B.disks bay.old).failed_writes) }
     ensures failed { IfErr result (λ slot. ((slot ≡ aim.slot) × Rose ((B.disks bay.old).failed_writes slot) ((B.disks bay.new).failed_writes slot))
         ⊎ NoneLeftIn (Failed (B.disks bay.old) (B.disks bay.new)) view.now aim from end slot) }
     ensures asks { AsksFor (B.disks bay.old) (B.disks bay.new) (end - from) }
@@ -181,6 +183,7 @@ pub fn rebuild_rows<B: Bay>(
         → IsSettled (B.disks bay.new).may_hold (B.disks bay.new).held slot) }
     ensures settled { B.tells → OnOk result ((slot : ℕ) → IsSettled (B.disks bay.old).may_hold (B.disks bay.old).held slot → IsSettled (B.disks bay.new).may_hold (B.disks bay.new).held slot) }
     ensures ok { OnOk result (is_within view.now ≡ true) }
+    ensures unfailed { OnOk result ((B.disks bay.new).failed_writes ≡ (B.disks bay.old).failed_writes) }
     ensures fault { IfErr result (IsRebuildFault (B.disks bay.old) (B.disks bay.new) view.now target.now.element target.now.position from to) }
     ensures asks { (part : Part) → slice_get view.now.parts target.now.element ≡ Some part → AsksFor (B.disks bay.old) (B.disks bay.new) (sectors_of part.shape from to) }
 {

@@ -8,7 +8,7 @@ use Rattle.ddf_assembly.specs.Committed.{left_behind}
 use Rattle.ddf_assembly.specs.Group.{GroupValue}
 use Rattle.ddf_assembly.specs.Ready.{ReadyStep, ReadyValue}
 use Rattle.ddf_answer.specs.declared.failure.Failure.{Failure}
-use Rattle.ddf_write_commands.proofs.Courses.{IsTold}
+use Rattle.ddf_bay.specs.Told.{IsTold}
 use Rattle.ddf_rebuild_command.specs.Filled.{AreFilled, CanFill, GoesFilling, IsFillFault, RiseTo, rounds_in}
 use Rattle.ddf_rebuild_command.proofs.RoundsThen as rounds_then
 

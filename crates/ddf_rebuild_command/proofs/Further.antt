@@ -28,7 +28,7 @@ use Rattle.ddf_group_commands.specs.Others.{LeavesOthers}
 use Rattle.ddf_group_commands.specs.Writing.{IsLeftWriting}
 use Rattle.ddf_group_commands.specs.Written.{AreWritten}
 use Rattle.ddf_write_commands.proofs.Arrays.{goes_then}
-use Rattle.ddf_write_commands.proofs.Courses.{IsTold}
+use Rattle.ddf_bay.specs.Told.{IsTold}
 use Rattle.ddf_rebuild_command.specs.Opened.{GoesOpening, IsOpened}
 use Rattle.ddf_rebuild_command.specs.Standing.{GoesNext, IsNextWritten, IsSlotFault, next_in}
 use Rattle.ddf_rebuild_command.proofs.Coming.{change_of, changes_both, goes_more, issue_goes, next_over, over_goes}

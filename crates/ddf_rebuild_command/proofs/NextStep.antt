@@ -26,14 +26,14 @@ use Rattle.ddf_stops.specs.Steps.{IsCommit, KeepsStep, StandsReady, behind_next}
 use Rattle.ddf_stops.proofs.CommittingKeeps as committing
 use Rattle.ddf_stops.proofs.CommittingKeeps.{commit_keeps, stands_behind}
 use Rattle.ddf_stops.proofs.Slots.{slot_is}
-use Rattle.ddf_data_stops.proofs.Floored.{next_floored}
+use Rattle.ddf_stops.proofs.Floored.{next_floored}
 use Rattle.ddf_group_commands.specs.Writing.{IsLeftWriting}
 use Rattle.ddf_group_commands.specs.Written.{AreWritten}
 use Rattle.ddf_group_commands.proofs.Keeping.{reads_true}
 use Rattle.ddf_group_commands.proofs.LeftWriting.{left_still, says_one, step_leaves}
 use Rattle.ddf_group_commands.proofs.Recovering.{next_on_seat}
 use Rattle.ddf_group_commands.proofs.StepsWritten.{committed_written, none_asked}
-use Rattle.ddf_write_commands.proofs.Courses.{IsTold}
+use Rattle.ddf_bay.specs.Told.{IsTold}
 use Rattle.ddf_rebuild_command.specs.Standing.{AddsNothing, GoesNext, IsNextWritten, KeepSeats, Stands, next_in}
 
 -- What is left at the end of a call is left on its way, or was so before.

@@ -27,10 +27,10 @@ use Rattle.ddf_assembly.specs.Ready.{ReadyStep, ReadyValue}
 use Rattle.ddf_assembly.specs.Trying.{SlotsRise}
 use Rattle.ddf_stops.specs.Kept.{AreAllKept}
 use Rattle.ddf_stops.specs.Steps.{StandsReady, behind_next, with_next}
-use Rattle.ddf_data_stops.specs.Floors.{HaveFloors, StaySettled, WritesBelow, floor_in}
-use Rattle.ddf_data_stops.proofs.Below.{all_kept, moments_kept, stands_still}
-use Rattle.ddf_data_stops.proofs.Course.{ready_still}
-use Rattle.ddf_data_stops.proofs.Floored.{seats_have_floors}
+use Rattle.ddf_stops.specs.BlockFloors.{HaveFloors, StaySettled, WritesBelow, floor_in}
+use Rattle.ddf_stops.proofs.Below.{all_kept, moments_kept, stands_still}
+use Rattle.ddf_stops.proofs.Course.{ready_still}
+use Rattle.ddf_stops.proofs.Floored.{seats_have_floors}
 use Rattle.ddf_answer.specs.declared.failure.Failure.{Failure}
 use Rattle.ddf_answer.specs.declared.failure.Failure.TheVariants.{Conflict, Disk, Memory, Refused, Split}
 use Rattle.ddf_answer.proofs.Rises.{rose_later, rose_still}
@@ -40,7 +40,7 @@ use Rattle.ddf_group_commands.specs.Writing.{IsLeftWriting}
 use Rattle.ddf_group_commands.specs.Written.{AreWritten}
 use Rattle.ddf_write_commands.specs.Holding.{holding}
 use Rattle.ddf_write_commands.proofs.Arrays.{goes_then}
-use Rattle.ddf_write_commands.proofs.Courses.{IsTold}
+use Rattle.ddf_bay.specs.Told.{IsTold}
 use Rattle.ddf_write_commands.proofs.Unmoved.{have_floors, holds_still}
 use Rattle.ddf_rebuild_command.specs.Filled.{AreFilled, CanFill, EndsAmidst, GoesFilling, IsAmidst, IsFillFault, IsLeftIn, ShowsIn, made}
 use Rattle.ddf_rebuild_command.specs.Rounds.{IsFilled, IsSure, Round}

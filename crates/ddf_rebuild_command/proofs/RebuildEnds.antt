@@ -9,20 +9,17 @@ use Rattle.ddf_answer.specs.declared.failure.Failure.{Failure}
 use Rattle.ddf_answer.specs.declared.failure.Failure.TheVariants.{Conflict, Disk, Memory, Refused, Split}
 use Rattle.ddf_answer.specs.Answers.{IsToldFailure}
 use Rattle.ddf_answer.specs.Call.{Answer, Work}
-use Rattle.ddf_answer.specs.Ends.{SomeSlotRose, is_unwritten}
-use Rattle.ddf_answer.specs.Tells.{IsCutShort}
-use Rattle.ddf_answer.proofs.Causes.{closes_wrote, no_disk, wrote}
+use Rattle.ddf_answer.specs.Ends.{EndsBy, HasCause, SomeSlotRose, is_unwritten}
+use Rattle.ddf_answer.proofs.Causes.{closes_wrote, contradicted_told, done_told, fault_told, memory_cause, no_disk, refused_told, wrote}
 use Rattle.ddf_group_commands.specs.Change.{IsToldChange}
-use Rattle.ddf_write_commands.specs.Ending.{EndsSo}
-use Rattle.ddf_write_commands.proofs.Ended.{Cause}
+use Rattle.ddf_words.specs.declared.command.Command.TheVariants.{Rebuild}
+use Rattle.ddf_words.specs.declared.traits.Traits.{Traits}
+use Rattle.ddf_words.specs.Traits.{traits_of}
 use Rattle.ddf_rebuild_command.specs.Rebuilt.{IsRebuiltIn, IsRebuiltOf}
 
 module _ {D : Type 0} (work : Work D) (answer : Answer) (rose : Type 0) (stream : answer.status ≡ 6 → rose) (timestamp : ℕ) (word : List ℕ) where
-  six : answer.status ≡ 6 → Cause work answer rose
-  six is = inr (inr (inr (inr (inr (is, stream is)))))
-
-  short : IsCutShort answer.status → Cause work answer rose
-  short cut = ⊎_elim (λ five. inr (inl five)) six cut
+  abbrev traits : Traits
+  traits = traits_of (Rebuild word)
 
   slot_rose : (found : GroupValue) (slot : ℕ) → IsRebuiltOf work found timestamp word (Err (Disk slot)) → SomeSlotRose work.old work.new
   slot_rose found slot is = ⊎_elim
@@ -30,13 +27,13 @@ module _ {D : Type 0} (work : Work D) (answer : Answer) (rose : Type 0) (stream 
       (λ stopped. record { slot = slot; there = stopped.there; rose = inl stopped.none_left.none_left.this_failed })
       is
 
-  failure_cause : (failure : Failure) (found : Result GroupValue Assembly) → IsRebuiltIn work timestamp word found (Err failure) → IsToldFailure failure answer → Cause work answer rose
-  failure_cause (Disk slot) (Ok group) is told = ⊎_elim (λ three. inr (inr (inr (inr (inl (three, slot_rose group slot is)))))) six told.ends
+  failure_cause : (failure : Failure) (found : Result GroupValue Assembly) → IsRebuiltIn work timestamp word found (Err failure) → IsToldFailure failure answer → HasCause traits work answer rose
+  failure_cause (Disk slot) (Ok group) is told = fault_told traits work answer stream (slot_rose group slot is) told
   failure_cause (Disk slot) (Err fault) is told = absurd (⊎_elim (λ e. no_disk fault slot cc) (λ memory. cc) is.0)
-  failure_cause (Refused refusal) found is told = ⊎_elim (λ one. inr (inr (inl one))) short told.ends
-  failure_cause Memory found is told = inr (inl told.0)
-  failure_cause (Conflict i j sequence differ) found is told = ⊎_elim (λ four. inr (inr (inr (inl four)))) short told.ends
-  failure_cause (Split i j) found is told = ⊎_elim (λ four. inr (inr (inr (inl four)))) short told.ends
+  failure_cause (Refused refusal) found is told = refused_told traits work answer stream refl told
+  failure_cause Memory found is told = memory_cause traits work answer stream told.0
+  failure_cause (Conflict i j sequence differ) found is told = contradicted_told traits work answer stream refl told
+  failure_cause (Split i j) found is told = contradicted_told traits work answer stream refl told
 
   failure_unwritten : (failure : Failure) (found : Result GroupValue Assembly) → IsRebuiltIn work timestamp word found (Err failure) → IsToldFailure failure answer
       → IsTrue (is_unwritten answer.status) → ReadsOnly work.old work.new
@@ -47,8 +44,8 @@ module _ {D : Type 0} (work : Work D) (answer : Answer) (rose : Type 0) (stream 
   failure_unwritten (Split i j) (Ok group) is told un = absurd is
   failure_unwritten failure (Err fault) is told un = is.1
 
-  cause_by : (outcome : Result ℕ Failure) (found : Result GroupValue Assembly) → IsRebuiltIn work timestamp word found outcome → IsToldChange outcome answer → Cause work answer rose
-  cause_by (Ok sequence) found is told = ⊎_elim inl six told.ends
+  cause_by : (outcome : Result ℕ Failure) (found : Result GroupValue Assembly) → IsRebuiltIn work timestamp word found outcome → IsToldChange outcome answer → HasCause traits work answer rose
+  cause_by (Ok sequence) found is told = done_told traits work answer stream told
   cause_by (Err failure) found is told = failure_cause failure found is told
 
   unwritten_by : (outcome : Result ℕ Failure) (found : Result GroupValue Assembly) → IsRebuiltIn work timestamp word found outcome → IsToldChange outcome answer
@@ -58,10 +55,11 @@ module _ {D : Type 0} (work : Work D) (answer : Answer) (rose : Type 0) (stream 
 
   -- Each status has its cause.
   pub rebuild_ends : GoesOn work.old work.new → work.new.sizes ≡ work.old.sizes → (outcome : Result ℕ Failure) (found : Result GroupValue Assembly) → IsRebuiltIn work timestamp word found outcome
-      → IsToldChange outcome answer → EndsSo work answer rose
+      → IsToldChange outcome answer → EndsBy traits work answer rose
   rebuild_ends goes_on same_sizes outcome found is told = record {
     cause = cause_by outcome found is told;
     unwritten = unwritten_by outcome found is told;
+    stays = λ none. absurd cc;
     goes_on = goes_on;
     same_sizes = same_sizes;
   }

@@ -28,8 +28,8 @@ use Rattle.ddf_stops.specs.Steps.{IsRecovery, StandsReady, WasTaken, recovery_ch
 use Rattle.ddf_stops.proofs.CommittingGoes.{no_lower}
 use Rattle.ddf_stops.proofs.Entering.{keeps_where_told}
 use Rattle.ddf_stops.proofs.RecoveringKeeps as recovering
-use Rattle.ddf_data_stops.proofs.Course.{recovery_loses}
-use Rattle.ddf_data_stops.proofs.Floored.{recovered_floored}
+use Rattle.ddf_stops.proofs.Course.{recovery_loses}
+use Rattle.ddf_stops.proofs.Floored.{recovered_floored}
 use Rattle.ddf_group_commands.specs.Change.{last_sequence}
 use Rattle.ddf_group_commands.specs.GroupRead.{IsFoundBy}
 use Rattle.ddf_group_commands.specs.Writing.{IsLeftWriting}
@@ -39,7 +39,7 @@ use Rattle.ddf_group_commands.proofs.Keeping.{reads_true}
 use Rattle.ddf_group_commands.proofs.LeftWriting.{left_still, says_one, step_leaves}
 use Rattle.ddf_group_commands.proofs.Recovering.{first_lies, slots_there}
 use Rattle.ddf_group_commands.proofs.StepsWritten.{none_asked, recovery_written}
-use Rattle.ddf_write_commands.proofs.Courses.{IsTold}
+use Rattle.ddf_bay.specs.Told.{IsTold}
 use Rattle.ddf_rebuild_command.specs.Opened.{CanOpen, GoesOpening, IsOpened}
 use Rattle.ddf_rebuild_command.specs.Standing.{AddsNothing, KeepSeats, Stands, recovery_in}
 use Rattle.ddf_rebuild_command.proofs.Coming.{over_goes}

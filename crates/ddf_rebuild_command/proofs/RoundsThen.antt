@@ -26,7 +26,7 @@ use Rattle.ddf_answer.proofs.Rises.{rose_later, rose_still}
 use Rattle.ddf_group_commands.specs.Change.{last_sequence}
 use Rattle.ddf_group_commands.specs.Others.{LeavesOthers}
 use Rattle.ddf_write_commands.proofs.Arrays.{goes_then}
-use Rattle.ddf_write_commands.proofs.Courses.{IsTold}
+use Rattle.ddf_bay.specs.Told.{IsTold}
 use Rattle.ddf_rebuild_command.specs.Filled.{AreFilled, EndsAmidst, GoesFilling, HasComeIn, IsAmidst, IsFillFault, IsLeftIn, ShowsIn, behind_rounds, made}
 use Rattle.ddf_rebuild_command.specs.Rounds.{AreRounds, Round, steps_of}
 use Rattle.ddf_rebuild_command.specs.Stages.{Stage}

@@ -1,5 +1,6 @@
 -- What a rebuild comes to since the entry of its call.
-use Rattle.std.proofs.Common.{◌≡◌, ◌⊎◌, ℕ, suc, ◌≤◌, Bool, false, List, [], ◌∷◌, Option, Result, Ok, Err, refl, sym, ap, subst, ◌∙◌, inl, inr, ⊎_elim}
+use Rattle.std.proofs.Common.{◌≡◌, ◌⊎◌, ℕ, suc, ◌≤◌, Bool, true, false, List, [], ◌∷◌, Option, Result, Ok, Err, refl, sym, ap, subst, ◌∙◌, inl, inr, ⊎_elim}
+use Rattle.std.specs.Prelude.{OnOk}
 use Rattle.ddf_bay.specs.Moments.{StopsLeave}
 use Rattle.ddf_bay.specs.ReadsOnly.{ReadsOnly}
 use Rattle.ddf_bay.specs.State.{BayState}
@@ -27,7 +28,7 @@ use Rattle.ddf_group_commands.specs.GroupRead.{IsFoundBy, IsGroupRead, group_or}
 use Rattle.ddf_group_commands.specs.Others.{LeavesOthers}
 use Rattle.ddf_group_commands.proofs.Beside.{reads_beside}
 use Rattle.ddf_group_commands.proofs.Keeping.{reads_keep}
-use Rattle.ddf_group_commands.proofs.Outcomes.{group_read, memory_told}
+use Rattle.ddf_group_commands.proofs.Outcomes.{group_read, memory_told, where_done}
 use Rattle.ddf_write_commands.specs.Plans.{IsNotReadied}
 use Rattle.ddf_rebuild_command.specs.Along.{ComesAlong}
 use Rattle.ddf_rebuild_command.specs.Asked.{rebuild_request}
@@ -90,6 +91,7 @@ module _ {D : Type 0} (work : Work D) (named : Option (List ℕ)) (timestamp : �
       read = read.read;
       beside = λ told one is. reads_beside work.old work.new (slots_of one.seats) reads;
       keeps = λ told one is steps asked. reads_keep work.old work.new read.left one steps reads;
+      unfailed = λ done. absurd cc;
     };
     gone = λ given. read.gone (λ spent. given (memory_told failure spent));
     gives = none_in (group_of read.newest named) failure read.answer;
@@ -110,6 +112,7 @@ module _ {D : Type 0} (work : Work D) (named : Option (List ℕ)) (timestamp : �
       read = read.read;
       beside = λ told one is. reads_beside work.old work.new (slots_of one.seats) reads;
       keeps = λ told one is steps asked. reads_keep work.old work.new read.left one steps reads;
+      unfailed = λ done. absurd cc;
     };
     gone = λ given. read.gone (λ spent. absurd cc);
     gives = subst (λ (one : Result GroupValue Assembly). IsRebuiltIn work timestamp word one (Err failure)) (sym (group_read work named group read)) is;
@@ -139,7 +142,7 @@ module _ {D : Type 0} (work : Work D) (named : Option (List ℕ)) (timestamp : �
 module _ {D : Type 0} (tells : Type 0) (entry start new : BayState D) (reads : ReadsOnly entry start) (reads_rise : (slot : ℕ) → entry.failed_reads slot ≤ start.failed_reads slot)
     (writes_rise : (slot : ℕ) → entry.failed_writes slot ≤ start.failed_writes slot) (named : Option (List ℕ)) (timestamp : ℕ) (word : List ℕ) (group : GroupValue) (outcome : Result ℕ Failure)
     (read : IsGroupRead (work_of tells entry start) named (Ok group)) (has : HasRun tells entry start new group timestamp word outcome)
-    (paid : CostsOf (work_of tells entry new) timestamp word (Ok group)) where
+    (paid : CostsOf (work_of tells entry new) timestamp word (Ok group)) (unfailed : OnOk outcome (new.failed_writes ≡ start.failed_writes)) where
   abbrev work : Work D
   work = work_of tells entry new
 
@@ -175,6 +178,7 @@ module _ {D : Type 0} (tells : Type 0) (entry start new : BayState D) (reads : R
       beside = λ told. of_found (λ found. LeavesOthers entry new (slots_of found.seats)) (has.beside told);
       keeps = λ told. of_found (λ found. (steps : List Step) → steps_asked found timestamp (rebuild_request word) ≡ Ok steps → KeepsHistories entry new read.left found steps (is_done outcome))
           (λ steps asked. subst (λ (all : List Step). KeepsHistories entry new read.left group all (is_done outcome)) (asked_same steps asked) (has.keeps told read.left named (found_by told)));
+      unfailed = λ done slot below kept. ap (λ (counts : ℕ → ℕ). counts slot) (where_done outcome unfailed done) ∙ (read.seen slot below kept).1;
     };
     gone = λ given. read.gone (λ spent. absurd cc);
     gives = subst (λ (one : Result GroupValue Assembly). IsRebuiltIn work timestamp word one outcome) (sym is_group) has.gives;

@@ -20,7 +20,7 @@ use Rattle.ddf_assembly.specs.Steps.{Step}
 use Rattle.ddf_stops.specs.Going.{Goes, IsAdmitted, IsOver, changes_in}
 use Rattle.ddf_stops.specs.Kept.{AreAllKept, is_read}
 use Rattle.ddf_stops.specs.Steps.{StandsReady}
-use Rattle.ddf_data_stops.specs.Floors.{AreFloored}
+use Rattle.ddf_stops.specs.BlockFloors.{AreFloored}
 use Rattle.ddf_group_commands.specs.Change.{last_sequence}
 use Rattle.ddf_group_commands.specs.GroupRead.{IsFoundBy, IsReadFrom}
 use Rattle.ddf_group_commands.specs.Others.{LeavesOthers}

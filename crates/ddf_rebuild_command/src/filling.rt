@@ -1,4 +1,4 @@
-// The rounds of a rebuild: rows of a position are filled, and then a step of its group is written that tells of them.
+//! The rounds of a rebuild: rows of a position are filled, and then a step of its group is written that tells of them.
 ghost use Rattle.std.specs.Prelude.{◌≡◌, ◌≤◌, ◌+◌, ℕ, ◌∷◌, [], length, slice_get, Some, IfErr, OnOk, is_ok};
 ghost use Rattle.ddf_cells.specs.Writing.{AsksFor};
 ghost use Rattle.ddf_array.specs.declared.part.Part.{Part};
@@ -37,6 +37,7 @@ fn fill_round<B: Bay>(
     ensures filled { OnOk result (AreFilled B.tells (B.disks bay.old) (B.disks bay.new) filling.now.view filling.now.target from (rounds_in (row ∷ []) ready.old.steps) group.old ready.old group.new ready.new) }
     ensures failed { IfErr result (IsFillFault B.tells (B.disks bay.old) (B.disks bay.new) filling.now.view filling.now.target from (rounds_in (row ∷ []) ready.old.steps) group.old ready.old row) }
     ensures left { OnOk result (ready.new ≡ left_behind ready.old) }
+    ensures unfailed { OnOk result ((B.disks bay.new).failed_writes ≡ (B.disks bay.old).failed_writes) }
     ensures asks { (part : Part) → slice_get filling.now.view.parts filling.now.target.element ≡ Some part
         → AsksFor (B.disks bay.old) (B.disks bay.new) (sectors_of part.shape from row + all_sectors (next_updates ready.old)) }
 {
@@ -65,6 +66,7 @@ pub(crate) fn fill<B: Bay>(
     ensures filled { OnOk result (AreFilled B.tells (B.disks bay.old) (B.disks bay.new) filling.now.view filling.now.target from (rounds_in rows.now ready.old.steps) group.old ready.old group.new ready.new) }
     ensures failed { IfErr result (λ failure. (end : ℕ) → CanFill (B.disks bay.old).sizes group.old.seats filling.now.view filling.now.target end from rows.now
         → IsFillFault B.tells (B.disks bay.old) (B.disks bay.new) filling.now.view filling.now.target from (rounds_in rows.now ready.old.steps) group.old ready.old end failure) }
+    ensures unfailed { OnOk result ((B.disks bay.new).failed_writes ≡ (B.disks bay.old).failed_writes) }
     ensures asks { (part : Part) → slice_get filling.now.view.parts filling.now.target.element ≡ Some part
         → AsksFor (B.disks bay.old) (B.disks bay.new) (ready_sectors ready.old.steps + sectors_from part.shape from) }
 {

@@ -1,4 +1,4 @@
-// Where a rebuild notes how far it has come.
+//! Where a rebuild notes how far it has come.
 ghost use Rattle.std.specs.Prelude.{◌≡◌, ◌≤◌, ◌^◌, IfOk};
 ghost use Rattle.ddf_rebuild_command.specs.Notes.{notes, rows_between};
 

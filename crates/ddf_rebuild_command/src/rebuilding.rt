@@ -1,11 +1,12 @@
-// `rebuild`: a position of an array is filled, and is in sync again.
-ghost use Rattle.std.specs.Prelude.{◌≡◌, Some};
+//! `rebuild`: a position of an array is filled, and is in sync again.
+ghost use Rattle.std.specs.Prelude.{◌≡◌, Some, OnOk};
 ghost use Rattle.ddf_bytes.specs.Stamps.{timestamp_of};
-ghost use Rattle.ddf_bytes.specs.Streams.{SinkRose};
 ghost use Rattle.ddf_bay.specs.Moments.{GoesOn};
 ghost use Rattle.ddf_answer.specs.Call.{answer_of, work_of};
 ghost use Rattle.ddf_answer.specs.Status.{code_of};
-ghost use Rattle.ddf_write_commands.specs.Ending.{EndsSo};
+ghost use Rattle.ddf_answer.specs.Ends.{Ends};
+ghost use Rattle.ddf_words.specs.declared.command.Command.{Command};
+ghost use Rattle.ddf_words.specs.Traits.{traits_of};
 ghost use Rattle.ddf_rebuild_command.specs.declared.planning.Filling.{Filling};
 ghost use Rattle.ddf_rebuild_command.specs.Opened.{CanOpen};
 ghost use Rattle.ddf_rebuild_command.specs.Rebuilt.{HasRebuiltArray, IsRebuildDone};
@@ -33,7 +34,7 @@ pub fn rebuild<B: Bay, K: Sink>(
     stamp: &Stamp,
 ) -> Status
     ensures done { IsRebuildDone (work_of B.tells (B.disks bay.old) (B.disks bay.new)) named (timestamp_of stamp.now) name.now (answer_of K.tells (K.output sink.old) (K.output sink.new) (code_of result)) }
-    ensures ends { EndsSo (work_of B.tells (B.disks bay.old) (B.disks bay.new)) (answer_of K.tells (K.output sink.old) (K.output sink.new) (code_of result)) (SinkRose (K.output sink.old) (K.output sink.new)) }
+    ensures ends { Ends (traits_of (Command.Rebuild name.now)) (work_of B.tells (B.disks bay.old) (B.disks bay.new)) (answer_of K.tells (K.output sink.old) (K.output sink.new) (code_of result)) }
 {
     match rebuilt(alloc, named, name, bay, stamp) {
         Ok(sequence) => tell(sink, sequence_line(sequence).as_bytes(), Status::Ok),
@@ -70,6 +71,7 @@ fn rebuild_array<B: Bay>(
     requires open { CanOpen B.tells (B.disks bay.old) group.old ready.old }
     requires fills { (filling : Filling) → plan.now.filling ≡ Some filling → CanFillBehind (B.disks bay.old).sizes group.old filling ready.old }
     ensures run { IsRun B.disks B.tells (B.disks bay.old) (B.disks bay.new) group.old ready.old plan.now.filling result }
+    ensures unfailed { OnOk result ((B.disks bay.new).failed_writes ≡ (B.disks bay.old).failed_writes) }
     ensures asks { AsksInRun (B.disks bay.old) (B.disks bay.new) ready.old plan.now.filling }
 {
     match &plan.filling {
@@ -91,6 +93,7 @@ fn fill_position<B: Bay>(
     requires open { CanOpen B.tells (B.disks bay.old) group.old ready.old }
     requires fills { CanFillBehind (B.disks bay.old).sizes group.old filling.now ready.old }
     ensures run { IsRun B.disks B.tells (B.disks bay.old) (B.disks bay.new) group.old ready.old (Some filling.now) result }
+    ensures unfailed { OnOk result ((B.disks bay.new).failed_writes ≡ (B.disks bay.old).failed_writes) }
     ensures asks { AsksInRun (B.disks bay.old) (B.disks bay.new) ready.old (Some filling.now) }
 {
     open_position(group, ready, filling.begins, bay)?;

@@ -1,4 +1,4 @@
-// The steps of a group that is rebuilt: made ready before the first write, and written one after another.
+//! The steps of a group that is rebuilt: made ready before the first write, and written one after another.
 ghost use Rattle.std.specs.Prelude.{◌≡◌, None, IfErr, IfOk, OnOk, is_ok};
 ghost use Rattle.std.specs.List.{AllByRecursion};
 ghost use Rattle.ddf_cells.specs.Writing.{AsksFor};
@@ -55,6 +55,7 @@ pub(crate) fn recover_group<B: Bay>(
     ensures opened { OnOk result (IsOpened B.tells (B.disks bay.old) (B.disks bay.new) group.old (recovery_in ready.old.recovery) group.new ready.new) }
     ensures failed { IfErr result (IsSlotFault (B.disks bay.old) (B.disks bay.new) (slots_of group.old.seats)) }
     ensures left { ready.new ≡ record ready.old { recovery = None } }
+    ensures unfailed { OnOk result ((B.disks bay.new).failed_writes ≡ (B.disks bay.old).failed_writes) }
     ensures asks { AsksFor (B.disks bay.old) (B.disks bay.new) (all_sectors (recovery_updates ready.old)) }
 {
     group.recover(bay, ready)?;
@@ -74,6 +75,7 @@ pub(crate) fn write_step<B: Bay>(
     ensures goes { GoesNext B.tells (B.disks bay.old) (B.disks bay.new) group.old ready.old (is_ok result) }
     ensures written { OnOk result (IsNextWritten B.tells (B.disks bay.old) (B.disks bay.new) group.old ready.old group.new ready.new) }
     ensures failed { IfErr result (IsSlotFault (B.disks bay.old) (B.disks bay.new) (slots_of group.old.seats)) }
+    ensures unfailed { OnOk result ((B.disks bay.new).failed_writes ≡ (B.disks bay.old).failed_writes) }
     ensures asks { AsksFor (B.disks bay.old) (B.disks bay.new) (all_sectors (next_updates ready.old)) }
 {
     group.commit(bay, ready)?;
@@ -95,6 +97,7 @@ pub(crate) fn open_position<B: Bay>(
     ensures opened { OnOk result (IsOpened B.tells (B.disks bay.old) (B.disks bay.new) group.old (steps_before begins ready.old) group.new ready.new) }
     ensures failed { IfErr result (IsSlotFault (B.disks bay.old) (B.disks bay.new) (slots_of group.old.seats)) }
     ensures left { OnOk result (ready.new ≡ record { recovery = None; steps = rest begins ready.old.steps }) }
+    ensures unfailed { OnOk result ((B.disks bay.new).failed_writes ≡ (B.disks bay.old).failed_writes) }
     ensures asks { AsksFor (B.disks bay.old) (B.disks bay.new) (sectors_before begins ready.old) }
 {
     recover_group(group, ready, bay)?;

@@ -1,4 +1,4 @@
-// Laws of rebuilds that begin: functions that do nothing, whose contracts are the laws.
+//! Laws of rebuilds that begin: functions that do nothing, whose contracts are the laws.
 ghost use Rattle.std.specs.Prelude.{◌≡◌, ℕ, true, false, List, None, Ok, Some};
 ghost use Rattle.std.specs.Map.{keys_of, lookup};
 ghost use Rattle.std.specs.List.{IsDistinct};

@@ -1,4 +1,4 @@
-// `accept`: an array whose copies and parity are taken to agree.
+//! `accept`: an array whose copies and parity are taken to agree.
 ghost use Rattle.std.specs.Prelude.{◌≡◌, IfOk};
 ghost use Rattle.ddf_request.specs.Request.{IsRequested, accept_change, accept_refusal};
 
@@ -23,7 +23,7 @@ fn accept_refusal(
     Ok(first_refusal(&[useless, refuse_if(is_held(array), Refusal::Held)]))
 }
 
-/// The change that clears the mark of the first array of the table whose name prints as this word. None where it isn't marked.
+/// The change that clears the mark of the array that this word names. None where it isn't marked.
 pub(crate) fn accept_change(
     alloc: Global,
     config: &Config,

@@ -1,4 +1,4 @@
-// The change that creates an array.
+//! The change that creates an array.
 ghost use Rattle.std.specs.Prelude.{◌≡◌, IfOk};
 ghost use Rattle.ddf_plan.specs.Causes.{causes};
 ghost use Rattle.ddf_request.specs.NewArray.{IsCreation, is_misfit, before_shape, misfit_refusal};

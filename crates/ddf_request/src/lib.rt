@@ -3,6 +3,7 @@
 
 mod accepting;
 mod creating;
+mod laws;
 mod named;
 mod new_array;
 mod requests;
@@ -10,6 +11,7 @@ mod slots;
 mod spare;
 mod usable;
 
+pub use laws::a_new_array_is_named_by_its_word;
 pub use named::named_array;
 pub use requests::request;
 pub use usable::{bad_blocks, is_held, is_held_from_writes, useless};

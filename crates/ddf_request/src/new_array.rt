@@ -1,4 +1,4 @@
-// The array that `create` asks for.
+//! The array that `create` asks for.
 ghost use Rattle.std.specs.Prelude.{◌≡◌, ◌≤◌, IfOk, length, map, Some};
 ghost use Rattle.std.specs.List.{list_any};
 ghost use Rattle.ddf_request.specs.NewArray.{IsCreation, has_number, is_free_number, least_number, new_array, new_array_guid, new_element, new_position, next_sequence, padded, qualifier_of, slots_of};

@@ -1,4 +1,4 @@
-// The change that is asked for.
+//! The change that is asked for.
 ghost use Rattle.std.specs.Prelude.{◌≡◌, IfOk};
 ghost use Rattle.ddf_request.specs.Request.{IsRequested, IsWish, change_for, delete_change, request_of, slots_named};
 
@@ -18,7 +18,7 @@ use std::alloc::Global;
 ///
 /// # Errors
 /// `Refused` with the first of these. `NoSlot` with the first slot that isn't there, in the order of the words. `NotMember` with the
-/// first slot whose disk is no current member. To delete: `NoArray` where no array has the name. For a spare: `NoArray` where a word
+/// first slot whose disk is no current member. To delete: `NoArray` where the word names no array. For a spare: `NoArray` where a word
 /// names no array, or one of which the disks tell no element. To accept: `NoArray`, or what the array can't be used for. To create, where the word for the secondary level doesn't fit the count
 /// of elements: what the plan refuses such an array for, where that comes before `Shape`, and `Shape` otherwise. What the change itself
 /// is refused for comes behind. `Memory` where memory ran out.
@@ -80,7 +80,7 @@ fn change_for(
     }
 }
 
-/// The change that deletes the first array of the table whose name prints as this word.
+/// The change that deletes the array that this word names.
 fn delete_change(config: &Config, name: &[u8]) -> Result<Change, PlanFault>
     ensures { IsRequested (delete_change config.now name.now) result }
 {

@@ -1,4 +1,4 @@
-// Which members lie on slots, and why one doesn't.
+//! Which members lie on slots, and why one doesn't.
 ghost use Rattle.std.specs.Prelude.{◌≡◌, find, nat_le};
 ghost use Rattle.std.specs.List.{list_any};
 ghost use Rattle.std.specs.Option.{option_copied};

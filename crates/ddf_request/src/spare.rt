@@ -1,4 +1,4 @@
-// `spare`: what a disk may stand in for.
+//! `spare`: what a disk may stand in for.
 ghost use Rattle.std.specs.Prelude.{◌≡◌, IfOk, is_some, option_map};
 ghost use Rattle.std.specs.List.{list_any};
 ghost use Rattle.std.specs.Option.{ok_or};

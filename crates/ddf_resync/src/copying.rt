@@ -40,6 +40,7 @@ fn copy_first<B: Bay>(
     ensures noted { B.tells → IfOk result (λ count. AreNoted view.now touched.new block (block + count)) }
     ensures asks { IfOk result (λ count. Asks (B.disks bay.old) (B.disks bay.new) (copied_cells view.now block) (copied_cells view.now (block + count))) }
     ensures most { Asks (B.disks bay.old) (B.disks bay.new) (copied_cells view.now block) (copied_cells view.now (capacity view.now)) }
+    ensures unfailed { OnOk result ((B.disks bay.new).failed_writes ≡ (B.disks bay.old).failed_writes) }
     ensures cause { IfErr result (λ slot. (IsTouchedSlot touched.new slot × Rose ((B.disks bay.old).failed_writes slot) ((B.disks bay.new).failed_writes slot))
         ⊎ NoneLeftOfBlock (Failed (B.disks bay.old) (B.disks bay.new)) view.now slot) }
 {
@@ -69,6 +70,7 @@ pub(crate) fn copy_all<B: Bay>(
     ensures copied { B.tells → OnOk result (AreCopied (Failed (B.disks bay.old) (B.disks bay.new)) view.now (B.disks bay.old).held (B.disks bay.new).held 0 (capacity view.now)) }
     ensures noted { B.tells → OnOk result (AreNoted view.now touched.new 0 (capacity view.now)) }
     ensures asks { Asks (B.disks bay.old) (B.disks bay.new) 0 (copied_cells view.now (capacity view.now)) }
+    ensures unfailed { OnOk result ((B.disks bay.new).failed_writes ≡ (B.disks bay.old).failed_writes) }
     ensures cause { IfErr result (λ slot. (IsTouchedSlot touched.new slot × Rose ((B.disks bay.old).failed_writes slot) ((B.disks bay.new).failed_writes slot))
         ⊎ NoneLeftOfBlock (Failed (B.disks bay.old) (B.disks bay.new)) view.now slot) }
 {

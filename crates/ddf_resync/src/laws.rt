@@ -1,4 +1,4 @@
-// Laws of what a scrub compares and of what a resync leaves: functions that do nothing, whose contracts are the laws.
+//! Laws of what a scrub compares and of what a resync leaves: functions that do nothing, whose contracts are the laws.
 ghost use Rattle.std.specs.Prelude.{◌≡◌, ◌⊎◌, ◌<◌, ◌≤◌, ℕ, Some, length, slice_get};
 ghost use Rattle.ddf_bay.specs.Moments.{IsSettled};
 ghost use Rattle.ddf_bay.specs.Sectors.{Image, IsLeft};

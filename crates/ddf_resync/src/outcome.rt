@@ -1,3 +1,5 @@
+//! What a scrub answers.
+
 /// What a scrub of an array found.
 #[derive(Clone, Copy, PartialEq, Eq)]
 pub enum Scrub {

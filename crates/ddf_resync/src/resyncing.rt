@@ -50,6 +50,7 @@ fn resync_all<B: Bay>(bay: &mut B, view: &View) -> Result<(), usize>
     ensures resynced { B.tells → OnOk result (HasResynced (Failed (B.disks bay.old) (B.disks bay.new)) view.now (B.disks bay.old).held (B.disks bay.new).held) }
     ensures durable { B.tells → OnOk result ((slot : ℕ) → IsSetOn view.now slot → IsSettled (B.disks bay.new).may_hold (B.disks bay.new).held slot) }
     ensures settled { B.tells → OnOk result ((slot : ℕ) → IsSettled (B.disks bay.old).may_hold (B.disks bay.old).held slot → IsSettled (B.disks bay.new).may_hold (B.disks bay.new).held slot) }
+    ensures unfailed { OnOk result ((B.disks bay.new).failed_writes ≡ (B.disks bay.old).failed_writes) }
     ensures cause { IfErr result (IsStopped (B.disks bay.old) (B.disks bay.new) view.now) }
     ensures goes { GoesBetween (B.disks bay.old) (B.disks bay.new) }
     ensures asked { (B.disks bay.new).sectors_asked ≤ (B.disks bay.old).sectors_asked + resync_sectors view.now }
@@ -83,6 +84,7 @@ pub fn resync<B: Bay>(bay: &mut B, view: &View) -> Result<(), VolumeFault>
     ensures durable { B.tells → OnOk result ((slot : ℕ) → IsSetOn view.now slot → IsSettled (B.disks bay.new).may_hold (B.disks bay.new).held slot) }
     ensures settled { B.tells → OnOk result ((slot : ℕ) → IsSettled (B.disks bay.old).may_hold (B.disks bay.old).held slot → IsSettled (B.disks bay.new).may_hold (B.disks bay.new).held slot) }
     ensures ok { OnOk result (resync_refusal view.now ≡ None) }
+    ensures unfailed { OnOk result ((B.disks bay.new).failed_writes ≡ (B.disks bay.old).failed_writes) }
     ensures fault { IfErr result (IsResyncFault (B.disks bay.old) (B.disks bay.new) view.now) }
     ensures goes { GoesBetween (B.disks bay.old) (B.disks bay.new) }
     ensures asked { (B.disks bay.new).sectors_asked ≤ (B.disks bay.old).sectors_asked + resync_sectors view.now }

@@ -47,6 +47,7 @@ fn set_piece<B: Bay>(
     ensures kept { B.tells → HaveEqualCopies view.now (B.disks bay.old).held → OnOk result (KeepsRight view.now (B.disks bay.old).held (B.disks bay.new).held) }
     ensures noted { OnOk result ((j : ℕ) → j < count → IsNotedAt touched.new part.now (sector + j)) }
     ensures asks { Asks (B.disks bay.old) (B.disks bay.new) 0 count }
+    ensures unfailed { OnOk result ((B.disks bay.new).failed_writes ≡ (B.disks bay.old).failed_writes) }
     ensures cause { IfErr result (λ slot. (IsTouchedSlot touched.new slot × Rose ((B.disks bay.old).failed_writes slot) ((B.disks bay.new).failed_writes slot))
         ⊎ NoneLeftOfRow (Failed (B.disks bay.old) (B.disks bay.new)) view.now slot) }
 {
@@ -90,6 +91,7 @@ fn set_element<B: Bay>(
     ensures kept { B.tells → HaveEqualCopies view.now (B.disks bay.old).held → OnOk result (KeepsRight view.now (B.disks bay.old).held (B.disks bay.new).held) }
     ensures noted { OnOk result (AreNotedTo touched.new part.now (depth_of part.now.shape)) }
     ensures asks { Asks (B.disks bay.old) (B.disks bay.new) 0 (parity_of (Some part.now)) }
+    ensures unfailed { OnOk result ((B.disks bay.new).failed_writes ≡ (B.disks bay.old).failed_writes) }
     ensures cause { IfErr result (λ slot. (IsTouchedSlot touched.new slot × Rose ((B.disks bay.old).failed_writes slot) ((B.disks bay.new).failed_writes slot))
         ⊎ NoneLeftOfRow (Failed (B.disks bay.old) (B.disks bay.new)) view.now slot) }
 {
@@ -123,6 +125,7 @@ pub(crate) fn set_all<B: Bay>(
     ensures set { B.tells → HaveEqualCopies view.now (B.disks bay.old).held → OnOk result (AreRightIn view.now (B.disks bay.new).held (length view.now.parts)) }
     ensures noted { OnOk result (AreNotedIn view.now touched.new (length view.now.parts)) }
     ensures asks { Asks (B.disks bay.old) (B.disks bay.new) 0 (parity_cells view.now (length view.now.parts)) }
+    ensures unfailed { OnOk result ((B.disks bay.new).failed_writes ≡ (B.disks bay.old).failed_writes) }
     ensures cause { IfErr result (λ slot. (IsTouchedSlot touched.new slot × Rose ((B.disks bay.old).failed_writes slot) ((B.disks bay.new).failed_writes slot))
         ⊎ NoneLeftOfRow (Failed (B.disks bay.old) (B.disks bay.new)) view.now slot) }
 {

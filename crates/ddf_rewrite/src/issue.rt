@@ -1,3 +1,4 @@
+//! A configuration and the time at which it is issued: what all records of one step are made of.
 use ddf_config::Config;
 
 /// A configuration as a change or a recovery issues it.

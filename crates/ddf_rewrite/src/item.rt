@@ -1,3 +1,4 @@
+//! What needs a slot among the configuration records of a disk, and the slot that it has.
 use ddf_bytes::Guid;
 
 /// What has a slot among the configuration records of a disk (profile).

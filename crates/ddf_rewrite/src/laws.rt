@@ -1,4 +1,4 @@
-// Laws of rewritten copies: functions that do nothing, whose contracts are the laws.
+//! Laws of rewritten copies: functions that do nothing, whose contracts are the laws.
 ghost use Rattle.std.specs.Prelude.{◌≡◌, ◌∷◌, ℕ, ◌<◌, ◌^◌, true, List, map, slice_get, Some, None};
 ghost use Rattle.std.specs.List.{AllByRecursion};
 ghost use Rattle.ddf_header.specs.declared.geometry.Geometry.{Geometry};

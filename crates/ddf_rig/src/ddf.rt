@@ -1,4 +1,4 @@
-// The program whose scenarios these are.
+//! The program whose scenarios these are.
 use ddf_batch::serve;
 use ddf_bay::{Bay, MemoryBay};
 use ddf_bytes::{MemorySink, MemorySource, Stamp};

@@ -1,4 +1,4 @@
-// What a line of a scenario is answered.
+//! What a line of a scenario is answered.
 use crate::call::{command, command_alone};
 use crate::compare::{compare, look_for_linux};
 use crate::disks::Disks;

@@ -1,4 +1,4 @@
-// The call of the program over the disks of a scenario.
+//! The call of the program over the disks of a scenario.
 use crate::disks::{ALL, Disks, Output, new_bay};
 use crate::input::empty;
 use crate::program::Program;

@@ -1,4 +1,4 @@
-// What disks hold where a scenario says what they are to hold.
+//! What disks hold where a scenario says what they are to hold.
 use crate::disks::Disks;
 use crate::numbers::count;
 use crate::run::{Run, runs_of, sectors_of};

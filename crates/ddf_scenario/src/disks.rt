@@ -1,4 +1,4 @@
-// The disks of a scenario, and what it may ask of them.
+//! The disks of a scenario, and what it may ask of them.
 ghost use Rattle.std.specs.Prelude.{◌≡◌, ◌≤◌, ◌^◌, IsTrue, length, nat_le};
 ghost use Rattle.std.specs.List.{AllPass, list_all};
 

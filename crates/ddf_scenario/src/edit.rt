@@ -1,4 +1,4 @@
-// How the sectors of disks are altered behind the program's back.
+//! How the sectors of disks are altered behind the program's back.
 ghost use Rattle.std.specs.Prelude.{◌≡◌, ◌≤◌, length};
 
 use crate::disks::Disks;

@@ -1,4 +1,4 @@
-// The input of a command, as scenarios write it.
+//! The input of a command, as scenarios write it.
 use crate::edit::number_sectors;
 use crate::numbers::{count, numbers};
 use anyhow::bail;

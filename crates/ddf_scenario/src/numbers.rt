@@ -1,4 +1,4 @@
-// Numbers and lists of them, as scenarios write them.
+//! Numbers and lists of them, as scenarios write them.
 use anyhow::bail;
 use std::alloc::{AllocError, Global};
 

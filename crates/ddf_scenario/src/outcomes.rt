@@ -1,4 +1,4 @@
-// The different outcomes of a call that is made again and again.
+//! The different outcomes of a call that is made again and again.
 use std::alloc::{AllocError, Global};
 
 /// Texts in the order in which each came first.

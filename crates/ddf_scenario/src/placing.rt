@@ -1,4 +1,4 @@
-// Where blocks lie on the members of an element.
+//! Where blocks lie on the members of an element.
 use crate::numbers::{byte, number};
 use anyhow::bail;
 use ddf_primary::{Shape, ShapeFault};

@@ -1,4 +1,4 @@
-// A scenario, played step by step.
+//! A scenario, played step by step.
 use crate::answer::answer;
 use crate::disks::Disks;
 use crate::program::Program;

@@ -1,4 +1,4 @@
-// The program whose calls scenarios play.
+//! The program whose calls scenarios play.
 use ddf_bay::MemoryBay;
 use ddf_bytes::{MemorySink, MemorySource, Stamp};
 use ddf_linux::Turned;

@@ -1,4 +1,4 @@
-// What came of a scenario.
+//! What came of a scenario.
 use crate::script::Step;
 use std::alloc::Global;
 

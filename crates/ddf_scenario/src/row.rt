@@ -1,4 +1,4 @@
-// Rows of blocks, as pictures of arrays show them.
+//! Rows of blocks, as pictures of arrays show them.
 use crate::disks::Disks;
 use crate::edit::fill_sector;
 use crate::numbers::number;

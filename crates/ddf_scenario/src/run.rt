@@ -1,4 +1,4 @@
-// Runs of sectors, read and written behind the program's back.
+//! Runs of sectors, read and written behind the program's back.
 use crate::numbers::{count, number};
 use anyhow::bail;
 use ddf_bay::{Bay, MemoryBay};

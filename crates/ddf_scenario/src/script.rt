@@ -1,4 +1,4 @@
-// A scenario as it is written: lines that ask for something, and behind each the lines that it is answered with.
+//! A scenario as it is written: lines that ask for something, and behind each the lines that it is answered with.
 use crate::lines::lines_of;
 use anyhow::bail;
 use std::alloc::Global;
@@ -12,11 +12,11 @@ pub struct Step {
     pub told: String,
 }
 
-/// The steps of a scenario. A line that begins with `$` is a command of `ddf`, one that begins with `%` is for the disks, and one that
-/// begins with `#` is for readers.
-pub fn steps_of(alloc: Global, text: &str) -> anyhow::Result<Vec<Step>> {
+/// The steps of a scenario, and of the texts whose parts it shares. A line that begins with `$` is a command of `ddf`, one that begins with `%` is
+/// for the disks, and one that begins with `#` is for readers.
+pub fn steps_of(alloc: Global, shared: &[String], text: &str) -> anyhow::Result<Vec<Step>> {
     let mut steps = Vec::new(alloc);
-    for line in lines_of(alloc, text)? {
+    for line in lines_of(alloc, shared, text)? {
         if line.text.starts_with('$') || line.text.starts_with('%') {
             steps.push(Step {
                 line: line.number,

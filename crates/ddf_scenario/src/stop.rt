@@ -1,4 +1,4 @@
-// Stops, as by a power cut, and the starts behind them.
+//! Stops, as by a power cut, and the starts behind them.
 use crate::numbers::{number, numbers};
 use anyhow::bail;
 use ddf_bay::MemoryBay;

@@ -1,4 +1,4 @@
-// Steps that are played again and again, with other values.
+//! Steps that are played again and again, with other values.
 use crate::answer::answer;
 use crate::disks::Disks;
 use crate::outcomes::Outcomes;

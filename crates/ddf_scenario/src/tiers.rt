@@ -1,4 +1,4 @@
-// Where blocks lie in the elements of an array.
+//! Where blocks lie in the elements of an array.
 ghost use Rattle.std.specs.Prelude.{◌≤◌, IsTrue, All};
 
 use crate::numbers::{byte, number};

@@ -1,4 +1,4 @@
-// What a call answers, as a scenario writes it.
+//! What a call answers, as a scenario writes it.
 use std::alloc::{AllocError, Global};
 
 /// So many of a byte, and then as many of each byte behind it up to a last one.

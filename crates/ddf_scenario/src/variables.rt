@@ -1,4 +1,4 @@
-// Names that stand for each of some values, one after another.
+//! Names that stand for each of some values, one after another.
 use crate::numbers::number;
 use anyhow::bail;
 use std::alloc::Global;

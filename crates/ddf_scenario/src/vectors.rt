@@ -1,4 +1,4 @@
-// What is told of calls that no command shows: checksums, parity and placing.
+//! What is told of calls that no command shows: checksums, parity and placing.
 use crate::numbers::number;
 use crate::placing::{draw_element, place_blocks};
 use crate::tiers::place_in_elements;

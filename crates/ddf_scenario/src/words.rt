@@ -1,4 +1,4 @@
-// The words of a call, as scenarios write them.
+//! The words of a call, as scenarios write them.
 use std::alloc::{AllocError, Global};
 
 /// The words of a command over so many disks, behind their paths.

@@ -1,5 +1,5 @@
-// The CRC-32 of the format, sixteen bytes at a time: each byte goes through a table of its own, and the sum of what the tables give
-// is the register.
+//! The CRC-32 of the format, sixteen bytes at a time: each byte goes through a table of its own, and the sum of what the tables give
+//! is the register.
 ghost use Rattle.std.specs.Prelude.{◌≡◌, ◌+◌, ◌*◌, ◌<◌, ◌≤◌, ℕ, IsTrue, bit_xor, fold};
 ghost use Rattle.ddf_seal.specs.Crc.{are_entries, bit_steps, byte_step, crc_of};
 

@@ -1,5 +1,5 @@
-// The tables of the CRC-32, one after another: 256 entries for each number of bytes from 1 to 16. Entry `i` of a table is what
-// so many zero bytes make of a register that begins as `i`.
+//! The tables of the CRC-32, one after another: 256 entries for each number of bytes from 1 to 16. Entry `i` of a table is what
+//! so many zero bytes make of a register that begins as `i`.
 
 /// Sixteen tables of 256 entries.
 pub(crate) type Tables = [u32; 4096];

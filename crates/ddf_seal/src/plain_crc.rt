@@ -1,4 +1,4 @@
-// The CRC-32 as it is defined, bit by bit: the reflected polynomial EDB88320, from all ones, and turned at the end.
+//! The CRC-32 as it is defined, bit by bit: the reflected polynomial EDB88320, from all ones, and turned at the end.
 ghost use Rattle.std.specs.Prelude.{◌≡◌, fold};
 ghost use Rattle.ddf_seal.specs.Crc.{bit_step, byte_step, crc_of};
 

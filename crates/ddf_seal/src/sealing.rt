@@ -1,3 +1,4 @@
+//! The seal: signature and CRC, checked and written, of every record alike. docs/FORMAT.md#the-seal
 ghost use Rattle.std.specs.Prelude.{◌≡◌, ◌≤◌, ◌↔◌, length, drop, IsOk};
 ghost use Rattle.ddf_seal.specs.Seal.{IsSealed, sealed, seal_check, record_crc};
 

@@ -1,3 +1,4 @@
+//! Bytes that no field names: they are kept, and written back as they were found, since another controller may have its own use for them.
 ghost use Rattle.std.specs.Prelude.{◌≡◌, ◌+◌, ◌≤◌, List, length, IsTrue};
 ghost use Rattle.std.specs.List.{AllByRecursion, list_all};
 ghost use Rattle.ddf_bytes.specs.Bytes.{bytes_at};

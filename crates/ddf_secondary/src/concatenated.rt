@@ -1,3 +1,4 @@
+//! Elements one after another. docs/PLACING.md#02-concatenated
 ghost use Rattle.std.specs.Prelude.{◌≡◌, ◌↔◌, ℕ, ◌<◌, length, slice_get, Some};
 ghost use Rattle.ddf_secondary.specs.Arrangement.{IsArray};
 ghost use Rattle.ddf_secondary.specs.Spots.{spots_by, size_of};

@@ -1,3 +1,5 @@
+//! What an array has to know of an element: three numbers.
+
 /// What an element gives to an array.
 #[derive(Clone, Copy, PartialEq, Eq)]
 pub struct ElementSize {

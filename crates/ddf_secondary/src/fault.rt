@@ -1,3 +1,5 @@
+//! Why elements make no array. docs/PLACING.md#secondary-levels
+
 /// Why a level and sizes make no tiers. Where several of these hold, the first is told.
 #[derive(Clone, Copy, PartialEq, Eq)]
 pub enum TiersFault {

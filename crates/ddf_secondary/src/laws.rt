@@ -1,4 +1,4 @@
-// Laws of all tiers' spots: functions that do nothing, whose contracts are the laws.
+//! Laws of all tiers' spots: functions that do nothing, whose contracts are the laws.
 ghost use Rattle.std.specs.Prelude.{◌≡◌, ℕ, ◌<◌, ◌≤◌, ◌*◌, length};
 ghost use Rattle.ddf_secondary.specs.Arrangement.{Arrangement, IsArray};
 ghost use Rattle.ddf_secondary.specs.Spots.{Holds, carried, size_of};

@@ -1,3 +1,4 @@
+//! The secondary levels, by the standard's codes. docs/PLACING.md#secondary-levels
 ghost use Rattle.std.specs.Prelude.{◌≡◌, Bool, true, false};
 ghost use Rattle.ddf_secondary.specs.Arrangement.{served_level, goes_by_rows};
 

@@ -1,3 +1,4 @@
+//! Sums and leasts over the sizes of elements, which the secondary levels share.
 ghost use Rattle.std.specs.Prelude.{◌≡◌, ◌<◌, ◌≤◌, ◌^◌, ◌==◌, length, sum_by};
 ghost use Rattle.std.specs.List.{list_all};
 ghost use Rattle.ddf_secondary.specs.Sizes.{share_a_unit, unit_of, least_of};

@@ -1,3 +1,5 @@
+//! Elements of different sizes, a unit of each in turn, of those that still have rows: the one level whose rows grow shorter.
+//! docs/PLACING.md#03-spanned
 ghost use Rattle.std.specs.Prelude.{◌≡◌, ◌⊎◌, ◌↔◌, ℕ, ◌<◌, ◌≤◌, ◌+◌, ◌-◌, ◌*◌, ◌^◌};
 ghost use Rattle.std.specs.Prelude.{min, length, slice_get, sum_by, Some};
 ghost use Rattle.ddf_secondary.specs.Arrangement.{IsArray};

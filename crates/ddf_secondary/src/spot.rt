@@ -1,3 +1,5 @@
+//! A spot: an element of an array, and a block of it.
+
 /// A place in an array: a block of one of its elements.
 #[derive(Clone, Copy, PartialEq, Eq)]
 pub struct Spot {

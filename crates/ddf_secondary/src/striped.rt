@@ -1,3 +1,4 @@
+//! A unit of each element in turn. docs/PLACING.md#00-striped
 ghost use Rattle.std.specs.Prelude.{◌≡◌, ◌↔◌, ℕ, ◌<◌, ◌*◌, ◌/◌, length, slice_get, Some};
 ghost use Rattle.ddf_secondary.specs.Arrangement.{IsArray};
 ghost use Rattle.ddf_secondary.specs.Sizes.{least_of, unit_of};

@@ -1,3 +1,4 @@
+//! An array as numbers: from a block to its spot and back, for every secondary level. docs/PLACING.md#secondary-levels
 ghost use Rattle.std.specs.Prelude.{◌≡◌, ◌↔◌, ℕ, ◌<◌, ◌≤◌, ◌^◌, take, length, slice_get, IfOk};
 
 use crate::sizes::{least_capacity, least_rows, share_a_unit, unit_of};

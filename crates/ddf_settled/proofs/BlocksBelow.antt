@@ -16,8 +16,8 @@ use Rattle.ddf_rewrite.proofs.Lists.{all_at, all_by_get, found_place}
 use Rattle.ddf_assembly.specs.Group.{GroupValue}
 use Rattle.ddf_assembly.specs.Trying.{SlotsRise}
 use Rattle.ddf_stops.specs.Floors.{HasFloor}
-use Rattle.ddf_data_stops.specs.Floors.{floor_in}
-use Rattle.ddf_data_stops.proofs.Above.{AreSameFrom, anchor_same, floor_same, newest_at_same}
+use Rattle.ddf_stops.specs.BlockFloors.{floor_in}
+use Rattle.ddf_stops.proofs.Above.{AreSameFrom, anchor_same, floor_same, newest_at_same}
 use Rattle.ddf_settled.specs.Blocks.{LeavesRecords}
 use Rattle.ddf_settled.specs.Settled.{AreSettledAs, newest_held}
 

@@ -17,8 +17,8 @@ use Rattle.ddf_assembly.proofs.CommittedReadied.{disks_rewritten}
 use Rattle.ddf_assembly.proofs.ReadiedSteps.{has_room}
 use Rattle.ddf_stops.specs.Floors.{HasFloor}
 use Rattle.ddf_group_commands.specs.Written.{IsWritten}
-use Rattle.ddf_data_stops.specs.Floors.{AreFloored}
-use Rattle.ddf_data_stops.proofs.Floored.{group_floored}
+use Rattle.ddf_stops.specs.BlockFloors.{AreFloored}
+use Rattle.ddf_stops.proofs.Floored.{group_floored}
 use Rattle.ddf_rewrite.proofs.Lists.{all_at, all_by_get}
 use Rattle.ddf_settled.specs.Settled.{AreSettledAs, IsToldByAll, newest_held}
 use Rattle.ddf_settled.specs.Without.{group_lost, without_seat}

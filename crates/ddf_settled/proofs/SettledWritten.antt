@@ -30,8 +30,8 @@ use Rattle.ddf_assembly.proofs.CommittedSeats.{seated_is}
 use Rattle.ddf_assembly.proofs.LeftGroup.{one_step}
 use Rattle.ddf_stops.specs.Floors.{HasFloor}
 use Rattle.ddf_group_commands.specs.Written.{IsBeside, IsWritten}
-use Rattle.ddf_data_stops.specs.Floors.{AreFloored, IsFloored}
-use Rattle.ddf_data_stops.proofs.Floored.{group_floored}
+use Rattle.ddf_stops.specs.BlockFloors.{AreFloored, IsFloored}
+use Rattle.ddf_stops.proofs.Floored.{group_floored}
 use Rattle.ddf_settled.specs.Settled.{AreMembers, AreSettledAs, IsToldByAll, newest_held}
 use Rattle.ddf_settled.proofs.SettledLists.{same_list, some_below, some_there}
 use Rattle.ddf_settled.proofs.SettledStep.{disk_there, disks_behind, settled_behind, told_behind}

@@ -2,7 +2,7 @@
 use Rattle.std.specs.Prelude.{◌≡◌, ◌⊎◌, ℕ, ◌<◌, List}
 use Rattle.ddf_bay.specs.Sectors.{Image}
 use Rattle.ddf_config.specs.declared.seat.Seat.{Seat}
-use Rattle.ddf_data_stops.specs.Floors.{floor_in}
+use Rattle.ddf_stops.specs.BlockFloors.{floor_in}
 
 -- No sector is another one but below the floor of a seat's disk.
 abbrev pub LeavesRecords : List Seat → (old new : Image) → Type 0

@@ -1,4 +1,4 @@
-// Laws of changes that nothing refuses: a function that does nothing, whose contract is the laws.
+//! Laws of changes that nothing refuses: a function that does nothing, whose contract is the laws.
 ghost use Rattle.std.specs.Prelude.{◌<◌, ◌^◌, ℕ, List};
 ghost use Rattle.ddf_config.specs.Configuration.{Configuration};
 ghost use Rattle.ddf_plan.specs.declared.change.Change.{Change};

@@ -1,4 +1,4 @@
-// Laws of settled groups that all of their disks tell: functions that do nothing, whose contracts are the laws.
+//! Laws of settled groups that all of their disks tell: functions that do nothing, whose contracts are the laws.
 ghost use Rattle.std.specs.Prelude.{◌≡◌, ◌⊎◌, ◌<◌, ◌^◌, ◌∷◌, ℕ, [], Bool, true, false, List, None, Some, Err, Ok, length, slice_get, slice_set};
 ghost use Rattle.std.specs.List.{AllByRecursion};
 ghost use Rattle.ddf_bay.specs.Sectors.{Image};

@@ -1,4 +1,4 @@
-// Laws of the copies of a new group's disks: functions that do nothing, whose contracts are the laws.
+//! Laws of the copies of a new group's disks: functions that do nothing, whose contracts are the laws.
 ghost use Rattle.std.specs.Prelude.{◌≡◌, ◌<◌, ◌≤◌, ◌+◌, ◌-◌, ◌*◌, ◌^◌, ℕ, [], false, fold, List, None, Option, Ok, Some, length, map, replicate, slice_index, slice_set};
 ghost use Rattle.std.specs.List.{AllByRecursion, sum_by};
 ghost use Rattle.std.specs.Option.{option_to_list};

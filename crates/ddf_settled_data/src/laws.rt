@@ -1,4 +1,4 @@
-// Laws of what the blocks of an array have: functions that do nothing, whose contracts are the laws.
+//! Laws of what the blocks of an array have: functions that do nothing, whose contracts are the laws.
 ghost use Rattle.std.specs.Prelude.{◌≡◌, ◌≢◌, ◌<◌, ◌≤◌, ℕ, Bool, true, false, List, [], ◌∷◌, Some, map, length, slice_get};
 ghost use Rattle.std.specs.List.{range_with_len};
 ghost use Rattle.ddf_bytes.specs.Counts.{Rose};

@@ -31,6 +31,7 @@ use Rattle.ddf_pieces.specs.Pieces.{bytes_of}
 use Rattle.ddf_group.specs.declared.answer.Assembly.{Assembly}
 use Rattle.ddf_assembly.specs.Committed.{slots_of}
 use Rattle.ddf_assembly.specs.Group.{GroupValue}
+use Rattle.ddf_assembly.specs.Recovery.{trusted_seats}
 use Rattle.ddf_request.specs.Named.{named_array}
 use Rattle.ddf_answer.specs.declared.failure.Failure.{Failure}
 use Rattle.ddf_answer.specs.declared.failure.Failure.TheVariants.{Conflict, Disk, Memory, Refused, Split}
@@ -39,7 +40,9 @@ use Rattle.ddf_answer.specs.Call.{Answer, Work, answer_of, work_of}
 use Rattle.ddf_data_commands.specs.Read.{IsReadDone, IsReadIn, IsReadOf, IsReadTold, IsReadable, IsWithoutSource, Outcome, read_refusal}
 use Rattle.ddf_data_commands.specs.Read.Outcome.{CutShort, NotRead, Stopped, Whole}
 use Rattle.ddf_data_commands.specs.Scrub.{IsScrubDone, IsScrubIn, IsScrubOf, IsScrubTold, scrub_refusal, scrub_text}
+use Rattle.ddf_assembly.proofs.Trusted.{trusted_all}
 use Rattle.ddf_settled.specs.Settled.{AreSettledAs}
+use Rattle.ddf_settled.proofs.SettledStray.{not_stray}
 use Rattle.ddf_settled_data.specs.Blocks.{HoldsBlocks}
 use Rattle.ddf_settled_data.proofs.Held.{scrub_clean, value_blocks}
 use Rattle.ddf_course.specs.Disks.{AreApart, Disks}
@@ -180,17 +183,23 @@ module _ (name : List ℕ) (total asked : ℕ) (out : List Bool) (disks : Disks)
   calm : (slot : ℕ) → IsOn view slot → Failed (disks_of old) (disks_of new) slot → ⊥
   calm slot on failed = calm_seat slot (place_seat disks turn false slot on) failed
 
+  -- Blocks may be read from each of its disks, since it is settled.
+  trusted_are : trusted_seats stands.group ≡ seats
+  trusted_are =
+      let settled = stands.settled.is_told.is_settled in
+      trusted_all stands.group settled.are_seated (not_stray stands.group settled) ∙ stands.seats_are
+
   -- The array that the word names is seen whole.
-  seen_so : (entry : List ℕ × Array) (volume : Volume) → named_array stands.group.config.arrays word ≡ Some entry → view_of stands.group.config entry.0 stands.group.seats ≡ Ok volume → volume ≡ view
+  seen_so : (entry : List ℕ × Array) (volume : Volume) → named_array stands.group.config.arrays word ≡ Some entry → view_of stands.group.config entry.0 (trusted_seats stands.group) ≡ Ok volume → volume ≡ view
   seen_so entry volume is_named is_view =
       let is : entry ≡ (guid, array (positions_at disks turn) 0 2) =
       same_some (named_array config.arrays word) entry (guid, array (positions_at disks turn) 0 2) (ap (λ (some : Configuration). named_array some.arrays word) (sym stands.config_is) ∙ is_named)
       (used.is_named guid (positions_at disks turn) 0 2) in
       same_ok (view_of config guid seats) volume view
       (sym
-      (ap (λ (some : Configuration). view_of some entry.0 stands.group.seats) stands.config_is
-      ∙ ap (λ (one : List ℕ × Array). view_of config one.0 stands.group.seats) is
-      ∙ ap (λ (all : List Seat). view_of config guid all) stands.seats_are)
+      (ap (λ (some : Configuration). view_of some entry.0 (trusted_seats stands.group)) stands.config_is
+      ∙ ap (λ (one : List ℕ × Array). view_of config one.0 (trusted_seats stands.group)) is
+      ∙ ap (λ (all : List Seat). view_of config guid all) trusted_are)
       ∙ is_view)
       (used.turn_view name disks apart guid 0 2 sequence turn)
 
@@ -203,13 +212,13 @@ module _ (name : List ℕ) (total asked : ℕ) (out : List Bool) (disks : Disks)
     abbrev Still : Type 0
     Still = StoresAt name total asked out config seats view bytes new
 
-    scrubs : scrub_refusal stands.group.config stands.group.seats (named_array stands.group.config.arrays word) ≡ None
+    scrubs : scrub_refusal stands.group.config (trusted_seats stands.group) (named_array stands.group.config.arrays word) ≡ None
     scrubs =
-        ap (λ (some : Configuration). scrub_refusal some stands.group.seats (named_array some.arrays word)) stands.config_is
-        ∙ ap (λ (all : List Seat). scrub_refusal config all (named_array config.arrays word)) stands.seats_are
+        ap (λ (some : Configuration). scrub_refusal some (trusted_seats stands.group) (named_array some.arrays word)) stands.config_is
+        ∙ ap (λ (all : List Seat). scrub_refusal config all (named_array config.arrays word)) trusted_are
         ∙ wanted.scrubs name disks apart guid sequence turn
 
-    scrub_by : (result : Result Scrub Failure) → IsScrubOf work stands.group.config stands.group.seats word result → IsScrubTold result answer → EndsWell answer (codes "clean\n") Still
+    scrub_by : (result : Result Scrub Failure) → IsScrubOf work stands.group.config (trusted_seats stands.group) word result → IsScrubTold result answer → EndsWell answer (codes "clean\n") Still
     scrub_by (Ok found) is ends =
         let volume = seen_so (is.used.0, is.usable.array) is.used.1 is.usable.is_named is.usable.is_view in
         let clean : found ≡ Clean =
@@ -218,7 +227,7 @@ module _ (name : List ℕ) (total asked : ℕ) (out : List Bool) (disks : Disks)
         (λ zero. inr (inr (zero, (ends.tells tt).whole (omega (arith, zero)) ∙ ap (λ (one : Scrub). unused.taken ++ (scrub_text one ++ codes "\n")) clean, stores_still)))
         (λ short. ⊎_elim inl (λ six. inr (inl six)) short)
         ends.ends
-    scrub_by (Err (Refused refusal)) is ends = absurd (no_refusal (scrub_refusal stands.group.config stands.group.seats (named_array stands.group.config.arrays word)) refusal scrubs is)
+    scrub_by (Err (Refused refusal)) is ends = absurd (no_refusal (scrub_refusal stands.group.config (trusted_seats stands.group) (named_array stands.group.config.arrays word)) refusal scrubs is)
     scrub_by (Err (Disk slot)) is ends =
         let volume = seen_so (is.used.0, is.usable.array) is.used.1 is.usable.is_named is.usable.is_view in
         let failed : FailedOn view (disks_of old) (disks_of new) slot = subst (λ (v : Volume). FailedOn v (disks_of old) (disks_of new) slot) volume is.stopped.1 in
@@ -243,20 +252,20 @@ module _ (name : List ℕ) (total asked : ℕ) (out : List Bool) (disks : Disks)
       abbrev text : List ℕ
       text = flat_map (λ (byte : ℕ). replicate 512 byte) bytes
 
-      accepted : read_refusal stands.group.config stands.group.seats (named_array stands.group.config.arrays word) 0 8192 ≡ None
+      accepted : read_refusal stands.group.config (trusted_seats stands.group) (named_array stands.group.config.arrays word) 0 8192 ≡ None
       accepted =
-          ap (λ (some : Configuration). read_refusal some stands.group.seats (named_array some.arrays word) 0 8192) stands.config_is
-          ∙ ap (λ (all : List Seat). read_refusal config all (named_array config.arrays word) 0 8192) stands.seats_are
+          ap (λ (some : Configuration). read_refusal some (trusted_seats stands.group) (named_array some.arrays word) 0 8192) stands.config_is
+          ∙ ap (λ (all : List Seat). read_refusal config all (named_array config.arrays word) 0 8192) trusted_are
           ∙ wanted.reads name disks apart guid sequence turn 0 8192 (lit≤ tt)
 
-      has_source : (volume : Volume) (from many slot : ℕ) → IsReadable stands.group.config stands.group.seats word 0 8192 volume → IsWithoutSource work volume from many slot → ⊥
+      has_source : (volume : Volume) (from many slot : ℕ) → IsReadable stands.group.config (trusted_seats stands.group) word 0 8192 volume → IsWithoutSource work volume from many slot → ⊥
       has_source volume from many slot readable without =
           let is : volume ≡ view = seen_so readable.entry volume readable.is_named readable.is_view in
           let left = without.none_left in
           let on = first_on volume (λ other. other ≡ slot) (from + left.block) left.none_left.is_of_first in
           calm on.0 (subst (λ (v : Volume). IsOn v on.0) is on.1.0) (subst (Failed (disks_of old) (disks_of new)) (sym on.1.1) left.none_left.this_failed)
 
-      read_by : (outcome : Outcome) → IsReadOf work stands.group.config stands.group.seats word 0 8192 outcome → IsReadTold outcome answer → EndsWell answer text Still
+      read_by : (outcome : Outcome) → IsReadOf work stands.group.config (trusted_seats stands.group) word 0 8192 outcome → IsReadTold outcome answer → EndsWell answer text Still
       read_by (Whole sectors) is ends =
           let volume : is.0 ≡ view = seen_so is.1.entry is.0 is.1.is_named is.1.is_view in
           let values = is.2.1.values tt (λ slot on failed. calm slot (subst (λ (v : Volume). IsOn v slot) volume on) failed) in
@@ -268,7 +277,7 @@ module _ (name : List ℕ) (total asked : ℕ) (out : List Bool) (disks : Disks)
           are ∙ ap (λ (n : ℕ). map (filled_with bytes) (range_with_len 0 n)) same ∙ blocks_filled bytes in
           inr (inr (ends.ends, ends.tells tt ∙ ap (λ (one : List (List ℕ)). unused.taken ++ bytes_of one) all ∙ ap (λ (told : List ℕ). unused.taken ++ told) (bytes_joined bytes), stores_still))
       read_by (NotRead (Refused refusal)) is ends =
-          absurd (no_refusal (read_refusal stands.group.config stands.group.seats (named_array stands.group.config.arrays word) 0 8192) refusal accepted is)
+          absurd (no_refusal (read_refusal stands.group.config (trusted_seats stands.group) (named_array stands.group.config.arrays word) 0 8192) refusal accepted is)
       read_by (NotRead (Disk slot)) is ends = absurd (has_source is.0 0 _ slot is.1 is.2)
       read_by (NotRead (Conflict i j sequence differ)) is ends = absurd is.2
       read_by (NotRead (Split i j)) is ends = absurd is.2

@@ -27,7 +27,7 @@ use Rattle.ddf_resync.specs.Several.{resync_sectors}
 use Rattle.ddf_resync.proofs.Extents.{sectors_in_extents}
 use Rattle.ddf_keeping.specs.Clear.{ChangesItsCells, IsItsCell}
 use Rattle.ddf_keeping.proofs.Clearly.{lies_of, resync_changes}
-use Rattle.ddf_data_stops.specs.Floors.{floor_in}
+use Rattle.ddf_stops.specs.BlockFloors.{floor_in}
 use Rattle.ddf_resync.specs.Resyncing.{HasResynced, IsLeftByResync}
 use Rattle.ddf_assembly.specs.declared.seated.Seated.{Seated}
 use Rattle.ddf_assembly.specs.Group.{GroupValue, group_of}

@@ -14,6 +14,7 @@ use Rattle.ddf_resync.specs.Compared.{FailedOn}
 use Rattle.ddf_group.specs.declared.answer.Assembly.{Assembly}
 use Rattle.ddf_assembly.specs.Committed.{slots_of}
 use Rattle.ddf_assembly.specs.Group.{GroupValue, group_of}
+use Rattle.ddf_assembly.specs.Recovery.{trusted_seats}
 use Rattle.ddf_assembly.specs.Steps.{Step}
 use Rattle.ddf_text.specs.Done.{sequence_line}
 use Rattle.ddf_answer.specs.declared.failure.Failure.{Failure}
@@ -259,22 +260,22 @@ pub no_refusal : (refused : Option Refusal) (refusal : Refusal) → refused ≡ 
 no_refusal refused refusal none is = let both : ◌≡◌ {A = Option Refusal} None (Some refusal) = sym none ∙ is in cc
 
 module _ {D : Type 0} (work : Work D) (answer : Answer) (told : answer.tells) (found : GroupValue) (word : List ℕ) where
-  module _ (accepted : scrub_refusal found.config found.seats (named_array found.config.arrays word) ≡ None)
+  module _ (accepted : scrub_refusal found.config (trusted_seats found) (named_array found.config.arrays word) ≡ None)
       (calm : (volume : Volume) (slot : ℕ) → FailedOn volume work.old work.new slot → ⊥) where
     abbrev HasCompared : Scrub → Type 0
-    HasCompared result = IsArrayScrubbed work found.config found.seats word result
+    HasCompared result = IsArrayScrubbed work found.config (trusted_seats found) word result
 
     -- It told what it found, or memory ran out, or its output failed.
     abbrev ScrubEnds : Type 0
     ScrubEnds = (answer.status ≡ 5) ⊎ (answer.status ≡ 6) ⊎ ((result : Scrub) × (answer.status ≡ 0) × (answer.new.taken ≡ answer.old.taken ++ (scrub_text result ++ codes "\n")) × HasCompared result)
 
-    scrub_by : (outcome : Result Scrub Failure) → IsScrubOf work found.config found.seats word outcome → IsScrubTold outcome answer → ScrubEnds
+    scrub_by : (outcome : Result Scrub Failure) → IsScrubOf work found.config (trusted_seats found) word outcome → IsScrubTold outcome answer → ScrubEnds
     scrub_by (Ok result) is ends =
         ⊎_elim
         (λ zero. inr (inr (result, zero, (ends.tells told).whole (omega (arith, zero)), is)))
         (λ short. ⊎_elim inl (λ six. inr (inl six)) short)
         ends.ends
-    scrub_by (Err (Refused refusal)) is ends = absurd (no_refusal (scrub_refusal found.config found.seats (named_array found.config.arrays word)) refusal accepted is)
+    scrub_by (Err (Refused refusal)) is ends = absurd (no_refusal (scrub_refusal found.config (trusted_seats found) (named_array found.config.arrays word)) refusal accepted is)
     scrub_by (Err (Disk slot)) is ends = absurd (calm is.used.1 slot is.stopped.1)
     scrub_by (Err (Conflict i j sequence differ)) is ends = absurd is
     scrub_by (Err (Split i j)) is ends = absurd is
@@ -285,24 +286,24 @@ module _ {D : Type 0} (work : Work D) (answer : Answer) (told : answer.tells) (f
 
   -- ---- read
 
-  module _ (start count : ℕ) (accepted : read_refusal found.config found.seats (named_array found.config.arrays word) start count ≡ None)
-      (calm : (volume : Volume) (slot : ℕ) → IsReadable found.config found.seats word start count volume → IsOn volume slot → Failed work.old work.new slot → ⊥) where
+  module _ (start count : ℕ) (accepted : read_refusal found.config (trusted_seats found) (named_array found.config.arrays word) start count ≡ None)
+      (calm : (volume : Volume) (slot : ℕ) → IsReadable found.config (trusted_seats found) word start count volume → IsOn volume slot → Failed work.old work.new slot → ⊥) where
     -- All blocks were read, and told; or memory ran out, or its output failed.
     abbrev ReadEnds : Type 0
     ReadEnds =
         (answer.status ≡ 5) ⊎ (answer.status ≡ 6)
         ⊎ ((sectors : List (List ℕ)) × (volume : Volume) × (answer.status ≡ 0) × (answer.new.taken ≡ answer.old.taken ++ bytes_of sectors) × (length sectors ≡ count)
-        × IsReadable found.config found.seats word start count volume × AreBlocks work volume start sectors)
+        × IsReadable found.config (trusted_seats found) word start count volume × AreBlocks work volume start sectors)
 
-    has_source : (volume : Volume) (from many slot : ℕ) → IsReadable found.config found.seats word start count volume → IsWithoutSource work volume from many slot → ⊥
+    has_source : (volume : Volume) (from many slot : ℕ) → IsReadable found.config (trusted_seats found) word start count volume → IsWithoutSource work volume from many slot → ⊥
     has_source volume from many slot readable without =
         let left = without.none_left in
         let on = first_on volume (λ other. other ≡ slot) (from + left.block) left.none_left.is_of_first in
         calm volume on.0 readable on.1.0 (subst (Failed work.old work.new) (sym on.1.1) left.none_left.this_failed)
 
-    read_by : (outcome : ReadOutcome) → IsReadOf work found.config found.seats word start count outcome → IsReadTold outcome answer → ReadEnds
+    read_by : (outcome : ReadOutcome) → IsReadOf work found.config (trusted_seats found) word start count outcome → IsReadTold outcome answer → ReadEnds
     read_by (Whole sectors) is ends = inr (inr (sectors, is.0, ends.ends, ends.tells told, is.2.0, is.1, is.2.1))
-    read_by (NotRead (Refused refusal)) is ends = absurd (no_refusal (read_refusal found.config found.seats (named_array found.config.arrays word) start count) refusal accepted is)
+    read_by (NotRead (Refused refusal)) is ends = absurd (no_refusal (read_refusal found.config (trusted_seats found) (named_array found.config.arrays word) start count) refusal accepted is)
     read_by (NotRead (Disk slot)) is ends = absurd (has_source is.0 start (min count piece_blocks) slot is.1 is.2)
     read_by (NotRead (Conflict i j sequence differ)) is ends = absurd is.2
     read_by (NotRead (Split i j)) is ends = absurd is.2

@@ -27,7 +27,7 @@ use Rattle.ddf_assembly.specs.Group.{GroupValue, group_of}
 use Rattle.ddf_assembly.specs.Ready.{readied}
 use Rattle.ddf_assembly.specs.Recovery.{config_recovered}
 use Rattle.ddf_assembly.specs.Steps.{Step}
-use Rattle.ddf_data_stops.specs.Floors.{floor_in}
+use Rattle.ddf_stops.specs.BlockFloors.{floor_in}
 use Rattle.ddf_request.specs.Named.{named_array}
 use Rattle.ddf_text.specs.Done.{sequence_line}
 use Rattle.ddf_answer.specs.declared.failure.Failure.TheVariants.{Conflict, Disk, Memory, Refused, Split}

@@ -22,7 +22,7 @@ use Rattle.ddf_assembly.specs.Group.{GroupValue}
 use Rattle.ddf_assembly.specs.Ready.{group_after}
 use Rattle.ddf_assembly.specs.Steps.{Step}
 use Rattle.ddf_volume.specs.Reading.{IsOn}
-use Rattle.ddf_data_stops.specs.Floors.{floor_in}
+use Rattle.ddf_stops.specs.BlockFloors.{floor_in}
 use Rattle.ddf_group_commands.specs.Change.{last_sequence}
 use Rattle.ddf_group_commands.specs.Costs.{steps_sectors}
 use Rattle.ddf_write_commands.specs.Around.{config_behind, marking}

@@ -1,4 +1,4 @@
-// Laws of the last steps of an exercise, which read its blocks: functions that do nothing, whose contracts are the laws.
+//! Laws of the last steps of an exercise, which read its blocks: functions that do nothing, whose contracts are the laws.
 ghost use Rattle.std.specs.Prelude.{◌≡◌, ◌≤◌, ℕ, Bool, false, List, Some, codes, length, replicate};
 ghost use Rattle.std.specs.List.{flat_map};
 ghost use Rattle.ddf_bytes.specs.Streams.{SinkState};

@@ -1,4 +1,4 @@
-// Laws of the first steps of an exercise, before its blocks are written: functions that do nothing, whose contracts are the laws.
+//! Laws of the first steps of an exercise, before its blocks are written: functions that do nothing, whose contracts are the laws.
 ghost use Rattle.std.specs.Prelude.{◌≡◌, ◌+◌, ◌^◌, ◌<◌, ◌≤◌, ℕ, Bool, false, List, [], length, None, Some, replicate};
 ghost use Rattle.ddf_bytes.specs.declared.stamp.Stamp.{Stamp};
 ghost use Rattle.ddf_bytes.specs.Streams.{SinkState};

@@ -1,4 +1,4 @@
-// Laws of the steps of an exercise: functions that do nothing, whose contracts are the laws.
+//! Laws of the steps of an exercise: functions that do nothing, whose contracts are the laws.
 ghost use Rattle.std.specs.Prelude.{◌≡◌, ◌+◌, ◌*◌, ◌^◌, ◌<◌, ◌≤◌, ℕ, Bool, List, Option, Some, Ok, length};
 ghost use Rattle.ddf_bay.specs.Memory.{disks_of};
 ghost use Rattle.ddf_bay.specs.Moments.{GoesOn};

@@ -1,4 +1,4 @@
-// Laws of a rebuild of an exercise: a function that does nothing, whose contract is the laws.
+//! Laws of a rebuild of an exercise: a function that does nothing, whose contract is the laws.
 ghost use Rattle.std.specs.Prelude.{◌≡◌, ◌+◌, ◌*◌, ◌^◌, ◌<◌, ◌≤◌, ℕ, Bool, true, false, List, Some, length, slice_set};
 ghost use Rattle.ddf_bay.specs.Memory.{disks_of, state_of, without};
 ghost use Rattle.ddf_bay.specs.Moments.{GoesOn};

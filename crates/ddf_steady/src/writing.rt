@@ -1,4 +1,4 @@
-// A law of the writes of an exercise: a function that does nothing, whose contract is the law.
+//! A law of the writes of an exercise: a function that does nothing, whose contract is the law.
 ghost use Rattle.std.specs.Prelude.{◌≡◌, ◌+◌, ◌*◌, ◌^◌, ◌<◌, ◌≤◌, ◌++◌, ℕ, Bool, false, List, Some, drop, length, replicate, take};
 ghost use Rattle.ddf_bytes.specs.Streams.{SinkState, SourceState};
 ghost use Rattle.ddf_bay.specs.Memory.{disks_of};

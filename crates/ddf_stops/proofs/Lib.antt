@@ -77,3 +77,7 @@ pub mod JoinTaken
 pub mod JoinAdmits
 pub mod JoinCalling
 pub mod JoinForeign
+pub mod Above
+pub mod Below
+pub mod Floored
+pub mod Course

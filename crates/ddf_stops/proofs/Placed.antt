@@ -23,7 +23,7 @@ use Rattle.ddf_update.specs.declared.prepared.Mode.TheVariants as modes
 use Rattle.ddf_update.specs.declared.prepared.Prepared.{Prepared}
 use Rattle.ddf_update.specs.Changes.{IsGetting, IsLeftChangingAll, MayChangeAll, MayGet, SlotChange}
 use Rattle.ddf_update.specs.Prepared.{writes_anchor}
-use Rattle.ddf_update.specs.Update.{AreBoth, IsAdopting, IsChanging, IsReadAdopting, MayAdopt, MayChange}
+use Rattle.ddf_update.specs.Update.{AreBoth, IsAdopting, IsChanging, IsMoving, IsReadAdopting, MayAdopt, MayChange}
 use Rattle.ddf_view.proofs.Finds.{place_there, place_within}
 use Rattle.ddf_assembly.specs.Group.{floor_of}
 use Rattle.ddf_stops.specs.Floors.{HasFloor}
@@ -131,16 +131,33 @@ module _ {D : Type 0} (start : BayState D) (slot : ℕ) (seat : SlotChange) (flo
       adopting_floor : HasFloor size now floor
       adopting_floor = record { same_floor = now_floor is.newest; below = now_behind; within = has.within }
 
+  -- or of another one at other places: it has its floor by the new one
+  move_behind : (which : Which) → floor ≤ place_of which (anchor_header seat.new)
+  move_behind Primary = omega (arith, same)
+  move_behind Secondary = omega (arith, same)
+
+  moving_floor : (now : ℕ → List ℕ) (update : Prepared) → IsMoving size (start.held slot) now update seat.new → HasFloor size now floor
+  moving_floor now update is = ⊎_elim
+      (λ as_before. record {
+        same_floor = λ newest copy here stands. has.same_floor newest copy (sym as_before.1 ∙ here) stands;
+        below = λ other there which. has.below other (sym as_before.0 ∙ there) which;
+        within = has.within;
+      })
+      (λ both. both_floor size now (anchor_header seat.new) seat.new floor both same move_behind has.within)
+      is.reads
+
   pub getting_floor : (now : ℕ → List ℕ) (update : Prepared) (mode : Mode) → MayGet mode start slot seat → IsGetting mode size (start.held slot) now update seat → HasFloor size now floor
   getting_floor now update modes.Change can is = changing_floor can now update is
   getting_floor now update modes.Found can is = absurd can
   getting_floor now update modes.Adopt can is = adopting_floor can.1 now update is
+  getting_floor now update modes.Move can is = moving_floor now update is
 
   -- once it has it in both places
   pub got_floor : (now : ℕ → List ℕ) (mode : Mode) → MayGet mode start slot seat → AreBoth size now (if writes_anchor mode then anchor_header seat.new else seat.anchor) seat.new → HasFloor size now floor
   got_floor now modes.Change can both = both_floor size now seat.anchor seat.new floor both same (change_behind can) has.within
   got_floor now modes.Found can both = absurd can
   got_floor now modes.Adopt can both = both_floor size now (anchor_header seat.new) seat.new floor both same (adopt_behind can.1) has.within
+  got_floor now modes.Move can both = both_floor size now (anchor_header seat.new) seat.new floor both same move_behind has.within
 
 -- ---- a stop while slots get theirs
 

@@ -12,13 +12,14 @@ use Rattle.ddf_copy.specs.declared.which.Which.{Which}
 use Rattle.ddf_copy.specs.declared.which.Which.TheVariants.{Primary, Secondary}
 use Rattle.ddf_copy.specs.Anchor.{anchor_at}
 use Rattle.ddf_copy.specs.Copies.{copy_of, newest_at, newest_of, newest_of_both, newest_under}
-use Rattle.ddf_copy.specs.Headers.{written_as}
+use Rattle.ddf_copy.specs.Headers.{anchor_header, written_as}
 use Rattle.ddf_copy.specs.Shows.{IsNewest, IsSame}
 use Rattle.ddf_copy.specs.Which.{other_of}
 use Rattle.ddf_copy.specs.Written.{is_level}
 use Rattle.ddf_copy.proofs.LevelCopies.{level_from, level_is, written_same}
 use Rattle.ddf_copy.proofs.Newests.{newest_of_one, newest_same}
-use Rattle.ddf_update.specs.Update.{AreBoth, AreReadPartly, IsReadAdopting, IsReadPartly}
+use Rattle.ddf_update.specs.declared.prepared.Prepared.{Prepared}
+use Rattle.ddf_update.specs.Update.{AreBoth, AreReadPartly, IsMoving, IsReadAdopting, IsReadPartly}
 use Rattle.ddf_view.specs.View.{View, view_of}
 use Rattle.ddf_group.specs.Shown.{shown_of}
 use Rattle.ddf_history.specs.Reading.{Shown, IsCopyOf}
@@ -240,6 +241,16 @@ module _ (size : ℕ) (before now : ℕ → List ℕ) (anchor : Header) (last : 
   -- So does the disk.
   pub changing_shows : anchor_at size now ≡ Ok anchor → AreReadPartly size before now anchor last new → IsWrittenAs (shows_at size before) (shows_at size now) (view_of new)
   changing_shows is parts = rw (shows_newest size before anchor anchored, shows_newest size now anchor is) (changing_told parts)
+
+-- ---- a disk that is moved
+
+-- It shows what it showed, or the new one.
+pub moving_shows : (size : ℕ) (before now : ℕ → List ℕ) (prepared : Prepared) (new : DiskCopy) → IsMoving size before now prepared new
+    → IsWrittenAs (shows_at size before) (shows_at size now) (view_of new)
+moving_shows size before now prepared new is = ⊎_elim
+    (λ same. inl (ap (λ (found : Option Newest). told_of (shown_of found)) same.1))
+    (λ both. inr (inr (both_show size now (anchor_header new) new both)))
+    is.reads
 
 -- ---- a disk that is adopted
 

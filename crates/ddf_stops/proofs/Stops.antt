@@ -20,7 +20,7 @@ use Rattle.ddf_history.specs.Scenes.{scene_of}
 use Rattle.ddf_history.specs.Steps.{AreWritten}
 use Rattle.ddf_history.proofs.Since.{which}
 use Rattle.ddf_stops.specs.Kept.{SaysOne, is_slot, unwritten}
-use Rattle.ddf_stops.proofs.ShownCopies.{IsWrittenAs, adopting_shows, both_say, both_show, changing_shows, shows_at}
+use Rattle.ddf_stops.proofs.ShownCopies.{IsWrittenAs, adopting_shows, both_say, both_show, changing_shows, moving_shows, shows_at}
 use Rattle.ddf_stops.proofs.Slots.{not_placed, slot_is, slot_placed}
 
 -- ---- one slot
@@ -60,6 +60,7 @@ getting_shows start slot now update seat says modes.Change can is =
 getting_shows start slot now update seat says modes.Found can is = absurd can
 getting_shows start slot now update seat says modes.Adopt can is =
     adopting_shows (size_of start slot) (start.held slot) now seat.anchor seat.last seat.old seat.new says can.1.is_anchored can.1.last_is can.1.is_newest is.newest
+getting_shows start slot now update seat says modes.Move can is = moving_shows (size_of start slot) (start.held slot) now update seat.new is
 
 -- Outside what is written it is as it was.
 getting_outside : (mode : Mode) (size : ℕ) (before now : ℕ → List ℕ) (update : Prepared) (seat : SlotChange) → IsPrepared seat.new seat.last mode update → IsGetting mode size before now update seat
@@ -67,6 +68,8 @@ getting_outside : (mode : Mode) (size : ℕ) (before now : ℕ → List ℕ) (up
 getting_outside modes.Change size before now update seat is getting l = ⊎_elim inl (λ there. inr (inl there)) (getting.outside l)
 getting_outside modes.Found size before now update seat is getting l = absurd getting
 getting_outside modes.Adopt size before now update seat is getting l =
+    ⊎_elim inl (λ there. inr (⊎_elim inl (λ at. inr (ap writes_anchor is.mode_is, at)) there)) (getting.outside l)
+getting_outside modes.Move size before now update seat is getting l =
     ⊎_elim inl (λ there. inr (⊎_elim inl (λ at. inr (ap writes_anchor is.mode_is, at)) there)) (getting.outside l)
 
 -- ---- a stop

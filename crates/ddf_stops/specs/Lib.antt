@@ -6,3 +6,5 @@ pub mod Founding
 pub mod Floors
 pub mod Members
 pub mod Joins
+pub mod BlockFloors
+pub mod Course

@@ -1,4 +1,4 @@
-// Laws of calls in a history: functions that do nothing, whose contracts are the laws.
+//! Laws of calls in a history: functions that do nothing, whose contracts are the laws.
 ghost use Rattle.std.specs.Prelude.{◌≡◌, ◌⊎◌, ◌+◌, ◌∷◌, ℕ, [], Bool, false, true, List, map, Option, None, Some, Err, Ok, length, slice_get};
 ghost use Rattle.std.specs.Str.{bytes_eq};
 ghost use Rattle.ddf_bay.specs.Moments.{StopsLeave};

@@ -1,4 +1,4 @@
-// Entries of arrays over the bytes of others.
+//! Entries of arrays over the bytes of others.
 ghost use Rattle.std.specs.Prelude.{◌≡◌, false, option_copied};
 ghost use Rattle.std.specs.Option.{ForSome, option_map_or};
 ghost use Rattle.ddf_tables.specs.declared.arrays.ArrayEntry.{ArrayEntry};

@@ -1,3 +1,4 @@
+//! The virtual disk records as a table of arrays. docs/FORMAT.md#virtual-disk-records
 ghost use Rattle.std.specs.Prelude.{◌≡◌, ◌+◌, ◌*◌, ◌≤◌, ℕ, List, length, replicate, IfOk, Ok};
 ghost use Rattle.std.specs.List.{AllByRecursion};
 ghost use Rattle.ddf_tables.specs.declared.arrays.ArrayRow.{ArrayRow};

@@ -1,3 +1,4 @@
+//! A row of the virtual disk records: the fields of an array. docs/FORMAT.md#virtual-disk-records
 ghost use Rattle.std.specs.Prelude.{◌≡◌};
 ghost use Rattle.ddf_seal.specs.Unread.{written};
 ghost use Rattle.ddf_tables.specs.Arrays.{array_at, array_fields};

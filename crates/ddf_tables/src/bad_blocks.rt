@@ -1,3 +1,4 @@
+//! The bad block log of a disk, read and written. docs/FORMAT.md#bad-block-log
 ghost use Rattle.std.specs.Prelude.{◌≡◌, ◌+◌, ◌*◌, ◌≤◌, ℕ, List, [], ◌∷◌, length, IfOk, Ok};
 ghost use Rattle.ddf_seal.specs.Unread.{AreBytes, cleared, written};
 ghost use Rattle.ddf_tables.specs.Faults.{UpToMemory};

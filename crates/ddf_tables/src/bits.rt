@@ -1,3 +1,4 @@
+//! The type and the state of a disk, bit by bit. Bits without a name are kept too. docs/FORMAT.md#physical-disk-records
 ghost use Rattle.std.specs.Prelude.{⊤};
 ghost use Rattle.ddf_tables.specs.DiskFlags.{state_flags, type_flags};
 

@@ -1,3 +1,4 @@
+//! The controller data. docs/FORMAT.md#controller-data
 ghost use Rattle.std.specs.Prelude.{◌≡◌, ◌↔◌, ℕ, List, length, Ok, IfOk};
 ghost use Rattle.ddf_seal.specs.Records.{record_bytes};
 ghost use Rattle.ddf_seal.specs.Unread.{AreBytes};

@@ -1,4 +1,4 @@
-// Entries of disks over the bytes of others.
+//! Entries of disks over the bytes of others.
 ghost use Rattle.std.specs.Prelude.{◌≡◌, false, option_copied};
 ghost use Rattle.std.specs.Option.{ForSome};
 ghost use Rattle.ddf_tables.specs.declared.disks.DiskEntry.{DiskEntry};

@@ -1,3 +1,4 @@
+//! The physical disk data: the GUID and the reference by which a disk finds itself in the tables. docs/FORMAT.md#physical-disk-data
 ghost use Rattle.std.specs.Prelude.{◌≡◌, ◌↔◌, ℕ, List, length, Ok, IfOk};
 ghost use Rattle.ddf_seal.specs.Records.{record_bytes};
 ghost use Rattle.ddf_seal.specs.Unread.{AreBytes, written};

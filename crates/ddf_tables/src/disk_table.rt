@@ -1,3 +1,4 @@
+//! The physical disk records as a table of disks. docs/FORMAT.md#physical-disk-records
 ghost use Rattle.std.specs.Prelude.{◌≡◌, ◌+◌, ◌*◌, ◌≤◌, ℕ, List, length, replicate, IfOk, Ok};
 ghost use Rattle.std.specs.List.{AllByRecursion};
 ghost use Rattle.ddf_tables.specs.declared.disks.DiskRow.{DiskRow};

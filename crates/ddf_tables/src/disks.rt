@@ -1,3 +1,4 @@
+//! A row of the physical disk records: the fields of a disk. docs/FORMAT.md#physical-disk-records
 ghost use Rattle.std.specs.Prelude.{◌≡◌};
 ghost use Rattle.ddf_seal.specs.Unread.{written};
 ghost use Rattle.ddf_tables.specs.Disks.{disk_at, disk_fields};

@@ -1,3 +1,4 @@
+//! Why a section isn't a table. Two rows of one name are a fault: each change would have to choose between them.
 use ddf_bytes::Guid;
 use ddf_seal::SealFault;
 

@@ -1,3 +1,4 @@
+//! What disks and arrays share as rows of a table, so that the table itself is written once.
 ghost use Rattle.std.specs.Prelude.{◌≡◌, length, IfOk};
 ghost use Rattle.ddf_tables.specs.Rows.{is_unused};
 ghost use Rattle.ddf_tables.specs.Tables.{first_twice};

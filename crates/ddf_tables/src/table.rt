@@ -1,3 +1,4 @@
+//! A table of rows, read and written: what both tables of the format share. docs/FORMAT.md#tables-that-are-written
 ghost use Rattle.std.specs.Prelude.{◌≡◌, ◌+◌, ◌*◌, ◌^◌, ◌<◌, ◌≤◌, length, IfOk, replicate, count_by};
 ghost use Rattle.std.specs.List.{flat_map};
 ghost use Rattle.ddf_seal.specs.Unread.{AreBytes, placed};

@@ -1,4 +1,4 @@
-// A change is applied where memory is ample.
+//! A change is applied where memory is ample.
 use ddf_bytes::{Guid, NoMemory};
 use ddf_plan::{Change, Config, Member, SpareUse, apply};
 use indexmap::IndexMap;

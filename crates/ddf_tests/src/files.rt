@@ -1,4 +1,4 @@
-// Files as disks, and a caller that puts writes in order.
+//! Files as disks, and a caller that puts writes in order.
 ghost use Rattle.std.specs.Prelude.{◌≡◌, ◌⊎◌, ◌+◌, ◌<◌, length, slice_index};
 ghost use Rattle.ddf_bay.specs.Moments.{StopsLeave};
 

@@ -1,4 +1,4 @@
-// A bay in health: where room is enough, a call that knows only the trait doesn't fail.
+//! A bay in health: where room is enough, a call that knows only the trait doesn't fail.
 ghost use Rattle.std.specs.Prelude.{◌≡◌, ◌<◌, ◌≤◌, ◌+◌, ◌-◌, ◌^◌, ℕ, Ok};
 ghost use Rattle.ddf_bay.specs.Memory.{IsHealthy, disks_of, state_of};
 ghost use Rattle.ddf_update.specs.Group.{LieOnSlots};

@@ -1,4 +1,4 @@
-// The lines of records of one group that contradict each other.
+//! The lines of records of one group that contradict each other.
 use ddf_bytes::Hex32;
 use ddf_group::Differ;
 use std::fmt;

@@ -1,4 +1,4 @@
-// The lines of a change that is done.
+//! The lines of a change that is done.
 ghost use Rattle.std.specs.Prelude.{◌≡◌};
 ghost use Rattle.ddf_text.specs.Done.{cut_line, sequence_line};
 

@@ -1,4 +1,4 @@
-// The line of a call on a disk that failed.
+//! The line of a call on a disk that failed.
 ghost use Rattle.std.specs.Prelude.{◌≡◌};
 ghost use Rattle.ddf_text.specs.Refusal.{disk_fault_line};
 

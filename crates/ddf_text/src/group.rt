@@ -1,4 +1,4 @@
-// The lines that `assemble` and `show` print of a group.
+//! The lines that `assemble` and `show` print of a group.
 ghost use Rattle.std.specs.Prelude.{◌≡◌, ◌++◌, IfOk};
 ghost use Rattle.std.specs.String.{string_bytes};
 ghost use Rattle.ddf_config.specs.Extents.{extents};

@@ -1,4 +1,4 @@
-// The names of the primary RAID levels.
+//! The names of the primary RAID levels.
 ghost use Rattle.std.specs.Prelude.{◌≡◌};
 ghost use Rattle.ddf_text.specs.Levels.{level_name};
 

@@ -1,4 +1,4 @@
-// What `examine` lists of the newest copy.
+//! What `examine` lists of the newest copy.
 ghost use Rattle.std.specs.Prelude.{◌≡◌, ◌++◌, IfOk, IfSome, Some, option_map};
 ghost use Rattle.std.specs.List.{flat_map};
 ghost use Rattle.std.specs.String.{string_bytes};

@@ -1,4 +1,4 @@
-// Why a header or a copy isn't what it is to be, as it prints.
+//! Why a header or a copy isn't what it is to be, as it prints.
 ghost use Rattle.std.specs.Prelude.{◌≡◌};
 ghost use Rattle.ddf_text.specs.Reasons.{section_word};
 

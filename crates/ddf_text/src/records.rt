@@ -1,4 +1,4 @@
-// The lines that `examine` prints of the records of a copy.
+//! The lines that `examine` prints of the records of a copy.
 use ddf_bytes::{Hex8, Hex16, Hex32};
 use ddf_configs::{Element, Place};
 use ddf_name::NameText;

@@ -1,3 +1,4 @@
+//! The line of a refusal on standard output. Scripts read it, so it stays to the letter. docs/REFUSALS.md
 ghost use Rattle.std.specs.Prelude.{◌≡◌};
 ghost use Rattle.ddf_text.specs.Refusal.{table_word};
 

@@ -1,4 +1,4 @@
-// The lines that `examine` prints of a slot.
+//! The lines that `examine` prints of a slot.
 ghost use Rattle.std.specs.Prelude.{◌≡◌, ◌++◌, IfOk};
 ghost use Rattle.std.specs.String.{string_bytes};
 ghost use Rattle.ddf_text.specs.CopyText.{copies_text, copy_lines};

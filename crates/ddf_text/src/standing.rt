@@ -1,4 +1,4 @@
-// The state of an array by the seats of its members.
+//! The state of an array by the seats of its members.
 ghost use Rattle.std.specs.Prelude.{◌≡◌, not, count_by};
 ghost use Rattle.std.specs.List.{list_any};
 ghost use Rattle.ddf_array.specs.Viewing.{is_array_within, is_seated};

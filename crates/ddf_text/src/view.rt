@@ -1,4 +1,4 @@
-// What a slot shows of itself: its anchor, the two headers that the anchor names, and its copies.
+//! What a slot shows of itself: its anchor, the two headers that the anchor names, and its copies.
 use ddf_copy::Copies;
 use ddf_header::{Header, HeaderFault};
 

@@ -42,12 +42,12 @@ use Rattle.ddf_copy.proofs.Places.{alike}
 -- ---- a header under an anchor
 
 -- The header of a copy that is read has what the anchor has.
-record IsShared (sector : ℕ → List ℕ) (anchor : Header) (which : Which) (copy : DiskCopy) : Type 0 where
-  shared : first_difference (header_bytes anchor) (sector (place_of which anchor)) ≡ None
-  guid : copy.header.guid ≡ bytes_at (sector (place_of which anchor)) 8 24
-  geometry : copy.header.geometry ≡ geometry_at (sector (place_of which anchor))
+pub record IsShared (sector : ℕ → List ℕ) (anchor : Header) (which : Which) (copy : DiskCopy) : Type 0 where
+  pub shared : first_difference (header_bytes anchor) (sector (place_of which anchor)) ≡ None
+  pub guid : copy.header.guid ≡ bytes_at (sector (place_of which anchor)) 8 24
+  pub geometry : copy.header.geometry ≡ geometry_at (sector (place_of which anchor))
 
-shared_of : (size : ℕ) (sector : ℕ → List ℕ) (anchor : Header) (which : Which) (copy : DiskCopy) → copy_of size sector anchor which ≡ Ok copy → IsShared sector anchor which copy
+pub shared_of : (size : ℕ) (sector : ℕ → List ℕ) (anchor : Header) (which : Which) (copy : DiskCopy) → copy_of size sector anchor which ≡ Ok copy → IsShared sector anchor which copy
 shared_of size sector anchor which copy is =
     let found = found_is size sector anchor which copy.header (header_is size sector anchor which copy is) in
     record { shared = found.is_gate.is_shared; guid = found.guid_is; geometry = found.geometry_is }
@@ -72,7 +72,7 @@ not_read size sector anchor which reference shared differs = ⊎_elim
     (λ fault. fault)
     (ok_or (copy_of size sector anchor which))
 
-under_is : (size : ℕ) (sector : ℕ → List ℕ) (anchor : Header) → anchor_at size sector ≡ Ok anchor → newest_at size sector ≡ Some (newest_of size sector anchor)
+pub under_is : (size : ℕ) (sector : ℕ → List ℕ) (anchor : Header) → anchor_at size sector ≡ Ok anchor → newest_at size sector ≡ Some (newest_of size sector anchor)
 under_is size sector anchor anchored = rw anchored refl
 
 -- ---- an adoption

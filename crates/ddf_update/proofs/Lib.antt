@@ -21,3 +21,4 @@ pub mod NewUnder
 pub mod FirstCopies
 pub mod AdoptingSteps
 pub mod AdoptingShows
+pub mod MovingShows

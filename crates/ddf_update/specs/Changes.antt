@@ -8,10 +8,10 @@ use Rattle.ddf_copy.specs.declared.copy.DiskCopy.{DiskCopy}
 use Rattle.ddf_copy.specs.declared.which.Which.{Which}
 use Rattle.ddf_copy.specs.Headers.{anchor_header}
 use Rattle.ddf_update.specs.declared.prepared.Mode.{Mode}
-use Rattle.ddf_update.specs.declared.prepared.Mode.TheVariants.{Adopt, Change, Found}
+use Rattle.ddf_update.specs.declared.prepared.Mode.TheVariants.{Adopt, Change, Found, Move}
 use Rattle.ddf_update.specs.declared.prepared.Prepared.{Prepared}
 use Rattle.ddf_update.specs.Prepared.{IsPrepared, writes_anchor}
-use Rattle.ddf_update.specs.Update.{AreBoth, IsAdopting, IsChanging, IsWritten, MayAdopt, MayChange}
+use Rattle.ddf_update.specs.Update.{AreBoth, IsAdopting, IsChanging, IsMoving, IsWritten, MayAdopt, MayChange, MayMove}
 
 -- What a slot has, and what it gets: how it is written, its anchor, the copy that is written last, the copy that it shows, and its new
 -- one.
@@ -31,12 +31,14 @@ abbrev pub MayGet : {D : Type 0} → Mode → BayState D → (slot : ℕ) → Sl
 MayGet Change disks slot seat = MayChange disks slot seat.anchor seat.last seat.old seat.new
 MayGet Found disks slot seat = ⊥
 MayGet Adopt disks slot seat = IsSettled disks.may_hold disks.held slot × MayAdopt disks slot seat.anchor seat.last seat.old seat.new
+MayGet Move disks slot seat = IsSettled disks.may_hold disks.held slot × MayMove disks slot seat.anchor seat.last seat.old seat.new
 
 -- A stop leaves it with its old or its new copy.
 abbrev pub IsGetting : Mode → (size : ℕ) → (before now : ℕ → List ℕ) → Prepared → SlotChange → Type 0
 IsGetting Change size before now update seat = IsChanging size before now update seat.anchor seat.last seat.old seat.new
 IsGetting Found size before now update seat = ⊥
 IsGetting Adopt size before now update seat = IsAdopting size before now update seat.last seat.old seat.new
+IsGetting Move size before now update seat = IsMoving size before now update seat.new
 
 -- Each slot may get the new copy of the seat at its place, which its update writes.
 pub record MayChangeAll {D : Type 0} (disks : BayState D) (slots : List ℕ) (seat : ℕ → SlotChange) (updates : List Prepared) : Type 0 where

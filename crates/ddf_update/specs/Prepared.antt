@@ -11,20 +11,22 @@ use Rattle.ddf_copy.specs.Runs.{AreOn, AreRunsOf, sector_count}
 use Rattle.ddf_copy.specs.Which.{kind_of, other_of, place_of}
 use Rattle.ddf_update.specs.declared.gate.Gate.{Gate}
 use Rattle.ddf_update.specs.declared.prepared.Mode.{Mode}
-use Rattle.ddf_update.specs.declared.prepared.Mode.TheVariants.{Adopt, Change, Found}
+use Rattle.ddf_update.specs.declared.prepared.Mode.TheVariants.{Adopt, Change, Found, Move}
 use Rattle.ddf_update.specs.declared.prepared.Prepared.{Prepared}
 
--- Which copy is written first: the one that isn't last. A founding begins with the primary one.
+-- Which copy is written first: the one that isn't last. A founding and a move begin with the primary one.
 abbrev pub written_first : Mode → (last : Which) → Which
 written_first Change last = other_of last
 written_first Found last = Primary
 written_first Adopt last = other_of last
+written_first Move last = Primary
 
 -- a change leaves the anchor as it is
 abbrev pub writes_anchor : Mode → Bool
 writes_anchor Change = false
 writes_anchor Found = true
 writes_anchor Adopt = true
+writes_anchor Move = true
 
 -- where a copy is written, and its header while its sections change and behind them
 pub record IsGateOf (copy : DiskCopy) (which : Which) (gate : Gate) : Type 0 where

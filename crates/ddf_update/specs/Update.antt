@@ -4,6 +4,7 @@ use Rattle.ddf_copy.specs.declared.fault.CopyFault.TheVariants.{Opened}
 use Rattle.ddf_bay.specs.State.{BayState, size_of}
 use Rattle.ddf_bay.specs.Sectors.{Image}
 use Rattle.ddf_bay.specs.Moments.{IsSettled}
+use Rattle.ddf_header.specs.declared.geometry.Geometry.{Geometry}
 use Rattle.ddf_header.specs.declared.reading.Header.{Header}
 use Rattle.ddf_copy.specs.declared.copy.DiskCopy.{DiskCopy}
 use Rattle.ddf_copy.specs.declared.which.Which.{Which}
@@ -13,7 +14,7 @@ use Rattle.ddf_copy.specs.declared.newest_copy.Newest.TheVariants.{Level, One, T
 use Rattle.ddf_copy.specs.Anchor.{anchor_at}
 use Rattle.ddf_copy.specs.Copies.{copy_of, newest_at, newest_of}
 use Rattle.ddf_copy.specs.Headers.{IsUnder, anchor_header, written_as}
-use Rattle.ddf_copy.specs.Runs.{IsInCopy}
+use Rattle.ddf_copy.specs.Runs.{IsInCopy, IsInParts, parts_of}
 use Rattle.ddf_copy.specs.Shows.{IsNewest, Shows}
 use Rattle.ddf_copy.specs.Which.{other_of, place_of}
 use Rattle.ddf_copy.specs.Written.{is_level}
@@ -146,6 +147,41 @@ pub record IsAdopted {D : Type 0} (old new : BayState D) (slot : ℕ) (prepared 
   pub are_both : AreBoth (size_of old slot) (new.held slot) (anchor_header copy) copy
   pub is_settled : IsSettled new.may_hold new.held slot
   pub since : StopsLeaveSince old new (IsFormerOrNew old slot prepared last former copy)
+  pub outside : (l : ℕ) → (new.held slot l ≡ old.held slot l) ⊎ IsInEither prepared l ⊎ (l ≡ size_of old slot - 1)
+  pub other_slots : (s l : ℕ) → s ≢ slot → new.held s l ≡ old.held s l
+  pub others_left : (s l : ℕ) (bytes : List ℕ) → s ≢ slot → new.may_hold s l bytes → old.may_hold s l bytes
+
+-- ---- a move
+
+-- a sector of the copy at an LBA: its header, or a part of a section that is read
+abbrev pub IsOfCopy : (lba : ℕ) → Geometry → ℕ → Type 0
+IsOfCopy lba geometry l = (l ≡ lba) ⊎ IsInParts lba (parts_of geometry) l
+
+-- A slot may get a copy of another group at other places: it shows its copy `last`, the new copy can be written under an anchor of its own,
+-- and shares no sector with the two that are there.
+pub record MayMove {D : Type 0} (disks : BayState D) (slot : ℕ) (anchor : Header) (last : Which) (old new : DiskCopy) : Type 0 where
+  pub is_anchored : anchor_at (size_of disks slot) (disks.held slot) ≡ Ok anchor
+  pub last_is : copy_of (size_of disks slot) (disks.held slot) anchor last ≡ Ok old
+  pub is_newest : IsNewest (newest_of (size_of disks slot) (disks.held slot) anchor) old
+  pub is_under : IsUnder (size_of disks slot) (anchor_header new) new
+  pub lies_apart : (own which : Which) (l : ℕ) → IsOfCopy (place_of own new.header) new.header.geometry l → IsOfCopy (place_of which anchor) old.header.geometry l → ⊥
+
+-- What a stop leaves of the sectors of a slot that is moved: its anchor and its newest copy are what they were, or both copies are the new one
+-- under its own anchor. All outside the two new copies and the anchor is as it was.
+pub record IsMoving (size : ℕ) (before now : ℕ → List ℕ) (prepared : Prepared) (new : DiskCopy) : Type 0 where
+  pub reads : ((anchor_at size now ≡ anchor_at size before) × (newest_at size now ≡ newest_at size before)) ⊎ AreBoth size now (anchor_header new) new
+  pub outside : (l : ℕ) → (now l ≡ before l) ⊎ IsInEither prepared l ⊎ (l ≡ size - 1)
+
+-- A stop leaves a slot that is moved or isn't, and other slots as they might be left before.
+pub record IsMovedOrNot {D : Type 0} (before : BayState D) (slot : ℕ) (prepared : Prepared) (new : DiskCopy) (image : Image) : Type 0 where
+  pub here : IsMoving (size_of before slot) (before.held slot) (image slot) prepared new
+  pub other_slots : (s l : ℕ) → s ≢ slot → before.may_hold s l (image s l)
+
+-- The slot has its new anchor and the new copy in both places, and nothing is pending there.
+pub record IsMoved {D : Type 0} (old new : BayState D) (slot : ℕ) (prepared : Prepared) (copy : DiskCopy) : Type 0 where
+  pub are_both : AreBoth (size_of old slot) (new.held slot) (anchor_header copy) copy
+  pub is_settled : IsSettled new.may_hold new.held slot
+  pub since : StopsLeaveSince old new (IsMovedOrNot old slot prepared copy)
   pub outside : (l : ℕ) → (new.held slot l ≡ old.held slot l) ⊎ IsInEither prepared l ⊎ (l ≡ size_of old slot - 1)
   pub other_slots : (s l : ℕ) → s ≢ slot → new.held s l ≡ old.held s l
   pub others_left : (s l : ℕ) (bytes : List ℕ) → s ≢ slot → new.may_hold s l bytes → old.may_hold s l bytes

@@ -1,4 +1,4 @@
-// The change of several slots.
+//! The change of several slots.
 ghost use Rattle.std.specs.Prelude.{◌≡◌, ℕ, length, OnOk, IfErr};
 ghost use Rattle.ddf_bytes.specs.Counts.{Rose};
 ghost use Rattle.ddf_bay.specs.Moments.{SpendsOver, StopsLeave};

@@ -1,4 +1,4 @@
-// The first copies of a disk, and its anchor.
+//! Copies of a disk at places where it has none, and its anchor: the first ones, or those that it moves to.
 ghost use Rattle.std.specs.Prelude.{◌≡◌, ◌≢◌, ◌⊎◌, ◌<◌, ◌≤◌, ◌+◌, ◌-◌, ◌*◌, length, OnOk, IfErr, slice_index};
 ghost use Rattle.ddf_bytes.specs.Counts.{Rose};
 ghost use Rattle.ddf_bay.specs.Sectors.{IsLeft};

@@ -1,3 +1,4 @@
+//! A copy's header as its gate: open while the sections change, closed when they are sure. docs/UPDATES.md#behind-a-gate
 use ddf_bytes::Sector;
 
 /// Where a copy is written, and its header before and after.

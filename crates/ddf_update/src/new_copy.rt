@@ -1,4 +1,4 @@
-// The copies of a new group's disks.
+//! The copies of a new group's disks.
 ghost use Rattle.std.specs.Prelude.{◌≡◌, ◌<◌, ◌≤◌, ℕ, length, slice_index, IfOk, IsTrue};
 ghost use Rattle.std.specs.List.{list_all};
 ghost use Rattle.ddf_seal.specs.Unread.{cleared, is_within, places};

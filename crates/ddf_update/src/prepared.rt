@@ -1,3 +1,5 @@
+//! The update of one disk, with every sector made before the first is written: memory that runs out half way through would end a change
+//! between two disks. docs/UPDATES.md
 ghost use Rattle.std.specs.Prelude.{◌≡◌, IfOk};
 ghost use Rattle.ddf_copy.specs.Written.{CanBeCopy};
 ghost use Rattle.ddf_update.specs.Prepared.{IsGateOf, IsPrepared, written_first};
@@ -17,6 +19,8 @@ pub enum Mode {
     Found,
     /// Those of a disk that shows another group: the one that isn't the newest, then the anchor, and then the other.
     Adopt,
+    /// Those of a disk that shows another group, at other places than its copies: both, and then the anchor.
+    Move,
 }
 
 /// Every sector of one disk's update, and where it is written.
@@ -34,8 +38,8 @@ pub struct Prepared {
     pub anchor: Sector,
 }
 
-/// Prepares an update to a copy, which is one that can stand on a disk. `last` is the copy that is written second; a founding
-/// begins with the primary one.
+/// Prepares an update to a copy, which is one that can stand on a disk. `last` is the copy that is written second; a founding and a
+/// move begin with the primary one.
 pub fn prepare(
     alloc: Global,
     copy: &DiskCopy,
@@ -61,7 +65,7 @@ fn written_first(mode: Mode, last: Which) -> Which
 {
     match mode {
         Mode::Change | Mode::Adopt => last.other(),
-        Mode::Found => Which::Primary,
+        Mode::Found | Mode::Move => Which::Primary,
     }
 }
 

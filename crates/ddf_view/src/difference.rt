@@ -1,3 +1,4 @@
+//! In what two copies differ, least first, so that each order of disks tells the same difference.
 use ddf_bytes::Guid;
 
 /// The least thing in which the copies of two disks of one group differ: disks come first, then arrays, then elements.

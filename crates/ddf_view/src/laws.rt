@@ -1,4 +1,4 @@
-// Laws of what copies say: functions that do nothing, whose contracts are the laws.
+//! Laws of what copies say: functions that do nothing, whose contracts are the laws.
 ghost use Rattle.std.specs.Prelude.{◌≡◌, ◌∷◌, true, List};
 ghost use Rattle.std.specs.List.{AllByRecursion};
 ghost use Rattle.ddf_copy.specs.declared.copy.DiskCopy.{DiskCopy};

@@ -1,3 +1,5 @@
+//! Why blocks aren't read or written.
+
 /// Why blocks of an array can't be read or written.
 #[derive(Clone, Copy, PartialEq, Eq)]
 pub enum VolumeFault {

@@ -1,3 +1,5 @@
+//! Every command with its words, as a value. What its words are is in the files beside this, and what it may do in `traits.rt`.
+//! docs/COMMANDS.md
 ghost use Rattle.std.specs.Prelude.{◌≡◌};
 
 use ddf_bytes::{Guid, Seq};

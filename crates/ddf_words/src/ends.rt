@@ -1,4 +1,4 @@
-// Where words end.
+//! Where words end.
 ghost use Rattle.std.specs.Prelude.{◌≡◌, ◌<◌, ◌≤◌, ℕ, length, IfOk};
 ghost use Rattle.ddf_words.specs.Words.{words_of};
 

@@ -1,4 +1,4 @@
-// The words behind `label`: how the disks are made, and the numbers of slots.
+//! The words behind `label`: how the disks are made, and the numbers of slots.
 ghost use Rattle.std.specs.Prelude.{◌≡◌, ◌≢◌, ◌∷◌, ℕ, List, None, codes, IfOk, IfSome};
 ghost use Rattle.ddf_words.specs.Words.{Word, words_of, NameDisks, Spells, GoWrongAt};
 

@@ -1,4 +1,4 @@
-// The words of numbers in decimal.
+//! The words of numbers in decimal.
 ghost use Rattle.std.specs.Prelude.{◌≡◌, ℕ, IfOk, IfSome};
 ghost use Rattle.std.specs.Fmt.{decimal};
 ghost use Rattle.std.specs.Str.{bytes_eq};

@@ -1,4 +1,4 @@
-// The words of slots: their numbers.
+//! The words of slots: their numbers.
 ghost use Rattle.std.specs.Prelude.{◌≡◌, ℕ, IfOk};
 ghost use Rattle.ddf_words.specs.Words.{words_of, AreSlotWords, NameSlots, GoWrongAt};
 

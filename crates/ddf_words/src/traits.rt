@@ -1,4 +1,4 @@
-// What a command may do.
+//! What a command may do.
 ghost use Rattle.std.specs.Prelude.{◌≡◌};
 
 use crate::command::{Command, Wish};

@@ -1,4 +1,4 @@
-// Laws of what writes leave: functions that do nothing, whose contracts are the laws.
+//! Laws of what writes leave: functions that do nothing, whose contracts are the laws.
 ghost use Rattle.std.specs.Prelude.{◌≡◌, ◌≢◌, ◌⊎◌, ◌+◌, ◌<◌, ℕ, Bool, List, [], Some, false, length, slice_get, slice_index_or, true};
 ghost use Rattle.ddf_bay.specs.Sectors.{Image, IsLeft};
 ghost use Rattle.ddf_bay.specs.Moments.{IsSettled};

@@ -61,6 +61,7 @@ fn set_run<B: Bay>(
         → OnOk result (IsSure (Failed (B.disks bay.old) (B.disks bay.new)) view.now entry → (j : ℕ) (one : Site) → j < count → site_at part.now.places parity (sector + j) ≡ Some one
         → bytes_at (B.disks bay.new).held one ≡ row_sum view.now (B.disks bay.new).held element part.now (sector + j)) }
     ensures noted { OnOk result ((j : ℕ) (one : Site) → j < count → site_at part.now.places parity (sector + j) ≡ Some one → IsTouchedSlot touched.new one.slot) }
+    ensures unfailed { OnOk result ((B.disks bay.new).failed_writes ≡ (B.disks bay.old).failed_writes) }
     ensures cause { IfErr result (IsStopped (B.disks bay.old) (B.disks bay.new) view.now start (length from.now)) }
     ensures asked { (B.disks bay.new).sectors_asked ≤ (B.disks bay.old).sectors_asked + count }
     ensures written { (B.disks bay.new).sectors_written ≤ (B.disks bay.old).sectors_written + count }
@@ -219,6 +220,7 @@ fn set_rows_from<B: Bay>(
         → IfOk result (λ count. IsSure (Failed (B.disks bay.old) (B.disks bay.new)) view.now entry
         → RowsIn view.now start k element (IsSummed view.now (B.disks bay.old).held) → RowsIn view.now start (k + count) element (IsSummed view.now (B.disks bay.new).held)) }
     ensures noted { IfOk result (λ count. RowsIn view.now start k element (IsNoted touched.old) → RowsIn view.now start (k + count) element (IsNoted touched.new)) }
+    ensures unfailed { OnOk result ((B.disks bay.new).failed_writes ≡ (B.disks bay.old).failed_writes) }
     ensures cause { IfErr result (IsStopped (B.disks bay.old) (B.disks bay.new) view.now start (length from.now)) }
     ensures asked { IfOk result (λ count. (B.disks bay.new).sectors_asked ≤ (B.disks bay.old).sectors_asked + count) }
     ensures written { IfOk result (λ count. (B.disks bay.new).sectors_written ≤ (B.disks bay.old).sectors_written + count) }
@@ -278,6 +280,7 @@ fn set_rows_in<B: Bay>(
     ensures summed { B.tells → (entry : ℕ → ℕ → List ℕ) → IsFilled view.now start from.now entry (B.disks bay.old).held
         → OnOk result (IsSure (Failed (B.disks bay.old) (B.disks bay.new)) view.now entry → RowsIn view.now start (length from.now) element (IsSummed view.now (B.disks bay.new).held)) }
     ensures noted { OnOk result (RowsIn view.now start (length from.now) element (IsNoted touched.new)) }
+    ensures unfailed { OnOk result ((B.disks bay.new).failed_writes ≡ (B.disks bay.old).failed_writes) }
     ensures cause { IfErr result (IsStopped (B.disks bay.old) (B.disks bay.new) view.now start (length from.now)) }
     ensures asked { (B.disks bay.new).sectors_asked ≤ (B.disks bay.old).sectors_asked + parity_cells view.now.parts (length from.now) element }
     ensures written { (B.disks bay.new).sectors_written ≤ (B.disks bay.old).sectors_written + parity_cells view.now.parts (length from.now) element }
@@ -317,6 +320,7 @@ pub(crate) fn set_rows<B: Bay>(
     ensures summed { B.tells → (entry : ℕ → ℕ → List ℕ) → IsFilled view.now start from.now entry (B.disks bay.old).held
         → OnOk result (IsSure (Failed (B.disks bay.old) (B.disks bay.new)) view.now entry → AllRows view.now start (length from.now) (IsSummed view.now (B.disks bay.new).held)) }
     ensures noted { OnOk result (AllRows view.now start (length from.now) (IsNoted touched.new)) }
+    ensures unfailed { OnOk result ((B.disks bay.new).failed_writes ≡ (B.disks bay.old).failed_writes) }
     ensures cause { IfErr result (IsStopped (B.disks bay.old) (B.disks bay.new) view.now start (length from.now)) }
     ensures asked { (B.disks bay.new).sectors_asked ≤ (B.disks bay.old).sectors_asked + row_cells view.now (length from.now) }
     ensures written { (B.disks bay.new).sectors_written ≤ (B.disks bay.old).sectors_written + row_cells view.now (length from.now) }

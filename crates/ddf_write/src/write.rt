@@ -60,6 +60,7 @@ fn write_all<B: Bay>(bay: &mut B, view: &View, start: u64, from: &[Sector]) -> R
     ensures written { B.tells → OnOk result (HasWritten view.now start from.now (IsSure (Failed (B.disks bay.old) (B.disks bay.new)) view.now (B.disks bay.old).held) (B.disks bay.new).held) }
     ensures durable { B.tells → OnOk result ((slot : ℕ) → IsWritten view.now start (length from.now) slot → IsSettled (B.disks bay.new).may_hold (B.disks bay.new).held slot) }
     ensures settled { B.tells → OnOk result ((slot : ℕ) → IsSettled (B.disks bay.old).may_hold (B.disks bay.old).held slot → IsSettled (B.disks bay.new).may_hold (B.disks bay.new).held slot) }
+    ensures unfailed { OnOk result ((B.disks bay.new).failed_writes ≡ (B.disks bay.old).failed_writes) }
     ensures cause { IfErr result (IsStopped (B.disks bay.old) (B.disks bay.new) view.now start (length from.now)) }
     ensures goes { GoesBetween (B.disks bay.old) (B.disks bay.new) }
     ensures asked { (B.disks bay.new).sectors_asked ≤ (B.disks bay.old).sectors_asked + (copy_cells view.now start (length from.now) + row_cells view.now (length from.now)) }
@@ -102,6 +103,7 @@ pub fn write_blocks<B: Bay>(
     ensures durable { B.tells → OnOk result ((slot : ℕ) → IsWritten view.now start (length from.now) slot → IsSettled (B.disks bay.new).may_hold (B.disks bay.new).held slot) }
     ensures settled { B.tells → OnOk result ((slot : ℕ) → IsSettled (B.disks bay.old).may_hold (B.disks bay.old).held slot → IsSettled (B.disks bay.new).may_hold (B.disks bay.new).held slot) }
     ensures ok { OnOk result (write_refusal view.now start (length from.now) ≡ None) }
+    ensures unfailed { OnOk result ((B.disks bay.new).failed_writes ≡ (B.disks bay.old).failed_writes) }
     ensures fault { IfErr result (IsWriteFault (B.disks bay.old) (B.disks bay.new) view.now start (length from.now)) }
     ensures goes { GoesBetween (B.disks bay.old) (B.disks bay.new) }
     ensures asked { (B.disks bay.new).sectors_asked ≤ (B.disks bay.old).sectors_asked + (copy_cells view.now start (length from.now) + row_cells view.now (length from.now)) }

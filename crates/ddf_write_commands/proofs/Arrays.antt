@@ -14,8 +14,8 @@ use Rattle.ddf_assembly.specs.Seated.{seated}
 use Rattle.ddf_assembly.specs.Steps.{Step}
 use Rattle.ddf_stops.specs.Going.{KeepsHistory, changes_in}
 use Rattle.ddf_stops.specs.Steps.{IsCommit}
-use Rattle.ddf_data_stops.specs.Floors.{AreFloored, floor_in}
-use Rattle.ddf_data_stops.proofs.Course.{recovery_failed}
+use Rattle.ddf_stops.specs.BlockFloors.{AreFloored, floor_in}
+use Rattle.ddf_stops.proofs.Course.{recovery_failed}
 use Rattle.ddf_answer.specs.declared.failure.Failure.{Failure}
 use Rattle.ddf_answer.specs.declared.failure.Failure.TheVariants.{Disk}
 use Rattle.ddf_answer.specs.Call.{work_of}
@@ -33,7 +33,7 @@ use Rattle.ddf_write_commands.specs.Planned.{Entry, IsPlanned, Refusing, request
 use Rattle.ddf_write_commands.specs.Plans.{IsPlanOf}
 use Rattle.ddf_write_commands.specs.Worked.{IsArrayLeft, IsLeftDoing, IsWorkedOf}
 use Rattle.ddf_write_commands.proofs.Between.{can_close, close_along, close_aside, close_keeps, close_leaves, closed, not_opened, work_along, work_aside, work_keeps, work_leaves, work_left, work_stopped}
-use Rattle.ddf_write_commands.proofs.Courses.{IsTold}
+use Rattle.ddf_bay.specs.Told.{IsTold}
 use Rattle.ddf_write_commands.proofs.OnePlan.{same_first, same_last, same_ok, same_volume}
 use Rattle.ddf_write_commands.proofs.Parts.{issued_parts, opening_fails}
 use Rattle.ddf_write_commands.proofs.PlanKept.{IsPlannedAs, first, is_first, planned, planned_by, steps_are}

@@ -26,7 +26,7 @@ use Rattle.ddf_rewrite.proofs.Lists.{all_at}
 use Rattle.ddf_assembly.specs.Committed.{slots_of}
 use Rattle.ddf_assembly.specs.Trying.{SlotsRise}
 use Rattle.ddf_stops.specs.Kept.{is_slot}
-use Rattle.ddf_data_stops.specs.Floors.{floor_in}
+use Rattle.ddf_stops.specs.BlockFloors.{floor_in}
 
 -- ---- the floors of seats
 

@@ -32,8 +32,8 @@ use Rattle.ddf_stops.specs.Going.{Goes, IsAdmitted, KeepsHistory, changes_in}
 use Rattle.ddf_stops.specs.Kept.{AreAllKept, is_read, is_slot}
 use Rattle.ddf_stops.specs.Steps.{IsCommit}
 use Rattle.ddf_stops.proofs.Slots.{slot_placed}
-use Rattle.ddf_data_stops.specs.Course.{IsUnderWay}
-use Rattle.ddf_data_stops.specs.Floors.{AreFloored, WritesBelow, floor_in}
+use Rattle.ddf_stops.specs.Course.{IsUnderWay}
+use Rattle.ddf_stops.specs.BlockFloors.{AreFloored, WritesBelow, floor_in}
 use Rattle.ddf_answer.specs.declared.failure.Failure.{Failure}
 use Rattle.ddf_answer.specs.declared.failure.Failure.TheVariants.{Conflict, Disk, Memory, Refused, Split}
 use Rattle.ddf_answer.specs.Call.{Work, work_of}
@@ -53,7 +53,8 @@ use Rattle.ddf_write_commands.specs.Planned.{IsPlanned}
 use Rattle.ddf_write_commands.specs.Worked.{IsArrayDone, IsArrayLeft, IsArrayStopped, IsLeftClosing, IsLeftDoing, IsLeftWorking, IsWorkedOf}
 use Rattle.ddf_write_commands.proofs.BelowFloors.{floor_slot}
 use Rattle.ddf_write_commands.proofs.Closing.{last_keeps}
-use Rattle.ddf_write_commands.proofs.Courses.{IsTold, write_fails, writes}
+use Rattle.ddf_write_commands.proofs.Courses.{write_fails, writes}
+use Rattle.ddf_bay.specs.Told.{IsTold}
 use Rattle.ddf_write_commands.proofs.Parts.{comes_along, configs_of, work_fails}
 use Rattle.ddf_write_commands.proofs.Unmoved.{have_floors, holds_still}
 use Rattle.ddf_write_commands.proofs.Works.{HasStopped, HasWorked, IsSteady}

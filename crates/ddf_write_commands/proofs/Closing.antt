@@ -21,8 +21,8 @@ use Rattle.ddf_stops.specs.Going.{KeepsHistory}
 use Rattle.ddf_stops.specs.Kept.{ReadsTrue, is_slot}
 use Rattle.ddf_stops.specs.Steps.{IsCommit}
 use Rattle.ddf_stops.proofs.Slots.{slot_is}
-use Rattle.ddf_data_stops.specs.Course.{IsUnderWay}
-use Rattle.ddf_data_stops.proofs.Course.{course_ends}
+use Rattle.ddf_stops.specs.Course.{IsUnderWay}
+use Rattle.ddf_stops.proofs.Course.{course_ends}
 use Rattle.ddf_group_commands.specs.Others.{LeavesOthers}
 use Rattle.ddf_group_commands.specs.Writing.{IsLeftWriting}
 use Rattle.ddf_group_commands.proofs.Keeping.{reads_true}
@@ -31,7 +31,8 @@ use Rattle.ddf_group_commands.proofs.Recovering.{next_on_seat}
 use Rattle.ddf_group_commands.proofs.StepsWritten.{committed_written, next_sequence, none_asked, settled_still, steps_in}
 use Rattle.ddf_write_commands.specs.Closed.{IsLastWritten}
 use Rattle.ddf_write_commands.specs.Opened.{CanGoOn, steps_left}
-use Rattle.ddf_write_commands.proofs.Courses.{IsTold, commit_fails, commits}
+use Rattle.ddf_write_commands.proofs.Courses.{commit_fails, commits}
+use Rattle.ddf_bay.specs.Told.{IsTold}
 
 module _ {D : Type 0} (tells : Type 0) (old : BayState D) (found : GroupValue) (ready : ReadyValue) (can : CanGoOn tells old found ready) where
   pub lies_next : LieOnSlots old.sizes (next_slots ready) (next_updates ready)

@@ -2,6 +2,7 @@
 use Rattle.std.proofs.Common.{◌≡◌, ℕ, ◌≤◌, Bool, true, false, List, Option, refl}
 use Rattle.ddf_bay.specs.Sectors.{Image, IsLeft, IsWhole}
 use Rattle.ddf_bay.specs.State.{BayState}
+use Rattle.ddf_bay.specs.Told.{IsTold}
 use Rattle.ddf_config.specs.Configuration.{Configuration}
 use Rattle.ddf_plan.specs.declared.change.Change.{Change}
 use Rattle.ddf_history.specs.Groups.{groups}
@@ -16,20 +17,12 @@ use Rattle.ddf_stops.specs.Steps.{IsCommit, IsRecovery, WasTaken, behind_recover
 use Rattle.ddf_stops.proofs.CommittingKeeps.{commit_keeps, may, stands_behind}
 use Rattle.ddf_stops.proofs.Entering.{keeps_where_told}
 use Rattle.ddf_stops.proofs.RecoveringKeeps as recovering
-use Rattle.ddf_data_stops.specs.Course.{IsUnderWay, changes_ready}
-use Rattle.ddf_data_stops.specs.Floors.{AreFloored, StaySettled, WritesBelow, floor_in}
-use Rattle.ddf_data_stops.proofs.Below.{all_kept, moments_kept, stands_still}
-use Rattle.ddf_data_stops.proofs.Course as course
-use Rattle.ddf_data_stops.proofs.Course.{blocks_failed, blocks_written, changes_parts, ready_still, recovery_loses, recovery_moments, reads_true, step_failed, step_written}
-use Rattle.ddf_data_stops.proofs.Floored.{seats_have_floors}
-
--- What a bay promises of what it tells.
-pub record IsTold {D : Type 0} (state : BayState D) : Type 0 where
-  pub held : state.tells_left → IsLeft state.may_hold state.held
-  pub whole : (s l : ℕ) (bytes : List ℕ) → state.may_hold s l bytes → IsWhole bytes
-  pub only_now : (image : Image) → state.left_since state.moment image → IsLeft state.may_hold image
-  pub counts : (t : ℕ) (image : Image) → t ≤ state.moment → IsLeft state.may_hold image → state.left_since t image
-  pub since : (t : ℕ) (image : Image) → state.left_since t image → state.tells_left
+use Rattle.ddf_stops.specs.Course.{IsUnderWay, changes_ready}
+use Rattle.ddf_stops.specs.BlockFloors.{AreFloored, StaySettled, WritesBelow, floor_in}
+use Rattle.ddf_stops.proofs.Below.{all_kept, moments_kept, stands_still}
+use Rattle.ddf_stops.proofs.Course as course
+use Rattle.ddf_stops.proofs.Course.{blocks_failed, blocks_written, changes_parts, ready_still, recovery_loses, recovery_moments, reads_true, step_failed, step_written}
+use Rattle.ddf_stops.proofs.Floored.{seats_have_floors}
 
 module _ (group : List ℕ) {D : Type 0} (past : Past (groups group)) (old new : BayState D) (tells_old : IsTold old) (tells_new : IsTold new) (left : List Bool) (named : Option (List ℕ)) (found : GroupValue)
     (asked : List Change) (timestamp : ℕ) (ready : ReadyValue) (taken : WasTaken old left named found asked timestamp ready) (same_group : found.config.group ≡ group) (kept : AreAllKept group past old)

@@ -31,9 +31,9 @@ use Rattle.ddf_stops.specs.Going.{IsAdmitted, KeepsHistory, changes_in}
 use Rattle.ddf_stops.specs.Kept.{AreAllKept, is_slot}
 use Rattle.ddf_stops.specs.Steps.{IsCommit, IsRecovery, WasTaken, recovery_changes}
 use Rattle.ddf_stops.proofs.Slots.{slot_is}
-use Rattle.ddf_data_stops.specs.Course.{IsUnderWay, changes_ready}
-use Rattle.ddf_data_stops.proofs.Course.{changes_parts}
-use Rattle.ddf_data_stops.proofs.Floored.{next_floored, recovered_floored}
+use Rattle.ddf_stops.specs.Course.{IsUnderWay, changes_ready}
+use Rattle.ddf_stops.proofs.Course.{changes_parts}
+use Rattle.ddf_stops.proofs.Floored.{next_floored, recovered_floored}
 use Rattle.ddf_group_commands.specs.Change.{KeepsHistories}
 use Rattle.ddf_group_commands.specs.GroupRead.{IsFoundBy, IsReadFrom}
 use Rattle.ddf_group_commands.specs.Others.{LeavesOthers}
@@ -47,7 +47,8 @@ use Rattle.ddf_group_commands.proofs.Recovering.{done_to, rest_on_seats}
 use Rattle.ddf_group_commands.proofs.StepsWritten.{none_asked, steps_in}
 use Rattle.ddf_write_commands.specs.Around.{IsMark, front, rest}
 use Rattle.ddf_write_commands.specs.Opened.{AreMembers, AreUnderWay, IsOpened}
-use Rattle.ddf_write_commands.proofs.Courses.{IsTold, commit_fails, commits, recovers, recovery_fails}
+use Rattle.ddf_write_commands.proofs.Courses.{commit_fails, commits, recovers, recovery_fails}
+use Rattle.ddf_bay.specs.Told.{IsTold}
 use Rattle.ddf_write_commands.proofs.Parts.{configs_of, issued_parts}
 use Rattle.ddf_write_commands.proofs.Splitting.{all_parts, all_readied, config_is, first_readied, seats_same, split, was_first}
 

@@ -20,10 +20,10 @@ use Rattle.ddf_stops.specs.Kept.{AreAllKept, is_read}
 use Rattle.ddf_stops.specs.Steps.{IsCommit, KeepsStep, behind_next, with_next}
 use Rattle.ddf_stops.proofs.CommittingKeeps.{commit_keeps}
 use Rattle.ddf_stops.proofs.LastIssued.{over_length}
-use Rattle.ddf_data_stops.specs.Course.{HasCome as Come, IsUnderWay}
-use Rattle.ddf_data_stops.specs.Floors.{AreFloored, StaySettled, WritesBelow, floor_in}
-use Rattle.ddf_data_stops.proofs.Below.{all_kept, moments_kept}
-use Rattle.ddf_data_stops.proofs.Floored.{seats_have_floors}
+use Rattle.ddf_stops.specs.Course.{HasCome as Come, IsUnderWay}
+use Rattle.ddf_stops.specs.BlockFloors.{AreFloored, StaySettled, WritesBelow, floor_in}
+use Rattle.ddf_stops.proofs.Below.{all_kept, moments_kept}
+use Rattle.ddf_stops.proofs.Floored.{seats_have_floors}
 use Rattle.ddf_answer.specs.Call.{work_of}
 use Rattle.ddf_group_commands.specs.Change.{Request}
 use Rattle.ddf_group_commands.specs.Writing.{IsLeftWriting}
@@ -32,7 +32,8 @@ use Rattle.ddf_write_commands.specs.Along.Stage.{Closing, Done, Opening, Working
 use Rattle.ddf_write_commands.specs.Doing.{Doing}
 use Rattle.ddf_write_commands.specs.Planned.{IsPlanned}
 use Rattle.ddf_write_commands.specs.Worked.{IsLeftClosing, IsLeftWorking}
-use Rattle.ddf_write_commands.proofs.Courses.{IsTold, writes}
+use Rattle.ddf_write_commands.proofs.Courses.{writes}
+use Rattle.ddf_bay.specs.Told.{IsTold}
 use Rattle.ddf_group_commands.proofs.LeftWriting.{left_still}
 
 -- what the steps issue is what the first of them issue, and then the others

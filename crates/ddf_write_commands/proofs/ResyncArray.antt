@@ -11,7 +11,7 @@ use Rattle.ddf_resync.specs.Resyncing.{IsResyncFault, IsStopped, MayResync, resy
 use Rattle.ddf_assembly.specs.Committed.{slots_of}
 use Rattle.ddf_assembly.specs.Group.{GroupValue}
 use Rattle.ddf_assembly.specs.Recovery.{config_recovered}
-use Rattle.ddf_data_stops.specs.Floors.{floor_in}
+use Rattle.ddf_stops.specs.BlockFloors.{floor_in}
 use Rattle.ddf_answer.specs.declared.failure.Failure.{Failure}
 use Rattle.ddf_answer.specs.declared.failure.Failure.TheVariants.{Disk}
 use Rattle.ddf_answer.specs.Call.{Work}

@@ -17,7 +17,7 @@ use Rattle.ddf_resync.specs.Resyncing.{AddsResynced, HasResynced, IsAmongResynce
 use Rattle.ddf_resync.specs.Several.{resync_sectors}
 use Rattle.ddf_update.specs.Group.{IsOneOf}
 use Rattle.ddf_assembly.specs.Committed.{slots_of}
-use Rattle.ddf_data_stops.specs.Floors.{StaySettled}
+use Rattle.ddf_stops.specs.BlockFloors.{StaySettled}
 use Rattle.ddf_answer.specs.Call.{work_of}
 use Rattle.ddf_answer.specs.Costs.{WritesAtMost}
 use Rattle.ddf_answer.proofs.Costs.{none_written}

@@ -1,5 +1,6 @@
 -- What a command over the blocks of an array comes to, since its entry: its group is read before.
-use Rattle.std.proofs.Common.{◌≡◌, ◌⊎◌, ℕ, suc, ◌≤◌, Bool, false, List, [], ◌∷◌, Option, Result, Ok, Err, refl, sym, ap, subst, ◌∙◌, inl, inr, ⊎_elim, arith}
+use Rattle.std.proofs.Common.{◌≡◌, ◌⊎◌, ℕ, suc, ◌≤◌, Bool, true, false, List, [], ◌∷◌, Option, Result, Ok, Err, refl, sym, ap, subst, ◌∙◌, inl, inr, ⊎_elim, arith}
+use Rattle.std.specs.Prelude.{OnOk}
 use Rattle.ddf_bay.specs.Moments.{StopsLeave}
 use Rattle.ddf_bay.specs.ReadsOnly.{ReadsOnly}
 use Rattle.ddf_bay.specs.Sectors.{Image, IsLeft}
@@ -34,7 +35,7 @@ use Rattle.ddf_group_commands.specs.Others.{LeavesOthers}
 use Rattle.ddf_group_commands.specs.Written.{AreWritten}
 use Rattle.ddf_group_commands.proofs.Beside.{beside_since, reads_beside}
 use Rattle.ddf_group_commands.proofs.Keeping.{reads_keep, since_entry}
-use Rattle.ddf_group_commands.proofs.Outcomes.{group_read, memory_told}
+use Rattle.ddf_group_commands.proofs.Outcomes.{group_read, memory_told, where_done}
 use Rattle.ddf_write_commands.specs.Along.{AllComeAlong, ComesAlong, GoesAlong, HasCome, IsAlong, IsLeftAt, Stage}
 use Rattle.ddf_write_commands.specs.Along.Stage.{Closing, Done, Opening, Working}
 use Rattle.ddf_write_commands.specs.Costs.{CostsOfDoing, CostsOfPlan}
@@ -58,6 +59,7 @@ pub record HasDoneArray {D : Type 0} (doing : Doing) (tells : Type 0) (middle ne
   pub keeps : tells → (left : List Bool) (named : Option (List ℕ)) → IsFoundBy middle left named group → (steps : List Step) → steps_of group timestamp request ≡ Ok steps
       → KeepsHistories middle new left group steps (is_done outcome)
   pub along : tells → (left : List Bool) (named : Option (List ℕ)) → IsFoundBy middle left named group → AllComeAlong doing (work_of tells middle new) left group timestamp word request (is_done outcome)
+  pub unfailed : OnOk outcome (new.failed_writes ≡ middle.failed_writes)
   pub goes : GoesBetween middle new
   pub costs : CostsOfPlan doing (work_of tells middle new) group timestamp word request
 
@@ -68,6 +70,7 @@ pub record HaveBeenMade {D : Type 0} (doing : Doing) (tells : Type 0) (middle ne
   pub keeps : tells → (left : List Bool) (named : Option (List ℕ)) → IsFoundBy middle left named group → (steps : List Step) → steps_of group timestamp request ≡ Ok steps
       → KeepsHistories middle new left group steps done
   pub along : tells → (left : List Bool) (named : Option (List ℕ)) → IsFoundBy middle left named group → AllComeAlong doing (work_of tells middle new) left group timestamp word request done
+  pub unfailed : done ≡ true → new.failed_writes ≡ middle.failed_writes
   pub goes : GoesBetween middle new
   pub costs : CostsOfPlan doing (work_of tells middle new) group timestamp word request
 
@@ -143,6 +146,7 @@ module _ {D : Type 0} (doing : Doing) (work : Work D) (named : Option (List ℕ)
       read = read.read;
       beside = λ told one is. reads_beside work.old work.new (slots_of one.seats) reads;
       keeps = λ told one is steps asked. reads_keep work.old work.new read.left one steps reads;
+      unfailed = λ done. absurd cc;
     };
     gone = λ given. read.gone (λ spent. given (memory_told failure spent));
     gives = none_in (group_of read.newest named) failure read.answer;
@@ -163,6 +167,7 @@ module _ {D : Type 0} (doing : Doing) (work : Work D) (named : Option (List ℕ)
       read = read.read;
       beside = λ told one is. reads_beside work.old work.new (slots_of one.seats) reads;
       keeps = λ told one is steps asked. reads_keep work.old work.new read.left one steps reads;
+      unfailed = λ done. absurd cc;
     };
     gone = λ given. read.gone (λ spent. absurd cc);
     gives = subst (λ (one : Result GroupValue Assembly). IsWorkedIn doing work timestamp word request one (Err failure)) (sym (group_read work named group read)) is;
@@ -355,6 +360,7 @@ module _ {D : Type 0} (tells : Type 0) (doing : Doing) (steady : IsSteady doing)
             subst (λ (one : GroupValue). steps_of one timestamp request ≡ Ok steps → KeepsHistories old new read.left one steps done) same
             (λ now_asked. since_entry old middle new read.left group steps done reads (has.keeps told read.left named (found_by told) steps now_asked))
             asked;
+        unfailed = λ is slot below kept. ap (λ (counts : ℕ → ℕ). counts slot) (has.unfailed is) ∙ (read.seen slot below kept).1;
       };
       is_group = is_group;
       gone = read.gone (λ spent. absurd cc);
@@ -375,7 +381,7 @@ module _ {D : Type 0} (tells : Type 0) (doing : Doing) (steady : IsSteady doing)
 
     module _ (outcome : Result ℕ Failure) (has : HasDoneArray doing tells middle new group timestamp word request outcome) where
       since : HaveSince doing (work_of tells old new) named timestamp word request group (is_done outcome)
-      since = made_since (is_done outcome) (record { leaves = has.leaves; beside = has.beside; keeps = has.keeps; along = has.along; goes = has.goes; costs = has.costs })
+      since = made_since (is_done outcome) (record { leaves = has.leaves; beside = has.beside; keeps = has.keeps; along = has.along; unfailed = where_done outcome has.unfailed; goes = has.goes; costs = has.costs })
 
       -- It came to this since its entry.
       pub come_since : HasComeTo doing (work_of tells old new) named timestamp word request outcome

@@ -26,7 +26,7 @@ use Rattle.ddf_update.specs.Group.{IsOneOf}
 use Rattle.ddf_assembly.specs.Committed.{slots_of}
 use Rattle.ddf_assembly.specs.Trying.{SlotsRise}
 use Rattle.ddf_stops.proofs.Slots.{slot_placed}
-use Rattle.ddf_data_stops.specs.Floors.{floor_in}
+use Rattle.ddf_stops.specs.BlockFloors.{floor_in}
 use Rattle.ddf_write_commands.proofs.BelowFloors.{floor_slot, given_below}
 
 -- each place of an element is on a slot of this kind

@@ -18,7 +18,7 @@ use Rattle.ddf_assembly.specs.Committed.{slots_of}
 use Rattle.ddf_assembly.specs.Group.{GroupValue}
 use Rattle.ddf_assembly.specs.Recovery.{config_recovered}
 use Rattle.ddf_stops.proofs.Slots.{slot_placed}
-use Rattle.ddf_data_stops.specs.Floors.{floor_in}
+use Rattle.ddf_stops.specs.BlockFloors.{floor_in}
 use Rattle.ddf_group_commands.specs.GroupRead.{IsReadFrom}
 use Rattle.ddf_write_commands.specs.declared.planning.Plan.{Plan}
 use Rattle.ddf_write_commands.specs.Marking.{marked_config}

@@ -21,7 +21,7 @@ use Rattle.ddf_assembly.specs.Recovery.{config_recovered}
 use Rattle.ddf_assembly.specs.Seated.{seated}
 use Rattle.ddf_assembly.specs.Steps.{Step}
 use Rattle.ddf_stops.specs.Steps.{IsCommit}
-use Rattle.ddf_data_stops.specs.Floors.{AreFloored, floor_in}
+use Rattle.ddf_stops.specs.BlockFloors.{AreFloored, floor_in}
 use Rattle.ddf_answer.specs.declared.failure.Failure.{Failure}
 use Rattle.ddf_answer.specs.declared.failure.Failure.TheVariants.{Disk}
 use Rattle.ddf_answer.specs.Call.{work_of}
@@ -42,7 +42,7 @@ use Rattle.ddf_write_commands.specs.Plans.{IsPlanOf}
 use Rattle.ddf_write_commands.specs.Write.{HasWrittenBlocks, IsGivenFor, write_behind, write_refusals, writing}
 use Rattle.ddf_write_commands.proofs.Arrays.{along_of, aside_of, can_close_of, closed_along, closed_aside, closed_keeps, closed_leaves, closed_of, keeps_of, left_of, not_opened_along, not_opened_keeps, not_opened_leaves, not_opened_of, stopped_leaves, stopped_of}
 use Rattle.ddf_write_commands.proofs.Costs.{closed_costs, opened_costs, worked_costs}
-use Rattle.ddf_write_commands.proofs.Courses.{IsTold}
+use Rattle.ddf_bay.specs.Told.{IsTold}
 use Rattle.ddf_write_commands.proofs.PlanWritten.{few_behind}
 use Rattle.ddf_write_commands.proofs.WriteArray.{accepted, under, write_ended}
 use Rattle.ddf_write_commands.proofs.WriteWorks.{write_steady, write_worked}

@@ -13,9 +13,12 @@ use Rattle.ddf_answer.specs.declared.failure.Failure.{Failure}
 use Rattle.ddf_answer.specs.declared.failure.Failure.TheVariants.{Memory, Refused}
 use Rattle.ddf_answer.specs.Answers.{IsToldFailure}
 use Rattle.ddf_answer.specs.Call.{Answer, Work}
-use Rattle.ddf_answer.specs.Ends.{is_unwritten}
-use Rattle.ddf_answer.proofs.Causes.{closes_wrote, wrote}
+use Rattle.ddf_answer.specs.Ends.{EndsBy, HasCause, is_unwritten}
+use Rattle.ddf_answer.proofs.Causes.{closes_wrote, done_told, refused_told, stream_cause, wrote}
 use Rattle.ddf_answer.proofs.Costs.{none_written}
+use Rattle.ddf_words.specs.declared.command.Command.TheVariants.{Write}
+use Rattle.ddf_words.specs.declared.traits.Traits.{Traits}
+use Rattle.ddf_words.specs.Traits.{traits_of}
 use Rattle.ddf_group_commands.specs.Change.{Request, steps_of}
 use Rattle.ddf_group_commands.specs.GroupRead.{IsGroupRead}
 use Rattle.ddf_write_commands.specs.declared.payload.PayloadFault.{PayloadFault}
@@ -23,11 +26,10 @@ use Rattle.ddf_write_commands.specs.declared.payload.PayloadFault.TheVariants as
 use Rattle.ddf_write_commands.specs.declared.writing.Done.{Done}
 use Rattle.ddf_write_commands.specs.declared.writing.WriteFault.{WriteFault}
 use Rattle.ddf_write_commands.specs.declared.writing.WriteFault.TheVariants as faults
-use Rattle.ddf_write_commands.specs.Ending.{EndsCut}
 use Rattle.ddf_write_commands.specs.Payload.{Input, InputRose, IsNoPayload, IsShort, IsUntaken}
 use Rattle.ddf_write_commands.specs.Write.{HasWrittenArray, IsDoneTold, IsSequenceTold, IsWriteTold, IsWriteIn, IsWrittenAs, Outcome, answered, fault_of_payload, write_request, writing}
 use Rattle.ddf_write_commands.specs.Write.Outcome.{Broken, NotRead, Short, Taken, Unfit}
-use Rattle.ddf_write_commands.proofs.Ended.{Cause, failure_cause, failure_unwritten}
+use Rattle.ddf_write_commands.proofs.Ended.{failure_cause, failure_unwritten}
 use Rattle.ddf_write_commands.proofs.Since.{HasComeTo, unwritten_come, unwritten_found, unwritten_out}
 use Rattle.ddf_write_commands.proofs.WriteWorks.{write_steady}
 
@@ -112,40 +114,37 @@ module _ {D : Type 0} (work : Work D) (input : Input) (answer : Answer) (timesta
   abbrev Rises : Type 0
   Rises = SinkRose answer.old answer.new ⊎ InputRose input
 
-  abbrev CutCause : Type 0
-  CutCause = (answer.status ≡ 7) ⊎ Cause work answer Rises
+  abbrev traits : Traits
+  traits = traits_of (Write word start count)
 
-  six : answer.status ≡ 6 → Cause work answer Rises
-  six is = inr (inr (inr (inr (inr (is, stream is)))))
-
-  sequence_cause : (all : Bool) (blocks sequence : ℕ) → IsSequenceTold all blocks sequence answer → CutCause
-  sequence_cause true blocks sequence told = inr (⊎_elim inl six told.ends)
-  sequence_cause false blocks sequence told = ⊎_elim inl (λ last. inr (six last)) told.ends
+  sequence_cause : (all : Bool) (blocks sequence : ℕ) → IsSequenceTold all blocks sequence answer → HasCause traits work answer Rises
+  sequence_cause true blocks sequence told = done_told traits work answer stream told
+  sequence_cause false blocks sequence told = ⊎_elim (λ seven. inr (inr (inr (inr (inr (inr (seven, refl))))))) (stream_cause traits work answer stream) told.ends
 
   sequence_wrote : (all : Bool) (blocks sequence : ℕ) → IsSequenceTold all blocks sequence answer → IsTrue (is_unwritten answer.status) → ⊥
   sequence_wrote true blocks sequence told un = closes_wrote refl told un
   sequence_wrote false blocks sequence told un = ⊎_elim (λ seven. wrote answer.status 7 refl seven un) (λ last. wrote answer.status 6 refl last un) told.ends
 
-  cause_by : (outcome : Outcome) (meaning : Result GroupValue Assembly) → IsWriteIn work input timestamp word start count meaning outcome → IsWriteTold count outcome answer → CutCause
+  cause_by : (outcome : Outcome) (meaning : Result GroupValue Assembly) → IsWriteIn work input timestamp word start count meaning outcome → IsWriteTold count outcome answer → HasCause traits work answer Rises
   cause_by (Taken sectors (Ok sequence)) meaning is told = sequence_cause (length sectors == count) (length sectors) sequence told
   cause_by (Taken sectors (Err failure)) meaning is told =
-      inr (failure_cause (writing start sectors) (write_steady start sectors) work answer Rises stream timestamp word (write_request word start count) failure meaning is.2 told)
-  cause_by (Broken sectors) meaning is told = inr (six told.0)
-  cause_by (Short found) meaning is told = inr (⊎_elim (λ one. inr (inr (inl one))) (λ cut. ⊎_elim (λ five. inr (inl five)) six cut) told.ends)
-  cause_by NotRead meaning is told = inr (six told.0)
+      failure_cause traits refl refl refl (writing start sectors) (write_steady start sectors) work answer Rises stream timestamp word (write_request word start count) failure meaning is.2 told
+  cause_by (Broken sectors) meaning is told = stream_cause traits work answer stream told.0
+  cause_by (Short found) meaning is told = refused_told traits work answer stream refl told
+  cause_by NotRead meaning is told = stream_cause traits work answer stream told.0
   cause_by (Unfit failure) meaning is told =
-      inr (failure_cause (writing start []) (write_steady start []) work answer Rises stream timestamp word (write_request word start count) failure meaning is.2 told)
+      failure_cause traits refl refl refl (writing start []) (write_steady start []) work answer Rises stream timestamp word (write_request word start count) failure meaning is.2 told
 
   unwritten_by : (outcome : Outcome) (meaning : Result GroupValue Assembly) → IsWriteIn work input timestamp word start count meaning outcome → IsWriteTold count outcome answer
       → IsTrue (is_unwritten answer.status) → ReadsOnly work.old work.new
   unwritten_by (Taken sectors (Ok sequence)) meaning is told un = absurd (sequence_wrote (length sectors == count) (length sectors) sequence told un)
   unwritten_by (Taken sectors (Err failure)) meaning is told un =
-      failure_unwritten (writing start sectors) (write_steady start sectors) work answer Rises stream timestamp word (write_request word start count) failure meaning is.2 told un
+      failure_unwritten traits refl refl refl (writing start sectors) (write_steady start sectors) work answer Rises stream timestamp word (write_request word start count) failure meaning is.2 told un
   unwritten_by (Broken sectors) meaning is told un = absurd (wrote answer.status 6 refl told.0 un)
   unwritten_by (Short found) meaning is told un = is.2
   unwritten_by NotRead meaning is told un = is.2
   unwritten_by (Unfit failure) meaning is told un = is.1
 
-  pub write_ends : (outcome : Outcome) (meaning : Result GroupValue Assembly) → IsWriteIn work input timestamp word start count meaning outcome → IsWriteTold count outcome answer → EndsCut work answer Rises
+  pub write_ends : (outcome : Outcome) (meaning : Result GroupValue Assembly) → IsWriteIn work input timestamp word start count meaning outcome → IsWriteTold count outcome answer → EndsBy traits work answer Rises
   write_ends outcome meaning is told =
-      record { cause = cause_by outcome meaning is told; unwritten = unwritten_by outcome meaning is told; goes_on = goes_on; same_sizes = same_sizes }
+      record { cause = cause_by outcome meaning is told; unwritten = unwritten_by outcome meaning is told; stays = λ none. absurd cc; goes_on = goes_on; same_sizes = same_sizes }

@@ -1,5 +1,6 @@
 -- What a write of blocks came to since its entry, by what its calls promise: what it read of its group, the first piece of the input, and what it wrote.
-use Rattle.std.proofs.Common.{◌≡◌, ◌∙◌, ◌⊎◌, ⊎_elim, ℕ, ◌+◌, ◌*◌, ◌<◌, ◌≤◌, List, [], ◌∷◌, ◌++◌, length, take, drop, Option, Result, Ok, Err, refl, sym, ap, subst, arith, length-append}
+use Rattle.std.proofs.Common.{◌≡◌, ◌∙◌, ◌⊎◌, ⊎_elim, ℕ, ◌+◌, ◌*◌, ◌<◌, ◌≤◌, true, List, [], ◌∷◌, ◌++◌, length, take, drop, Option, Result, Ok, Err, refl, sym, ap, subst, arith, length-append}
+use Rattle.std.specs.Prelude.{OnOk}
 use Rattle.std.proofs.lemmas.List.{append_assoc, drop-drop, drop_at, length-take-le}
 use Rattle.ddf_bytes.specs.Counts.{Rose}
 use Rattle.ddf_bytes.specs.Streams.{GivesFront, SourceState}
@@ -31,6 +32,11 @@ use Rattle.ddf_write_commands.proofs.PlanKept.{IsPlannedAs, steps_are}
 use Rattle.ddf_write_commands.proofs.PlanWritten.{few_behind}
 use Rattle.ddf_write_commands.proofs.Since.{HaveBeenMade, HaveSince, array_left_since, made_since, worked_since}
 use Rattle.ddf_write_commands.proofs.WriteWorks.{write_steady}
+
+-- what holds at Ok holds where all blocks that came were written
+where_written : {P : Type 0} (result : Result Done WriteFault) → OnOk result P → is_all_done result ≡ true → P
+where_written (Ok done) holds is = holds
+where_written (Err fault) holds is = absurd cc
 
 -- ---- what was taken from the input
 
@@ -87,7 +93,7 @@ module _ (tells : Type 0) (before between after : SourceState) (count : ℕ) (ro
     request = write_request word start count
 
     module _ (sectors : List (List ℕ)) (result : Result Done WriteFault)
-        (has : HasWrittenBlocks bay_tells middle new group plan timestamp start count tells between after first sectors result) where
+        (has : HasWrittenBlocks bay_tells middle new group plan timestamp start count tells between after first sectors result) (unfailed : OnOk result (new.failed_writes ≡ middle.failed_writes)) where
       made : HaveBeenMade (writing start sectors) bay_tells middle new group timestamp word request (is_all_done result)
       made = record {
         leaves = λ told. has.leaves told word is;
@@ -96,6 +102,7 @@ module _ (tells : Type 0) (before between after : SourceState) (count : ℕ) (ro
             has.keeps told left by found all
             (asked_of (readied group plan.changes timestamp) all (sym (steps_are group (write_refusals start count) write_behind word plan timestamp is (few_behind is.entry)) ∙ asked));
         along = λ told left by found. has.along told left by found word is;
+        unfailed = where_written result unfailed;
         goes = goes;
         costs = plan_costs (writing start sectors) (work_of bay_tells middle new) group (write_refusals start count) write_behind word plan timestamp is (few_behind is.entry) plans has.costs;
       }
@@ -107,10 +114,10 @@ module _ (tells : Type 0) (before between after : SourceState) (count : ℕ) (ro
       is_accepted = record { found = group; is_found = since.is_group; steps = plans.planned.first ++ plans.planned.last; are_asked = plans.planned.are_asked }
 
     pub come : (sectors : List (List ℕ)) (result : Result Done WriteFault)
-        → HasWrittenBlocks bay_tells middle new group plan timestamp start count tells between after first sectors result
+        → HasWrittenBlocks bay_tells middle new group plan timestamp start count tells between after first sectors result → OnOk result (new.failed_writes ≡ middle.failed_writes)
         → IsWrittenAs (work_of bay_tells old new) (input_of tells before after) named timestamp word start count result
-    come sectors (Ok done) has =
-        let now = since sectors (Ok done) has in
+    come sectors (Ok done) has unfailed =
+        let now = since sectors (Ok done) has unfailed in
         let left = has.given.2.0 in
         record {
           outcome = Taken sectors (Ok done.sequence);
@@ -120,7 +127,7 @@ module _ (tells : Type 0) (before between after : SourceState) (count : ℕ) (ro
             gone = λ given. now.gone;
             gives = (
               (left, payload_given sectors left has.given.2.1, has.given.2.2),
-              is_accepted sectors (Ok done) has,
+              is_accepted sectors (Ok done) has unfailed,
               subst (λ (one : Result GroupValue Assembly). IsWorkedIn (writing start sectors) (work_of bay_tells old new) timestamp word request one (Ok done.sequence)) (sym now.is_group)
                   (worked_since bay_tells (writing start sectors) (write_steady start sectors) old middle new reads reads_rise writes_rise group timestamp word request (Ok done.sequence) (has.worked word is)),
             );
@@ -129,8 +136,8 @@ module _ (tells : Type 0) (before between after : SourceState) (count : ℕ) (ro
             costs = now.costs;
           };
         }
-    come sectors (Err (faults.Failure failure)) has =
-        let now = since sectors (Err (faults.Failure failure)) has in
+    come sectors (Err (faults.Failure failure)) has unfailed =
+        let now = since sectors (Err (faults.Failure failure)) has unfailed in
         record {
           outcome = Taken sectors (Err failure);
           is_answered = refl;
@@ -150,7 +157,7 @@ module _ (tells : Type 0) (before between after : SourceState) (count : ℕ) (ro
                     λ told. front_behind (bytes_of sectors) given.0 (bytes_given sectors given.0 given.1 told) (given.2 told),
                   ))
                   has.given,
-              is_accepted sectors (Err (faults.Failure failure)) has,
+              is_accepted sectors (Err (faults.Failure failure)) has unfailed,
               subst (λ (one : Result GroupValue Assembly). IsWorkedIn (writing start sectors) (work_of bay_tells old new) timestamp word request one (Err failure)) (sym now.is_group)
                   (worked_since bay_tells (writing start sectors) (write_steady start sectors) old middle new reads reads_rise writes_rise group timestamp word request (Err failure) (has.worked word is)),
             );
@@ -159,8 +166,8 @@ module _ (tells : Type 0) (before between after : SourceState) (count : ℕ) (ro
             costs = now.costs;
           };
         }
-    come sectors (Err faults.Input) has =
-        let now = since sectors (Err faults.Input) has in
+    come sectors (Err faults.Input) has unfailed =
+        let now = since sectors (Err faults.Input) has unfailed in
         record {
           outcome = Broken sectors;
           is_answered = refl;
@@ -175,7 +182,7 @@ module _ (tells : Type 0) (before between after : SourceState) (count : ℕ) (ro
                 has.given.2,
                 subst (λ n. Rose n after.faults) is_first.same_faults has.given.3,
               ),
-              is_accepted sectors (Err faults.Input) has,
+              is_accepted sectors (Err faults.Input) has unfailed,
               subst (λ (one : Result GroupValue Assembly). IsLeftIn (writing start sectors) (work_of bay_tells old new) timestamp word request one) (sym now.is_group)
                   (array_left_since bay_tells (writing start sectors) (write_steady start sectors) old middle new reads reads_rise writes_rise group timestamp word request (has.worked word is)),
             );

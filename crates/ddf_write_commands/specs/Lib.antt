@@ -9,7 +9,6 @@ pub mod Costs
 pub mod Plans
 pub mod Worked
 pub mod Along
-pub mod Ending
 pub mod Resync
 pub mod Payload
 pub mod Write

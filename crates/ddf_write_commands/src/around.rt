@@ -1,4 +1,4 @@
-// What is written around the blocks of an array: a group's recovery and the array's mark before them, and the last step behind them.
+//! What is written around the blocks of an array: a group's recovery and the array's mark before them, and the last step behind them.
 ghost use Rattle.std.specs.Prelude.{◌≡◌, ◌≤◌, ℕ, List, Bool, false, Option, None, Ok, Err, length, IfErr, IfOk, OnOk};
 ghost use Rattle.std.specs.List.{AllByRecursion, list_any};
 ghost use Rattle.ddf_bay.specs.Moments.{GoesOn, StopsLeave};
@@ -80,6 +80,7 @@ pub(crate) fn open_blocks<B: Bay>(
     ensures leaves { B.tells → (steps : List Step) → readied group.old (front plan.now.redundant plan.now.changes) timestamp ≡ Ok steps → StopsLeave (B.disks bay.old) (B.disks bay.new) (IsLeftWriting (B.disks bay.old) steps) }
     ensures goes_on { GoesOn (B.disks bay.old) (B.disks bay.new) }
     ensures same_sizes { (B.disks bay.new).sizes ≡ (B.disks bay.old).sizes }
+    ensures unfailed { OnOk result ((B.disks bay.new).failed_writes ≡ (B.disks bay.old).failed_writes) }
     ensures reads { (B.disks bay.new).failed_reads ≡ (B.disks bay.old).failed_reads }
     ensures writes_rise { (slot : ℕ) → (B.disks bay.old).failed_writes slot ≤ (B.disks bay.new).failed_writes slot }
 {
@@ -105,6 +106,7 @@ pub(crate) fn close_blocks<B: Bay>(
     ensures commits { B.tells → IsCommit (B.disks bay.old) (B.disks bay.new) ready.old (is_done result) }
     ensures goes_on { GoesOn (B.disks bay.old) (B.disks bay.new) }
     ensures same_sizes { (B.disks bay.new).sizes ≡ (B.disks bay.old).sizes }
+    ensures unfailed { OnOk result ((B.disks bay.new).failed_writes ≡ (B.disks bay.old).failed_writes) }
     ensures reads { (B.disks bay.new).failed_reads ≡ (B.disks bay.old).failed_reads }
     ensures writes_rise { (slot : ℕ) → (B.disks bay.old).failed_writes slot ≤ (B.disks bay.new).failed_writes slot }
 {

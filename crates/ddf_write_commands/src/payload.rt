@@ -1,4 +1,4 @@
-// The bytes of blocks, as the input gives them.
+//! The bytes of blocks, as the input gives them.
 ghost use Rattle.std.specs.Prelude.{◌≡◌, ◌≤◌, ◌*◌, ℕ, length, IfOk, IfErr, OnOk};
 ghost use Rattle.ddf_pieces.specs.Pieces.{piece_of, room_for};
 ghost use Rattle.ddf_write_commands.specs.Payload.{IsFirstPiece, IsNoPayload, input_of};

@@ -1,4 +1,4 @@
-// What is planned of the blocks of an array before anything is written: the changes of its group around them, and its view between these.
+//! What is planned of the blocks of an array before anything is written: the changes of its group around them, and its view between these.
 ghost use Rattle.std.specs.Prelude.{◌≡◌, ◌++◌, ◌∷◌, [], not, List, option_to_list, Some, Ok, IfOk, OnOk, if◌then◌else◌};
 ghost use Rattle.std.specs.Map.{lookup};
 ghost use Rattle.ddf_array.specs.Viewing.{view_of};

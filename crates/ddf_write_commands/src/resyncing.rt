@@ -1,7 +1,6 @@
-// `resync`: the copies and the parity of an array are made to agree.
-ghost use Rattle.std.specs.Prelude.{◌≡◌, ◌+◌, ℕ, List, Bool, Option, Ok};
+//! `resync`: the copies and the parity of an array are made to agree.
+ghost use Rattle.std.specs.Prelude.{◌≡◌, ◌+◌, ℕ, List, Bool, Option, Ok, OnOk};
 ghost use Rattle.ddf_bytes.specs.Stamps.{timestamp_of};
-ghost use Rattle.ddf_bytes.specs.Streams.{SinkRose};
 ghost use Rattle.ddf_bay.specs.Moments.{GoesOn, StopsLeave};
 ghost use Rattle.ddf_cells.specs.Touching.{GoesBetween};
 ghost use Rattle.ddf_assembly.specs.Committed.{WasReadied, slots_of};
@@ -9,16 +8,18 @@ ghost use Rattle.ddf_assembly.specs.Ready.{readied};
 ghost use Rattle.ddf_assembly.specs.Recovery.{config_recovered};
 ghost use Rattle.ddf_assembly.specs.Seated.{seated};
 ghost use Rattle.ddf_assembly.specs.Steps.{Step};
-ghost use Rattle.ddf_data_stops.specs.Floors.{AreFloored};
+ghost use Rattle.ddf_stops.specs.BlockFloors.{AreFloored};
 ghost use Rattle.ddf_answer.specs.Call.{answer_of, work_of};
 ghost use Rattle.ddf_answer.specs.Costs.{WritesAtMost};
+ghost use Rattle.ddf_answer.specs.Ends.{Ends};
+ghost use Rattle.ddf_words.specs.declared.command.Command.{Command};
+ghost use Rattle.ddf_words.specs.Traits.{traits_of};
 ghost use Rattle.ddf_answer.specs.Status.{code_of};
 ghost use Rattle.ddf_group_commands.specs.Change.{KeepsHistories, is_done};
 ghost use Rattle.ddf_group_commands.specs.Costs.{steps_sectors};
 ghost use Rattle.ddf_group_commands.specs.GroupRead.{IsFoundBy, IsReadFrom};
 ghost use Rattle.ddf_group_commands.specs.Others.{LeavesOthers};
 ghost use Rattle.ddf_write_commands.specs.Along.{AllComeAlong};
-ghost use Rattle.ddf_write_commands.specs.Ending.{EndsSo};
 ghost use Rattle.ddf_write_commands.specs.Opened.{AreMembers};
 ghost use Rattle.ddf_write_commands.specs.Plans.{IsPlanOf};
 ghost use Rattle.ddf_write_commands.specs.Resync.{HasResyncedArray, IsResyncDone, resync_behind, resync_refusals, resync_request, resyncing};
@@ -47,7 +48,7 @@ pub fn resync_disks<B: Bay, K: Sink>(
     stamp: &Stamp,
 ) -> Status
     ensures done { IsResyncDone (work_of B.tells (B.disks bay.old) (B.disks bay.new)) named (timestamp_of stamp.now) name.now (answer_of K.tells (K.output sink.old) (K.output sink.new) (code_of result)) }
-    ensures ends { EndsSo (work_of B.tells (B.disks bay.old) (B.disks bay.new)) (answer_of K.tells (K.output sink.old) (K.output sink.new) (code_of result)) (SinkRose (K.output sink.old) (K.output sink.new)) }
+    ensures ends { Ends (traits_of (Command.Resync name.now)) (work_of B.tells (B.disks bay.old) (B.disks bay.new)) (answer_of K.tells (K.output sink.old) (K.output sink.new) (code_of result)) }
 {
     match resynced(alloc, named, name, bay, stamp) {
         Ok(sequence) => tell(sink, sequence_line(sequence).as_bytes(), Status::Ok),
@@ -99,6 +100,7 @@ fn resync_array<B: Bay>(
         → AllComeAlong resyncing (work_of B.tells (B.disks bay.old) (B.disks bay.new)) left group.old timestamp word (resync_request word) (is_done result) }
     ensures costs { (steps : List Step) → readied group.old plan.now.changes timestamp ≡ Ok steps
         → WritesAtMost (work_of B.tells (B.disks bay.old) (B.disks bay.new)) (steps_sectors steps + resyncing.most_sectors plan.now.view) }
+    ensures unfailed { OnOk result ((B.disks bay.new).failed_writes ≡ (B.disks bay.old).failed_writes) }
     ensures goes { GoesBetween (B.disks bay.old) (B.disks bay.new) }
 {
     open_blocks(group, ready, plan, timestamp, bay)?;

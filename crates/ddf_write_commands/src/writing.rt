@@ -1,5 +1,5 @@
-// `write`: blocks of an array get the bytes of the input.
-ghost use Rattle.std.specs.Prelude.{◌≡◌, ◌⊎◌, ◌*◌, ℕ, List, Option, length, take};
+//! `write`: blocks of an array get the bytes of the input.
+ghost use Rattle.std.specs.Prelude.{◌≡◌, ◌⊎◌, ◌*◌, ℕ, List, Option, OnOk, length, take};
 ghost use Rattle.ddf_bytes.specs.Stamps.{timestamp_of};
 ghost use Rattle.ddf_bytes.specs.Streams.{SinkRose};
 ghost use Rattle.ddf_bay.specs.Moments.{GoesOn};
@@ -8,11 +8,13 @@ ghost use Rattle.ddf_pieces.specs.Pieces.{room_for};
 ghost use Rattle.ddf_assembly.specs.Committed.{WasReadied};
 ghost use Rattle.ddf_assembly.specs.Recovery.{config_recovered};
 ghost use Rattle.ddf_assembly.specs.Seated.{seated};
-ghost use Rattle.ddf_data_stops.specs.Floors.{AreFloored};
+ghost use Rattle.ddf_stops.specs.BlockFloors.{AreFloored};
 ghost use Rattle.ddf_answer.specs.Call.{answer_of, work_of};
+ghost use Rattle.ddf_answer.specs.Ends.{EndsBy};
 ghost use Rattle.ddf_answer.specs.Status.{code_of};
+ghost use Rattle.ddf_words.specs.declared.command.Command.{Command};
+ghost use Rattle.ddf_words.specs.Traits.{traits_of};
 ghost use Rattle.ddf_group_commands.specs.GroupRead.{IsReadFrom};
-ghost use Rattle.ddf_write_commands.specs.Ending.{EndsCut};
 ghost use Rattle.ddf_write_commands.specs.Opened.{AreMembers};
 ghost use Rattle.ddf_write_commands.specs.Payload.{InputRose, first_piece, input_of};
 ghost use Rattle.ddf_write_commands.specs.Plans.{IsPlanOf};
@@ -91,7 +93,7 @@ pub fn write<B: Bay, S: Source, K: Sink>(
 ) -> Status
     ensures done { IsWriteDone (work_of B.tells (B.disks bay.old) (B.disks bay.new)) (input_of S.tells (S.input source.old) (S.input source.new)) named (timestamp_of stamp.now) name.now start count
         (answer_of K.tells (K.output sink.old) (K.output sink.new) (code_of result)) }
-    ensures ends { EndsCut (work_of B.tells (B.disks bay.old) (B.disks bay.new)) (answer_of K.tells (K.output sink.old) (K.output sink.new) (code_of result))
+    ensures ends { EndsBy (traits_of (Command.Write name.now start count)) (work_of B.tells (B.disks bay.old) (B.disks bay.new)) (answer_of K.tells (K.output sink.old) (K.output sink.new) (code_of result))
         (SinkRose (K.output sink.old) (K.output sink.new) ⊎ InputRose (input_of S.tells (S.input source.old) (S.input source.new))) }
 {
     match written(alloc, named, name, start, count, bay, source, stamp) {
@@ -159,6 +161,7 @@ fn write_array<B: Bay, S: Source>(
     requires floored { AreFloored (seated group.old) }
     requires room { length room.old ≡ 512 * room_for count }
     ensures done { (sectors : List (List ℕ)) × HasWrittenBlocks B.tells (B.disks bay.old) (B.disks bay.new) group.old plan.now timestamp start count S.tells (S.input source.old) (S.input source.new) (take (512 * first_piece count) room.old) sectors result }
+    ensures unfailed { OnOk result ((B.disks bay.new).failed_writes ≡ (B.disks bay.old).failed_writes) }
     ensures goes { GoesBetween (B.disks bay.old) (B.disks bay.new) }
 {
     open_blocks(group, ready, plan, timestamp, bay)?;

@@ -1,6 +1,3 @@
-use Rattle.std.proofs.Common.{inl, refl}
-use Rattle.ddf_answer.proofs.Causes.{ends_by}
-use Rattle.ddf_write_commands.proofs.Ended.{ends_for}
 use Rattle.ddf_batch.proofs.dispatch.obey.Goals as goal
 
 pub returns-in-Assemble-clause-done : goal.returns-in-Assemble-clause-done
@@ -25,13 +22,13 @@ pub returns-in-Resync-clause-done : goal.returns-in-Resync-clause-done
 returns-in-Resync-clause-done g c = rw c.in-Resync.is (rw c.items-in-Resync.ensures at c.resync_disks.ensures.done)
 
 pub returns-in-Resync-clause-ends : goal.returns-in-Resync-clause-ends
-returns-in-Resync-clause-ends g c = rw c.in-Resync.is (ends_for _ refl refl refl _ _ _ _ (λ rose. rose) c.resync_disks.ensures.ends)
+returns-in-Resync-clause-ends g c = rw c.in-Resync.is c.resync_disks.ensures.ends
 
 pub returns-in-Rebuild-clause-done : goal.returns-in-Rebuild-clause-done
 returns-in-Rebuild-clause-done g c = rw c.in-Rebuild.is (rw c.items-in-Rebuild.ensures at c.rebuild.ensures.done)
 
 pub returns-in-Rebuild-clause-ends : goal.returns-in-Rebuild-clause-ends
-returns-in-Rebuild-clause-ends g c = rw c.in-Rebuild.is (ends_for _ refl refl refl _ _ _ _ (λ rose. rose) c.rebuild.ensures.ends)
+returns-in-Rebuild-clause-ends g c = rw c.in-Rebuild.is c.rebuild.ensures.ends
 
 pub returns-in-Import-clause-done : goal.returns-in-Import-clause-done
 returns-in-Import-clause-done g c = rw c.in-Import.is c.import.ensures.done

@@ -18,4 +18,4 @@ returns-clause-cut g c = λ told stamp group command guid old output to code too
     cuts told g.B.Bay.disks stamp group command guid old output to code took is kept cut image was_left is_left
 
 pub returns-clause-reads : goal.returns-clause-reads
-returns-clause-reads g c = λ told guid old to reads held. reads_other told g.B.Bay.disks g.met.B.Bay.counts_now guid old to reads held
+returns-clause-reads g c = λ told guid old to reads held. reads_other told g.B.Bay.disks (λ bay. (g.met.B.Bay.told bay).counts) guid old to reads held

@@ -10,10 +10,10 @@ use Rattle.ddf_block_calls.proofs.laws.a_rebuild_keeps_its_history_and_its_data.
 
 pub returns-clause-asked : goal.returns-clause-asked
 returns-clause-asked g c = λ told group past floor small promises old new tells named timestamp word outcome called found is_found own admits steps are_asked.
-    both_kept g.B.Bay.tells told (g.B.Bay.disks old) (g.B.Bay.disks new) group past floor small promises named timestamp word outcome called found is_found own admits (g.met.B.Bay.held_is_left old tells)
-    (λ slot lba. (g.met.B.Bay.whole old slot lba ((g.B.Bay.disks old).held slot lba) (g.met.B.Bay.held_is_left old tells slot lba)).size) (g.met.B.Bay.only_now old)
-    (λ t image later left. g.met.B.Bay.counts_now old t image later left) (λ t image later left. g.met.B.Bay.counts_now new t image later left)
-    (λ image left slot lba. (g.met.B.Bay.whole new slot lba (image slot lba) (left slot lba)).size) (g.met.B.Bay.told_since new) steps are_asked
+    both_kept g.B.Bay.tells told (g.B.Bay.disks old) (g.B.Bay.disks new) group past floor small promises named timestamp word outcome called found is_found own admits ((g.met.B.Bay.told old).held tells)
+    (λ slot lba. ((g.met.B.Bay.told old).whole slot lba ((g.B.Bay.disks old).held slot lba) ((g.met.B.Bay.told old).held tells slot lba)).size) ((g.met.B.Bay.told old).only_now)
+    (λ t image later left. (g.met.B.Bay.told old).counts t image later left) (λ t image later left. (g.met.B.Bay.told new).counts t image later left)
+    (λ image left slot lba. ((g.met.B.Bay.told new).whole slot lba (image slot lba) (left slot lba)).size) ((g.met.B.Bay.told new).since) steps are_asked
 
 pub returns-clause-both : goal.returns-clause-both
 returns-clause-both g c = λ told group past floor small promises old new tells named timestamp word outcome called found is_found own admits plan.

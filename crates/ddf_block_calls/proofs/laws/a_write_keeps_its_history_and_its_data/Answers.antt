@@ -13,9 +13,9 @@ use Rattle.ddf_block_calls.proofs.laws.a_write_keeps_its_history_and_its_data.Go
 pub returns-clause-both : goal.returns-clause-both
 returns-clause-both g c = λ told group past floor small promises old new tells source_old source_new named timestamp word start count sectors outcome given called found is_found own admits plan.
     both_kept g.B.Bay.tells told (g.B.Bay.disks old) (g.B.Bay.disks new) group past floor small promises (input_of g.S.Source.tells (g.S.Source.input source_old) (g.S.Source.input source_new)) named timestamp word start count sectors outcome called found is_found own admits
-    (g.met.B.Bay.held_is_left old tells)
-    (λ slot lba. (g.met.B.Bay.whole old slot lba ((g.B.Bay.disks old).held slot lba) (g.met.B.Bay.held_is_left old tells slot lba)).size) plan
-    (λ image left slot lba. (g.met.B.Bay.whole new slot lba (image slot lba) (left slot lba)).size) (given_along (work_of g.B.Bay.tells (g.B.Bay.disks old) (g.B.Bay.disks new)) (input_of g.S.Source.tells (g.S.Source.input source_old) (g.S.Source.input source_new)) timestamp word start count called.taken.left (group_of called.taken.newest named) sectors outcome given (called.along told) found is_found plan group own past
+    ((g.met.B.Bay.told old).held tells)
+    (λ slot lba. ((g.met.B.Bay.told old).whole slot lba ((g.B.Bay.disks old).held slot lba) ((g.met.B.Bay.told old).held tells slot lba)).size) plan
+    (λ image left slot lba. ((g.met.B.Bay.told new).whole slot lba (image slot lba) (left slot lba)).size) (given_along (work_of g.B.Bay.tells (g.B.Bay.disks old) (g.B.Bay.disks new)) (input_of g.S.Source.tells (g.S.Source.input source_old) (g.S.Source.input source_new)) timestamp word start count called.taken.left (group_of called.taken.newest named) sectors outcome given (called.along told) found is_found plan group own past
     admits.all_kept admits.admitted)
 
 pub returns-clause-carries : goal.returns-clause-carries

@@ -8,8 +8,8 @@ pub returns : goal.returns
 returns g c = λ told group past floor small promises old new tells named timestamp request sequence changed found is_found own steps are_asked admits guid init asks may agree tells_new.
     let kept = keeps_both group (g.B.Bay.disks old) (g.B.Bay.disks new) past floor small changed.taken.left changed.taken.newest named found steps (Ok sequence)
     (took_group g.B.Bay.tells told (g.B.Bay.disks old) (g.B.Bay.disks new) named timestamp request (Ok sequence) changed found is_found steps are_asked) own admits.admitted admits.have_floors
-    timestamp request are_asked (Some (Unmark guid init)) asks promises admits.all_data may admits.all_kept (g.met.B.Bay.only_now old)
-    (λ image later left. g.met.B.Bay.counts_now new (g.B.Bay.disks old).moment image later left) (λ image left slot lba. (g.met.B.Bay.whole new slot lba (image slot lba) (left slot lba)).size) in
+    timestamp request are_asked (Some (Unmark guid init)) asks promises admits.all_data may admits.all_kept ((g.met.B.Bay.told old).only_now)
+    (λ image later left. (g.met.B.Bay.told new).counts (g.B.Bay.disks old).moment image later left) (λ image left slot lba. ((g.met.B.Bay.told new).whole slot lba (image slot lba) (left slot lba)).size) in
     accepted_counts g.B.Bay.tells told (g.B.Bay.disks old) (g.B.Bay.disks new) group past floor small promises named timestamp request sequence changed found is_found own steps are_asked admits guid init asks
-    (g.met.B.Bay.held_is_left old tells) (λ slot lba. (g.met.B.Bay.whole old slot lba ((g.B.Bay.disks old).held slot lba) (g.met.B.Bay.held_is_left old tells slot lba)).size) agree
-    (λ image left slot lba. (g.met.B.Bay.whole new slot lba (image slot lba) (left slot lba)).size) (kept.ends tells_new)
+    ((g.met.B.Bay.told old).held tells) (λ slot lba. ((g.met.B.Bay.told old).whole slot lba ((g.B.Bay.disks old).held slot lba) ((g.met.B.Bay.told old).held tells slot lba)).size) agree
+    (λ image left slot lba. ((g.met.B.Bay.told new).whole slot lba (image slot lba) (left slot lba)).size) (kept.ends tells_new)

@@ -51,6 +51,7 @@ loop-element-init g c = record {
   set = λ tells element position below. absurd (omega (arith, below));
   writes = writes_start (GivesCells c.args.view.now c.args.start c.args.from.now) g.B.Bay.tells (g.B.Bay.disks c.args.bay.now) c.args.touched.now;
   reads = refl;
+  unfailed = refl;
   costs = costs_start (g.B.Bay.disks c.args.bay.now);
 }
 
@@ -74,6 +75,7 @@ loop-element-preserved g c =
           (cases_lt element e);
       writes = writes_then (GivesCells v c.args.start c.args.from.now) g.B.Bay.tells so_far.writes next.writes;
       reads = next.reads ∙ so_far.reads;
+      unfailed = next.unfailed ∙ so_far.unfailed;
       costs = costs_most _ _ (costs_then so_far.costs (rw c.count_places-places.ensures at next.costs)) (omega (arith, sum_more cells e)) (omega (arith, sum_more stretches e));
     }
 

@@ -14,6 +14,7 @@ invariant-loop-element g l =
       set : B.tells → (element position : ℕ) → element < l.element → AreSet l.view element position l.start 0 (length l.from) l.from now.held l.touched;
       writes : Writes (GivesCells l.view l.start l.from) B.tells old now l.fn.touched l.touched;
       reads : now.failed_reads ≡ old.failed_reads;
+      unfailed : now.failed_writes ≡ old.failed_writes;
       costs : Costs old now
           (sum_by (over_element (λ element position. how_many (cells_on l.view element position l.start (length l.from))) l.view.parts) (range_with_len 0 l.element))
           (sum_by (over_element (λ element position. stretches_on (cells_on l.view element position l.start (length l.from))) l.view.parts) (range_with_len 0 l.element));

@@ -33,6 +33,7 @@ loop-position-init g c = record {
   set = λ tells position below. absurd (omega (arith, below));
   writes = writes_start (GivesCells c.args.view.now c.args.start c.args.from.now) g.B.Bay.tells (g.B.Bay.disks c.args.bay.now) c.args.touched.now;
   reads = refl;
+  unfailed = refl;
   costs = costs_start (g.B.Bay.disks c.args.bay.now);
 }
 
@@ -53,6 +54,7 @@ loop-position-preserved g c =
           (cases_lt position p);
       writes = writes_then (GivesCells c.args.view.now c.args.start c.args.from.now) g.B.Bay.tells so_far.writes next.writes;
       reads = next.reads ∙ so_far.reads;
+      unfailed = next.unfailed ∙ so_far.unfailed;
       costs = costs_most _ _ (costs_then so_far.costs next.costs) (omega (arith, sum_more cells p)) (omega (arith, sum_more stretches p));
     }
 

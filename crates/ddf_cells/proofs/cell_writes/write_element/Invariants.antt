@@ -14,6 +14,7 @@ invariant-loop-position g l =
       set : B.tells → (position : ℕ) → position < l.position → AreSet l.view l.element position l.start 0 (length l.from) l.from now.held l.touched;
       writes : Writes (GivesCells l.view l.start l.from) B.tells old now l.fn.touched l.touched;
       reads : now.failed_reads ≡ old.failed_reads;
+      unfailed : now.failed_writes ≡ old.failed_writes;
       costs : Costs old now
           (sum_by (λ position. how_many (cells_on l.view l.element position l.start (length l.from))) (range_with_len 0 l.position))
           (sum_by (λ position. stretches_on (cells_on l.view l.element position l.start (length l.from))) (range_with_len 0 l.position));

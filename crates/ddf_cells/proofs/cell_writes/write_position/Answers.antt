@@ -33,6 +33,7 @@ loop-at-init g c = record {
   set = λ tells k one from below cell. absurd (omega (arith, below));
   writes = writes_start (GivesCells c.args.view.now c.args.start c.args.from.now) g.B.Bay.tells (g.B.Bay.disks c.args.bay.now) c.args.touched.now;
   reads = refl;
+  unfailed = refl;
   cells = let same : c.args.start + 0 ≡ c.args.start = omega arith in let rest : length c.args.from.now - 0 ≡ length c.args.from.now = omega arith in rw (same, rest) (omega arith);
   stretches = let same : c.args.start + 0 ≡ c.args.start = omega arith in let rest : length c.args.from.now - 0 ≡ length c.args.from.now = omega arith in rw (same, rest) (omega arith);
   costs = costs_most _ _ (costs_start (g.B.Bay.disks c.args.bay.now)) (omega arith) (omega arith);
@@ -53,6 +54,7 @@ loop-at-preserved g c =
           (cases_lt k at);
       writes = writes_then (GivesCells c.args.view.now c.args.start c.args.from.now) g.B.Bay.tells so_far.writes next.writes;
       reads = next.reads ∙ so_far.reads;
+      unfailed = next.unfailed ∙ so_far.unfailed;
       cells = omega (arith, next.rest_cells, so_far.cells);
       stretches = omega (arith, next.rest_stretches, so_far.stretches);
       costs =

@@ -14,6 +14,7 @@ invariant-loop-at g l =
       set : B.tells → AreSet l.view l.element l.position l.start 0 l.at l.from now.held l.touched;
       writes : Writes (GivesCells l.view l.start l.from) B.tells old now l.fn.touched l.touched;
       reads : now.failed_reads ≡ old.failed_reads;
+      unfailed : now.failed_writes ≡ old.failed_writes;
       cells : how_many (cells_on l.view l.element l.position (l.start + l.at) (length l.from - l.at)) ≤ how_many (cells_on l.view l.element l.position l.start (length l.from));
       stretches : stretches_on (cells_on l.view l.element l.position (l.start + l.at) (length l.from - l.at)) ≤ stretches_on (cells_on l.view l.element l.position l.start (length l.from));
       costs : Costs old now

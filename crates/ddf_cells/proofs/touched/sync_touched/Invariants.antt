@@ -15,5 +15,6 @@ invariant-loop-slot g l =
       left : Keeps old.may_hold now.may_hold;
       any_moment : StopsLeave old now (IsLeft old.may_hold);
       reads : now.failed_reads ≡ old.failed_reads;
+      unfailed : now.failed_writes ≡ old.failed_writes;
       spends : SpendsOver old now 0 l.slot;
     }

@@ -3,16 +3,16 @@ use Rattle.ddf_command.proofs.laws.a_label_cut_short_begins_a_history.Goals as g
 
 pub returns-clause-begins : goal.returns-clause-begins
 returns-clause-begins g c = λ revision stamp named old new cut founded is_new left past is_start.
-    cut_begins revision stamp named (g.B.Bay.disks old) (g.B.Bay.disks new) (g.met.B.Bay.only_now old) is_new (g.B.Bay.disks cut) founded left past is_start
+    cut_begins revision stamp named (g.B.Bay.disks old) (g.B.Bay.disks new) ((g.met.B.Bay.told old).only_now) is_new (g.B.Bay.disks cut) founded left past is_start
 
 pub returns-clause-founded : goal.returns-clause-founded
 returns-clause-founded g c = λ revision stamp named old new image is_new was_left.
-    cut_founded revision stamp named (g.B.Bay.disks old) (g.B.Bay.disks new) (g.met.B.Bay.only_now old) is_new image was_left
+    cut_founded revision stamp named (g.B.Bay.disks old) (g.B.Bay.disks new) ((g.met.B.Bay.told old).only_now) is_new image was_left
 
 pub returns-clause-others : goal.returns-clause-others
 returns-clause-others g c = λ revision stamp named old new image founded is_new was_left are_founded.
-    cut_others revision stamp named (g.B.Bay.disks old) (g.B.Bay.disks new) (g.met.B.Bay.only_now old) is_new image was_left founded are_founded
+    cut_others revision stamp named (g.B.Bay.disks old) (g.B.Bay.disks new) ((g.met.B.Bay.told old).only_now) is_new image was_left founded are_founded
 
 pub returns-clause-assembles : goal.returns-clause-assembles
 returns-clause-assembles g c = λ revision stamp named old new cut founded is_new left held out long slot here readable.
-    cut_assembles revision stamp named (g.B.Bay.disks old) (g.B.Bay.disks new) (g.met.B.Bay.only_now old) is_new (g.B.Bay.disks cut) founded left held out long slot here readable
+    cut_assembles revision stamp named (g.B.Bay.disks old) (g.B.Bay.disks new) ((g.met.B.Bay.told old).only_now) is_new (g.B.Bay.disks cut) founded left held out long slot here readable

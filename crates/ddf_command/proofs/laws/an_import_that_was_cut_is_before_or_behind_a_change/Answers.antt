@@ -6,5 +6,5 @@ use Rattle.ddf_command.proofs.laws.an_import_that_was_cut_is_before_or_behind_a_
 
 pub returns : goal.returns
 returns g c = λ told group old new cut kept long scene leaves readable may member config answer.
-    let promised = (history_answers told g.B.Bay.disks group g.met.B.Bay.only_now old (new ∷ []) kept (inl (inr (inr (inr (inr cut)))), tt)).1.0 scene leaves readable may member (Is config) answer in
+    let promised = (history_answers told g.B.Bay.disks group (λ bay. (g.met.B.Bay.told bay).only_now) old (new ∷ []) kept (inl (inr (inr (inr (inr cut)))), tt)).1.0 scene leaves readable may member (Is config) answer in
     cut_from told g.B.Bay.disks group old new cut long promised.0 config promised.1

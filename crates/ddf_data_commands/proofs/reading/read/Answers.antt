@@ -2,6 +2,7 @@ use Rattle.std.proofs.Common.{ℕ, List, subst, sym}
 use Rattle.ddf_bay.proofs.Looks.{reads_then}
 use Rattle.ddf_config.specs.Seats.{SeatsFit}
 use Rattle.ddf_assembly.specs.Group.{group_of}
+use Rattle.ddf_assembly.specs.Recovery.{trusted_seats}
 use Rattle.ddf_answer.specs.Answers.{failure_of}
 use Rattle.ddf_answer.specs.Call.{work_of}
 use Rattle.ddf_data_commands.specs.Read.{NotRead}
@@ -21,7 +22,7 @@ returns-in-Ok-clause-done g c =
     let assembled = c.in-Ok.ensures.assembled in
     let done = c.print_array.ensures.done in
     let of_group = read_behind g.B.Bay.tells old middle new c.assemble.ensures.never_falls c.assemble.ensures.reads.same_held c.assemble.ensures.reads.same_sizes
-    c.in-Ok.group.config c.in-Ok.group.seats c.args.name.now c.args.start c.args.count done.outcome done.has in
+    c.in-Ok.group.config (trusted_seats c.in-Ok.group) c.args.name.now c.args.start c.args.count done.outcome done.has in
     record {
       outcome = done.outcome;
       has = record {

@@ -2,6 +2,7 @@ use Rattle.std.proofs.Common.{ℕ, List, Err, subst, sym}
 use Rattle.ddf_bay.proofs.Looks.{reads_then}
 use Rattle.ddf_config.specs.Seats.{SeatsFit}
 use Rattle.ddf_assembly.specs.Group.{group_of}
+use Rattle.ddf_assembly.specs.Recovery.{trusted_seats}
 use Rattle.ddf_answer.specs.Call.{work_of}
 use Rattle.ddf_answer.specs.declared.failure.Failure.{Failure}
 use Rattle.ddf_data_commands.specs.Scrub.{HasScrubbed}
@@ -19,7 +20,7 @@ returns-in-Ok-clause-scrubbed g c =
     let new = g.B.Bay.disks c.scrub_array.new.bay in
     let assembled = c.in-Ok.ensures.assembled in
     let of_group = scrub_behind g.B.Bay.tells old middle new c.assemble.ensures.never_falls c.assemble.ensures.reads.same_held c.assemble.ensures.reads.same_sizes
-    c.in-Ok.group.config c.in-Ok.group.seats c.args.name.now c.scrub_array.result c.scrub_array.ensures.scrubbed in
+    c.in-Ok.group.config (trusted_seats c.in-Ok.group) c.args.name.now c.scrub_array.result c.scrub_array.ensures.scrubbed in
     record {
       left = assembled.looked.left;
       every_slot = assembled.looked.every_slot;

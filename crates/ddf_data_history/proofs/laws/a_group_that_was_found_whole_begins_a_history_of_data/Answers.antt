@@ -4,5 +4,5 @@ use Rattle.ddf_data_history.proofs.laws.a_group_that_was_found_whole_begins_a_hi
 
 pub returns : goal.returns
 returns g c = λ group bay found begins tells_left settled.
-    let are : AreBays g.B.Bay.disks = record { only_now = g.met.B.Bay.only_now; counts = g.met.B.Bay.counts_now; held = g.met.B.Bay.held_is_left; since = g.met.B.Bay.told_since; whole = g.met.B.Bay.whole } in
+    let are : AreBays g.B.Bay.disks = g.met.B.Bay.told in
     found_begins g.B.Bay.disks are g.met.B.Bay.small group begins.past bay tells_left found begins.acked_is begins.issued_is begins.lost_none begins.returned_none begins.kept settled

@@ -9,7 +9,7 @@ use Rattle.ddf_data_history.proofs.laws.a_label_begins_a_history_of_data.Goals a
 
 pub returns : goal.returns
 returns g c = λ told revision stamp named old new tried same_sizes is_left tells_left names_new past is_new.
-    let are : AreBays g.B.Bay.disks = record { only_now = g.met.B.Bay.only_now; counts = g.met.B.Bay.counts_now; held = g.met.B.Bay.held_is_left; since = g.met.B.Bay.told_since; whole = g.met.B.Bay.whole } in
+    let are : AreBays g.B.Bay.disks = g.met.B.Bay.told in
     let before = g.B.Bay.disks old in
     let slots = label_slots before.sizes named in
     let copy = label_copy revision stamp before.sizes named in

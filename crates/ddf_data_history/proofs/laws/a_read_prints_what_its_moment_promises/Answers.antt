@@ -3,7 +3,7 @@ use Rattle.ddf_data_history.proofs.laws.a_read_prints_what_its_moment_promises.G
 
 pub returns : goal.returns
 returns g c = λ told group moment all tells_left new named word start count outcome read means slots may_read member found at guid array allowed is_named promised.
-    let held = g.met.B.Bay.held_is_left moment.bay tells_left in
+    let held = (g.met.B.Bay.told moment.bay).held tells_left in
     let shown = all.shows (g.B.Bay.disks moment.bay).held held in
     let kept = all.keeps (g.B.Bay.disks moment.bay).held held in
     printed_may group g.B.Bay.tells told (g.B.Bay.disks moment.bay) (g.B.Bay.disks new) moment.past moment.floor moment.small moment.promises named word start count outcome read means

@@ -8,7 +8,7 @@ use Rattle.ddf_data_history.proofs.laws.arrays_that_joined_keep_what_was_promise
 
 pub returns : goal.returns
 returns g c = λ told group old all call done new same_bay same_floor ends theirs wholly guid array allowed there promised.
-    let are : AreBays g.B.Bay.disks = record { only_now = g.met.B.Bay.only_now; counts = g.met.B.Bay.counts_now; held = g.met.B.Bay.held_is_left; since = g.met.B.Bay.told_since; whole = g.met.B.Bay.whole } in
+    let are : AreBays g.B.Bay.disks = g.met.B.Bay.told in
     keeps_at told g.B.Bay.disks g.S.Source.tells g.S.Source.input group are old all call new same_bay same_floor
     (subst (λ (whole : Bool). Ends group old.past (is_read call.join.imported.first.left) call.join.group (joins_in told g.B.Bay.disks g.S.Source.tells g.S.Source.input group call) whole new.past) done ends)
     theirs wholly guid allowed array promised there

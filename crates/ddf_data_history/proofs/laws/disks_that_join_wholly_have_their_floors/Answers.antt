@@ -7,7 +7,7 @@ use Rattle.ddf_data_history.proofs.laws.disks_that_join_wholly_have_their_floors
 pub returns : goal.returns
 returns g c = λ told group old tells_left join theirs wholly.
     let disks = g.B.Bay.disks in
-    let held = g.met.B.Bay.held_is_left old.bay tells_left in
+    let held = (g.met.B.Bay.told old.bay).held tells_left in
     joining_floors group join.other (disks old.bay) join.imported.first.left join.imported.second.left join.imported.first.every_slot join.imported.second.every_slot join.imported.second.newest
     (join.imported.second.read told) join.group join.joining join.is_joining old.past (join.admits_join (disks old.bay).held held) theirs.past wholly.admitted wholly.none_absent
     (is_readied join.timestamp join.imported.first.left join.group join.joining join.made join.are_asked).1 held old.floor

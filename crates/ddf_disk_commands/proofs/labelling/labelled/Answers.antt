@@ -1,4 +1,4 @@
-use Rattle.std.proofs.Common.{◌∙◌, inr}
+use Rattle.std.proofs.Common.{◌∙◌, ℕ, ap, inr}
 use Rattle.ddf_disk_commands.proofs.Chosen.{chosen_once}
 use Rattle.ddf_disk_commands.proofs.LabelCosts.{label_costs}
 use Rattle.ddf_disk_commands.proofs.Labelled.{label_founded, label_stops, slots_lie}
@@ -17,6 +17,9 @@ returns-in-Ok-found_disks-clause-tried g c = λ tells.
     let founded = rw (c.deref-2.ensures.value, c.deref-3.ensures.value) at (c.in-Ok-found_disks.ensures.founded tells) in
     let none = c.in-Ok.ensures.unrefused tells in
     (none, label_founded _ _ c.args.named.now c.in-Ok.slots.items c.args.revision c.args.stamp.now c.in-Ok-first_updates.updates.items c.in-Ok.ensures.reads c.in-Ok.ensures.slots counted first _ none founded)
+
+pub returns-in-Ok-found_disks-clause-unfailed : goal.returns-in-Ok-found_disks-clause-unfailed
+returns-in-Ok-found_disks-clause-unfailed g c = λ slot. ap (λ (counts : ℕ → ℕ). counts slot) c.in-Ok-found_disks.ensures.ok ∙ (c.in-Ok.ensures.quiet slot).1
 
 pub returns-in-Ok-found_disks-clause-any_moment : goal.returns-in-Ok-found_disks-clause-any_moment
 returns-in-Ok-found_disks-clause-any_moment g c = λ tells.

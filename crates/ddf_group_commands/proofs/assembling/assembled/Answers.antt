@@ -40,6 +40,7 @@ returns-in_err-write_changes-clause-told g c =
       calls = written.calls;
       costs = rw c.timestamp.ensures at written.costs;
       writes_rise = written.writes_rise;
+      unfailed = written.unfailed;
     })))
 
 pub returns-clause-told : goal.returns-clause-told
@@ -56,4 +57,5 @@ returns-clause-told g c =
       calls = written.calls;
       costs = rw c.timestamp.ensures at written.costs;
       writes_rise = written.writes_rise;
+      unfailed = written.unfailed;
     }) c.in_ok-write_changes.was text

@@ -57,6 +57,7 @@ returns-clause-changed g c =
       calls = written.calls;
       costs = rw (c.listed.ensures, c.timestamp.ensures) at written.costs;
       writes_rise = written.writes_rise;
+      unfailed = written.unfailed;
     })
 
 pub request-requires : goal.request-requires

@@ -105,15 +105,15 @@ returns-in_err-recover-clause-keeps g c = λ told left named by steps asked.
     let made = c.in-Ok.ensures in
     let was = was_readied c.args.group.now c.args.changes.now c.args.timestamp c.in-Ok.ready c.requires.from.assembled c.ranges.timestamp.fits made.readied made.recovery made.recovers made.follows in
     let tell : Tells old middle = record {
-      told = g.met.B.Bay.told_since c.recover.new.bay;
-      counts = g.met.B.Bay.counts_now c.recover.new.bay;
+      told = (g.met.B.Bay.told c.recover.new.bay).since;
+      counts = (g.met.B.Bay.told c.recover.new.bay).counts;
       back = c.recover.ensures.spends.told;
-      held = g.met.B.Bay.held_is_left c.recover.new.bay;
+      held = (g.met.B.Bay.told c.recover.new.bay).held;
     } in
     rw failed.1
     (λ group same past kept admitted.
     recover_keeps g.B.Bay.tells old c.args.group.now c.args.changes.now c.args.timestamp c.in-Ok.ready c.requires.from was c.requires.asked c.requires.one told
-    (reads_true old (g.met.B.Bay.held_is_left c.args.bay.now) (g.met.B.Bay.whole c.args.bay.now)) left named by steps asked group same past kept admitted middle c.recover.ensures.spends.same_sizes (c.recover.ensures.any_moment told) tell
+    (reads_true old ((g.met.B.Bay.told c.args.bay.now).held) ((g.met.B.Bay.told c.args.bay.now).whole)) left named by steps asked group same past kept admitted middle c.recover.ensures.spends.same_sizes (c.recover.ensures.any_moment told) tell
     (c.in_err-recover.ensures.ends told))
 
 pub returns-in_err-commit-clause-keeps : goal.returns-in_err-commit-clause-keeps
@@ -125,24 +125,24 @@ returns-in_err-commit-clause-keeps g c = λ told left named by steps asked.
     let made = c.in-Ok.ensures in
     let was = was_readied c.args.group.now c.args.changes.now c.args.timestamp c.in-Ok.ready c.requires.from.assembled c.ranges.timestamp.fits made.readied made.recovery made.recovers made.follows in
     let tell : Tells old middle = record {
-      told = g.met.B.Bay.told_since c.recover.new.bay;
-      counts = g.met.B.Bay.counts_now c.recover.new.bay;
+      told = (g.met.B.Bay.told c.recover.new.bay).since;
+      counts = (g.met.B.Bay.told c.recover.new.bay).counts;
       back = c.recover.ensures.spends.told;
-      held = g.met.B.Bay.held_is_left c.recover.new.bay;
+      held = (g.met.B.Bay.told c.recover.new.bay).held;
     } in
     let tell_new : Tells middle new = record {
-      told = g.met.B.Bay.told_since c.commit.new.bay;
-      counts = g.met.B.Bay.counts_now c.commit.new.bay;
+      told = (g.met.B.Bay.told c.commit.new.bay).since;
+      counts = (g.met.B.Bay.told c.commit.new.bay).counts;
       back = c.commit.ensures.spends.told;
-      held = g.met.B.Bay.held_is_left c.commit.new.bay;
+      held = (g.met.B.Bay.told c.commit.new.bay).held;
     } in
     let next = subst (λ (one : ReadyValue). (seat : ℕ → SlotChange) → MayChangeAll middle (next_slots one) seat (next_updates one) → StopsLeave middle new (IsLeftChangingAll middle (next_slots one) seat (next_updates one)))
     c.recover.ensures.left (c.commit.ensures.any_moment told) in
     rw failed.1
     (λ group same past kept admitted.
     commit_keeps g.B.Bay.tells old c.args.group.now c.args.changes.now c.args.timestamp c.in-Ok.ready c.requires.from was c.requires.asked c.requires.one told
-    (reads_true old (g.met.B.Bay.held_is_left c.args.bay.now) (g.met.B.Bay.whole c.args.bay.now)) left named by steps asked group same past kept admitted middle c.recover.ensures.spends.same_sizes (c.recover.ensures.any_moment told) tell
-    (c.in_ok-recover.ensures.changed told) (c.in_ok-recover.ensures.settled told) new c.commit.ensures.spends.same_sizes next tell_new (g.met.B.Bay.only_now c.recover.new.bay))
+    (reads_true old ((g.met.B.Bay.told c.args.bay.now).held) ((g.met.B.Bay.told c.args.bay.now).whole)) left named by steps asked group same past kept admitted middle c.recover.ensures.spends.same_sizes (c.recover.ensures.any_moment told) tell
+    (c.in_ok-recover.ensures.changed told) (c.in_ok-recover.ensures.settled told) new c.commit.ensures.spends.same_sizes next tell_new ((g.met.B.Bay.told c.recover.new.bay).only_now))
 
 pub returns-clause-keeps : goal.returns-clause-keeps
 returns-clause-keeps g c = λ told left named by steps asked group same past kept admitted.
@@ -152,22 +152,22 @@ returns-clause-keeps g c = λ told left named by steps asked group same past kep
     let made = c.in-Ok.ensures in
     let was = was_readied c.args.group.now c.args.changes.now c.args.timestamp c.in-Ok.ready c.requires.from.assembled c.ranges.timestamp.fits made.readied made.recovery made.recovers made.follows in
     let tell : Tells old middle = record {
-      told = g.met.B.Bay.told_since c.recover.new.bay;
-      counts = g.met.B.Bay.counts_now c.recover.new.bay;
+      told = (g.met.B.Bay.told c.recover.new.bay).since;
+      counts = (g.met.B.Bay.told c.recover.new.bay).counts;
       back = c.recover.ensures.spends.told;
-      held = g.met.B.Bay.held_is_left c.recover.new.bay;
+      held = (g.met.B.Bay.told c.recover.new.bay).held;
     } in
     let tell_new : Tells middle new = record {
-      told = g.met.B.Bay.told_since c.commit.new.bay;
-      counts = g.met.B.Bay.counts_now c.commit.new.bay;
+      told = (g.met.B.Bay.told c.commit.new.bay).since;
+      counts = (g.met.B.Bay.told c.commit.new.bay).counts;
       back = c.commit.ensures.spends.told;
-      held = g.met.B.Bay.held_is_left c.commit.new.bay;
+      held = (g.met.B.Bay.told c.commit.new.bay).held;
     } in
     let next = subst (λ (one : ReadyValue). (seat : ℕ → SlotChange) → MayChangeAll middle (next_slots one) seat (next_updates one) → StopsLeave middle new (IsLeftChangingAll middle (next_slots one) seat (next_updates one)))
     c.recover.ensures.left (c.commit.ensures.any_moment told) in
     done_keeps g.B.Bay.tells old c.args.group.now c.args.changes.now c.args.timestamp c.in-Ok.ready c.requires.from was c.requires.asked c.requires.one told
-    (reads_true old (g.met.B.Bay.held_is_left c.args.bay.now) (g.met.B.Bay.whole c.args.bay.now)) left named by steps asked group same past kept admitted middle c.recover.ensures.spends.same_sizes (c.recover.ensures.any_moment told) tell
-    (c.in_ok-recover.ensures.changed told) (c.in_ok-recover.ensures.settled told) new c.commit.ensures.spends.same_sizes next tell_new (g.met.B.Bay.only_now c.recover.new.bay)
+    (reads_true old ((g.met.B.Bay.told c.args.bay.now).held) ((g.met.B.Bay.told c.args.bay.now).whole)) left named by steps asked group same past kept admitted middle c.recover.ensures.spends.same_sizes (c.recover.ensures.any_moment told) tell
+    (c.in_ok-recover.ensures.changed told) (c.in_ok-recover.ensures.settled told) new c.commit.ensures.spends.same_sizes next tell_new ((g.met.B.Bay.told c.recover.new.bay).only_now)
     (subst (λ (one : ReadyValue). Commits middle new one) c.recover.ensures.left (c.in_ok-commit.ensures.changed told))
 
 pub returns-in-Err-clause-beside : goal.returns-in-Err-clause-beside
@@ -228,13 +228,13 @@ returns-in_err-recover-clause-leaves g c = λ told steps asked.
     let made = c.in-Ok.ensures in
     let was = was_readied c.args.group.now c.args.changes.now c.args.timestamp c.in-Ok.ready c.requires.from.assembled c.ranges.timestamp.fits made.readied made.recovery made.recovers made.follows in
     let tell : Tells old middle = record {
-      told = g.met.B.Bay.told_since c.recover.new.bay;
-      counts = g.met.B.Bay.counts_now c.recover.new.bay;
+      told = (g.met.B.Bay.told c.recover.new.bay).since;
+      counts = (g.met.B.Bay.told c.recover.new.bay).counts;
       back = c.recover.ensures.spends.told;
-      held = g.met.B.Bay.held_is_left c.recover.new.bay;
+      held = (g.met.B.Bay.told c.recover.new.bay).held;
     } in
     recover_leaves g.B.Bay.tells old c.args.group.now c.args.changes.now c.args.timestamp c.in-Ok.ready c.requires.from was told
-    (reads_true old (g.met.B.Bay.held_is_left c.args.bay.now) (g.met.B.Bay.whole c.args.bay.now)) (g.met.B.Bay.only_now c.args.bay.now) steps asked middle c.recover.ensures.spends.same_sizes (c.recover.ensures.any_moment told) tell
+    (reads_true old ((g.met.B.Bay.told c.args.bay.now).held) ((g.met.B.Bay.told c.args.bay.now).whole)) ((g.met.B.Bay.told c.args.bay.now).only_now) steps asked middle c.recover.ensures.spends.same_sizes (c.recover.ensures.any_moment told) tell
 
 pub returns-in_err-commit-clause-leaves : goal.returns-in_err-commit-clause-leaves
 returns-in_err-commit-clause-leaves g c = λ told steps asked.
@@ -244,16 +244,16 @@ returns-in_err-commit-clause-leaves g c = λ told steps asked.
     let made = c.in-Ok.ensures in
     let was = was_readied c.args.group.now c.args.changes.now c.args.timestamp c.in-Ok.ready c.requires.from.assembled c.ranges.timestamp.fits made.readied made.recovery made.recovers made.follows in
     let tell : Tells old middle = record {
-      told = g.met.B.Bay.told_since c.recover.new.bay;
-      counts = g.met.B.Bay.counts_now c.recover.new.bay;
+      told = (g.met.B.Bay.told c.recover.new.bay).since;
+      counts = (g.met.B.Bay.told c.recover.new.bay).counts;
       back = c.recover.ensures.spends.told;
-      held = g.met.B.Bay.held_is_left c.recover.new.bay;
+      held = (g.met.B.Bay.told c.recover.new.bay).held;
     } in
     let tell_new : Tells middle new = record {
-      told = g.met.B.Bay.told_since c.commit.new.bay;
-      counts = g.met.B.Bay.counts_now c.commit.new.bay;
+      told = (g.met.B.Bay.told c.commit.new.bay).since;
+      counts = (g.met.B.Bay.told c.commit.new.bay).counts;
       back = c.commit.ensures.spends.told;
-      held = g.met.B.Bay.held_is_left c.commit.new.bay;
+      held = (g.met.B.Bay.told c.commit.new.bay).held;
     } in
     let next = subst (λ (one : ReadyValue). (seat : ℕ → SlotChange) → MayChangeAll middle (next_slots one) seat (next_updates one) → StopsLeave middle new (IsLeftChangingAll middle (next_slots one) seat (next_updates one)))
     c.recover.ensures.left (c.commit.ensures.any_moment told) in
@@ -263,8 +263,8 @@ returns-in_err-commit-clause-leaves g c = λ told steps asked.
     may (c.in_ok-recover.ensures.changed told may.seat may.may_change) in
     let can = may_write_next middle (group_recovered c.args.group.now c.in-Ok.ready.recovery) rest held (recovered_ready c.args.group.now c.args.changes.now c.args.timestamp c.in-Ok.ready was) in
     commit_leaves g.B.Bay.tells old c.args.group.now c.args.changes.now c.args.timestamp c.in-Ok.ready c.requires.from was told
-    (reads_true old (g.met.B.Bay.held_is_left c.args.bay.now) (g.met.B.Bay.whole c.args.bay.now)) (g.met.B.Bay.only_now c.args.bay.now) steps asked middle c.recover.ensures.spends.same_sizes (c.recover.ensures.any_moment told) tell
-    can (reads_true middle (g.met.B.Bay.held_is_left c.recover.new.bay) (g.met.B.Bay.whole c.recover.new.bay)) new next tell_new
+    (reads_true old ((g.met.B.Bay.told c.args.bay.now).held) ((g.met.B.Bay.told c.args.bay.now).whole)) ((g.met.B.Bay.told c.args.bay.now).only_now) steps asked middle c.recover.ensures.spends.same_sizes (c.recover.ensures.any_moment told) tell
+    can (reads_true middle ((g.met.B.Bay.told c.recover.new.bay).held) ((g.met.B.Bay.told c.recover.new.bay).whole)) new next tell_new
 
 pub returns-clause-leaves : goal.returns-clause-leaves
 returns-clause-leaves g c = λ told steps asked.
@@ -274,16 +274,16 @@ returns-clause-leaves g c = λ told steps asked.
     let made = c.in-Ok.ensures in
     let was = was_readied c.args.group.now c.args.changes.now c.args.timestamp c.in-Ok.ready c.requires.from.assembled c.ranges.timestamp.fits made.readied made.recovery made.recovers made.follows in
     let tell : Tells old middle = record {
-      told = g.met.B.Bay.told_since c.recover.new.bay;
-      counts = g.met.B.Bay.counts_now c.recover.new.bay;
+      told = (g.met.B.Bay.told c.recover.new.bay).since;
+      counts = (g.met.B.Bay.told c.recover.new.bay).counts;
       back = c.recover.ensures.spends.told;
-      held = g.met.B.Bay.held_is_left c.recover.new.bay;
+      held = (g.met.B.Bay.told c.recover.new.bay).held;
     } in
     let tell_new : Tells middle new = record {
-      told = g.met.B.Bay.told_since c.commit.new.bay;
-      counts = g.met.B.Bay.counts_now c.commit.new.bay;
+      told = (g.met.B.Bay.told c.commit.new.bay).since;
+      counts = (g.met.B.Bay.told c.commit.new.bay).counts;
       back = c.commit.ensures.spends.told;
-      held = g.met.B.Bay.held_is_left c.commit.new.bay;
+      held = (g.met.B.Bay.told c.commit.new.bay).held;
     } in
     let next = subst (λ (one : ReadyValue). (seat : ℕ → SlotChange) → MayChangeAll middle (next_slots one) seat (next_updates one) → StopsLeave middle new (IsLeftChangingAll middle (next_slots one) seat (next_updates one)))
     c.recover.ensures.left (c.commit.ensures.any_moment told) in
@@ -293,8 +293,8 @@ returns-clause-leaves g c = λ told steps asked.
     may (c.in_ok-recover.ensures.changed told may.seat may.may_change) in
     let can = may_write_next middle (group_recovered c.args.group.now c.in-Ok.ready.recovery) rest held (recovered_ready c.args.group.now c.args.changes.now c.args.timestamp c.in-Ok.ready was) in
     commit_leaves g.B.Bay.tells old c.args.group.now c.args.changes.now c.args.timestamp c.in-Ok.ready c.requires.from was told
-    (reads_true old (g.met.B.Bay.held_is_left c.args.bay.now) (g.met.B.Bay.whole c.args.bay.now)) (g.met.B.Bay.only_now c.args.bay.now) steps asked middle c.recover.ensures.spends.same_sizes (c.recover.ensures.any_moment told) tell
-    can (reads_true middle (g.met.B.Bay.held_is_left c.recover.new.bay) (g.met.B.Bay.whole c.recover.new.bay)) new next tell_new
+    (reads_true old ((g.met.B.Bay.told c.args.bay.now).held) ((g.met.B.Bay.told c.args.bay.now).whole)) ((g.met.B.Bay.told c.args.bay.now).only_now) steps asked middle c.recover.ensures.spends.same_sizes (c.recover.ensures.any_moment told) tell
+    can (reads_true middle ((g.met.B.Bay.told c.recover.new.bay).held) ((g.met.B.Bay.told c.recover.new.bay).whole)) new next tell_new
 
 pub returns-in_err-recover-clause-calls : goal.returns-in_err-recover-clause-calls
 returns-in_err-recover-clause-calls g c =

@@ -57,4 +57,4 @@ returns-clause-imported g c =
     } in
     has_imported _ old _ _ _ first _ (record { reads = read.reads_rise; writes = read.writes_rise }) read.reads c.in_ok-native.ensures.read.read middle _
     (record { reads = also.reads_rise; writes = also.writes_rise }) also.reads whole c.in_ok-joining.ensures.read.read
-    _ _ (c.items.ensures ∙ c.in_ok-native.ensures.read.left_out) c.in_ok-joining.ensures.read.left_out new _ later since same written.calls written.imported written.keeps written.leaves
+    _ _ (c.items.ensures ∙ c.in_ok-native.ensures.read.left_out) c.in_ok-joining.ensures.read.left_out new _ later since same written.unfailed written.calls written.imported written.keeps written.leaves

@@ -72,8 +72,8 @@ returns-in_err-recover-clause-keeps g c = λ told left also_left named also_name
     } in
     rw failed.1
     (recovery_keeps g.B.Bay.tells old c.args.group.now c.args.joining.now.group c.args.timestamp c.args.left_out.now ready.recovery ready.join
-    c.requires.from c.requires.also c.ranges.timestamp.fits made told (reads_true old (g.met.B.Bay.held_is_left c.args.bay.now) (g.met.B.Bay.whole c.args.bay.now))
-    left also_left named also_named found found_too joined asked new recovery (g.met.B.Bay.told_since c.recover.new.bay) (g.met.B.Bay.held_is_left c.recover.new.bay))
+    c.requires.from c.requires.also c.ranges.timestamp.fits made told (reads_true old ((g.met.B.Bay.told c.args.bay.now).held) ((g.met.B.Bay.told c.args.bay.now).whole))
+    left also_left named also_named found found_too joined asked new recovery ((g.met.B.Bay.told c.recover.new.bay).since) ((g.met.B.Bay.told c.recover.new.bay).held))
 
 pub import-requires-clause-slots : goal.import-requires-clause-slots
 import-requires-clause-slots g c =
@@ -126,9 +126,9 @@ returns-in_err-import-clause-keeps g c = λ told left also_left named also_named
     } in
     rw failed.1
     (import_keeps g.B.Bay.tells old c.args.group.now c.args.joining.now.group c.args.timestamp c.args.left_out.now ready.recovery ready.join
-    c.requires.from c.requires.also c.ranges.timestamp.fits made told (reads_true old (g.met.B.Bay.held_is_left c.args.bay.now) (g.met.B.Bay.whole c.args.bay.now))
-    left also_left named also_named found found_too joined asked middle new false recovery written (g.met.B.Bay.told_since c.import.new.bay) (g.met.B.Bay.held_is_left c.import.new.bay)
-    (g.met.B.Bay.held_is_left c.recover.new.bay))
+    c.requires.from c.requires.also c.ranges.timestamp.fits made told (reads_true old ((g.met.B.Bay.told c.args.bay.now).held) ((g.met.B.Bay.told c.args.bay.now).whole))
+    left also_left named also_named found found_too joined asked middle new false recovery written ((g.met.B.Bay.told c.import.new.bay).since) ((g.met.B.Bay.told c.import.new.bay).held)
+    ((g.met.B.Bay.told c.recover.new.bay).held))
 
 pub returns-clause-imported : goal.returns-clause-imported
 returns-clause-imported g c =
@@ -179,9 +179,9 @@ returns-clause-keeps g c = λ told left also_left named also_named found found_t
       spends = c.import.ensures.spends;
     } in
     import_keeps g.B.Bay.tells old c.args.group.now c.args.joining.now.group c.args.timestamp c.args.left_out.now ready.recovery ready.join
-    c.requires.from c.requires.also c.ranges.timestamp.fits made told (reads_true old (g.met.B.Bay.held_is_left c.args.bay.now) (g.met.B.Bay.whole c.args.bay.now))
-    left also_left named also_named found found_too joined asked middle new true recovery written (g.met.B.Bay.told_since c.import.new.bay) (g.met.B.Bay.held_is_left c.import.new.bay)
-    (g.met.B.Bay.held_is_left c.recover.new.bay)
+    c.requires.from c.requires.also c.ranges.timestamp.fits made told (reads_true old ((g.met.B.Bay.told c.args.bay.now).held) ((g.met.B.Bay.told c.args.bay.now).whole))
+    left also_left named also_named found found_too joined asked middle new true recovery written ((g.met.B.Bay.told c.import.new.bay).since) ((g.met.B.Bay.told c.import.new.bay).held)
+    ((g.met.B.Bay.told c.recover.new.bay).held)
 
 pub returns-in_err-ready-clause-leaves : goal.returns-in_err-ready-clause-leaves
 returns-in_err-ready-clause-leaves g c = λ told joined asked.
@@ -195,14 +195,14 @@ returns-in_err-recover-clause-leaves g c = λ told joined asked.
     let ready = c.in_ok-ready.ready in
     let made = c.in_ok-ready.ensures.readied in
     let tell : Tells old middle = record {
-      told = g.met.B.Bay.told_since c.recover.new.bay;
-      counts = g.met.B.Bay.counts_now c.recover.new.bay;
+      told = (g.met.B.Bay.told c.recover.new.bay).since;
+      counts = (g.met.B.Bay.told c.recover.new.bay).counts;
       back = c.recover.ensures.spends.told;
-      held = g.met.B.Bay.held_is_left c.recover.new.bay;
+      held = (g.met.B.Bay.told c.recover.new.bay).held;
     } in
     recover_leaves g.B.Bay.tells old c.args.group.now c.args.joining.now.group c.args.timestamp c.args.left_out.now ready.recovery ready.join
-    c.requires.from c.requires.also c.ranges.timestamp.fits made told (reads_true old (g.met.B.Bay.held_is_left c.args.bay.now) (g.met.B.Bay.whole c.args.bay.now))
-    (g.met.B.Bay.only_now c.args.bay.now) joined asked middle c.recover.ensures.spends.same_sizes (c.recover.ensures.any_moment told) tell
+    c.requires.from c.requires.also c.ranges.timestamp.fits made told (reads_true old ((g.met.B.Bay.told c.args.bay.now).held) ((g.met.B.Bay.told c.args.bay.now).whole))
+    ((g.met.B.Bay.told c.args.bay.now).only_now) joined asked middle c.recover.ensures.spends.same_sizes (c.recover.ensures.any_moment told) tell
 
 pub returns-in_err-import-clause-leaves : goal.returns-in_err-import-clause-leaves
 returns-in_err-import-clause-leaves g c = λ told joined asked.
@@ -212,21 +212,21 @@ returns-in_err-import-clause-leaves g c = λ told joined asked.
     let ready = c.in_ok-ready.ready in
     let made = c.in_ok-ready.ensures.readied in
     let tell : Tells old middle = record {
-      told = g.met.B.Bay.told_since c.recover.new.bay;
-      counts = g.met.B.Bay.counts_now c.recover.new.bay;
+      told = (g.met.B.Bay.told c.recover.new.bay).since;
+      counts = (g.met.B.Bay.told c.recover.new.bay).counts;
       back = c.recover.ensures.spends.told;
-      held = g.met.B.Bay.held_is_left c.recover.new.bay;
+      held = (g.met.B.Bay.told c.recover.new.bay).held;
     } in
     let tell_new : Tells middle new = record {
-      told = g.met.B.Bay.told_since c.import.new.bay;
-      counts = g.met.B.Bay.counts_now c.import.new.bay;
+      told = (g.met.B.Bay.told c.import.new.bay).since;
+      counts = (g.met.B.Bay.told c.import.new.bay).counts;
       back = c.import.ensures.spends.told;
-      held = g.met.B.Bay.held_is_left c.import.new.bay;
+      held = (g.met.B.Bay.told c.import.new.bay).held;
     } in
     import_leaves g.B.Bay.tells old c.args.group.now c.args.joining.now.group c.args.timestamp c.args.left_out.now ready.recovery ready.join
-    c.requires.from c.requires.also c.ranges.timestamp.fits made told (reads_true old (g.met.B.Bay.held_is_left c.args.bay.now) (g.met.B.Bay.whole c.args.bay.now))
-    (g.met.B.Bay.only_now c.args.bay.now) joined asked middle c.recover.ensures.spends.same_sizes (c.recover.ensures.any_moment told) tell
-    (c.in_ok-recover.ensures.changed told) (reads_true middle (g.met.B.Bay.held_is_left c.recover.new.bay) (g.met.B.Bay.whole c.recover.new.bay)) new (c.import.ensures.any_moment told) tell_new
+    c.requires.from c.requires.also c.ranges.timestamp.fits made told (reads_true old ((g.met.B.Bay.told c.args.bay.now).held) ((g.met.B.Bay.told c.args.bay.now).whole))
+    ((g.met.B.Bay.told c.args.bay.now).only_now) joined asked middle c.recover.ensures.spends.same_sizes (c.recover.ensures.any_moment told) tell
+    (c.in_ok-recover.ensures.changed told) (reads_true middle ((g.met.B.Bay.told c.recover.new.bay).held) ((g.met.B.Bay.told c.recover.new.bay).whole)) new (c.import.ensures.any_moment told) tell_new
 
 pub returns-clause-leaves : goal.returns-clause-leaves
 returns-clause-leaves g c = λ told joined asked.
@@ -236,21 +236,21 @@ returns-clause-leaves g c = λ told joined asked.
     let ready = c.in_ok-ready.ready in
     let made = c.in_ok-ready.ensures.readied in
     let tell : Tells old middle = record {
-      told = g.met.B.Bay.told_since c.recover.new.bay;
-      counts = g.met.B.Bay.counts_now c.recover.new.bay;
+      told = (g.met.B.Bay.told c.recover.new.bay).since;
+      counts = (g.met.B.Bay.told c.recover.new.bay).counts;
       back = c.recover.ensures.spends.told;
-      held = g.met.B.Bay.held_is_left c.recover.new.bay;
+      held = (g.met.B.Bay.told c.recover.new.bay).held;
     } in
     let tell_new : Tells middle new = record {
-      told = g.met.B.Bay.told_since c.import.new.bay;
-      counts = g.met.B.Bay.counts_now c.import.new.bay;
+      told = (g.met.B.Bay.told c.import.new.bay).since;
+      counts = (g.met.B.Bay.told c.import.new.bay).counts;
       back = c.import.ensures.spends.told;
-      held = g.met.B.Bay.held_is_left c.import.new.bay;
+      held = (g.met.B.Bay.told c.import.new.bay).held;
     } in
     import_leaves g.B.Bay.tells old c.args.group.now c.args.joining.now.group c.args.timestamp c.args.left_out.now ready.recovery ready.join
-    c.requires.from c.requires.also c.ranges.timestamp.fits made told (reads_true old (g.met.B.Bay.held_is_left c.args.bay.now) (g.met.B.Bay.whole c.args.bay.now))
-    (g.met.B.Bay.only_now c.args.bay.now) joined asked middle c.recover.ensures.spends.same_sizes (c.recover.ensures.any_moment told) tell
-    (c.in_ok-recover.ensures.changed told) (reads_true middle (g.met.B.Bay.held_is_left c.recover.new.bay) (g.met.B.Bay.whole c.recover.new.bay)) new (c.import.ensures.any_moment told) tell_new
+    c.requires.from c.requires.also c.ranges.timestamp.fits made told (reads_true old ((g.met.B.Bay.told c.args.bay.now).held) ((g.met.B.Bay.told c.args.bay.now).whole))
+    ((g.met.B.Bay.told c.args.bay.now).only_now) joined asked middle c.recover.ensures.spends.same_sizes (c.recover.ensures.any_moment told) tell
+    (c.in_ok-recover.ensures.changed told) (reads_true middle ((g.met.B.Bay.told c.recover.new.bay).held) ((g.met.B.Bay.told c.recover.new.bay).whole)) new (c.import.ensures.any_moment told) tell_new
 
 pub returns-in_err-recover-clause-calls : goal.returns-in_err-recover-clause-calls
 returns-in_err-recover-clause-calls g c =

@@ -1,6 +1,6 @@
 use Rattle.std.proofs.Common.{refl}
 use Rattle.ddf_linux.specs.State.{turned_state}
-use Rattle.ddf_linux.proofs.Fronts.{first_adds, front_adds, front_stops}
+use Rattle.ddf_bay.proofs.Fronts.{first_adds, front_adds, front_stops}
 use Rattle.ddf_linux.proofs.pieces.write_front.Goals as goal
 
 pub returns-in_err-write_one-clause-left : goal.returns-in_err-write_one-clause-left

@@ -3,7 +3,7 @@ use Rattle.std.proofs.lemmas.List.{take_rest, length-drop}
 use Rattle.ddf_bay.specs.Sectors.{Image, put_run}
 use Rattle.ddf_bay.proofs.Steps.{spends_then}
 use Rattle.ddf_linux.specs.State.{turned_state}
-use Rattle.ddf_linux.proofs.Fronts.{rest_adds, rest_stops, rest_mixes, put_pieces, remembers_then, spends_more}
+use Rattle.ddf_bay.proofs.Fronts.{rest_adds, rest_stops, rest_mixes, put_pieces, remembers_then, spends_more}
 use Rattle.ddf_linux.specs.Kinds.{kind_at}
 use Rattle.ddf_linux.specs.Pieces.{pieces_below}
 use Rattle.ddf_linux.proofs.Cuts.{pieces_more, rest_begins}

@@ -4,7 +4,7 @@ use Rattle.std.specs.Prelude.{is_ok}
 use Rattle.ddf_config.specs.declared.seat.Seat.{Seat}
 use Rattle.ddf_assembly.specs.Committed.{left_behind}
 use Rattle.ddf_assembly.specs.Ready.{ReadyValue}
-use Rattle.ddf_write_commands.proofs.Courses.{IsTold}
+use Rattle.ddf_bay.specs.Told.{IsTold}
 use Rattle.ddf_rebuild_command.specs.Filled.{AreFilled, CanFill, GoesFilling, IsFillFault, rounds_in}
 use Rattle.ddf_rebuild_command.proofs.Costs.{first_asks, rounds_ask}
 use Rattle.ddf_rebuild_command.proofs.AllRounds.{can_first, can_later, fault_behind, filled_behind, first_failed, first_fault, from_row, goes_behind, many_behind, row_end}
@@ -35,13 +35,7 @@ returns-in_err-fill_round-clause-goes g t c =
     let many : length steps ≡ suc (length later) = c.requires.many ∙ ap (λ (rows : List ℕ). length rows) list in
     let new = g.B.Bay.disks c.fill_round.new.bay in
     let failed = err_from_is_err_and c.from_residual.result c.from_residual.ensures.1 in
-    let tells_new : IsTold (g.B.Bay.disks c.fill_round.new.bay) = record {
-      held = g.met.B.Bay.held_is_left c.fill_round.new.bay;
-      whole = g.met.B.Bay.whole c.fill_round.new.bay;
-      only_now = g.met.B.Bay.only_now c.fill_round.new.bay;
-      counts = g.met.B.Bay.counts_now c.fill_round.new.bay;
-      since = g.met.B.Bay.told_since c.fill_round.new.bay;
-    } in
+    let tells_new : IsTold (g.B.Bay.disks c.fill_round.new.bay) = g.met.B.Bay.told c.fill_round.new.bay in
     rw failed.1
     (subst (λ (rows : List ℕ). GoesFilling g.B.Bay.tells old new filling.view filling.target c.args.from (rounds_in rows steps) c.args.group.now c.args.ready.now false) (sym list)
     (first_failed g.B.Bay.tells filling.view filling.target c.args.from row later c.args.group.now c.args.ready.now.recovery old new tells_new steps many c.in_err-fill_round.ensures.goes))
@@ -57,13 +51,7 @@ returns-in_err-fill_round-clause-failed g t c =
     let many : length steps ≡ suc (length later) = c.requires.many ∙ ap (λ (rows : List ℕ). length rows) list in
     let new = g.B.Bay.disks c.fill_round.new.bay in
     let failed = err_from_is_err_and c.from_residual.result c.from_residual.ensures.1 in
-    let tells_new : IsTold (g.B.Bay.disks c.fill_round.new.bay) = record {
-      held = g.met.B.Bay.held_is_left c.fill_round.new.bay;
-      whole = g.met.B.Bay.whole c.fill_round.new.bay;
-      only_now = g.met.B.Bay.only_now c.fill_round.new.bay;
-      counts = g.met.B.Bay.counts_now c.fill_round.new.bay;
-      since = g.met.B.Bay.told_since c.fill_round.new.bay;
-    } in
+    let tells_new : IsTold (g.B.Bay.disks c.fill_round.new.bay) = g.met.B.Bay.told c.fill_round.new.bay in
     rw (failed.1, failed.2)
     (λ end can.
     let all : CanFill old.sizes c.args.group.now.seats filling.view filling.target end c.args.from (row ∷ later) =
@@ -108,20 +96,8 @@ returns-clause-goes g t c =
     let filled = subst (λ (one : ReadyValue). AreFilled g.B.Bay.tells old middle filling.view filling.target c.args.from (rounds_in (row ∷ []) steps) c.args.group.now c.args.ready.now c.fill_round.new.group one)
     behind c.in_ok-fill_round.ensures.filled in
     let last = subst (λ (one : ReadyValue). GoesFilling g.B.Bay.tells middle new filling.view filling.target row (rounds_in later one.steps) c.fill_round.new.group one (is_ok c.fill.result)) behind c.fill.ensures.goes in
-    let tells_middle : IsTold (g.B.Bay.disks c.fill_round.new.bay) = record {
-      held = g.met.B.Bay.held_is_left c.fill_round.new.bay;
-      whole = g.met.B.Bay.whole c.fill_round.new.bay;
-      only_now = g.met.B.Bay.only_now c.fill_round.new.bay;
-      counts = g.met.B.Bay.counts_now c.fill_round.new.bay;
-      since = g.met.B.Bay.told_since c.fill_round.new.bay;
-    } in
-    let tells_new : IsTold (g.B.Bay.disks c.fill.new.bay) = record {
-      held = g.met.B.Bay.held_is_left c.fill.new.bay;
-      whole = g.met.B.Bay.whole c.fill.new.bay;
-      only_now = g.met.B.Bay.only_now c.fill.new.bay;
-      counts = g.met.B.Bay.counts_now c.fill.new.bay;
-      since = g.met.B.Bay.told_since c.fill.new.bay;
-    } in
+    let tells_middle : IsTold (g.B.Bay.disks c.fill_round.new.bay) = g.met.B.Bay.told c.fill_round.new.bay in
+    let tells_new : IsTold (g.B.Bay.disks c.fill.new.bay) = g.met.B.Bay.told c.fill.new.bay in
     subst (λ (rows : List ℕ). GoesFilling g.B.Bay.tells old new filling.view filling.target c.args.from (rounds_in rows steps) c.args.group.now c.args.ready.now (is_ok c.fill.result)) (sym list)
     (goes_behind g.B.Bay.tells filling.view filling.target c.args.from row later c.args.group.now c.args.ready.now.recovery old middle new tells_middle tells_new c.fill_round.new.group (is_ok c.fill.result) steps many c.in_ok-fill_round.ensures.goes filled last)
 
@@ -140,20 +116,8 @@ returns-clause-filled g t c =
     let filled = subst (λ (one : ReadyValue). AreFilled g.B.Bay.tells old middle filling.view filling.target c.args.from (rounds_in (row ∷ []) steps) c.args.group.now c.args.ready.now c.fill_round.new.group one)
     behind c.in_ok-fill_round.ensures.filled in
     let last = subst (λ (one : ReadyValue). GoesFilling g.B.Bay.tells middle new filling.view filling.target row (rounds_in later one.steps) c.fill_round.new.group one (is_ok c.fill.result)) behind c.fill.ensures.goes in
-    let tells_middle : IsTold (g.B.Bay.disks c.fill_round.new.bay) = record {
-      held = g.met.B.Bay.held_is_left c.fill_round.new.bay;
-      whole = g.met.B.Bay.whole c.fill_round.new.bay;
-      only_now = g.met.B.Bay.only_now c.fill_round.new.bay;
-      counts = g.met.B.Bay.counts_now c.fill_round.new.bay;
-      since = g.met.B.Bay.told_since c.fill_round.new.bay;
-    } in
-    let tells_new : IsTold (g.B.Bay.disks c.fill.new.bay) = record {
-      held = g.met.B.Bay.held_is_left c.fill.new.bay;
-      whole = g.met.B.Bay.whole c.fill.new.bay;
-      only_now = g.met.B.Bay.only_now c.fill.new.bay;
-      counts = g.met.B.Bay.counts_now c.fill.new.bay;
-      since = g.met.B.Bay.told_since c.fill.new.bay;
-    } in
+    let tells_middle : IsTold (g.B.Bay.disks c.fill_round.new.bay) = g.met.B.Bay.told c.fill_round.new.bay in
+    let tells_new : IsTold (g.B.Bay.disks c.fill.new.bay) = g.met.B.Bay.told c.fill.new.bay in
     on_ok_weaker c.fill.result
     (λ others. subst (λ (rows : List ℕ). AreFilled g.B.Bay.tells old new filling.view filling.target c.args.from (rounds_in rows steps) c.args.group.now c.args.ready.now c.fill.new.group c.fill.new.ready) (sym list)
     (filled_behind g.B.Bay.tells filling.view filling.target c.args.from row later c.args.group.now c.args.ready.now.recovery old middle new tells_middle tells_new c.fill_round.new.group (is_ok c.fill.result) steps many c.in_ok-fill_round.ensures.goes filled last c.fill.new.group c.fill.new.ready
@@ -175,20 +139,8 @@ returns-clause-failed g t c =
     let filled = subst (λ (one : ReadyValue). AreFilled g.B.Bay.tells old middle filling.view filling.target c.args.from (rounds_in (row ∷ []) steps) c.args.group.now c.args.ready.now c.fill_round.new.group one)
     behind c.in_ok-fill_round.ensures.filled in
     let last = subst (λ (one : ReadyValue). GoesFilling g.B.Bay.tells middle new filling.view filling.target row (rounds_in later one.steps) c.fill_round.new.group one (is_ok c.fill.result)) behind c.fill.ensures.goes in
-    let tells_middle : IsTold (g.B.Bay.disks c.fill_round.new.bay) = record {
-      held = g.met.B.Bay.held_is_left c.fill_round.new.bay;
-      whole = g.met.B.Bay.whole c.fill_round.new.bay;
-      only_now = g.met.B.Bay.only_now c.fill_round.new.bay;
-      counts = g.met.B.Bay.counts_now c.fill_round.new.bay;
-      since = g.met.B.Bay.told_since c.fill_round.new.bay;
-    } in
-    let tells_new : IsTold (g.B.Bay.disks c.fill.new.bay) = record {
-      held = g.met.B.Bay.held_is_left c.fill.new.bay;
-      whole = g.met.B.Bay.whole c.fill.new.bay;
-      only_now = g.met.B.Bay.only_now c.fill.new.bay;
-      counts = g.met.B.Bay.counts_now c.fill.new.bay;
-      since = g.met.B.Bay.told_since c.fill.new.bay;
-    } in
+    let tells_middle : IsTold (g.B.Bay.disks c.fill_round.new.bay) = g.met.B.Bay.told c.fill_round.new.bay in
+    let tells_new : IsTold (g.B.Bay.disks c.fill.new.bay) = g.met.B.Bay.told c.fill.new.bay in
     IfErr-weaker c.fill.result
     (λ failure. (end : ℕ) → CanFill middle.sizes c.fill_round.new.group.seats filling.view filling.target end row later
     → IsFillFault g.B.Bay.tells middle new filling.view filling.target row (rounds_in later c.fill_round.new.ready.steps) c.fill_round.new.group c.fill_round.new.ready end failure)
@@ -221,3 +173,6 @@ returns-clause-asks g t c part at =
     let can : CanFill old.sizes c.args.group.now.seats filling.view filling.target end c.args.from (row ∷ later) =
     subst (λ (rows : List ℕ). CanFill old.sizes c.args.group.now.seats filling.view filling.target end c.args.from rows) list c.requires.fills.1 in
     rounds_ask part.shape c.args.from row c.args.ready.now can.rise.0 c.fill_round.new.ready c.in_ok-fill_round.ensures.left (c.fill_round.ensures.asks part at) (c.fill.ensures.asks part at)
+
+pub returns-clause-unfailed : goal.returns-clause-unfailed
+returns-clause-unfailed g t c = on_ok_weaker c.fill.result (λ same. same ∙ c.in_ok-fill_round.ensures.unfailed) c.fill.ensures.unfailed

@@ -1,4 +1,4 @@
-use Rattle.std.proofs.Common.{◌+◌, [], ◌∷◌, true, false, refl, subst, sym, arith}
+use Rattle.std.proofs.Common.{◌∙◌, ◌+◌, [], ◌∷◌, true, false, refl, subst, sym, arith}
 use Rattle.std.proofs.lemmas.Bool.{false≢true}
 use Rattle.std.proofs.lemmas.Result.{IfErr-weaker, on_ok_weaker}
 use Rattle.std.specs.Prelude.{is_ok}
@@ -8,7 +8,7 @@ use Rattle.ddf_rebuild.specs.Rebuilding.{sectors_of}
 use Rattle.ddf_update.specs.Prepared.{all_sectors}
 use Rattle.ddf_assembly.specs.Committed.{next_updates, slots_of}
 use Rattle.ddf_answer.specs.declared.failure.Failure.{Failure}
-use Rattle.ddf_write_commands.proofs.Courses.{IsTold}
+use Rattle.ddf_bay.specs.Told.{IsTold}
 use Rattle.ddf_rebuild_command.specs.Filled.{IsFillFault, rounds_in}
 use Rattle.ddf_rebuild_command.specs.Standing.{IsSlotFault}
 use Rattle.ddf_rebuild_command.proofs.Costs.{asks_most}
@@ -58,27 +58,9 @@ returns-in-Ok-clause-goes g c =
       was_given = λ told so. c.in-Ok.ensures.given told;
     } in
     let new = g.B.Bay.disks c.write_step.new.bay in
-    let tells_old : IsTold (g.B.Bay.disks c.args.bay.now) = record {
-      held = g.met.B.Bay.held_is_left c.args.bay.now;
-      whole = g.met.B.Bay.whole c.args.bay.now;
-      only_now = g.met.B.Bay.only_now c.args.bay.now;
-      counts = g.met.B.Bay.counts_now c.args.bay.now;
-      since = g.met.B.Bay.told_since c.args.bay.now;
-    } in
-    let tells_middle : IsTold (g.B.Bay.disks c.rebuild_rows.new.bay) = record {
-      held = g.met.B.Bay.held_is_left c.rebuild_rows.new.bay;
-      whole = g.met.B.Bay.whole c.rebuild_rows.new.bay;
-      only_now = g.met.B.Bay.only_now c.rebuild_rows.new.bay;
-      counts = g.met.B.Bay.counts_now c.rebuild_rows.new.bay;
-      since = g.met.B.Bay.told_since c.rebuild_rows.new.bay;
-    } in
-    let tells_new : IsTold (g.B.Bay.disks c.write_step.new.bay) = record {
-      held = g.met.B.Bay.held_is_left c.write_step.new.bay;
-      whole = g.met.B.Bay.whole c.write_step.new.bay;
-      only_now = g.met.B.Bay.only_now c.write_step.new.bay;
-      counts = g.met.B.Bay.counts_now c.write_step.new.bay;
-      since = g.met.B.Bay.told_since c.write_step.new.bay;
-    } in
+    let tells_old : IsTold (g.B.Bay.disks c.args.bay.now) = g.met.B.Bay.told c.args.bay.now in
+    let tells_middle : IsTold (g.B.Bay.disks c.rebuild_rows.new.bay) = g.met.B.Bay.told c.rebuild_rows.new.bay in
+    let tells_new : IsTold (g.B.Bay.disks c.write_step.new.bay) = g.met.B.Bay.told c.write_step.new.bay in
     round_goes g.B.Bay.tells old middle filling.view filling.target c.args.from c.args.row c.requires.fills.0 c.args.group.now can c.args.ready.now.recovery true rows refl tells_old tells_middle new tells_new (is_ok c.write_step.result) c.args.ready.now.steps c.requires.many c.requires.stands c.write_step.ensures.goes
 
 pub returns-in-Ok-clause-filled : goal.returns-in-Ok-clause-filled
@@ -99,27 +81,9 @@ returns-in-Ok-clause-filled g c =
       was_given = λ told so. c.in-Ok.ensures.given told;
     } in
     let new = g.B.Bay.disks c.write_step.new.bay in
-    let tells_old : IsTold (g.B.Bay.disks c.args.bay.now) = record {
-      held = g.met.B.Bay.held_is_left c.args.bay.now;
-      whole = g.met.B.Bay.whole c.args.bay.now;
-      only_now = g.met.B.Bay.only_now c.args.bay.now;
-      counts = g.met.B.Bay.counts_now c.args.bay.now;
-      since = g.met.B.Bay.told_since c.args.bay.now;
-    } in
-    let tells_middle : IsTold (g.B.Bay.disks c.rebuild_rows.new.bay) = record {
-      held = g.met.B.Bay.held_is_left c.rebuild_rows.new.bay;
-      whole = g.met.B.Bay.whole c.rebuild_rows.new.bay;
-      only_now = g.met.B.Bay.only_now c.rebuild_rows.new.bay;
-      counts = g.met.B.Bay.counts_now c.rebuild_rows.new.bay;
-      since = g.met.B.Bay.told_since c.rebuild_rows.new.bay;
-    } in
-    let tells_new : IsTold (g.B.Bay.disks c.write_step.new.bay) = record {
-      held = g.met.B.Bay.held_is_left c.write_step.new.bay;
-      whole = g.met.B.Bay.whole c.write_step.new.bay;
-      only_now = g.met.B.Bay.only_now c.write_step.new.bay;
-      counts = g.met.B.Bay.counts_now c.write_step.new.bay;
-      since = g.met.B.Bay.told_since c.write_step.new.bay;
-    } in
+    let tells_old : IsTold (g.B.Bay.disks c.args.bay.now) = g.met.B.Bay.told c.args.bay.now in
+    let tells_middle : IsTold (g.B.Bay.disks c.rebuild_rows.new.bay) = g.met.B.Bay.told c.rebuild_rows.new.bay in
+    let tells_new : IsTold (g.B.Bay.disks c.write_step.new.bay) = g.met.B.Bay.told c.write_step.new.bay in
     on_ok_weaker c.write_step.result
     (λ written. round_filled g.B.Bay.tells old middle filling.view filling.target c.args.from c.args.row c.requires.fills.0 c.args.group.now can c.args.ready.now.recovery true rows refl tells_old tells_middle new tells_new (is_ok c.write_step.result) c.args.ready.now.steps c.requires.many c.requires.stands c.write_step.ensures.goes c.write_step.new.group c.write_step.new.ready
     written)
@@ -143,27 +107,9 @@ returns-in-Ok-clause-failed g c =
       was_given = λ told so. c.in-Ok.ensures.given told;
     } in
     let new = g.B.Bay.disks c.write_step.new.bay in
-    let tells_old : IsTold (g.B.Bay.disks c.args.bay.now) = record {
-      held = g.met.B.Bay.held_is_left c.args.bay.now;
-      whole = g.met.B.Bay.whole c.args.bay.now;
-      only_now = g.met.B.Bay.only_now c.args.bay.now;
-      counts = g.met.B.Bay.counts_now c.args.bay.now;
-      since = g.met.B.Bay.told_since c.args.bay.now;
-    } in
-    let tells_middle : IsTold (g.B.Bay.disks c.rebuild_rows.new.bay) = record {
-      held = g.met.B.Bay.held_is_left c.rebuild_rows.new.bay;
-      whole = g.met.B.Bay.whole c.rebuild_rows.new.bay;
-      only_now = g.met.B.Bay.only_now c.rebuild_rows.new.bay;
-      counts = g.met.B.Bay.counts_now c.rebuild_rows.new.bay;
-      since = g.met.B.Bay.told_since c.rebuild_rows.new.bay;
-    } in
-    let tells_new : IsTold (g.B.Bay.disks c.write_step.new.bay) = record {
-      held = g.met.B.Bay.held_is_left c.write_step.new.bay;
-      whole = g.met.B.Bay.whole c.write_step.new.bay;
-      only_now = g.met.B.Bay.only_now c.write_step.new.bay;
-      counts = g.met.B.Bay.counts_now c.write_step.new.bay;
-      since = g.met.B.Bay.told_since c.write_step.new.bay;
-    } in
+    let tells_old : IsTold (g.B.Bay.disks c.args.bay.now) = g.met.B.Bay.told c.args.bay.now in
+    let tells_middle : IsTold (g.B.Bay.disks c.rebuild_rows.new.bay) = g.met.B.Bay.told c.rebuild_rows.new.bay in
+    let tells_new : IsTold (g.B.Bay.disks c.write_step.new.bay) = g.met.B.Bay.told c.write_step.new.bay in
     IfErr-weaker c.write_step.result (IsSlotFault middle new (slots_of c.args.group.now.seats))
     (IsFillFault g.B.Bay.tells old new filling.view filling.target c.args.from (rounds_in (c.args.row ∷ []) c.args.ready.now.steps) c.args.group.now c.args.ready.now c.args.row)
     (λ failure fault. round_fault g.B.Bay.tells old middle filling.view filling.target c.args.from c.args.row c.requires.fills.0 c.args.group.now can c.args.ready.now.recovery true rows refl tells_old tells_middle new tells_new (is_ok c.write_step.result) c.args.ready.now.steps c.requires.many c.requires.stands c.write_step.ensures.goes failure fault)
@@ -216,3 +162,6 @@ returns-in-Ok-clause-asks g c part at =
 pub returns-in-Err-clause-asks : goal.returns-in-Err-clause-asks
 returns-in-Err-clause-asks g c part at =
     asks_most (sectors_of part.shape c.args.from c.args.row + all_sectors (next_updates c.args.ready.now)) (omega arith) (c.rebuild_rows.ensures.asks part at)
+
+pub returns-in-Ok-clause-unfailed : goal.returns-in-Ok-clause-unfailed
+returns-in-Ok-clause-unfailed g c = on_ok_weaker c.write_step.result (λ same. same ∙ c.in-Ok.ensures.unfailed) c.write_step.ensures.unfailed

@@ -2,7 +2,7 @@ use Rattle.std.proofs.Common.{◌∙◌, ℕ, Ok, subst}
 use Rattle.std.proofs.lemmas.Result.{err_from_is_err_and}
 use Rattle.ddf_bytes.specs.Stamps.{timestamp_of}
 use Rattle.ddf_assembly.specs.Ready.{readied}
-use Rattle.ddf_data_stops.proofs.Floored.{group_floored}
+use Rattle.ddf_stops.proofs.Floored.{group_floored}
 use Rattle.ddf_answer.specs.Call.{work_of}
 use Rattle.ddf_group_commands.proofs.Outcomes.{group_read, read_still}
 use Rattle.ddf_write_commands.proofs.Staying.{current_recovered}
@@ -86,12 +86,12 @@ returns-clause-rebuilt g c =
     subst (λ (n : ℕ). HasRun g.B.Bay.tells old start new group n word c.rebuild_array.result) c.timestamp-timestamp.ensures
     (ran group word c.in_ok-plan.plan c.timestamp-timestamp.result c.in_ok-plan.ensures (current_recovered read.newest c.args.named group found c.in_ok-group.ensures.from.assembled) c.in_ok-ready.ready
     c.in_ok-ready.ensures.was g.B.Bay.disks g.B.Bay.tells old start new c.read_group.ensures.reads c.read_group.ensures.reads_rise c.read_group.ensures.writes_rise
-    (g.met.B.Bay.told_since c.rebuild_array.new.bay) from c.rebuild_array.result c.rebuild_array.ensures.run) in
+    ((g.met.B.Bay.told c.rebuild_array.new.bay).since) from c.rebuild_array.result c.rebuild_array.ensures.run) in
     let paid : CostsOf (work_of g.B.Bay.tells old new) timestamp word (Ok group) =
     subst (λ (n : ℕ). CostsOf (work_of g.B.Bay.tells old new) n word (Ok group)) c.timestamp-timestamp.ensures
     (costs group word c.in_ok-plan.plan c.timestamp-timestamp.result c.in_ok-plan.ensures (current_recovered read.newest c.args.named group found c.in_ok-group.ensures.from.assembled) c.in_ok-ready.ready
     c.in_ok-ready.ensures.was g.B.Bay.tells old start new c.read_group.ensures.reads c.rebuild_array.ensures.asks) in
-    come g.B.Bay.tells old start new c.read_group.ensures.reads c.read_group.ensures.reads_rise c.read_group.ensures.writes_rise c.args.named timestamp word group c.rebuild_array.result read has paid
+    come g.B.Bay.tells old start new c.read_group.ensures.reads c.read_group.ensures.reads_rise c.read_group.ensures.writes_rise c.args.named timestamp word group c.rebuild_array.result read has paid c.rebuild_array.ensures.unfailed
 
 pub returns-clause-goes_on : goal.returns-clause-goes_on
 returns-clause-goes_on g c = λ bay leads.

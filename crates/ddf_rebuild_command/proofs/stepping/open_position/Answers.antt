@@ -3,7 +3,7 @@ use Rattle.std.proofs.lemmas.Result.{on_ok_weaker}
 use Rattle.std.specs.Prelude.{is_ok}
 use Rattle.ddf_assembly.specs.Ready.{ReadyValue}
 use Rattle.ddf_assembly.specs.Steps.{Step}
-use Rattle.ddf_write_commands.proofs.Courses.{IsTold}
+use Rattle.ddf_bay.specs.Told.{IsTold}
 use Rattle.ddf_rebuild_command.specs.Opened.{GoesOpening, IsOpened, steps_before}
 use Rattle.ddf_rebuild_command.specs.Standing.{next_if, next_in, recovery_in}
 use Rattle.ddf_rebuild_command.proofs.Costs.{alone_asks, first_behind}
@@ -24,13 +24,7 @@ returns-then-begins-clause-goes g c =
     let first = recovery_in ready.recovery in
     let same : first ++ next_in c.recover_group.new.ready.steps ≡ steps_before c.args.begins ready =
     ap (λ (one : ReadyValue). first ++ next_in one.steps) c.recover_group.ensures.left ∙ ap (λ (b : Bool). first ++ next_if b ready.steps) (sym c.if-begins.true) in
-    let tells_new : IsTold (g.B.Bay.disks c.write_step.new.bay) = record {
-      held = g.met.B.Bay.held_is_left c.write_step.new.bay;
-      whole = g.met.B.Bay.whole c.write_step.new.bay;
-      only_now = g.met.B.Bay.only_now c.write_step.new.bay;
-      counts = g.met.B.Bay.counts_now c.write_step.new.bay;
-      since = g.met.B.Bay.told_since c.write_step.new.bay;
-    } in
+    let tells_new : IsTold (g.B.Bay.disks c.write_step.new.bay) = g.met.B.Bay.told c.write_step.new.bay in
     subst (λ (steps : List Step). GoesOpening g.B.Bay.tells old new c.args.group.now steps) same
     (goes_further g.B.Bay.tells old middle new tells_new c.args.group.now c.recover_group.new.group c.recover_group.new.ready first c.recover_group.ensures.goes c.in_ok-recover_group.ensures.opened
     (is_ok c.write_step.result) c.write_step.ensures.goes)
@@ -44,13 +38,7 @@ returns-then-begins-clause-opened g c =
     let first = recovery_in ready.recovery in
     let same : first ++ next_in c.recover_group.new.ready.steps ≡ steps_before c.args.begins ready =
     ap (λ (one : ReadyValue). first ++ next_in one.steps) c.recover_group.ensures.left ∙ ap (λ (b : Bool). first ++ next_if b ready.steps) (sym c.if-begins.true) in
-    let tells_new : IsTold (g.B.Bay.disks c.write_step.new.bay) = record {
-      held = g.met.B.Bay.held_is_left c.write_step.new.bay;
-      whole = g.met.B.Bay.whole c.write_step.new.bay;
-      only_now = g.met.B.Bay.only_now c.write_step.new.bay;
-      counts = g.met.B.Bay.counts_now c.write_step.new.bay;
-      since = g.met.B.Bay.told_since c.write_step.new.bay;
-    } in
+    let tells_new : IsTold (g.B.Bay.disks c.write_step.new.bay) = g.met.B.Bay.told c.write_step.new.bay in
     on_ok_weaker c.write_step.result
     (λ written. subst (λ (steps : List Step). IsOpened g.B.Bay.tells old new c.args.group.now steps c.write_step.new.group c.write_step.new.ready) same
     (opened_further g.B.Bay.tells old middle new tells_new c.args.group.now c.recover_group.new.group c.recover_group.new.ready first c.recover_group.ensures.goes c.in_ok-recover_group.ensures.opened
@@ -66,3 +54,6 @@ returns-then-begins-clause-asks g c =
 
 pub returns-else-begins-clause-asks : goal.returns-else-begins-clause-asks
 returns-else-begins-clause-asks g c = alone_asks c.args.begins c.args.ready.now c.recover_group.ensures.asks
+
+pub returns-then-begins-clause-unfailed : goal.returns-then-begins-clause-unfailed
+returns-then-begins-clause-unfailed g c = on_ok_weaker c.write_step.result (λ same. same ∙ c.in_ok-recover_group.ensures.unfailed) c.write_step.ensures.unfailed

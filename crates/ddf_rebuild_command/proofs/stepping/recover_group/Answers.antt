@@ -2,7 +2,7 @@ use Rattle.std.proofs.Common.{true, false, ⊎_elim}
 use Rattle.std.proofs.lemmas.Result.{err_from_is_err_and}
 use Rattle.ddf_cells.specs.Touching.{GoesBetween}
 use Rattle.ddf_stops.specs.Steps.{IsRecovery}
-use Rattle.ddf_write_commands.proofs.Courses.{IsTold}
+use Rattle.ddf_bay.specs.Told.{IsTold}
 use Rattle.ddf_rebuild_command.proofs.Costs.{asks_spent}
 use Rattle.ddf_rebuild_command.proofs.Recovery.{lies, on_seats, recovery_done, recovery_failed, recovery_opened, there}
 use Rattle.ddf_rebuild_command.proofs.stepping.recover_group.Goals as goal
@@ -17,20 +17,8 @@ pub returns-in_err-recover-clause-goes : goal.returns-in_err-recover-clause-goes
 returns-in_err-recover-clause-goes g c =
     let old = g.B.Bay.disks c.args.bay.now in
     let new = g.B.Bay.disks c.recover.new.bay in
-    let tells_old : IsTold (g.B.Bay.disks c.args.bay.now) = record {
-      held = g.met.B.Bay.held_is_left c.args.bay.now;
-      whole = g.met.B.Bay.whole c.args.bay.now;
-      only_now = g.met.B.Bay.only_now c.args.bay.now;
-      counts = g.met.B.Bay.counts_now c.args.bay.now;
-      since = g.met.B.Bay.told_since c.args.bay.now;
-    } in
-    let tells_new : IsTold (g.B.Bay.disks c.recover.new.bay) = record {
-      held = g.met.B.Bay.held_is_left c.recover.new.bay;
-      whole = g.met.B.Bay.whole c.recover.new.bay;
-      only_now = g.met.B.Bay.only_now c.recover.new.bay;
-      counts = g.met.B.Bay.counts_now c.recover.new.bay;
-      since = g.met.B.Bay.told_since c.recover.new.bay;
-    } in
+    let tells_old : IsTold (g.B.Bay.disks c.args.bay.now) = g.met.B.Bay.told c.args.bay.now in
+    let tells_new : IsTold (g.B.Bay.disks c.recover.new.bay) = g.met.B.Bay.told c.recover.new.bay in
     let is : (told : g.B.Bay.tells) → IsRecovery old new c.args.group.now c.args.ready.now false = λ told. record {
       any_moment = c.recover.ensures.any_moment told;
       changed = λ done. absurd cc;
@@ -59,20 +47,8 @@ pub returns-clause-goes : goal.returns-clause-goes
 returns-clause-goes g c =
     let old = g.B.Bay.disks c.args.bay.now in
     let new = g.B.Bay.disks c.recover.new.bay in
-    let tells_old : IsTold (g.B.Bay.disks c.args.bay.now) = record {
-      held = g.met.B.Bay.held_is_left c.args.bay.now;
-      whole = g.met.B.Bay.whole c.args.bay.now;
-      only_now = g.met.B.Bay.only_now c.args.bay.now;
-      counts = g.met.B.Bay.counts_now c.args.bay.now;
-      since = g.met.B.Bay.told_since c.args.bay.now;
-    } in
-    let tells_new : IsTold (g.B.Bay.disks c.recover.new.bay) = record {
-      held = g.met.B.Bay.held_is_left c.recover.new.bay;
-      whole = g.met.B.Bay.whole c.recover.new.bay;
-      only_now = g.met.B.Bay.only_now c.recover.new.bay;
-      counts = g.met.B.Bay.counts_now c.recover.new.bay;
-      since = g.met.B.Bay.told_since c.recover.new.bay;
-    } in
+    let tells_old : IsTold (g.B.Bay.disks c.args.bay.now) = g.met.B.Bay.told c.args.bay.now in
+    let tells_new : IsTold (g.B.Bay.disks c.recover.new.bay) = g.met.B.Bay.told c.recover.new.bay in
     let is : (told : g.B.Bay.tells) → IsRecovery old new c.args.group.now c.args.ready.now true = λ told. record {
       any_moment = c.recover.ensures.any_moment told;
       changed = λ done. c.in_ok-recover.ensures.changed told;
@@ -92,20 +68,8 @@ pub returns-clause-opened : goal.returns-clause-opened
 returns-clause-opened g c =
     let old = g.B.Bay.disks c.args.bay.now in
     let new = g.B.Bay.disks c.recover.new.bay in
-    let tells_old : IsTold (g.B.Bay.disks c.args.bay.now) = record {
-      held = g.met.B.Bay.held_is_left c.args.bay.now;
-      whole = g.met.B.Bay.whole c.args.bay.now;
-      only_now = g.met.B.Bay.only_now c.args.bay.now;
-      counts = g.met.B.Bay.counts_now c.args.bay.now;
-      since = g.met.B.Bay.told_since c.args.bay.now;
-    } in
-    let tells_new : IsTold (g.B.Bay.disks c.recover.new.bay) = record {
-      held = g.met.B.Bay.held_is_left c.recover.new.bay;
-      whole = g.met.B.Bay.whole c.recover.new.bay;
-      only_now = g.met.B.Bay.only_now c.recover.new.bay;
-      counts = g.met.B.Bay.counts_now c.recover.new.bay;
-      since = g.met.B.Bay.told_since c.recover.new.bay;
-    } in
+    let tells_old : IsTold (g.B.Bay.disks c.args.bay.now) = g.met.B.Bay.told c.args.bay.now in
+    let tells_new : IsTold (g.B.Bay.disks c.recover.new.bay) = g.met.B.Bay.told c.recover.new.bay in
     let is : (told : g.B.Bay.tells) → IsRecovery old new c.args.group.now c.args.ready.now true = λ told. record {
       any_moment = c.recover.ensures.any_moment told;
       changed = λ done. c.in_ok-recover.ensures.changed told;

@@ -2,7 +2,7 @@ use Rattle.std.proofs.Common.{true, false}
 use Rattle.std.proofs.lemmas.Result.{err_from_is_err_and}
 use Rattle.ddf_cells.specs.Touching.{GoesBetween}
 use Rattle.ddf_stops.specs.Steps.{IsCommit}
-use Rattle.ddf_write_commands.proofs.Courses.{IsTold}
+use Rattle.ddf_bay.specs.Told.{IsTold}
 use Rattle.ddf_rebuild_command.proofs.Costs.{asks_spent}
 use Rattle.ddf_rebuild_command.proofs.NextStep.{goes_next, is_written, lies, on_seats}
 use Rattle.ddf_rebuild_command.proofs.stepping.write_step.Goals as goal
@@ -15,20 +15,8 @@ returns-in_err-commit-clause-goes g c =
     let failed = err_from_is_err_and c.from_residual.result c.from_residual.ensures.1 in
     let old = g.B.Bay.disks c.args.bay.now in
     let new = g.B.Bay.disks c.commit.new.bay in
-    let tells_old : IsTold (g.B.Bay.disks c.args.bay.now) = record {
-      held = g.met.B.Bay.held_is_left c.args.bay.now;
-      whole = g.met.B.Bay.whole c.args.bay.now;
-      only_now = g.met.B.Bay.only_now c.args.bay.now;
-      counts = g.met.B.Bay.counts_now c.args.bay.now;
-      since = g.met.B.Bay.told_since c.args.bay.now;
-    } in
-    let tells_new : IsTold (g.B.Bay.disks c.commit.new.bay) = record {
-      held = g.met.B.Bay.held_is_left c.commit.new.bay;
-      whole = g.met.B.Bay.whole c.commit.new.bay;
-      only_now = g.met.B.Bay.only_now c.commit.new.bay;
-      counts = g.met.B.Bay.counts_now c.commit.new.bay;
-      since = g.met.B.Bay.told_since c.commit.new.bay;
-    } in
+    let tells_old : IsTold (g.B.Bay.disks c.args.bay.now) = g.met.B.Bay.told c.args.bay.now in
+    let tells_new : IsTold (g.B.Bay.disks c.commit.new.bay) = g.met.B.Bay.told c.commit.new.bay in
     let is : (told : g.B.Bay.tells) → IsCommit old new c.args.ready.now false = λ told. record {
       any_moment = c.commit.ensures.any_moment told;
       changed = λ done. absurd cc;
@@ -53,20 +41,8 @@ pub returns-clause-goes : goal.returns-clause-goes
 returns-clause-goes g c =
     let old = g.B.Bay.disks c.args.bay.now in
     let new = g.B.Bay.disks c.commit.new.bay in
-    let tells_old : IsTold (g.B.Bay.disks c.args.bay.now) = record {
-      held = g.met.B.Bay.held_is_left c.args.bay.now;
-      whole = g.met.B.Bay.whole c.args.bay.now;
-      only_now = g.met.B.Bay.only_now c.args.bay.now;
-      counts = g.met.B.Bay.counts_now c.args.bay.now;
-      since = g.met.B.Bay.told_since c.args.bay.now;
-    } in
-    let tells_new : IsTold (g.B.Bay.disks c.commit.new.bay) = record {
-      held = g.met.B.Bay.held_is_left c.commit.new.bay;
-      whole = g.met.B.Bay.whole c.commit.new.bay;
-      only_now = g.met.B.Bay.only_now c.commit.new.bay;
-      counts = g.met.B.Bay.counts_now c.commit.new.bay;
-      since = g.met.B.Bay.told_since c.commit.new.bay;
-    } in
+    let tells_old : IsTold (g.B.Bay.disks c.args.bay.now) = g.met.B.Bay.told c.args.bay.now in
+    let tells_new : IsTold (g.B.Bay.disks c.commit.new.bay) = g.met.B.Bay.told c.commit.new.bay in
     let is : (told : g.B.Bay.tells) → IsCommit old new c.args.ready.now true = λ told. record {
       any_moment = c.commit.ensures.any_moment told;
       changed = λ done. c.in_ok-commit.ensures.changed told;
@@ -84,13 +60,7 @@ pub returns-clause-written : goal.returns-clause-written
 returns-clause-written g c =
     let old = g.B.Bay.disks c.args.bay.now in
     let new = g.B.Bay.disks c.commit.new.bay in
-    let tells_new : IsTold (g.B.Bay.disks c.commit.new.bay) = record {
-      held = g.met.B.Bay.held_is_left c.commit.new.bay;
-      whole = g.met.B.Bay.whole c.commit.new.bay;
-      only_now = g.met.B.Bay.only_now c.commit.new.bay;
-      counts = g.met.B.Bay.counts_now c.commit.new.bay;
-      since = g.met.B.Bay.told_since c.commit.new.bay;
-    } in
+    let tells_new : IsTold (g.B.Bay.disks c.commit.new.bay) = g.met.B.Bay.told c.commit.new.bay in
     let is : (told : g.B.Bay.tells) → IsCommit old new c.args.ready.now true = λ told. record {
       any_moment = c.commit.ensures.any_moment told;
       changed = λ done. c.in_ok-commit.ensures.changed told;

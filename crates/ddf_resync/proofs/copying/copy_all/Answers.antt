@@ -1,4 +1,4 @@
-use Rattle.std.proofs.Common.{◌+◌, arith}
+use Rattle.std.proofs.Common.{◌∙◌, ◌+◌, refl, arith}
 use Rattle.std.proofs.lemmas.Result.{err_from_is_err_and}
 use Rattle.ddf_array.specs.Volume.{capacity}
 use Rattle.ddf_cells.specs.Touching.{IsTouchedSlot}
@@ -20,6 +20,7 @@ loop-block-init g c =
       writes = writes_start (MayResync v g.B.Bay.tells old.held) g.B.Bay.tells old c.args.touched.now;
       copied = λ tells. copied_start v _ old.held 0;
       noted = λ tells b i one above below several at. absurd (omega (arith, below));
+      unfailed = refl;
       asks = record { asked = omega (arith, none); written = omega (arith, none) };
     }
 
@@ -61,5 +62,6 @@ loop-block-preserved g c =
       copied = λ tells.
           copied_then v old.held now.held new.held 0 at to (omega arith) (omega arith) (failed_before May May g.B.Bay.tells so_far.writes writes) (failed_since May May g.B.Bay.tells so_far.writes writes) (so_far.copied tells) (next.copied tells);
       noted = λ tells. noted_then v c.loop-block.touched c.copy_first.new.touched 0 at to writes.touched_up (so_far.noted tells) (next.noted tells);
+      unfailed = next.unfailed ∙ so_far.unfailed;
       asks = asks_then 0 (copied_cells v at) (copied_cells v to) so_far.asks next.asks;
     }

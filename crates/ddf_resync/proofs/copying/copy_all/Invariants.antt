@@ -1,4 +1,4 @@
-use Rattle.std.proofs.Common.{◌-◌, ◌≤◌}
+use Rattle.std.proofs.Common.{◌≡◌, ◌-◌, ◌≤◌}
 use Rattle.ddf_array.specs.Volume.{capacity}
 use Rattle.ddf_volume.specs.Reading.{Failed}
 use Rattle.ddf_cells.specs.Touching.{Writes}
@@ -17,6 +17,7 @@ invariant-loop-block g l =
       writes : Writes (MayResync l.view B.tells old.held) B.tells old now l.fn.touched l.touched;
       copied : B.tells → AreCopied (Failed old now) l.view old.held now.held 0 l.block;
       noted : B.tells → AreNoted l.view l.touched 0 l.block;
+      unfailed : now.failed_writes ≡ old.failed_writes;
       asks : Asks old now 0 (copied_cells l.view l.block);
     }
 

@@ -6,4 +6,4 @@ pub returns : goal.returns
 returns g c = λ v before image known told settled left was.
     let new = g.B.Bay.disks c.args.new.now in
     settled_resynced v known new.may_hold new.held image settled left (Failed (g.B.Bay.disks c.args.old.now) new) before
-    (λ s l. (g.met.B.Bay.whole c.args.new.now s l (new.held s l) (g.met.B.Bay.held_is_left c.args.new.now told s l)).size) was
+    (λ s l. ((g.met.B.Bay.told c.args.new.now).whole s l (new.held s l) ((g.met.B.Bay.told c.args.new.now).held told s l)).size) was

@@ -152,3 +152,7 @@ returns-clause-asked g c = omega (arith, c.in_ok-copy_all.ensures.asks.asked, c.
 
 pub returns-clause-sectors : goal.returns-clause-sectors
 returns-clause-sectors g c = omega (arith, c.in_ok-copy_all.ensures.asks.written, c.in_ok-set_all.ensures.asks.written, c.sync_touched.ensures.spends.costs.written)
+
+pub returns-clause-unfailed : goal.returns-clause-unfailed
+returns-clause-unfailed g c =
+    on_ok_weaker c.sync_touched.result (λ same. same ∙ c.in_ok-set_all.ensures.unfailed ∙ c.in_ok-copy_all.ensures.unfailed) c.sync_touched.ensures.unfailed

@@ -69,6 +69,7 @@ loop-element-preserved g c =
           let part_same : own ≡ part = some_is (sym is_own ∙ ap (slice_get v.parts) same ∙ is_part) in
           subst (λ (q : Part). IsNotedAt c.set_element.new.touched q sector) part_same (next.noted sector (subst (λ (q : Part). sector < depth_of q.shape) (sym part_same) deep)))
           (cases_lt element e);
+      unfailed = next.unfailed ∙ so_far.unfailed;
       asks = asks_then 0 (parity_cells v e) (parity_cells v (e + 1)) so_far.asks
           (asks_from (parity_of (Some own)) (parity_of (Some own)) (parity_cells v e) (parity_cells v (e + 1)) next.asks (omega arith) (parity_more v e own is_own));
       set = λ tells equal element sector part below is_part deep.

@@ -1,3 +1,4 @@
+use Rattle.std.proofs.Common.{◌≡◌}
 use Rattle.ddf_cells.specs.CellSources.{HaveEqualCopies}
 use Rattle.ddf_cells.specs.Touching.{Writes}
 use Rattle.ddf_resync.specs.Copying.{Asks}
@@ -13,6 +14,7 @@ invariant-loop-element g l =
     record {
       writes : Writes (SetsParity l.view) B.tells old now l.fn.touched l.touched;
       noted : AreNotedIn l.view l.touched l.element;
+      unfailed : now.failed_writes ≡ old.failed_writes;
       asks : Asks old now 0 (parity_cells l.view l.element);
       set : B.tells → HaveEqualCopies l.view old.held → AreRightIn l.view now.held l.element;
     }

@@ -52,6 +52,7 @@ loop-sector-preserved g c =
           let row : at + (sector - at) ≡ sector = omega (arith, from) in
           subst (λ x. IsNotedAt c.set_piece.new.touched c.args.part.now x) row (next.noted (sector - at) (omega (arith, from, below))))
           (cases_lt sector at);
+      unfailed = next.unfailed ∙ so_far.unfailed;
       asks = asks_then 0 at (at + n) so_far.asks (asks_from n n at (at + n) next.asks (omega arith) (omega arith));
       kept = λ tells equal element sector part is_part deep was.
           next.kept tells (equal_kept v c.requires.known c.requires.apart g.B.Bay.tells so_far.writes tells equal) element sector part is_part deep (so_far.kept tells equal element sector part is_part deep was);

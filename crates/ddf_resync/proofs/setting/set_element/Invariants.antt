@@ -1,4 +1,4 @@
-use Rattle.std.proofs.Common.{◌-◌, ◌≤◌}
+use Rattle.std.proofs.Common.{◌≡◌, ◌-◌, ◌≤◌}
 use Rattle.ddf_primary.specs.Cells.{depth_of}
 use Rattle.ddf_cells.specs.CellSources.{HaveEqualCopies}
 use Rattle.ddf_cells.specs.Touching.{Writes}
@@ -16,6 +16,7 @@ invariant-loop-sector g l =
       writes : Writes (SetsParity l.view) B.tells old now l.fn.touched l.touched;
       set : B.tells → HaveEqualCopies l.view old.held → AreRightTo l.view now.held l.element l.sector;
       noted : AreNotedTo l.touched l.part l.sector;
+      unfailed : now.failed_writes ≡ old.failed_writes;
       asks : Asks old now 0 l.sector;
       kept : B.tells → HaveEqualCopies l.view old.held → KeepsRight l.view old.held now.held;
     }

@@ -10,5 +10,5 @@ returns-clause-rounds g c = λ old new told sizes volume target from rounds befo
 pub returns-clause-planned : goal.returns-clause-planned
 returns-clause-planned g c = λ old new told found timestamp word plan blocks aside each goes first done holds.
     holds_rebuilt (work_of g.B.Bay.tells (g.B.Bay.disks old) (g.B.Bay.disks new)) found timestamp word plan blocks told aside each goes first
-    (λ slot lba. (g.met.B.Bay.whole new slot lba ((g.B.Bay.disks new).held slot lba) (g.met.B.Bay.held_is_left new told slot lba)).size)
+    (λ slot lba. ((g.met.B.Bay.told new).whole slot lba ((g.B.Bay.disks new).held slot lba) ((g.met.B.Bay.told new).held told slot lba)).size)
     done holds

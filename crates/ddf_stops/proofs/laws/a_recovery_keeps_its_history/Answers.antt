@@ -9,17 +9,17 @@ returns-clause-keeps g c = λ group past old new left named found asked timestam
     let before = g.B.Bay.disks old in
     let after = g.B.Bay.disks new in
     let can = may past before left named found asked timestamp ready taken same_group kept admitted in
-    keeps_where_told group past left found (recovery_changes timestamp found) done before after (is.any_moment can.seat can.may_change).later (bay.told_since new)
+    keeps_where_told group past left found (recovery_changes timestamp found) done before after (is.any_moment can.seat can.may_change).later ((bay.told new).since)
     (λ tells.
-    let is_left = bay.held_is_left old (is.spends.told tells) in
-    record { is_left = is_left; holds_bytes = λ slot l. bay.whole old slot l (before.held slot l) (is_left slot l) })
-    (λ reads. recovery_keeps past before left named found asked timestamp ready taken same_group kept admitted reads after done is (bay.held_is_left new))
+    let is_left = (bay.told old).held (is.spends.told tells) in
+    record { is_left = is_left; holds_bytes = λ slot l. (bay.told old).whole slot l (before.held slot l) (is_left slot l) })
+    (λ reads. recovery_keeps past before left named found asked timestamp ready taken same_group kept admitted reads after done is ((bay.told new).held))
 
 pub returns-clause-stands : goal.returns-clause-stands
 returns-clause-stands g c = λ group past old new left named found asked timestamp ready taken same_group kept admitted is tells.
     let bay = g.met.B.Bay in
     let before = g.B.Bay.disks old in
-    let is_left = bay.held_is_left old (is.spends.told tells) in
+    let is_left = (bay.told old).held (is.spends.told tells) in
     recovery_stands past before left named found asked timestamp ready taken same_group kept admitted
-    (record { is_left = is_left; holds_bytes = λ slot l. bay.whole old slot l (before.held slot l) (is_left slot l) })
-    (g.B.Bay.disks new) is (bay.held_is_left new tells)
+    (record { is_left = is_left; holds_bytes = λ slot l. (bay.told old).whole slot l (before.held slot l) (is_left slot l) })
+    (g.B.Bay.disks new) is ((bay.told new).held tells)

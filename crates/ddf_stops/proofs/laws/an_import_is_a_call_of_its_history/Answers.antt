@@ -9,10 +9,10 @@ returns-clause-keeps g c = λ group past old middle new left also_left named als
     let bay = g.met.B.Bay in
     let before = g.B.Bay.disks old in
     import_call group past before left also_left named also_named native other timestamp recovery join taken same_group kept admitted (g.B.Bay.disks middle) recovered others call
-    (g.B.Bay.disks new) (bay.told_since new) (bay.held_is_left new) (bay.held_is_left middle)
+    (g.B.Bay.disks new) ((bay.told new).since) ((bay.told new).held) ((bay.told middle).held)
     (λ tells.
-    let is_left = bay.held_is_left old tells in
-    record { is_left = is_left; holds_bytes = λ slot l. bay.whole old slot l (before.held slot l) (is_left slot l) })
+    let is_left = (bay.told old).held tells in
+    record { is_left = is_left; holds_bytes = λ slot l. (bay.told old).whole slot l (before.held slot l) (is_left slot l) })
     done is
 
 pub returns-clause-fails : goal.returns-clause-fails
@@ -20,8 +20,8 @@ returns-clause-fails g c = λ group past old new left also_left named also_named
     let bay = g.met.B.Bay in
     let before = g.B.Bay.disks old in
     let can = may group past before left also_left named also_named native other timestamp recovery join taken same_group kept admitted in
-    keeps_where_told group past left native (import_changes group timestamp native join) false before (g.B.Bay.disks new) (is.any_moment can.seat can.may_change).later (bay.told_since new)
+    keeps_where_told group past left native (import_changes group timestamp native join) false before (g.B.Bay.disks new) (is.any_moment can.seat can.may_change).later ((bay.told new).since)
     (λ tells.
-    let is_left = bay.held_is_left old (is.spends.told tells) in
-    record { is_left = is_left; holds_bytes = λ slot l. bay.whole old slot l (before.held slot l) (is_left slot l) })
-    (λ reads. import_fails group past before left also_left named also_named native other timestamp recovery join taken same_group kept admitted (g.B.Bay.disks new) is (bay.held_is_left new) reads)
+    let is_left = (bay.told old).held (is.spends.told tells) in
+    record { is_left = is_left; holds_bytes = λ slot l. (bay.told old).whole slot l (before.held slot l) (is_left slot l) })
+    (λ reads. import_fails group past before left also_left named also_named native other timestamp recovery join taken same_group kept admitted (g.B.Bay.disks new) is ((bay.told new).held) reads)

@@ -31,7 +31,7 @@ returns-in_err-write_disk-clause-any_moment g c = λ tells seat may.
     let there : slice_get updates place ≡ Some update = slice_get_read updates _ place update refl c.loop-place-test.true c.index-updates-place.is in
     let so_far = c.loop-place.invariant.changed tells seat may in
     let one = may_now start slots seat updates c.requires.are_slots may now c.loop-place.invariant.spends.same_sizes place so_far slot update here there in
-    let step = getting_stops now (g.B.Bay.disks c.write_disk.new.bay) slot update (seat place) (seat place).mode (c.write_disk.ensures.change tells) (c.write_disk.ensures.adopt tells) (may.are_prepared place update there) one in
+    let step = getting_stops now (g.B.Bay.disks c.write_disk.new.bay) slot update (seat place) (seat place).mode (c.write_disk.ensures.change tells) (c.write_disk.ensures.adopt tells) (c.write_disk.ensures.relocate tells) (may.are_prepared place update there) one in
     change_stops start slots seat updates c.requires.are_slots may now c.loop-place.invariant.spends.same_sizes place so_far slot update here there (g.B.Bay.disks c.write_disk.new.bay) (c.loop-place.invariant.any_moment tells seat may) step
 
 pub returns-in_err-write_disk-clause-failed : goal.returns-in_err-write_disk-clause-failed
@@ -68,12 +68,12 @@ loop-place-preserved g c =
       any_moment = λ tells seat may.
           let so_far = c.loop-place.invariant.changed tells seat may in
           let one = may_now start slots seat updates c.requires.are_slots may now c.loop-place.invariant.spends.same_sizes place so_far slot update here there in
-          let step = getting_stops now (g.B.Bay.disks c.write_disk.new.bay) slot update (seat place) (seat place).mode (c.write_disk.ensures.change tells) (c.write_disk.ensures.adopt tells) (may.are_prepared place update there) one in
+          let step = getting_stops now (g.B.Bay.disks c.write_disk.new.bay) slot update (seat place) (seat place).mode (c.write_disk.ensures.change tells) (c.write_disk.ensures.adopt tells) (c.write_disk.ensures.relocate tells) (may.are_prepared place update there) one in
           change_stops start slots seat updates c.requires.are_slots may now c.loop-place.invariant.spends.same_sizes place so_far slot update here there (g.B.Bay.disks c.write_disk.new.bay) (c.loop-place.invariant.any_moment tells seat may) step;
       changed = λ tells seat may.
           let so_far = c.loop-place.invariant.changed tells seat may in
           let one = may_now start slots seat updates c.requires.are_slots may now c.loop-place.invariant.spends.same_sizes place so_far slot update here there in
-          let done = has_got now (g.B.Bay.disks c.write_disk.new.bay) slot update (seat place) (seat place).mode (c.in_ok-write_disk.ensures.changed tells) (c.in_ok-write_disk.ensures.adopted tells) (may.are_prepared place update there) one in
+          let done = has_got now (g.B.Bay.disks c.write_disk.new.bay) slot update (seat place) (seat place).mode (c.in_ok-write_disk.ensures.changed tells) (c.in_ok-write_disk.ensures.adopted tells) (c.in_ok-write_disk.ensures.relocated tells) (may.are_prepared place update there) one in
           change_done start slots seat updates c.requires.are_slots may now c.loop-place.invariant.spends.same_sizes place so_far slot update here there (g.B.Bay.disks c.write_disk.new.bay) done;
       spends = spends_more updates place update there c.loop-place.invariant.spends c.write_disk.ensures.spends;
       reads = c.write_disk.ensures.spends.same ∙ c.loop-place.invariant.reads;

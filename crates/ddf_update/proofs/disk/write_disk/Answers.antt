@@ -16,3 +16,8 @@ pub returns-in-Adopt-clause-calls : goal.returns-in-Adopt-clause-calls
 returns-in-Adopt-clause-calls g c = λ copy last mode is.
     let few = few_runs copy c.args.prepared.now.runs is.runs_are in
     omega (arith, few, c.adopt.ensures.spends.costs.calls_most)
+
+pub returns-in-Move-clause-calls : goal.returns-in-Move-clause-calls
+returns-in-Move-clause-calls g c = λ copy last mode is.
+    let few = few_runs copy c.args.prepared.now.runs is.runs_are in
+    omega (arith, few, c.relocate.ensures.spends.costs.calls_most)

@@ -1,4 +1,4 @@
-use Rattle.std.proofs.Common.{ℕ, ◌+◌, ◌≤◌, length, ap, arith}
+use Rattle.std.proofs.Common.{ℕ, ◌∙◌, ◌+◌, ◌≤◌, length, refl, ap, arith}
 use Rattle.std.proofs.lemmas.Result.{err_from_is_err_and}
 use Rattle.ddf_cells.proofs.RunsOn.{sum_below, sum_more}
 use Rattle.ddf_cells.proofs.WriteSteps.{writes_start, writes_then}
@@ -15,6 +15,7 @@ loop-element-init g c = record {
   writes = writes_start (MayGive c.args.view.now c.args.start c.args.from.now) g.B.Bay.tells (g.B.Bay.disks c.args.bay.now) c.args.touched.now;
   summed = λ tells entry filled sure element sector part one below is. absurd (omega (arith, below));
   noted = λ element sector part one below is. absurd (omega (arith, below));
+  unfailed = refl;
   asked = omega arith;
   written = omega arith;
   calls = λ none. omega arith;
@@ -88,6 +89,7 @@ loop-element-preserved g c =
           (so_far.summed tells entry filled (sure_before v c.args.start c.args.from.now g.B.Bay.tells so_far.writes next.writes entry sure));
       noted =
           rows_more v c.args.start (length c.args.from.now) e (IsNoted c.loop-element.touched) (IsNoted c.set_rows_in.new.touched) (λ element sector part one is was. next.writes.touched_up one.slot was) next.noted so_far.noted;
+      unfailed = next.unfailed ∙ so_far.unfailed;
       asked = omega (arith, so_far.asked, next.asked, sum_more cells e);
       written = omega (arith, so_far.written, next.written, sum_more cells e);
       calls = λ none. omega (arith, so_far.calls none, next.calls none);

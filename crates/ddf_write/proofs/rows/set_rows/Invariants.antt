@@ -16,6 +16,7 @@ invariant-loop-element g l =
       summed : B.tells → (entry : ℕ → ℕ → List ℕ) → IsFilled l.view l.start l.from entry old.held → IsSure (Failed old now) l.view entry
           → RowsOf l.view l.start (length l.from) l.element (IsSummed l.view now.held);
       noted : RowsOf l.view l.start (length l.from) l.element (IsNoted l.touched);
+      unfailed : now.failed_writes ≡ old.failed_writes;
       asked : now.sectors_asked ≤ old.sectors_asked + sum_by (parity_cells l.view.parts (length l.from)) (range_with_len 0 l.element);
       written : now.sectors_written ≤ old.sectors_written + sum_by (parity_cells l.view.parts (length l.from)) (range_with_len 0 l.element);
       calls : keeps_parity_anywhere l.view ≡ false → now.calls ≤ old.calls;

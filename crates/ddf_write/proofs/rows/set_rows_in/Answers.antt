@@ -1,4 +1,4 @@
-use Rattle.std.proofs.Common.{◌≡◌, ◌∙◌, true, false, length, sym, ap, arith}
+use Rattle.std.proofs.Common.{◌≡◌, ◌∙◌, true, false, length, refl, sym, ap, arith}
 use Rattle.std.proofs.lemmas.Result.{err_from_is_err_and}
 use Rattle.ddf_array.specs.Levels.{keeps_parity}
 use Rattle.ddf_write.specs.RowWrites.{IsNoted, IsSummed, keeps_parity_in}
@@ -18,6 +18,7 @@ loop-k-init g c = record {
   kept = λ tells entry filled sure element sector part one is was. was;
   summed = λ tells entry filled sure sector part one is. absurd (omega (arith, is.touched.below));
   noted = λ sector part one is. absurd (omega (arith, is.touched.below));
+  unfailed = refl;
   asked = omega arith;
   written = omega arith;
 }
@@ -39,6 +40,7 @@ loop-k-preserved g c =
           (sure_here v c.args.start c.args.from.now g.B.Bay.tells so_far.writes next.writes entry sure)
           (so_far.summed tells entry filled (sure_before v c.args.start c.args.from.now g.B.Bay.tells so_far.writes next.writes entry sure));
       noted = next.noted so_far.noted;
+      unfailed = next.unfailed ∙ so_far.unfailed;
       asked = omega (arith, so_far.asked, next.asked);
       written = omega (arith, so_far.written, next.written);
     }

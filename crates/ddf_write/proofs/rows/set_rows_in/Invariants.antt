@@ -1,4 +1,4 @@
-use Rattle.std.proofs.Common.{ℕ, ◌+◌, ◌-◌, ◌≤◌, List, length}
+use Rattle.std.proofs.Common.{◌≡◌, ℕ, ◌+◌, ◌-◌, ◌≤◌, List, length}
 use Rattle.ddf_volume.specs.Reading.{Failed}
 use Rattle.ddf_cells.specs.Touching.{Writes}
 use Rattle.ddf_write.specs.RowWrites.{IsFilled, IsNoted, IsSummed, IsSure, KeepsSums, RowsIn}
@@ -18,6 +18,7 @@ invariant-loop-k g l =
       summed : B.tells → (entry : ℕ → ℕ → List ℕ) → IsFilled l.view l.start l.from entry old.held → IsSure (Failed old now) l.view entry
           → RowsIn l.view l.start l.k l.element (IsSummed l.view now.held);
       noted : RowsIn l.view l.start l.k l.element (IsNoted l.touched);
+      unfailed : now.failed_writes ≡ old.failed_writes;
       asked : now.sectors_asked ≤ old.sectors_asked + l.k;
       written : now.sectors_written ≤ old.sectors_written + l.k;
     }

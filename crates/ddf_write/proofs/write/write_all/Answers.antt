@@ -1,4 +1,4 @@
-use Rattle.std.proofs.Common.{inl, ℕ, length, sym, ap, subst, arith}
+use Rattle.std.proofs.Common.{◌∙◌, inl, ℕ, length, sym, ap, subst, arith}
 use Rattle.std.proofs.lemmas.Result.{err_from_is_err_and, IfErr-weaker, on_ok_weaker}
 use Rattle.ddf_bytes.specs.Counts.{Rose}
 use Rattle.ddf_bay.proofs.Steps.{rose_since}
@@ -160,3 +160,7 @@ returns-in_err-write_cells-clause-sectors g c = omega (arith, cells_are_copies c
 
 pub returns-in_err-write_cells-clause-any_moment : goal.returns-in_err-write_cells-clause-any_moment
 returns-in_err-write_cells-clause-any_moment g c = (cells_written c.args.view.now c.args.start c.args.from.now g.B.Bay.tells c.in_err-write_cells.ensures.writes).any_moment
+
+pub returns-clause-unfailed : goal.returns-clause-unfailed
+returns-clause-unfailed g c =
+    on_ok_weaker c.sync_touched.result (λ same. same ∙ c.in_ok-set_rows.ensures.unfailed ∙ c.in_ok-write_cells.ensures.unfailed) c.sync_touched.ensures.unfailed

@@ -6,7 +6,7 @@ use Rattle.ddf_stops.specs.Steps.{IsCommit}
 use Rattle.ddf_answer.proofs.Costs.{costs_writes}
 use Rattle.ddf_write_commands.specs.Closed.{IsLastWritten}
 use Rattle.ddf_write_commands.proofs.Closing.{last_aside, last_leaves, last_written, lies_next, on_seats}
-use Rattle.ddf_write_commands.proofs.Courses.{IsTold}
+use Rattle.ddf_bay.specs.Told.{IsTold}
 use Rattle.ddf_write_commands.proofs.around.close_blocks.Goals as goal
 
 pub commit-requires : goal.commit-requires
@@ -31,20 +31,8 @@ returns-in_err-commit-clause-beside g c = λ told.
       changed = λ done. absurd cc;
       spends = c.commit.ensures.spends;
     } in
-    let tells_old : IsTold old = record {
-      held = g.met.B.Bay.held_is_left c.args.bay.now;
-      whole = g.met.B.Bay.whole c.args.bay.now;
-      only_now = g.met.B.Bay.only_now c.args.bay.now;
-      counts = g.met.B.Bay.counts_now c.args.bay.now;
-      since = g.met.B.Bay.told_since c.args.bay.now;
-    } in
-    let tells_new : IsTold new = record {
-      held = g.met.B.Bay.held_is_left c.commit.new.bay;
-      whole = g.met.B.Bay.whole c.commit.new.bay;
-      only_now = g.met.B.Bay.only_now c.commit.new.bay;
-      counts = g.met.B.Bay.counts_now c.commit.new.bay;
-      since = g.met.B.Bay.told_since c.commit.new.bay;
-    } in
+    let tells_old : IsTold old = g.met.B.Bay.told c.args.bay.now in
+    let tells_new : IsTold new = g.met.B.Bay.told c.commit.new.bay in
     last_aside g.B.Bay.tells old c.args.group.now c.args.ready.now c.requires tells_old new tells_new false told is
 
 pub returns-in_err-commit-clause-leaves : goal.returns-in_err-commit-clause-leaves
@@ -56,20 +44,8 @@ returns-in_err-commit-clause-leaves g c = λ told.
       changed = λ done. absurd cc;
       spends = c.commit.ensures.spends;
     } in
-    let tells_old : IsTold old = record {
-      held = g.met.B.Bay.held_is_left c.args.bay.now;
-      whole = g.met.B.Bay.whole c.args.bay.now;
-      only_now = g.met.B.Bay.only_now c.args.bay.now;
-      counts = g.met.B.Bay.counts_now c.args.bay.now;
-      since = g.met.B.Bay.told_since c.args.bay.now;
-    } in
-    let tells_new : IsTold new = record {
-      held = g.met.B.Bay.held_is_left c.commit.new.bay;
-      whole = g.met.B.Bay.whole c.commit.new.bay;
-      only_now = g.met.B.Bay.only_now c.commit.new.bay;
-      counts = g.met.B.Bay.counts_now c.commit.new.bay;
-      since = g.met.B.Bay.told_since c.commit.new.bay;
-    } in
+    let tells_old : IsTold old = g.met.B.Bay.told c.args.bay.now in
+    let tells_new : IsTold new = g.met.B.Bay.told c.commit.new.bay in
     last_leaves g.B.Bay.tells old c.args.group.now c.args.ready.now c.requires tells_old new tells_new false told is
 
 pub returns-in_err-commit-clause-commits : goal.returns-in_err-commit-clause-commits
@@ -104,20 +80,8 @@ returns-clause-beside g c = λ told.
       changed = λ done. c.in_ok-commit.ensures.changed told;
       spends = c.commit.ensures.spends;
     } in
-    let tells_old : IsTold old = record {
-      held = g.met.B.Bay.held_is_left c.args.bay.now;
-      whole = g.met.B.Bay.whole c.args.bay.now;
-      only_now = g.met.B.Bay.only_now c.args.bay.now;
-      counts = g.met.B.Bay.counts_now c.args.bay.now;
-      since = g.met.B.Bay.told_since c.args.bay.now;
-    } in
-    let tells_new : IsTold new = record {
-      held = g.met.B.Bay.held_is_left c.commit.new.bay;
-      whole = g.met.B.Bay.whole c.commit.new.bay;
-      only_now = g.met.B.Bay.only_now c.commit.new.bay;
-      counts = g.met.B.Bay.counts_now c.commit.new.bay;
-      since = g.met.B.Bay.told_since c.commit.new.bay;
-    } in
+    let tells_old : IsTold old = g.met.B.Bay.told c.args.bay.now in
+    let tells_new : IsTold new = g.met.B.Bay.told c.commit.new.bay in
     last_aside g.B.Bay.tells old c.args.group.now c.args.ready.now c.requires tells_old new tells_new true told is
 
 pub returns-clause-leaves : goal.returns-clause-leaves
@@ -129,20 +93,8 @@ returns-clause-leaves g c = λ told.
       changed = λ done. c.in_ok-commit.ensures.changed told;
       spends = c.commit.ensures.spends;
     } in
-    let tells_old : IsTold old = record {
-      held = g.met.B.Bay.held_is_left c.args.bay.now;
-      whole = g.met.B.Bay.whole c.args.bay.now;
-      only_now = g.met.B.Bay.only_now c.args.bay.now;
-      counts = g.met.B.Bay.counts_now c.args.bay.now;
-      since = g.met.B.Bay.told_since c.args.bay.now;
-    } in
-    let tells_new : IsTold new = record {
-      held = g.met.B.Bay.held_is_left c.commit.new.bay;
-      whole = g.met.B.Bay.whole c.commit.new.bay;
-      only_now = g.met.B.Bay.only_now c.commit.new.bay;
-      counts = g.met.B.Bay.counts_now c.commit.new.bay;
-      since = g.met.B.Bay.told_since c.commit.new.bay;
-    } in
+    let tells_old : IsTold old = g.met.B.Bay.told c.args.bay.now in
+    let tells_new : IsTold new = g.met.B.Bay.told c.commit.new.bay in
     last_leaves g.B.Bay.tells old c.args.group.now c.args.ready.now c.requires tells_old new tells_new true told is
 
 pub returns-clause-commits : goal.returns-clause-commits

@@ -1,4 +1,4 @@
-use Rattle.std.proofs.Common.{true, false, subst, sym}
+use Rattle.std.proofs.Common.{◌∙◌, true, false, subst, sym}
 use Rattle.std.proofs.lemmas.Result.{err_from_is_err_and}
 use Rattle.ddf_update.specs.Group.{IsOneOf, LieOnSlots}
 use Rattle.ddf_assembly.specs.Committed.{next_slots, next_updates}
@@ -6,7 +6,7 @@ use Rattle.ddf_assembly.specs.Ready.{ReadyValue}
 use Rattle.ddf_stops.specs.Steps.{IsCommit, IsRecovery}
 use Rattle.ddf_group_commands.proofs.Recovering.{commit_failed, first_lies, recover_failed, rest_lies, slots_there}
 use Rattle.ddf_write_commands.proofs.Costs.{alone_costs, behind_costs, left_marked, left_unmarked}
-use Rattle.ddf_write_commands.proofs.Courses.{IsTold}
+use Rattle.ddf_bay.specs.Told.{IsTold}
 use Rattle.ddf_write_commands.proofs.Opening.{commit_aside, commit_leaves_first, is_step_after, mark_keeps, no_step_after, opened_marked, opened_unmarked, recovery_aside, recovery_keeps, recovery_leaves}
 use Rattle.ddf_write_commands.proofs.around.open_blocks.Goals as goal
 use Rattle.ddf_write_commands.proofs.around.open_blocks.Goals.{then-plan+in_ok-commit, else-plan}
@@ -33,20 +33,8 @@ returns-in_err-recover-clause-beside g c = λ told.
     let old = g.B.Bay.disks c.args.bay.now in
     let middle = g.B.Bay.disks c.recover.new.bay in
     let was = c.requires.was in
-    let tells_old : IsTold old = record {
-      held = g.met.B.Bay.held_is_left c.args.bay.now;
-      whole = g.met.B.Bay.whole c.args.bay.now;
-      only_now = g.met.B.Bay.only_now c.args.bay.now;
-      counts = g.met.B.Bay.counts_now c.args.bay.now;
-      since = g.met.B.Bay.told_since c.args.bay.now;
-    } in
-    let tells_middle : IsTold middle = record {
-      held = g.met.B.Bay.held_is_left c.recover.new.bay;
-      whole = g.met.B.Bay.whole c.recover.new.bay;
-      only_now = g.met.B.Bay.only_now c.recover.new.bay;
-      counts = g.met.B.Bay.counts_now c.recover.new.bay;
-      since = g.met.B.Bay.told_since c.recover.new.bay;
-    } in
+    let tells_old : IsTold old = g.met.B.Bay.told c.args.bay.now in
+    let tells_middle : IsTold middle = g.met.B.Bay.told c.recover.new.bay in
     let recovers : IsRecovery old middle c.args.group.now c.args.ready.now false = record {
       any_moment = c.recover.ensures.any_moment told;
       changed = λ done. absurd cc;
@@ -62,20 +50,8 @@ returns-in_err-recover-clause-keeps g c = λ told left named by steps asked.
     let middle = g.B.Bay.disks c.recover.new.bay in
     let failed = err_from_is_err_and c.from_residual.result c.from_residual.ensures.1 in
     let was = c.requires.was in
-    let tells_old : IsTold old = record {
-      held = g.met.B.Bay.held_is_left c.args.bay.now;
-      whole = g.met.B.Bay.whole c.args.bay.now;
-      only_now = g.met.B.Bay.only_now c.args.bay.now;
-      counts = g.met.B.Bay.counts_now c.args.bay.now;
-      since = g.met.B.Bay.told_since c.args.bay.now;
-    } in
-    let tells_middle : IsTold middle = record {
-      held = g.met.B.Bay.held_is_left c.recover.new.bay;
-      whole = g.met.B.Bay.whole c.recover.new.bay;
-      only_now = g.met.B.Bay.only_now c.recover.new.bay;
-      counts = g.met.B.Bay.counts_now c.recover.new.bay;
-      since = g.met.B.Bay.told_since c.recover.new.bay;
-    } in
+    let tells_old : IsTold old = g.met.B.Bay.told c.args.bay.now in
+    let tells_middle : IsTold middle = g.met.B.Bay.told c.recover.new.bay in
     let recovers : IsRecovery old middle c.args.group.now c.args.ready.now false = record {
       any_moment = c.recover.ensures.any_moment told;
       changed = λ done. absurd cc;
@@ -90,20 +66,8 @@ returns-in_err-recover-clause-leaves g c = λ told steps asked.
     let old = g.B.Bay.disks c.args.bay.now in
     let middle = g.B.Bay.disks c.recover.new.bay in
     let was = c.requires.was in
-    let tells_old : IsTold old = record {
-      held = g.met.B.Bay.held_is_left c.args.bay.now;
-      whole = g.met.B.Bay.whole c.args.bay.now;
-      only_now = g.met.B.Bay.only_now c.args.bay.now;
-      counts = g.met.B.Bay.counts_now c.args.bay.now;
-      since = g.met.B.Bay.told_since c.args.bay.now;
-    } in
-    let tells_middle : IsTold middle = record {
-      held = g.met.B.Bay.held_is_left c.recover.new.bay;
-      whole = g.met.B.Bay.whole c.recover.new.bay;
-      only_now = g.met.B.Bay.only_now c.recover.new.bay;
-      counts = g.met.B.Bay.counts_now c.recover.new.bay;
-      since = g.met.B.Bay.told_since c.recover.new.bay;
-    } in
+    let tells_old : IsTold old = g.met.B.Bay.told c.args.bay.now in
+    let tells_middle : IsTold middle = g.met.B.Bay.told c.recover.new.bay in
     let recovers : IsRecovery old middle c.args.group.now c.args.ready.now false = record {
       any_moment = c.recover.ensures.any_moment told;
       changed = λ done. absurd cc;
@@ -133,27 +97,9 @@ returns-in_err-commit-clause-beside g c = λ told.
     let middle = g.B.Bay.disks c.recover.new.bay in
     let new = g.B.Bay.disks c.commit.new.bay in
     let was = c.requires.was in
-    let tells_old : IsTold old = record {
-      held = g.met.B.Bay.held_is_left c.args.bay.now;
-      whole = g.met.B.Bay.whole c.args.bay.now;
-      only_now = g.met.B.Bay.only_now c.args.bay.now;
-      counts = g.met.B.Bay.counts_now c.args.bay.now;
-      since = g.met.B.Bay.told_since c.args.bay.now;
-    } in
-    let tells_middle : IsTold middle = record {
-      held = g.met.B.Bay.held_is_left c.recover.new.bay;
-      whole = g.met.B.Bay.whole c.recover.new.bay;
-      only_now = g.met.B.Bay.only_now c.recover.new.bay;
-      counts = g.met.B.Bay.counts_now c.recover.new.bay;
-      since = g.met.B.Bay.told_since c.recover.new.bay;
-    } in
-    let tells_new : IsTold new = record {
-      held = g.met.B.Bay.held_is_left c.commit.new.bay;
-      whole = g.met.B.Bay.whole c.commit.new.bay;
-      only_now = g.met.B.Bay.only_now c.commit.new.bay;
-      counts = g.met.B.Bay.counts_now c.commit.new.bay;
-      since = g.met.B.Bay.told_since c.commit.new.bay;
-    } in
+    let tells_old : IsTold old = g.met.B.Bay.told c.args.bay.now in
+    let tells_middle : IsTold middle = g.met.B.Bay.told c.recover.new.bay in
+    let tells_new : IsTold new = g.met.B.Bay.told c.commit.new.bay in
     let recovers : (told : g.B.Bay.tells) → IsRecovery old middle c.args.group.now c.args.ready.now true = λ told. record {
       any_moment = c.recover.ensures.any_moment told;
       changed = λ done. c.in_ok-recover.ensures.changed told;
@@ -175,27 +121,9 @@ returns-in_err-commit-clause-leaves g c = λ told steps asked.
     let middle = g.B.Bay.disks c.recover.new.bay in
     let new = g.B.Bay.disks c.commit.new.bay in
     let was = c.requires.was in
-    let tells_old : IsTold old = record {
-      held = g.met.B.Bay.held_is_left c.args.bay.now;
-      whole = g.met.B.Bay.whole c.args.bay.now;
-      only_now = g.met.B.Bay.only_now c.args.bay.now;
-      counts = g.met.B.Bay.counts_now c.args.bay.now;
-      since = g.met.B.Bay.told_since c.args.bay.now;
-    } in
-    let tells_middle : IsTold middle = record {
-      held = g.met.B.Bay.held_is_left c.recover.new.bay;
-      whole = g.met.B.Bay.whole c.recover.new.bay;
-      only_now = g.met.B.Bay.only_now c.recover.new.bay;
-      counts = g.met.B.Bay.counts_now c.recover.new.bay;
-      since = g.met.B.Bay.told_since c.recover.new.bay;
-    } in
-    let tells_new : IsTold new = record {
-      held = g.met.B.Bay.held_is_left c.commit.new.bay;
-      whole = g.met.B.Bay.whole c.commit.new.bay;
-      only_now = g.met.B.Bay.only_now c.commit.new.bay;
-      counts = g.met.B.Bay.counts_now c.commit.new.bay;
-      since = g.met.B.Bay.told_since c.commit.new.bay;
-    } in
+    let tells_old : IsTold old = g.met.B.Bay.told c.args.bay.now in
+    let tells_middle : IsTold middle = g.met.B.Bay.told c.recover.new.bay in
+    let tells_new : IsTold new = g.met.B.Bay.told c.commit.new.bay in
     let recovers : (told : g.B.Bay.tells) → IsRecovery old middle c.args.group.now c.args.ready.now true = λ told. record {
       any_moment = c.recover.ensures.any_moment told;
       changed = λ done. c.in_ok-recover.ensures.changed told;
@@ -217,27 +145,9 @@ returns-in_err-commit-clause-keeps g c = λ told left named by steps asked.
     let middle = g.B.Bay.disks c.recover.new.bay in
     let new = g.B.Bay.disks c.commit.new.bay in
     let was = c.requires.was in
-    let tells_old : IsTold old = record {
-      held = g.met.B.Bay.held_is_left c.args.bay.now;
-      whole = g.met.B.Bay.whole c.args.bay.now;
-      only_now = g.met.B.Bay.only_now c.args.bay.now;
-      counts = g.met.B.Bay.counts_now c.args.bay.now;
-      since = g.met.B.Bay.told_since c.args.bay.now;
-    } in
-    let tells_middle : IsTold middle = record {
-      held = g.met.B.Bay.held_is_left c.recover.new.bay;
-      whole = g.met.B.Bay.whole c.recover.new.bay;
-      only_now = g.met.B.Bay.only_now c.recover.new.bay;
-      counts = g.met.B.Bay.counts_now c.recover.new.bay;
-      since = g.met.B.Bay.told_since c.recover.new.bay;
-    } in
-    let tells_new : IsTold new = record {
-      held = g.met.B.Bay.held_is_left c.commit.new.bay;
-      whole = g.met.B.Bay.whole c.commit.new.bay;
-      only_now = g.met.B.Bay.only_now c.commit.new.bay;
-      counts = g.met.B.Bay.counts_now c.commit.new.bay;
-      since = g.met.B.Bay.told_since c.commit.new.bay;
-    } in
+    let tells_old : IsTold old = g.met.B.Bay.told c.args.bay.now in
+    let tells_middle : IsTold middle = g.met.B.Bay.told c.recover.new.bay in
+    let tells_new : IsTold new = g.met.B.Bay.told c.commit.new.bay in
     let recovers : (told : g.B.Bay.tells) → IsRecovery old middle c.args.group.now c.args.ready.now true = λ told. record {
       any_moment = c.recover.ensures.any_moment told;
       changed = λ done. c.in_ok-recover.ensures.changed told;
@@ -259,20 +169,8 @@ returns-clause-opened g c =
     let old = g.B.Bay.disks c.args.bay.now in
     let middle = g.B.Bay.disks c.recover.new.bay in
     let was = c.requires.was in
-    let tells_old : IsTold old = record {
-      held = g.met.B.Bay.held_is_left c.args.bay.now;
-      whole = g.met.B.Bay.whole c.args.bay.now;
-      only_now = g.met.B.Bay.only_now c.args.bay.now;
-      counts = g.met.B.Bay.counts_now c.args.bay.now;
-      since = g.met.B.Bay.told_since c.args.bay.now;
-    } in
-    let tells_middle : IsTold middle = record {
-      held = g.met.B.Bay.held_is_left c.recover.new.bay;
-      whole = g.met.B.Bay.whole c.recover.new.bay;
-      only_now = g.met.B.Bay.only_now c.recover.new.bay;
-      counts = g.met.B.Bay.counts_now c.recover.new.bay;
-      since = g.met.B.Bay.told_since c.recover.new.bay;
-    } in
+    let tells_old : IsTold old = g.met.B.Bay.told c.args.bay.now in
+    let tells_middle : IsTold middle = g.met.B.Bay.told c.recover.new.bay in
     let recovers : (told : g.B.Bay.tells) → IsRecovery old middle c.args.group.now c.args.ready.now true = λ told. record {
       any_moment = c.recover.ensures.any_moment told;
       changed = λ done. c.in_ok-recover.ensures.changed told;
@@ -283,13 +181,7 @@ returns-clause-opened g c =
     elim c.if-plan.branch [
       | then-plan+in_ok-commit w ↦
           let new = g.B.Bay.disks w.commit.new.bay in
-          let tells_new : IsTold new = record {
-            held = g.met.B.Bay.held_is_left w.commit.new.bay;
-            whole = g.met.B.Bay.whole w.commit.new.bay;
-            only_now = g.met.B.Bay.only_now w.commit.new.bay;
-            counts = g.met.B.Bay.counts_now w.commit.new.bay;
-            since = g.met.B.Bay.told_since w.commit.new.bay;
-          } in
+          let tells_new : IsTold new = g.met.B.Bay.told w.commit.new.bay in
           let commits : (told : g.B.Bay.tells) → IsCommit middle new c.recover.new.ready true = λ told. record {
             any_moment = w.commit.ensures.any_moment told;
             changed = λ done. w.in_ok-commit.ensures.changed told;
@@ -308,20 +200,8 @@ returns-clause-beside g c = λ told.
     let old = g.B.Bay.disks c.args.bay.now in
     let middle = g.B.Bay.disks c.recover.new.bay in
     let was = c.requires.was in
-    let tells_old : IsTold old = record {
-      held = g.met.B.Bay.held_is_left c.args.bay.now;
-      whole = g.met.B.Bay.whole c.args.bay.now;
-      only_now = g.met.B.Bay.only_now c.args.bay.now;
-      counts = g.met.B.Bay.counts_now c.args.bay.now;
-      since = g.met.B.Bay.told_since c.args.bay.now;
-    } in
-    let tells_middle : IsTold middle = record {
-      held = g.met.B.Bay.held_is_left c.recover.new.bay;
-      whole = g.met.B.Bay.whole c.recover.new.bay;
-      only_now = g.met.B.Bay.only_now c.recover.new.bay;
-      counts = g.met.B.Bay.counts_now c.recover.new.bay;
-      since = g.met.B.Bay.told_since c.recover.new.bay;
-    } in
+    let tells_old : IsTold old = g.met.B.Bay.told c.args.bay.now in
+    let tells_middle : IsTold middle = g.met.B.Bay.told c.recover.new.bay in
     let recovers : (told : g.B.Bay.tells) → IsRecovery old middle c.args.group.now c.args.ready.now true = λ told. record {
       any_moment = c.recover.ensures.any_moment told;
       changed = λ done. c.in_ok-recover.ensures.changed told;
@@ -332,13 +212,7 @@ returns-clause-beside g c = λ told.
     elim c.if-plan.branch [
       | then-plan+in_ok-commit w ↦
           let new = g.B.Bay.disks w.commit.new.bay in
-          let tells_new : IsTold new = record {
-            held = g.met.B.Bay.held_is_left w.commit.new.bay;
-            whole = g.met.B.Bay.whole w.commit.new.bay;
-            only_now = g.met.B.Bay.only_now w.commit.new.bay;
-            counts = g.met.B.Bay.counts_now w.commit.new.bay;
-            since = g.met.B.Bay.told_since w.commit.new.bay;
-          } in
+          let tells_new : IsTold new = g.met.B.Bay.told w.commit.new.bay in
           let commits : (told : g.B.Bay.tells) → IsCommit middle new c.recover.new.ready true = λ told. record {
             any_moment = w.commit.ensures.any_moment told;
             changed = λ done. w.in_ok-commit.ensures.changed told;
@@ -356,20 +230,8 @@ returns-clause-leaves g c = λ told steps asked.
     let old = g.B.Bay.disks c.args.bay.now in
     let middle = g.B.Bay.disks c.recover.new.bay in
     let was = c.requires.was in
-    let tells_old : IsTold old = record {
-      held = g.met.B.Bay.held_is_left c.args.bay.now;
-      whole = g.met.B.Bay.whole c.args.bay.now;
-      only_now = g.met.B.Bay.only_now c.args.bay.now;
-      counts = g.met.B.Bay.counts_now c.args.bay.now;
-      since = g.met.B.Bay.told_since c.args.bay.now;
-    } in
-    let tells_middle : IsTold middle = record {
-      held = g.met.B.Bay.held_is_left c.recover.new.bay;
-      whole = g.met.B.Bay.whole c.recover.new.bay;
-      only_now = g.met.B.Bay.only_now c.recover.new.bay;
-      counts = g.met.B.Bay.counts_now c.recover.new.bay;
-      since = g.met.B.Bay.told_since c.recover.new.bay;
-    } in
+    let tells_old : IsTold old = g.met.B.Bay.told c.args.bay.now in
+    let tells_middle : IsTold middle = g.met.B.Bay.told c.recover.new.bay in
     let recovers : (told : g.B.Bay.tells) → IsRecovery old middle c.args.group.now c.args.ready.now true = λ told. record {
       any_moment = c.recover.ensures.any_moment told;
       changed = λ done. c.in_ok-recover.ensures.changed told;
@@ -380,13 +242,7 @@ returns-clause-leaves g c = λ told steps asked.
     elim c.if-plan.branch [
       | then-plan+in_ok-commit w ↦
           let new = g.B.Bay.disks w.commit.new.bay in
-          let tells_new : IsTold new = record {
-            held = g.met.B.Bay.held_is_left w.commit.new.bay;
-            whole = g.met.B.Bay.whole w.commit.new.bay;
-            only_now = g.met.B.Bay.only_now w.commit.new.bay;
-            counts = g.met.B.Bay.counts_now w.commit.new.bay;
-            since = g.met.B.Bay.told_since w.commit.new.bay;
-          } in
+          let tells_new : IsTold new = g.met.B.Bay.told w.commit.new.bay in
           let commits : (told : g.B.Bay.tells) → IsCommit middle new c.recover.new.ready true = λ told. record {
             any_moment = w.commit.ensures.any_moment told;
             changed = λ done. w.in_ok-commit.ensures.changed told;
@@ -419,4 +275,10 @@ returns-clause-left g c = elim c.if-plan.branch [
   | then-plan+in_ok-commit w ↦
       rw w.ready-is (left_marked c.args.plan.now.marks w.if-plan.true c.args.ready.now c.recover.new.ready w.commit.new.ready c.recover.ensures.left w.commit.ensures.left)
   | else-plan w ↦ rw w.ready-is (left_unmarked c.args.plan.now.marks w.if-plan.false c.args.ready.now c.recover.new.ready c.recover.ensures.left)
+]
+
+pub returns-clause-unfailed : goal.returns-clause-unfailed
+returns-clause-unfailed g c = elim c.if-plan.branch [
+  | then-plan+in_ok-commit w ↦ rw w.bay-is (w.in_ok-commit.ensures.ok ∙ c.in_ok-recover.ensures.ok)
+  | else-plan w ↦ rw w.bay-is c.in_ok-recover.ensures.ok
 ]

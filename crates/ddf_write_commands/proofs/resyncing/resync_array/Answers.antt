@@ -1,9 +1,9 @@
 use Rattle.std.proofs.Common.{◌∙◌, ℕ, List, true, false, Err, refl, subst, sym, arith}
 use Rattle.std.proofs.lemmas.Bool.{false≢true}
-use Rattle.std.proofs.lemmas.Result.{err_from_is_err_and}
+use Rattle.std.proofs.lemmas.Result.{err_from_is_err_and, on_ok_weaker}
 use Rattle.ddf_config.specs.Seats.{SeatsFit}
 use Rattle.ddf_assembly.specs.Recovery.{config_recovered}
-use Rattle.ddf_data_stops.specs.Floors.{floor_in}
+use Rattle.ddf_stops.specs.BlockFloors.{floor_in}
 use Rattle.ddf_answer.specs.declared.failure.Failure.{Failure}
 use Rattle.ddf_answer.specs.Call.{work_of}
 use Rattle.ddf_group_commands.specs.Change.{is_done}
@@ -11,7 +11,7 @@ use Rattle.ddf_write_commands.specs.Resync.{resync_behind, resync_refusals, resy
 use Rattle.ddf_write_commands.specs.Worked.{IsWorkedOf}
 use Rattle.ddf_write_commands.proofs.Arrays.{along_of, aside_of, can_close_of, closed_along, closed_aside, closed_keeps, closed_leaves, closed_of, keeps_of, not_opened_along, not_opened_keeps, not_opened_leaves, not_opened_of, stopped_leaves, stopped_of}
 use Rattle.ddf_write_commands.proofs.Costs.{closed_costs, opened_costs, worked_costs}
-use Rattle.ddf_write_commands.proofs.Courses.{IsTold}
+use Rattle.ddf_bay.specs.Told.{IsTold}
 use Rattle.ddf_write_commands.proofs.PlanKept.{apart_there, fits_there, none_trusted}
 use Rattle.ddf_write_commands.proofs.ResyncArray.{ended, under}
 use Rattle.ddf_write_commands.proofs.ResyncWorks.{resync_costs, resync_steady, resync_worked}
@@ -44,20 +44,8 @@ returns-in_err-open_blocks-clause-along g c = λ told left named by word is.
     let old = g.B.Bay.disks c.args.bay.now in
     let opened = g.B.Bay.disks c.open_blocks.new.bay in
     let failed = err_from_is_err_and c.from_residual.result c.from_residual.ensures.1 in
-    let tells_old : IsTold (g.B.Bay.disks c.args.bay.now) = record {
-      held = g.met.B.Bay.held_is_left c.args.bay.now;
-      whole = g.met.B.Bay.whole c.args.bay.now;
-      only_now = g.met.B.Bay.only_now c.args.bay.now;
-      counts = g.met.B.Bay.counts_now c.args.bay.now;
-      since = g.met.B.Bay.told_since c.args.bay.now;
-    } in
-    let tells_opened : IsTold (g.B.Bay.disks c.open_blocks.new.bay) = record {
-      held = g.met.B.Bay.held_is_left c.open_blocks.new.bay;
-      whole = g.met.B.Bay.whole c.open_blocks.new.bay;
-      only_now = g.met.B.Bay.only_now c.open_blocks.new.bay;
-      counts = g.met.B.Bay.counts_now c.open_blocks.new.bay;
-      since = g.met.B.Bay.told_since c.open_blocks.new.bay;
-    } in
+    let tells_old : IsTold (g.B.Bay.disks c.args.bay.now) = g.met.B.Bay.told c.args.bay.now in
+    let tells_opened : IsTold (g.B.Bay.disks c.open_blocks.new.bay) = g.met.B.Bay.told c.open_blocks.new.bay in
     rw failed.1 (not_opened_along g.B.Bay.tells resyncing resync_steady old c.args.group.now resync_refusals resync_behind c.args.plan.now c.args.timestamp c.args.ready.now c.requires.was word is (omega arith) opened left (c.in_err-open_blocks.ensures.keeps told left named by) (c.open_blocks.ensures.leaves told) tells_old tells_opened)
 
 pub resync-requires-clause-apart : goal.resync-requires-clause-apart
@@ -86,20 +74,8 @@ close_blocks-requires g c =
     let opened = g.B.Bay.disks c.open_blocks.new.bay in
     let behind = g.B.Bay.disks c.resync.new.bay in
     let opens = c.in_ok-open_blocks.ensures in
-    let tells_opened : IsTold (g.B.Bay.disks c.open_blocks.new.bay) = record {
-      held = g.met.B.Bay.held_is_left c.open_blocks.new.bay;
-      whole = g.met.B.Bay.whole c.open_blocks.new.bay;
-      only_now = g.met.B.Bay.only_now c.open_blocks.new.bay;
-      counts = g.met.B.Bay.counts_now c.open_blocks.new.bay;
-      since = g.met.B.Bay.told_since c.open_blocks.new.bay;
-    } in
-    let tells_behind : IsTold (g.B.Bay.disks c.resync.new.bay) = record {
-      held = g.met.B.Bay.held_is_left c.resync.new.bay;
-      whole = g.met.B.Bay.whole c.resync.new.bay;
-      only_now = g.met.B.Bay.only_now c.resync.new.bay;
-      counts = g.met.B.Bay.counts_now c.resync.new.bay;
-      since = g.met.B.Bay.told_since c.resync.new.bay;
-    } in
+    let tells_opened : IsTold (g.B.Bay.disks c.open_blocks.new.bay) = g.met.B.Bay.told c.open_blocks.new.bay in
+    let tells_behind : IsTold (g.B.Bay.disks c.resync.new.bay) = g.met.B.Bay.told c.resync.new.bay in
     let works : HasWorked resyncing g.B.Bay.tells (floor_in c.args.group.now.seats) c.args.plan.now.view opened behind true =
     resync_worked g.B.Bay.tells c.args.plan.now.view opened behind (floor_in c.args.group.now.seats)
     (under g.B.Bay.tells old opened behind c.args.group.now c.requires.planned.0 c.args.plan.now c.requires.planned.1 c.requires.from opens.same_sizes opened.held) true
@@ -114,33 +90,15 @@ returns-in-Ok-clause-worked g c = λ word is.
     let opened = g.B.Bay.disks c.open_blocks.new.bay in
     let behind = g.B.Bay.disks c.resync.new.bay in
     let opens = c.in_ok-open_blocks.ensures in
-    let tells_opened : IsTold (g.B.Bay.disks c.open_blocks.new.bay) = record {
-      held = g.met.B.Bay.held_is_left c.open_blocks.new.bay;
-      whole = g.met.B.Bay.whole c.open_blocks.new.bay;
-      only_now = g.met.B.Bay.only_now c.open_blocks.new.bay;
-      counts = g.met.B.Bay.counts_now c.open_blocks.new.bay;
-      since = g.met.B.Bay.told_since c.open_blocks.new.bay;
-    } in
-    let tells_behind : IsTold (g.B.Bay.disks c.resync.new.bay) = record {
-      held = g.met.B.Bay.held_is_left c.resync.new.bay;
-      whole = g.met.B.Bay.whole c.resync.new.bay;
-      only_now = g.met.B.Bay.only_now c.resync.new.bay;
-      counts = g.met.B.Bay.counts_now c.resync.new.bay;
-      since = g.met.B.Bay.told_since c.resync.new.bay;
-    } in
+    let tells_opened : IsTold (g.B.Bay.disks c.open_blocks.new.bay) = g.met.B.Bay.told c.open_blocks.new.bay in
+    let tells_behind : IsTold (g.B.Bay.disks c.resync.new.bay) = g.met.B.Bay.told c.resync.new.bay in
     let works : HasWorked resyncing g.B.Bay.tells (floor_in c.args.group.now.seats) c.args.plan.now.view opened behind true =
     resync_worked g.B.Bay.tells c.args.plan.now.view opened behind (floor_in c.args.group.now.seats)
     (under g.B.Bay.tells old opened behind c.args.group.now word c.args.plan.now is c.requires.from opens.same_sizes opened.held) true
     (g.met.B.Bay.told_before c.open_blocks.new.bay c.resync.new.bay (c.resync.ensures.goes.goes_on c.resync.new.bay (g.met.B.Bay.leads c.resync.new.bay)))
     c.resync.ensures.any_moment c.resync.ensures.left c.resync.ensures.held (λ told so. c.in-Ok.ensures.resynced told) (λ told so. c.in-Ok.ensures.settled told) c.resync.ensures.goes in
     let new = g.B.Bay.disks c.close_blocks.new.bay in
-    let tells_new : IsTold (g.B.Bay.disks c.close_blocks.new.bay) = record {
-      held = g.met.B.Bay.held_is_left c.close_blocks.new.bay;
-      whole = g.met.B.Bay.whole c.close_blocks.new.bay;
-      only_now = g.met.B.Bay.only_now c.close_blocks.new.bay;
-      counts = g.met.B.Bay.counts_now c.close_blocks.new.bay;
-      since = g.met.B.Bay.told_since c.close_blocks.new.bay;
-    } in
+    let tells_new : IsTold (g.B.Bay.disks c.close_blocks.new.bay) = g.met.B.Bay.told c.close_blocks.new.bay in
     closed_of g.B.Bay.tells resyncing resync_steady old c.args.group.now resync_refusals resync_behind c.args.plan.now c.args.timestamp c.args.ready.now c.requires.was word is (omega arith) opened c.open_blocks.new.group c.open_blocks.new.ready c.requires.from opens.opened c.requires.floored opens.beside opens.leaves opens.goes_on opens.same_sizes opens.reads
     opens.writes_rise tells_opened behind tells_behind true works refl new tells_new
     (g.met.B.Bay.told_before c.resync.new.bay c.close_blocks.new.bay (c.close_blocks.ensures.goes_on c.close_blocks.new.bay (g.met.B.Bay.leads c.close_blocks.new.bay)))
@@ -152,33 +110,15 @@ returns-in-Ok-clause-leaves g c = λ told word is.
     let opened = g.B.Bay.disks c.open_blocks.new.bay in
     let behind = g.B.Bay.disks c.resync.new.bay in
     let opens = c.in_ok-open_blocks.ensures in
-    let tells_opened : IsTold (g.B.Bay.disks c.open_blocks.new.bay) = record {
-      held = g.met.B.Bay.held_is_left c.open_blocks.new.bay;
-      whole = g.met.B.Bay.whole c.open_blocks.new.bay;
-      only_now = g.met.B.Bay.only_now c.open_blocks.new.bay;
-      counts = g.met.B.Bay.counts_now c.open_blocks.new.bay;
-      since = g.met.B.Bay.told_since c.open_blocks.new.bay;
-    } in
-    let tells_behind : IsTold (g.B.Bay.disks c.resync.new.bay) = record {
-      held = g.met.B.Bay.held_is_left c.resync.new.bay;
-      whole = g.met.B.Bay.whole c.resync.new.bay;
-      only_now = g.met.B.Bay.only_now c.resync.new.bay;
-      counts = g.met.B.Bay.counts_now c.resync.new.bay;
-      since = g.met.B.Bay.told_since c.resync.new.bay;
-    } in
+    let tells_opened : IsTold (g.B.Bay.disks c.open_blocks.new.bay) = g.met.B.Bay.told c.open_blocks.new.bay in
+    let tells_behind : IsTold (g.B.Bay.disks c.resync.new.bay) = g.met.B.Bay.told c.resync.new.bay in
     let works : HasWorked resyncing g.B.Bay.tells (floor_in c.args.group.now.seats) c.args.plan.now.view opened behind true =
     resync_worked g.B.Bay.tells c.args.plan.now.view opened behind (floor_in c.args.group.now.seats)
     (under g.B.Bay.tells old opened behind c.args.group.now word c.args.plan.now is c.requires.from opens.same_sizes opened.held) true
     (g.met.B.Bay.told_before c.open_blocks.new.bay c.resync.new.bay (c.resync.ensures.goes.goes_on c.resync.new.bay (g.met.B.Bay.leads c.resync.new.bay)))
     c.resync.ensures.any_moment c.resync.ensures.left c.resync.ensures.held (λ told so. c.in-Ok.ensures.resynced told) (λ told so. c.in-Ok.ensures.settled told) c.resync.ensures.goes in
     let new = g.B.Bay.disks c.close_blocks.new.bay in
-    let tells_new : IsTold (g.B.Bay.disks c.close_blocks.new.bay) = record {
-      held = g.met.B.Bay.held_is_left c.close_blocks.new.bay;
-      whole = g.met.B.Bay.whole c.close_blocks.new.bay;
-      only_now = g.met.B.Bay.only_now c.close_blocks.new.bay;
-      counts = g.met.B.Bay.counts_now c.close_blocks.new.bay;
-      since = g.met.B.Bay.told_since c.close_blocks.new.bay;
-    } in
+    let tells_new : IsTold (g.B.Bay.disks c.close_blocks.new.bay) = g.met.B.Bay.told c.close_blocks.new.bay in
     closed_leaves g.B.Bay.tells resyncing resync_steady old c.args.group.now resync_refusals resync_behind c.args.plan.now c.args.timestamp c.args.ready.now c.requires.was word is (omega arith) opened c.open_blocks.new.group c.open_blocks.new.ready c.requires.from opens.opened c.requires.floored opens.beside opens.leaves opens.goes_on opens.same_sizes opens.reads
     opens.writes_rise tells_opened behind tells_behind true works refl new tells_new
     (g.met.B.Bay.told_before c.resync.new.bay c.close_blocks.new.bay (c.close_blocks.ensures.goes_on c.close_blocks.new.bay (g.met.B.Bay.leads c.close_blocks.new.bay)))
@@ -190,33 +130,15 @@ returns-in-Ok-clause-beside g c = λ told.
     let opened = g.B.Bay.disks c.open_blocks.new.bay in
     let behind = g.B.Bay.disks c.resync.new.bay in
     let opens = c.in_ok-open_blocks.ensures in
-    let tells_opened : IsTold (g.B.Bay.disks c.open_blocks.new.bay) = record {
-      held = g.met.B.Bay.held_is_left c.open_blocks.new.bay;
-      whole = g.met.B.Bay.whole c.open_blocks.new.bay;
-      only_now = g.met.B.Bay.only_now c.open_blocks.new.bay;
-      counts = g.met.B.Bay.counts_now c.open_blocks.new.bay;
-      since = g.met.B.Bay.told_since c.open_blocks.new.bay;
-    } in
-    let tells_behind : IsTold (g.B.Bay.disks c.resync.new.bay) = record {
-      held = g.met.B.Bay.held_is_left c.resync.new.bay;
-      whole = g.met.B.Bay.whole c.resync.new.bay;
-      only_now = g.met.B.Bay.only_now c.resync.new.bay;
-      counts = g.met.B.Bay.counts_now c.resync.new.bay;
-      since = g.met.B.Bay.told_since c.resync.new.bay;
-    } in
+    let tells_opened : IsTold (g.B.Bay.disks c.open_blocks.new.bay) = g.met.B.Bay.told c.open_blocks.new.bay in
+    let tells_behind : IsTold (g.B.Bay.disks c.resync.new.bay) = g.met.B.Bay.told c.resync.new.bay in
     let works : HasWorked resyncing g.B.Bay.tells (floor_in c.args.group.now.seats) c.args.plan.now.view opened behind true =
     resync_worked g.B.Bay.tells c.args.plan.now.view opened behind (floor_in c.args.group.now.seats)
     (under g.B.Bay.tells old opened behind c.args.group.now c.requires.planned.0 c.args.plan.now c.requires.planned.1 c.requires.from opens.same_sizes opened.held) true
     (g.met.B.Bay.told_before c.open_blocks.new.bay c.resync.new.bay (c.resync.ensures.goes.goes_on c.resync.new.bay (g.met.B.Bay.leads c.resync.new.bay)))
     c.resync.ensures.any_moment c.resync.ensures.left c.resync.ensures.held (λ told so. c.in-Ok.ensures.resynced told) (λ told so. c.in-Ok.ensures.settled told) c.resync.ensures.goes in
     let new = g.B.Bay.disks c.close_blocks.new.bay in
-    let tells_new : IsTold (g.B.Bay.disks c.close_blocks.new.bay) = record {
-      held = g.met.B.Bay.held_is_left c.close_blocks.new.bay;
-      whole = g.met.B.Bay.whole c.close_blocks.new.bay;
-      only_now = g.met.B.Bay.only_now c.close_blocks.new.bay;
-      counts = g.met.B.Bay.counts_now c.close_blocks.new.bay;
-      since = g.met.B.Bay.told_since c.close_blocks.new.bay;
-    } in
+    let tells_new : IsTold (g.B.Bay.disks c.close_blocks.new.bay) = g.met.B.Bay.told c.close_blocks.new.bay in
     closed_aside g.B.Bay.tells resyncing resync_steady old c.args.group.now resync_refusals resync_behind c.args.plan.now c.args.timestamp c.args.ready.now c.requires.was c.requires.planned.0 c.requires.planned.1 (omega arith) opened c.open_blocks.new.group c.open_blocks.new.ready c.requires.from opens.opened c.requires.floored opens.beside opens.leaves opens.goes_on opens.same_sizes opens.reads
     opens.writes_rise tells_opened behind tells_behind true works refl new tells_new
     (g.met.B.Bay.told_before c.resync.new.bay c.close_blocks.new.bay (c.close_blocks.ensures.goes_on c.close_blocks.new.bay (g.met.B.Bay.leads c.close_blocks.new.bay)))
@@ -228,33 +150,15 @@ returns-in-Ok-clause-keeps g c = λ told left named by steps asked.
     let opened = g.B.Bay.disks c.open_blocks.new.bay in
     let behind = g.B.Bay.disks c.resync.new.bay in
     let opens = c.in_ok-open_blocks.ensures in
-    let tells_opened : IsTold (g.B.Bay.disks c.open_blocks.new.bay) = record {
-      held = g.met.B.Bay.held_is_left c.open_blocks.new.bay;
-      whole = g.met.B.Bay.whole c.open_blocks.new.bay;
-      only_now = g.met.B.Bay.only_now c.open_blocks.new.bay;
-      counts = g.met.B.Bay.counts_now c.open_blocks.new.bay;
-      since = g.met.B.Bay.told_since c.open_blocks.new.bay;
-    } in
-    let tells_behind : IsTold (g.B.Bay.disks c.resync.new.bay) = record {
-      held = g.met.B.Bay.held_is_left c.resync.new.bay;
-      whole = g.met.B.Bay.whole c.resync.new.bay;
-      only_now = g.met.B.Bay.only_now c.resync.new.bay;
-      counts = g.met.B.Bay.counts_now c.resync.new.bay;
-      since = g.met.B.Bay.told_since c.resync.new.bay;
-    } in
+    let tells_opened : IsTold (g.B.Bay.disks c.open_blocks.new.bay) = g.met.B.Bay.told c.open_blocks.new.bay in
+    let tells_behind : IsTold (g.B.Bay.disks c.resync.new.bay) = g.met.B.Bay.told c.resync.new.bay in
     let works : HasWorked resyncing g.B.Bay.tells (floor_in c.args.group.now.seats) c.args.plan.now.view opened behind true =
     resync_worked g.B.Bay.tells c.args.plan.now.view opened behind (floor_in c.args.group.now.seats)
     (under g.B.Bay.tells old opened behind c.args.group.now c.requires.planned.0 c.args.plan.now c.requires.planned.1 c.requires.from opens.same_sizes opened.held) true
     (g.met.B.Bay.told_before c.open_blocks.new.bay c.resync.new.bay (c.resync.ensures.goes.goes_on c.resync.new.bay (g.met.B.Bay.leads c.resync.new.bay)))
     c.resync.ensures.any_moment c.resync.ensures.left c.resync.ensures.held (λ told so. c.in-Ok.ensures.resynced told) (λ told so. c.in-Ok.ensures.settled told) c.resync.ensures.goes in
     let new = g.B.Bay.disks c.close_blocks.new.bay in
-    let tells_new : IsTold (g.B.Bay.disks c.close_blocks.new.bay) = record {
-      held = g.met.B.Bay.held_is_left c.close_blocks.new.bay;
-      whole = g.met.B.Bay.whole c.close_blocks.new.bay;
-      only_now = g.met.B.Bay.only_now c.close_blocks.new.bay;
-      counts = g.met.B.Bay.counts_now c.close_blocks.new.bay;
-      since = g.met.B.Bay.told_since c.close_blocks.new.bay;
-    } in
+    let tells_new : IsTold (g.B.Bay.disks c.close_blocks.new.bay) = g.met.B.Bay.told c.close_blocks.new.bay in
     closed_keeps g.B.Bay.tells resyncing resync_steady old c.args.group.now resync_refusals resync_behind c.args.plan.now c.args.timestamp c.args.ready.now c.requires.was c.requires.planned.0 c.requires.planned.1 (omega arith) opened c.open_blocks.new.group c.open_blocks.new.ready c.requires.from opens.opened c.requires.floored opens.beside opens.leaves opens.goes_on opens.same_sizes opens.reads
     opens.writes_rise tells_opened behind tells_behind true works refl new tells_new
     (g.met.B.Bay.told_before c.resync.new.bay c.close_blocks.new.bay (c.close_blocks.ensures.goes_on c.close_blocks.new.bay (g.met.B.Bay.leads c.close_blocks.new.bay)))
@@ -266,33 +170,15 @@ returns-in-Ok-clause-along g c = λ told left named by word is.
     let opened = g.B.Bay.disks c.open_blocks.new.bay in
     let behind = g.B.Bay.disks c.resync.new.bay in
     let opens = c.in_ok-open_blocks.ensures in
-    let tells_opened : IsTold (g.B.Bay.disks c.open_blocks.new.bay) = record {
-      held = g.met.B.Bay.held_is_left c.open_blocks.new.bay;
-      whole = g.met.B.Bay.whole c.open_blocks.new.bay;
-      only_now = g.met.B.Bay.only_now c.open_blocks.new.bay;
-      counts = g.met.B.Bay.counts_now c.open_blocks.new.bay;
-      since = g.met.B.Bay.told_since c.open_blocks.new.bay;
-    } in
-    let tells_behind : IsTold (g.B.Bay.disks c.resync.new.bay) = record {
-      held = g.met.B.Bay.held_is_left c.resync.new.bay;
-      whole = g.met.B.Bay.whole c.resync.new.bay;
-      only_now = g.met.B.Bay.only_now c.resync.new.bay;
-      counts = g.met.B.Bay.counts_now c.resync.new.bay;
-      since = g.met.B.Bay.told_since c.resync.new.bay;
-    } in
+    let tells_opened : IsTold (g.B.Bay.disks c.open_blocks.new.bay) = g.met.B.Bay.told c.open_blocks.new.bay in
+    let tells_behind : IsTold (g.B.Bay.disks c.resync.new.bay) = g.met.B.Bay.told c.resync.new.bay in
     let works : HasWorked resyncing g.B.Bay.tells (floor_in c.args.group.now.seats) c.args.plan.now.view opened behind true =
     resync_worked g.B.Bay.tells c.args.plan.now.view opened behind (floor_in c.args.group.now.seats)
     (under g.B.Bay.tells old opened behind c.args.group.now word c.args.plan.now is c.requires.from opens.same_sizes opened.held) true
     (g.met.B.Bay.told_before c.open_blocks.new.bay c.resync.new.bay (c.resync.ensures.goes.goes_on c.resync.new.bay (g.met.B.Bay.leads c.resync.new.bay)))
     c.resync.ensures.any_moment c.resync.ensures.left c.resync.ensures.held (λ told so. c.in-Ok.ensures.resynced told) (λ told so. c.in-Ok.ensures.settled told) c.resync.ensures.goes in
     let new = g.B.Bay.disks c.close_blocks.new.bay in
-    let tells_new : IsTold (g.B.Bay.disks c.close_blocks.new.bay) = record {
-      held = g.met.B.Bay.held_is_left c.close_blocks.new.bay;
-      whole = g.met.B.Bay.whole c.close_blocks.new.bay;
-      only_now = g.met.B.Bay.only_now c.close_blocks.new.bay;
-      counts = g.met.B.Bay.counts_now c.close_blocks.new.bay;
-      since = g.met.B.Bay.told_since c.close_blocks.new.bay;
-    } in
+    let tells_new : IsTold (g.B.Bay.disks c.close_blocks.new.bay) = g.met.B.Bay.told c.close_blocks.new.bay in
     closed_along g.B.Bay.tells resyncing resync_steady old c.args.group.now resync_refusals resync_behind c.args.plan.now c.args.timestamp c.args.ready.now c.requires.was word is (omega arith) opened c.open_blocks.new.group c.open_blocks.new.ready c.requires.from opens.opened c.requires.floored opens.beside opens.leaves opens.goes_on opens.same_sizes opens.reads
     opens.writes_rise tells_opened behind tells_behind true works refl new tells_new
     (g.met.B.Bay.told_before c.resync.new.bay c.close_blocks.new.bay (c.close_blocks.ensures.goes_on c.close_blocks.new.bay (g.met.B.Bay.leads c.close_blocks.new.bay)))
@@ -304,20 +190,8 @@ returns-in-Err-clause-worked g c = λ word is.
     let opened = g.B.Bay.disks c.open_blocks.new.bay in
     let behind = g.B.Bay.disks c.resync.new.bay in
     let opens = c.in_ok-open_blocks.ensures in
-    let tells_opened : IsTold (g.B.Bay.disks c.open_blocks.new.bay) = record {
-      held = g.met.B.Bay.held_is_left c.open_blocks.new.bay;
-      whole = g.met.B.Bay.whole c.open_blocks.new.bay;
-      only_now = g.met.B.Bay.only_now c.open_blocks.new.bay;
-      counts = g.met.B.Bay.counts_now c.open_blocks.new.bay;
-      since = g.met.B.Bay.told_since c.open_blocks.new.bay;
-    } in
-    let tells_behind : IsTold (g.B.Bay.disks c.resync.new.bay) = record {
-      held = g.met.B.Bay.held_is_left c.resync.new.bay;
-      whole = g.met.B.Bay.whole c.resync.new.bay;
-      only_now = g.met.B.Bay.only_now c.resync.new.bay;
-      counts = g.met.B.Bay.counts_now c.resync.new.bay;
-      since = g.met.B.Bay.told_since c.resync.new.bay;
-    } in
+    let tells_opened : IsTold (g.B.Bay.disks c.open_blocks.new.bay) = g.met.B.Bay.told c.open_blocks.new.bay in
+    let tells_behind : IsTold (g.B.Bay.disks c.resync.new.bay) = g.met.B.Bay.told c.resync.new.bay in
     let works : HasWorked resyncing g.B.Bay.tells (floor_in c.args.group.now.seats) c.args.plan.now.view opened behind false =
     resync_worked g.B.Bay.tells c.args.plan.now.view opened behind (floor_in c.args.group.now.seats)
     (under g.B.Bay.tells old opened behind c.args.group.now word c.args.plan.now is c.requires.from opens.same_sizes opened.held) false
@@ -334,20 +208,8 @@ returns-in-Err-clause-leaves g c = λ told word is.
     let opened = g.B.Bay.disks c.open_blocks.new.bay in
     let behind = g.B.Bay.disks c.resync.new.bay in
     let opens = c.in_ok-open_blocks.ensures in
-    let tells_opened : IsTold (g.B.Bay.disks c.open_blocks.new.bay) = record {
-      held = g.met.B.Bay.held_is_left c.open_blocks.new.bay;
-      whole = g.met.B.Bay.whole c.open_blocks.new.bay;
-      only_now = g.met.B.Bay.only_now c.open_blocks.new.bay;
-      counts = g.met.B.Bay.counts_now c.open_blocks.new.bay;
-      since = g.met.B.Bay.told_since c.open_blocks.new.bay;
-    } in
-    let tells_behind : IsTold (g.B.Bay.disks c.resync.new.bay) = record {
-      held = g.met.B.Bay.held_is_left c.resync.new.bay;
-      whole = g.met.B.Bay.whole c.resync.new.bay;
-      only_now = g.met.B.Bay.only_now c.resync.new.bay;
-      counts = g.met.B.Bay.counts_now c.resync.new.bay;
-      since = g.met.B.Bay.told_since c.resync.new.bay;
-    } in
+    let tells_opened : IsTold (g.B.Bay.disks c.open_blocks.new.bay) = g.met.B.Bay.told c.open_blocks.new.bay in
+    let tells_behind : IsTold (g.B.Bay.disks c.resync.new.bay) = g.met.B.Bay.told c.resync.new.bay in
     let works : HasWorked resyncing g.B.Bay.tells (floor_in c.args.group.now.seats) c.args.plan.now.view opened behind false =
     resync_worked g.B.Bay.tells c.args.plan.now.view opened behind (floor_in c.args.group.now.seats)
     (under g.B.Bay.tells old opened behind c.args.group.now word c.args.plan.now is c.requires.from opens.same_sizes opened.held) false
@@ -362,20 +224,8 @@ returns-in-Err-clause-beside g c = λ told.
     let opened = g.B.Bay.disks c.open_blocks.new.bay in
     let behind = g.B.Bay.disks c.resync.new.bay in
     let opens = c.in_ok-open_blocks.ensures in
-    let tells_opened : IsTold (g.B.Bay.disks c.open_blocks.new.bay) = record {
-      held = g.met.B.Bay.held_is_left c.open_blocks.new.bay;
-      whole = g.met.B.Bay.whole c.open_blocks.new.bay;
-      only_now = g.met.B.Bay.only_now c.open_blocks.new.bay;
-      counts = g.met.B.Bay.counts_now c.open_blocks.new.bay;
-      since = g.met.B.Bay.told_since c.open_blocks.new.bay;
-    } in
-    let tells_behind : IsTold (g.B.Bay.disks c.resync.new.bay) = record {
-      held = g.met.B.Bay.held_is_left c.resync.new.bay;
-      whole = g.met.B.Bay.whole c.resync.new.bay;
-      only_now = g.met.B.Bay.only_now c.resync.new.bay;
-      counts = g.met.B.Bay.counts_now c.resync.new.bay;
-      since = g.met.B.Bay.told_since c.resync.new.bay;
-    } in
+    let tells_opened : IsTold (g.B.Bay.disks c.open_blocks.new.bay) = g.met.B.Bay.told c.open_blocks.new.bay in
+    let tells_behind : IsTold (g.B.Bay.disks c.resync.new.bay) = g.met.B.Bay.told c.resync.new.bay in
     let works : HasWorked resyncing g.B.Bay.tells (floor_in c.args.group.now.seats) c.args.plan.now.view opened behind false =
     resync_worked g.B.Bay.tells c.args.plan.now.view opened behind (floor_in c.args.group.now.seats)
     (under g.B.Bay.tells old opened behind c.args.group.now c.requires.planned.0 c.args.plan.now c.requires.planned.1 c.requires.from opens.same_sizes opened.held) false
@@ -390,20 +240,8 @@ returns-in-Err-clause-keeps g c = λ told left named by steps asked.
     let opened = g.B.Bay.disks c.open_blocks.new.bay in
     let behind = g.B.Bay.disks c.resync.new.bay in
     let opens = c.in_ok-open_blocks.ensures in
-    let tells_opened : IsTold (g.B.Bay.disks c.open_blocks.new.bay) = record {
-      held = g.met.B.Bay.held_is_left c.open_blocks.new.bay;
-      whole = g.met.B.Bay.whole c.open_blocks.new.bay;
-      only_now = g.met.B.Bay.only_now c.open_blocks.new.bay;
-      counts = g.met.B.Bay.counts_now c.open_blocks.new.bay;
-      since = g.met.B.Bay.told_since c.open_blocks.new.bay;
-    } in
-    let tells_behind : IsTold (g.B.Bay.disks c.resync.new.bay) = record {
-      held = g.met.B.Bay.held_is_left c.resync.new.bay;
-      whole = g.met.B.Bay.whole c.resync.new.bay;
-      only_now = g.met.B.Bay.only_now c.resync.new.bay;
-      counts = g.met.B.Bay.counts_now c.resync.new.bay;
-      since = g.met.B.Bay.told_since c.resync.new.bay;
-    } in
+    let tells_opened : IsTold (g.B.Bay.disks c.open_blocks.new.bay) = g.met.B.Bay.told c.open_blocks.new.bay in
+    let tells_behind : IsTold (g.B.Bay.disks c.resync.new.bay) = g.met.B.Bay.told c.resync.new.bay in
     let works : HasWorked resyncing g.B.Bay.tells (floor_in c.args.group.now.seats) c.args.plan.now.view opened behind false =
     resync_worked g.B.Bay.tells c.args.plan.now.view opened behind (floor_in c.args.group.now.seats)
     (under g.B.Bay.tells old opened behind c.args.group.now c.requires.planned.0 c.args.plan.now c.requires.planned.1 c.requires.from opens.same_sizes opened.held) false
@@ -418,20 +256,8 @@ returns-in-Err-clause-along g c = λ told left named by word is.
     let opened = g.B.Bay.disks c.open_blocks.new.bay in
     let behind = g.B.Bay.disks c.resync.new.bay in
     let opens = c.in_ok-open_blocks.ensures in
-    let tells_opened : IsTold (g.B.Bay.disks c.open_blocks.new.bay) = record {
-      held = g.met.B.Bay.held_is_left c.open_blocks.new.bay;
-      whole = g.met.B.Bay.whole c.open_blocks.new.bay;
-      only_now = g.met.B.Bay.only_now c.open_blocks.new.bay;
-      counts = g.met.B.Bay.counts_now c.open_blocks.new.bay;
-      since = g.met.B.Bay.told_since c.open_blocks.new.bay;
-    } in
-    let tells_behind : IsTold (g.B.Bay.disks c.resync.new.bay) = record {
-      held = g.met.B.Bay.held_is_left c.resync.new.bay;
-      whole = g.met.B.Bay.whole c.resync.new.bay;
-      only_now = g.met.B.Bay.only_now c.resync.new.bay;
-      counts = g.met.B.Bay.counts_now c.resync.new.bay;
-      since = g.met.B.Bay.told_since c.resync.new.bay;
-    } in
+    let tells_opened : IsTold (g.B.Bay.disks c.open_blocks.new.bay) = g.met.B.Bay.told c.open_blocks.new.bay in
+    let tells_behind : IsTold (g.B.Bay.disks c.resync.new.bay) = g.met.B.Bay.told c.resync.new.bay in
     let works : HasWorked resyncing g.B.Bay.tells (floor_in c.args.group.now.seats) c.args.plan.now.view opened behind false =
     resync_worked g.B.Bay.tells c.args.plan.now.view opened behind (floor_in c.args.group.now.seats)
     (under g.B.Bay.tells old opened behind c.args.group.now word c.args.plan.now is c.requires.from opens.same_sizes opened.held) false
@@ -455,3 +281,7 @@ returns-in-Err-clause-costs g c = λ steps are.
     let works = resync_costs g.B.Bay.tells c.args.plan.now.view (g.B.Bay.disks c.open_blocks.new.bay) (g.B.Bay.disks c.resync.new.bay) c.resync.ensures.asked c.resync.ensures.sectors c.resync.ensures.idle in
     worked_costs g.B.Bay.tells c.args.group.now c.args.plan.now.changes c.args.timestamp c.args.ready.now c.requires.was c.args.plan.now.marks (resyncing.most_sectors c.args.plan.now.view) steps are c.open_blocks.ensures.costs
     works
+
+pub returns-in-Ok-clause-unfailed : goal.returns-in-Ok-clause-unfailed
+returns-in-Ok-clause-unfailed g c =
+    on_ok_weaker c.close_blocks.result (λ same. same ∙ c.in-Ok.ensures.unfailed ∙ c.in_ok-open_blocks.ensures.unfailed) c.close_blocks.ensures.unfailed

@@ -2,7 +2,7 @@ use Rattle.std.proofs.Common.{◌∙◌, ℕ, Err, refl, subst, sym, arith}
 use Rattle.std.proofs.lemmas.Result.{err_from_is_err_and}
 use Rattle.ddf_bytes.specs.Stamps.{timestamp_of}
 use Rattle.ddf_assembly.specs.Ready.{readied}
-use Rattle.ddf_data_stops.proofs.Floored.{group_floored}
+use Rattle.ddf_stops.proofs.Floored.{group_floored}
 use Rattle.ddf_answer.specs.Call.{work_of}
 use Rattle.ddf_group_commands.proofs.Outcomes.{asked_of, group_read, read_still}
 use Rattle.ddf_write_commands.specs.Resync.{resync_behind, resync_refusals, resync_request, resyncing}
@@ -81,6 +81,7 @@ returns-clause-resynced g c =
           array.keeps told left named by steps
           (asked_of (readied group plan.changes c.timestamp-timestamp.result) steps (sym (steps_are group resync_refusals resync_behind word plan c.timestamp-timestamp.result c.in_ok-plan.ensures (omega arith)) ∙ asked));
       along = λ told left named by. array.along told left named by word c.in_ok-plan.ensures;
+      unfailed = array.unfailed;
       goes = array.goes;
       costs = plan_costs resyncing (work_of g.B.Bay.tells middle new) group resync_refusals resync_behind word plan c.timestamp-timestamp.result c.in_ok-plan.ensures (omega arith)
           (planned group resync_refusals resync_behind word plan c.timestamp-timestamp.result c.in_ok-plan.ensures (omega arith) c.in_ok-ready.ready c.in_ok-ready.ensures.was) array.costs;

@@ -1,4 +1,4 @@
-use Rattle.std.proofs.Common.{◌≡◌, ◌/◌, ◌*◌, ℕ, List, [], length, take, Err, Ok, arith, subst, sym}
+use Rattle.std.proofs.Common.{◌≡◌, ◌∙◌, ◌/◌, ◌*◌, ℕ, List, [], length, take, Err, Ok, arith, subst, sym}
 use Rattle.std.proofs.lemmas.Result.{err_from_is_err_and}
 use Rattle.ddf_config.specs.Seats.{SeatsFit}
 use Rattle.ddf_pieces.specs.declared.fault.PieceFault.{PieceFault}
@@ -8,7 +8,7 @@ use Rattle.ddf_pieces.specs.Writing.{ArePiecesWritten}
 use Rattle.ddf_assembly.specs.Recovery.{config_recovered}
 use Rattle.ddf_data_commands.proofs.ArrayUse.{named_is}
 use Rattle.ddf_write_commands.specs.Write.{write_behind}
-use Rattle.ddf_write_commands.proofs.Courses.{IsTold}
+use Rattle.ddf_bay.specs.Told.{IsTold}
 use Rattle.ddf_write_commands.proofs.PlanWritten.{parity_redundant}
 use Rattle.ddf_write_commands.proofs.PlanKept.{apart_there, fits_there, none_trusted}
 use Rattle.ddf_write_commands.proofs.WriteBlocks.{blocks_cut_off, blocks_done, blocks_failed, blocks_not_opened, blocks_unclosed, can_close, given_all, given_unclosed}
@@ -18,20 +18,8 @@ pub returns-in_err-open_blocks-clause-done : goal.returns-in_err-open_blocks-cla
 returns-in_err-open_blocks-clause-done g c =
     let first = take (512 * piece_of (room_for c.args.count) c.args.count) c.args.room.now in
     let failed = err_from_is_err_and c.from_residual.result c.from_residual.ensures.1 in
-    let tells_old : IsTold (g.B.Bay.disks c.args.bay.now) = record {
-      held = g.met.B.Bay.held_is_left c.args.bay.now;
-      whole = g.met.B.Bay.whole c.args.bay.now;
-      only_now = g.met.B.Bay.only_now c.args.bay.now;
-      counts = g.met.B.Bay.counts_now c.args.bay.now;
-      since = g.met.B.Bay.told_since c.args.bay.now;
-    } in
-    let tells_opened : IsTold (g.B.Bay.disks c.open_blocks.new.bay) = record {
-      held = g.met.B.Bay.held_is_left c.open_blocks.new.bay;
-      whole = g.met.B.Bay.whole c.open_blocks.new.bay;
-      only_now = g.met.B.Bay.only_now c.open_blocks.new.bay;
-      counts = g.met.B.Bay.counts_now c.open_blocks.new.bay;
-      since = g.met.B.Bay.told_since c.open_blocks.new.bay;
-    } in
+    let tells_old : IsTold (g.B.Bay.disks c.args.bay.now) = g.met.B.Bay.told c.args.bay.now in
+    let tells_opened : IsTold (g.B.Bay.disks c.open_blocks.new.bay) = g.met.B.Bay.told c.open_blocks.new.bay in
     rw (failed.1, failed.2)
     ([], blocks_not_opened g.B.Bay.tells (g.B.Bay.disks c.args.bay.now) c.args.group.now c.args.plan.now c.args.timestamp c.args.start c.args.count c.args.ready.now c.requires.from c.requires.was c.requires.planned c.requires.floored g.S.Source.tells (g.S.Source.input c.args.source.now) first (g.B.Bay.disks c.open_blocks.new.bay) c.in_err-open_blocks.field-0.0 c.open_blocks.ensures.costs c.in_err-open_blocks.ensures.failed c.in_err-open_blocks.ensures.beside c.in_err-open_blocks.ensures.keeps c.open_blocks.ensures.leaves tells_old tells_opened)
 
@@ -60,20 +48,8 @@ pub close_blocks-requires : goal.close_blocks-requires
 close_blocks-requires g c =
     let first = take (512 * piece_of (room_for c.args.count) c.args.count) c.args.room.now in
     let opens = c.in_ok-open_blocks.ensures in
-    let tells_opened : IsTold (g.B.Bay.disks c.open_blocks.new.bay) = record {
-      held = g.met.B.Bay.held_is_left c.open_blocks.new.bay;
-      whole = g.met.B.Bay.whole c.open_blocks.new.bay;
-      only_now = g.met.B.Bay.only_now c.open_blocks.new.bay;
-      counts = g.met.B.Bay.counts_now c.open_blocks.new.bay;
-      since = g.met.B.Bay.told_since c.open_blocks.new.bay;
-    } in
-    let tells_behind : IsTold (g.B.Bay.disks c.write_pieces.new.bay) = record {
-      held = g.met.B.Bay.held_is_left c.write_pieces.new.bay;
-      whole = g.met.B.Bay.whole c.write_pieces.new.bay;
-      only_now = g.met.B.Bay.only_now c.write_pieces.new.bay;
-      counts = g.met.B.Bay.counts_now c.write_pieces.new.bay;
-      since = g.met.B.Bay.told_since c.write_pieces.new.bay;
-    } in
+    let tells_opened : IsTold (g.B.Bay.disks c.open_blocks.new.bay) = g.met.B.Bay.told c.open_blocks.new.bay in
+    let tells_behind : IsTold (g.B.Bay.disks c.write_pieces.new.bay) = g.met.B.Bay.told c.write_pieces.new.bay in
     let back = g.met.B.Bay.told_before c.open_blocks.new.bay c.write_pieces.new.bay (c.write_pieces.ensures.goes.goes_on c.write_pieces.new.bay (g.met.B.Bay.leads c.write_pieces.new.bay)) in
     let size : length c.args.room.now / 512 ≡ room_for c.args.count = omega (arith, c.requires.room) in
     let came = subst (λ each. ArePiecesWritten g.B.Bay.tells (g.B.Bay.disks c.open_blocks.new.bay) (g.B.Bay.disks c.write_pieces.new.bay) c.args.plan.now.view c.args.start c.args.count each g.S.Source.tells (g.S.Source.input c.args.source.now) (g.S.Source.input c.write_pieces.new.source) (take (512 * piece_of each c.args.count) c.args.room.now) (Ok c.in-Ok.written)) size c.in-Ok.ensures.done in
@@ -83,28 +59,10 @@ pub returns-in_err-sequence-in-Ok-clause-done : goal.returns-in_err-sequence-in-
 returns-in_err-sequence-in-Ok-clause-done g c =
     let first = take (512 * piece_of (room_for c.args.count) c.args.count) c.args.room.now in
     let opens = c.in_ok-open_blocks.ensures in
-    let tells_opened : IsTold (g.B.Bay.disks c.open_blocks.new.bay) = record {
-      held = g.met.B.Bay.held_is_left c.open_blocks.new.bay;
-      whole = g.met.B.Bay.whole c.open_blocks.new.bay;
-      only_now = g.met.B.Bay.only_now c.open_blocks.new.bay;
-      counts = g.met.B.Bay.counts_now c.open_blocks.new.bay;
-      since = g.met.B.Bay.told_since c.open_blocks.new.bay;
-    } in
-    let tells_behind : IsTold (g.B.Bay.disks c.write_pieces.new.bay) = record {
-      held = g.met.B.Bay.held_is_left c.write_pieces.new.bay;
-      whole = g.met.B.Bay.whole c.write_pieces.new.bay;
-      only_now = g.met.B.Bay.only_now c.write_pieces.new.bay;
-      counts = g.met.B.Bay.counts_now c.write_pieces.new.bay;
-      since = g.met.B.Bay.told_since c.write_pieces.new.bay;
-    } in
+    let tells_opened : IsTold (g.B.Bay.disks c.open_blocks.new.bay) = g.met.B.Bay.told c.open_blocks.new.bay in
+    let tells_behind : IsTold (g.B.Bay.disks c.write_pieces.new.bay) = g.met.B.Bay.told c.write_pieces.new.bay in
     let back = g.met.B.Bay.told_before c.open_blocks.new.bay c.write_pieces.new.bay (c.write_pieces.ensures.goes.goes_on c.write_pieces.new.bay (g.met.B.Bay.leads c.write_pieces.new.bay)) in
-    let tells_new : IsTold (g.B.Bay.disks c.close_blocks.new.bay) = record {
-      held = g.met.B.Bay.held_is_left c.close_blocks.new.bay;
-      whole = g.met.B.Bay.whole c.close_blocks.new.bay;
-      only_now = g.met.B.Bay.only_now c.close_blocks.new.bay;
-      counts = g.met.B.Bay.counts_now c.close_blocks.new.bay;
-      since = g.met.B.Bay.told_since c.close_blocks.new.bay;
-    } in
+    let tells_new : IsTold (g.B.Bay.disks c.close_blocks.new.bay) = g.met.B.Bay.told c.close_blocks.new.bay in
     let size : length c.args.room.now / 512 ≡ room_for c.args.count = omega (arith, c.requires.room) in
     let came = subst (λ each. ArePiecesWritten g.B.Bay.tells (g.B.Bay.disks c.open_blocks.new.bay) (g.B.Bay.disks c.write_pieces.new.bay) c.args.plan.now.view c.args.start c.args.count each g.S.Source.tells (g.S.Source.input c.args.source.now) (g.S.Source.input c.write_pieces.new.source) (take (512 * piece_of each c.args.count) c.args.room.now) (Ok c.in-Ok.written)) size c.in-Ok.ensures.done in
     let failed = err_from_is_err_and c.from_residual-in_err-sequence-in-Ok.result c.from_residual-in_err-sequence-in-Ok.ensures.1 in
@@ -115,28 +73,10 @@ pub returns-in_ok-sequence-in-Ok-clause-done : goal.returns-in_ok-sequence-in-Ok
 returns-in_ok-sequence-in-Ok-clause-done g c =
     let first = take (512 * piece_of (room_for c.args.count) c.args.count) c.args.room.now in
     let opens = c.in_ok-open_blocks.ensures in
-    let tells_opened : IsTold (g.B.Bay.disks c.open_blocks.new.bay) = record {
-      held = g.met.B.Bay.held_is_left c.open_blocks.new.bay;
-      whole = g.met.B.Bay.whole c.open_blocks.new.bay;
-      only_now = g.met.B.Bay.only_now c.open_blocks.new.bay;
-      counts = g.met.B.Bay.counts_now c.open_blocks.new.bay;
-      since = g.met.B.Bay.told_since c.open_blocks.new.bay;
-    } in
-    let tells_behind : IsTold (g.B.Bay.disks c.write_pieces.new.bay) = record {
-      held = g.met.B.Bay.held_is_left c.write_pieces.new.bay;
-      whole = g.met.B.Bay.whole c.write_pieces.new.bay;
-      only_now = g.met.B.Bay.only_now c.write_pieces.new.bay;
-      counts = g.met.B.Bay.counts_now c.write_pieces.new.bay;
-      since = g.met.B.Bay.told_since c.write_pieces.new.bay;
-    } in
+    let tells_opened : IsTold (g.B.Bay.disks c.open_blocks.new.bay) = g.met.B.Bay.told c.open_blocks.new.bay in
+    let tells_behind : IsTold (g.B.Bay.disks c.write_pieces.new.bay) = g.met.B.Bay.told c.write_pieces.new.bay in
     let back = g.met.B.Bay.told_before c.open_blocks.new.bay c.write_pieces.new.bay (c.write_pieces.ensures.goes.goes_on c.write_pieces.new.bay (g.met.B.Bay.leads c.write_pieces.new.bay)) in
-    let tells_new : IsTold (g.B.Bay.disks c.close_blocks.new.bay) = record {
-      held = g.met.B.Bay.held_is_left c.close_blocks.new.bay;
-      whole = g.met.B.Bay.whole c.close_blocks.new.bay;
-      only_now = g.met.B.Bay.only_now c.close_blocks.new.bay;
-      counts = g.met.B.Bay.counts_now c.close_blocks.new.bay;
-      since = g.met.B.Bay.told_since c.close_blocks.new.bay;
-    } in
+    let tells_new : IsTold (g.B.Bay.disks c.close_blocks.new.bay) = g.met.B.Bay.told c.close_blocks.new.bay in
     let size : length c.args.room.now / 512 ≡ room_for c.args.count = omega (arith, c.requires.room) in
     let came = subst (λ each. ArePiecesWritten g.B.Bay.tells (g.B.Bay.disks c.open_blocks.new.bay) (g.B.Bay.disks c.write_pieces.new.bay) c.args.plan.now.view c.args.start c.args.count each g.S.Source.tells (g.S.Source.input c.args.source.now) (g.S.Source.input c.write_pieces.new.source) (take (512 * piece_of each c.args.count) c.args.room.now) (Ok c.in-Ok.written)) size c.in-Ok.ensures.done in
     (came.sectors, blocks_done g.B.Bay.tells (g.B.Bay.disks c.args.bay.now) c.args.group.now c.args.plan.now c.args.timestamp c.args.start c.args.count c.args.ready.now c.requires.from c.requires.was c.requires.planned c.requires.floored g.S.Source.tells (g.S.Source.input c.args.source.now) first (g.B.Bay.disks c.open_blocks.new.bay) c.open_blocks.new.group c.open_blocks.new.ready opens.opened opens.costs opens.left opens.beside opens.leaves opens.goes_on opens.same_sizes opens.reads opens.writes_rise tells_opened (g.B.Bay.disks c.write_pieces.new.bay) tells_behind back c.write_pieces.ensures.goes came.sectors came.are.leave came.is_written (g.B.Bay.disks c.close_blocks.new.bay) tells_new (g.met.B.Bay.told_before c.write_pieces.new.bay c.close_blocks.new.bay (c.close_blocks.ensures.goes_on c.close_blocks.new.bay (g.met.B.Bay.leads c.close_blocks.new.bay))) c.close_blocks.ensures.beside c.close_blocks.ensures.leaves c.close_blocks.ensures.reads c.close_blocks.ensures.costs (g.S.Source.input c.write_pieces.new.source) (record { blocks = c.in-Ok.written; sequence = c.in_ok-sequence-in-Ok.sequence }) c.in_ok-sequence-in-Ok.ensures.closed c.in_ok-sequence-in-Ok.ensures.commits (given_all g.B.Bay.tells (g.B.Bay.disks c.args.bay.now) c.args.group.now c.args.plan.now c.args.timestamp c.args.start c.args.count c.args.ready.now c.requires.from c.requires.was c.requires.planned c.requires.floored g.S.Source.tells (g.S.Source.input c.args.source.now) first (g.B.Bay.disks c.open_blocks.new.bay) c.open_blocks.new.group c.open_blocks.new.ready opens.opened opens.costs opens.left opens.beside opens.leaves opens.goes_on opens.same_sizes opens.reads opens.writes_rise tells_opened (g.B.Bay.disks c.write_pieces.new.bay) tells_behind back c.write_pieces.ensures.goes (g.S.Source.input c.write_pieces.new.source) c.in-Ok.written c.in_ok-sequence-in-Ok.sequence came))
@@ -145,20 +85,8 @@ pub returns-in-Err-Volume-clause-done : goal.returns-in-Err-Volume-clause-done
 returns-in-Err-Volume-clause-done g c =
     let first = take (512 * piece_of (room_for c.args.count) c.args.count) c.args.room.now in
     let opens = c.in_ok-open_blocks.ensures in
-    let tells_opened : IsTold (g.B.Bay.disks c.open_blocks.new.bay) = record {
-      held = g.met.B.Bay.held_is_left c.open_blocks.new.bay;
-      whole = g.met.B.Bay.whole c.open_blocks.new.bay;
-      only_now = g.met.B.Bay.only_now c.open_blocks.new.bay;
-      counts = g.met.B.Bay.counts_now c.open_blocks.new.bay;
-      since = g.met.B.Bay.told_since c.open_blocks.new.bay;
-    } in
-    let tells_behind : IsTold (g.B.Bay.disks c.write_pieces.new.bay) = record {
-      held = g.met.B.Bay.held_is_left c.write_pieces.new.bay;
-      whole = g.met.B.Bay.whole c.write_pieces.new.bay;
-      only_now = g.met.B.Bay.only_now c.write_pieces.new.bay;
-      counts = g.met.B.Bay.counts_now c.write_pieces.new.bay;
-      since = g.met.B.Bay.told_since c.write_pieces.new.bay;
-    } in
+    let tells_opened : IsTold (g.B.Bay.disks c.open_blocks.new.bay) = g.met.B.Bay.told c.open_blocks.new.bay in
+    let tells_behind : IsTold (g.B.Bay.disks c.write_pieces.new.bay) = g.met.B.Bay.told c.write_pieces.new.bay in
     let back = g.met.B.Bay.told_before c.open_blocks.new.bay c.write_pieces.new.bay (c.write_pieces.ensures.goes.goes_on c.write_pieces.new.bay (g.met.B.Bay.leads c.write_pieces.new.bay)) in
     let size : length c.args.room.now / 512 ≡ room_for c.args.count = omega (arith, c.requires.room) in
     let came = subst (λ (fault : PieceFault). ArePiecesWritten g.B.Bay.tells (g.B.Bay.disks c.open_blocks.new.bay) (g.B.Bay.disks c.write_pieces.new.bay) c.args.plan.now.view c.args.start c.args.count (room_for c.args.count) g.S.Source.tells (g.S.Source.input c.args.source.now) (g.S.Source.input c.write_pieces.new.source) first (Err fault)) c.in-Err-Volume.field-0-is
@@ -169,22 +97,13 @@ pub returns-in-Err-Source-clause-done : goal.returns-in-Err-Source-clause-done
 returns-in-Err-Source-clause-done g c =
     let first = take (512 * piece_of (room_for c.args.count) c.args.count) c.args.room.now in
     let opens = c.in_ok-open_blocks.ensures in
-    let tells_opened : IsTold (g.B.Bay.disks c.open_blocks.new.bay) = record {
-      held = g.met.B.Bay.held_is_left c.open_blocks.new.bay;
-      whole = g.met.B.Bay.whole c.open_blocks.new.bay;
-      only_now = g.met.B.Bay.only_now c.open_blocks.new.bay;
-      counts = g.met.B.Bay.counts_now c.open_blocks.new.bay;
-      since = g.met.B.Bay.told_since c.open_blocks.new.bay;
-    } in
-    let tells_behind : IsTold (g.B.Bay.disks c.write_pieces.new.bay) = record {
-      held = g.met.B.Bay.held_is_left c.write_pieces.new.bay;
-      whole = g.met.B.Bay.whole c.write_pieces.new.bay;
-      only_now = g.met.B.Bay.only_now c.write_pieces.new.bay;
-      counts = g.met.B.Bay.counts_now c.write_pieces.new.bay;
-      since = g.met.B.Bay.told_since c.write_pieces.new.bay;
-    } in
+    let tells_opened : IsTold (g.B.Bay.disks c.open_blocks.new.bay) = g.met.B.Bay.told c.open_blocks.new.bay in
+    let tells_behind : IsTold (g.B.Bay.disks c.write_pieces.new.bay) = g.met.B.Bay.told c.write_pieces.new.bay in
     let back = g.met.B.Bay.told_before c.open_blocks.new.bay c.write_pieces.new.bay (c.write_pieces.ensures.goes.goes_on c.write_pieces.new.bay (g.met.B.Bay.leads c.write_pieces.new.bay)) in
     let size : length c.args.room.now / 512 ≡ room_for c.args.count = omega (arith, c.requires.room) in
     let came = subst (λ (fault : PieceFault). ArePiecesWritten g.B.Bay.tells (g.B.Bay.disks c.open_blocks.new.bay) (g.B.Bay.disks c.write_pieces.new.bay) c.args.plan.now.view c.args.start c.args.count (room_for c.args.count) g.S.Source.tells (g.S.Source.input c.args.source.now) (g.S.Source.input c.write_pieces.new.source) first (Err fault)) c.in-Err-Source.field-0-is
     (subst (λ each. ArePiecesWritten g.B.Bay.tells (g.B.Bay.disks c.open_blocks.new.bay) (g.B.Bay.disks c.write_pieces.new.bay) c.args.plan.now.view c.args.start c.args.count each g.S.Source.tells (g.S.Source.input c.args.source.now) (g.S.Source.input c.write_pieces.new.source) (take (512 * piece_of each c.args.count) c.args.room.now) (Err c.in-Err-Source.field-0)) size c.in-Err-Source.ensures.done) in
     blocks_cut_off g.B.Bay.tells (g.B.Bay.disks c.args.bay.now) c.args.group.now c.args.plan.now c.args.timestamp c.args.start c.args.count c.args.ready.now c.requires.from c.requires.was c.requires.planned c.requires.floored g.S.Source.tells (g.S.Source.input c.args.source.now) first (g.B.Bay.disks c.open_blocks.new.bay) c.open_blocks.new.group c.open_blocks.new.ready opens.opened opens.costs opens.left opens.beside opens.leaves opens.goes_on opens.same_sizes opens.reads opens.writes_rise tells_opened (g.B.Bay.disks c.write_pieces.new.bay) tells_behind back c.write_pieces.ensures.goes (g.S.Source.input c.write_pieces.new.source) came
+
+pub returns-in_ok-sequence-in-Ok-clause-unfailed : goal.returns-in_ok-sequence-in-Ok-clause-unfailed
+returns-in_ok-sequence-in-Ok-clause-unfailed g c = c.in_ok-sequence-in-Ok.ensures.unfailed ∙ c.in-Ok.ensures.done.is_written.unfailed ∙ c.in_ok-open_blocks.ensures.unfailed

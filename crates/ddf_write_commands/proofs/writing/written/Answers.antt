@@ -2,7 +2,7 @@ use Rattle.std.proofs.Common.{[], ◌++◌, refl}
 use Rattle.std.proofs.lemmas.Result.{err_from_is_err_and}
 use Rattle.ddf_bytes.specs.Stamps.{timestamp_of}
 use Rattle.ddf_assembly.specs.Ready.{readied}
-use Rattle.ddf_data_stops.proofs.Floored.{group_floored}
+use Rattle.ddf_stops.proofs.Floored.{group_floored}
 use Rattle.ddf_answer.specs.Call.{work_of}
 use Rattle.ddf_group_commands.proofs.Outcomes.{group_read, read_still}
 use Rattle.ddf_write_commands.specs.Payload.{input_of}
@@ -80,4 +80,4 @@ returns-clause-written g c =
     come g.S.Source.tells (g.S.Source.input c.args.source.now) (g.S.Source.input c.read_first.new.source) (g.S.Source.input c.write_array.new.source) c.args.count c.in_ok-room.room.items c.in_ok-room.ensures.read g.B.Bay.tells
     (g.B.Bay.disks c.args.bay.now) (g.B.Bay.disks c.read_group.new.bay) (g.B.Bay.disks c.write_array.new.bay) c.read_group.ensures.reads c.read_group.ensures.reads_rise c.read_group.ensures.writes_rise c.args.named timestamp word c.args.start
     c.in_ok-group.group c.in_ok-group.ensures.read c.in_ok-plan.plan is made c.write_array.ensures.goes c.write_array.ensures.done.0 c.write_array.result
-    (rw (c.timestamp-timestamp.ensures, c.deref_mut.ensures.value) at c.write_array.ensures.done.1)
+    (rw (c.timestamp-timestamp.ensures, c.deref_mut.ensures.value) at c.write_array.ensures.done.1) c.write_array.ensures.unfailed

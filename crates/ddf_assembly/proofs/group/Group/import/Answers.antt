@@ -117,7 +117,7 @@ returns-in_err-write_step-clause-ends g c = λ told seat may.
     one (c.write_step.ensures.any_moment told seat)
     (may_all old mid c.args.join.joining sizes held keeps settled slots seat updates may) in
     rw failed.1 (leaves_since old mid c.args.join.joining sizes held keeps settled new slots seat updates
-    (λ image left. elim (wrote.since mid.moment image (omega arith) (g.met.B.Bay.counts_now c.write_step.new.bay mid.moment image wrote.later left)) [
-      | inl before ↦ inl (g.met.B.Bay.only_now c.sync_seats.new.bay image before)
+    (λ image left. elim (wrote.since mid.moment image (omega arith) ((g.met.B.Bay.told c.write_step.new.bay).counts mid.moment image wrote.later left)) [
+      | inl before ↦ inl ((g.met.B.Bay.told c.sync_seats.new.bay).only_now image before)
       | inr changing ↦ inr changing
     ]))

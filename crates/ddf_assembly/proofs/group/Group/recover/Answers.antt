@@ -127,7 +127,7 @@ returns-in_err-write_recovery-clause-ends g c = λ told seat may.
     c.take_recovery-next.ensures.next (c.write_recovery.ensures.any_moment told seat)
     (may_all old mid c.args.self.now.seats sizes held keeps settled (slots_written next) seat (updates_written next) may) in
     rw failed.1 (leaves_since old mid c.args.self.now.seats sizes held keeps settled new (slots_written next) seat (updates_written next)
-    (λ image left. elim (wrote.since mid.moment image (omega arith) (g.met.B.Bay.counts_now c.write_recovery.new.bay mid.moment image wrote.later left)) [
-      | inl before ↦ inl (g.met.B.Bay.only_now c.sync_seats.new.bay image before)
+    (λ image left. elim (wrote.since mid.moment image (omega arith) ((g.met.B.Bay.told c.write_recovery.new.bay).counts mid.moment image wrote.later left)) [
+      | inl before ↦ inl ((g.met.B.Bay.told c.sync_seats.new.bay).only_now image before)
       | inr changing ↦ inr changing
     ]))

@@ -2,7 +2,7 @@ use Rattle.std.proofs.Common.{◌≡◌, ◌≢◌, ◌≤◌, ◌<◌, ℕ, fal
 use Rattle.std.proofs.Math.ListN.{length-set}
 use Rattle.ddf_bay.proofs.Looks.{reads_start, reads_then}
 use Rattle.ddf_bay.proofs.Steps.{over_start, over_then, over_reads}
-use Rattle.ddf_linux.proofs.Fronts.{remembers_then}
+use Rattle.ddf_bay.proofs.Fronts.{remembers_then}
 use Rattle.ddf_linux.specs.declared.kind.SlotKind.{SlotKind}
 use Rattle.ddf_linux.specs.Kinds.{IsSeenAs, is_unread}
 use Rattle.ddf_linux.proofs.Below.{kind_kept, kinds_more, unread_more, read_more, none_unread, own_first}

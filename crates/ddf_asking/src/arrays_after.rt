@@ -1,0 +1,48 @@
+//! What becomes of arrays.
+use ddf_assembly::Group;
+use ddf_bytes::NoMemory;
+use ddf_config::{Array, Config};
+use ddf_text::group_text;
+
+/// Names each array whose state another configuration alters, as it is then, and each other one that lies on these disks.
+pub fn name_arrays_after<R>(
+    rt: &R,
+    group: &Group,
+    before: &Config,
+    after: &Config,
+    lost: &[u32],
+) -> Result<(), NoMemory>
+where
+    R: Eprint + AllocGlobal,
+{
+    let old = group_text(rt.alloc(), before, group.seats())?;
+    let new = group_text(rt.alloc(), after, group.seats())?;
+    let old_lines = old
+        .as_str()
+        .lines()
+        .filter(|line| line.starts_with("array "));
+    let new_lines = new
+        .as_str()
+        .lines()
+        .filter(|line| line.starts_with("array "));
+    for ((_, array), (was, is)) in before.arrays.iter().zip(old_lines.zip(new_lines)) {
+        if was != is {
+            let _ = eprintln!(rt; "ddf: after that: {is}");
+        } else if lies_on(array, lost) {
+            let _ = eprintln!(rt; "ddf: after that, without a disk of it: {is}");
+        }
+    }
+    Ok(())
+}
+
+/// Whether an array has a position on one of these disks.
+pub fn lies_on(array: &Array, references: &[u32]) -> bool {
+    for element in array.elements.items().iter().flatten() {
+        for position in element.positions.as_slice() {
+            if references.contains(&position.reference) {
+                return true;
+            }
+        }
+    }
+    false
+}

@@ -1,0 +1,5 @@
+mod Views
+mod Cuts
+mod Pieced
+mod Given
+mod Again

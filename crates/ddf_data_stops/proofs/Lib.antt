@@ -1,4 +1,0 @@
-pub mod Above
-pub mod Below
-pub mod Floored
-pub mod Course

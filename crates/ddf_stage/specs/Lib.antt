@@ -1,0 +1,4 @@
+pub mod Gate
+pub mod Desks
+pub mod Laid
+pub mod Staging

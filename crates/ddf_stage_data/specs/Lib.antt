@@ -1,0 +1,3 @@
+pub mod Staged
+pub mod Moments
+pub mod Stops

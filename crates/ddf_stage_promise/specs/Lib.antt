@@ -1,0 +1,9 @@
+pub mod Cells
+pub mod Footing
+pub mod Staged
+pub mod Closing
+pub mod Joining
+pub mod Writing
+pub mod History
+pub mod Rewinding
+pub mod Deleting
