@@ -14,13 +14,13 @@ _ddf_offer_images() {
     done
 }
 
-# The words before --: images, and -- itself.
+# The words before --: images, and -- itself. Given are the current word, how many images stand before it, and how many words.
 _ddf_before() {
     mapfile -t COMPREPLY < <(compgen -f -- "$1")
     # Where nothing begins so, readline looks: it knows a tilde.
     compopt -o filenames -o default 2>/dev/null
     [[ -- != "$1"* || $2 -eq 0 ]] || COMPREPLY+=(--)
-    [[ $2 -gt 0 || $1 != -* ]] || _ddf_offer "--help --version" "$1"
+    [[ $3 -gt 0 || $1 != -* ]] || _ddf_offer "--careful --yes --help --version" "$1"
 }
 
 # The words of a command, given the current word and those from the command to it.
@@ -42,7 +42,7 @@ _ddf_behind() {
 }
 
 _ddf() {
-    local line=${COMP_LINE:0:COMP_POINT} cur="" word cut
+    local line=${COMP_LINE:0:COMP_POINT} cur="" word cut first=1
     local -a given images behind
     # Readline cuts words at @ and colons, so the line is cut here.
     # shellcheck disable=SC2162
@@ -52,11 +52,12 @@ _ddf() {
         cur=${given[-1]}
         unset 'given[-1]'
     fi
-    for word in "${given[@]:1}"; do
+    case ${given[1]-} in --careful | --yes) first=2 ;; esac
+    for word in "${given[@]:first}"; do
         if [[ ${#behind[@]} -gt 0 || $word == -- ]]; then behind+=("$word"); else images+=("$word"); fi
     done
     if [[ ${#behind[@]} -eq 0 ]]; then
-        _ddf_before "$cur" "${#images[@]}"
+        _ddf_before "$cur" "${#images[@]}" $((${#given[@]} - 1))
     elif [[ ${#behind[@]} -eq 1 ]]; then
         _ddf_offer "examine label assemble show read scrub accept resync rebuild write create delete spare fail import batch exercise" "$cur"
     elif [[ ${#behind[@]} -eq 2 && ${behind[1]} == @* ]]; then

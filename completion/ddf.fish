@@ -18,6 +18,11 @@ function __ddf_before
     not contains -- -- (commandline -opc)
 end
 
+# Whether no word stands before this one.
+function __ddf_first
+    test (count (commandline -opc)) -eq 1
+end
+
 # Whether a command is the next word.
 function __ddf_wants_command
     contains -- -- (commandline -opc)
@@ -48,13 +53,15 @@ function __ddf_images
     set -l dashes (contains -i -- -- $given)
     or return
     for image in $given[2..(math $dashes - 1)]
-        contains -- $image (__ddf_behind)
+        contains -- $image --careful --yes (__ddf_behind)
         or echo $image
     end
 end
 
 complete -c ddf -n 'not __ddf_before' -f
 complete -c ddf -n __ddf_before -a --
+complete -c ddf -n __ddf_first -l careful -d 'Do nothing where it would ask'
+complete -c ddf -n __ddf_first -l yes -d 'Ask nothing'
 complete -c ddf -n __ddf_before -l help -d 'Show the words'
 complete -c ddf -n __ddf_before -l version -d 'Show the version'
 

@@ -1,12 +1,13 @@
 #!/bin/sh
-# Labels two fresh images and asks blkid, of util-linux, what they are: members of a DDF group. Skipped where there is no blkid.
+# Labels two fresh images and asks blkid, of util-linux, what they are: members of a DDF group. Where there is no blkid it
+# ends with 77.
 set -eu
 top=$(cd "$(dirname "$0")/.." && pwd)
+# shellcheck disable=SC1091
+. "$top/scripts/lacking.sh"
 PATH=$PATH:/sbin:/usr/sbin
-if ! command -v blkid >/dev/null; then
-    echo "blkid: not here, nothing asked"
-    exit 0
-fi
+command -v blkid >/dev/null || lacks "no blkid"
+all_tried blkid
 
 work=$(mktemp -d)
 trap 'rm -rf "$work"' EXIT

@@ -1,8 +1,10 @@
 #!/bin/sh
-# Tries the completions of bash, zsh and fish, each where the shell is at hand: behind each line below stand the words that are offered.
-# And the commands that each file names are those of --help. Nothing of the program is run.
+# Tries the completions of bash, zsh and fish, where one of them isn't here it ends with 77: behind each line below stand the words that are offered.
+# And the commands that each file names are those of --help. Nothing of the program is run. The words of its tools are tried the same way.
 set -eu
 top=$(cd "$(dirname "$0")/.." && pwd)
+# shellcheck disable=SC1091
+. "$top/scripts/lacking.sh"
 work=$(mktemp -d)
 trap 'rm -rf "$work"' EXIT
 
@@ -12,7 +14,7 @@ fail() {
 }
 
 # The commands that --help lists, one a line.
-sed -n '/^Commands:$/,/^$/s/^  \([a-z][a-z]*\).*/\1/p' "$top/crates/ddf_edge/src/help.rt" | sort -u >"$work/commands"
+sed -n 's/^  \([a-z][a-z]*\) .*/\1/p' "$top/crates/ddf_edge/src/help.rt" | sort -u >"$work/commands"
 over=$(grep -v -x -e examine -e label -e exercise "$work/commands" | tr '\n' ' ')
 all=$(tr '\n' ' ' <"$work/commands")
 for file in ddf.bash _ddf ddf.fish; do
@@ -52,17 +54,39 @@ ddf d0.img d1.img -- write |
 ddf d0.img d1.img -- examine |
 ddf d|d0.img d1.img
 ddf d0.img d1|d1.img
+ddf --c|--careful
+ddf --careful d|d0.img d1.img
+ddf --careful d0.img d1.img -- fail |d0.img d1.img
+ddf --yes d0.img d1.img -- label |d0.img d1.img linux
+ddf-check --|--group --help --quiet --scrub
+ddf-check --q|--quiet
+ddf-check d0.img d1|d1.img
+ddf-save r|restore
+ddf-save restore --|--some --yes
+ddf-save save file d1|d1.img
+ddf-guard c|check
+ddf-guard o|off on
+ddf-try --k|--keep
+ddf-scan --a|--all
+ddf-dmsetup --w|--write
+ddf-json --t|--text
+ddf-json d1|d1.img
 TEXT
 
 cat >"$work/of.bash" <<'TEXT'
 source "$1/completion/ddf.bash"
+source "$1/completion/ddf-tools.bash"
 COMP_LINE=$2 COMP_POINT=${#2} COMPREPLY=()
-_ddf
+read -ra COMP_WORDS <<<"$2"
+[[ $2 != *' ' ]] || COMP_WORDS+=("")
+COMP_CWORD=$((${#COMP_WORDS[@]} - 1))
+if [[ $2 == ddf-* ]]; then _ddf_tools; else _ddf; fi
 printf '%s\n' "${COMPREPLY[@]}"
 TEXT
 
 cat >"$work/of.fish" <<'TEXT'
 source $argv[1]/completion/ddf.fish
+source $argv[1]/completion/ddf-tools.fish
 complete -C $argv[2] | string replace -r '\t.*' ''
 TEXT
 
@@ -102,7 +126,7 @@ mkdir "$work/here"
 touch "$work/here/d0.img" "$work/here/d1.img"
 for shell in bash zsh fish; do
     if ! command -v "$shell" >/dev/null; then
-        echo "completion: no $shell here, so its completion was not tried"
+        lacks "no $shell"
         continue
     fi
     case $shell in
@@ -111,3 +135,4 @@ for shell in bash zsh fish; do
     fish) try_shell fish --no-config "$work/of.fish" ;;
     esac
 done
+all_tried completion

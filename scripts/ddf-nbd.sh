@@ -4,7 +4,7 @@
 #     nbdkit sh ddf-nbd.sh array=NAME IMAGE..
 #
 # IMAGE.. are all disks of the group that are there, files or block devices. An array that is short of disks is served as far as its level allows.
-# Nothing is written to a disk: only `show` and `read` are called. Further words:
+# Nothing is written to a disk: only `show` and `read` are called. tools/ddf-nbd.py does the same faster, where nbdkit has Python. Further words:
 #
 #     image=IMAGE     the same as IMAGE
 #     group=GUID      which group it is, where the disks show several

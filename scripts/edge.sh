@@ -6,6 +6,8 @@
 set -eu
 PATH=$PATH:/sbin:/usr/sbin
 top=$(cd "$(dirname "$0")/.." && pwd)
+# shellcheck disable=SC1091
+. "$top/scripts/lacking.sh"
 work=$(mktemp -d)
 trap 'rm -rf "$work"' EXIT
 "$top/ddf" --version >/dev/null
@@ -79,7 +81,7 @@ ends 2 "refused 10 word 4" "slot 0 is named twice" "./ddf d0.img -- label 0 d0.i
 ends 1 "refused 11 slot 0" "" "./ddf d0.img d1.img -- label d1.img d0.img"
 ends 2 "refused 10 word 1" "there is no --" "./ddf d0.img"
 ends 2 "refused 10 word 4" "it wants a level: raid0" "./ddf d0.img -- create a raid9"
-ends 2 "refused 10 word 4" "read wants more words: the first block" "./ddf d0.img -- read a"
+ends 2 "refused 10 word 4" "read wants more arguments: the first block" "./ddf d0.img -- read a"
 ends 2 "refused 10 word 0" "isn't UTF-8 text" "./ddf \"\$(printf 'a\\377')\" -- examine"
 ends 3 "slot 0 fault" 'a\nb\u{1b}[2J can'"'"'t be opened' "./ddf \"\$(printf 'a\\nb\\033[2J')\" -- examine"
 for word in --help -h help; do
@@ -92,7 +94,7 @@ ends 0 "group" "" "echo show | ./ddf d0.img -- batch"
 ends 1 "refused 10 word 0" "" "echo read a 0 1 | ./ddf d0.img -- batch"
 ends 1 "refused 36 batch over 65536" "" "yes show | head -c 65537 | ./ddf d0.img -- batch"
 ends 1 "refused 12 no group" "" "echo show | ./ddf d1.img -- batch"
-ends 2 "refused 10 word 3" "batch doesn't take the word x: it wants nothing more there" "./ddf d0.img -- batch x"
+ends 2 "refused 10 word 3" "batch doesn't take the argument x: it wants nothing more there" "./ddf d0.img -- batch x"
 ends 3 "" "nothing was done" "echo show | ./ddf d0.img missing.img -- batch"
 ends 6 "" "ddf: standard input failed: no line was run" "./ddf d0.img -- batch <&-"
 ends 6 "" "ddf: the output failed" "echo show | ./ddf d0.img -- batch >&-"
@@ -110,7 +112,7 @@ if $user true 2>/dev/null; then
     ends 3 "disk fault slot 0" "d1.img can't be opened: Permission denied" "$user ./ddf d1.img -- label"
     echo "edge: disks that may not be written are examined and shown, and not labelled"
 else
-    echo "edge: no other user can be asked here, so disks that may not be written were not tried"
+    lacks "disks that may not be written: no other user can be asked"
 fi
 chmod 644 d0.img d1.img
 
@@ -122,10 +124,10 @@ if command -v flock >/dev/null; then
     ends 3 "slot 0 fault" "another program holds a lock on it" "flock d1.img ./ddf d1.img -- examine"
     ends 0 "slot 0 blank" "" "flock -s d1.img ./ddf d1.img -- examine"
     ends 0 "group" "" "flock -s d0.img ./ddf d0.img -- show"
-    ends 1 "refused 12" "another program holds a lock on it" "flock d0.img ./ddf d0.img -- show"
+    ends 3 "" "another program holds a lock on it" "flock d0.img ./ddf d0.img -- show"
     echo "edge: a disk that another program has locked isn't written, and isn't read while that one writes"
 else
-    echo "edge: no flock here, so locked disks were not tried"
+    lacks "locked disks: no flock"
 fi
 
 if loop=$(losetup -r -f --show d1.img 2>/dev/null); then
@@ -136,7 +138,7 @@ if loop=$(losetup -r -f --show d1.img 2>/dev/null); then
     trap 'rm -rf "$work"' EXIT
     echo "edge: a protected device is examined, and not labelled"
 else
-    echo "edge: no loop devices here, so a protected device was not tried"
+    lacks "a protected device: no loop devices"
 fi
 
 mkdir folder
@@ -148,7 +150,7 @@ if mkfs.ext4 -q new.img 2>/dev/null && mount -o loop new.img folder 2>/dev/null;
     trap 'rm -rf "$work"' EXIT
     echo "edge: a mounted device isn't labelled"
 else
-    echo "edge: nothing can be mounted here, so a mounted device was not tried"
+    lacks "a mounted device: nothing can be mounted"
 fi
 
 if command -v strace >/dev/null; then
@@ -158,7 +160,7 @@ if command -v strace >/dev/null; then
     *) fail "no sync of a labelled disk" ;;
     esac
 else
-    echo "edge: no strace here, so syncs were not looked for"
+    lacks "syncs: no strace"
 fi
 
 # Groups of their own, which commands may change.
@@ -196,7 +198,7 @@ for name in 0 1 2; do
     cp "g$name.img" "k$name.img"
 done
 ends 6 "" "may have been done; show tells" "./ddf h0.img h1.img h2.img -- spare 2 global >&-"
-ends 0 "ok sequence" "slot 2 (h2.img) stands in for what the words say now" "./ddf h0.img h1.img h2.img -- spare h2.img global"
+ends 0 "ok sequence" "slot 2 (h2.img) is a spare for all arrays now" "./ddf h0.img h1.img h2.img -- spare h2.img global"
 ends 0 "ok sequence" "slot 2 (h2.img) is out of use now" "./ddf h0.img h1.img h2.img -- fail h2.img"
 printf x | dd of=h1.img bs=1 seek=$((32 * 1024 * 1024 - 400)) conv=notrunc 2>/dev/null
 ends 0 "group" "slot 1 (h1.img) shows no member: the anchor in its last sector is damaged" "./ddf h0.img h1.img h2.img -- assemble"
@@ -233,7 +235,7 @@ sum=$(cksum w0.img w1.img)
 ends 1 "refused 32 short payload 1000" "" "head -c 1000 bytes | ./ddf w0.img w1.img -- write v 0 2"
 ends 1 "refused 26 range 4096" "" "./ddf w0.img w1.img -- write v 4095 2 <bytes"
 for input in "<&-" "<."; do
-    ends 6 "" "standard input failed: nothing was written, or whole pieces of 2048 blocks were; show tells of a mark" "./ddf w0.img w1.img -- write v 0 2 $input"
+    ends 6 "" "standard input failed: nothing was written, or whole pieces of 2048 blocks were; show tells whether the array is marked" "./ddf w0.img w1.img -- write v 0 2 $input"
 done
 [ "$(cksum w0.img w1.img)" = "$sum" ] || fail "an image was written to without the bytes of its blocks"
 ends 0 "ok sequence 9" "" "{ ./ddf w0.img w1.img -- write v 0 1; cat >rest; } <bytes"
@@ -364,7 +366,7 @@ echo "edge: the arrays whose first resync Linux may have left are told, and no o
 # The word linux, and an image of that name.
 rm -f enough.img
 truncate -s 64M ./linux enough.img
-once="label doesn't take the word linux: it wants linux first and once, and a slot's number or image there"
+once="label doesn't take the argument linux: it wants linux first and once, and a slot's number or image there"
 ends 2 "refused 10 word 4" "$once" "./ddf enough.img -- label linux linux"
 ends 2 "refused 10 word 4" "$once" "./ddf enough.img -- label 0 linux"
 taken="ddf: linux is taken for the image of slot 1: with ./linux for that image it makes disks for Linux"
@@ -397,7 +399,7 @@ if command -v script >/dev/null; then
         begun=$(date +%s)
         ends 0 "" "" "script -qec './ddf far0.img far1.img far2.img -- $1' /dev/null"
         if [ $(($(date +%s) - begun)) -ge 3 ]; then
-            case $(cat out) in *"ddf: "*" %, "*" of "*" MiB, "*" MiB/s"*"ok sequence"*) ;; *) fail "$1 told $(cat out)" ;; esac
+            case $(cat out) in *"ddf: "*" %, "*" of "*"iB, "*"iB/s, "*" to go"*"ok sequence"*) ;; *) fail "$1 told $(cat out)" ;; esac
             echo "edge: $1 tells on a terminal how far it is"
         else
             echo "edge: $1 took too short a time to tell how far it was"
@@ -413,10 +415,10 @@ if command -v script >/dev/null; then
         far "rebuild far"
         rm far0.img far1.img far2.img
     else
-        echo "edge: no room here for a command that takes some seconds"
+        lacks "how far a command is: no room for large disks"
     fi
 else
-    echo "edge: no script here, so nothing was asked on a terminal"
+    lacks "terminals: no script"
 fi
 
 # What the system gives too little of: room for the output, a reader of it, descriptors, room in files, chance. Nothing is done that wasn't told, or the line says so.
@@ -440,7 +442,7 @@ ends 0 "group" "" "./ddf q0.img q1.img q2.img -- assemble"
 case $(cat out) in *"sequence 4"*"spare global"*) ;; *) fail "a change that no disk took counts: $(cat out)" ;; esac
 if unshare -m true 2>/dev/null; then
     for command in label "create w jbod 0 single 0@4"; do
-        ends 6 "" "no names can be made without chance" "unshare -m sh -c 'mount --bind /dev/null /dev/urandom && ./ddf q0.img q1.img q2.img -- $command'"
+        ends 6 "" "no names can be made without random numbers" "unshare -m sh -c 'mount --bind /dev/null /dev/urandom && ./ddf q0.img q1.img q2.img -- $command'"
     done
     ends 0 "group" "" "unshare -m sh -c 'mount --bind /dev/null /dev/urandom && ./ddf q0.img q1.img q2.img -- show'"
     echo "edge: names are made by chance alone"
@@ -512,5 +514,6 @@ if command -v flock >/dev/null && strace -o calls -e inject=fsync:delay_enter=1:
     wait "$reader" || fail "a reader ended so: $(cat late)"
     echo "edge: disks are locked as long as a command runs"
 else
-    echo "edge: no flock here, or no strace that delays calls, so the program's own locks were not looked for"
+    lacks "the program's own locks: no flock, or no strace that delays calls"
 fi
+all_tried edge

@@ -1,6 +1,7 @@
 #!/bin/sh
 # Runs the program over disks that fail: a call of it that fails, is interrupted or moves a part alone, a power cut or a kill at any moment of a change, a file system that
-# is full or read only, sectors that can't be read or written, and a disk that grows or shrinks between two commands. What was acknowledged is there behind it.
+# is full or read only, sectors that can't be read or written, and a disk that grows or shrinks between two commands. What was acknowledged
+# is there after it (promise:acknowledged, promise:written).
 #
 #   scripts/faults.sh [STEP]
 #
@@ -8,12 +9,12 @@
 set -eu
 step=${1:-11}
 top=$(cd "$(dirname "$0")/.." && pwd)
+# shellcheck disable=SC1091
+. "$top/scripts/lacking.sh"
 work=$(mktemp -d)
 trap 'rm -rf "$work"' EXIT
-if ! command -v gcc >/dev/null; then
-    echo "faults: no gcc here, so calls that fail were not tried"
-    exit 0
-fi
+command -v gcc >/dev/null || lacks "no gcc"
+all_tried faults
 [ -n "${DDF:-}" ] || "$top/ddf" --version >/dev/null
 cp "${DDF:-$top/crates/ddf/out/ddf}" "$work/ddf"
 gcc -O1 -shared -fPIC -o "$work/faults.so" "$top/scripts/faults.c" -ldl
@@ -21,6 +22,8 @@ cd "$work"
 images="a.img b.img c.img"
 # The group that is named, by `@`, and the group that joins it: none but in an import.
 named='' other=''
+# How many members it has lost.
+lost=0
 
 fail() {
     echo "faults: $*; it printed $(cat out), and said $(cat err)" >&2
@@ -132,12 +135,18 @@ is_whole() {
     1*refused* | 3* | 137*) is_one_of "$now" || fail "sequence $now: $1" ;;
     *) fail "status $status: $1" ;;
     esac
-    ! grep -q missing out || fail "a member is lost: $1"
+    [ "$(grep -c missing out)" = "$lost" ] || fail "a member is lost: $1"
     [ -z "$other" ] || [ "$now" = "$after" ] || ends 0 "ok sequence $after" $images -- $named import "$other"
     are_blocks_right || fail "a block has other bytes than old or new ones: $1"
 }
 
-# Where one call alone fails a member may be lost by it, which raises the number by two, and the command is done without it.
+# A write or a sync failed: the command ends so, and never as if all were sure, since a later sync that is good says nothing of what the failed one dropped.
+is_told() {
+    [ "$status" = 3 ] || fail "status $status: $1"
+    is_whole "$1"
+}
+
+# Where one read alone fails a member may be lost by it, which raises the number by two, and the command is done without it.
 is_whole_or_short() {
     if [ "$status" = 0 ] && [ "$told" = "ok sequence $((after + 2))" ]; then
         [ "$(sequence)" = $((after + 2)) ] || fail "ok was printed, and is gone: $1"
@@ -167,20 +176,28 @@ are_blocks_right() {
 
 # The faults of one command: `after` is the number that it gives, and `numbers` those that a stop may leave.
 try_command() {
-    for kind in read write sync; do
-        each_call $kind fails is_whole_or_short "$@"
+    each_call read fails is_whole_or_short "$@"
+    for kind in write sync; do
+        each_call $kind fails is_told "$@"
     done
     each_call any gone is_whole "$@"
     for how in kill cut-none cut-second; do
         each_call any $how is_whole "$@"
     done
-    each_call write full is_whole "$@"
+    each_call write full is_told "$@"
     for how in interrupted short; do
         each_call read $how is_done "$@"
         each_call write $how is_done "$@"
     done
     each_call sync interrupted is_done "$@"
     try_end "$@"
+}
+
+# Each sync of a command over blocks fails in turn.
+try_syncs() {
+    tried_before=$step step=1
+    each_call sync fails is_told "$@"
+    step=$tried_before
 }
 
 # What a command printed `ok` for is sure when it ends: nothing is lost that no sync made sure.
@@ -266,7 +283,7 @@ try_sizes() {
 try_file_system() {
     mkdir full
     if ! mount -t tmpfs -o size=20k none full 2>/dev/null; then
-        echo "faults: nothing can be mounted here, so a full file system was not tried"
+        lacks "a full file system: nothing can be mounted"
         return
     fi
     trap 'umount "$work/full"; rm -rf "$work"' EXIT
@@ -315,6 +332,17 @@ try_import() {
     try_command "$named" import "$other"
 }
 
+# A disk of a mirror is taken out of use, and the third gets its blocks.
+try_rebuild() {
+    images="a.img b.img c.img" named='' other='' lost=1
+    new_group
+    ends 0 "ok sequence 6" $images -- spare 2 global
+    ends 0 "ok sequence 8" $images -- fail b.img
+    keep
+    after=10 numbers="8 9 10"
+    try_syncs rebuild v
+}
+
 # group_of IMAGE: the GUID of the group that this image shows.
 group_of() {
     ends 0 "slot 0" "$1" -- examine
@@ -331,7 +359,10 @@ after=6 numbers="5 6"
 try_command spare 2 global
 after=7 numbers="5 6 7"
 try_command write v 0 128
+try_syncs resync v
 try_bad_sectors
 try_sizes
 try_file_system
 try_import
+try_rebuild
+all_tried faults

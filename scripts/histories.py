@@ -1,7 +1,8 @@
 #!/usr/bin/env python3
 """Plays random histories of two groups over disks in memory, one of which joins the other by an import: commands that are stopped or meet failing writes, losses and returns of
-disks, stops that keep some of the writes that no sync made sure. Behind each it looks whether what the program promises holds: what was acknowledged is there, the groups are
-assembled, the import has happened or it hasn't, and each block of both groups has its last acknowledged bytes, or the old or new ones of a write that was cut short.
+disks, stops that keep some of the writes that no sync made sure. Behind each it looks whether what the program promises holds: what was acknowledged is there
+(promise:acknowledged), the groups are assembled, the import has happened or it hasn't (promise:joined), and each block of both groups has its last
+acknowledged bytes, or the old or new ones of a write that was cut short (promise:read).
 
     scripts/histories.py [COUNT [SEED]]
 

@@ -1,5 +1,5 @@
 #!/bin/sh
-# Hostile use, whole. Plays each case of the scenarios hostile*.txt and pieces.txt, of which the gate plays a share; refuses the program each of its allocations, one at a time, in each
+# Hostile use, whole. Plays each case of the scenarios in the folders below, of which the gate plays a share; refuses the program each of its allocations, one at a time, in each
 # command; tries each call of scripts/faults.sh; and plays random histories (scripts/histories.py). It says how many cases there were, and how many of them are faults. It
 # takes half an hour. With the word `scenarios-memory` alone it refuses allocations over disks in memory, too, and by `rt try`: that takes another half an hour.
 #
@@ -12,10 +12,13 @@ work=$(mktemp -d)
 trap 'rm -rf "$work"' EXIT
 cd "$work"
 
+# Folders of crates/ddf_rig/data whose scenarios have ranges with steps, and those beside them.
+folders='calls|block-calls|import-calls|bad-bytes|pieces'
+
 # Builds what plays scenarios, where it isn't there.
 rig=${DDF_RIG:-$top/crates/ddf_rig/out/ddf_rig}
 build_rig() {
-    [ -x "$rig" ] || (cd "$top/crates/ddf_rig" && rt run -- data/words.txt) >log 2>&1 || {
+    [ -x "$rig" ] || (cd "$top/crates/ddf_rig" && rt run -- data/how.txt) >log 2>&1 || {
         tail -n 20 log >&2
         exit 1
     }
@@ -33,10 +36,11 @@ build_faults() {
 # Plays the scenarios without the steps of their ranges, so that each value is played.
 try_scenarios() {
     build_rig
+    cp -r "$top/crates/ddf_rig/data" scenarios
+    find scenarios -name '*.txt' -exec sed -i '/^% each /s#\(\.\.[0-9]*\)/[0-9]*#\1#g' {} +
     wrong=0
-    for path in "$top"/crates/ddf_rig/data/hostile*.txt "$top"/crates/ddf_rig/data/pieces.txt; do
-        sed '/^% each /s#\(\.\.[0-9]*\)/[0-9]*#\1#g' "$path" >"$(basename "$path")"
-        "$rig" "$(basename "$path")" || wrong=$((wrong + 1))
+    for path in $(grep -E "^($folders)/" "$top/crates/ddf_rig/args"); do
+        (cd scenarios && "$rig" "$path") || wrong=$((wrong + 1))
     done
     [ "$wrong" = 0 ]
 }

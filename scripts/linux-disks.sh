@@ -2,17 +2,18 @@
 # Runs `examine`, `show` and `assemble` over disks as Linux's mdadm left them, and compares what they print with what an independent
 # reader found; and reads their arrays, whole and without each disk that the level can do without, and compares the checksum of all
 # blocks with the one that Linux found. Linux has resynced these arrays, so `scrub` finds them clean; a copy of one with a byte changed it doesn't.
-# By these commands nothing may be written to an image. Then blocks are written to a copy of each set by `write`, and are read back with all others as they were, whole and
-# without each disk; a second resync of the array finds it as it was. Disks of one of the groups join another one by `import`. An image that `label` made has the standard's checksums. The disks aren't part of
-# this repository: DDF_DISKS names a folder of NAME.tar.xz with the images, and NAME.examine.txt and NAME.assemble.txt with the
-# wanted texts; and DDF_MIDSYNC one with a mirror whose first resync Linux didn't finish. Where there is none, nothing is compared.
+# By these commands nothing may be written to an image (promise:looks). Then blocks are written to a copy of each set by `write`, and are read back with all others as they were, whole and
+# without each disk; a second resync of the array finds it as it was. Disks of one of the groups join another one by `import`. An image that `label` made has the standard's checksums. The disks lie in
+# scripts/linux-disks; DDF_DISKS names another folder of NAME.tar.xz with the images, and NAME.examine.txt and NAME.assemble.txt with
+# the wanted texts. A set without texts is a mirror whose first resync Linux didn't finish.
 set -eu
 top=$(cd "$(dirname "$0")/.." && pwd)
-disks=${DDF_DISKS:-$top/../shared/linux-disks}
-if [ ! -d "$disks" ]; then
-    echo "linux-disks: no disks at hand, nothing compared"
-    exit 0
-fi
+# shellcheck disable=SC1091
+. "$top/scripts/lacking.sh"
+disks=${DDF_DISKS:-$top/scripts/linux-disks}
+[ -d "$disks" ] || lacks "no folder $disks"
+command -v xz >/dev/null || lacks "no xz"
+all_tried linux-disks
 
 fail() {
     echo "linux-disks: $1" >&2
@@ -122,10 +123,10 @@ import_group() {
 
 work=$(mktemp -d)
 trap 'rm -rf "$work"' EXIT
-for archive in "$disks"/*.tar.xz; do
-    name=$(basename "$archive" .tar.xz)
+for text in "$disks"/*.examine.txt; do
+    name=$(basename "$text" .examine.txt)
     mkdir "$work/$name"
-    tar -xJf "$archive" -C "$work/$name"
+    tar -xJf "$disks/$name.tar.xz" -C "$work/$name"
     sha256sum "$work/$name"/*.img >"$work/before"
     "$top/ddf" "$work/$name"/*.img -- examine >"$work/told" 2>"$work/notes" || fail "examine of $name failed"
     diff -u "$disks/$name.examine.txt" "$work/told" || fail "$name differs"
@@ -154,7 +155,7 @@ if [ -f "$disks/r10.tar.xz" ] && [ -f "$disks/r5-ra.tar.xz" ]; then
 fi
 
 # A mirror that Linux left within its first resync: its records call it consistent, and standard error names it.
-archive=${DDF_MIDSYNC:-$top/../shared/linux-midsync}/r1-midsync-quiet.tar.xz
+archive=$disks/r1-midsync-quiet.tar.xz
 if [ -f "$archive" ]; then
     mkdir "$work/midsync"
     tar -xJf "$archive" -C "$work/midsync"

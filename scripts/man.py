@@ -1,149 +1,117 @@
 #!/usr/bin/env python3
-"""Makes the man page man/ddf.8 of man/ddf.8.in, with what docs/RULES.md and docs/COMMANDS.md have in tables.
+"""Makes what stands in several places from one source: docs/refusals.tsv and docs/statuses.tsv.
 
-Refusals, their order, contradictions, the disks that recovery doesn't write and the statuses stand in those tables alone. A line of the page
-that begins with .\\" and @ stands for one of them:
+    man/ddf.8         of man/ddf.8.in, where a line that begins with .\\" and @ stands for the refusals or the statuses
+    docs/REFUSALS.md  between two comments of its own: each refusal, with why and the way out
+    docs/SCRIPTS.md   between two such comments: the statuses
 
-    .\\" @refused COMMAND   the refusals of a command, in their order     .\\" @answers    contradictions, and what to do
-    .\\" @refusals          each refusal by its number, and the way out    .\\" @strays     disks that recovery doesn't write
-    .\\" @statuses          the exit statuses
-
-An entry of a command that --help doesn't list is left out. With --check nothing is made: man/ddf.8 has to be up to date, each command of --help
-has to have its entry, and mandoc and groff, where they are at hand, have to find nothing in it.
+With --check nothing is made: these have to be up to date, --help has to have the statuses' short texts, each command of
+--help has to have its entry in the man page and its heading in docs/COMMANDS.md, each refusal that the program prints
+has to have its row, and mandoc and groff have to find nothing in the page: where one of them isn't here it ends with 77.
 """
+import csv
 import re
 import shutil
 import subprocess
 import sys
 import textwrap
 from pathlib import Path
-from typing import NoReturn
+from typing import NamedTuple, NoReturn
 
 TOP = Path(__file__).resolve().parent.parent
 SOURCE, PAGE = TOP / "man/ddf.8.in", TOP / "man/ddf.8"
-Row = list[str]
+WIDTH = 98
+# a number whose causes go by kinds of disks, and not by the command; the last row stands for all of them
+KINDS = {"39"}
 
 
 def stop(why: str) -> NoReturn:
     sys.exit(f"man: {why}")
 
 
-def table(page: str, heading: str, first: str) -> list[Row]:
-    """The rows of the table under a heading of a page whose first column has this name."""
-    text = (TOP / "docs" / page).read_text(encoding="utf-8")
-    under = re.split(rf"^#+ {re.escape(heading)}$", text, flags=re.MULTILINE)
-    if len(under) != 2:
-        stop(f"{page} has no heading {heading}, or several")
-    part = re.split(r"^#+ ", under[1], flags=re.MULTILINE)[0]
-    found = re.search(rf"^\| {re.escape(first)} \|.*\n\|[-| ]*\|\n((?:\|.*\n)+)", part, re.MULTILINE)
-    if found is None:
-        stop(f"{page} has no table of {first} under {heading}")
-    return [[cell.strip() for cell in line.strip("|").split("|")] for line in found[1].splitlines()]
+class Refusal(NamedTuple):
+    """A row of refusals.tsv: the number, or the line's first word where it has none; the command, or the kind; and texts."""
+
+    number: str
+    case: str
+    words: str
+    why: str
+    way_out: str
 
 
-def plain(text: str) -> str:
-    """A text of a table without links: a page of docs/ is named by its file."""
-    text = re.sub(r"^\[([^]]*)\]\(#[^)]*\)(\.?)$", r"See \1 below\2", text)
-    text = re.sub(r"\[below\]\([^)]*\)", "RULES.md", text)
-    text = re.sub(r"\[([^]]*)\]\(#[^)]*\)", r"\1", text)
-    return re.sub(r"\[(?:docs/)?([^]]*)\]\([^)]*\)", r"\1", text)
+class Status(NamedTuple):
+    """A row of statuses.tsv: the number, what --help calls it, and what it means."""
+
+    number: str
+    short: str
+    meaning: str
 
 
-def words(text: str) -> str:
-    """Plain words as roff takes them, with each sentence on a line of its own."""
-    text = text.replace("\\", "\\e").strip()
-    lines = re.sub(r"([.:]) (?=[A-Z])", r"\1\n", text).split("\n")
-    return "\n".join("\\&" + line if line[:1] in (".", "'") else line for line in lines)
+def rows(name: str) -> list[list[str]]:
+    """The rows of a table of docs/ below its heads."""
+    with (TOP / "docs" / name).open(encoding="utf-8", newline="") as file:
+        return list(csv.reader(file, delimiter="\t", quoting=csv.QUOTE_NONE))[1:]
 
 
-def literal(text: str, behind: str) -> str:
-    """A macro line for a piece of code, with the punctuation that follows it."""
-    parts = ["\\&" + part if re.fullmatch(r"[A-Z][A-Za-z]{1,2}|[.,:;()|?!]", part) else part for part in text.replace("\\", "\\e").split(" ")]
-    return " ".join([".Ql", *parts, *behind])
+def refusals() -> dict[str, list[Refusal]]:
+    """The rows of each number, in the order of the table."""
+    found: dict[str, list[Refusal]] = {}
+    for row in rows("refusals.tsv"):
+        found.setdefault(row[0], []).append(Refusal(*row))
+    return found
+
+
+def statuses() -> list[Status]:
+    return [Status(*row) for row in rows("statuses.tsv")]
+
+
+# ---- the man page
 
 
 def roff(text: str) -> str:
-    """A text of a table in mdoc."""
-    lines: list[str] = []
-    pieces = re.split(r"`([^`]*)`", plain(text))
-    for place, piece in enumerate(pieces):
-        if place % 2:
-            following = pieces[place + 1]
-            behind = re.match(r"[.,:;)]*", following)
-            lines.append(literal(piece, behind[0] if behind else ""))
-            pieces[place + 1] = following[behind.end() if behind else 0 :]
-        elif piece.strip():
-            lines.append(words(piece))
-    return "\n".join(lines)
+    """A text as roff takes it, with each sentence on a line of its own."""
+    lines = re.sub(r"([.:]) (?=[A-Z])", r"\1\n", text.replace("\\", "\\e")).split("\n")
+    return "\n".join("\\&" + line if line[:1] in (".", "'") else line for line in lines)
 
 
-def sentence(text: str) -> str:
-    text = text[:1].upper() + text[1:]
-    return text if text.endswith((".", "!", "?")) else text + "."
-
-
-def entries(heads: list[str], bodies: list[str], width: str = "Ds") -> str:
+def entries(heads: list[str], bodies: list[str], width: str) -> str:
     """A list of mdoc with a head and a body for each entry."""
-    lines = [f".Bl -tag -width {width}"]
+    lines = [f".Bl -tag -width {width} -compact"]
     for head, body in zip(heads, bodies):
         lines += [f".It {head}", body]
     return "\n".join([*lines, ".El"])
 
 
-def refusals() -> str:
-    """The refusals that some command is given, and the way out of each."""
-    given = {"10", "12", "13", *(number for order in orders().values() for number in re.findall(r"\b\d\d\b", order))}
-    rows = [row for row in table("RULES.md", "Refusals", "No.") if row[0] in given]
-    return entries([row[0] for row in rows], [roff(sentence(row[1])) + "\n" + roff(sentence(row[2])) for row in rows], "12")
+def way_for_man(cause: Refusal, is_alone: bool) -> str:
+    case = "else" if cause.case == "any" else cause.case
+    return cause.way_out if is_alone else f"({case}) {cause.way_out}"
 
 
-def orders() -> dict[str, str]:
-    """The refusals of each command, as the table has them."""
-    found = {}
-    for names, order in table("RULES.md", "Refusals", "Command"):
-        for name in re.findall(r"`([a-z]+)[^`]*`", names):
-            found[name] = order
-    return found
+def refusals_for_man() -> str:
+    """Each refusal with its words and the ways out: why it comes stands in REFUSALS.md."""
+    heads, bodies = [], []
+    for number, causes in refusals().items():
+        if number in KINDS:
+            causes = causes[-1:]
+        if number.isdigit():
+            ways = " ".join(way_for_man(cause, len(causes) == 1) for cause in causes)
+            heads.append(number)
+            bodies.append(roff(f"{causes[-1].words}: {ways}"))
+    return entries(heads, bodies, "xx")
 
 
-def refused(command: str) -> str:
-    order = orders().get(command)
-    if order is None:
-        if command != "examine":
-            stop(f"docs/RULES.md has no order of refusals of {command}")
-        return ".Pp\nIt takes no group, and is refused for its words alone."
-    return ".Pp\n" + roff("Refusals of its own, in order: " + sentence(order))
+def statuses_for_man() -> str:
+    found = statuses()
+    return entries([status.number for status in found], [roff(status.meaning) for status in found], "xx")
 
 
-def answers() -> str:
-    rows = [row for row in table("RULES.md", "The answers, and what to do", "Answer") if row[0].startswith(("`conflict", "`split"))]
-    return entries([row[0].replace("`", "") for row in rows], [roff(f"{sentence(row[1])} {sentence(row[2])}") for row in rows])
-
-
-def strays() -> str:
-    rows = table("RULES.md", "Disks that recovery doesn't write", "The disk")
-    lines = [".Bl -bullet"]
-    for row in rows:
-        lines += [".It", roff(f"{sentence('the disk ' + row[0])} {sentence(row[1])} {sentence(row[2])}")]
-    return "\n".join([*lines, ".El"])
-
-
-def statuses() -> str:
-    rows = table("COMMANDS.md", "Statuses", "Status")
-    return entries([row[0] for row in rows], [roff(sentence(row[1])) for row in rows])
-
-
-FILLS = {"refusals": refusals, "answers": answers, "strays": strays, "statuses": statuses}
+FILLS = {"refusals": refusals_for_man, "statuses": statuses_for_man}
 
 
 def filled(line: str) -> str:
     """A line of the source, or what it stands for."""
-    asked = re.fullmatch(r'\.\\" @(\w+)(?: (\w+))?', line)
-    if asked is None:
-        return line
-    if asked[1] == "refused":
-        return refused(asked[2])
-    return FILLS[asked[1]]()
+    asked = re.fullmatch(r'\.\\" @(\w+)', line)
+    return FILLS[asked[1]]() if asked else line
 
 
 def wrapped(lines: list[str]) -> list[str]:
@@ -156,72 +124,149 @@ def wrapped(lines: list[str]) -> list[str]:
     return made
 
 
-def listed(lines: list[str]) -> list[str]:
-    """The lines without the entries of commands that --help doesn't list."""
-    helped = commands_of_help()
-    kept: list[str] = []
-    left_out = False
-    for line in lines:
-        if command := re.match(r"\.It Cm ([a-z]+)", line):
-            left_out = command[1] not in helped
-        left_out = left_out and line != ".El"
-        kept += [] if left_out else [line]
-    return kept
-
-
-def made() -> str:
-    """The whole page. Its first line says what made it."""
-    lines = listed(SOURCE.read_text(encoding="utf-8").splitlines()[1:])
+def man_page() -> str:
+    """The whole man page. Its first line says what made it."""
+    lines = SOURCE.read_text(encoding="utf-8").splitlines()[1:]
     lines = wrapped("\n".join(map(filled, lines)).splitlines())
     return "\n".join(['.\\" Made by scripts/man.py of man/ddf.8.in: change that.', *lines]) + "\n"
 
 
+# ---- the pages
+
+
+def item(text: str) -> str:
+    return textwrap.fill(text, WIDTH, initial_indent="- ", subsequent_indent="  ", break_on_hyphens=False, break_long_words=False)
+
+
+def filled_text(text: str) -> str:
+    return textwrap.fill(text, WIDTH, break_on_hyphens=False, break_long_words=False)
+
+
+def told(cause: Refusal) -> str:
+    return f"{cause.why} **Way out:** {cause.way_out}"
+
+
+def label(cause: Refusal) -> str:
+    """What tells one cause of a number from the others."""
+    if cause.number == "conflict":
+        return f"`{cause.words}`: "
+    if cause.number in KINDS or not cause.case.isalpha():
+        return ""
+    return "Else: " if cause.case == "any" else f"`{cause.case}`: "
+
+
+def refusals_for_page() -> str:
+    """Each refusal with why it comes, and the way out."""
+    lines: list[str] = []
+    for number, causes in refusals().items():
+        lines += [f"### {number} `{causes[-1].words}`" if number.isdigit() else f"### `{number}`", ""]
+        if number == "split":
+            lines += [f"`{causes[0].words}`", ""]
+        if number in KINDS:
+            lines += [filled_text(told(causes[-1]) + " [Each kind of disk](#39-in-full):"), ""]
+            causes = causes[:-1]
+        lines += [item(label(cause) + told(cause)) if len(causes) > 1 else filled_text(told(cause)) for cause in causes]
+        lines.append("")
+    return "\n".join(lines)
+
+
+def statuses_for_page() -> str:
+    return "\n".join(item(f"**{status.number}**, {status.short}. {status.meaning}") for status in statuses()) + "\n"
+
+
+def page_with(name: str, what: str, text: str) -> str:
+    """A page with a text between its two comments."""
+    page = (TOP / "docs" / name).read_text(encoding="utf-8")
+    begin, end = f"<!-- {what}: made by scripts/man.py -->\n", f"<!-- end of {what} -->\n"
+    if page.count(begin) != 1 or page.count(end) != 1:
+        stop(f"docs/{name} has no comments around its {what}")
+    before, behind = page.split(begin)[0], page.split(end)[1]
+    return f"{before}{begin}\n{text}{end}{behind}"
+
+
+def made() -> dict[Path, str]:
+    """Each file with what it should hold."""
+    return {
+        PAGE: man_page(),
+        TOP / "docs/REFUSALS.md": page_with("REFUSALS.md", "refusals", refusals_for_page()),
+        TOP / "docs/SCRIPTS.md": page_with("SCRIPTS.md", "statuses", statuses_for_page() + "\n"),
+    }
+
+
+# ---- the check
+
+
+def help_text() -> str:
+    """What --help prints, as far as the source of the program has it as one text."""
+    return (TOP / "crates/ddf_edge/src/help.rt").read_text(encoding="utf-8")
+
+
 def commands_of_help() -> set[str]:
-    """The commands that --help lists."""
-    text = (TOP / "crates/ddf_edge/src/help.rt").read_text(encoding="utf-8")
-    part = re.search(r"^Commands:\n(.*?)\n\n", text, re.MULTILINE | re.DOTALL)
-    if part is None:
-        stop("--help lists no commands")
-    return set(re.findall(r"^  ([a-z]+)", part[1], re.MULTILINE))
+    """The commands that --help lists: each begins a line that is indented by two spaces."""
+    return set(re.findall(r"^  ([a-z]+)\b", help_text(), re.MULTILINE))
 
 
-def commands_of_page(page: str) -> set[str]:
-    """The commands that have an entry in the page."""
-    part = re.search(r"^\.Sh COMMANDS\n(.*?)^\.Sh ", page, re.MULTILINE | re.DOTALL)
+def commands_of_page() -> set[str]:
+    """The commands that have an entry in the man page."""
+    part = re.search(r"^\.Sh COMMANDS\n(.*?)^\.Sh ", PAGE.read_text(encoding="utf-8"), re.MULTILINE | re.DOTALL)
     return set(re.findall(r"^\.It Cm ([a-z]+)", part[1], re.MULTILINE)) if part else set()
 
 
-def lint(name: str, command: list[str]) -> None:
-    """Has a program read the page; it may find nothing."""
+def commands_of_reference() -> set[str]:
+    """The commands that have a heading in docs/COMMANDS.md."""
+    return set(re.findall(r"^#+ `([a-z]+)`$", (TOP / "docs/COMMANDS.md").read_text(encoding="utf-8"), re.MULTILINE))
+
+
+def numbers_printed() -> set[str]:
+    """The numbers of refusals that the program prints."""
+    sources = [*(TOP / "crates/ddf_text/src").glob("*.rt"), *(TOP / "crates/ddf_batch/src").glob("*.rt")]
+    return {number for path in sources for number in re.findall(r'"refused (\d+) ', path.read_text(encoding="utf-8"))}
+
+
+def lint(name: str, command: list[str]) -> str:
+    """Has a program read the page; it may find nothing. What isn't here, if anything."""
     if shutil.which(command[0]) is None:
-        print(f"man: no {name} here, so it didn't read the page")
-        return
+        return f"no {name}"
     told = subprocess.run(command, capture_output=True, text=True, check=False)
     found = [line for line in (told.stdout * (name == "mandoc") + told.stderr).splitlines() if "outdated mandoc.db" not in line]
     if found:
         stop("\n".join([f"{name} finds in man/ddf.8:", *found]))
     print(f"man: {name} finds nothing in the page")
+    return ""
 
 
-def check(page: str) -> None:
-    if not PAGE.exists() or PAGE.read_text(encoding="utf-8") != page:
-        stop("man/ddf.8 isn't up to date: run scripts/man.py")
-    helped, told = commands_of_help(), commands_of_page(page)
-    if helped != told:
-        stop(f"the page has no entry of {sorted(helped - told)}")
-    print(f"man: the page is up to date, and has an entry for each of {len(told)} commands")
-    lint("mandoc", ["mandoc", "-T", "lint", "-W", "style", str(PAGE)])
-    lint("groff", ["groff", "-ww", "-z", "-mdoc", "-Tutf8", str(PAGE)])
+def check() -> None:
+    for path, text in made().items():
+        if not path.exists() or path.read_text(encoding="utf-8") != text:
+            stop(f"{path.relative_to(TOP)} isn't up to date: run scripts/man.py")
+    helped = commands_of_help()
+    for place, told in (("the man page", commands_of_page()), ("docs/COMMANDS.md", commands_of_reference())):
+        if helped != told:
+            stop(f"{place} and --help differ in {sorted(helped ^ told)}")
+    if numbers_printed() != {number for number in refusals() if number.isdigit()}:
+        stop(f"docs/refusals.tsv and the program differ in {sorted(numbers_printed() ^ set(refusals()))}")
+    ended = " ".join(help_text().split())
+    for status in statuses():
+        if f"{status.number} {status.short}" not in ended:
+            stop(f"--help doesn't call status {status.number} '{status.short}'")
+    print(f"man: the pages are up to date, and have each of {len(helped)} commands and {len(numbers_printed())} refusals")
+    lacking = [
+        lint("mandoc", ["mandoc", "-T", "lint", "-W", "style", str(PAGE)]),
+        lint("groff", ["groff", "-ww", "-z", "-mdoc", "-Tutf8", str(PAGE)]),
+    ]
+    if any(lacking):
+        print("man: not tried: " + ", ".join(filter(None, lacking)))
+        sys.exit(77)
 
 
 def main() -> None:
-    page = made()
     if sys.argv[1:] == ["--check"]:
-        check(page)
+        check()
     elif sys.argv[1:]:
-        stop("words: nothing, or --check")
+        stop("arguments: none, or --check")
     else:
-        PAGE.write_text(page, encoding="utf-8")
+        for path, text in made().items():
+            path.write_text(text, encoding="utf-8")
 
 
 main()

@@ -5,7 +5,7 @@ Behind each change of a group, from its label on, mdadm names the container, the
 and the state of each disk, as was worked out by hand from the changes: of each disk behind the first two, of one of each kind behind the others. Each record of each disk has the CRC that Linux counts, which is counted here, not by
 `ddf`. A disk that a plain `label` makes mdadm doesn't take. The program's standard error says what Linux doesn't take, and no more.
 
-Skipped where there is no mdadm: MDADM names one that stands in no folder of commands. It reads the images as files, so that nothing is
+Where there is no mdadm it ends with 77: MDADM names one that stands in no folder of commands. It reads the images as files, so that nothing is
 assembled, and nothing of the system changes.
 """
 import os
@@ -281,8 +281,8 @@ def refuse_plain():
 
 def main():
     if shutil.which(MDADM) is None:
-        print("mdadm: not here, nothing asked")
-        return
+        print("mdadm: not tried: no mdadm")
+        sys.exit(77)
     with tempfile.TemporaryDirectory() as work:
         os.chdir(work)
         follow_group()

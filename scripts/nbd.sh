@@ -1,14 +1,15 @@
 #!/bin/sh
-# Tries scripts/ddf-nbd.sh where nbdkit and nbdcopy are at hand: of an array of each level what nbdcopy gets equals what `read` gives, whole and
+# Tries scripts/ddf-nbd.sh; where a tool that it takes isn't here it ends with 77. Of an array of each level what nbdcopy gets equals what `read` gives, whole and
 # short of each disk that the level can do without, and short of another one nothing is served. No image is written to. Then the files of an
 # ext4 on an array are read by debugfs, short of a disk, where mke2fs and debugfs are at hand.
 set -eu
 PATH=$PATH:/sbin:/usr/sbin
 top=$(cd "$(dirname "$0")/.." && pwd)
-if ! command -v nbdkit >/dev/null || ! command -v nbdcopy >/dev/null; then
-    echo "nbd: no nbdkit or no nbdcopy here, nothing tried"
-    exit 0
-fi
+# shellcheck disable=SC1091
+. "$top/scripts/lacking.sh"
+command -v nbdkit >/dev/null || lacks "no nbdkit"
+command -v nbdcopy >/dev/null || lacks "no nbdcopy"
+all_tried nbd
 plugin=$top/scripts/ddf-nbd.sh
 work=$(mktemp -d)
 trap 'rm -rf "$work"' EXIT
@@ -147,8 +148,8 @@ serve 'nbdinfo "$uri"' d?.img | grep -q 'is_read_only: true' || fail "it isn't r
 echo "nbd: bytes that are no whole blocks are given, and nothing can be written"
 
 if ! command -v mke2fs >/dev/null || ! command -v debugfs >/dev/null; then
-    echo "nbd: no mke2fs or no debugfs here, so no file system was read"
-    exit 0
+    lacks "a file system: no mke2fs or no debugfs"
+    all_tried nbd
 fi
 
 # Puts a file onto the array `data` of these images.
@@ -192,8 +193,8 @@ done
 echo "nbd: the files of an ext4 on $level are read, whole and short of a disk"
 
 if ! command -v nbdfuse >/dev/null || ! command -v fusermount3 >/dev/null || [ ! -w /dev/fuse ]; then
-    echo "nbd: no nbdfuse or no fusermount3 here, so that file system was not read in place"
-    exit 0
+    lacks "a file system in place: no nbdfuse, no fusermount3 or no /dev/fuse"
+    all_tried nbd
 fi
 rm -rf copied
 mkdir copied mounted
@@ -205,8 +206,8 @@ until [ -e mounted/nbd ]; do
     tries=$((tries + 1))
     [ "$tries" -lt 300 ] || fail "nbdfuse shows nothing"
     if ! kill -0 "$server" 2>/dev/null; then
-        echo "nbd: nbdfuse can't mount here, so that file system was not read in place"
-        exit 0
+        lacks "a file system in place: nbdfuse can't mount here"
+        all_tried nbd
     fi
     sleep 0.1
 done
