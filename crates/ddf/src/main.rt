@@ -4,9 +4,9 @@
 ghost use Rattle.std.specs.Prelude.{◌≤◌};
 
 use ddf_asking::{
-    Person, Risks, complete, consents, is_short, length_of, makes_for_linux, name_away, name_lines,
-    name_lost_on_linux, name_numbers, name_odd, name_risks, name_sizes, name_strays, name_turned,
-    name_unfinished, name_unrebuilt, name_untaken, tell_end, tell_faulted,
+    Person, Risks, consents, made_for_linux, name_away, name_lines, name_lost_on_linux, name_odd,
+    name_risks, name_strays, name_turned, name_unfinished, name_unrebuilt, name_untaken, tell_end,
+    tell_faulted,
 };
 use ddf_batch::serve;
 use ddf_bay::{Bay, FileBay};
@@ -19,11 +19,12 @@ use ddf_edge::{
     name_rest, number_sizes, number_slots, open_disks, reason_of, same_disk, stamp_for,
 };
 use ddf_exercise::exercise_new_disks;
-use ddf_exercise_words::{Asking, asking_of};
 use ddf_heard::Heard;
 use ddf_linux::Turned;
 use ddf_progress::Watched;
 use ddf_refusals::{Ear, HearingSink};
+use ddf_sizes::{complete, is_short, length_of, name_numbers, name_sizes};
+use ddf_words::{Asking, asking_of};
 use std::fs::File;
 use std::io::IsTerminal;
 use std::process::ExitCode;
@@ -139,7 +140,7 @@ where
 {
     let files = open_disks(rt, slot_paths(words), &Command::Show)?;
     check_opened(&files, &Command::Show)?;
-    let mut bay = Turned::new(files, makes_for_linux(&Command::Show));
+    let mut bay = Turned::new(files, made_for_linux(&Command::Show));
     complete(rt, &mut bay, words)?;
     Ok(())
 }
@@ -216,7 +217,7 @@ where
     let stamp = stamp_for(rt, makes_names).map_err(Failure::Chance)?;
     let files = open_disks(rt, paths, &asked.command)?;
     check_opened(&files, &asked.command)?;
-    let mut bay = Turned::new(files, makes_for_linux(&asked.command));
+    let mut bay = Turned::new(files, made_for_linux(&asked.command));
     let risks = name_before(rt, &mut bay, paths, asked, kind, person)?;
     let given = input_of(rt, kind, person)?;
     let length = if person.sees {

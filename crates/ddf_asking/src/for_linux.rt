@@ -6,6 +6,7 @@ use ddf_config::{Array, is_current, slot_of};
 use ddf_edge::OneLine;
 use ddf_linux::Turned;
 use ddf_name::NameText;
+use ddf_update::NewLayout;
 use ddf_words::{Command, Creation, DiskStyle, Wish};
 
 /// The most sectors of a disk that is too small for Linux.
@@ -20,15 +21,15 @@ const MOST_MIRRORS: usize = 3;
 /// The init state of an array that was wholly initialised, in bits 0 and 1.
 const INITIALISED: u8 = 2;
 
-/// Whether a command makes disks for Linux.
-pub fn makes_for_linux(command: &Command) -> bool {
-    matches!(
-        command,
+/// The layout of the disks that a command makes for Linux, if it makes any.
+pub fn made_for_linux(command: &Command) -> Option<NewLayout> {
+    match command {
         Command::Label {
             style: DiskStyle::Linux,
             ..
-        }
-    )
+        } => Some(NewLayout::Small),
+        _ => None,
+    }
 }
 
 /// Names on standard error what a command that is done made for Linux, and Linux doesn't take.

@@ -10,17 +10,12 @@ mod ending;
 mod faulted;
 mod filled;
 mod for_linux;
-mod length;
 mod lines;
 mod losses;
 mod moved;
-mod numbers;
 mod odd;
-mod people;
 mod risks;
 mod sectors;
-mod shape;
-mod short;
 mod silent;
 mod strays;
 mod tables;
@@ -29,14 +24,10 @@ pub use asking::{Person, consents};
 pub use done::tell_end;
 pub use faulted::tell_faulted;
 pub use for_linux::{
-    makes_for_linux, name_lost_on_linux, name_turned, name_unfinished, name_unrebuilt, name_untaken,
+    made_for_linux, name_lost_on_linux, name_turned, name_unfinished, name_unrebuilt, name_untaken,
 };
-pub use length::length_of;
 pub use lines::name_lines;
 pub use losses::name_away;
-pub use numbers::name_numbers;
 pub use odd::name_odd;
-pub use people::name_sizes;
 pub use risks::{Risks, name_risks};
-pub use short::{complete, is_short};
 pub use strays::name_strays;

@@ -4,7 +4,7 @@ use Rattle.std.proofs.lemmas.Bool.{ltb-false}
 use Rattle.std.specs.List.{AllByRecursion}
 use Rattle.ddf_header.specs.declared.geometry.Geometry.{Geometry}
 use Rattle.ddf_header.specs.Geometry.{IsSound}
-use Rattle.ddf_configs.specs.Elements.{CanBeElement}
+use Rattle.ddf_config_records.specs.Elements.{CanBeElement}
 use Rattle.ddf_config.specs.declared.refusal.FullTable.TheVariants.{Disks, Arrays}
 use Rattle.ddf_config.specs.Configuration.{Configuration}
 use Rattle.ddf_copy.specs.Written.{CanBeCopy}

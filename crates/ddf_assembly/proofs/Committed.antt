@@ -27,6 +27,7 @@ use Rattle.ddf_update.specs.declared.prepared.Mode.{Mode}
 use Rattle.ddf_update.specs.declared.prepared.Mode.TheVariants.{Adopt, Change, Found, Move}
 use Rattle.ddf_update.specs.Changes.{MayChangeAll, MayGet, SlotChange}
 use Rattle.ddf_update.specs.Group.{LieOnSlots}
+use Rattle.ddf_update.specs.declared.new_layout.NewLayout.TheVariants.{Small}
 use Rattle.ddf_update.specs.NewCopies.{new_copy}
 use Rattle.ddf_update.specs.Prepared.{IsPrepared, LiesOn}
 use Rattle.ddf_update.specs.Update.{MayAdopt, MayChange, MayMove}
@@ -61,7 +62,7 @@ pub record IsChange {D : Type 0} (disks : BayState D) (disk : Seated) (change : 
 
 -- a change for places where there is no disk
 no_copy : DiskCopy
-no_copy = new_copy R200 (record { seconds = 0; salt = 0 }) [] 0
+no_copy = new_copy Small R200 (record { seconds = 0; salt = 0 }) [] 0
 
 pub no_change : SlotChange
 no_change = record { mode = Change; anchor = anchor_header no_copy; last = Secondary; old = no_copy; new = no_copy }

@@ -28,7 +28,7 @@ use Rattle.ddf_plan.specs.declared.change.Change.{Change}
 use Rattle.ddf_plan.specs.declared.change.Change.TheVariants.{Create, Delete, Spare, Begin}
 use Rattle.ddf_plan.specs.Refusals.{not_current, refuse_first}
 use Rattle.ddf_plan.specs.Create.{created}
-use Rattle.ddf_plan.specs.CreateRefusal.{create_causes, has_more, has_named, is_no_shape, is_spare_disk, names_twice, passes_most, references}
+use Rattle.ddf_plan.specs.CreateRefusal.{create_causes, has_more, is_taken, is_no_shape, is_spare_disk, names_twice, passes_most, references}
 use Rattle.ddf_plan.specs.Spare.{holds_extent, lacks_array, use_in_order}
 use Rattle.ddf_plan.specs.Causes.{causes}
 use Rattle.ddf_plan.specs.Members.{members_after, use_after}
@@ -75,7 +75,7 @@ create_allowed bound config seats guid array h =
     let shape = not_refused (passes_most (Some bound) array || is_no_shape array) Shape
     (all_pass
     (not_current config seats (references array)
-    ∷ refuse_if (has_named config array.name) NameTaken
+    ∷ refuse_if (is_taken config array.name) NameTaken
     ∷ unserved_level array
     ∷ [])
     (refuse_if (passes_most (Some bound) array || is_no_shape array) Shape)
@@ -90,7 +90,7 @@ create_allowed bound config seats guid array h =
       new = is_new (lookup (same_guid guid) config.arrays) (Clash guid)
           (all_pass
           (not_current config seats (references array)
-          ∷ refuse_if (has_named config array.name) NameTaken
+          ∷ refuse_if (is_taken config array.name) NameTaken
           ∷ unserved_level array
           ∷ refuse_if (passes_most (Some bound) array || is_no_shape array) Shape
           ∷ [])

@@ -18,7 +18,7 @@ use Rattle.ddf_secondary.specs.declared.level.SecondaryLevel.{SecondaryLevel}
 use Rattle.ddf_secondary.specs.declared.fault.TiersFault.{TiersFault}
 use Rattle.ddf_secondary.specs.declared.fault.TiersFault.TheVariants.{Level, Count, Mixed}
 use Rattle.ddf_secondary.specs.Arrangement.{Arrangement, served_level, takes_units, takes_count, tiers_of}
-use Rattle.ddf_configs.specs.Elements.{has_no_strip}
+use Rattle.ddf_config_records.specs.Elements.{has_no_strip}
 use Rattle.ddf_config.specs.declared.member.Member.{Member}
 use Rattle.ddf_config.specs.declared.element.Position.{Position}
 use Rattle.ddf_config.specs.declared.array.Array.{Array}

@@ -12,7 +12,7 @@ use Rattle.std.specs.Prelude.{option_map}
 use Rattle.ddf_bytes.proofs.Nones.{none_first, none_map}
 use Rattle.ddf_tables.specs.declared.disks.DiskEntry.{DiskEntry}
 use Rattle.ddf_view.specs.View.{View, entry_in, is_missing, lists_current}
-use Rattle.ddf_view.specs.Differ.{difference, differing_arrays, differing_disks, differing_elements, disk_differs, element_difference, key_cmp, least, numbered_disk, same_disk}
+use Rattle.ddf_view.specs.Differ.{difference, differing_arrays, differing_disks, differing_elements, disk_differs, element_difference, key_cmp, least, numbered_disk, same_disk, told_kind}
 use Rattle.ddf_view.specs.declared.difference.Difference.TheVariants as differences
 use Rattle.ddf_view.proofs.Finds.{when_false, when_true}
 use Rattle.ddf_view.proofs.Tests.{and_five, bytes_same, same_bytes}
@@ -113,7 +113,7 @@ same_of : (found : Option (ℕ × DiskEntry)) (pair : ℕ × DiskEntry) → not 
     → (one : ℕ × DiskEntry) × (found ≡ Some one) × (one.1.guid ≡ pair.1.guid) × (one.1.state.0 ≡ pair.1.state.0)
 same_of None pair h = absurd cc
 same_of (Some one) pair h =
-    let parts = and_five (eqb one.0 pair.0) (bytes_eq one.1.guid pair.1.guid) (eqb one.1.kind.0 pair.1.kind.0) (eqb one.1.state.0 pair.1.state.0) (eqb one.1.size pair.1.size) (not-false (same_disk one pair) h) in
+    let parts = and_five (eqb one.0 pair.0) (bytes_eq one.1.guid pair.1.guid) (eqb (told_kind one.1) (told_kind pair.1)) (eqb one.1.state.0 pair.1.state.0) (eqb one.1.size pair.1.size) (not-false (same_disk one pair) h) in
     (one, refl, same_bytes one.1.guid pair.1.guid parts.1, eqb-true one.1.state.0 pair.1.state.0 parts.3)
 
 -- The first of two views that don't differ lists a disk as a current member where the second does, of whose disks no two have one reference.

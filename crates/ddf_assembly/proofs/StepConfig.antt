@@ -19,7 +19,7 @@ use Rattle.ddf_plan.specs.declared.change.Change.{Change}
 use Rattle.ddf_plan.specs.declared.change.Change.TheVariants.{Create}
 use Rattle.ddf_plan.specs.Refusals.{greatest_sequence, not_current, refuse_first, spent}
 use Rattle.ddf_plan.specs.Create.{element_strip}
-use Rattle.ddf_plan.specs.CreateRefusal.{has_named, is_no_shape, is_spare_disk, no_extent, passes_most, references}
+use Rattle.ddf_plan.specs.CreateRefusal.{is_taken, is_no_shape, is_spare_disk, no_extent, passes_most, references}
 use Rattle.ddf_plan.specs.Causes.{causes, causes_of, refusal_of, steps_of}
 use Rattle.ddf_plan.specs.Changes.{after, after_by, changed_at}
 use Rattle.ddf_plan.specs.Floors.{extent_refusal, extents_refusal, lacks_extent}
@@ -113,7 +113,7 @@ module _ (config : Configuration) (seats : List Seat) where
   free_without_bound bound (Create guid array) unrefused =
       without_bound
       (not_current config seats (references array)
-      ∷ refuse_if (has_named config array.name) NameTaken
+      ∷ refuse_if (is_taken config array.name) NameTaken
       ∷ unserved_level array
       ∷ [])
       (passes_most (Some bound) array) (is_no_shape array) Shape

@@ -8,7 +8,7 @@ use Rattle.ddf_tables.specs.declared.arrays.ArrayRow.{ArrayRow}
 use Rattle.ddf_tables.specs.declared.arrays.ArrayRow.TheVariants as array_rows
 use Rattle.ddf_tables.specs.declared.disks.DiskRow.{DiskRow}
 use Rattle.ddf_tables.specs.declared.disks.DiskRow.TheVariants as disk_rows
-use Rattle.ddf_configs.specs.declared.slot.RecordSlot.{RecordSlot}
+use Rattle.ddf_config_records.specs.declared.slot.RecordSlot.{RecordSlot}
 use Rattle.ddf_config.specs.declared.refusal.FullTable.{FullTable}
 use Rattle.ddf_config.specs.declared.refusal.Refusal.{Refusal}
 use Rattle.ddf_config.specs.declared.refusal.Refusal.TheVariants.{Full, NoGroup}

@@ -15,7 +15,7 @@ use crate::steps::{Step, make_step};
 use crate::told::{both_rows, put_arrays, put_records, telling_copy};
 use ddf_bytes::NoMemory;
 use ddf_config::{Config, Refusal};
-use ddf_configs::RecordSlot;
+use ddf_config_records::RecordSlot;
 use ddf_copy::DiskCopy;
 use ddf_tables::{ArrayRow, DiskRow};
 use ddf_view::View;

@@ -13,7 +13,7 @@ use crate::ready::disks_of;
 use crate::seated::Disk;
 use ddf_bytes::NoMemory;
 use ddf_config::{Array, Config, Member, Seat};
-use ddf_configs::{Element, RecordSlot};
+use ddf_config_records::{Element, RecordSlot};
 use ddf_copy::{DiskCopy, Newest};
 use ddf_group::{Slots, shows_untaken};
 use ddf_view::{View, element_of, shows};

@@ -9,7 +9,7 @@ ghost use Rattle.ddf_assembly.specs.Telling.{Tells, array_rows_told, disk_rows_t
 use crate::seated::{Disk, views_in};
 use ddf_bytes::{Guid, NoMemory, Seq};
 use ddf_config::{Array, Config};
-use ddf_configs::{Element, RecordSlot};
+use ddf_config_records::{Element, RecordSlot};
 use ddf_copy::DiskCopy;
 use ddf_tables::{ArrayEntry, ArrayRow, ArrayTable, DiskRow, DiskTable};
 use ddf_view::{disk_rows, element_of};

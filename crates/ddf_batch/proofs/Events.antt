@@ -15,8 +15,8 @@ use Rattle.ddf_history.specs.Issued.{Past}
 use Rattle.ddf_history.specs.Promise.{IsKept}
 use Rattle.ddf_history.specs.Reading.{Scene}
 use Rattle.ddf_history.specs.Scenes.{scene_of}
-use Rattle.ddf_stops.specs.Going.{Ends, Goes, IsOver, changes_in}
-use Rattle.ddf_stops.specs.Kept.{AreAllKept, is_read}
+use Rattle.ddf_history_steps.specs.Going.{Ends, Goes, IsOver, changes_in}
+use Rattle.ddf_history_steps.specs.Kept.{AreAllKept, is_read}
 use Rattle.ddf_words.specs.Traits.{traits_of}
 use Rattle.ddf_words.specs.Words.{Word}
 use Rattle.ddf_words.specs.declared.command.Command.{Command}
@@ -31,7 +31,7 @@ use Rattle.ddf_group_commands.specs.Assemble.{IsTold}
 use Rattle.ddf_group_commands.specs.Change.{IsToldChange, is_done}
 use Rattle.ddf_command.specs.History.{GroupCall, IsCall, IsCut, IsEnd, IsOther, Leaves, OtherCall, kept_by, past_at}
 use Rattle.ddf_command.specs.Run.{IsCommandDone}
-use Rattle.ddf_batch_words.specs.Lines.{is_for_lines}
+use Rattle.ddf_words.specs.Lines.{is_for_lines}
 use Rattle.ddf_batch.specs.Batch.{AreLinesRun, Going, goes_on, point}
 use Rattle.ddf_batch.specs.History.{AreCallsOf, Behind, IsLineOf, LineJoined, LineTook, is_join}
 use Rattle.ddf_batch.specs.Line.{Point, no_input}

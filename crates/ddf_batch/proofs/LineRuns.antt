@@ -21,7 +21,7 @@ use Rattle.ddf_answer.specs.Ends.{Ends, HasCause}
 use Rattle.ddf_answer.proofs.Causes.{IsFaultless, fault_by, slot_by, stream_by, words_by}
 use Rattle.ddf_answer.specs.Tells.{EndsWith}
 use Rattle.ddf_command.specs.Run.{IsCommandDone}
-use Rattle.ddf_batch_words.specs.Lines.{AsksFor, IsLine, is_for_lines}
+use Rattle.ddf_words.specs.Lines.{AsksFor, IsLine, is_for_lines}
 use Rattle.ddf_batch.specs.Line.{IsLineRun, Point, no_input}
 use Rattle.ddf_command.proofs.Endings.{done_nothing}
 

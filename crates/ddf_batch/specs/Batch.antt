@@ -8,9 +8,9 @@ use Rattle.ddf_bay.specs.State.{BayState}
 use Rattle.ddf_words.specs.Words.{Word}
 use Rattle.ddf_answer.specs.Call.{answer_of}
 use Rattle.ddf_answer.specs.Tells.{ClosesWith}
-use Rattle.ddf_batch_words.specs.Input.{IsRead, IsUnread}
-use Rattle.ddf_batch_words.specs.declared.input.BatchFault.TheVariants.{Failed, Long, Memory}
-use Rattle.ddf_batch_words.specs.Lines.{AreLines, numbered, parts_of}
+use Rattle.ddf_words.specs.Input.{IsRead, IsUnread}
+use Rattle.ddf_words.specs.declared.batch_input.BatchFault.TheVariants.{Failed, Long, Memory}
+use Rattle.ddf_words.specs.Lines.{AreLines, numbered, parts_of}
 use Rattle.ddf_batch.specs.Line.{IsLineRun, Point}
 
 abbrev pub point : {B : Type 0} → B → SinkState → Point B

@@ -8,7 +8,7 @@ use Rattle.ddf_assembly.specs.Group.{GroupValue, group_of}
 use Rattle.ddf_assembly.specs.Steps.{Step}
 use Rattle.ddf_history.specs.Groups.{groups}
 use Rattle.ddf_history.specs.History.{Moment}
-use Rattle.ddf_stops.specs.Going.{IsAdmitted}
+use Rattle.ddf_history_steps.specs.Going.{IsAdmitted}
 use Rattle.ddf_words.specs.Words.{Word}
 use Rattle.ddf_words.specs.declared.command.Command.{Command}
 use Rattle.ddf_words.specs.declared.command.Command.TheVariants.{Change, Import, Rebuild, Resync}

@@ -15,7 +15,7 @@ use Rattle.ddf_answer.specs.Ends.{SomeSlotRose, is_unwritten}
 use Rattle.ddf_answer.specs.Tells.{EndsWith}
 use Rattle.ddf_write_commands.specs.Payload.{Input, input_of}
 use Rattle.ddf_command.specs.Run.{IsCommandDone}
-use Rattle.ddf_batch_words.specs.Lines.{AsksFor, IsLine}
+use Rattle.ddf_words.specs.Lines.{AsksFor, IsLine}
 
 -- The commands of lines take no bytes from the input.
 abbrev pub no_input : Input

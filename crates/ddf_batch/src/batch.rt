@@ -3,14 +3,14 @@ ghost use Rattle.std.specs.Prelude.{◌≡◌, ◌||◌, IsTrue, false, nat_lt};
 ghost use Rattle.std.specs.List.{slice_split};
 ghost use Rattle.ddf_bay.specs.Moments.{GoesOn};
 ghost use Rattle.ddf_words.specs.Words.{words_of};
-ghost use Rattle.ddf_batch_words.specs.Lines.{is_end};
+ghost use Rattle.ddf_words.specs.Lines.{is_end};
 ghost use Rattle.ddf_batch.specs.Batch.{AreLinesRun, IsBatchRun, is_batch_status, point};
 
 use crate::line::run_text;
 use ddf_answer::{Status, tell};
-use ddf_batch_words::{BatchFault, as_text, make_text, read_batch};
 use ddf_bay::Bay;
 use ddf_bytes::{Guid, Sink, Source, Stamp};
+use ddf_words::{BatchFault, as_text, make_text, read_batch};
 use std::alloc::Global;
 
 /// Reads the whole input, and runs its lines.

@@ -5,16 +5,16 @@ ghost use Rattle.ddf_answer.specs.Ends.{Ends};
 ghost use Rattle.ddf_answer.specs.Status.{code_of};
 ghost use Rattle.ddf_words.specs.Commands.{FitsCommand};
 ghost use Rattle.ddf_words.specs.Traits.{traits_of};
-ghost use Rattle.ddf_batch_words.specs.Lines.{is_for_lines};
+ghost use Rattle.ddf_words.specs.Lines.{is_for_lines};
 ghost use Rattle.ddf_command.specs.Run.{IsCommandDone};
 ghost use Rattle.ddf_batch.specs.Line.{no_input};
 
 use ddf_answer::Status;
 use ddf_bay::Bay;
 use ddf_bytes::{Sink, Stamp};
-use ddf_data_commands::scrub_disks;
 use ddf_group_commands::{assemble_disks, change, show};
 use ddf_import_command::import;
+use ddf_read_commands::scrub_disks;
 use ddf_rebuild_command::rebuild;
 use ddf_words::{Asked, Command};
 use ddf_write_commands::resync_disks;

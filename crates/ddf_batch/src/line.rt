@@ -1,16 +1,15 @@
 //! One line of a batch.
 ghost use Rattle.ddf_words.specs.Words.{words_of};
-ghost use Rattle.ddf_batch_words.specs.Lines.{numbered, parts_of};
+ghost use Rattle.ddf_words.specs.Lines.{numbered, parts_of};
 ghost use Rattle.ddf_batch.specs.Line.{IsLineRun};
 ghost use Rattle.ddf_batch.specs.Batch.{point};
 
 use crate::dispatch::run_line;
 use ddf_answer::Status;
-use ddf_batch_words::{line_command, line_words};
 use ddf_bay::Bay;
 use ddf_bytes::{Guid, NoMemory, Sink, Stamp};
 use ddf_command::refuse_words;
-use ddf_words::{Asked, WordFault};
+use ddf_words::{Asked, WordFault, line_command, line_words};
 use std::alloc::Global;
 
 /// Runs a line over the group of its batch, and answers its status. The paths of the images stand for their slots.

@@ -14,15 +14,15 @@ ghost use Rattle.ddf_words.specs.Traits.{traits_of};
 ghost use Rattle.ddf_words.specs.Words.{words_of, images_of, slot_count, GoWrongAt, IsAsked};
 ghost use Rattle.ddf_write_commands.specs.Payload.{input_of};
 ghost use Rattle.ddf_command.specs.Run.{AsksForNoWrite, IsDone, TakesInput, TakesNoInput, is_status};
-ghost use Rattle.ddf_batch_words.specs.Batch.{AsksForBatch, IsBatch, IsServed};
+ghost use Rattle.ddf_words.specs.Batch.{AsksForBatch, IsBatch, IsServed};
 ghost use Rattle.ddf_batch.specs.Batch.{IsBatchRun, point};
 
 use crate::batch::batch;
 use ddf_answer::Status;
-use ddf_batch_words::{Order, order_of};
 use ddf_bay::Bay;
 use ddf_bytes::{NoMemory, Sink, Source, Stamp};
 use ddf_command::{image_paths, refuse_words};
+use ddf_words::{Order, order_of};
 use std::alloc::Global;
 
 /// Does what the words ask for, over the bay of the images that they name, and answers the exit status, as `ddf_command`'s `run` does, and runs a batch

@@ -54,6 +54,7 @@ looks_then slot failed so_far next =
       same_sizes = next.same_sizes ∙ so_far.same_sizes;
       rose = λ is. rw (reads, writes, so_far.same_sizes) at (next.rose is);
       same = λ is. ((next.same is).0 ∙ reads, (next.same is).1 ∙ writes);
+      unsynced = λ some. next.unsynced (rw so_far.same_sizes some) ∙ writes;
     }
 
 -- a look that failed is a call on the slot that did
@@ -63,7 +64,7 @@ look_rose old new slot (inr writes) = inr writes.1
 
 -- before the first slot
 pub none_failed : {D : Type 0} (old now : BayState D) → AreFailed old now []
-none_failed old now = record { rose = λ s lt. absurd (omega (arith, lt)); same = λ s lt. absurd (omega (arith, lt)) }
+none_failed old now = record { rose = λ s lt. absurd (omega (arith, lt)); same = λ s lt. absurd (omega (arith, lt)); unsynced = λ s lt. absurd (omega (arith, lt)) }
 
 -- ---- the slots that failed
 
@@ -89,6 +90,9 @@ module _ {D : Type 0} (old now next : BayState D) (fs : List Bool) (b : Bool) (s
   here_same : b ≡ false → SlotSame old next (length fs)
   here_same good = let same = later (length fs) (omega arith) in ((look.same good).0 ∙ same.0, (look.same good).1 ∙ same.1)
 
+  here_unsynced : 0 < slice_index old.sizes (length fs) → next.failed_writes (length fs) ≡ old.failed_writes (length fs)
+  here_unsynced some = look.unsynced (rw same_sizes some) ∙ (later (length fs) (omega arith)).1
+
   earlier : (s : ℕ) → s < length fs → get_or (fs ++ b ∷ []) s false ≡ get_or fs s false
   earlier s lt = get_or_append_left fs (b ∷ []) false s lt
 
@@ -108,6 +112,10 @@ module _ {D : Type 0} (old now next : BayState D) (fs : List Bool) (b : Bool) (s
         (λ before. same_on s (λ e. omega (arith, e, before)) (so_far.same s before (sym (earlier s before) ∙ h)))
         (λ from. let e : s ≡ length fs = omega (arith, one_longer) in rw e (here_same (sym here ∙ (rw e at h))))
         (cases_lt s (length fs));
+    unsynced = λ s lt some. ⊎_elim
+        (λ before. (still s (λ e. omega (arith, e, before))).1 ∙ so_far.unsynced s before some)
+        (λ from. let e : s ≡ length fs = omega (arith, one_longer) in rw e (here_unsynced (rw e at some)))
+        (cases_lt s (length fs));
   }
 
   pub later_more : (s : ℕ) → length fs + 1 ≤ s → SlotSame old next s
@@ -124,6 +132,10 @@ failed_padded old now fs count so_far later = record {
   same = λ s lt h. ⊎_elim
       (λ before. so_far.same s before (sym (get_or_append_left fs (replicate count false) false s before) ∙ h))
       (λ from. later s from)
+      (cases_lt s (length fs));
+  unsynced = λ s lt some. ⊎_elim
+      (λ before. so_far.unsynced s before some)
+      (λ from. (later s from).1)
       (cases_lt s (length fs));
 }
   where

@@ -33,15 +33,17 @@ abbrev pub LookFailed : {D : Type 0} (old new : BayState D) → (slot : ℕ) →
 LookFailed old new slot = Rose (old.failed_reads slot) (new.failed_reads slot)
     ⊎ ((slice_index old.sizes slot ≡ 0) × Rose (old.failed_writes slot) (new.failed_writes slot))
 
--- The calls of a look at one slot failed, or none of them did.
+-- The calls of a look at one slot failed, or none of them did. A slot that has a sector isn't synced.
 pub record LooksAt {D : Type 0} (old new : BayState D) (slot : ℕ) (failed : Bool) : Type 0 where
   pub reads : FaultsOn (λ disks. disks.failed_reads) old new slot
   pub writes : FaultsOn (λ disks. disks.failed_writes) old new slot
   pub same_sizes : new.sizes ≡ old.sizes
   pub rose : failed ≡ true → LookFailed old new slot
   pub same : failed ≡ false → SlotSame old new slot
+  pub unsynced : 0 < slice_index old.sizes slot → new.failed_writes slot ≡ old.failed_writes slot
 
--- Of the first slots, so many, it is told whether a look at them failed.
+-- Of the first slots, so many, it is told whether a look at them failed. Of one that has a sector no sync did.
 pub record AreFailed {D : Type 0} (old new : BayState D) (failed : List Bool) : Type 0 where
   pub rose : (s : ℕ) → s < length failed → IsTrue (slice_index_or failed s false) → LookFailed old new s
   pub same : (s : ℕ) → s < length failed → slice_index_or failed s false ≡ false → SlotSame old new s
+  pub unsynced : (s : ℕ) → s < length failed → 0 < slice_index old.sizes s → new.failed_writes s ≡ old.failed_writes s

@@ -21,8 +21,8 @@ use Rattle.ddf_array.specs.Levels.{is_on_every}
 use Rattle.ddf_array.specs.Places.{site_at, site_on}
 use Rattle.ddf_array.specs.Rows.{block_at}
 use Rattle.ddf_array.specs.Volume.{Volume, IsVolume, capacity}
-use Rattle.ddf_volume.specs.Along.{CellsLieAlong, LieAlong, further}
-use Rattle.ddf_volume.proofs.SourcesAlong.{site_further}
+use Rattle.ddf_read.specs.Along.{CellsLieAlong, LieAlong, further}
+use Rattle.ddf_read.proofs.SourcesAlong.{site_further}
 use Rattle.ddf_cells.specs.CellsOn.{cell_by, cell_of, cell_on}
 use Rattle.ddf_cells.proofs.CopiesOn.{block_at_sits, sits_block_at}
 use Rattle.ddf_cells.proofs.OnCells.{Sits, spot_of}

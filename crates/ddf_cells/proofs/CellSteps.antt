@@ -7,9 +7,9 @@ use Rattle.ddf_array.specs.declared.part.Part.{Part}
 use Rattle.ddf_array.specs.Sources.{Source, sources}
 use Rattle.ddf_array.specs.Volume.{Volume}
 use Rattle.ddf_array.specs.Rows.{block_at, cell_value, data_positions, row_sum}
-use Rattle.ddf_volume.specs.Given.{NoneLeftIn}
-use Rattle.ddf_volume.specs.Reading.{NoneLeft}
-use Rattle.ddf_volume.proofs.Tries.{NotRead-wider, Within}
+use Rattle.ddf_read.specs.Given.{NoneLeftIn}
+use Rattle.ddf_read.specs.Reading.{NoneLeft}
+use Rattle.ddf_read.proofs.Tries.{NotRead-wider, Within}
 use Rattle.ddf_cells.specs.CellSources.{AreCellsAt, NoneLeftAmong, NoneLeftFor, cell_sources, is_parity, wanted}
 use Rattle.ddf_cells.specs.RowSums.{NoneLeftForSum}
 use Rattle.ddf_cells.specs.Without.{own_sources, AreGivenWithout, IsGivenWithout, NoneLeftWithout}

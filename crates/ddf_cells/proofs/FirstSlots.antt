@@ -8,8 +8,8 @@ use Rattle.ddf_array.specs.Places.{site_at}
 use Rattle.ddf_array.specs.Rows.{block_at, sources_without_block}
 use Rattle.ddf_array.specs.Sources.{copy, row, row_without, sources}
 use Rattle.ddf_array.specs.Volume.{Fits, IsVolume, Volume}
-use Rattle.ddf_volume.specs.Reading.{FirstHasSlot, HasSite, IsOn}
-use Rattle.ddf_volume.proofs.SourceSlots.{first_on}
+use Rattle.ddf_read.specs.Reading.{FirstHasSlot, HasSite, IsOn}
+use Rattle.ddf_read.proofs.SourceSlots.{first_on}
 use Rattle.ddf_cells.specs.CellSources.{cell_sources}
 use Rattle.ddf_cells.specs.Without.{own_sources}
 use Rattle.ddf_cells.proofs.Alike.{AreCellSites, cell_site, row_cells}

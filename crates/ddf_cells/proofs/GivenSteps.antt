@@ -22,9 +22,9 @@ use Rattle.ddf_array.specs.Rows.{block_at, data_by, sources_without_block}
 use Rattle.ddf_array.specs.Sources.{Source, copy, row, copies, row_without, rows, sources, trusts_parity}
 use Rattle.ddf_array.specs.Volume.{IsVolume, Volume}
 use Rattle.ddf_array.proofs.Ranges.{flat-more}
-use Rattle.ddf_volume.specs.Reading.{Failed, HasSlot, IsGivenBy, OnlyReads}
-use Rattle.ddf_volume.proofs.OnlyReading.{failed_before, failed_behind}
-use Rattle.ddf_volume.proofs.Tries.{IsGivenBy-wider, Within}
+use Rattle.ddf_read.specs.Reading.{Failed, HasSlot, IsGivenBy, OnlyReads}
+use Rattle.ddf_read.proofs.OnlyReading.{failed_before, failed_behind}
+use Rattle.ddf_read.proofs.Tries.{IsGivenBy-wider, Within}
 use Rattle.ddf_cells.specs.Alike.{AreAlike}
 use Rattle.ddf_cells.specs.CellSources.{is_parity}
 use Rattle.ddf_cells.specs.GivenCells.{AreCellsGiven, IsCellAdded, IsCellGiven, IsSumGiven, IsWantedGiven}

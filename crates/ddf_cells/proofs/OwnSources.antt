@@ -8,7 +8,7 @@ use Rattle.ddf_array.specs.Levels.{keeps_parity}
 use Rattle.ddf_array.specs.Places.{site_at}
 use Rattle.ddf_array.specs.Rows.{sources_without_block}
 use Rattle.ddf_array.specs.Sources.{Source, copy, row, row_without}
-use Rattle.ddf_volume.specs.Reading.{IsGivenBy, NotRead}
+use Rattle.ddf_read.specs.Reading.{IsGivenBy, NotRead}
 use Rattle.ddf_cells.specs.Without.{own_sources}
 
 append_none : (xs : List Source) → xs ++ [] ≡ xs

@@ -16,9 +16,9 @@ use Rattle.ddf_array.specs.Sources.{copies}
 use Rattle.ddf_array.specs.Values.{bytes_at}
 use Rattle.ddf_array.specs.Volume.{Volume, IsVolume}
 use Rattle.ddf_array.proofs.Consistent.{position_within}
-use Rattle.ddf_volume.specs.Along.{further}
-use Rattle.ddf_volume.proofs.SourcesAlong.{site_further}
-use Rattle.ddf_volume.proofs.Offsets.{same_row}
+use Rattle.ddf_read.specs.Along.{further}
+use Rattle.ddf_read.proofs.SourcesAlong.{site_further}
+use Rattle.ddf_read.proofs.Offsets.{same_row}
 use Rattle.ddf_cells.specs.CellSources.{IsInOneRow}
 use Rattle.ddf_cells.specs.Degraded.{is_degraded}
 use Rattle.ddf_cells.specs.Parity.{IsOfRows, IsParityCell}

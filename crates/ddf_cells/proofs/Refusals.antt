@@ -7,10 +7,10 @@ use Rattle.ddf_array.specs.declared.site.Site.{Site}
 use Rattle.ddf_array.specs.Volume.{Volume, capacity}
 use Rattle.ddf_array.specs.Sources.{first_copy}
 use Rattle.ddf_array.specs.Within.{is_within}
-use Rattle.ddf_volume.specs.declared.fault.VolumeFault.{VolumeFault}
-use Rattle.ddf_volume.specs.declared.fault.VolumeFault.TheVariants.{Range, Lost, Unsure, Degraded, Disk}
-use Rattle.ddf_volume.specs.Refused.{lacks_copy, is_unsure, read_refusal, IsReadFault}
-use Rattle.ddf_volume.proofs.Lacking.{any_none}
+use Rattle.ddf_read.specs.declared.fault.VolumeFault.{VolumeFault}
+use Rattle.ddf_read.specs.declared.fault.VolumeFault.TheVariants.{Range, Lost, Unsure, Degraded, Disk}
+use Rattle.ddf_read.specs.Refused.{lacks_copy, is_unsure, read_refusal, IsReadFault}
+use Rattle.ddf_read.proofs.Lacking.{any_none}
 use Rattle.ddf_cells.specs.CellSources.{IsReadable}
 use Rattle.ddf_cells.proofs.Lists.{some_not_none}
 

@@ -13,7 +13,7 @@ use Rattle.ddf_cells.specs.Touching.{AreSet, IsTouchedSlot}
 use Rattle.ddf_cells.proofs.CopiesOn.{a_copy}
 use Rattle.ddf_cells.proofs.OnCells.{on_cell, block_below}
 use Rattle.ddf_cells.proofs.RunsOn.{run_cells, run_stretches}
-use Rattle.ddf_volume.proofs.Sites.{IsThere, site_at_there}
+use Rattle.ddf_read.proofs.Sites.{IsThere, site_at_there}
 
 -- the cell of a block lies on its slot
 pub cell_there : (sizes : List ℕ) (v : Volume) → IsVolume v → Fits sizes v → (e p block : ℕ) (one : Site) → cell_on v e p block ≡ Some one → IsThere sizes one 1

@@ -9,7 +9,7 @@ use Rattle.ddf_array.specs.Places.{site_on}
 use Rattle.ddf_array.specs.Volume.{Volume}
 use Rattle.ddf_array.proofs.Bools.{and_first, and_second}
 use Rattle.ddf_array.proofs.Ranges.{range-more}
-use Rattle.ddf_volume.specs.Stretches.{follows}
+use Rattle.ddf_read.specs.Stretches.{follows}
 use Rattle.ddf_cells.specs.CellsOn.{cell_on, cells_on, how_many, is_end, stretches_on, IsRunOn}
 
 -- ---- two neighbours

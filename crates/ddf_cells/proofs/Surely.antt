@@ -19,17 +19,17 @@ use Rattle.ddf_array.specs.Sound.{AreSectors}
 use Rattle.ddf_array.proofs.Consistent.{position_within}
 use Rattle.ddf_array.proofs.Losses.{at_front}
 use Rattle.ddf_array.proofs.RowSums.{cell_from_row}
-use Rattle.ddf_volume.specs.Reading.{Failed, IsGivenBy, IsOn, OnlyReads}
-use Rattle.ddf_volume.proofs.GivenLaws.{one_of, value_of}
-use Rattle.ddf_volume.proofs.OnlyReading.{failed_before, failed_behind}
-use Rattle.ddf_volume.proofs.SourceSlots.{first_on}
+use Rattle.ddf_read.specs.Reading.{Failed, IsGivenBy, IsOn, OnlyReads}
+use Rattle.ddf_read.proofs.GivenLaws.{one_of, value_of}
+use Rattle.ddf_read.proofs.OnlyReading.{failed_before, failed_behind}
+use Rattle.ddf_read.proofs.SourceSlots.{first_on}
 use Rattle.ddf_cells.specs.Alike.{IsCell}
 use Rattle.ddf_cells.specs.CellSources.{HaveEqualCopies, IsSure}
 use Rattle.ddf_cells.specs.Without.{IsGivenWithout, own_sources}
 use Rattle.ddf_cells.proofs.DataCells.{at_first, value_first}
 use Rattle.ddf_cells.proofs.Items.{in_map}
 use Rattle.ddf_cells.proofs.Lists.{some_not_none, true_not_false}
-use Rattle.ddf_volume.proofs.BlockSources.{sources_untrusted}
+use Rattle.ddf_read.proofs.BlockSources.{sources_untrusted}
 
 -- ---- before and behind other reads
 

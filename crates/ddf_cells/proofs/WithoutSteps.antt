@@ -5,9 +5,9 @@ use Rattle.ddf_bay.specs.Sectors.{Image}
 use Rattle.ddf_bay.specs.State.{BayState}
 use Rattle.ddf_array.specs.declared.part.Part.{Part}
 use Rattle.ddf_array.specs.Sources.{Source}
-use Rattle.ddf_volume.specs.Reading.{OnlyReads, Failed, NoneLeft}
-use Rattle.ddf_volume.proofs.OnlyReading.{failed_before, failed_behind}
-use Rattle.ddf_volume.proofs.Tries.{IsGivenBy-wider, NotRead-wider, Within}
+use Rattle.ddf_read.specs.Reading.{OnlyReads, Failed, NoneLeft}
+use Rattle.ddf_read.proofs.OnlyReading.{failed_before, failed_behind}
+use Rattle.ddf_read.proofs.Tries.{IsGivenBy-wider, NotRead-wider, Within}
 use Rattle.ddf_cells.specs.Without.{own_sources, AreGivenWithout, IsGivenWithout, NoneLeftWithout}
 use Rattle.ddf_cells.proofs.Piecewise.{one_more}
 

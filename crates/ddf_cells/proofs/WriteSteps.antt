@@ -8,7 +8,7 @@ use Rattle.ddf_bay.proofs.Steps.{stops_start, stops_then, stops_weaken}
 use Rattle.ddf_array.specs.declared.site.Site.{Site}
 use Rattle.ddf_array.specs.Places.{site_on}
 use Rattle.ddf_array.specs.Volume.{Volume, IsVolume}
-use Rattle.ddf_volume.specs.Reading.{OnlyReads}
+use Rattle.ddf_read.specs.Reading.{OnlyReads}
 use Rattle.ddf_cells.specs.CellsOn.{GivesCells}
 use Rattle.ddf_cells.specs.Touching.{Giving, IsAmongGiven, IsGivenOn, Writes, AreSet, IsTouchedSlot}
 use Rattle.ddf_array.specs.Apart.{IsApart}

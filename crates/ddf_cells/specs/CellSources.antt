@@ -14,7 +14,7 @@ use Rattle.ddf_cells.specs.Without.{own_sources}
 use Rattle.ddf_array.specs.Sound.{AreSectors}
 use Rattle.ddf_array.specs.Redundant.{IsRedundant}
 use Rattle.ddf_array.specs.Within.{is_within}
-use Rattle.ddf_volume.specs.Reading.{NoneFailed, NoneLeft}
+use Rattle.ddf_read.specs.Reading.{NoneFailed, NoneLeft}
 
 -- where the value of a data cell can be read from: the sources of its block, if it holds one
 abbrev pub cell_sources : Volume → (element : ℕ) → Part → (sector position : ℕ) → List Source

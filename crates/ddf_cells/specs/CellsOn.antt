@@ -11,7 +11,7 @@ use Rattle.ddf_array.specs.Levels.{is_on_every}
 use Rattle.ddf_array.specs.Volume.{Volume}
 use Rattle.ddf_array.specs.Cells.{is_in_every}
 use Rattle.ddf_array.specs.Sources.{copies}
-use Rattle.ddf_volume.specs.Stretches.{follows}
+use Rattle.ddf_read.specs.Stretches.{follows}
 
 -- the available cell of a block of an element that its place gives, on a position
 abbrev pub cell_by : Part → (position : ℕ) → Option (ℕ × ℕ) → Option Site

@@ -7,7 +7,7 @@ use Rattle.ddf_array.specs.declared.part.Part.{Part}
 use Rattle.ddf_array.specs.Volume.{Volume}
 use Rattle.ddf_array.specs.Sources.{sources}
 use Rattle.ddf_array.specs.Rows.{block_at, data_positions}
-use Rattle.ddf_volume.specs.Reading.{IsGivenBy}
+use Rattle.ddf_read.specs.Reading.{IsGivenBy}
 use Rattle.ddf_cells.specs.CellSources.{is_parity}
 use Rattle.ddf_cells.specs.RowSums.{is_other}
 use Rattle.ddf_cells.specs.Without.{IsGivenWithout, own_sources}

@@ -6,7 +6,7 @@ use Rattle.ddf_array.specs.declared.part.Part.{Part}
 use Rattle.ddf_array.specs.Places.{site_at}
 use Rattle.ddf_array.specs.Sources.{Source, copy}
 use Rattle.ddf_array.specs.Rows.{sources_without_block}
-use Rattle.ddf_volume.specs.Reading.{IsGivenBy, NoneLeft}
+use Rattle.ddf_read.specs.Reading.{IsGivenBy, NoneLeft}
 
 -- Where the value of a cell that holds no block can be read from: as it is defined; but in an array that is marked as not
 -- consistent an available cell has no other source than itself.

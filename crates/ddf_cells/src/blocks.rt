@@ -3,17 +3,17 @@ ghost use Rattle.std.specs.Prelude.{◌≡◌, ◌+◌, ◌<◌, ◌≤◌, ◌^
 ghost use Rattle.ddf_array.specs.declared.part.Part.{Part};
 ghost use Rattle.ddf_array.specs.Rows.{block_at};
 ghost use Rattle.ddf_array.specs.Volume.{Fits, capacity};
-ghost use Rattle.ddf_volume.specs.declared.fault.VolumeFault.TheVariants.{Disk};
-ghost use Rattle.ddf_volume.specs.Along.{LieAlong};
-ghost use Rattle.ddf_volume.specs.Given.{AreGiven, NoneLeftIn};
-ghost use Rattle.ddf_volume.specs.Reading.{OnlyReads, Failed};
+ghost use Rattle.ddf_read.specs.declared.fault.VolumeFault.TheVariants.{Disk};
+ghost use Rattle.ddf_read.specs.Along.{LieAlong};
+ghost use Rattle.ddf_read.specs.Given.{AreGiven, NoneLeftIn};
+ghost use Rattle.ddf_read.specs.Reading.{OnlyReads, Failed};
 ghost use Rattle.ddf_cells.specs.CellSources.{AreCellsAt, IsReadable, IsSure, NoneLeftAmong};
 ghost use Rattle.ddf_cells.specs.GivenCells.{AreCellsGiven};
 
 use ddf_array::View;
 use ddf_bay::Bay;
 use ddf_bytes::Sector;
-use ddf_volume::{VolumeFault, left_in_strip, read_blocks};
+use ddf_read::{VolumeFault, left_in_strip, read_blocks};
 
 /// How many blocks from one on, at most so many, lie along a strip: a position that holds the first at a sector holds each
 /// of the others so many sectors further.

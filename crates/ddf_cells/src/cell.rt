@@ -6,7 +6,7 @@ ghost use Rattle.ddf_array.specs.Volume.{HasBlock, IsPart, capacity};
 ghost use Rattle.ddf_cells.specs.CellsOn.{cell_in, cell_of, cell_on, IsRunOn};
 
 use ddf_array::{Part, Site, View};
-use ddf_volume::{is_on_every, left_in_strip, lies_behind};
+use ddf_read::{is_on_every, left_in_strip, lies_behind};
 
 /// The available cell of a block of an element on a position.
 fn cell_in(part: &Part, position: usize, block: u64) -> Option<Site>

@@ -13,7 +13,7 @@ use crate::touched::touch;
 use ddf_array::View;
 use ddf_bay::Bay;
 use ddf_bytes::Sector;
-use ddf_volume::left_in_strip;
+use ddf_read::left_in_strip;
 
 /// Writes the cells on a position of the first stretch of these blocks from one of them on, or passes the blocks of
 /// a strip where they have none there. Answers how many blocks these are. After a failure, the slot that failed.

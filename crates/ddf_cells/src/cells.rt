@@ -3,7 +3,7 @@ ghost use Rattle.std.specs.Prelude.{◌≡◌, ◌+◌, ◌<◌, ◌≤◌, ◌^
 ghost use Rattle.ddf_primary.specs.Cells.{depth_of};
 ghost use Rattle.ddf_array.specs.declared.part.Part.{Part};
 ghost use Rattle.ddf_array.specs.Volume.{Fits};
-ghost use Rattle.ddf_volume.specs.Reading.{OnlyReads, Failed};
+ghost use Rattle.ddf_read.specs.Reading.{OnlyReads, Failed};
 ghost use Rattle.ddf_cells.specs.CellSources.{AreCellsAt, IsReadable, IsSure, NoneLeftAmong};
 ghost use Rattle.ddf_cells.specs.GivenCells.{AreCellsGiven};
 

@@ -5,7 +5,7 @@ ghost use Rattle.ddf_array.specs.Places.{is_available};
 ghost use Rattle.ddf_cells.specs.Degraded.{lacks_place, is_degraded};
 
 use ddf_array::{Part, Place, View};
-use ddf_volume::keeps_parity;
+use ddf_read::keeps_parity;
 
 /// Whether all of an element's positions are available.
 pub fn all_available(places: &[Place]) -> bool

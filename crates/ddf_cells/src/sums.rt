@@ -3,7 +3,7 @@ ghost use Rattle.std.specs.Prelude.{◌≡◌, ◌+◌, ◌/◌, ◌<◌, ◌≤
 ghost use Rattle.ddf_primary.specs.Cells.{depth_of};
 ghost use Rattle.ddf_array.specs.declared.part.Part.{Part};
 ghost use Rattle.ddf_array.specs.Volume.{Fits};
-ghost use Rattle.ddf_volume.specs.Reading.{OnlyReads, Failed};
+ghost use Rattle.ddf_read.specs.Reading.{OnlyReads, Failed};
 ghost use Rattle.ddf_cells.specs.CellSources.{IsReadable, IsSure, NoneLeftAmong};
 ghost use Rattle.ddf_cells.specs.GivenCells.{AreCellsAdded, AreSumsGiven};
 ghost use Rattle.ddf_cells.specs.RowSums.{AreAddedAt, AreSumsAt, HoldsParityAlong, NoneLeftForSum, is_other};
@@ -12,7 +12,7 @@ use crate::cells::read_cells;
 use ddf_array::View;
 use ddf_bay::Bay;
 use ddf_bytes::Sector;
-use ddf_volume::{add_each, clear};
+use ddf_read::{add_each, clear};
 
 /// Adds the values of neighbouring cells of a position, but for the one with the parity. After a failure, the slot at
 /// which no source of a cell is left.

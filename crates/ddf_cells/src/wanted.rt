@@ -4,7 +4,7 @@ ghost use Rattle.ddf_primary.specs.Cells.{depth_of};
 ghost use Rattle.ddf_array.specs.declared.part.Part.{Part};
 ghost use Rattle.ddf_array.specs.Levels.{keeps_parity};
 ghost use Rattle.ddf_array.specs.Volume.{Fits, IsPart};
-ghost use Rattle.ddf_volume.specs.Reading.{OnlyReads, Failed};
+ghost use Rattle.ddf_read.specs.Reading.{OnlyReads, Failed};
 ghost use Rattle.ddf_cells.specs.CellSources.{AreWantedAt, IsInOneRow, IsReadable, IsSure, NoneLeftFor, is_parity};
 ghost use Rattle.ddf_cells.specs.GivenCells.{AreWantedGiven};
 
@@ -14,7 +14,7 @@ use ddf_array::{Part, View};
 use ddf_bay::Bay;
 use ddf_bytes::Sector;
 use ddf_primary::Layout;
-use ddf_volume::{keeps_parity, strip_of};
+use ddf_read::{keeps_parity, strip_of};
 
 /// How many sectors of each position hold blocks or parity.
 pub fn depth_of(part: &Part) -> u64

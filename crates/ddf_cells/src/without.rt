@@ -3,7 +3,7 @@ ghost use Rattle.std.specs.Prelude.{◌≡◌, ◌+◌, ◌<◌, ◌≤◌, ◌^
 ghost use Rattle.ddf_array.specs.declared.part.Part.{Part};
 ghost use Rattle.ddf_array.specs.Rows.{block_at};
 ghost use Rattle.ddf_array.specs.Volume.{Fits, IsPart, PartFits};
-ghost use Rattle.ddf_volume.specs.Reading.{OnlyReads, Failed, NoneLeft, Tried};
+ghost use Rattle.ddf_read.specs.Reading.{OnlyReads, Failed, NoneLeft, Tried};
 ghost use Rattle.ddf_cells.specs.CellSources.{AreCellsAt, IsSure, NoneLeftAmong};
 ghost use Rattle.ddf_cells.specs.Without.{AreGivenWithout, IsGivenWithout, NoneLeftWithout, own_sources};
 
@@ -11,7 +11,7 @@ use crate::inverse::block_at;
 use ddf_array::{Part, Site, View};
 use ddf_bay::Bay;
 use ddf_bytes::Sector;
-use ddf_volume::{blank, keeps_parity, read_row, try_site};
+use ddf_read::{blank, keeps_parity, read_row, try_site};
 
 /// How many of so many neighbouring cells hold no block, where the first holds none.
 pub fn empty_from(view: &View, element: usize, position: usize, sector: u64, most: usize) -> usize

@@ -12,9 +12,9 @@ use Rattle.ddf_history.specs.Scenes.{scene_of}
 use Rattle.ddf_history.proofs.Lists.{get_more, get_taken, get_within}
 use Rattle.ddf_assembly.specs.Group.{GroupValue}
 use Rattle.ddf_assembly.specs.Recovery.{some}
-use Rattle.ddf_stops.specs.Going.{Goes, begun, issue_all}
-use Rattle.ddf_stops.specs.Kept.{is_read}
-use Rattle.ddf_stops.proofs.Acked.{goes_keeps}
+use Rattle.ddf_history_steps.specs.Going.{Goes, begun, issue_all}
+use Rattle.ddf_history_steps.specs.Kept.{is_read}
+use Rattle.ddf_history_steps.proofs.Acked.{goes_keeps}
 use Rattle.ddf_command.specs.History.{IsJoinCut, joins_of, kept_by_join, past_at}
 
 module _ (group : List ℕ) where

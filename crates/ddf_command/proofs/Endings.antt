@@ -1,5 +1,5 @@
 -- How a call of the program ends.
-use Rattle.std.proofs.Common.{◌≡◌, ◌∙◌, ◌⊎◌, inl, inr, ⊎_elim, ℕ, ◌*◌, List, [], length, replicate, true, false, Option, Result, Ok, Err, refl, sym, subst, arith}
+use Rattle.std.proofs.Common.{◌≡◌, ◌∙◌, ◌⊎◌, inl, inr, ⊎_elim, ℕ, ◌*◌, List, [], ◌++◌, length, replicate, true, false, Option, Result, Ok, Err, refl, sym, subst, arith}
 use Rattle.std.specs.Prelude.{IsTrue}
 use Rattle.std.proofs.lemmas.Bool.{cases_lt}
 use Rattle.std.proofs.lemmas.List.{append-nil, length-replicate}
@@ -28,17 +28,19 @@ use Rattle.ddf_disk_commands.specs.Examine.{IsExamined}
 use Rattle.ddf_answer.proofs.Causes.{IsFaultless, fault_by, slot_by, stream_by, words_by}
 use Rattle.ddf_answer.proofs.Costs.{none_written, writes_most}
 use Rattle.ddf_disk_commands.specs.Label.{label_copy, label_sectors, label_slots, revision_of}
+use Rattle.ddf_disk_commands.specs.LabelRefusal.{label_layout}
 use Rattle.ddf_group_commands.proofs.Beside.{reads_beside}
 use Rattle.ddf_group_commands.proofs.ChangeEnds.{assembled_nothing, changed_nothing}
 use Rattle.ddf_group_commands.proofs.Keeping.{reads_keep}
 use Rattle.ddf_group_commands.proofs.ShowEnds.{shown_nothing}
 use Rattle.ddf_group_commands.specs.Change.{Request, TakesGroup}
+use Rattle.ddf_group_commands.specs.Costs.{steps_sectors}
 use Rattle.ddf_group_commands.specs.Requests.{request_for}
 use Rattle.ddf_import_command.proofs.Ending.{imported_nothing}
-use Rattle.ddf_data_commands.proofs.LeftOut.{has_no_place}
-use Rattle.ddf_data_commands.proofs.ReadBlocks.{memory_in}
-use Rattle.ddf_data_commands.proofs.Scrubbed.{scrubbed_nothing}
-use Rattle.ddf_data_commands.specs.Read.{NotRead}
+use Rattle.ddf_read_commands.proofs.LeftOut.{has_no_place}
+use Rattle.ddf_read_commands.proofs.ReadBlocks.{memory_in}
+use Rattle.ddf_read_commands.proofs.Scrubbed.{scrubbed_nothing}
+use Rattle.ddf_read_commands.specs.Read.{NotRead}
 use Rattle.ddf_write_commands.specs.Doing.{Doing}
 use Rattle.ddf_write_commands.specs.Payload.{input_of}
 use Rattle.ddf_write_commands.specs.Resync.{IsResyncDone, resync_request, resyncing}
@@ -153,6 +155,7 @@ module _ {D : Type 0} (old : BayState D) (tells told : Type 0) (before : SinkSta
           leaves = λ tells found is steps asked. stops_start old _;
           along = λ told. none_along resyncing (work_of tells old old) named timestamp word (resync_request word) (reads_start old) taken.left (group_of taken.newest named);
           costs = unwritten_costs resyncing (work_of tells old old) timestamp word (resync_request word) (reads_start old) (group_of taken.newest named);
+          spares = λ told found is any_plan unmarked. inl (writes_most (steps_sectors (any_plan.first ++ any_plan.last)) (omega arith) (none_written (work_of tells old old) (reads_start old)));
         };
         ends = (refl, λ told. refl);
       }
@@ -201,7 +204,7 @@ done_nothing old tells told before reads input stamp group (Label style slots) =
   ends = (refl, λ told. refl);
   unfailed = tt;
   any_moment = λ tells. stops_start old (IsLeftFoundingAll old (label_slots old.sizes slots) (label_copy (revision_of style) stamp old.sizes slots));
-  costs = writes_most (label_sectors * length (label_slots old.sizes slots)) (omega arith) (none_written (work_of tells old old) (reads_start old));
+  costs = writes_most (label_sectors label_layout * length (label_slots old.sizes slots)) (omega arith) (none_written (work_of tells old old) (reads_start old));
   refused = λ tells refusal is. reads_start old;
 }
 done_nothing old tells told before reads input stamp group (Read name start count) = record {

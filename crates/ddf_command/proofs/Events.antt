@@ -16,10 +16,10 @@ use Rattle.ddf_history.specs.History.{AllKept, Answers, DoCallsKeep, IsHistory, 
 use Rattle.ddf_history.proofs.Aside.{aside_kept}
 use Rattle.ddf_history.proofs.Histories.{a_history_answers_at_every_moment, a_history_keeps_what_was_acknowledged, step_kept}
 use Rattle.ddf_history.proofs.Sound.{groups_are_sound}
-use Rattle.ddf_stops.specs.Kept.{AreAllKept, is_read, is_slot}
-use Rattle.ddf_stops.specs.Going.{Goes, changes_in}
-use Rattle.ddf_stops.proofs.Acked.{ends_keeps, goes_keeps}
-use Rattle.ddf_stops.proofs.Stops.{same_scene}
+use Rattle.ddf_history_steps.specs.Kept.{AreAllKept, is_read, is_slot}
+use Rattle.ddf_history_steps.specs.Going.{Goes, changes_in}
+use Rattle.ddf_history_steps.proofs.Acked.{ends_keeps, goes_keeps}
+use Rattle.ddf_history_steps.proofs.Stops.{same_scene}
 use Rattle.ddf_group_commands.specs.Change.{is_done}
 use Rattle.ddf_command.specs.History.{IsCall, IsCut, IsEnd, IsJoinCut, IsJoinEnd, IsOther, Leaves, OtherCall, joins_of, kept_by, kept_by_join, past_at}
 

@@ -8,8 +8,8 @@ use Rattle.ddf_history.specs.Groups.{groups}
 use Rattle.ddf_history.specs.History.{Moment}
 use Rattle.ddf_history.specs.Promise.{IsKept}
 use Rattle.ddf_history.specs.Scenes.{scene_of}
-use Rattle.ddf_stops.specs.Kept.{AreAllKept, is_read}
-use Rattle.ddf_stops.specs.Going.{Goes, changes_in}
+use Rattle.ddf_history_steps.specs.Kept.{AreAllKept, is_read}
+use Rattle.ddf_history_steps.specs.Going.{Goes, changes_in}
 use Rattle.ddf_command.specs.History.{GroupCall, IsCut, IsEnd, IsJoinCut, IsJoinEnd, JoinCall, Leaves, joins_of, kept_by, kept_by_join, past_at}
 
 module _ {B : Type 0} {tells : Type 0} (told : tells) (disks : B → BayState B) (group : List ℕ) (old : Moment (groups group) B) (call : GroupCall told disks group old)

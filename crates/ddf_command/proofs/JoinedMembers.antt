@@ -12,11 +12,11 @@ use Rattle.ddf_history.specs.Promise.{IsKept}
 use Rattle.ddf_history.specs.Reading.{Scene}
 use Rattle.ddf_history.proofs.Members.{own_member}
 use Rattle.ddf_history.proofs.Sound.{groups_are_sound}
-use Rattle.ddf_stops.specs.Going.{Ends, IsOver, KeepsSlots}
-use Rattle.ddf_stops.specs.Kept.{AreAllKept, is_read}
-use Rattle.ddf_stops.specs.Steps.{recovery_changes}
-use Rattle.ddf_stops.proofs.LastIssued.{last_more, over_last}
-use Rattle.ddf_stops.proofs.SlotsKept.{ends_slots}
+use Rattle.ddf_history_steps.specs.Going.{Ends, IsOver, KeepsSlots}
+use Rattle.ddf_history_steps.specs.Kept.{AreAllKept, is_read}
+use Rattle.ddf_history_steps.specs.Steps.{recovery_changes}
+use Rattle.ddf_history_steps.proofs.LastIssued.{last_more, over_last}
+use Rattle.ddf_history_steps.proofs.SlotsKept.{ends_slots}
 use Rattle.ddf_group_commands.specs.Change.{is_done}
 use Rattle.ddf_command.specs.History.{IsJoinEnd, JoinCall, Leaves, joins_of, kept_by_join}
 

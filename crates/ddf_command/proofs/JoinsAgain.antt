@@ -6,8 +6,8 @@ use Rattle.ddf_assembly.specs.Group.{GroupValue}
 use Rattle.ddf_history.specs.Groups.{groups, has_current}
 use Rattle.ddf_history.specs.History.{Moment}
 use Rattle.ddf_history.specs.Scenes.{scene_of}
-use Rattle.ddf_stops.specs.Going.{IsAdmitted}
-use Rattle.ddf_stops.specs.Kept.{is_read}
+use Rattle.ddf_history_steps.specs.Going.{IsAdmitted}
+use Rattle.ddf_history_steps.specs.Kept.{is_read}
 use Rattle.ddf_group_commands.specs.Change.{is_done}
 use Rattle.ddf_command.specs.History.{IsJoinEnd, Leaves}
 use Rattle.ddf_command.proofs.JoinedMembers.{joined_member, kept, slots}

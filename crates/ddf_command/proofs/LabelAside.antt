@@ -20,13 +20,14 @@ use Rattle.ddf_history.specs.Calls.{IsAside}
 use Rattle.ddf_history.specs.Groups.{disk_of, groups, has_current}
 use Rattle.ddf_history.specs.History.{Moment}
 use Rattle.ddf_history.specs.Scenes.{scene_of}
-use Rattle.ddf_stops.specs.Kept.{is_slot}
-use Rattle.ddf_stops.proofs.Founding.{view_at}
-use Rattle.ddf_stops.proofs.FoundingCut.{beside, beside_left, blank_there, copy_there, same_shown}
-use Rattle.ddf_stops.proofs.FoundingRows.{new_view}
-use Rattle.ddf_stops.proofs.Slots.{not_placed, slot_placed}
+use Rattle.ddf_history_steps.specs.Kept.{is_slot}
+use Rattle.ddf_history_steps.proofs.Founding.{view_at}
+use Rattle.ddf_history_steps.proofs.FoundingCut.{beside, beside_left, blank_there, copy_there, same_shown}
+use Rattle.ddf_history_steps.proofs.FoundingRows.{new_view}
+use Rattle.ddf_history_steps.proofs.Slots.{not_placed, slot_placed}
 use Rattle.ddf_command.specs.History.{OtherCall}
 use Rattle.ddf_disk_commands.specs.Label.{label_copy, label_slots}
+use Rattle.ddf_disk_commands.specs.LabelRefusal.{label_layout}
 use Rattle.ddf_group_commands.specs.Others.{LeavesOthers}
 use Rattle.ddf_disk_commands.proofs.Chosen.{chosen_once}
 
@@ -54,7 +55,7 @@ module _ {B : Type 0} {tells : Type 0} (told : tells) (disks : B → BayState B)
 
   -- what the copy at a place says
   abbrev says : (place : ℕ) → View
-  says place = view_at revision stamp (slot_sizes entry.sizes slots) place
+  says place = view_at label_layout revision stamp (slot_sizes entry.sizes slots) place
 
   module _ (image : Image) (left : IsLeftFoundingAll entry slots copy image) (slot : ℕ) (among : is_slot slots slot ≡ true) where
     abbrev shown : Shown View
@@ -68,9 +69,9 @@ module _ {B : Type 0} {tells : Type 0} (told : tells) (disks : B → BayState B)
 
     as_before : ((l : ℕ) → entry.may_hold slot l (image slot l)) → IsAside old.past slot shown
     as_before may =
-        subst (IsAside old.past slot) (sym (same_shown revision stamp entry slots are is_held image slot))
-        (aside (beside revision stamp entry slots are is_held image slot)
-        (beside_left revision stamp entry slots are is_held image slot may) slot among)
+        subst (IsAside old.past slot) (sym (same_shown label_layout revision stamp entry slots are is_held image slot))
+        (aside (beside label_layout revision stamp entry slots are is_held image slot)
+        (beside_left label_layout revision stamp entry slots are is_held image slot may) slot among)
 
     blank_aside : shown ≡ Nothing → IsAside old.past slot shown
     blank_aside nothing =
@@ -86,7 +87,7 @@ module _ {B : Type 0} {tells : Type 0} (told : tells) (disks : B → BayState B)
         let ours = (and_parts (bytes_eq group one.group) ((groups group).lists_current one (disk_of one)) standing).0 in
         false≢true (sym another ∙ sym (ap (λ (view : View). bytes_eq group view.group) (own one is)) ∙ ours))
         (λ one number config is since current.
-        let same = own one is ∙ sym (new_view revision stamp (slot_sizes entry.sizes slots) place) in
+        let same = own one is ∙ sym (new_view label_layout revision stamp (slot_sizes entry.sizes slots) place) in
         names_none place slot number config at since (ap (λ (view : View). has_current config (disk_of view)) (sym same) ∙ current))
 
     left_aside : IsAside old.past slot shown
@@ -95,8 +96,8 @@ module _ {B : Type 0} {tells : Type 0} (told : tells) (disks : B → BayState B)
         elim (left.each place.0 slot place.1) [
           | inl before ↦ as_before before
           | inr now ↦ elim now [
-            | inl blank ↦ blank_aside (blank_there revision stamp entry slots are is_held image place.0 slot place.1 blank)
-            | inr both ↦ copy_aside place.0 place.1 (copy_there revision stamp entry slots are is_held image place.0 slot place.1 both)
+            | inl blank ↦ blank_aside (blank_there label_layout revision stamp entry slots are is_held image place.0 slot place.1 blank)
+            | inr both ↦ copy_aside place.0 place.1 (copy_there label_layout revision stamp entry slots are is_held image place.0 slot place.1 both)
           ]
         ]
 

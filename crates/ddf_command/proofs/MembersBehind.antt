@@ -20,18 +20,18 @@ use Rattle.ddf_assembly.specs.declared.seated.Seated.{Seated}
 use Rattle.ddf_assembly.specs.Recovery.{config_recovered}
 use Rattle.ddf_assembly.specs.Seated.{seated}
 use Rattle.ddf_assembly.specs.Steps.{Step}
-use Rattle.ddf_stops.specs.Going.{Ends, IsOver, KeepsSlots, changes_in}
-use Rattle.ddf_stops.specs.Kept.{AreAllKept, is_read}
-use Rattle.ddf_stops.proofs.Claimed as claims
-use Rattle.ddf_stops.proofs.LastIssued.{over_last, over_length}
-use Rattle.ddf_stops.proofs.SlotsKept.{ends_slots}
-use Rattle.ddf_stops.proofs.StepMembers.{AreMembers}
+use Rattle.ddf_history_steps.specs.Going.{Ends, IsOver, KeepsSlots, changes_in}
+use Rattle.ddf_history_steps.specs.Kept.{AreAllKept, is_read}
+use Rattle.ddf_history_steps.proofs.Claimed as claims
+use Rattle.ddf_history_steps.proofs.LastIssued.{over_last, over_length}
+use Rattle.ddf_history_steps.proofs.SlotsKept.{ends_slots}
+use Rattle.ddf_history_steps.proofs.StepMembers.{AreMembers}
 use Rattle.ddf_command.specs.History.{GroupCall, IsEnd, Leaves, kept_by}
 use Rattle.ddf_group_commands.specs.Writing.{IsWrittenOn}
-use Rattle.ddf_stops.proofs.AllSteps.{AllSteps}
+use Rattle.ddf_history_steps.proofs.AllSteps.{AllSteps}
 use Rattle.ddf_group_commands.proofs.Outcomes.{AreReadied, readied_by}
-use Rattle.ddf_stops.proofs.LastStep.{last_change}
-use Rattle.ddf_stops.proofs.LeftMissing as lefts
+use Rattle.ddf_history_steps.proofs.LastStep.{last_change}
+use Rattle.ddf_history_steps.proofs.LeftMissing as lefts
 use Rattle.ddf_command.proofs.StepsCopies.{written_known}
 use Rattle.ddf_command.proofs.StepsMembers.{steps_members}
 

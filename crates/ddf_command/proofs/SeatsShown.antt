@@ -20,9 +20,9 @@ use Rattle.ddf_assembly.specs.Group.{GroupValue, group_of}
 use Rattle.ddf_assembly.specs.Seated.{seated}
 use Rattle.ddf_assembly.specs.Slots.{newest_from}
 use Rattle.ddf_assembly.proofs.CommittedSeats.{seated_is}
-use Rattle.ddf_stops.specs.Kept.{is_read}
-use Rattle.ddf_stops.proofs.Begun.{found_of}
-use Rattle.ddf_stops.proofs.Told.{scene_told}
+use Rattle.ddf_history_steps.specs.Kept.{is_read}
+use Rattle.ddf_history_steps.proofs.Begun.{found_of}
+use Rattle.ddf_history_steps.proofs.Told.{scene_told}
 
 -- The copy that stands for a newest copy is told of it.
 standing_told : (found : Newest) (copy : DiskCopy) → standing_copy found ≡ Some copy → IsCopyOf (told_of (shown_of (Some found))) (view_of copy)

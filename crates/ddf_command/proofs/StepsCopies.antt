@@ -19,9 +19,9 @@ use Rattle.ddf_assembly.specs.Seated.{seated, views_in}
 use Rattle.ddf_assembly.specs.Steps.{Step, config_after, disks_after, levelled, rewritten, stays_in, step_of}
 use Rattle.ddf_assembly.proofs.CommittedReadied.{filter_get}
 use Rattle.ddf_assembly.proofs.Rewritten.{closed_view}
-use Rattle.ddf_stops.proofs.StepMembers.{mended_names, rewritten_names}
+use Rattle.ddf_history_steps.proofs.StepMembers.{mended_names, rewritten_names}
 use Rattle.ddf_group_commands.specs.Writing.{IsWrittenOn}
-use Rattle.ddf_stops.proofs.AllSteps.{AllSteps, readied_all}
+use Rattle.ddf_history_steps.proofs.AllSteps.{AllSteps, readied_all}
 
 -- ---- copies
 

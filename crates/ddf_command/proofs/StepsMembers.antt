@@ -11,9 +11,9 @@ use Rattle.ddf_assembly.specs.Recovery.{config_lost, config_recovered, disks_rec
 use Rattle.ddf_assembly.specs.Seated.{seated, views_in}
 use Rattle.ddf_assembly.specs.Steps.{Step, levelled}
 use Rattle.ddf_assembly.proofs.CommittedReadied.{filter_get}
-use Rattle.ddf_stops.specs.AtEnd.{IsMember}
-use Rattle.ddf_stops.proofs.StepMembers.{AreMembers, after_members, levelled_member, mended_member}
-use Rattle.ddf_stops.proofs.AllSteps.{AllSteps, readied_all}
+use Rattle.ddf_history_steps.specs.AtEnd.{IsMember}
+use Rattle.ddf_history_steps.proofs.StepMembers.{AreMembers, after_members, levelled_member, mended_member}
+use Rattle.ddf_history_steps.proofs.AllSteps.{AllSteps, readied_all}
 
 levelled_members : (config : Configuration) (disks : List Seated) → AreMembers config disks → AreMembers config (map levelled disks)
 levelled_members config disks are place disk at =

@@ -11,7 +11,7 @@ use Rattle.ddf_update.specs.NewCopies.{group_of}
 use Rattle.ddf_history.specs.Scenes.{scene_of}
 use Rattle.ddf_assembly.specs.Group.{GroupValue, group_of as group_in}
 use Rattle.ddf_assembly.specs.Slots.{newest_from}
-use Rattle.ddf_stops.specs.Founding.{AreFounded, AreNamesNew}
+use Rattle.ddf_history_steps.specs.Founding.{AreFounded, AreNamesNew}
 use Rattle.ddf_disk_commands.specs.Label.{label_copy, label_slots}
 
 -- A `label`, by what it promises of each moment on its way (`IsLabelled`: `any_moment`). The disks as they read at its entry are one of the

@@ -15,10 +15,10 @@ use Rattle.ddf_history.specs.Groups.{groups}
 use Rattle.ddf_history.specs.Promise.{IsKept}
 use Rattle.ddf_history.specs.Scenes.{scene_of}
 use Rattle.ddf_history.specs.History.{Moment}
-use Rattle.ddf_stops.specs.Kept.{AreAllKept, is_read, is_slot}
-use Rattle.ddf_stops.specs.Going.{Goes, IsAdmitted, KeepsHistory, changes_in}
-use Rattle.ddf_stops.specs.Joins.{AdmitsCall}
-use Rattle.ddf_stops.specs.Steps.{recovery_changes}
+use Rattle.ddf_history_steps.specs.Kept.{AreAllKept, is_read, is_slot}
+use Rattle.ddf_history_steps.specs.Going.{Goes, IsAdmitted, KeepsHistory, changes_in}
+use Rattle.ddf_history_steps.specs.Joins.{AdmitsCall}
+use Rattle.ddf_history_steps.specs.Steps.{recovery_changes}
 use Rattle.ddf_answer.specs.Call.{work_of}
 use Rattle.ddf_answer.specs.declared.failure.Failure.{Failure}
 use Rattle.ddf_group_commands.specs.Change.{Request, TakesGroup, is_done, steps_of}

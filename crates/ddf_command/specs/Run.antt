@@ -19,8 +19,8 @@ use Rattle.ddf_group_commands.specs.Change.{IsChangeDone}
 use Rattle.ddf_group_commands.specs.Requests.{request_for}
 use Rattle.ddf_group_commands.specs.Show.{IsShown}
 use Rattle.ddf_import_command.specs.Import.{IsImportDone}
-use Rattle.ddf_data_commands.specs.Read.{IsReadDone}
-use Rattle.ddf_data_commands.specs.Scrub.{IsScrubDone}
+use Rattle.ddf_read_commands.specs.Read.{IsReadDone}
+use Rattle.ddf_read_commands.specs.Scrub.{IsScrubDone}
 use Rattle.ddf_write_commands.specs.Payload.{Input}
 use Rattle.ddf_write_commands.specs.Resync.{IsResyncDone}
 use Rattle.ddf_write_commands.specs.Write.{IsWriteDone}

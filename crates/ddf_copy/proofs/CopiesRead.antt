@@ -7,7 +7,7 @@ use Rattle.ddf_tables.specs.Sectors.{IsControllerOf, IsDiskDataOf, decoded_contr
 use Rattle.ddf_tables.specs.Disks.{decoded_disks}
 use Rattle.ddf_tables.specs.Arrays.{decoded_arrays}
 use Rattle.ddf_tables.proofs.SectorValues.{controller_both_ways, disk_data_both_ways}
-use Rattle.ddf_configs.specs.Slots.{decoded_slots}
+use Rattle.ddf_config_records.specs.Slots.{decoded_slots}
 use Rattle.ddf_copy.specs.declared.copy.DiskCopy.{DiskCopy}
 use Rattle.ddf_copy.specs.declared.fault.CopyFault.{CopyFault}
 use Rattle.ddf_copy.specs.declared.raw.Raw.{Raw}

@@ -16,7 +16,7 @@ use Rattle.ddf_copy.specs.Sections.{and_then, bytes_in, copy_in, in_section, in_
 use Rattle.ddf_tables.specs.Arrays.{decoded_arrays}
 use Rattle.ddf_tables.specs.Disks.{decoded_disks}
 use Rattle.ddf_tables.specs.Sectors.{decoded_controller, decoded_disk_data}
-use Rattle.ddf_configs.specs.Slots.{decoded_slots}
+use Rattle.ddf_config_records.specs.Slots.{decoded_slots}
 use Rattle.ddf_copy.specs.Shows.{HasNewest, IsLast, IsNewest, last_of}
 use Rattle.ddf_copy.specs.Which.{place_of}
 use Rattle.ddf_copy.specs.Written.{is_level}

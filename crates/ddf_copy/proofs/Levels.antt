@@ -8,12 +8,12 @@ use Rattle.std.specs.Str.{bytes_eq}
 use Rattle.ddf_bytes.specs.Bytes.{bytes_at}
 use Rattle.ddf_header.specs.declared.geometry.Geometry.{Geometry}
 use Rattle.ddf_header.proofs.Sound.{sound}
-use Rattle.ddf_configs.specs.declared.slot.RecordSlot.{RecordSlot}
-use Rattle.ddf_configs.specs.declared.slot.RecordSlot.TheVariants as slots
-use Rattle.ddf_configs.specs.Elements.{HasRoom, record_size}
-use Rattle.ddf_configs.specs.Slots.{slot_written, slots_written}
-use Rattle.ddf_configs.proofs.Sound.{room_from_sound}
-use Rattle.ddf_configs.proofs.Written.{have_size, length-written, slot_of_written}
+use Rattle.ddf_config_records.specs.declared.slot.RecordSlot.{RecordSlot}
+use Rattle.ddf_config_records.specs.declared.slot.RecordSlot.TheVariants as slots
+use Rattle.ddf_config_records.specs.Elements.{HasRoom, record_size}
+use Rattle.ddf_config_records.specs.Slots.{slot_written, slots_written}
+use Rattle.ddf_config_records.proofs.Sound.{room_from_sound}
+use Rattle.ddf_config_records.proofs.Written.{have_size, length-written, slot_of_written}
 use Rattle.ddf_copy.specs.declared.copy.DiskCopy.{DiskCopy}
 use Rattle.ddf_copy.specs.declared.reading.Whole.{Whole}
 use Rattle.ddf_copy.specs.Sections.{bytes_in}

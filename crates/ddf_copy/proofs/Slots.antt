@@ -10,15 +10,15 @@ use Rattle.ddf_bytes.specs.Bytes.{number_at}
 use Rattle.ddf_seal.specs.Seal.{IsSealed}
 use Rattle.ddf_seal.specs.Unread.{AreBytes}
 use Rattle.ddf_header.specs.declared.geometry.Geometry.{Geometry}
-use Rattle.ddf_configs.specs.declared.slot.RecordSlot.{RecordSlot}
-use Rattle.ddf_configs.specs.declared.slot.RecordSlot.TheVariants as slots
-use Rattle.ddf_configs.specs.Elements.{HasRoom, record_size}
-use Rattle.ddf_configs.specs.Slots.{AreSealed, AreSlotsOf, IsSlotOf, decoded_slots, element_signature, is_known, lists, slot_bytes, slots_written, valid_notes}
-use Rattle.ddf_configs.specs.Spares.{spare_signature}
-use Rattle.ddf_configs.specs.Vendors.{vendor_signature}
-use Rattle.ddf_configs.proofs.Sections.{none_from_sealed, slots_is}
-use Rattle.ddf_configs.proofs.SlotValues.{signature_is}
-use Rattle.ddf_configs.proofs.Written.{written_again}
+use Rattle.ddf_config_records.specs.declared.slot.RecordSlot.{RecordSlot}
+use Rattle.ddf_config_records.specs.declared.slot.RecordSlot.TheVariants as slots
+use Rattle.ddf_config_records.specs.Elements.{HasRoom, record_size}
+use Rattle.ddf_config_records.specs.Slots.{AreSealed, AreSlotsOf, IsSlotOf, decoded_slots, element_signature, is_known, lists, slot_bytes, slots_written, valid_notes}
+use Rattle.ddf_config_records.specs.Spares.{spare_signature}
+use Rattle.ddf_config_records.specs.Vendors.{vendor_signature}
+use Rattle.ddf_config_records.proofs.Sections.{none_from_sealed, slots_is}
+use Rattle.ddf_config_records.proofs.SlotValues.{signature_is}
+use Rattle.ddf_config_records.proofs.Written.{written_again}
 use Rattle.ddf_copy.specs.Sections.{bytes_in}
 
 -- so many whole slots hold that many

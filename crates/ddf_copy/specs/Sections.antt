@@ -12,10 +12,10 @@ use Rattle.ddf_tables.specs.Sectors.{decoded_controller, decoded_disk_data}
 use Rattle.ddf_tables.specs.Disks.{decoded_disks}
 use Rattle.ddf_tables.specs.Arrays.{decoded_arrays}
 use Rattle.ddf_tables.specs.BadBlocks.{LogValue, decoded_log}
-use Rattle.ddf_configs.specs.declared.fault.SlotFault.{SlotFault}
-use Rattle.ddf_configs.specs.declared.fault.SlotFault.TheVariants as slot_faults
-use Rattle.ddf_configs.specs.declared.slot.RecordSlot.{RecordSlot}
-use Rattle.ddf_configs.specs.Slots.{decoded_slots}
+use Rattle.ddf_config_records.specs.declared.fault.SlotFault.{SlotFault}
+use Rattle.ddf_config_records.specs.declared.fault.SlotFault.TheVariants as slot_faults
+use Rattle.ddf_config_records.specs.declared.slot.RecordSlot.{RecordSlot}
+use Rattle.ddf_config_records.specs.Slots.{decoded_slots}
 use Rattle.ddf_copy.specs.declared.copy.DiskCopy.{DiskCopy}
 use Rattle.ddf_copy.specs.declared.fault.SectionName.{SectionName}
 use Rattle.ddf_copy.specs.declared.fault.SectionName.TheVariants as names

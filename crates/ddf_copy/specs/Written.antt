@@ -15,9 +15,9 @@ use Rattle.ddf_tables.specs.declared.arrays.ArrayRow.{ArrayRow}
 use Rattle.ddf_tables.specs.Disks.{IsDiskTable, disk_table_bytes}
 use Rattle.ddf_tables.specs.Arrays.{IsArrayTable, array_table_bytes}
 use Rattle.ddf_tables.specs.BadBlocks.{LogValue, IsLog, log_bytes}
-use Rattle.ddf_configs.specs.declared.slot.RecordSlot.{RecordSlot}
-use Rattle.ddf_configs.specs.declared.slot.RecordSlot.TheVariants as slots
-use Rattle.ddf_configs.specs.Slots.{CanBeSlots, DoFit, slot_written, slots_written}
+use Rattle.ddf_config_records.specs.declared.slot.RecordSlot.{RecordSlot}
+use Rattle.ddf_config_records.specs.declared.slot.RecordSlot.TheVariants as slots
+use Rattle.ddf_config_records.specs.Slots.{CanBeSlots, DoFit, slot_written, slots_written}
 use Rattle.ddf_copy.specs.declared.copy.DiskCopy.{DiskCopy}
 
 -- ---- the sections

@@ -2,7 +2,7 @@
 ghost use Rattle.std.specs.Prelude.{◌≡◌, IfOk};
 
 use ddf_bytes::{NoMemory, Seq};
-use ddf_configs::RecordSlot;
+use ddf_config_records::RecordSlot;
 use ddf_header::Header;
 use ddf_tables::{ArrayTable, BadBlockLog, Controller, DiskData, DiskTable};
 use std::alloc::Global;

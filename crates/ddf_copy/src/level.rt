@@ -2,9 +2,9 @@
 ghost use Rattle.std.specs.Prelude.{◌≡◌, ◌*◌, ◌+◌, ◌<◌, ◌≤◌, List, length, slice_get, Some, map};
 ghost use Rattle.std.specs.List.{list_all, range_with_len};
 ghost use Rattle.std.specs.Str.{bytes_eq};
-ghost use Rattle.ddf_configs.specs.Elements.{record_size};
-ghost use Rattle.ddf_configs.specs.declared.slot.RecordSlot.{RecordSlot};
-ghost use Rattle.ddf_configs.specs.Slots.{slot_written};
+ghost use Rattle.ddf_config_records.specs.Elements.{record_size};
+ghost use Rattle.ddf_config_records.specs.declared.slot.RecordSlot.{RecordSlot};
+ghost use Rattle.ddf_config_records.specs.Slots.{slot_written};
 ghost use Rattle.ddf_copy.specs.Sections.{bytes_in};
 ghost use Rattle.ddf_copy.specs.Whole.{IsWhole, sections_counted};
 ghost use Rattle.ddf_copy.specs.Written.{are_same, is_level, slot_counted, slot_counted_at};
@@ -12,7 +12,7 @@ ghost use Rattle.ddf_copy.specs.Written.{are_same, is_level, slot_counted, slot_
 use crate::raw::Raw;
 use crate::reading::Whole;
 use ddf_bytes::Sector;
-use ddf_configs::RecordSlot;
+use ddf_config_records::RecordSlot;
 use ddf_header::Geometry;
 
 /// Whether two copies have one sequence, and the same in each section that is read. All unused slots count as equal.

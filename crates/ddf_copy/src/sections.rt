@@ -7,7 +7,7 @@ ghost use Rattle.ddf_tables.specs.Arrays.{IsArrayTable, decoded_arrays};
 ghost use Rattle.ddf_tables.specs.BadBlocks.{IsLog, decoded_log};
 ghost use Rattle.ddf_tables.specs.Disks.{IsDiskTable, decoded_disks};
 ghost use Rattle.ddf_tables.specs.Sectors.{IsController, IsDiskData, decoded_controller, decoded_disk_data};
-ghost use Rattle.ddf_configs.specs.Slots.{CanBeSlots, DoFit, decoded_slots};
+ghost use Rattle.ddf_config_records.specs.Slots.{CanBeSlots, DoFit, decoded_slots};
 ghost use Rattle.ddf_copy.specs.declared.fault.SectionName.{SectionName};
 ghost use Rattle.ddf_copy.specs.Faults.{UpToMemory, copy_failed};
 ghost use Rattle.ddf_copy.specs.Sections.{HasSizes, bytes_in, copy_in, in_section, in_sector, in_slots, log_in, raw_bytes, whole_slots};
@@ -17,7 +17,7 @@ use crate::copy::DiskCopy;
 use crate::fault::{CopyFault, SectionName};
 use crate::raw::Raw;
 use ddf_bytes::{Sector, Seq};
-use ddf_configs::{RecordSlot, SlotFault, decode_slots};
+use ddf_config_records::{RecordSlot, SlotFault, decode_slots};
 use ddf_header::Header;
 use ddf_tables::{
     ArrayTable, BadBlockLog, Controller, DiskData, DiskTable, TableFault, decode_arrays,

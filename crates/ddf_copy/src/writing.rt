@@ -6,7 +6,7 @@ ghost use Rattle.ddf_tables.specs.Disks.{IsDiskTable, IsDiskTableOf, decoded_dis
 ghost use Rattle.ddf_tables.specs.Arrays.{IsArrayTable, IsArrayTableOf, array_table_bytes, decoded_arrays};
 ghost use Rattle.ddf_tables.specs.BadBlocks.{IsLog, IsLogOf, decoded_log, log_bytes};
 ghost use Rattle.ddf_tables.specs.Sectors.{IsController, IsDiskData, decoded_controller, decoded_disk_data};
-ghost use Rattle.ddf_configs.specs.Slots.{AreSlotsOf, CanBeSlots, DoFit, decoded_slots, slot_count};
+ghost use Rattle.ddf_config_records.specs.Slots.{AreSlotsOf, CanBeSlots, DoFit, decoded_slots, slot_count};
 ghost use Rattle.ddf_header.specs.declared.geometry.Section.{Section};
 ghost use Rattle.ddf_copy.specs.Runs.{IsReadAs};
 ghost use Rattle.ddf_copy.specs.Sections.{HasSizes, bytes_in, log_in, raw_bytes, whole_slots};
@@ -15,7 +15,7 @@ ghost use Rattle.ddf_copy.specs.Written.{HasLog, CanBeCopy, arrays_written, cont
 use crate::copy::DiskCopy;
 use crate::raw::{Raw, whole_slots};
 use ddf_bytes::{NoMemory, Sector, Seq};
-use ddf_configs::{RecordSlot, encode_slots};
+use ddf_config_records::{RecordSlot, encode_slots};
 use ddf_header::{ARRAYS, BAD_BLOCKS, DISKS, Geometry, Section};
 use ddf_tables::{
     ArrayTable, BadBlockLog, DiskTable, encode_arrays, encode_bad_blocks, encode_controller,

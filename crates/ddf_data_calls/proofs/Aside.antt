@@ -9,17 +9,17 @@ use Rattle.ddf_config.specs.Members.{same_guid}
 use Rattle.ddf_array.specs.Sound.{AreSectors}
 use Rattle.ddf_array.specs.Volume.{Volume}
 use Rattle.ddf_array.proofs.Bools.{and_second}
-use Rattle.ddf_data.specs.Rows.{AreAlikeThroughout}
-use Rattle.ddf_keeping.specs.Grouped.{Promises}
-use Rattle.ddf_keeping.specs.Over.{IsOver}
-use Rattle.ddf_keeping.proofs.Clearly.{below_floor}
+use Rattle.ddf_data_array.specs.Rows.{AreAlikeThroughout}
+use Rattle.ddf_data_group.specs.Grouped.{Promises}
+use Rattle.ddf_data_group.specs.Over.{IsOver}
+use Rattle.ddf_data_group.proofs.Clearly.{below_floor}
 use Rattle.ddf_history.specs.Groups.{groups, has_current}
 use Rattle.ddf_history.specs.Issued.{IsSince, Past}
-use Rattle.ddf_stops.specs.Kept.{is_slot}
-use Rattle.ddf_promise.specs.Carried.{IsAllData}
-use Rattle.ddf_promise.specs.Promised.{KeepsData, is_seat, seats_in}
-use Rattle.ddf_promise.proofs.Seats.{is_at}
-use Rattle.ddf_promise.proofs.Steps.{by_records}
+use Rattle.ddf_history_steps.specs.Kept.{is_slot}
+use Rattle.ddf_data_history.specs.Carried.{IsAllData}
+use Rattle.ddf_data_history.specs.Promised.{KeepsData, is_seat, seats_in}
+use Rattle.ddf_data_history.proofs.Seats.{is_at}
+use Rattle.ddf_data_history.proofs.Steps.{by_records}
 
 module _ (group : List ℕ) (floor : ℕ → ℕ) (small : (slot : ℕ) → floor slot < 2 ^ 64) (past : Past (groups group)) (promises : Promises) {D : Type 0} (old : BayState D) (written : List ℕ)
     (none : (slot : ℕ) → is_slot written slot ≡ true → (number : ℕ) (config : Configuration) → IsSince past.changes number config → has_current config (past.disk slot) ≡ true → ⊥)

@@ -19,10 +19,10 @@ use Rattle.ddf_plan.specs.declared.change.Change.{Change}
 use Rattle.ddf_plan.specs.declared.change.Change.TheVariants as changes
 use Rattle.ddf_array.specs.Viewing.{parts_of, seat_slot}
 use Rattle.ddf_array.specs.Volume.{Volume}
-use Rattle.ddf_keeping.specs.Clearing.{MayBeCleared, MayBeInSync}
-use Rattle.ddf_keeping.specs.Grouped.{MayChange, Promises}
-use Rattle.ddf_keeping.specs.Over.{IsOver, absent_in}
-use Rattle.ddf_carrying.specs.Seats.{AreAlikeSeats}
+use Rattle.ddf_data_group.specs.Clearing.{MayBeCleared, MayBeInSync}
+use Rattle.ddf_data_group.specs.Grouped.{MayChange, Promises}
+use Rattle.ddf_data_group.specs.Over.{IsOver, absent_in}
+use Rattle.ddf_data_disks.specs.Seats.{AreAlikeSeats}
 use Rattle.ddf_data_calls.specs.Calls.{MayAsk}
 
 module _ (one other : List Seat) (alike : AreAlikeSeats one other) where

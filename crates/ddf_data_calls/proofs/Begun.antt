@@ -13,16 +13,16 @@ use Rattle.ddf_config.specs.Refusals.{first_refusal, refuse_if}
 use Rattle.ddf_config.proofs.Firsts.{all_pass}
 use Rattle.ddf_plan.specs.declared.change.Change.TheVariants.{Create}
 use Rattle.ddf_plan.specs.Causes.{causes, steps_of as change_steps}
-use Rattle.ddf_plan.specs.CreateRefusal.{has_named, is_no_shape, is_spare_disk, passes_most, references}
+use Rattle.ddf_plan.specs.CreateRefusal.{is_taken, is_no_shape, is_spare_disk, passes_most, references}
 use Rattle.ddf_plan.specs.Refusals.{not_current, refuse_first}
 use Rattle.ddf_array.specs.Sound.{AreSectors}
-use Rattle.ddf_data.specs.Allowed.{Allowed, any_bytes}
-use Rattle.ddf_data.proofs.Written.{kept_any}
-use Rattle.ddf_keeping.specs.Grouped.{Promises}
-use Rattle.ddf_keeping.specs.Kept.{KeepsArray}
-use Rattle.ddf_keeping.specs.Over.{absent_in}
-use Rattle.ddf_keeping.proofs.Created.{created_writable}
-use Rattle.ddf_keeping.proofs.Entries.{guid_is}
+use Rattle.ddf_data_array.specs.Allowed.{Allowed, any_bytes}
+use Rattle.ddf_data_array.proofs.Written.{kept_any}
+use Rattle.ddf_data_group.specs.Grouped.{Promises}
+use Rattle.ddf_data_group.specs.Kept.{KeepsArray}
+use Rattle.ddf_data_group.specs.Over.{absent_in}
+use Rattle.ddf_data_group.proofs.Created.{created_writable}
+use Rattle.ddf_data_group.proofs.Entries.{guid_is}
 use Rattle.ddf_rewrite.proofs.Lists.{some_same}
 use Rattle.ddf_history.specs.Groups.{groups}
 use Rattle.ddf_history.specs.Issued.{IsSince, Past}
@@ -35,9 +35,9 @@ use Rattle.ddf_assembly.specs.Refusing.{most_members, room_if_step, step_refusal
 use Rattle.ddf_assembly.specs.Seated.{seats_in as disk_seats}
 use Rattle.ddf_assembly.specs.Steps.{Step, config_after, raised}
 use Rattle.ddf_assembly.proofs.ReadiedSteps.{are_tried, behind}
-use Rattle.ddf_stops.specs.Going.{IsOver as IsDone, changes_in}
-use Rattle.ddf_stops.proofs.LastIssued.{over_last, over_length}
-use Rattle.ddf_promise.specs.Promised.{KeepsData, seats_in, with_promise}
+use Rattle.ddf_history_steps.specs.Going.{IsOver as IsDone, changes_in}
+use Rattle.ddf_history_steps.proofs.LastIssued.{over_last, over_length}
+use Rattle.ddf_data_history.specs.Promised.{KeepsData, seats_in, with_promise}
 use Rattle.ddf_data_calls.proofs.Steps.{AreOfChange, configs, issued_are, of_change}
 
 -- ---- fewer promises
@@ -65,7 +65,7 @@ unfolding causes
 create_new most config disks guid array none =
     not_there (lookup (same_guid guid) config.arrays) guid
     (all_pass
-    (not_current config (disk_seats disks) (references array) ∷ refuse_if (has_named config array.name) NameTaken ∷ unserved_level array
+    (not_current config (disk_seats disks) (references array) ∷ refuse_if (is_taken config array.name) NameTaken ∷ unserved_level array
     ∷ refuse_if (passes_most most array
     || is_no_shape array) Shape
     ∷ [])

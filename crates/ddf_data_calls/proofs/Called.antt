@@ -9,7 +9,7 @@ use Rattle.ddf_config.specs.Configuration.{Configuration}
 use Rattle.ddf_copy.specs.declared.newest_copy.Newest.{Newest}
 use Rattle.ddf_plan.specs.declared.change.Change.{Change}
 use Rattle.ddf_array.specs.Sound.{AreSectors}
-use Rattle.ddf_keeping.specs.Grouped.{Promises}
+use Rattle.ddf_data_group.specs.Grouped.{Promises}
 use Rattle.ddf_history.specs.Groups.{groups}
 use Rattle.ddf_history.specs.Issued.{Past}
 use Rattle.ddf_history.specs.Promise.{IsKept}
@@ -21,14 +21,14 @@ use Rattle.ddf_assembly.specs.Recovery.{config_recovered}
 use Rattle.ddf_assembly.specs.Seated.{seated}
 use Rattle.ddf_assembly.specs.Slots.{newest_from}
 use Rattle.ddf_assembly.specs.Steps.{Step}
-use Rattle.ddf_stops.specs.Going.{Ends, Goes, IsAdmitted, KeepsHistory, changes_in}
-use Rattle.ddf_stops.specs.Kept.{AreAllKept, is_read}
-use Rattle.ddf_stops.proofs.Claimed as claims
-use Rattle.ddf_promise.specs.Carried.{CarriesData, IsAllData, Stays}
-use Rattle.ddf_promise.specs.Promised.{KeepsData, SameBelow, seats_in}
-use Rattle.ddf_promise.proofs.Steps.{below_floors}
-use Rattle.ddf_carrying.specs.Seats.{AreAlikeSeats}
-use Rattle.ddf_carrying.proofs.Records.{written_past}
+use Rattle.ddf_history_steps.specs.Going.{Ends, Goes, IsAdmitted, KeepsHistory, changes_in}
+use Rattle.ddf_history_steps.specs.Kept.{AreAllKept, is_read}
+use Rattle.ddf_history_steps.proofs.Claimed as claims
+use Rattle.ddf_data_history.specs.Carried.{CarriesData, IsAllData, Stays}
+use Rattle.ddf_data_history.specs.Promised.{KeepsData, SameBelow, seats_in}
+use Rattle.ddf_data_history.proofs.Steps.{below_floors}
+use Rattle.ddf_data_disks.specs.Seats.{AreAlikeSeats}
+use Rattle.ddf_data_disks.proofs.Records.{written_past}
 use Rattle.ddf_answer.specs.declared.failure.Failure.{Failure}
 use Rattle.ddf_answer.specs.Call.{work_of}
 use Rattle.ddf_group_commands.specs.Change.{HasChanged, KeepsHistories, Request, is_done, steps_asked, steps_of}

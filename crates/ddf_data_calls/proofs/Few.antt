@@ -17,22 +17,22 @@ use Rattle.ddf_tables.specs.Disks.{decoded_disks}
 use Rattle.ddf_tables.specs.Sectors.{decoded_controller, decoded_disk_data}
 use Rattle.ddf_tables.specs.declared.arrays.ArrayEntry.{ArrayEntry}
 use Rattle.ddf_tables.specs.declared.disks.DiskEntry.{DiskEntry}
-use Rattle.ddf_configs.specs.ElementValue.{ElementValue}
-use Rattle.ddf_configs.specs.declared.fault.ElementFault.{ElementFault}
-use Rattle.ddf_configs.specs.declared.fault.SlotFault.{SlotFault}
-use Rattle.ddf_configs.specs.declared.fault.SlotFault.TheVariants as slot_faults
-use Rattle.ddf_configs.specs.declared.notes.Notes.{Notes}
-use Rattle.ddf_configs.specs.declared.notes.SlotNote.{SlotNote}
-use Rattle.ddf_configs.specs.declared.place.Place.{Place}
-use Rattle.ddf_configs.specs.declared.slot.RecordSlot.{RecordSlot}
-use Rattle.ddf_configs.specs.declared.slot.RecordSlot.TheVariants as slots
-use Rattle.ddf_configs.specs.Elements.{element_at, element_fault_at, element_with}
-use Rattle.ddf_configs.specs.NoteRecords.{is_notes, notes_at}
-use Rattle.ddf_configs.specs.Slots.{decoded_slots, element_signature, element_slot, is_copy, lists, notes_in, seal_fault, slot_at, slot_bytes, slot_count, slots_at, vendor_slot}
-use Rattle.ddf_configs.specs.Spares.{spare_at, spare_signature}
-use Rattle.ddf_configs.specs.Vendors.{vendor_rest, vendor_signature}
-use Rattle.ddf_configs.proofs.ElementRecords.{members_at_most}
-use Rattle.ddf_configs.proofs.Elements.{length-members_at}
+use Rattle.ddf_config_records.specs.ElementValue.{ElementValue}
+use Rattle.ddf_config_records.specs.declared.fault.ElementFault.{ElementFault}
+use Rattle.ddf_config_records.specs.declared.fault.SlotFault.{SlotFault}
+use Rattle.ddf_config_records.specs.declared.fault.SlotFault.TheVariants as slot_faults
+use Rattle.ddf_config_records.specs.declared.notes.Notes.{Notes}
+use Rattle.ddf_config_records.specs.declared.notes.SlotNote.{SlotNote}
+use Rattle.ddf_config_records.specs.declared.place.Place.{Place}
+use Rattle.ddf_config_records.specs.declared.slot.RecordSlot.{RecordSlot}
+use Rattle.ddf_config_records.specs.declared.slot.RecordSlot.TheVariants as slots
+use Rattle.ddf_config_records.specs.Elements.{element_at, element_fault_at, element_with}
+use Rattle.ddf_config_records.specs.NoteRecords.{is_notes, notes_at}
+use Rattle.ddf_config_records.specs.Slots.{decoded_slots, element_signature, element_slot, is_copy, lists, notes_in, seal_fault, slot_at, slot_bytes, slot_count, slots_at, vendor_slot}
+use Rattle.ddf_config_records.specs.Spares.{spare_at, spare_signature}
+use Rattle.ddf_config_records.specs.Vendors.{vendor_rest, vendor_signature}
+use Rattle.ddf_config_records.proofs.ElementRecords.{members_at_most}
+use Rattle.ddf_config_records.proofs.Elements.{length-members_at}
 use Rattle.ddf_copy.specs.declared.copy.DiskCopy.{DiskCopy}
 use Rattle.ddf_copy.specs.declared.fault.AnchorFault.{AnchorFault}
 use Rattle.ddf_copy.specs.declared.fault.CopyFault.{CopyFault}

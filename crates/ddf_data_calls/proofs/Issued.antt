@@ -7,8 +7,8 @@ use Rattle.ddf_config.specs.Configuration.{Configuration}
 use Rattle.ddf_plan.specs.Changes.{changed_at}
 use Rattle.ddf_array.specs.Losing.{AreFewer}
 use Rattle.ddf_array.proofs.Bools.{and_first, and_second}
-use Rattle.ddf_keeping.specs.Grouped.{KeepsArrays, Promises}
-use Rattle.ddf_keeping.proofs.Changed.{changed_keeps}
+use Rattle.ddf_data_group.specs.Grouped.{KeepsArrays, Promises}
+use Rattle.ddf_data_group.proofs.Changed.{changed_keeps}
 use Rattle.ddf_history.specs.Groups.{Disk, groups, has_current}
 use Rattle.ddf_history.specs.Issued.{IsSince, Past, acknowledge, issue, leave_out, take_off}
 use Rattle.ddf_history.proofs.Following.{changes_follow}
@@ -16,10 +16,10 @@ use Rattle.ddf_history.proofs.Lists.{get_more, get_taken, taken_get}
 use Rattle.ddf_history.proofs.Sound.{groups_are_sound}
 use Rattle.ddf_assembly.specs.Group.{GroupValue}
 use Rattle.ddf_assembly.specs.Recovery.{some}
-use Rattle.ddf_stops.specs.Going.{Ends, begun, issue_all}
-use Rattle.ddf_promise.specs.Promised.{AreAlone, KeepsData, is_seat, seats_in}
-use Rattle.ddf_promise.proofs.Seats.{are_fewer}
-use Rattle.ddf_promise.proofs.Steps.{by_acknowledge, by_issue, by_loss, by_taking, seats_are}
+use Rattle.ddf_history_steps.specs.Going.{Ends, begun, issue_all}
+use Rattle.ddf_data_history.specs.Promised.{AreAlone, KeepsData, is_seat, seats_in}
+use Rattle.ddf_data_history.proofs.Seats.{are_fewer}
+use Rattle.ddf_data_history.proofs.Steps.{by_acknowledge, by_issue, by_loss, by_taking, seats_are}
 use Rattle.ddf_data_calls.specs.Calls.{AreMade, IsMade, left_over}
 
 both_true : (a b : Bool) → a ≡ true → b ≡ true → (a && b) ≡ true

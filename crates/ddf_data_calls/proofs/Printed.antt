@@ -12,30 +12,30 @@ use Rattle.ddf_array.specs.Losing.{AreFewer}
 use Rattle.ddf_array.specs.Viewing.{view_of}
 use Rattle.ddf_array.specs.Volume.{IsVolume, Volume}
 use Rattle.ddf_view.proofs.Tests.{same_bytes}
-use Rattle.ddf_data.specs.Allowed.{Allowed, May}
-use Rattle.ddf_keeping.specs.Grouped.{Promises}
-use Rattle.ddf_keeping.specs.Over.{AreCurrentSeats}
+use Rattle.ddf_data_array.specs.Allowed.{Allowed, May}
+use Rattle.ddf_data_group.specs.Grouped.{Promises}
+use Rattle.ddf_data_group.specs.Over.{AreCurrentSeats}
 use Rattle.ddf_rewrite.proofs.Lists.{some_same}
 use Rattle.ddf_history.specs.Groups.{groups}
 use Rattle.ddf_history.specs.Issued.{Past}
 use Rattle.ddf_assembly.specs.Group.{GroupValue, group_of}
 use Rattle.ddf_assembly.specs.Recovery.{trusted_seats}
 use Rattle.ddf_assembly.specs.Slots.{newest_from}
-use Rattle.ddf_stops.specs.Kept.{is_read}
-use Rattle.ddf_stops.proofs.Alone.{alone_group}
-use Rattle.ddf_stops.proofs.Begun.{assembled_kept}
-use Rattle.ddf_stops.proofs.Told.{found_name}
-use Rattle.ddf_promise.specs.Promised.{seats_in}
-use Rattle.ddf_promise.proofs.Returned.{read_since}
-use Rattle.ddf_promise.proofs.Steps.{seats_are}
+use Rattle.ddf_history_steps.specs.Kept.{is_read}
+use Rattle.ddf_history_steps.proofs.Alone.{alone_group}
+use Rattle.ddf_history_steps.proofs.Begun.{assembled_kept}
+use Rattle.ddf_history_steps.proofs.Told.{found_name}
+use Rattle.ddf_data_history.specs.Promised.{seats_in}
+use Rattle.ddf_data_history.proofs.Returned.{read_since}
+use Rattle.ddf_data_history.proofs.Steps.{seats_are}
 use Rattle.ddf_request.specs.Named.{named_array}
 use Rattle.ddf_answer.specs.declared.failure.Failure.{Failure}
 use Rattle.ddf_answer.specs.declared.failure.Failure.TheVariants.{Conflict, Disk, Memory, Refused, Split}
 use Rattle.ddf_answer.specs.Answers.{IsToldFailure, failure_of}
 use Rattle.ddf_answer.specs.Call.{Answer, work_of}
 use Rattle.ddf_group.specs.declared.answer.Assembly.{Assembly}
-use Rattle.ddf_data_commands.specs.Read.{AreBlocks, HasRead, IsReadDone, IsReadIn, IsReadOf, IsReadTold, IsReadable, Outcome}
-use Rattle.ddf_data_commands.specs.Read.Outcome.{CutShort, NotRead, Stopped, Whole}
+use Rattle.ddf_read_commands.specs.Read.{AreBlocks, HasRead, IsReadDone, IsReadIn, IsReadOf, IsReadTold, IsReadable, Outcome}
+use Rattle.ddf_read_commands.specs.Read.Outcome.{CutShort, NotRead, Stopped, Whole}
 use Rattle.ddf_data_calls.specs.Reading.{AdmitsRead, HasReturned, MayBe, Means, blocks_printed}
 use Rattle.ddf_data_calls.proofs.Few.{ArraysFew, given_few}
 use Rattle.ddf_data_calls.proofs.Seats as seating

@@ -29,15 +29,15 @@ use Rattle.ddf_assembly.specs.Committed.{slots_of}
 use Rattle.ddf_assembly.specs.Group.{GroupValue, group_of}
 use Rattle.ddf_assembly.specs.Recovery.{config_lost, config_recovered, some}
 use Rattle.ddf_assembly.specs.Slots.{newest_from}
-use Rattle.ddf_stops.specs.Kept.{is_read, is_slot}
-use Rattle.ddf_stops.proofs.Begun.{assembled_kept}
-use Rattle.ddf_stops.proofs.ChangingStays.{stays_current}
-use Rattle.ddf_stops.proofs.Claimed as claims
-use Rattle.ddf_stops.proofs.RecoveringLoss.{listed_current}
-use Rattle.ddf_stops.proofs.Slots.{slot_placed}
-use Rattle.ddf_promise.specs.Promised.{is_seat, seats_in}
-use Rattle.ddf_promise.proofs.Seats.{found as listed, has_seat}
-use Rattle.ddf_carrying.specs.Seats.{AreAlikeSeats}
+use Rattle.ddf_history_steps.specs.Kept.{is_read, is_slot}
+use Rattle.ddf_history_steps.proofs.Begun.{assembled_kept}
+use Rattle.ddf_history_steps.proofs.ChangingStays.{stays_current}
+use Rattle.ddf_history_steps.proofs.Claimed as claims
+use Rattle.ddf_history_steps.proofs.RecoveringLoss.{listed_current}
+use Rattle.ddf_history_steps.proofs.Slots.{slot_placed}
+use Rattle.ddf_data_history.specs.Promised.{is_seat, seats_in}
+use Rattle.ddf_data_history.proofs.Seats.{found as listed, has_seat}
+use Rattle.ddf_data_disks.specs.Seats.{AreAlikeSeats}
 use Rattle.ddf_data_calls.specs.Calls.{left_over}
 use Rattle.ddf_data_calls.specs.Floors.{HaveFloors}
 use Rattle.ddf_data_calls.proofs.Seats as seating

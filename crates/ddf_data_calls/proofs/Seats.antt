@@ -33,13 +33,13 @@ use Rattle.ddf_assembly.specs.Seated.{seated}
 use Rattle.ddf_assembly.proofs.CommittedSeats.{seated_is}
 use Rattle.ddf_assembly.proofs.Trusted.{trusted_there}
 use Rattle.ddf_assembly.specs.Slots.{newest_from, newest_or}
-use Rattle.ddf_stops.specs.Kept.{is_read}
-use Rattle.ddf_stops.proofs.Begun.{IsMadeOf, assembled_since}
-use Rattle.ddf_stops.proofs.Claimed as claims
-use Rattle.ddf_promise.specs.Promised.{AreAlone, is_seat, seats_in}
-use Rattle.ddf_promise.proofs.Seats.{found, has_seat, is_found, seat_of as listed_seat}
-use Rattle.ddf_carrying.specs.Seats.{AreOnSlots}
-use Rattle.ddf_stops.specs.Floors.{HasFloor}
+use Rattle.ddf_history_steps.specs.Kept.{is_read}
+use Rattle.ddf_history_steps.proofs.Begun.{IsMadeOf, assembled_since}
+use Rattle.ddf_history_steps.proofs.Claimed as claims
+use Rattle.ddf_data_history.specs.Promised.{AreAlone, is_seat, seats_in}
+use Rattle.ddf_data_history.proofs.Seats.{found, has_seat, is_found, seat_of as listed_seat}
+use Rattle.ddf_data_disks.specs.Seats.{AreOnSlots}
+use Rattle.ddf_history_steps.specs.Floors.{HasFloor}
 use Rattle.ddf_data_calls.specs.Floors.{HaveFloors}
 
 -- a disk of a group has the floor of its slot, and it lies on the disk

@@ -13,7 +13,7 @@ use Rattle.ddf_copy.specs.Headers.{written_as}
 use Rattle.ddf_plan.specs.declared.change.Change.{Change}
 use Rattle.ddf_plan.specs.Causes.{steps_of as change_steps}
 use Rattle.ddf_plan.specs.Same.{is_step}
-use Rattle.ddf_keeping.specs.Grouped.{Promises}
+use Rattle.ddf_data_group.specs.Grouped.{Promises}
 use Rattle.ddf_view.specs.Shows.{shows}
 use Rattle.ddf_view.specs.View.{view_of}
 use Rattle.ddf_rewrite.specs.Before.{Before, before}
@@ -29,7 +29,7 @@ use Rattle.ddf_assembly.specs.Steps.{Step, config_after, disks_after, levelled, 
 use Rattle.ddf_assembly.proofs.CommittedReadied.{filter_get}
 use Rattle.ddf_assembly.proofs.Numbered.{steps_numbered}
 use Rattle.ddf_assembly.proofs.ReadiedSteps.{are_tried, behind, loss_rises, none_spent, steps_are}
-use Rattle.ddf_stops.specs.Going.{changes_in}
+use Rattle.ddf_history_steps.specs.Going.{changes_in}
 use Rattle.ddf_data_calls.specs.Calls.{AreMade, MayAsk}
 
 -- ---- the steps behind the recovery

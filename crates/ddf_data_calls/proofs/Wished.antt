@@ -17,7 +17,7 @@ use Rattle.ddf_config.specs.States.{is_marked}
 use Rattle.ddf_plan.specs.declared.change.Change.{Change}
 use Rattle.ddf_plan.specs.declared.change.Change.TheVariants as changes
 use Rattle.ddf_rewrite.proofs.Lists.{some_same}
-use Rattle.ddf_keeping.specs.Grouped.{MayChange, Promises}
+use Rattle.ddf_data_group.specs.Grouped.{MayChange, Promises}
 use Rattle.ddf_repair.specs.Accept.{accepted}
 use Rattle.ddf_words.specs.declared.command.Creation.{Creation}
 use Rattle.ddf_words.specs.declared.command.Wish.{Wish}

@@ -11,20 +11,20 @@ use Rattle.ddf_plan.specs.declared.change.Change.{Change}
 use Rattle.ddf_plan.specs.Changes.{changed_at}
 use Rattle.ddf_array.specs.Sound.{AreSectors}
 use Rattle.ddf_array.specs.Volume.{Volume}
-use Rattle.ddf_data.specs.Allowed.{Allowed}
-use Rattle.ddf_keeping.specs.Clearing.{MayBeCleared}
-use Rattle.ddf_keeping.specs.Over.{IsOver, absent_in}
-use Rattle.ddf_keeping.specs.Grouped.{MayChange, Promises}
+use Rattle.ddf_data_array.specs.Allowed.{Allowed}
+use Rattle.ddf_data_group.specs.Clearing.{MayBeCleared}
+use Rattle.ddf_data_group.specs.Over.{IsOver, absent_in}
+use Rattle.ddf_data_group.specs.Grouped.{MayChange, Promises}
 use Rattle.ddf_history.specs.Groups.{groups}
 use Rattle.ddf_history.specs.Issued.{Past, leave_out}
 use Rattle.ddf_history.specs.Promise.{IsKept}
 use Rattle.ddf_history.specs.Scenes.{scene_of}
 use Rattle.ddf_assembly.specs.Group.{GroupValue}
 use Rattle.ddf_assembly.specs.Recovery.{some}
-use Rattle.ddf_stops.specs.Going.{IsAdmitted}
-use Rattle.ddf_stops.specs.Kept.{AreAllKept}
-use Rattle.ddf_promise.specs.Carried.{IsAllData}
-use Rattle.ddf_promise.specs.Promised.{KeepsData}
+use Rattle.ddf_history_steps.specs.Going.{IsAdmitted}
+use Rattle.ddf_history_steps.specs.Kept.{AreAllKept}
+use Rattle.ddf_data_history.specs.Carried.{IsAllData}
+use Rattle.ddf_data_history.specs.Promised.{KeepsData}
 use Rattle.ddf_words.specs.declared.command.Wish.{Wish}
 use Rattle.ddf_words.specs.declared.command.Wish.TheVariants.{Accept, Create}
 use Rattle.ddf_request.specs.Named.{named_array}

@@ -5,7 +5,7 @@ use Rattle.ddf_bay.specs.State.{BayState}
 use Rattle.ddf_config.specs.Configuration.{Configuration}
 use Rattle.ddf_history.specs.Groups.{groups, has_current}
 use Rattle.ddf_history.specs.Issued.{IsSince, Past}
-use Rattle.ddf_stops.specs.Floors.{HasFloor}
+use Rattle.ddf_history_steps.specs.Floors.{HasFloor}
 
 module _ (group : List ℕ) where
   -- By an image each slot has its floor that isn't lost, and whose disk is a current member since the last acknowledged change.

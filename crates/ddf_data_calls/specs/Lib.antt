@@ -1,3 +1,5 @@
 pub mod Floors
 pub mod Reading
 pub mod Calls
+pub mod Promised
+pub mod Agreed

@@ -5,22 +5,22 @@ use Rattle.ddf_bay.specs.State.{BayState}
 use Rattle.ddf_copy.specs.declared.newest_copy.Newest.{Newest}
 use Rattle.ddf_group.specs.Choice.{is_absorbed}
 use Rattle.ddf_group.specs.Shown.{shown_of}
-use Rattle.ddf_data.specs.Allowed.{Allowed, May}
-use Rattle.ddf_keeping.specs.Grouped.{Promises}
+use Rattle.ddf_data_array.specs.Allowed.{Allowed, May}
+use Rattle.ddf_data_group.specs.Grouped.{Promises}
 use Rattle.ddf_history.specs.Answer.{HasMember, IsReadable}
 use Rattle.ddf_history.specs.Groups.{groups}
 use Rattle.ddf_history.specs.Issued.{IsSince, Past}
 use Rattle.ddf_history.specs.Promise.{IsKept}
 use Rattle.ddf_history.specs.Scenes.{scene_of}
-use Rattle.ddf_stops.specs.Kept.{is_read}
-use Rattle.ddf_promise.specs.Promised.{KeepsData}
+use Rattle.ddf_history_steps.specs.Kept.{is_read}
+use Rattle.ddf_data_history.specs.Promised.{KeepsData}
 use Rattle.ddf_config.specs.declared.array.Array.{Array}
 use Rattle.ddf_assembly.specs.Group.{GroupValue, group_of}
 use Rattle.ddf_request.specs.Named.{named_array}
 use Rattle.ddf_answer.specs.Call.{Answer}
 use Rattle.ddf_answer.specs.Tells.{EndedWith}
-use Rattle.ddf_data_commands.specs.Read.{Outcome, bytes_of}
-use Rattle.ddf_data_commands.specs.Read.Outcome.{CutShort, NotRead, Stopped, Whole}
+use Rattle.ddf_read_commands.specs.Read.{Outcome, bytes_of}
+use Rattle.ddf_read_commands.specs.Read.Outcome.{CutShort, NotRead, Stopped, Whole}
 use Rattle.ddf_data_calls.specs.Floors.{HaveFloors}
 
 -- A call means this group: it names it, or it names none and no other group absorbs this one.

@@ -13,7 +13,7 @@ use Rattle.ddf_update.specs.Group.{AreFirst, HaveFirstCopies, IsLeftFoundingAll,
 use Rattle.ddf_update.specs.NewCopies.{new_copy}
 use Rattle.ddf_update.proofs.FirstCopies.{lie_on_slots, may_found_all}
 use Rattle.ddf_disk_commands.specs.Label.{label_copy, label_slots}
-use Rattle.ddf_disk_commands.specs.LabelRefusal.{label_refusal}
+use Rattle.ddf_disk_commands.specs.LabelRefusal.{label_layout, label_refusal}
 use Rattle.ddf_disk_commands.proofs.Chosen.{chosen_once}
 use Rattle.ddf_disk_commands.proofs.Fits.{all_blank}
 
@@ -45,7 +45,7 @@ module _ {D : Type 0} (a b : BayState D) (slots : List ℕ) (copy : ℕ → Disk
 -- The slots that were found fit get their first copies.
 module _ {D : Type 0} (a b : BayState D) (named slots : List ℕ) (revision : Revision) (stamp : Stamp) (updates : List Prepared)
     (reads : ReadsOnly a b) (are : slots ≡ label_slots a.sizes named) (counted : length updates ≡ length slots)
-    (first : AreFirst (slot_sizes b.sizes slots) (new_copy revision stamp (slot_sizes b.sizes slots)) updates) where
+    (first : AreFirst (slot_sizes b.sizes slots) (new_copy label_layout revision stamp (slot_sizes b.sizes slots)) updates) where
   abbrev sizes : List ℕ
   sizes = a.sizes
 

@@ -1,5 +1,5 @@
 -- What `label` does, and how it ends.
-use Rattle.std.specs.Prelude.{◌≡◌, ℕ, ◌*◌, ◌<◌, List, length, codes, Some, None, OnOk, Result, Ok, Err}
+use Rattle.std.specs.Prelude.{◌≡◌, ℕ, ◌+◌, ◌*◌, ◌<◌, List, length, codes, Some, None, OnOk, Result, Ok, Err}
 use Rattle.ddf_bytes.specs.declared.stamp.Stamp.{Stamp}
 use Rattle.ddf_bay.specs.Moments.{StopsLeave}
 use Rattle.ddf_bay.specs.ReadsOnly.{ReadsOnly, SlotRose}
@@ -7,7 +7,9 @@ use Rattle.ddf_header.specs.declared.kind.Revision.{Revision}
 use Rattle.ddf_header.specs.declared.kind.Revision.TheVariants.{R120, R200}
 use Rattle.ddf_copy.specs.declared.copy.DiskCopy.{DiskCopy}
 use Rattle.ddf_update.specs.Group.{HaveFirstCopies, IsLeftFoundingAll, slot_sizes}
+use Rattle.ddf_update.specs.declared.new_layout.NewLayout.{NewLayout}
 use Rattle.ddf_update.specs.NewCopies.{new_copy}
+use Rattle.ddf_update.specs.NewLayouts.{copy_length}
 use Rattle.ddf_answer.specs.declared.failure.Failure.{Failure}
 use Rattle.ddf_answer.specs.declared.failure.Failure.TheVariants.{Conflict, Disk, Memory, Refused, Split}
 use Rattle.ddf_config.specs.declared.refusal.Refusal.{Refusal}
@@ -16,7 +18,7 @@ use Rattle.ddf_words.specs.declared.command.DiskStyle.TheVariants.{Linux, Standa
 use Rattle.ddf_answer.specs.Answers.{IsToldFailure}
 use Rattle.ddf_answer.specs.Call.{Answer, Work}
 use Rattle.ddf_answer.specs.Costs.{WritesAtMost}
-use Rattle.ddf_disk_commands.specs.LabelRefusal.{chosen, label_refusal}
+use Rattle.ddf_disk_commands.specs.LabelRefusal.{chosen, label_layout, label_refusal}
 use Rattle.ddf_answer.specs.Tells.{ClosesWith}
 
 -- the slots to label on a bay of these sizes
@@ -30,11 +32,11 @@ revision_of Linux = R120
 
 -- the copy that each of them gets, by its place
 abbrev pub label_copy : Revision → Stamp → List ℕ → (named : List ℕ) → ℕ → DiskCopy
-label_copy revision stamp sizes named = new_copy revision stamp (slot_sizes sizes (label_slots sizes named))
+label_copy revision stamp sizes named = new_copy label_layout revision stamp (slot_sizes sizes (label_slots sizes named))
 
--- the most sectors that each of them gets written: its two copies, of 39 sectors and a header that is written twice, and the anchor
-abbrev pub label_sectors : ℕ
-label_sectors = 83
+-- the most sectors that each of them gets written: its two copies, whose headers are written twice, and the anchor
+abbrev pub label_sectors : NewLayout → ℕ
+label_sectors layout = 2 * (copy_length layout + 1) + 1
 
 -- What it did, by its answer: the slots have their copies, sure; or else it was refused and nothing was written, or a call on a
 -- slot failed, or memory ran out and nothing was written.
@@ -65,5 +67,5 @@ pub record IsLabelled {D : Type 0} (work : Work D) (revision : Revision) (stamp 
   pub ends : IsToldLabel outcome answer
   pub unfailed : OnOk outcome ((slot : ℕ) → work.new.failed_writes slot ≡ work.old.failed_writes slot)
   pub any_moment : work.tells → StopsLeave work.old work.new (IsLeftFoundingAll work.old (label_slots work.old.sizes named) (label_copy revision stamp work.old.sizes named))
-  pub costs : WritesAtMost work (label_sectors * length (label_slots work.old.sizes named))
+  pub costs : WritesAtMost work (label_sectors label_layout * length (label_slots work.old.sizes named))
   pub refused : work.tells → (refusal : Refusal) → label_refusal work.old.sizes work.old.held named ≡ Some refusal → ReadsOnly work.old work.new

@@ -9,6 +9,9 @@ use Rattle.ddf_header.specs.declared.reading.Header.{Header}
 use Rattle.ddf_copy.specs.declared.fault.AnchorFault.{AnchorFault}
 use Rattle.ddf_copy.specs.declared.fault.AnchorFault.TheVariants.{Blank}
 use Rattle.ddf_copy.specs.Anchor.{anchor_at}
+use Rattle.ddf_update.specs.declared.new_layout.NewLayout.{NewLayout}
+use Rattle.ddf_update.specs.declared.new_layout.NewLayout.TheVariants as layouts
+use Rattle.ddf_update.specs.NewLayouts.{least_sectors as least_of, rows_of}
 use Rattle.ddf_answer.specs.declared.failure.Failure.{Failure}
 use Rattle.ddf_answer.specs.declared.failure.Failure.TheVariants.{Conflict, Disk, Memory, Refused, Split}
 use Rattle.ddf_config.specs.declared.refusal.FullTable.TheVariants.{Disks}
@@ -45,13 +48,17 @@ is_blank other = false
 abbrev pub is_anchored : List ℕ → Image → ℕ → Bool
 is_anchored sizes held slot = not (is_blank (anchor_at (slice_index sizes slot) (held slot)))
 
--- the fewest sectors of a new disk (profile)
-abbrev pub least_sectors : ℕ
-least_sectors = 33000
+-- the layout of the disks that are made (profile)
+abbrev pub label_layout : NewLayout
+label_layout = layouts.Small
 
--- the most disks of a new group (profile)
+-- the fewest sectors of a new disk
+abbrev pub least_sectors : ℕ
+least_sectors = least_of label_layout
+
+-- the most disks of a new group
 abbrev pub most_disks : ℕ
-most_disks = 15
+most_disks = rows_of label_layout
 
 abbrev pub is_small : List ℕ → ℕ → Bool
 is_small sizes slot = nat_lt (slice_index sizes slot) least_sectors

@@ -11,11 +11,11 @@ use ddf_bay::{Bay, DiskFault};
 use ddf_bytes::NoMemory;
 use ddf_config::{FullTable, Refusal};
 use ddf_copy::{AnchorFault, anchor_of};
-use ddf_update::LEAST_SECTORS;
+use ddf_update::NewLayout;
 use std::alloc::Global;
 
-/// The most disks of a new group (profile).
-const MOST_DISKS: usize = 15;
+/// The layout of the disks that are made (profile).
+pub(crate) const LAYOUT: NewLayout = NewLayout::Small;
 
 /// The slots to label, in rising order: those that are named, or all. It reads the last sector of each.
 pub(crate) fn fit_slots<B: Bay>(
@@ -116,11 +116,11 @@ fn misfit<B: Bay>(bay: &B, slots: &[usize], anchored: Option<usize>) -> Option<R
     }
     if let Some(slot) = first_small(bay, slots) {
         return Some(Refusal::Small {
-            needed: LEAST_SECTORS,
+            needed: LAYOUT.least_sectors(),
             found: bay.size(slot),
         });
     }
-    if slots.len() > MOST_DISKS {
+    if slots.len() > usize::from(LAYOUT.most_disks()) {
         return Some(Refusal::Full(FullTable::Disks));
     }
     None
@@ -131,10 +131,8 @@ fn first_small<B: Bay>(bay: &B, slots: &[usize]) -> Option<usize>
     requires { All (λ slot. slot < length (B.disks bay.now).sizes) slots.now }
     ensures { result ≡ find (is_small (B.disks bay.now).sizes) slots.now }
 {
-    slots
-        .iter()
-        .copied()
-        .find(|slot| bay.size(*slot) < LEAST_SECTORS)
+    let least = LAYOUT.least_sectors();
+    slots.iter().copied().find(|slot| bay.size(*slot) < least)
 }
 
 /// The first of the slots that isn't blank. The anchors of all are read.

@@ -6,7 +6,7 @@ ghost use Rattle.ddf_update.specs.Group.{AreFirst, IsLeftFoundingAll, slot_sizes
 ghost use Rattle.ddf_update.specs.NewCopies.{new_copy};
 ghost use Rattle.ddf_config.specs.declared.refusal.Refusal.{Refusal};
 ghost use Rattle.ddf_disk_commands.specs.Label.{IsLabelled, IsTried, label_copy, label_sectors, label_slots, revision_of};
-ghost use Rattle.ddf_disk_commands.specs.LabelRefusal.{IsFit, label_refusal};
+ghost use Rattle.ddf_disk_commands.specs.LabelRefusal.{IsFit, label_layout, label_refusal};
 ghost use Rattle.ddf_answer.specs.Call.{answer_of, work_of};
 ghost use Rattle.ddf_answer.specs.Costs.{WritesAtMost};
 ghost use Rattle.ddf_answer.specs.Ends.{Ends};
@@ -14,7 +14,7 @@ ghost use Rattle.ddf_words.specs.Traits.{traits_of};
 ghost use Rattle.ddf_words.specs.declared.command.Command.{Command};
 ghost use Rattle.ddf_answer.specs.Status.{code_of};
 
-use crate::label_slots::fit_slots;
+use crate::label_slots::{LAYOUT, fit_slots};
 use ddf_answer::{Failure, Status, tell, tell_failure};
 use ddf_bay::{Bay, DiskFault};
 use ddf_bytes::{NoMemory, Sink, Stamp};
@@ -64,7 +64,7 @@ fn labelled<B: Bay>(
     ensures any_moment { B.tells → StopsLeave (B.disks bay.old) (B.disks bay.new) (IsLeftFoundingAll (B.disks bay.old) (label_slots (B.disks bay.old).sizes named.now) (label_copy revision stamp.now (B.disks bay.old).sizes named.now)) }
     ensures goes_on { GoesOn (B.disks bay.old) (B.disks bay.new) }
     ensures same_sizes { (B.disks bay.new).sizes ≡ (B.disks bay.old).sizes }
-    ensures costs { WritesAtMost (work_of B.tells (B.disks bay.old) (B.disks bay.new)) (label_sectors * length (label_slots (B.disks bay.old).sizes named.now)) }
+    ensures costs { WritesAtMost (work_of B.tells (B.disks bay.old) (B.disks bay.new)) (label_sectors label_layout * length (label_slots (B.disks bay.old).sizes named.now)) }
     ensures refused { B.tells → (refusal : Refusal) → label_refusal (B.disks bay.old).sizes (B.disks bay.old).held named.now ≡ Some refusal → ReadsOnly (B.disks bay.old) (B.disks bay.new) }
 {
     let slots = match fit_slots(alloc, named, bay) {
@@ -91,11 +91,11 @@ fn first_updates<B: Bay>(
     requires fit { IsFit (B.disks bay.now).sizes slots.now }
     requires there { All (λ slot. slot < length (B.disks bay.now).sizes) slots.now }
     ensures counted { IfOk result (λ updates. length updates.items ≡ length slots.now) }
-    ensures first { IfOk result (λ updates. AreFirst (slot_sizes (B.disks bay.now).sizes slots.now) (new_copy revision stamp.now (slot_sizes (B.disks bay.now).sizes slots.now)) updates.items) }
+    ensures first { IfOk result (λ updates. AreFirst (slot_sizes (B.disks bay.now).sizes slots.now) (new_copy label_layout revision stamp.now (slot_sizes (B.disks bay.now).sizes slots.now)) updates.items) }
 {
     let mut disks = Vec::with_capacity(alloc, slots.len())?;
     for slot in slots {
         disks.push((*slot, bay.size(*slot)))?;
     }
-    found(alloc, &disks, revision, stamp)
+    found(alloc, &disks, LAYOUT, revision, stamp)
 }

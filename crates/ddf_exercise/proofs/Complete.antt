@@ -4,7 +4,7 @@ use Rattle.std.specs.List.{flat_map}
 use Rattle.ddf_bytes.specs.declared.stamp.Stamp.{Stamp}
 use Rattle.ddf_bay.specs.Memory.{state_of}
 use Rattle.ddf_bay.specs.declared.memory.MemoryBay.{MemoryBay}
-use Rattle.ddf_course.specs.Turns.Turn.{Closing}
+use Rattle.ddf_exercise_config.specs.Turns.Turn.{Closing}
 use Rattle.ddf_exercise.specs.Blocks.{block_of, bytes_behind, bytes_of_blocks, zero_blocks}
 use Rattle.ddf_exercise.specs.Exercise.{IsExercised, new_disks}
 use Rattle.ddf_exercise.specs.Steps.{all_steps}

@@ -6,12 +6,12 @@ use Rattle.ddf_bytes.specs.declared.stamp.Stamp.{Stamp}
 use Rattle.ddf_bay.specs.Memory.{state_of}
 use Rattle.ddf_bay.specs.declared.memory.MemoryBay.{MemoryBay}
 use Rattle.ddf_plan.specs.Refusals.{greatest_sequence}
-use Rattle.ddf_course.specs.Stages.{seats_at}
-use Rattle.ddf_course.specs.Turns.{Loss, Turn, turn_before, turn_behind}
-use Rattle.ddf_course.specs.Turns.Loss.{OfSecond, OfThird}
-use Rattle.ddf_course.specs.Turns.Turn.{Closing, Middle, Opening}
-use Rattle.ddf_steady.specs.Lost.{lost_slot}
-use Rattle.ddf_steady.specs.Zeros.{none_out}
+use Rattle.ddf_exercise_config.specs.Stages.{seats_at}
+use Rattle.ddf_exercise_config.specs.Turns.{Loss, Turn, turn_before, turn_behind}
+use Rattle.ddf_exercise_config.specs.Turns.Loss.{OfSecond, OfThird}
+use Rattle.ddf_exercise_config.specs.Turns.Turn.{Closing, Middle, Opening}
+use Rattle.ddf_exercise_disks.specs.Lost.{lost_slot}
+use Rattle.ddf_exercise_disks.specs.Zeros.{none_out}
 use Rattle.ddf_exercise.specs.Blocks.{behind_step, blocks_behind, filled, zero_blocks}
 use Rattle.ddf_exercise.specs.Draws.{behind_fill, behind_fills, drawn, first_state, next_fill, next_state}
 use Rattle.ddf_exercise.specs.Exercise.{new_disks}

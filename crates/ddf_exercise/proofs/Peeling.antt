@@ -7,7 +7,7 @@ use Rattle.ddf_answer.specs.Call.{answer_of}
 use Rattle.ddf_exercise.specs.Steps.{rise}
 use Rattle.ddf_exercise.specs.Taking.{AreTaken, CountsAs, Going, IsTaken, IsTried, LacksMemory, counted, line_of, unused}
 use Rattle.ddf_exercise.specs.declared.steps.Step.{Step}
-use Rattle.ddf_steady.specs.Ending.{EndsWell}
+use Rattle.ddf_exercise_disks.specs.Ending.{EndsWell}
 
 -- It was done so that this holds, or memory ran out.
 abbrev pub GoesOnOr : (code : ℕ) → (P : Type 0) → Type 0

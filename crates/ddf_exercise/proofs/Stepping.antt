@@ -11,27 +11,27 @@ use Rattle.ddf_update.specs.NewCopies.{group_of as name_of}
 use Rattle.ddf_plan.specs.Refusals.{greatest_sequence}
 use Rattle.ddf_text.specs.Done.{sequence_line}
 use Rattle.ddf_request.specs.NewArray.{new_array_guid}
-use Rattle.ddf_course.specs.Disks.{AreApart, Disks}
-use Rattle.ddf_course.specs.Founded.{new_disks}
-use Rattle.ddf_course.specs.Stages.{created, founded, resynced, seats_at, spare_disk, whole, with_spare}
-use Rattle.ddf_course.specs.Turns.{Loss, Turn, turn_before, turn_behind}
-use Rattle.ddf_course.specs.Turns.Loss.{OfSecond, OfThird}
-use Rattle.ddf_course.specs.Turns.Turn.{Opening}
-use Rattle.ddf_course.specs.Views.{view_at}
-use Rattle.ddf_course.proofs.Labelled.{are_apart}
-use Rattle.ddf_settled.proofs.PlainReferences.{names_disk}
-use Rattle.ddf_steady.specs.Ending.{unused}
-use Rattle.ddf_steady.specs.Lost.{lost_slot}
-use Rattle.ddf_steady.specs.Standing.{StandsAt}
-use Rattle.ddf_steady.specs.Storing.{StoresAt}
-use Rattle.ddf_steady.specs.Zeros.{IsZero, none_out}
-use Rattle.ddf_steady.proofs.EndsReads.{read_stores, scrub_stores}
-use Rattle.ddf_steady.proofs.FirstChange.{creation_stands, first_spare_stores, second_spare_stores}
-use Rattle.ddf_steady.proofs.FirstLabel.{label_founds}
-use Rattle.ddf_steady.proofs.FirstResync.{resync_stores}
-use Rattle.ddf_steady.proofs.RebuildingBlocks.{rebuild_stores}
-use Rattle.ddf_steady.proofs.RebuildingGroup.{IsRebuilding}
-use Rattle.ddf_steady.proofs.WritingDone.{write_stores}
+use Rattle.ddf_exercise_config.specs.Disks.{AreApart, Disks}
+use Rattle.ddf_exercise_config.specs.Founded.{new_disks}
+use Rattle.ddf_exercise_config.specs.Stages.{created, founded, resynced, seats_at, spare_disk, whole, with_spare}
+use Rattle.ddf_exercise_config.specs.Turns.{Loss, Turn, turn_before, turn_behind}
+use Rattle.ddf_exercise_config.specs.Turns.Loss.{OfSecond, OfThird}
+use Rattle.ddf_exercise_config.specs.Turns.Turn.{Opening}
+use Rattle.ddf_exercise_config.specs.Views.{view_at}
+use Rattle.ddf_exercise_config.proofs.Labelled.{are_apart}
+use Rattle.ddf_uncut_group.proofs.PlainReferences.{names_disk}
+use Rattle.ddf_exercise_disks.specs.Ending.{unused}
+use Rattle.ddf_exercise_disks.specs.Lost.{lost_slot}
+use Rattle.ddf_exercise_disks.specs.Standing.{StandsAt}
+use Rattle.ddf_exercise_disks.specs.Storing.{StoresAt}
+use Rattle.ddf_exercise_disks.specs.Zeros.{IsZero, none_out}
+use Rattle.ddf_exercise_disks.proofs.EndsReads.{read_stores, scrub_stores}
+use Rattle.ddf_exercise_disks.proofs.FirstChange.{creation_stands, first_spare_stores, second_spare_stores}
+use Rattle.ddf_exercise_disks.proofs.FirstLabel.{label_founds}
+use Rattle.ddf_exercise_disks.proofs.FirstResync.{resync_stores}
+use Rattle.ddf_exercise_disks.proofs.RebuildingBlocks.{rebuild_stores}
+use Rattle.ddf_exercise_disks.proofs.RebuildingGroup.{IsRebuilding}
+use Rattle.ddf_exercise_disks.proofs.WritingDone.{write_stores}
 use Rattle.ddf_exercise.specs.Blocks.{filled}
 use Rattle.ddf_exercise.specs.Exercise.{IsTriedRead, new_disks as disks_made}
 use Rattle.ddf_exercise.specs.Taking.{CountsAs, IsTaken, IsTried, line_of}

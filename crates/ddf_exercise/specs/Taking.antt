@@ -17,8 +17,8 @@ use Rattle.ddf_words.specs.Traits.{traits_of}
 use Rattle.ddf_write_commands.specs.Payload.{input_of}
 use Rattle.ddf_answer.specs.Call.{answer_of, work_of}
 use Rattle.ddf_command.specs.Run.{IsCommandDone}
-pub use Rattle.ddf_course.specs.Words.{creation as array_asked, word as array_name}
-pub use Rattle.ddf_steady.specs.Ending.{unused}
+pub use Rattle.ddf_exercise_config.specs.Words.{creation as array_asked, word as array_name}
+pub use Rattle.ddf_exercise_disks.specs.Ending.{unused}
 use Rattle.ddf_exercise.specs.declared.steps.Step.{Step}
 use Rattle.ddf_exercise.specs.declared.steps.Step.TheVariants.{Label, Create, Resync, Spare, Write, Unplug, Rebuild, Scrub}
 use Rattle.ddf_exercise.specs.Steps.{rise}

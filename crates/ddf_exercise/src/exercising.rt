@@ -18,7 +18,7 @@ use crate::taking::{NAME, counted, is_told, take_all};
 use ddf_answer::{Status, tell};
 use ddf_bay::MemoryBay;
 use ddf_bytes::{Guid, GuidKind, MemorySink, NoMemory, Sink, Stamp, new_guid};
-use ddf_data_commands::read;
+use ddf_read_commands::read;
 use std::alloc::Global;
 
 /// How many blocks the array has.

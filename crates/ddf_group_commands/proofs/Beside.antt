@@ -13,8 +13,8 @@ use Rattle.ddf_assembly.specs.Committed.{MayRecover, WasReadied, next_slots, nex
 use Rattle.ddf_assembly.specs.Group.{GroupValue}
 use Rattle.ddf_assembly.specs.Ready.{ReadyValue}
 use Rattle.ddf_assembly.proofs.RecoveryWritten.{recovery_on_seats}
-use Rattle.ddf_stops.specs.Kept.{is_slot}
-use Rattle.ddf_stops.proofs.Slots.{slot_is}
+use Rattle.ddf_history_steps.specs.Kept.{is_slot}
+use Rattle.ddf_history_steps.proofs.Slots.{slot_is}
 use Rattle.ddf_group_commands.specs.GroupRead.{IsReadFrom}
 use Rattle.ddf_group_commands.specs.Others.{LeavesOthers}
 use Rattle.ddf_group_commands.proofs.Keeping.{MayLeave}

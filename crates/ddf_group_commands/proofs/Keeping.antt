@@ -18,11 +18,11 @@ use Rattle.ddf_assembly.specs.Steps.{Step}
 use Rattle.ddf_assembly.proofs.Committed.{may_write_next}
 use Rattle.ddf_assembly.proofs.RecoveredGroup.{recovered_ready}
 use Rattle.ddf_assembly.proofs.RecoveryWritten.{may_recover, recovered_held}
-use Rattle.ddf_stops.specs.Going.{IsAdmitted, KeepsHistory, changes_in}
-use Rattle.ddf_stops.specs.Kept.{AreAllKept, ReadsTrue}
-use Rattle.ddf_stops.proofs.Calling as calling
-use Rattle.ddf_stops.proofs.Calling.{only_reads}
-use Rattle.ddf_stops.proofs.Entering.{keeps_since_entry, keeps_where_told}
+use Rattle.ddf_history_steps.specs.Going.{IsAdmitted, KeepsHistory, changes_in}
+use Rattle.ddf_history_steps.specs.Kept.{AreAllKept, ReadsTrue}
+use Rattle.ddf_history_steps.proofs.Calling as calling
+use Rattle.ddf_history_steps.proofs.Calling.{only_reads}
+use Rattle.ddf_history_steps.proofs.Entering.{keeps_since_entry, keeps_where_told}
 use Rattle.ddf_group_commands.specs.Change.{KeepsHistories}
 use Rattle.ddf_group_commands.specs.GroupRead.{IsFoundBy, IsReadFrom}
 use Rattle.ddf_group_commands.proofs.Recovering.{Commits, Recovers, Settles}

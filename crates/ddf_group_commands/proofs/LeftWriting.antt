@@ -31,18 +31,18 @@ use Rattle.ddf_assembly.specs.Trying.{AreFollowing, ArePrepared}
 use Rattle.ddf_assembly.proofs.Ordered.{order_from}
 use Rattle.ddf_assembly.proofs.RecoveredGroup.{recovery_follows}
 use Rattle.ddf_assembly.proofs.RecoveryWritten.{may_recover, recovery_lies}
-use Rattle.ddf_stops.specs.Kept.{ReadsTrue, SaysOne, is_slot, unwritten}
-use Rattle.ddf_stops.proofs.Again.{bytes_say_one}
-use Rattle.ddf_stops.proofs.Slots.{slot_placed}
-use Rattle.ddf_stops.proofs.Stops.{each_outside, each_shows, other_shows, unwritten_else, unwritten_here, unwritten_left}
+use Rattle.ddf_history_steps.specs.Kept.{ReadsTrue, SaysOne, is_slot, unwritten}
+use Rattle.ddf_history_steps.proofs.Again.{bytes_say_one}
+use Rattle.ddf_history_steps.proofs.Slots.{slot_placed}
+use Rattle.ddf_history_steps.proofs.Stops.{each_outside, each_shows, other_shows, unwritten_else, unwritten_here, unwritten_left}
 use Rattle.ddf_group_commands.specs.GroupRead.{IsReadFrom}
 use Rattle.ddf_group_commands.specs.Writing.{IsLeftWriting, IsStepsSector, IsWrittenOn, ShowsStep}
 use Rattle.ddf_group_commands.proofs.Keeping.{MayLeave, Moments, Tells}
 use Rattle.ddf_group_commands.proofs.Recovering.{rest_lies}
 use Rattle.ddf_group_commands.proofs.StepsWritten.{steps_in}
 use Rattle.ddf_assembly.specs.Group.{floor_of}
-use Rattle.ddf_stops.specs.Floors.{HasFloor}
-use Rattle.ddf_stops.proofs.Placed.{each_floor}
+use Rattle.ddf_history_steps.specs.Floors.{HasFloor}
+use Rattle.ddf_history_steps.proofs.Placed.{each_floor}
 
 -- ---- nothing was written
 

@@ -1,6 +1,6 @@
 -- What a command that changes a group comes to.
-use Rattle.std.proofs.Common.{◌≡◌, ◌⊎◌, ℕ, suc, ◌+◌, ◌*◌, ◌≤◌, Bool, true, false, [], ◌∷◌, List, length, Option, Result, Ok, Err, refl, sym, ap, subst, ◌∙◌, inl, inr, ⊎_elim, arith}
-use Rattle.std.specs.Prelude.{OnOk}
+use Rattle.std.proofs.Common.{◌≡◌, ◌⊎◌, ℕ, suc, ◌+◌, ◌*◌, ◌<◌, ◌≤◌, Bool, true, false, [], ◌∷◌, List, length, Option, Result, Ok, Err, refl, sym, ap, subst, ◌∙◌, inl, inr, ⊎_elim, arith}
+use Rattle.std.specs.Prelude.{OnOk, slice_index, slice_index_or}
 use Rattle.ddf_bay.specs.State.{BayState}
 use Rattle.ddf_bay.specs.Moments.{StopsLeave}
 use Rattle.ddf_bay.specs.ReadsOnly.{ReadsOnly}
@@ -123,6 +123,11 @@ none_in work timestamp request (Err fault) failure reads answer = (
       answer,
   reads,
 )
+
+-- No sync of a slot failed that wasn't left out, or has a sector.
+pub unsynced_in : {D : Type 0} (work : Work D) (named : Option (List ℕ)) (found : Result GroupValue Failure) (read : IsGroupRead work named found) (slot : ℕ) → slot < length read.left
+    → (slice_index_or read.left slot false ≡ false) ⊎ (0 < slice_index work.old.sizes slot) → work.new.failed_writes slot ≡ work.old.failed_writes slot
+unsynced_in work named found read slot below kept = ⊎_elim (λ seen. (read.seen slot below seen).1) (λ some. read.unsynced slot below some) kept
 
 -- A call that only reads, and was refused or cut short, took the group that it read, or found none.
 pub takes_reading : {D : Type 0} (work : Work D) (named : Option (List ℕ)) (timestamp : ℕ) (request : Request) (found : Result GroupValue Failure) → IsGroupRead work named found
@@ -264,7 +269,7 @@ module _ {D : Type 0} (tells : Type 0) (old middle new : BayState D) (reads : Re
               })
               asked (asked_of (readied group changes timestamp) asked (sym steps ∙ now_asked))))
               are_asked;
-          unfailed = λ done slot below kept. ap (λ (counts : ℕ → ℕ). counts slot) (where_done outcome written.unfailed done) ∙ (read.seen slot below kept).1;
+          unfailed = λ done slot below kept. ap (λ (counts : ℕ → ℕ). counts slot) (where_done outcome written.unfailed done) ∙ unsynced_in (work_of tells old middle) named (Ok group) read slot below kept;
         };
         seen = λ slot below kept. same_reads slot ∙ (read.seen slot below kept).0;
         gone = λ given. read.gone (λ spent. absurd cc);

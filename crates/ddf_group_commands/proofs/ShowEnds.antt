@@ -49,6 +49,7 @@ shown_nothing old tells told before named looked = record {
     every_slot = looked.every_slot;
     failed = looked.are_failed.rose;
     seen = looked.are_failed.same;
+    unsynced = looked.are_failed.unsynced;
     newest = newest_from old 0 looked.left;
     read = λ tells. refl;
     answer = inr refl;

@@ -28,7 +28,7 @@ use Rattle.ddf_assembly.proofs.CommittedSeats.{get_there}
 use Rattle.ddf_assembly.proofs.Ordered.{order_at, order_from}
 use Rattle.ddf_group_commands.specs.Change.{last_sequence}
 use Rattle.ddf_group_commands.specs.Written.{AreWritten, HasCopy, IsWritten}
-use Rattle.ddf_stops.proofs.Placed.{got_floor}
+use Rattle.ddf_history_steps.proofs.Placed.{got_floor}
 
 abbrev pub steps_in : List ReadyStep → List Step
 steps_in steps = map (λ one. one.step) steps

@@ -1,5 +1,5 @@
 -- What a command that changes a group does, and how it ends.
-use Rattle.std.specs.Prelude.{◌≡◌, ◌⊎◌, ℕ, ◌+◌, ◌*◌, ◌<◌, ◌≤◌, Bool, true, false, List, [], ◌∷◌, length, Option, Result, Ok, Err, IsTrue, slice_index_or}
+use Rattle.std.specs.Prelude.{◌≡◌, ◌⊎◌, ℕ, ◌+◌, ◌*◌, ◌<◌, ◌≤◌, Bool, true, false, List, [], ◌∷◌, length, Option, Result, Ok, Err, IsTrue, slice_index, slice_index_or}
 use Rattle.ddf_bytes.specs.Counts.{Rose}
 use Rattle.ddf_bay.specs.Moments.{StopsLeave}
 use Rattle.ddf_bay.specs.ReadsOnly.{LookFailed, ReadsOnly}
@@ -22,8 +22,8 @@ use Rattle.ddf_assembly.specs.Slots.{AreOut, newest_from}
 use Rattle.ddf_assembly.specs.Steps.{Step}
 use Rattle.ddf_history.specs.Groups.{groups}
 use Rattle.ddf_history.specs.Issued.{Past}
-use Rattle.ddf_stops.specs.Going.{IsAdmitted, KeepsHistory, changes_in}
-use Rattle.ddf_stops.specs.Kept.{AreAllKept}
+use Rattle.ddf_history_steps.specs.Going.{IsAdmitted, KeepsHistory, changes_in}
+use Rattle.ddf_history_steps.specs.Kept.{AreAllKept}
 use Rattle.ddf_text.specs.Done.{sequence_line}
 use Rattle.ddf_answer.specs.declared.failure.Failure.{Failure}
 use Rattle.ddf_answer.specs.declared.failure.Failure.TheVariants.{Conflict, Disk, Memory, Refused, Split}
@@ -121,7 +121,7 @@ KeepsHistories old new left found steps done =
 
 -- A call that came to this took the group, if there is one, that the newest copies of the slots give that aren't left out: it left slots that are no
 -- seats' as before, and keeps each history of the group that admits it. A slot is left out only where a call of this call failed on it. Where all was done
--- no write or sync failed of any other slot.
+-- no write or sync failed of any other slot, nor of one that has a sector.
 pub record TakesGroup {D : Type 0} (work : Work D) (named : Option (List ℕ)) (timestamp : ℕ) (request : Request) (done : Bool) : Type 0 where
   pub left : List Bool
   pub every_slot : length left ≡ length work.old.sizes
@@ -131,7 +131,8 @@ pub record TakesGroup {D : Type 0} (work : Work D) (named : Option (List ℕ)) (
   pub beside : work.tells → (found : GroupValue) → group_of newest named ≡ Ok found → LeavesOthers work.old work.new (slots_of found.seats)
   pub keeps : work.tells → (found : GroupValue) → group_of newest named ≡ Ok found → (steps : List Step) → steps_of found timestamp request ≡ Ok steps
       → KeepsHistories work.old work.new left found steps done
-  pub unfailed : done ≡ true → (slot : ℕ) → slot < length left → slice_index_or left slot false ≡ false → work.new.failed_writes slot ≡ work.old.failed_writes slot
+  pub unfailed : done ≡ true → (slot : ℕ) → slot < length left → (slice_index_or left slot false ≡ false) ⊎ (0 < slice_index work.old.sizes slot)
+      → work.new.failed_writes slot ≡ work.old.failed_writes slot
 
 -- The most calls that it makes of a bay of so many slots: 15 to look at each, one sync of each, and 25 for each copy of a recovery and of the step
 -- behind it.

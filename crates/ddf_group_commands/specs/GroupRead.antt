@@ -1,5 +1,5 @@
 -- The group that the disks are, or why there is none.
-use Rattle.std.specs.Prelude.{◌≡◌, ◌⊎◌, ℕ, ◌+◌, ◌*◌, ◌<◌, ◌≤◌, Bool, false, List, length, Option, Result, Ok, Err, IfOk, IsTrue, slice_index_or}
+use Rattle.std.specs.Prelude.{◌≡◌, ◌⊎◌, ℕ, ◌+◌, ◌*◌, ◌<◌, ◌≤◌, Bool, false, List, length, Option, Result, Ok, Err, IfOk, IsTrue, slice_index, slice_index_or}
 use Rattle.ddf_bay.specs.State.{BayState}
 use Rattle.ddf_bay.specs.ReadsOnly.{LookFailed, SlotSame}
 use Rattle.ddf_copy.specs.declared.newest_copy.Newest.{Newest}
@@ -21,12 +21,13 @@ group_or (Ok group) = Ok group
 group_or (Err fault) = Err (failure_of fault)
 
 -- A call came to this, or memory ran out: what the newest copies of the slots give that aren't left out. A slot is left out where a call of
--- this call failed on it, and nowhere else; each of which every call fails is, but where memory ran out.
+-- this call failed on it, and nowhere else; each of which every call fails is, but where memory ran out. No sync of a slot that has a sector failed.
 pub record IsGroupRead {D : Type 0} (work : Work D) (named : Option (List ℕ)) (result : Result GroupValue Failure) : Type 0 where
   pub left : List Bool
   pub every_slot : length left ≡ length work.old.sizes
   pub failed : (slot : ℕ) → slot < length left → IsTrue (slice_index_or left slot false) → LookFailed work.old work.new slot
   pub seen : (slot : ℕ) → slot < length left → slice_index_or left slot false ≡ false → SlotSame work.old work.new slot
+  pub unsynced : (slot : ℕ) → slot < length left → 0 < slice_index work.old.sizes slot → work.new.failed_writes slot ≡ work.old.failed_writes slot
   pub newest : List (Option Newest)
   pub read : work.tells → newest ≡ newest_from work.old 0 left
   pub answer : (result ≡ group_or (group_of newest named)) ⊎ (result ≡ Err Memory)

@@ -13,7 +13,7 @@ use Rattle.ddf_history.specs.Steps.{IsPart}
 use Rattle.ddf_assembly.specs.declared.seated.Seated.{Seated}
 use Rattle.ddf_assembly.specs.Group.{floor_of}
 use Rattle.ddf_assembly.specs.Steps.{Step}
-use Rattle.ddf_stops.specs.Floors.{HasFloor}
+use Rattle.ddf_history_steps.specs.Floors.{HasFloor}
 
 -- One of these steps writes a disk on a slot.
 pub record IsWrittenOn (steps : List Step) (slot : ℕ) : Type 0 where

@@ -8,7 +8,7 @@ use Rattle.ddf_update.specs.Update.{AreBoth, IsWritten as IsUpdateSector}
 use Rattle.ddf_assembly.specs.declared.seated.Seated.{Seated}
 use Rattle.ddf_assembly.specs.Steps.{Step}
 use Rattle.ddf_assembly.specs.Group.{floor_of}
-use Rattle.ddf_stops.specs.Floors.{HasFloor}
+use Rattle.ddf_history_steps.specs.Floors.{HasFloor}
 
 -- A disk has its copy in both places, and all outside what it writes is as it was. It has the floor that it had, where that is the copy's.
 pub record HasCopy (sizes : List ℕ) (before after : Image) (disk : Seated) : Type 0 where

@@ -18,7 +18,7 @@ use Rattle.ddf_bytes.proofs.Nones.{none_map}
 use Rattle.ddf_view.specs.View.{View, HeldRecord, find_held, is_element}
 use Rattle.ddf_view.specs.Reading.{plan_of}
 use Rattle.ddf_view.specs.Shows.{same_flag, same_plan, same_position}
-use Rattle.ddf_view.specs.Differ.{array_differs, difference, differing_arrays, differing_disks, differing_elements, disk_differs, element_difference, element_differs, held_differ, key_cmp, key_of, least, numbered_array, numbered_disk, same_array, same_disk, same_held, same_member_place, same_notes, same_record}
+use Rattle.ddf_view.specs.Differ.{array_differs, difference, differing_arrays, differing_disks, differing_elements, disk_differs, element_difference, element_differs, held_differ, key_cmp, key_of, least, numbered_array, numbered_disk, same_array, same_disk, same_held, same_member_place, same_notes, same_record, told_kind}
 use Rattle.ddf_view.specs.declared.difference.Difference.TheVariants as differences
 use Rattle.ddf_view.proofs.Finds.{find_has}
 use Rattle.ddf_view.proofs.Tests.{same_bytes, bytes_same}
@@ -68,7 +68,7 @@ option_turned same turned (Some x) (Some y) = turned x y
 -- Two disks with their places are.
 disk_turned : (one other : ℕ × DiskEntry) → same_disk one other ≡ same_disk other one
 disk_turned one other =
-    rw (eqb_turned one.0 other.0, bytes_turned one.1.guid other.1.guid, eqb_turned one.1.kind.0 other.1.kind.0, eqb_turned one.1.state.0 other.1.state.0, eqb_turned one.1.size other.1.size) refl
+    rw (eqb_turned one.0 other.0, bytes_turned one.1.guid other.1.guid, eqb_turned (told_kind one.1) (told_kind other.1), eqb_turned one.1.state.0 other.1.state.0, eqb_turned one.1.size other.1.size) refl
 
 -- Two arrays with their places are.
 array_turned : (one other : ℕ × ArrayEntry) → same_array one other ≡ same_array other one

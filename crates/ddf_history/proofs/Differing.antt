@@ -9,7 +9,7 @@ use Rattle.std.specs.Ordering.{nat_cmp}
 use Rattle.std.specs.Str.{bytes_eq}
 use Rattle.ddf_tables.specs.declared.disks.DiskEntry.{DiskEntry}
 use Rattle.ddf_view.specs.View.{View, entry_in, has_bit, is_missing, lists_current, lists_missing}
-use Rattle.ddf_view.specs.Differ.{difference, differing_disks, disk_differs, least, numbered_disk, same_disk}
+use Rattle.ddf_view.specs.Differ.{difference, differing_disks, disk_differs, least, numbered_disk, same_disk, told_kind}
 use Rattle.ddf_view.specs.declared.difference.Difference.TheVariants as differences
 use Rattle.ddf_view.proofs.Tests.{same_bytes, and_five}
 use Rattle.ddf_history.proofs.Listed.{has_reference, is_entry, none_behind, value_there}
@@ -130,7 +130,7 @@ alike_entry one other reference entry none found =
     let equal = not_true (option_eq same_disk (numbered_disk reference one.disks) (numbered_disk reference other.disks)) tested in
     let first = placed_there (numbered_disk reference one.disks) entry (placed (has_reference reference) 0 one.disks ∙ found) in
     let second = both_there same_disk (numbered_disk reference one.disks) (numbered_disk reference other.disks) first.0 first.1 equal in
-    let parts = and_five (eqb first.0.0 second.0.0) (bytes_eq first.0.1.guid second.0.1.guid) (eqb first.0.1.kind.0 second.0.1.kind.0) (eqb first.0.1.state.0 second.0.1.state.0) (eqb first.0.1.size second.0.1.size) second.2 in
+    let parts = and_five (eqb first.0.0 second.0.0) (bytes_eq first.0.1.guid second.0.1.guid) (eqb (told_kind first.0.1) (told_kind second.0.1)) (eqb first.0.1.state.0 second.0.1.state.0) (eqb first.0.1.size second.0.1.size) second.2 in
     let state : first.0.1.state.0 ≡ second.0.1.state.0 = eqb-true first.0.1.state.0 second.0.1.state.0 parts.3 in
     let guid : first.0.1.guid ≡ second.0.1.guid = same_bytes first.0.1.guid second.0.1.guid parts.1 in (
       second.0.1,

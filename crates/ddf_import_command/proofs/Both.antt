@@ -187,8 +187,11 @@ module _ {D : Type 0} (tells : Type 0) where
           first = first_look old first new named (Ok native) rise since read;
           second = second_look old first middle new (Some other) (Ok joined) reads rise whole later also;
           seen = λ slot below kept also_kept. same_reads slot ∙ (also.seen slot (below_too also.left also.every_slot slot below) also_kept).0 ∙ (read.seen slot below kept).0;
-          unfailed = λ done slot below kept also_kept. ap (λ (counts : ℕ → ℕ). counts slot) (where_done outcome unfailed done)
-              ∙ (also.seen slot (below_too also.left also.every_slot slot below) also_kept).1 ∙ (read.seen slot below kept).1;
+          unfailed = λ done slot below kept. ap (λ (counts : ℕ → ℕ). counts slot) (where_done outcome unfailed done)
+              ∙ ⊎_elim
+              (λ seen. (also.seen slot (below_too also.left also.every_slot slot below) seen.1).1 ∙ (read.seen slot below seen.0).1)
+              (λ some. also.unsynced slot (below_too also.left also.every_slot slot below) (rw reads.same_sizes some) ∙ read.unsynced slot below some)
+              kept;
           gone = λ given. read.gone (λ spent. absurd cc);
           calls =
               let most = read.calls in let then = also.calls in let same = ap (λ (sizes : List ℕ). length sizes) reads.same_sizes in

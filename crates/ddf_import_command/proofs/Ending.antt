@@ -94,7 +94,7 @@ imported_nothing {D = D} old tells told before named other timestamp looked =
         first = look;
         second = look;
         seen = λ slot below kept also_kept. refl;
-        unfailed = λ done slot below kept also_kept. refl;
+        unfailed = λ done slot below kept. refl;
         gone = λ given. absurd (given refl);
         calls = omega arith;
         gives = spent tells old named other timestamp old look.left look.left (group_of look.newest named) (group_of look.newest (Some other)) (reads_start old);

@@ -10,12 +10,12 @@ use Rattle.ddf_assembly.specs.Joining.{Joining}
 use Rattle.ddf_assembly.specs.JoinValue.{JoinValue}
 use Rattle.ddf_assembly.specs.Ready.{ReadyValue}
 use Rattle.ddf_bay.proofs.Steps.{left_keeps}
-use Rattle.ddf_stops.specs.Joins.{AdmitsBoth, IsImport, WereBothTaken}
-use Rattle.ddf_stops.specs.Kept.{ReadsTrue}
-use Rattle.ddf_stops.specs.Steps.{IsRecovery, recovery_changes}
-use Rattle.ddf_stops.proofs.Calling.{only_reads}
-use Rattle.ddf_stops.proofs.Entering.{keeps_since_entry, keeps_where_told}
-use Rattle.ddf_stops.proofs.JoinCalling.{import_call, import_fails, may}
+use Rattle.ddf_history_steps.specs.Joins.{AdmitsBoth, IsImport, WereBothTaken}
+use Rattle.ddf_history_steps.specs.Kept.{ReadsTrue}
+use Rattle.ddf_history_steps.specs.Steps.{IsRecovery, recovery_changes}
+use Rattle.ddf_history_steps.proofs.Calling.{only_reads}
+use Rattle.ddf_history_steps.proofs.Entering.{keeps_since_entry, keeps_where_told}
+use Rattle.ddf_history_steps.proofs.JoinCalling.{import_call, import_fails, may}
 use Rattle.ddf_answer.specs.declared.failure.Failure.{Failure}
 use Rattle.ddf_group_commands.specs.GroupRead.{IsFoundBy, IsReadFrom}
 use Rattle.ddf_import_command.specs.Import.{IsImportReady, KeepsJoins, import_asked}

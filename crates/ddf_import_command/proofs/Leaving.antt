@@ -15,7 +15,7 @@ use Rattle.ddf_assembly.specs.JoinValue.{JoinValue}
 use Rattle.ddf_assembly.specs.Ready.{ReadyStep, ReadyValue}
 use Rattle.ddf_assembly.specs.Steps.{Step}
 use Rattle.ddf_assembly.proofs.RecoveredGroup.{recovery_follows}
-use Rattle.ddf_stops.specs.Kept.{ReadsTrue}
+use Rattle.ddf_history_steps.specs.Kept.{ReadsTrue}
 use Rattle.ddf_group_commands.specs.GroupRead.{IsReadFrom}
 use Rattle.ddf_group_commands.specs.Writing.{IsLeftWriting}
 use Rattle.ddf_group_commands.proofs.Keeping.{MayLeave, Moments, Tells}

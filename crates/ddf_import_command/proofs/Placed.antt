@@ -33,8 +33,8 @@ use Rattle.ddf_assembly.proofs.JoinReadied.{was}
 use Rattle.ddf_assembly.proofs.Ordered.{order_all, order_differ, order_from}
 use Rattle.ddf_assembly.proofs.RecoveredGroup.{is_recovered}
 use Rattle.ddf_assembly.proofs.RecoveryWritten.{recovered_anchored, recovery_lies, recovery_on_seats}
-use Rattle.ddf_stops.proofs.JoinTaken.{recovered_on}
-use Rattle.ddf_stops.proofs.JoinTries.{joining_is, step_is}
+use Rattle.ddf_history_steps.proofs.JoinTaken.{recovered_on}
+use Rattle.ddf_history_steps.proofs.JoinTries.{joining_is, step_is}
 use Rattle.ddf_answer.specs.Call.{work_of}
 use Rattle.ddf_group_commands.specs.GroupRead.{IsReadFrom}
 use Rattle.ddf_import_command.specs.Import.{IsImportReady, IsJoinFault, import_asked, is_own}

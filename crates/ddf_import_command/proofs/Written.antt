@@ -26,7 +26,7 @@ use Rattle.ddf_assembly.proofs.JoinWritten.{may_join}
 use Rattle.ddf_assembly.proofs.LeftOut.{kept_there}
 use Rattle.ddf_assembly.proofs.RecoveredGroup.{rewriting}
 use Rattle.ddf_assembly.proofs.RecoveryWritten.{may_recover, recovered_held}
-use Rattle.ddf_stops.proofs.JoinTaken.{one_held}
+use Rattle.ddf_history_steps.proofs.JoinTaken.{one_held}
 use Rattle.ddf_answer.specs.Call.{work_of}
 use Rattle.ddf_group_commands.specs.GroupRead.{IsReadFrom}
 use Rattle.ddf_group_commands.specs.Written.{AreWritten, IsWritten}

@@ -1,5 +1,5 @@
 -- What the command does by which another group joins the group that the disks are, and how it ends.
-use Rattle.std.specs.Prelude.{◌≡◌, ◌⊎◌, ℕ, ◌+◌, ◌*◌, ◌<◌, ◌≤◌, ◌==◌, ◌&&◌, not, Bool, true, false, List, [], ◌∷◌, ◌++◌, length, Option, Some, None, Result, Ok, Err, IfSome, IsTrue, option_to_list, slice_index_or}
+use Rattle.std.specs.Prelude.{◌≡◌, ◌⊎◌, ℕ, ◌+◌, ◌*◌, ◌<◌, ◌≤◌, ◌==◌, ◌&&◌, not, Bool, true, false, List, [], ◌∷◌, ◌++◌, length, Option, Some, None, Result, Ok, Err, IfSome, IsTrue, option_to_list, slice_index, slice_index_or}
 use Rattle.std.specs.List.{list_all, list_any}
 use Rattle.ddf_bytes.specs.Counts.{Rose}
 use Rattle.ddf_bay.specs.Moments.{StopsLeave}
@@ -26,10 +26,10 @@ use Rattle.ddf_assembly.specs.Steps.{Step}
 use Rattle.ddf_assembly.specs.Trying.{Follows}
 use Rattle.ddf_history.specs.Groups.{groups}
 use Rattle.ddf_history.specs.Issued.{Past}
-use Rattle.ddf_stops.specs.Going.{IsAdmitted, KeepsHistory}
-use Rattle.ddf_stops.specs.Joins.{AdmitsCall}
-use Rattle.ddf_stops.specs.Kept.{AreAllKept}
-use Rattle.ddf_stops.specs.Steps.{recovery_changes}
+use Rattle.ddf_history_steps.specs.Going.{IsAdmitted, KeepsHistory}
+use Rattle.ddf_history_steps.specs.Joins.{AdmitsCall}
+use Rattle.ddf_history_steps.specs.Kept.{AreAllKept}
+use Rattle.ddf_history_steps.specs.Steps.{recovery_changes}
 use Rattle.ddf_answer.specs.declared.failure.Failure.{Failure}
 use Rattle.ddf_answer.specs.declared.failure.Failure.TheVariants.{Conflict, Disk, Memory, Refused, Split}
 use Rattle.ddf_answer.specs.Answers.{failure_of}
@@ -160,13 +160,14 @@ abbrev pub most_calls : (slots : ℕ) → ℕ
 most_calls slots = 82 * slots
 
 -- A call came to this: what it made of the groups that two looks at the disks found, each by its own. Where the first found none there was no
--- second. A slot that neither left out was read without a failure, and where all was done no write or sync of it failed either; one of which every call fails is left out by the first, but where memory ran out.
+-- second. A slot that neither left out was read without a failure, and where all was done no write or sync failed of it, nor of one that has a sector; one of which every call fails is left out by the first, but where memory ran out.
 pub record HasImported {D : Type 0} (work : Work D) (named : Option (List ℕ)) (other : List ℕ) (timestamp : ℕ) (outcome : Result ℕ Failure) : Type 0 where
   pub first : IsLook work
   pub second : IsLook work
   pub seen : (slot : ℕ) → slot < length first.left → slice_index_or first.left slot false ≡ false → slice_index_or second.left slot false ≡ false
       → work.new.failed_reads slot ≡ work.old.failed_reads slot
-  pub unfailed : is_done outcome ≡ true → (slot : ℕ) → slot < length first.left → slice_index_or first.left slot false ≡ false → slice_index_or second.left slot false ≡ false
+  pub unfailed : is_done outcome ≡ true → (slot : ℕ) → slot < length first.left
+      → ((slice_index_or first.left slot false ≡ false) × (slice_index_or second.left slot false ≡ false)) ⊎ (0 < slice_index work.old.sizes slot)
       → work.new.failed_writes slot ≡ work.old.failed_writes slot
   pub gone : (outcome ≡ Err Memory → ⊥) → AreOut work.old first.left
   pub calls : work.new.calls ≤ work.old.calls + most_calls (length work.old.sizes)

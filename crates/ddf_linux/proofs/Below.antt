@@ -1,5 +1,5 @@
 -- How the slots are seen that were looked at so far, one slot more.
-use Rattle.std.proofs.Common.{◌≡◌, ◌≢◌, ℕ, ◌+◌, ◌<◌, ◌≤◌, zero, suc, Bool, List, true, false, length, replicate, ⊎_elim, refl, ◌∙◌, arith}
+use Rattle.std.proofs.Common.{◌≡◌, ◌≢◌, ℕ, ◌+◌, ◌<◌, ◌≤◌, zero, suc, List, Option, true, false, length, replicate, ⊎_elim, refl, ◌∙◌, arith}
 use Rattle.std.specs.Prelude.{slice_index, slice_set}
 use Rattle.std.proofs.lemmas.List.{get_or-set_same, get_or-set_other}
 use Rattle.std.proofs.lemmas.Bool.{cases_eq}
@@ -7,6 +7,7 @@ use Rattle.ddf_bytes.specs.Counts.{Rose}
 use Rattle.ddf_bay.specs.State.{BayState}
 use Rattle.ddf_bay.specs.ReadsOnly.{ReadsOnly}
 use Rattle.ddf_bay.proofs.Steps.{rose_then, rose_since}
+use Rattle.ddf_update.specs.declared.new_layout.NewLayout.{NewLayout}
 use Rattle.ddf_linux.specs.declared.kind.SlotKind.{SlotKind}
 use Rattle.ddf_linux.specs.declared.kind.SlotKind.TheVariants.{Plain}
 use Rattle.ddf_linux.specs.State.{own_or}
@@ -19,7 +20,7 @@ kind_same a b slot kind reads is = record {
   turned = rw (reads.same_sizes, reads.same_held) at is.turned;
 }
 
-pub kind_kept : {D : Type 0} (founds : Bool) (a b : BayState D) (slot : ℕ) (kind : SlotKind) → ReadsOnly a b → IsSeenAs founds b slot kind → IsSeenAs founds a slot kind
+pub kind_kept : {D : Type 0} (founds : Option NewLayout) (a b : BayState D) (slot : ℕ) (kind : SlotKind) → ReadsOnly a b → IsSeenAs founds b slot kind → IsSeenAs founds a slot kind
 kind_kept founds a b slot kind reads is = record {
   founded = rw (reads.same_sizes, reads.same_held) at is.founded;
   other = λ none. kind_same a b slot kind reads (is.other (rw (reads.same_sizes, reads.same_held) none));

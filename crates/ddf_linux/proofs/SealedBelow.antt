@@ -1,5 +1,5 @@
 -- What is seen sealed as the standard says on a new disk is sealed in Linux's kind below.
-use Rattle.std.proofs.Common.{◌≡◌, ◌⊎◌, ℕ, zero, suc, ◌+◌, ◌-◌, ◌*◌, ◌/◌, ◌<◌, ◌≤◌, ◌^◌, Bool, true, false, ◌||◌, eqb, List, [], ◌++◌, length, take, drop, map, Option, Some, None, Result, Ok, Err, inl, inr, ⊎_elim, refl, ap, sym, ◌∙◌, subst, arith, add-zero, append_assoc, length-append, cond, ltb}
+use Rattle.std.proofs.Common.{◌≡◌, ◌⊎◌, ℕ, zero, suc, ◌+◌, ◌-◌, ◌*◌, ◌/◌, ◌<◌, ◌≤◌, ◌^◌, Bool, true, false, ◌||◌, eqb, List, [], ◌++◌, length, take, drop, map, Option, Some, None, Result, Ok, Err, inl, inr, ⊎_elim, refl, ap, sym, ◌∙◌, subst, arith, add-zero, length-append, cond, ltb}
 use Rattle.std.specs.Prelude.{option_map}
 use Rattle.std.specs.List.{range_with_len}
 use Rattle.std.specs.Option.{option_or}
@@ -7,7 +7,7 @@ use Rattle.std.specs.Result.{result_err}
 use Rattle.std.specs.Int.{w32, from_be_bytes}
 use Rattle.std.proofs.lemmas.Bool.{cases_lt, eqb-true}
 use Rattle.std.proofs.lemmas.List.{append-nil, get_or_append_left, take-append-le}
-use Rattle.std.proofs.Math.Seq.{drop-append-add, get_or-append_right, take-append_seam}
+use Rattle.std.proofs.Math.Seq.{drop-append-add, get_or-append_right, take-append-add}
 use Rattle.ddf_bytes.specs.Bytes.{number_at}
 use Rattle.ddf_bytes.specs.Choices.{ok_unless}
 use Rattle.ddf_bay.specs.Sectors.{IsWhole}
@@ -27,13 +27,13 @@ use Rattle.ddf_tables.specs.Arrays.{array_signature, decoded_arrays}
 use Rattle.ddf_tables.specs.BadBlocks.{LogValue, decoded_log, log_signature}
 use Rattle.ddf_tables.specs.Disks.{decoded_disks, disk_signature}
 use Rattle.ddf_tables.specs.Sectors.{controller_at, controller_signature, decoded_controller, decoded_disk_data, disk_data_at, disk_data_signature}
-use Rattle.ddf_configs.specs.declared.fault.SlotFault.{SlotFault}
-use Rattle.ddf_configs.specs.declared.fault.SlotFault.TheVariants as slot_faults
-use Rattle.ddf_configs.specs.declared.slot.RecordSlot.{RecordSlot}
-use Rattle.ddf_configs.specs.Elements.{HasRoom}
-use Rattle.ddf_configs.specs.Slots.{AreSealed, decoded_slots, is_known, slot_bytes, slot_count}
-use Rattle.ddf_configs.proofs.Sections.{decoded_sealed}
-use Rattle.ddf_configs.proofs.SlotValues.{signature_is}
+use Rattle.ddf_config_records.specs.declared.fault.SlotFault.{SlotFault}
+use Rattle.ddf_config_records.specs.declared.fault.SlotFault.TheVariants as slot_faults
+use Rattle.ddf_config_records.specs.declared.slot.RecordSlot.{RecordSlot}
+use Rattle.ddf_config_records.specs.Elements.{HasRoom}
+use Rattle.ddf_config_records.specs.Slots.{AreSealed, decoded_slots, is_known, slot_bytes, slot_count}
+use Rattle.ddf_config_records.proofs.Sections.{decoded_sealed}
+use Rattle.ddf_config_records.proofs.SlotValues.{signature_is}
 use Rattle.ddf_copy.specs.declared.copy.DiskCopy.{DiskCopy}
 use Rattle.ddf_copy.specs.declared.fault.CopyFault.{CopyFault}
 use Rattle.ddf_copy.specs.declared.fault.SectionName.{SectionName}
@@ -43,9 +43,14 @@ use Rattle.ddf_copy.specs.declared.which.Which.{Which}
 use Rattle.ddf_copy.specs.Gate.{gated, header_in, header_of}
 use Rattle.ddf_copy.specs.Sections.{and_then, bytes_in, copy_in, in_section, in_sector, in_slots, log_in, raw_at, some_log}
 use Rattle.ddf_copy.specs.Which.{kind_of, place_of}
+use Rattle.ddf_update.specs.declared.new_layout.NewLayout.{NewLayout}
+use Rattle.ddf_update.specs.declared.new_layout.NewLayout.TheVariants.{Large, Small}
 use Rattle.ddf_update.specs.NewCopies.{new_geometry}
+use Rattle.ddf_update.specs.NewLayouts.{copy_length, least_sectors, record_length_of, records_sectors, slots_of, table_sectors_of}
 use Rattle.ddf_linux.specs.declared.kind.SlotKind.{SlotKind}
 use Rattle.ddf_linux.specs.declared.kind.SlotKind.TheVariants.{Turned}
+use Rattle.ddf_linux.specs.declared.layout.Layout.{Layout}
+use Rattle.ddf_linux.specs.declared.records.Records.{Records}
 use Rattle.ddf_linux.specs.Crcs.{IsLinuxSealed, constant_of}
 use Rattle.ddf_linux.specs.CrcLaws.{linux_from_standard, turned_front}
 use Rattle.ddf_linux.specs.Founded.{AreSlotsForLinux, IsCopyForLinux, below}
@@ -54,7 +59,7 @@ use Rattle.ddf_linux.specs.Layouts.{records_with}
 use Rattle.ddf_linux.specs.Places.{constant_at, is_first, new_places}
 use Rattle.ddf_linux.specs.Turning.{turned}
 use Rattle.ddf_linux.specs.TurnLaws.{turn_length, turn_signature}
-use Rattle.ddf_linux.proofs.NewPlaces.{IsNewHeader, new_layout, none_begins, none_turned, slot_begins, slot_goes_on, turned_at}
+use Rattle.ddf_linux.proofs.NewPlaces.{GoesOn, IsNewHeader, arrays_begin, arrays_go_on, disk_data_begins, disks_begin, disks_go_on, log_begins, none_turned, own_records, slot_begins, slot_goes_on, slots_behind, turned_at}
 
 -- the bytes of two lists are bytes
 pub append_bytes : (first rest : List ℕ) → AreBytes first → AreBytes rest → AreBytes (first ++ rest)
@@ -67,24 +72,66 @@ append_bytes first rest are others i = ⊎_elim
 pub signature_front : (first rest : List ℕ) → length first ≡ 512 → number_at w32 (first ++ rest) 0 ≡ signature_of first
 signature_front first rest long = ap (from_be_bytes w32) (take-append-le 4 first rest (omega (arith, long)))
 
-module _ (size : ℕ) (seen : ℕ → List ℕ) (whole : (l : ℕ) → IsWhole (seen l)) where
+-- ---- runs of sectors
+
+-- the bytes of so many sectors from one on
+abbrev pub run : (ℕ → List ℕ) → (from count : ℕ) → List ℕ
+run sector from count = bytes_in (map sector (range_with_len from count))
+
+run_bytes : (sector : ℕ → List ℕ) → ((l : ℕ) → AreBytes (sector l)) → (from count : ℕ) → AreBytes (run sector from count)
+run_bytes sector are from zero = λ i. omega arith
+run_bytes sector are from (suc count) = append_bytes (sector from) (run sector (from + 1) count) (are from) (run_bytes sector are (from + 1) count)
+
+module _ (sector : ℕ → List ℕ) (long : (l : ℕ) → length (sector l) ≡ 512) where
+  length_run : (from count : ℕ) → length (run sector from count) ≡ 512 * count
+  length_run from zero = refl
+  length_run from (suc count) = length-append (sector from) (run sector (from + 1) count) ∙ omega (arith, long from, length_run (from + 1) count)
+
+  run_front : (from count n : ℕ) → n ≤ count → take (512 * n) (run sector from count) ≡ run sector from n
+  run_front from count zero le = refl
+  run_front from zero (suc n) le = absurd (omega (arith, le))
+  run_front from (suc count) (suc n) le =
+      let first : 512 * suc n ≡ length (sector from) + 512 * n = omega (arith, long from) in
+      ap (λ (k : ℕ). take k (run sector from (suc count))) first ∙ take-append-add (sector from) (run sector (from + 1) count) (512 * n)
+      ∙ ap (λ (rest : List ℕ). sector from ++ rest) (run_front (from + 1) count n (omega (arith, le)))
+
+  run_behind : (from count n : ℕ) → n ≤ count → drop (512 * n) (run sector from count) ≡ run sector (from + n) (count - n)
+  run_behind from count zero le =
+      let here : from ≡ from + 0 = omega arith in
+      let all : count ≡ count - 0 = omega arith in
+      ap (λ (l : ℕ). run sector l count) here ∙ ap (run sector (from + 0)) all
+  run_behind from zero (suc n) le = absurd (omega (arith, le))
+  run_behind from (suc count) (suc n) le =
+      let first : 512 * suc n ≡ length (sector from) + 512 * n = omega (arith, long from) in
+      let here : from + 1 + n ≡ from + suc n = omega arith in
+      let fewer : count - n ≡ suc count - suc n = omega arith in
+      ap (λ (k : ℕ). drop k (run sector from (suc count))) first ∙ drop-append-add (sector from) (run sector (from + 1) count) (512 * n)
+      ∙ run_behind (from + 1) count n (omega (arith, le))
+      ∙ ap (λ (l : ℕ). run sector l (count - n)) here ∙ ap (run sector (from + suc n)) fewer
+
+  -- the bytes of so many sectors among others
+  run_among : (from count behind n at size : ℕ) → behind + n ≤ count → at ≡ 512 * behind → size ≡ 512 * n → take size (drop at (run sector from count)) ≡ run sector (from + behind) n
+  run_among from count behind n at size within is_at is_size =
+      rw (is_at, is_size) (ap (take (512 * n)) (run_behind from count behind (omega (arith, within))) ∙ run_front (from + behind) (count - behind) n (omega (arith, within)))
+
+module _ (layout : NewLayout) (size : ℕ) (seen : ℕ → List ℕ) (whole : (l : ℕ) → IsWhole (seen l)) where
   -- the slot as a new disk's is seen
   abbrev pub kind : SlotKind
-  kind = Turned (new_places size)
+  kind = Turned (new_places layout size)
 
   -- a sector that isn't turned
-  pub same_below : (l : ℕ) → ((signature : ℕ) → constant_at (new_places size) l signature ≡ None) → below kind seen l ≡ seen l
+  pub same_below : (l : ℕ) → ((signature : ℕ) → constant_at (new_places layout size) l signature ≡ None) → below kind seen l ≡ seen l
   same_below l none = ap (λ (constant : Option ℕ). turned_by constant (seen l)) (none (signature_of (seen l)))
 
   -- a record that begins with a turned sector
-  pub sealed_below : (l signature : ℕ) (rest : List ℕ) → signature < 2 ^ 32 → constant_at (new_places size) l signature ≡ Some (constant_of (512 + length rest))
+  pub sealed_below : (l signature : ℕ) (rest : List ℕ) → signature < 2 ^ 32 → constant_at (new_places layout size) l signature ≡ Some (constant_of (512 + length rest))
       → IsSealed signature (seen l ++ rest) → IsLinuxSealed signature (below kind seen l ++ rest)
   sealed_below l signature rest fits constant sealed =
       let bytes : List ℕ = seen l ++ rest in
       let size_of : length bytes ≡ 512 + length rest = length-append (seen l) rest ∙ ap (λ (n : ℕ). n + length rest) (whole l).size in
       let named : signature_of (seen l) ≡ signature = sym (signature_front (seen l) rest (whole l).size) ∙ signature_is signature bytes fits sealed in
       let first : below kind seen l ≡ turned (constant_of (512 + length rest)) (seen l) =
-      ap (λ (n : ℕ). turned_by (constant_at (new_places size) l n) (seen l)) named ∙ ap (λ (found : Option ℕ). turned_by found (seen l)) constant in
+      ap (λ (n : ℕ). turned_by (constant_at (new_places layout size) l n) (seen l)) named ∙ ap (λ (found : Option ℕ). turned_by found (seen l)) constant in
       let whole_record : turned (constant_of (length bytes)) bytes ≡ below kind seen l ++ rest =
       ap (λ (n : ℕ). turned (constant_of n) bytes) size_of
       ∙ turned_front (constant_of (512 + length rest)) (seen l) rest (omega (arith, (whole l).size))
@@ -92,27 +139,46 @@ module _ (size : ℕ) (seen : ℕ → List ℕ) (whole : (l : ℕ) → IsWhole (
       rw whole_record at (linux_from_standard signature bytes (omega (arith, size_of)) sealed)
 
   -- by the check of its seal
-  pub checked_below : (l signature : ℕ) (rest : List ℕ) → signature < 2 ^ 32 → AreBytes rest → constant_at (new_places size) l signature ≡ Some (constant_of (512 + length rest))
+  pub checked_below : (l signature : ℕ) (rest : List ℕ) → signature < 2 ^ 32 → AreBytes rest → constant_at (new_places layout size) l signature ≡ Some (constant_of (512 + length rest))
       → seal_check signature (seen l ++ rest) ≡ Ok tt → IsLinuxSealed signature (below kind seen l ++ rest)
   checked_below l signature rest fits are constant check =
       let long : 8 ≤ length (seen l ++ rest) = omega (arith, length-append (seen l) rest, (whole l).size) in
       sealed_below l signature rest fits constant (sealed_from_check signature (seen l ++ rest) long (append_bytes (seen l) rest (whole l).are_bytes are) check)
 
   -- a record of one sector
-  pub one_below : (l signature : ℕ) → signature < 2 ^ 32 → constant_at (new_places size) l signature ≡ Some (constant_of 512)
+  pub one_below : (l signature : ℕ) → signature < 2 ^ 32 → constant_at (new_places layout size) l signature ≡ Some (constant_of 512)
       → seal_check signature (seen l) ≡ Ok tt → IsLinuxSealed signature (below kind seen l)
   one_below l signature fits constant check =
       rw (append-nil (below kind seen l)) at (checked_below l signature [] fits (λ i. omega arith) constant (rw (append-nil (seen l)) check))
 
-  -- a record of two sectors, as a section that it fills
-  pub two_below : (l next signature : ℕ) → signature < 2 ^ 32 → constant_at (new_places size) l signature ≡ Some (constant_of 1024)
-      → ((other : ℕ) → constant_at (new_places size) next other ≡ None)
-      → seal_check signature (seen l ++ (seen next ++ [])) ≡ Ok tt → IsLinuxSealed signature (below kind seen l ++ (below kind seen next ++ []))
-  two_below l next signature fits constant none check =
-      let long : 512 + length (seen next ++ []) ≡ 1024 = omega (arith, length-append (seen next) [], (whole next).size) in
-      let are : AreBytes (seen next ++ []) = rw (append-nil (seen next)) (whole next).are_bytes in
-      let turned_by_two : constant_at (new_places size) l signature ≡ Some (constant_of (512 + length (seen next ++ []))) = rw long constant in
-      rw (same_below next none) (checked_below l signature (seen next ++ []) fits are turned_by_two check)
+  -- sectors that aren't turned
+  same_run : (from count : ℕ) → ((l : ℕ) → from ≤ l → l < from + count → (signature : ℕ) → constant_at (new_places layout size) l signature ≡ None)
+      → run (below kind seen) from count ≡ run seen from count
+  same_run from zero none = refl
+  same_run from (suc count) none =
+      let first : below kind seen from ≡ seen from = same_below from (none from (omega arith) (omega arith)) in
+      let rest : run (below kind seen) (from + 1) count ≡ run seen (from + 1) count = same_run (from + 1) count (λ l ge lt. none l (omega (arith, ge)) (omega (arith, lt))) in
+      ap (λ (sector : List ℕ). sector ++ run (below kind seen) (from + 1) count) first ∙ ap (λ (sectors : List ℕ). seen from ++ sectors) rest
+
+  -- a record of so many sectors, of which the first alone is turned
+  pub record_below : (l count signature : ℕ) → 0 < count → signature < 2 ^ 32 → constant_at (new_places layout size) l signature ≡ Some (constant_of (512 * count))
+      → ((k : ℕ) → l < k → k < l + count → (other : ℕ) → constant_at (new_places layout size) k other ≡ None)
+      → IsSealed signature (run seen l count) → IsLinuxSealed signature (run (below kind seen) l count)
+  record_below l zero signature some fits constant none sealed = absurd (omega (arith, some))
+  record_below l (suc count) signature some fits constant none sealed =
+      let rest : List ℕ = run seen (l + 1) count in
+      let long : 512 * suc count ≡ 512 + length rest = omega (arith, length_run seen (λ k. (whole k).size) (l + 1) count) in
+      let turns : constant_at (new_places layout size) l signature ≡ Some (constant_of (512 + length rest)) = constant ∙ ap (λ (n : ℕ). Some (constant_of n)) long in
+      let stays : run (below kind seen) (l + 1) count ≡ rest = same_run (l + 1) count (λ k ge lt. none k (omega (arith, ge)) (omega (arith, lt))) in
+      subst (λ (sectors : List ℕ). IsLinuxSealed signature (below kind seen l ++ sectors)) (sym stays) (sealed_below l signature rest fits turns sealed)
+
+  -- by the check of its seal, as a section that it fills
+  pub section_below : (l count signature : ℕ) → 0 < count → signature < 2 ^ 32 → constant_at (new_places layout size) l signature ≡ Some (constant_of (512 * count))
+      → ((k : ℕ) → l < k → k < l + count → (other : ℕ) → constant_at (new_places layout size) k other ≡ None)
+      → seal_check signature (run seen l count) ≡ Ok tt → IsLinuxSealed signature (run (below kind seen) l count)
+  section_below l count signature some fits constant none check =
+      let long : 8 ≤ length (run seen l count) = omega (arith, length_run seen (λ k. (whole k).size) l count, some) in
+      record_below l count signature some fits constant none (sealed_from_check signature (run seen l count) long (run_bytes seen (λ k. (whole k).are_bytes) l count) check)
 
 -- ---- what is read of a copy
 
@@ -208,48 +274,11 @@ copy_passed header raw copy is =
       is_log = log.1;
     }
 
--- ---- sectors of slots
-
-front_pair : (first second rest : List ℕ) → length first ≡ 512 → length second ≡ 512 → take 1024 (first ++ (second ++ rest)) ≡ first ++ second
-front_pair first second rest long also =
-    let both : length (first ++ second) ≡ 1024 = length-append first second ∙ omega (arith, long, also) in
-    ap (take 1024) (sym (append_assoc first second rest)) ∙ ap (λ (n : ℕ). take n ((first ++ second) ++ rest)) (sym both) ∙ take-append_seam (first ++ second) rest
-
-behind_pair : (first second rest : List ℕ) (n : ℕ) → length first ≡ 512 → length second ≡ 512 → drop (1024 + n) (first ++ (second ++ rest)) ≡ drop n rest
-behind_pair first second rest n long also =
-    let both : length (first ++ second) ≡ 1024 = length-append first second ∙ omega (arith, long, also) in
-    ap (drop (1024 + n)) (sym (append_assoc first second rest)) ∙ ap (λ (m : ℕ). drop (m + n) ((first ++ second) ++ rest)) (sym both) ∙ drop-append-add (first ++ second) rest n
-
-module _ (sector : ℕ → List ℕ) (long : (l : ℕ) → length (sector l) ≡ 512) where
-  abbrev run : (from count : ℕ) → List ℕ
-  run from count = bytes_in (map sector (range_with_len from count))
-
-  length_run : (from count : ℕ) → length (run from count) ≡ 512 * count
-  length_run from zero = refl
-  length_run from (suc count) = length-append (sector from) (run (from + 1) count) ∙ omega (arith, long from, length_run (from + 1) count)
-
-  -- the bytes of a slot of two sectors
-  pair_at : (from count slot at : ℕ) → 2 * slot + 2 ≤ count → at ≡ slot * 1024 → take 1024 (drop at (run from count)) ≡ sector (from + 2 * slot) ++ sector (from + 2 * slot + 1)
-  pair_at from zero slot at le is = absurd (omega (arith, le))
-  pair_at from (suc zero) slot at le is = absurd (omega (arith, le))
-  pair_at from (suc (suc count)) zero at le is =
-      let none : at ≡ 0 = omega (arith, is) in
-      let here : from + 2 * 0 ≡ from = omega arith in
-      rw (none, here) (front_pair (sector from) (sector (from + 1)) (run (from + 1 + 1) count) (long from) (long (from + 1)))
-  pair_at from (suc (suc count)) (suc slot) at le is =
-      let more : at ≡ 1024 + slot * 1024 = omega (arith, is) in
-      let here : from + 2 * suc slot ≡ from + 1 + 1 + 2 * slot = omega arith in
-      rw (more, here) (ap (take 1024) (behind_pair (sector from) (sector (from + 1)) (run (from + 1 + 1) count) (slot * 1024) (long from) (long (from + 1)))
-      ∙ pair_at (from + 1 + 1) count slot (slot * 1024) (omega (arith, le)) refl)
-
-run_bytes : (sector : ℕ → List ℕ) → ((l : ℕ) → AreBytes (sector l)) → (from count : ℕ) → AreBytes (bytes_in (map sector (range_with_len from count)))
-run_bytes sector are from zero = λ i. omega arith
-run_bytes sector are from (suc count) = append_bytes (sector from) (bytes_in (map sector (range_with_len (from + 1) count))) (are from) (run_bytes sector are (from + 1) count)
-
 -- ---- the copy
 
-new_room : (size : ℕ) → HasRoom (new_geometry size)
-new_room size = record { whole = omega arith; bits = refl }
+new_room : (layout : NewLayout) (size : ℕ) → HasRoom (new_geometry layout size)
+new_room Small size = record { whole = omega arith; bits = refl }
+new_room Large size = record { whole = omega arith; bits = refl }
 
 three : (signature a b c : ℕ) → (eqb signature a || eqb signature b || eqb signature c) ≡ true → (signature ≡ a) ⊎ (signature ≡ b) ⊎ (signature ≡ c)
 three signature a b c known = by (eqb signature a) (eqb signature b) (eqb signature c) refl refl refl known
@@ -260,9 +289,9 @@ three signature a b c known = by (eqb signature a) (eqb signature b) (eqb signat
     by false false true first second third is = inr (inr (eqb-true signature c third))
     by false false false first second third is = cc
 
-known_configs : (one two signature : ℕ) → is_known signature ≡ true → records_with (new_layout one two) signature ≡ Some (new_layout one two).configs
+known_configs : (records : Layout) (signature : ℕ) → is_known signature ≡ true → records_with records signature ≡ Some records.configs
 unfolding records_with
-known_configs one two signature known = elim (three signature 0xEEEE_EEEE 0x8888_8888 0x5555_5555 known) [
+known_configs records signature known = elim (three signature 0xEEEE_EEEE 0x8888_8888 0x5555_5555 known) [
   | inl element ↦ rw element refl
   | inr others ↦ elim others [ inl vendor ↦ rw vendor refl | inr spare ↦ rw spare refl ]
 ]
@@ -273,95 +302,155 @@ known_fits signature known = elim (three signature 0xEEEE_EEEE 0x8888_8888 0x555
   | inr others ↦ elim others [ inl vendor ↦ omega (arith, vendor) | inr spare ↦ omega (arith, spare) ]
 ]
 
-module _ (size : ℕ) (large : 33000 ≤ size) (seen : ℕ → List ℕ) (whole : (l : ℕ) → IsWhole (seen l)) (header : ℕ) (is_header : IsNewHeader size header) where
+-- ---- slots
+
+some_table : (layout : NewLayout) → 0 < table_sectors_of layout
+some_table Small = omega arith
+some_table Large = omega arith
+
+some_record : (layout : NewLayout) → 0 < record_length_of layout
+some_record Small = omega arith
+some_record Large = omega arith
+
+-- a slot ends within the records
+slot_within : (layout : NewLayout) (slot : ℕ) → slot < slots_of layout → record_length_of layout * slot + record_length_of layout ≤ records_sectors layout
+slot_within Small slot lt = omega (arith, lt)
+slot_within Large slot lt = omega (arith, lt)
+
+-- where its bytes begin
+slot_start : (layout : NewLayout) (slot : ℕ) → slot * (512 * record_length_of layout) ≡ 512 * (record_length_of layout * slot)
+slot_start Small slot = omega arith
+slot_start Large slot = omega arith
+
+-- as many fill the records
+slots_full : (layout : NewLayout) → 512 * records_sectors layout / (512 * record_length_of layout) ≡ slots_of layout
+slots_full Small = refl
+slots_full Large = refl
+
+-- the records that are read are those of all slots
+records_read : (layout : NewLayout) (size header : ℕ) (sector : ℕ → List ℕ) → bytes_in (raw_at sector header (new_geometry layout size)).records ≡ run sector (header + slots_behind layout) (records_sectors layout)
+records_read Small size header sector = refl
+records_read Large size header sector = refl
+
+module _ (layout : NewLayout) (size : ℕ) (large : least_sectors layout ≤ size) (seen : ℕ → List ℕ) (whole : (l : ℕ) → IsWhole (seen l)) (header : ℕ) (is_header : IsNewHeader layout size header) where
   abbrev one : ℕ
   one = constant_of 512
 
-  abbrev two : ℕ
-  two = constant_of 1024
+  abbrev table : ℕ
+  table = constant_of (512 * table_sectors_of layout)
+
+  abbrev slots : ℕ
+  slots = constant_of (512 * record_length_of layout)
 
   abbrev under : ℕ → List ℕ
-  under = below (Turned (new_places size)) seen
+  under = below (Turned (new_places layout size)) seen
 
   abbrev geometry : Geometry
-  geometry = new_geometry size
+  geometry = new_geometry layout size
 
   under_long : (l : ℕ) → length (under l) ≡ 512
-  under_long l = turn_length (Turned (new_places size)) l (seen l) ∙ (whole l).size
+  under_long l = turn_length (Turned (new_places layout size)) l (seen l) ∙ (whole l).size
+
+  -- behind the first sector of a record that goes on nothing is turned
+  none_within : (start sectors l : ℕ) → l ≡ header + start → start + sectors ≤ copy_length layout → GoesOn layout one table slots start sectors
+      → (k : ℕ) → l < k → k < l + sectors → (other : ℕ) → constant_at (new_places layout size) k other ≡ None
+  none_within start sectors l is ends goes k behind within other =
+      let later : ℕ = k - l in
+      let here : header + (start + later) ≡ k = omega (arith, is, behind) in
+      subst (λ (n : ℕ). constant_at (new_places layout size) n other ≡ None) here
+      (none_turned layout size large header (start + later) is_header (omega (arith, is, ends, behind, within)) (goes later (omega (arith, behind)) (omega (arith, behind, within))) other)
+
+  -- a table, which fills its section
+  table_below : (start l signature : ℕ) (own : Records) → l ≡ header + start → start + table_sectors_of layout ≤ copy_length layout → signature < 2 ^ 32
+      → records_with (own_records layout) signature ≡ Some own → own.constant ≡ table → is_first own 0 start ≡ true → GoesOn layout one table slots start (table_sectors_of layout)
+      → seal_check signature (run seen l (table_sectors_of layout)) ≡ Ok tt → IsLinuxSealed signature (run under l (table_sectors_of layout))
+  table_below start l signature own is ends fits named constant first goes check =
+      let some = some_table layout in
+      let turns : constant_at (new_places layout size) l signature ≡ Some table =
+      ap (λ (n : ℕ). constant_at (new_places layout size) n signature) is
+      ∙ turned_at layout size large header start is_header (omega (arith, ends, some)) signature own named first ∙ ap (λ (n : ℕ). Some n) constant in
+      section_below layout size seen whole l (table_sectors_of layout) signature some fits turns (none_within start (table_sectors_of layout) l is ends goes) check
+
+  -- where a slot begins
+  abbrev slot_at : ℕ → ℕ
+  slot_at slot = header + slots_behind layout + record_length_of layout * slot
 
   -- a slot of the configuration records
-  slot_below : (slot : ℕ) → slot < 16 → (signature : ℕ) → is_known signature ≡ true
-      → IsSealed signature (seen (header + 6 + 2 * slot) ++ seen (header + 6 + 2 * slot + 1))
-      → IsLinuxSealed signature (under (header + 6 + 2 * slot) ++ under (header + 6 + 2 * slot + 1))
+  slot_below : (slot : ℕ) → slot < slots_of layout → (signature : ℕ) → is_known signature ≡ true
+      → IsSealed signature (run seen (slot_at slot) (record_length_of layout)) → IsLinuxSealed signature (run under (slot_at slot) (record_length_of layout))
   slot_below slot lt signature known sealed =
-      let first : header + 6 + 2 * slot ≡ header + (6 + 2 * slot) = omega arith in
-      let second : header + 6 + 2 * slot + 1 ≡ header + (7 + 2 * slot) = omega arith in
-      let turns : constant_at (new_places size) (header + (6 + 2 * slot)) signature ≡ Some two =
-      turned_at size large header (6 + 2 * slot) is_header (omega (arith, lt)) signature (new_layout one two).configs (known_configs one two signature known) (slot_begins two slot lt) in
-      let stays : under (header + (7 + 2 * slot)) ≡ seen (header + (7 + 2 * slot)) =
-      same_below size seen whole (header + (7 + 2 * slot)) (none_turned size large header (7 + 2 * slot) is_header (omega (arith, lt)) (slot_goes_on one two slot lt)) in
-      let long : 512 + length (seen (header + (7 + 2 * slot))) ≡ 1024 = omega (arith, (whole (header + (7 + 2 * slot))).size) in
-      let here : IsSealed signature (seen (header + (6 + 2 * slot)) ++ seen (header + (7 + 2 * slot))) =
-      subst (λ (l : ℕ). IsSealed signature (seen l ++ seen (header + (7 + 2 * slot)))) first (subst (λ (l : ℕ). IsSealed signature (seen (header + 6 + 2 * slot) ++ seen l)) second sealed) in
-      let there : IsLinuxSealed signature (under (header + (6 + 2 * slot)) ++ under (header + (7 + 2 * slot))) =
-      rw stays (sealed_below size seen whole (header + (6 + 2 * slot)) signature (seen (header + (7 + 2 * slot))) (known_fits signature known) (rw long turns) here) in
-      subst (λ (l : ℕ). IsLinuxSealed signature (under l ++ under (header + 6 + 2 * slot + 1))) (sym first)
-      (subst (λ (l : ℕ). IsLinuxSealed signature (under (header + (6 + 2 * slot)) ++ under l)) (sym second) there)
+      let some = some_record layout in
+      let within = slot_within layout slot lt in
+      let start : ℕ = slots_behind layout + record_length_of layout * slot in
+      let is : slot_at slot ≡ header + start = omega arith in
+      let ends : start + record_length_of layout ≤ copy_length layout = omega (arith, within) in
+      let turns : constant_at (new_places layout size) (slot_at slot) signature ≡ Some slots =
+      ap (λ (n : ℕ). constant_at (new_places layout size) n signature) is
+      ∙ turned_at layout size large header start is_header (omega (arith, ends, some)) signature (own_records layout).configs (known_configs (own_records layout) signature known) (slot_begins layout one table slots slot lt) in
+      record_below layout size seen whole (slot_at slot) (record_length_of layout) signature some (known_fits signature known) turns
+      (none_within start (record_length_of layout) (slot_at slot) is ends (slot_goes_on layout one table slots slot lt)) sealed
 
-  seen_slot : (slot : ℕ) → slot < 16 → slot_bytes geometry (bytes_in (raw_at seen header geometry).records) slot ≡ seen (header + 6 + 2 * slot) ++ seen (header + 6 + 2 * slot + 1)
-  seen_slot slot lt = pair_at seen (λ l. (whole l).size) (header + 6) 32 slot (slot * 1024) (omega (arith, lt)) refl
+  slot_read : (sector : ℕ → List ℕ) → ((l : ℕ) → length (sector l) ≡ 512) → (slot : ℕ) → slot < slots_of layout
+      → slot_bytes geometry (bytes_in (raw_at sector header geometry).records) slot ≡ run sector (slot_at slot) (record_length_of layout)
+  slot_read sector long slot lt =
+      let within = slot_within layout slot lt in
+      ap (λ (bytes : List ℕ). slot_bytes geometry bytes slot) (records_read layout size header sector)
+      ∙ run_among sector long (header + slots_behind layout) (records_sectors layout) (record_length_of layout * slot) (record_length_of layout) (slot * (512 * record_length_of layout)) (512 * record_length_of layout) within (slot_start layout slot) refl
 
-  under_slot : (slot : ℕ) → slot < 16 → slot_bytes geometry (bytes_in (raw_at under header geometry).records) slot ≡ under (header + 6 + 2 * slot) ++ under (header + 6 + 2 * slot + 1)
-  under_slot slot lt = pair_at under under_long (header + 6) 32 slot (slot * 1024) (omega (arith, lt)) refl
+  slots_counted : (sector : ℕ → List ℕ) → ((l : ℕ) → length (sector l) ≡ 512) → slot_count geometry (bytes_in (raw_at sector header geometry).records) ≡ slots_of layout
+  slots_counted sector long =
+      ap (λ (bytes : List ℕ). slot_count geometry bytes) (records_read layout size header sector)
+      ∙ ap (λ (n : ℕ). n / (512 * record_length_of layout)) (length_run sector long (header + slots_behind layout) (records_sectors layout)) ∙ slots_full layout
 
-  sixteen : (sector : ℕ → List ℕ) → ((l : ℕ) → length (sector l) ≡ 512) → slot_count geometry (bytes_in (raw_at sector header geometry).records) ≡ 16
-  sixteen sector long = ap (λ (n : ℕ). n / 1024) (length_run sector long (header + 6) 32)
+  -- the number that a slot begins with is that of its first sector
+  slot_named : (sector : ℕ → List ℕ) → ((l : ℕ) → length (sector l) ≡ 512) → (l count : ℕ) → 0 < count → number_at w32 (run sector l count) 0 ≡ signature_of (sector l)
+  slot_named sector long l zero some = absurd (omega (arith, some))
+  slot_named sector long l (suc count) some = signature_front (sector l) (run sector (l + 1) count) (long l)
 
   slots_below : AreSealed geometry (bytes_in (raw_at seen header geometry).records) → AreSlotsForLinux geometry (bytes_in (raw_at under header geometry).records)
   slots_below sealed = record {
     each = λ slot within known.
-        let lt : slot < 16 = rw (sixteen under under_long) at within in
-        let l = header + 6 + 2 * slot in
+        let seen_long : (l : ℕ) → length (seen l) ≡ 512 = λ l. (whole l).size in
+        let lt : slot < slots_of layout = rw (slots_counted under under_long) at within in
+        let some = some_record layout in
+        let l = slot_at slot in
         let here : number_at w32 (slot_bytes geometry (bytes_in (raw_at under header geometry).records) slot) 0 ≡ signature_of (seen l) =
-        ap (λ (bytes : List ℕ). number_at w32 bytes 0) (under_slot slot lt) ∙ signature_front (under l) (under (l + 1)) (under_long l) ∙ turn_signature (Turned (new_places size)) l (seen l) in
+        ap (λ (bytes : List ℕ). number_at w32 bytes 0) (slot_read under under_long slot lt) ∙ slot_named under under_long l (record_length_of layout) some ∙ turn_signature (Turned (new_places layout size)) l (seen l) in
         let there : number_at w32 (slot_bytes geometry (bytes_in (raw_at seen header geometry).records) slot) 0 ≡ signature_of (seen l) =
-        ap (λ (bytes : List ℕ). number_at w32 bytes 0) (seen_slot slot lt) ∙ signature_front (seen l) (seen (l + 1)) (whole l).size in
+        ap (λ (bytes : List ℕ). number_at w32 bytes 0) (slot_read seen seen_long slot lt) ∙ slot_named seen seen_long l (record_length_of layout) some in
         let is_known_here : is_known (signature_of (seen l)) ≡ true = ap is_known (sym here) ∙ known in
-        let was = sealed.each slot (rw (sixteen seen (λ n. (whole n).size)) lt) (ap is_known there ∙ is_known_here) in
-        rw (here, under_slot slot lt) (slot_below slot lt (signature_of (seen l)) is_known_here (rw (there, seen_slot slot lt) at was));
+        let was = sealed.each slot (rw (slots_counted seen seen_long) lt) (ap is_known there ∙ is_known_here) in
+        rw (here, slot_read under under_long slot lt) (slot_below slot lt (signature_of (seen l)) is_known_here (rw (there, slot_read seen seen_long slot lt) at was));
   }
 
   -- the log, which is present
   log_below : (log : Option LogValue) → log_in (raw_at seen header geometry).bad_blocks ≡ Ok log → IsLinuxSealed log_signature (bytes_in (raw_at under header geometry).bad_blocks)
-  unfolding records_with is_first
+  unfolding records_with
   log_below log is =
-      let there = some_log_ok (in_section names.BadBlocks (decoded_log (seen (header + 39) ++ []))) log is in
-      let check = first_passed table_faults.Seal (seal_check log_signature (seen (header + 39) ++ [])) _ _ there.0 (in_section_ok names.BadBlocks (decoded_log (seen (header + 39) ++ [])) there.0 there.1) in
-      checked_below size seen whole (header + 39) log_signature [] (omega arith) (λ i. omega arith)
-      (turned_at size large header 39 is_header (omega arith) log_signature (new_layout one two).bad_blocks refl refl) check
+      let behind : ℕ = 3 + 2 * table_sectors_of layout + records_sectors layout in
+      let there = some_log_ok (in_section names.BadBlocks (decoded_log (seen (header + behind) ++ []))) log is in
+      let check = first_passed table_faults.Seal (seal_check log_signature (seen (header + behind) ++ [])) _ _ there.0 (in_section_ok names.BadBlocks (decoded_log (seen (header + behind) ++ [])) there.0 there.1) in
+      checked_below layout size seen whole (header + behind) log_signature [] (omega arith) (λ i. omega arith)
+      (turned_at layout size large header behind is_header (omega arith) log_signature (own_records layout).bad_blocks refl (log_begins layout one table slots)) check
 
   pub copy_below : (read : Header) (copy : DiskCopy) → read.geometry ≡ geometry → seal_check header_signature (seen header) ≡ Ok tt → IsPassed read (raw_at seen header geometry) copy
       → IsCopyForLinux geometry under header
   unfolding records_with is_first
   copy_below read copy same_geometry head passed =
-      let are = run_bytes seen (λ l. (whole l).are_bytes) (header + 6) 32 in
+      let are = run_bytes seen (λ l. (whole l).are_bytes) (header + slots_behind layout) (records_sectors layout) in
+      let are_read : AreBytes (bytes_in (raw_at seen header geometry).records) = subst AreBytes (sym (records_read layout size header seen)) are in
       let decoded_here : decoded_slots geometry read.guid read.sequence (bytes_in (raw_at seen header geometry).records) ≡ Ok passed.slots = rw same_geometry at passed.are_slots in
-      let second : (behind : ℕ) → behind < 40 → none_begins one two behind ≡ true → (l : ℕ) → l ≡ header + behind → (other : ℕ) → constant_at (new_places size) l other ≡ None =
-      λ behind near none l is other. rw is (none_turned size large header behind is_header near none other) in
-      let start : constant_at (new_places size) header header_signature ≡ Some one =
-      rw (add-zero header) at (turned_at size large header 0 is_header (omega arith) header_signature (new_layout one two).header refl refl) in
+      let start : constant_at (new_places layout size) header header_signature ≡ Some one =
+      rw (add-zero header) at (turned_at layout size large header 0 is_header (omega arith) header_signature (own_records layout).header refl refl) in
       record {
-        header = one_below size seen whole header header_signature (omega arith) start head;
-        controller = one_below size seen whole (header + 1) controller_signature (omega arith)
-            (turned_at size large header 1 is_header (omega arith) controller_signature (new_layout one two).controller refl refl) passed.controller;
-        disks = two_below size seen whole (header + 2) (header + 2 + 1) disk_signature (omega arith)
-            (turned_at size large header 2 is_header (omega arith) disk_signature (new_layout one two).disks refl refl)
-            (second 3 (omega arith) refl (header + 2 + 1) (omega arith)) passed.disks;
-        arrays = two_below size seen whole (header + 4) (header + 4 + 1) array_signature (omega arith)
-            (turned_at size large header 4 is_header (omega arith) array_signature (new_layout one two).arrays refl refl)
-            (second 5 (omega arith) refl (header + 4 + 1) (omega arith)) passed.arrays;
-        slots = slots_below (decoded_sealed geometry read.guid read.sequence (bytes_in (raw_at seen header geometry).records) passed.slots (new_room size) are decoded_here);
-        disk_data = one_below size seen whole (header + 38) disk_data_signature (omega arith)
-            (turned_at size large header 38 is_header (omega arith) disk_data_signature (new_layout one two).disk_data refl refl) passed.disk_data;
+        header = one_below layout size seen whole header header_signature (omega arith) start head;
+        controller = one_below layout size seen whole (header + 1) controller_signature (omega arith)
+            (turned_at layout size large header 1 is_header (omega arith) controller_signature (own_records layout).controller refl refl) passed.controller;
+        disks = table_below 2 (header + 2) disk_signature (own_records layout).disks refl (omega arith) (omega arith) refl refl (disks_begin layout one table slots) (disks_go_on layout one table slots) passed.disks;
+        arrays = table_below (2 + table_sectors_of layout) (header + (2 + table_sectors_of layout)) array_signature (own_records layout).arrays refl (omega arith) (omega arith) refl refl
+            (arrays_begin layout one table slots) (arrays_go_on layout one table slots) passed.arrays;
+        slots = slots_below (decoded_sealed geometry read.guid read.sequence (bytes_in (raw_at seen header geometry).records) passed.slots (new_room layout size) are_read decoded_here);
+        disk_data = one_below layout size seen whole (header + (slots_behind layout + records_sectors layout)) disk_data_signature (omega arith)
+            (turned_at layout size large header (slots_behind layout + records_sectors layout) is_header (omega arith) disk_data_signature (own_records layout).disk_data refl (disk_data_begins layout one table slots)) passed.disk_data;
         bad_blocks = log_below passed.log passed.is_log;
       }

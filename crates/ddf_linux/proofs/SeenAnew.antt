@@ -1,5 +1,5 @@
 -- What a bay that is made anew sees of a slot on which a disk was founded.
-use Rattle.std.proofs.Common.{◌≡◌, ◌⊎◌, ℕ, ◌-◌, ◌≤◌, Bool, true, false, cond, eqb, List, ◌∷◌, Option, Some, Result, Ok, Err, inl, inr, refl, ap, sym, ◌∙◌, subst, arith}
+use Rattle.std.proofs.Common.{◌≡◌, ◌⊎◌, ℕ, ◌-◌, ◌<◌, ◌≤◌, Bool, true, false, cond, eqb, List, ◌∷◌, Option, Some, Result, Ok, Err, inl, inr, refl, ap, sym, ◌∙◌, subst, arith}
 use Rattle.std.proofs.Math.Path.{fun_ext}
 use Rattle.std.proofs.lemmas.Bool.{eqb-true, le-leb, ne_eqb}
 use Rattle.std.specs.Int.{w32, to_be_bytes}
@@ -13,6 +13,8 @@ use Rattle.ddf_copy.specs.declared.copy.DiskCopy.{DiskCopy}
 use Rattle.ddf_copy.specs.declared.fault.AnchorFault.TheVariants.{Blank}
 use Rattle.ddf_copy.specs.Anchor.{anchor_at, anchor_in, anchor_or_damage}
 use Rattle.ddf_copy.specs.Headers.{anchor_header}
+use Rattle.ddf_update.specs.declared.new_layout.NewLayout.{NewLayout}
+use Rattle.ddf_update.specs.NewLayouts.{least_sectors, primary_back, secondary_back}
 use Rattle.ddf_update.specs.Update.{AreBoth}
 use Rattle.ddf_linux.specs.declared.kind.SlotKind.{SlotKind}
 use Rattle.ddf_linux.specs.declared.kind.SlotKind.TheVariants.{Turned}
@@ -30,8 +32,8 @@ use Rattle.ddf_linux.proofs.SealedBelow.{header_passed}
 
 -- ---- the anchor by its signature
 
-some_size : (size : ℕ) → 33000 ≤ size → eqb size 0 ≡ false
-some_size size large = ne_eqb size 0 (λ (e : size ≡ 0). absurd (omega (arith, e, large)))
+some_size : (size : ℕ) → 0 < size → eqb size 0 ≡ false
+some_size size some = ne_eqb size 0 (λ (e : size ≡ 0). absurd (omega (arith, e, some)))
 
 no_blank : (read : Result Header HeaderFault) → anchor_or_damage read ≡ Err Blank → ⊥
 no_blank (Ok anchor) is = cc
@@ -49,31 +51,31 @@ named : (test : Bool) (read : Result Header HeaderFault) (anchor : Header) → c
 named true read anchor is = (refl, read_ok read anchor is)
 named false read anchor is = cc
 
-module _ (size : ℕ) (large : 33000 ≤ size) (sector : ℕ → List ℕ) where
+module _ (size : ℕ) (some : 0 < size) (sector : ℕ → List ℕ) where
   abbrev last : List ℕ
   last = sector (size - 1)
 
   pub blank_unnamed : anchor_at size sector ≡ Err Blank → eqb (signature_of last) header_signature ≡ false
   unfolding anchor_at anchor_in
-  blank_unnamed blank = unnamed (eqb (signature_of last) header_signature) (decoded Anchor last) (rw (some_size size large) at blank)
+  blank_unnamed blank = unnamed (eqb (signature_of last) header_signature) (decoded Anchor last) (rw (some_size size some) at blank)
 
   pub unnamed_blank : eqb (signature_of last) header_signature ≡ false → anchor_at size sector ≡ Err Blank
   unfolding anchor_at anchor_in
-  unnamed_blank none = rw (some_size size large, none) refl
+  unnamed_blank none = rw (some_size size some, none) refl
 
   anchor_named : (anchor : Header) → anchor_at size sector ≡ Ok anchor → (eqb (signature_of last) header_signature ≡ true) × (decoded Anchor last ≡ Ok anchor)
   unfolding anchor_at anchor_in
-  anchor_named anchor is = named (eqb (signature_of last) header_signature) (decoded Anchor last) anchor (rw (some_size size large) at is)
+  anchor_named anchor is = named (eqb (signature_of last) header_signature) (decoded Anchor last) anchor (rw (some_size size some) at is)
 
   pub anchor_read : (anchor : Header) → anchor_at size sector ≡ Ok anchor → decoded Anchor last ≡ Ok anchor
   anchor_read anchor is = (anchor_named anchor is).1
 
 -- a disk may be founded on a slot that is seen blank
-pub blank_is_founded : (kind : SlotKind) (size : ℕ) (sector : ℕ → List ℕ) → 33000 ≤ size → anchor_at size (below kind sector) ≡ Err Blank → may_be_founded size (sector (size - 1)) ≡ true
-blank_is_founded kind size sector large blank =
+pub blank_is_founded : (layout : NewLayout) (kind : SlotKind) (size : ℕ) (sector : ℕ → List ℕ) → least_sectors layout ≤ size → anchor_at size (below kind sector) ≡ Err Blank → may_be_founded layout size (sector (size - 1)) ≡ true
+blank_is_founded layout kind size sector large blank =
     let same : signature_of (below kind sector (size - 1)) ≡ signature_of (sector (size - 1)) = turn_signature kind (size - 1) (sector (size - 1)) in
-    let none : eqb (signature_of (sector (size - 1))) header_signature ≡ false = rw same at (blank_unnamed size large (below kind sector) blank) in
-    rw (le-leb 33000 size large, none) refl
+    let none : eqb (signature_of (sector (size - 1))) header_signature ≡ false = rw same at (blank_unnamed size (omega (arith, large)) (below kind sector) blank) in
+    rw (le-leb (least_sectors layout) size large, none) refl
 
 -- ---- seen anew
 
@@ -85,9 +87,12 @@ copies_at primary secondary geometry = record { primary = primary; secondary = s
 places_by : (size : ℕ) → Option Copies → Places
 places_by size copies = record { anchor = size - 1; constant = constant_of 512; copies = copies }
 
-module _ (size : ℕ) (large : 33000 ≤ size) (seen : ℕ → List ℕ) where
+module _ (layout : NewLayout) (size : ℕ) (large : least_sectors layout ≤ size) (seen : ℕ → List ℕ) where
+  some : 0 < size
+  some = omega (arith, large)
+
   abbrev kind : SlotKind
-  kind = Turned (new_places size)
+  kind = Turned (new_places layout size)
 
   abbrev under : ℕ → List ℕ
   under = below kind seen
@@ -97,33 +102,33 @@ module _ (size : ℕ) (large : 33000 ≤ size) (seen : ℕ → List ℕ) where
   blank_anew blank =
       let same : signature_of (seen_anew size under (size - 1)) ≡ signature_of (seen (size - 1)) =
       turn_signature (kind_of_sectors size under) (size - 1) (under (size - 1)) ∙ turn_signature kind (size - 1) (seen (size - 1)) in
-      unnamed_blank size large (seen_anew size under) (rw same (blank_unnamed size large seen blank))
+      unnamed_blank size some (seen_anew size under) (rw same (blank_unnamed size some seen blank))
 
-  module _ (anchor : Header) (is_anchor : anchor_at size seen ≡ Ok anchor) (on_disk : IsOnNewDisk size anchor) where
+  module _ (anchor : Header) (is_anchor : anchor_at size seen ≡ Ok anchor) (on_disk : IsOnNewDisk layout size anchor) where
     last_under : under (size - 1) ≡ turned (constant_of 512) (seen (size - 1))
     last_under =
-        let here : signature_of (seen (size - 1)) ≡ header_signature = eqb-true (signature_of (seen (size - 1))) header_signature (anchor_named size large seen anchor is_anchor).0 in
-        ap (λ (n : ℕ). turned_by (constant_at (new_places size) (size - 1) n) (seen (size - 1))) here
-        ∙ ap (λ (found : Option ℕ). turned_by found (seen (size - 1))) (anchor_turned size)
+        let here : signature_of (seen (size - 1)) ≡ header_signature = eqb-true (signature_of (seen (size - 1))) header_signature (anchor_named size some seen anchor is_anchor).0 in
+        ap (λ (n : ℕ). turned_by (constant_at (new_places layout size) (size - 1) n) (seen (size - 1))) here
+        ∙ ap (λ (found : Option ℕ). turned_by found (seen (size - 1))) (anchor_turned layout size)
 
     last_back : turned (constant_of 512) (under (size - 1)) ≡ seen (size - 1)
     last_back = ap (turned (constant_of 512)) last_under ∙ added_twice (seen (size - 1)) (0 ∷ 0 ∷ 0 ∷ 0 ∷ to_be_bytes w32 (constant_of 512))
 
     is_read : decoded Anchor (seen (size - 1)) ≡ Ok anchor
-    is_read = (anchor_named size large seen anchor is_anchor).1
+    is_read = (anchor_named size some seen anchor is_anchor).1
 
-    copies_same : copies_in (Ok anchor) ≡ (new_places size).copies
+    copies_same : copies_in (Ok anchor) ≡ (new_places layout size).copies
     unfolding copies_at
     copies_same =
         ap (λ (lba : ℕ). Some (copies_at lba anchor.secondary_lba anchor.geometry)) on_disk.primary_is
-        ∙ ap (λ (lba : ℕ). Some (copies_at (size - 41) lba anchor.geometry)) on_disk.secondary_is
-        ∙ ap (λ (geometry : Geometry). Some (copies_at (size - 41) (size - 81) geometry)) on_disk.geometry_is
+        ∙ ap (λ (lba : ℕ). Some (copies_at (size - primary_back layout) lba anchor.geometry)) on_disk.secondary_is
+        ∙ ap (λ (geometry : Geometry). Some (copies_at (size - primary_back layout) (size - secondary_back layout) geometry)) on_disk.geometry_is
 
     -- the slot is turned at the same places
     pub kind_anew : kind_of_sectors size under ≡ kind
     unfolding kind_by places_by
     kind_anew =
-        rw (some_size size large)
+        rw (some_size size some)
         (ap (λ (sector : List ℕ). kind_if (seal_check header_signature sector) (places_of (size - 1) sector)) last_back
         ∙ ap (λ (check : _). kind_if check (places_of (size - 1) (seen (size - 1)))) (header_passed Anchor (seen (size - 1)) anchor is_read)
         ∙ ap (λ (read : Result Header HeaderFault). Turned (places_by size (copies_in read))) is_read
@@ -134,14 +139,14 @@ module _ (size : ℕ) (large : 33000 ≤ size) (seen : ℕ → List ℕ) where
     same_anew = fun_ext (λ l. ap (λ (k : SlotKind). turn k l (under l)) kind_anew ∙ turn_twice kind l (seen l))
 
   -- a copy in both places is, and the slot is turned at the same places
-  pub both_anew : (copy : DiskCopy) → IsOnNewDisk size copy.header → AreBoth size seen (anchor_header copy) copy → IsWholeAnew size under copy
+  pub both_anew : (copy : DiskCopy) → IsOnNewDisk layout size copy.header → AreBoth size seen (anchor_header copy) copy → IsWholeAnew layout size under copy
   both_anew copy on_disk both =
-      let anchor_on : IsOnNewDisk size (anchor_header copy) = record { primary_is = on_disk.primary_is; secondary_is = on_disk.secondary_is; geometry_is = on_disk.geometry_is } in
+      let anchor_on : IsOnNewDisk layout size (anchor_header copy) = record { primary_is = on_disk.primary_is; secondary_is = on_disk.secondary_is; geometry_is = on_disk.geometry_is } in
       record {
         is_turned = kind_anew (anchor_header copy) both.is_anchored anchor_on;
         are_both = subst (λ (sector : ℕ → List ℕ). AreBoth size sector (anchor_header copy) copy) (sym (same_anew (anchor_header copy) both.is_anchored anchor_on)) both;
       }
 
-  pub whole_anew : (copy : DiskCopy) → IsOnNewDisk size copy.header → (anchor_at size seen ≡ Err Blank) ⊎ AreBoth size seen (anchor_header copy) copy → IsBlankOrWhole size under copy
+  pub whole_anew : (copy : DiskCopy) → IsOnNewDisk layout size copy.header → (anchor_at size seen ≡ Err Blank) ⊎ AreBoth size seen (anchor_header copy) copy → IsBlankOrWhole layout size under copy
   whole_anew copy on_disk (inl blank) = inl (blank_anew blank)
   whole_anew copy on_disk (inr both) = inr (both_anew copy on_disk both)

@@ -9,13 +9,15 @@ use Rattle.ddf_tables.specs.Sectors.{controller_signature, disk_data_signature}
 use Rattle.ddf_tables.specs.Disks.{disk_signature}
 use Rattle.ddf_tables.specs.Arrays.{array_signature}
 use Rattle.ddf_tables.specs.BadBlocks.{log_signature}
-use Rattle.ddf_configs.specs.Slots.{is_known, slot_bytes, slot_count}
+use Rattle.ddf_config_records.specs.Slots.{is_known, slot_bytes, slot_count}
 use Rattle.ddf_copy.specs.declared.copy.DiskCopy.{DiskCopy}
 use Rattle.ddf_copy.specs.declared.fault.AnchorFault.TheVariants.{Blank}
 use Rattle.ddf_copy.specs.Anchor.{anchor_at}
 use Rattle.ddf_copy.specs.Headers.{anchor_header}
 use Rattle.ddf_copy.specs.Sections.{bytes_in, raw_at}
+use Rattle.ddf_update.specs.declared.new_layout.NewLayout.{NewLayout}
 use Rattle.ddf_update.specs.NewCopies.{new_geometry}
+use Rattle.ddf_update.specs.NewLayouts.{primary_back, secondary_back}
 use Rattle.ddf_update.specs.Update.{AreBoth}
 use Rattle.ddf_linux.specs.declared.kind.SlotKind.{SlotKind}
 use Rattle.ddf_linux.specs.declared.kind.SlotKind.TheVariants.{Turned}
@@ -23,11 +25,11 @@ use Rattle.ddf_linux.specs.Crcs.{IsLinuxSealed}
 use Rattle.ddf_linux.specs.Kinds.{kind_of_sectors, turn}
 use Rattle.ddf_linux.specs.Places.{new_places}
 
--- A header lies on a disk of so many sectors as those of a new one do.
-pub record IsOnNewDisk (size : ℕ) (header : Header) : Type 0 where
-  pub primary_is : header.primary_lba ≡ size - 41
-  pub secondary_is : header.secondary_lba ≡ size - 81
-  pub geometry_is : header.geometry ≡ new_geometry size
+-- A header lies on a disk of so many sectors as those of a new one of a layout do.
+pub record IsOnNewDisk (layout : NewLayout) (size : ℕ) (header : Header) : Type 0 where
+  pub primary_is : header.primary_lba ≡ size - primary_back layout
+  pub secondary_is : header.secondary_lba ≡ size - secondary_back layout
+  pub geometry_is : header.geometry ≡ new_geometry layout size
 
 -- Each configuration record of a section is sealed as Linux's mdadm seals it. Other slots hold no record.
 pub record AreSlotsForLinux (geometry : Geometry) (section : List ℕ) : Type 0 where
@@ -45,10 +47,10 @@ pub record IsCopyForLinux (geometry : Geometry) (sector : ℕ → List ℕ) (lba
   pub bad_blocks : IsLinuxSealed log_signature (bytes_in (raw_at sector lba geometry).bad_blocks)
 
 -- So is each of both copies of a new disk, and its anchor.
-pub record IsDiskForLinux (size : ℕ) (sector : ℕ → List ℕ) : Type 0 where
+pub record IsDiskForLinux (layout : NewLayout) (size : ℕ) (sector : ℕ → List ℕ) : Type 0 where
   pub anchor : IsLinuxSealed header_signature (sector (size - 1))
-  pub primary : IsCopyForLinux (new_geometry size) sector (size - 41)
-  pub secondary : IsCopyForLinux (new_geometry size) sector (size - 81)
+  pub primary : IsCopyForLinux (new_geometry layout size) sector (size - primary_back layout)
+  pub secondary : IsCopyForLinux (new_geometry layout size) sector (size - secondary_back layout)
 
 -- the sectors that stand below those that are seen of a slot of a kind
 abbrev pub below : SlotKind → (ℕ → List ℕ) → (ℕ → List ℕ)
@@ -59,11 +61,11 @@ abbrev pub seen_anew : (size : ℕ) → (ℕ → List ℕ) → (ℕ → List ℕ
 seen_anew size sector l = turn (kind_of_sectors size sector) l (sector l)
 
 -- Seen anew a slot has a copy in both places, and is turned as a whole: at all places of a new disk, and nowhere else.
-pub record IsWholeAnew (size : ℕ) (sector : ℕ → List ℕ) (copy : DiskCopy) : Type 0 where
-  pub is_turned : kind_of_sectors size sector ≡ Turned (new_places size)
+pub record IsWholeAnew (layout : NewLayout) (size : ℕ) (sector : ℕ → List ℕ) (copy : DiskCopy) : Type 0 where
+  pub is_turned : kind_of_sectors size sector ≡ Turned (new_places layout size)
   pub are_both : AreBoth size (seen_anew size sector) (anchor_header copy) copy
 
 -- Seen anew a slot is blank, or it is whole.
-abbrev pub IsBlankOrWhole : (size : ℕ) → (ℕ → List ℕ) → DiskCopy → Type 0
-IsBlankOrWhole size sector copy =
-    (anchor_at size (seen_anew size sector) ≡ Err Blank) ⊎ IsWholeAnew size sector copy
+abbrev pub IsBlankOrWhole : NewLayout → (size : ℕ) → (ℕ → List ℕ) → DiskCopy → Type 0
+IsBlankOrWhole layout size sector copy =
+    (anchor_at size (seen_anew size sector) ≡ Err Blank) ⊎ IsWholeAnew layout size sector copy

@@ -7,6 +7,8 @@ use Rattle.ddf_bay.specs.State.{BayState, size_of}
 use Rattle.ddf_seal.specs.Seal.{seal_check}
 use Rattle.ddf_seal.specs.declared.sealing.SealFault.{SealFault}
 use Rattle.ddf_header.specs.Header.{header_signature}
+use Rattle.ddf_update.specs.declared.new_layout.NewLayout.{NewLayout}
+use Rattle.ddf_update.specs.NewLayouts.{least_sectors}
 use Rattle.ddf_linux.specs.declared.kind.SlotKind.{SlotKind}
 use Rattle.ddf_linux.specs.declared.kind.SlotKind.TheVariants.{Plain, Unread, Turned}
 use Rattle.ddf_linux.specs.declared.places.Places.{Places}
@@ -58,17 +60,23 @@ pub record IsKindOf {D : Type 0} (disks : BayState D) (slot : ℕ) (kind : SlotK
 abbrev pub signature_of : List ℕ → ℕ
 signature_of bytes = number_at w32 bytes 0
 
--- A disk may be founded on a slot: there is room for one, and its last sector begins as no anchor.
-abbrev pub may_be_founded : (size : ℕ) → (last : List ℕ) → Bool
-may_be_founded size last = nat_le 33000 size && not (signature_of last == header_signature)
+-- A disk of a layout may be founded on a slot: there is room for one, and its last sector begins as no anchor.
+abbrev pub may_be_founded : NewLayout → (size : ℕ) → (last : List ℕ) → Bool
+may_be_founded layout size last = nat_le (least_sectors layout) size && not (signature_of last == header_signature)
 
 -- it is seen as that disk will be where new disks are founded for Linux
-abbrev pub is_founded : (founds : Bool) (size : ℕ) → (last : List ℕ) → Bool
-is_founded founds size last = founds && may_be_founded size last
+abbrev pub is_founded : (founds : Option NewLayout) (size : ℕ) → (last : List ℕ) → Bool
+is_founded None size last = false
+is_founded (Some layout) size last = may_be_founded layout size last
 
--- A slot that could be read is seen so, where new disks are founded for Linux or not.
-pub record IsSeenAs {D : Type 0} (founds : Bool) (disks : BayState D) (slot : ℕ) (kind : SlotKind) : Type 0 where
-  pub founded : is_founded founds (size_of disks slot) (disks.held slot (size_of disks slot - 1)) ≡ true → kind ≡ Turned (new_places (size_of disks slot))
+-- as this: turned at the places of such a disk
+abbrev pub founded_kind : (founds : Option NewLayout) → (size : ℕ) → SlotKind
+founded_kind None size = Plain
+founded_kind (Some layout) size = Turned (new_places layout size)
+
+-- A slot that could be read is seen so, where new disks of a layout are founded for Linux, or none.
+pub record IsSeenAs {D : Type 0} (founds : Option NewLayout) (disks : BayState D) (slot : ℕ) (kind : SlotKind) : Type 0 where
+  pub founded : is_founded founds (size_of disks slot) (disks.held slot (size_of disks slot - 1)) ≡ true → kind ≡ founded_kind founds (size_of disks slot)
   pub other : is_founded founds (size_of disks slot) (disks.held slot (size_of disks slot - 1)) ≡ false → IsKindOf disks slot kind
 
 -- ---- by the sector

@@ -5,7 +5,9 @@ use Rattle.ddf_header.specs.declared.kind.HeaderKind.TheVariants.{Anchor}
 use Rattle.ddf_header.specs.declared.reading.Header.{Header}
 use Rattle.ddf_header.specs.declared.fault.HeaderFault.{HeaderFault}
 use Rattle.ddf_header.specs.Header.{decoded, header_signature}
+use Rattle.ddf_update.specs.declared.new_layout.NewLayout.{NewLayout}
 use Rattle.ddf_update.specs.NewCopies.{new_geometry}
+use Rattle.ddf_update.specs.NewLayouts.{primary_back, secondary_back}
 use Rattle.ddf_linux.specs.declared.places.Copies.{Copies}
 use Rattle.ddf_linux.specs.declared.places.Places.{Places}
 use Rattle.ddf_linux.specs.declared.records.Records.{Records}
@@ -26,12 +28,12 @@ copies_of anchor = copies_in (decoded Anchor anchor)
 abbrev pub places_of : ℕ → List ℕ → Places
 places_of last anchor = record { anchor = last; constant = constant_of 512; copies = copies_of anchor }
 
--- the places of a new disk of so many sectors
-abbrev pub new_places : ℕ → Places
-new_places size = record {
+-- the places of a new disk of a layout and of so many sectors
+abbrev pub new_places : NewLayout → (size : ℕ) → Places
+new_places layout size = record {
   anchor = size - 1;
   constant = constant_of 512;
-  copies = Some (record { primary = size - 41; secondary = size - 81; layout = layout_of (new_geometry size) });
+  copies = Some (record { primary = size - primary_back layout; secondary = size - secondary_back layout; layout = layout_of (new_geometry layout size) });
 }
 
 abbrev pub copies_lie_from : Option Copies → ℕ → Bool

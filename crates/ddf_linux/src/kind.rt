@@ -1,10 +1,10 @@
 //! How a slot is seen, by its last sector, and its sectors turned.
 ghost use Rattle.std.specs.Prelude.{◌≡◌, ◌↔◌, ◌<◌, ◌≤◌, ◌+◌, ◌-◌, ◌^◌, ℕ, [], IsTrue, true, false, List, length, slice_index_or};
 ghost use Rattle.ddf_header.specs.Header.{header_signature};
+ghost use Rattle.ddf_update.specs.NewLayouts.{least_sectors};
 ghost use Rattle.ddf_linux.specs.Crcs.{IsLinuxSealed};
-ghost use Rattle.ddf_linux.specs.Kinds.{kind_by, is_founded, is_turned, is_unread, kind_constant, may_be_founded, signature_of, turn, turns};
+ghost use Rattle.ddf_linux.specs.Kinds.{kind_by, founded_kind, is_founded, is_turned, is_unread, kind_constant, may_be_founded, signature_of, turn, turns};
 ghost use Rattle.ddf_linux.specs.Pieces.{turns_at};
-ghost use Rattle.ddf_linux.specs.Places.{new_places};
 
 use crate::crcs::add;
 use crate::places::Places;
@@ -12,7 +12,7 @@ use crate::zeros::SectorZeros;
 use ddf_bytes::{Sector, be32};
 use ddf_header::HEADER_SIGNATURE;
 use ddf_seal::check;
-use ddf_update::LEAST_SECTORS;
+use ddf_update::NewLayout;
 
 /// How a slot is seen.
 #[derive(Clone, Copy)]
@@ -26,17 +26,25 @@ pub(crate) enum SlotKind {
 }
 
 impl SlotKind {
-    /// How a slot of so many sectors is seen by its last one. Where new disks are founded for Linux, one that may be founded is turned
-    /// at the places of a new disk.
-    pub fn seen(zeros: &SectorZeros, size: u64, last: &Sector, founds: bool) -> SlotKind
+    /// How a slot of so many sectors is seen by its last one. Where new disks of a layout are founded for Linux, one that may be founded
+    /// is turned at the places of such a disk.
+    pub fn seen(
+        zeros: &SectorZeros,
+        size: u64,
+        last: &Sector,
+        founds: Option<NewLayout>,
+    ) -> SlotKind
         requires { 0 < size }
         ensures read { is_unread result ≡ false }
-        ensures founded { is_founded founds size last.now ≡ true → result ≡ SlotKind.Turned (new_places size) }
+        ensures founded { is_founded founds size last.now ≡ true → result ≡ founded_kind founds size }
         ensures exact { is_founded founds size last.now ≡ false → result ≡ kind_by (size - 1) last.now }
         ensures turned { is_founded founds size last.now ≡ false → IsTrue (is_turned result) ↔ IsLinuxSealed header_signature last.now }
     {
-        if founds && may_be_founded(size, last) {
-            SlotKind::Turned(Places::of_new_disk(zeros, size))
+        let Some(layout) = founds else {
+            return SlotKind::of(zeros, size - 1, last);
+        };
+        if may_be_founded(layout, size, last) {
+            SlotKind::Turned(Places::of_new_disk(zeros, layout, size))
         } else {
             SlotKind::of(zeros, size - 1, last)
         }
@@ -143,10 +151,11 @@ impl SlotKind {
     }
 }
 
-/// Whether a disk may be founded on a slot of so many sectors: there is room for one, and the last sector begins as no anchor.
-fn may_be_founded(size: u64, last: &Sector) -> bool
-    ensures exact { result ≡ may_be_founded size last.now }
-    ensures large { result ≡ true → 33000 ≤ size }
+/// Whether a disk of a layout may be founded on a slot of so many sectors: there is room for one, and the last sector begins as no
+/// anchor.
+fn may_be_founded(layout: NewLayout, size: u64, last: &Sector) -> bool
+    ensures exact { result ≡ may_be_founded layout size last.now }
+    ensures large { result ≡ true → least_sectors layout ≤ size }
 {
-    size >= LEAST_SECTORS && be32(last, 0) != HEADER_SIGNATURE
+    size >= layout.least_sectors() && be32(last, 0) != HEADER_SIGNATURE
 }

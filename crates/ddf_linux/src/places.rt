@@ -1,5 +1,6 @@
 //! Which sectors of a slot are turned, by its anchor.
 ghost use Rattle.std.specs.Prelude.{◌≡◌, ◌≤◌};
+ghost use Rattle.ddf_update.specs.NewLayouts.{least_sectors};
 ghost use Rattle.ddf_linux.specs.Places.{places_of, new_places, copies_of, constant_at, copies_constant, lie_from, stands_at};
 
 use crate::layout::Layout;
@@ -7,7 +8,7 @@ use crate::records::Records;
 use crate::zeros::SectorZeros;
 use ddf_bytes::Sector;
 use ddf_header::{HEADER_SIGNATURE, HeaderKind, decode};
-use ddf_update::{PRIMARY_BACK, SECONDARY_BACK, new_geometry};
+use ddf_update::{NewLayout, new_geometry};
 
 /// The two copies of a slot, as its anchor places them.
 #[derive(Clone, Copy)]
@@ -64,18 +65,18 @@ impl Places {
         }
     }
 
-    /// The places of a new disk of so many sectors.
-    pub fn of_new_disk(zeros: &SectorZeros, size: u64) -> Places
-        requires { 33000 ≤ size }
-        ensures { result ≡ new_places size }
+    /// The places of a new disk of a layout and of so many sectors.
+    pub fn of_new_disk(zeros: &SectorZeros, layout: NewLayout, size: u64) -> Places
+        requires { least_sectors layout ≤ size }
+        ensures { result ≡ new_places layout size }
     {
         Places {
             anchor: size - 1,
             constant: zeros.constant(1),
             copies: Some(Copies {
-                primary: size - PRIMARY_BACK,
-                secondary: size - SECONDARY_BACK,
-                layout: Layout::new(zeros, &new_geometry(size)),
+                primary: size - layout.primary_back(),
+                secondary: size - layout.secondary_back(),
+                layout: Layout::new(zeros, &new_geometry(layout, size)),
             }),
         }
     }

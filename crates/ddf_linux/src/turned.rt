@@ -8,6 +8,7 @@ ghost use Rattle.ddf_linux.specs.Kinds.{IsSeenAs, is_turned, is_unread, turn};
 use crate::kind::SlotKind;
 use crate::zeros::SectorZeros;
 use ddf_bay::{Bay, BayFailed};
+use ddf_update::NewLayout;
 
 /// A bay over a bay. A slot whose anchor is sealed as Linux's mdadm counts the CRC is turned: its sealed records are seen in
 /// the standard's kind, and what is written to their places is sealed in Linux's. Every other slot is seen as it is, but for
@@ -26,9 +27,9 @@ pub struct Turned<B: Bay + Drop> {
 impl<B: Bay + Drop> Turned<B> {
     ghost use Rattle.ddf_linux.specs.TurnedBays.{inner_of, kind_of, disks_of};
 
-    /// Reads the last sector of each slot, and sees the slot by it. With `founds` new disks are sealed in Linux's kind: a slot on
-    /// which one may be founded is seen as that disk will be.
-    pub fn new(inner: B, founds: bool) -> Turned<B>
+    /// Reads the last sector of each slot, and sees the slot by it. With `founds` new disks of that layout are sealed in Linux's kind:
+    /// a slot on which one may be founded is seen as that disk will be.
+    pub fn new(inner: B, founds: Option<NewLayout>) -> Turned<B>
         // Nothing is written.
         ensures reads { ReadsOnly (B.disks inner) (B.disks (inner_of result)) }
         ensures remembers { Remembers (B.disks inner) (B.disks (inner_of result)) }
@@ -85,7 +86,12 @@ impl<B: Bay + Drop> Turned<B> {
 }
 
 /// Reads the last sector of a slot, and sees the slot by it.
-fn look<B: Bay>(zeros: &SectorZeros, inner: &mut B, slot: usize, founds: bool) -> SlotKind
+fn look<B: Bay>(
+    zeros: &SectorZeros,
+    inner: &mut B,
+    slot: usize,
+    founds: Option<NewLayout>,
+) -> SlotKind
     requires { slot < length (B.disks inner.old).sizes }
     ensures reads { ReadsOnly (B.disks inner.old) (B.disks inner.new) }
     ensures remembers { Remembers (B.disks inner.old) (B.disks inner.new) }

@@ -1,5 +1,5 @@
 -- The word that the name of an array prints as.
-use Rattle.std.specs.Prelude.{ℕ, Bool, ◌&&◌, ◌||◌, not, ◌==◌, nat_le, List, ◌++◌, drop, take, codes, if◌then◌else◌}
+use Rattle.std.specs.Prelude.{ℕ, Bool, false, ◌&&◌, ◌||◌, not, ◌==◌, nat_le, List, [], ◌∷◌, ◌++◌, length, drop, take, codes, if◌then◌else◌}
 use Rattle.std.specs.List.{list_all, prefix_len}
 use Rattle.std.specs.Str.{bytes_eq}
 use Rattle.hex.specs.Hex.{encode_lower}
@@ -28,3 +28,15 @@ name_text name = if is_plain_name name then take (plain_len name) name else code
 -- Two names print as one word. So do equal names, and names that differ in their padding alone.
 abbrev pub print_alike : (one other : List ℕ) → Bool
 print_alike one other = bytes_eq (name_text one) (name_text other)
+
+abbrev pub is_digit : ℕ → Bool
+is_digit byte = nat_le 0x30 byte && nat_le byte 0x39
+
+-- `#` and digits: so a word names an array by its place, where no name prints so
+abbrev pub is_place_text : List ℕ → Bool
+is_place_text [] = false
+is_place_text (byte ∷ digits) = byte == 0x23 && not (length digits == 0) && list_all is_digit digits
+
+-- a name prints as that
+abbrev pub is_place_name : List ℕ → Bool
+is_place_name name = is_place_text (name_text name)

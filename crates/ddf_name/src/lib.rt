@@ -4,4 +4,4 @@
 mod plain;
 mod printed;
 
-pub use printed::{NameText, print_alike, prints_as};
+pub use printed::{NameText, print_alike, prints_as, prints_as_place};

@@ -1,8 +1,9 @@
 //! The word that a name prints as.
 ghost use Rattle.std.specs.Prelude.{◌≡◌, ◌++◌, codes};
+ghost use Rattle.std.specs.List.{list_all};
 ghost use Rattle.std.specs.Str.{bytes_eq};
 ghost use Rattle.hex.specs.Hex.{encode_lower};
-ghost use Rattle.ddf_name.specs.Names.{name_text, print_alike};
+ghost use Rattle.ddf_name.specs.Names.{is_digit, is_place_name, is_place_text, name_text, print_alike};
 
 use crate::plain::{is_plain_name, plain_len};
 use ddf_bytes::{ascii_text, put_digits};
@@ -51,6 +52,29 @@ pub fn print_alike(one: &[u8; 16], other: &[u8; 16]) -> bool
     let mut printed = *b"hex:00000000000000000000000000000000";
     put_digits(other, &mut printed[4..]);
     prints_as(one, &printed)
+}
+
+/// Whether the name of an array prints as `#` and digits. So a word names an array by its place, where no name prints so.
+pub fn prints_as_place(name: &[u8; 16]) -> bool
+    ensures { result ≡ is_place_name name.now }
+{
+    is_plain_name(name) && is_place_text(&name[..plain_len(name)])
+}
+
+/// Whether a text is `#` and digits.
+fn is_place_text(text: &[u8]) -> bool
+    ensures { result ≡ is_place_text text.now }
+{
+    let Some((first, digits)) = text.split_first() else {
+        return false;
+    };
+    *first == b'#' && !digits.is_empty() && are_digits(digits)
+}
+
+fn are_digits(bytes: &[u8]) -> bool
+    ensures { result ≡ list_all is_digit bytes.now }
+{
+    bytes.iter().all(|byte| matches!(byte, b'0'..=b'9'))
 }
 
 /// Whether a text is `hex:` and the digits of a name.

@@ -12,14 +12,14 @@ use Rattle.ddf_bay.specs.Sectors.{Image}
 use Rattle.ddf_bay.specs.State.{BayState}
 use Rattle.ddf_array.specs.Sources.{first_copy, sources}
 use Rattle.ddf_array.specs.Volume.{Volume}
-use Rattle.ddf_volume.specs.declared.fault.VolumeFault.TheVariants.{Range, Lost, Unsure, Degraded, Disk}
-use Rattle.ddf_volume.specs.Given.{AreGiven, NoneLeftIn}
-use Rattle.ddf_volume.specs.Reading.{Failed, IsGivenBy, NoneFailed, OnlyReads}
-use Rattle.ddf_volume.specs.Refused.{read_refusal}
-use Rattle.ddf_volume.specs.Stretches.{HaveCopies, copy_stretches}
-use Rattle.ddf_volume.proofs.OnlyReading.{failed_before, failed_behind, only_reads_start, only_reads_then}
-use Rattle.ddf_volume.proofs.Pieces.{given_after, given_more, left_after}
-use Rattle.ddf_volume.proofs.Tries.{IsGivenBy-wider}
+use Rattle.ddf_read.specs.declared.fault.VolumeFault.TheVariants.{Range, Lost, Unsure, Degraded, Disk}
+use Rattle.ddf_read.specs.Given.{AreGiven, NoneLeftIn}
+use Rattle.ddf_read.specs.Reading.{Failed, IsGivenBy, NoneFailed, OnlyReads}
+use Rattle.ddf_read.specs.Refused.{read_refusal}
+use Rattle.ddf_read.specs.Stretches.{HaveCopies, copy_stretches}
+use Rattle.ddf_read.proofs.OnlyReading.{failed_before, failed_behind, only_reads_start, only_reads_then}
+use Rattle.ddf_read.proofs.Pieces.{given_after, given_more, left_after}
+use Rattle.ddf_read.proofs.Tries.{IsGivenBy-wider}
 use Rattle.ddf_pieces.specs.declared.fault.PieceFault.{PieceFault}
 use Rattle.ddf_pieces.specs.declared.fault.PieceFault.TheVariants as faults
 use Rattle.ddf_pieces.specs.Pieces.{AreWholePieces, GrewByPieces, bytes_of, over_pieces, piece_of}

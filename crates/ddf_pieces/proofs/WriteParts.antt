@@ -6,10 +6,10 @@ use Rattle.std.proofs.lemmas.Bool.{cases_lt, le-ltb, ltb-false}
 use Rattle.ddf_bay.specs.State.{BayState}
 use Rattle.ddf_array.specs.Volume.{Volume, capacity}
 use Rattle.ddf_array.specs.Within.{is_within}
-use Rattle.ddf_volume.specs.declared.fault.VolumeFault.{VolumeFault}
-use Rattle.ddf_volume.specs.declared.fault.VolumeFault.TheVariants.{Range, Lost, Degraded}
-use Rattle.ddf_volume.specs.Reading.{Failed}
-use Rattle.ddf_volume.proofs.Tries.{NotRead-wider}
+use Rattle.ddf_read.specs.declared.fault.VolumeFault.{VolumeFault}
+use Rattle.ddf_read.specs.declared.fault.VolumeFault.TheVariants.{Range, Lost, Degraded}
+use Rattle.ddf_read.specs.Reading.{Failed}
+use Rattle.ddf_read.proofs.Tries.{NotRead-wider}
 use Rattle.ddf_cells.specs.Degraded.{is_degraded}
 use Rattle.ddf_write.specs.WriteRefused.{NoneLeftOfRow, sources_in_write, write_refusal}
 use Rattle.ddf_pieces.specs.Pieces.{piece_blocks, piece_of, room_for}

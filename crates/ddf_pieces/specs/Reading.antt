@@ -6,11 +6,11 @@ use Rattle.ddf_bytes.specs.declared.sink.SinkFault.{SinkFault}
 use Rattle.ddf_bytes.specs.declared.sink.SinkFault.TheVariants as sinks
 use Rattle.ddf_bay.specs.State.{BayState}
 use Rattle.ddf_array.specs.Volume.{Volume}
-use Rattle.ddf_volume.specs.declared.fault.VolumeFault.{VolumeFault}
-use Rattle.ddf_volume.specs.declared.fault.VolumeFault.TheVariants.{Range, Lost, Unsure, Degraded, Disk}
-use Rattle.ddf_volume.specs.Given.{AreGiven, NoneLeftIn}
-use Rattle.ddf_volume.specs.Reading.{Failed}
-use Rattle.ddf_volume.specs.Refused.{read_refusal}
+use Rattle.ddf_read.specs.declared.fault.VolumeFault.{VolumeFault}
+use Rattle.ddf_read.specs.declared.fault.VolumeFault.TheVariants.{Range, Lost, Unsure, Degraded, Disk}
+use Rattle.ddf_read.specs.Given.{AreGiven, NoneLeftIn}
+use Rattle.ddf_read.specs.Reading.{Failed}
+use Rattle.ddf_read.specs.Refused.{read_refusal}
 use Rattle.ddf_pieces.specs.declared.fault.PieceFault.{PieceFault}
 use Rattle.ddf_pieces.specs.declared.fault.PieceFault.TheVariants as faults
 use Rattle.ddf_pieces.specs.Pieces.{AreWholePieces, bytes_of, piece_of}

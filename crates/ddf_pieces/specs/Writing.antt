@@ -6,9 +6,9 @@ use Rattle.ddf_bay.specs.Moments.{IsSettled, StopsLeave}
 use Rattle.ddf_bay.specs.ReadsOnly.{ReadsOnly}
 use Rattle.ddf_bay.specs.State.{BayState}
 use Rattle.ddf_array.specs.Volume.{Volume}
-use Rattle.ddf_volume.specs.declared.fault.VolumeFault.{VolumeFault}
-use Rattle.ddf_volume.specs.declared.fault.VolumeFault.TheVariants.{Range, Lost, Unsure, Degraded, Disk}
-use Rattle.ddf_volume.specs.Reading.{Failed}
+use Rattle.ddf_read.specs.declared.fault.VolumeFault.{VolumeFault}
+use Rattle.ddf_read.specs.declared.fault.VolumeFault.TheVariants.{Range, Lost, Unsure, Degraded, Disk}
+use Rattle.ddf_read.specs.Reading.{Failed}
 use Rattle.ddf_cells.specs.CellsOn.{copy_cells, write_stretches}
 use Rattle.ddf_write.specs.RowWrites.{IsSure, keeps_parity_anywhere, row_cells}
 use Rattle.ddf_write.specs.WriteRefused.{IsStopped, NoneLeftOfRow, write_refusal}

@@ -1,6 +1,6 @@
 //! Why a read or write that goes piece by piece ends early.
 use ddf_bytes::SinkFault;
-use ddf_volume::VolumeFault;
+use ddf_read::VolumeFault;
 
 /// Why blocks of an array aren't read or written piece by piece.
 #[derive(Clone, Copy, PartialEq, Eq)]

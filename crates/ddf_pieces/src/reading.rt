@@ -2,9 +2,9 @@
 ghost use Rattle.std.specs.Prelude.{◌≡◌, ℕ, ◌+◌, ◌<◌, ◌≤◌, ◌^◌, None, length};
 ghost use Rattle.ddf_array.specs.Volume.{Fits};
 ghost use Rattle.ddf_bytes.specs.Streams.{SinkNeverFalls};
-ghost use Rattle.ddf_volume.specs.Reading.{NoneFailed, OnlyReads};
-ghost use Rattle.ddf_volume.specs.Refused as volume;
-ghost use Rattle.ddf_volume.specs.Stretches.{HaveCopies, copy_stretches};
+ghost use Rattle.ddf_read.specs.Reading.{NoneFailed, OnlyReads};
+ghost use Rattle.ddf_read.specs.Refused as volume;
+ghost use Rattle.ddf_read.specs.Stretches.{HaveCopies, copy_stretches};
 ghost use Rattle.ddf_pieces.specs.Pieces.{GrewByPieces};
 ghost use Rattle.ddf_pieces.specs.Reading.{ArePiecesRead, IsPieceRead};
 
@@ -13,7 +13,7 @@ use crate::sizes::piece_of;
 use ddf_array::View;
 use ddf_bay::Bay;
 use ddf_bytes::{Sector, Sink, write_all};
-use ddf_volume::{VolumeFault, read_blocks, read_refusal};
+use ddf_read::{VolumeFault, read_blocks, read_refusal};
 
 /// Reads so many blocks from one on and hands their bytes to the sink, piece by piece: each of as many blocks as the room has sectors, and the last of what
 /// is left. Each piece is read as `read_blocks` reads it, and handed on once it is read. It takes no memory.

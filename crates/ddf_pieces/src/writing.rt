@@ -15,7 +15,7 @@ use crate::source::has_piece;
 use ddf_array::View;
 use ddf_bay::Bay;
 use ddf_bytes::{Sector, Source};
-use ddf_volume::VolumeFault;
+use ddf_read::VolumeFault;
 use ddf_write::{write_blocks, write_refusal};
 
 /// Writes so many blocks from one on, piece by piece: each of as many blocks as the room has whole sectors, and the last of what is left. The room begins with

@@ -15,7 +15,7 @@ use Rattle.ddf_config.specs.Members.{same_guid}
 use Rattle.ddf_config.specs.Levels.{unserved_level}
 use Rattle.ddf_config.specs.Refusals.{first_refusal, refuse_if, part_refusal}
 use Rattle.ddf_plan.specs.Refusals.{greatest_sequence, spent, not_current, refuse_first}
-use Rattle.ddf_plan.specs.CreateRefusal.{references, has_named, is_no_shape, is_spare_disk}
+use Rattle.ddf_plan.specs.CreateRefusal.{references, is_taken, is_no_shape, is_spare_disk}
 use Rattle.ddf_plan.specs.Arrays.{HasNewGuid}
 use Rattle.ddf_plan.specs.Floors.{extents_refusal}
 use Rattle.ddf_plan.specs.Causes.{causes_of, refusal_of, steps_of}
@@ -49,7 +49,7 @@ room_left sequence steps e = grind arith
 abbrev pub checks_before_clash : Configuration → List Seat → Array → List (Option Refusal)
 checks_before_clash config seats array =
     (not_current config seats (references array)
-    ∷ refuse_if (has_named config array.name) NameTaken
+    ∷ refuse_if (is_taken config array.name) NameTaken
     ∷ unserved_level array
     ∷ refuse_if (is_no_shape array) Shape
     ∷ [])

@@ -27,7 +27,7 @@ use Rattle.ddf_plan.specs.declared.change.Change.TheVariants.{Create}
 use Rattle.ddf_plan.specs.Refusals.{not_current, refuse_first, spent}
 use Rattle.ddf_plan.specs.Create.{element_strip, laid_position, laid_element, created, lies_clear}
 use Rattle.ddf_plan.specs.Floors.{extents_refusal}
-use Rattle.ddf_plan.specs.CreateRefusal.{references, has_named, names_twice, is_no_shape, is_spare_disk}
+use Rattle.ddf_plan.specs.CreateRefusal.{references, is_taken, names_twice, is_no_shape, is_spare_disk}
 use Rattle.ddf_plan.specs.Members.{members_after}
 use Rattle.ddf_plan.specs.Arrays.{kept_array, kept_and_added}
 use Rattle.ddf_plan.specs.Causes.{refusal_of}
@@ -99,7 +99,7 @@ module _ (config next : Configuration) (guid : List ℕ) (array made : Array) (s
       ∙ parts_are_clear config [] seats (length array.elements) array.elements
       (all_pass
       (not_current config seats (references array)
-      ∷ refuse_if (has_named config array.name) NameTaken
+      ∷ refuse_if (is_taken config array.name) NameTaken
       ∷ unserved_level array
       ∷ refuse_if (is_no_shape array) Shape
       ∷ refuse_if (is_some (lookup (same_guid guid) config.arrays)) (Clash guid)
@@ -116,7 +116,7 @@ module _ (config next : Configuration) (guid : List ℕ) (array made : Array) (s
       (not_refused (is_no_shape array) Shape
       (all_pass
       (not_current config seats (references array)
-      ∷ refuse_if (has_named config array.name) NameTaken
+      ∷ refuse_if (is_taken config array.name) NameTaken
       ∷ unserved_level array
       ∷ [])
       (refuse_if (is_no_shape array) Shape)

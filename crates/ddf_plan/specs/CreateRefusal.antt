@@ -16,7 +16,7 @@ use Rattle.ddf_config.specs.Extents.{array_extents}
 use Rattle.ddf_config.specs.Shapes.{has_shapes, has_tiers}
 use Rattle.ddf_config.specs.Levels.{unserved_level}
 use Rattle.ddf_config.specs.Refusals.{refuse_if}
-use Rattle.ddf_name.specs.Names.{print_alike}
+use Rattle.ddf_name.specs.Names.{is_place_name, print_alike}
 use Rattle.ddf_plan.specs.Refusals.{not_current, refuse_first}
 
 -- the references of an array's positions, by element and position
@@ -30,6 +30,11 @@ has_name name entry = print_alike entry.1.name name
 -- by a word
 abbrev pub has_named : Configuration → List ℕ → Bool
 has_named config name = list_any (has_name name) config.arrays
+
+-- that a new array can't be called so. A name that prints as a place in the table would hide the array at that place, where
+-- only its place names that one
+abbrev pub is_taken : Configuration → List ℕ → Bool
+is_taken config name = is_place_name name || has_named config name
 
 -- that a disk is named twice
 abbrev pub names_twice : List ℕ → Bool
@@ -57,12 +62,12 @@ is_spare_disk config reference =
 abbrev pub no_extent : List Seat → Option Position → Option Refusal
 no_extent seats first = option_map (λ (position : Position). NoExtent (slot_of seats position.reference)) first
 
--- in order: each disk is a current member, no array's name prints as this one, each level is served, the numbers make an
+-- in order: each disk is a current member, no array's name prints as this one, nor it as a place, each level is served, the numbers make an
 -- array whose elements have no more members than the bound, the GUID is new, and no disk is a spare
 abbrev pub create_causes : Option ℕ → Configuration → List Seat → List ℕ → Array → List (Option Refusal)
 create_causes most config seats guid array =
     not_current config seats (references array)
-    ∷ refuse_if (has_named config array.name) NameTaken
+    ∷ refuse_if (is_taken config array.name) NameTaken
     ∷ unserved_level array
     ∷ refuse_if (passes_most most array || is_no_shape array) Shape
     ∷ refuse_if (is_some (lookup (same_guid guid) config.arrays)) (Clash guid)

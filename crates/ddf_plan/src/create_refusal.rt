@@ -7,7 +7,7 @@ ghost use Rattle.ddf_config.specs.declared.refusal.Refusal.TheVariants.{InUse};
 ghost use Rattle.ddf_config.specs.Members.{same_guid};
 ghost use Rattle.ddf_config.specs.Refusals.{first_refusal};
 ghost use Rattle.ddf_plan.specs.Refusals.{refuse_first};
-ghost use Rattle.ddf_plan.specs.CreateRefusal.{references, has_named, names_twice, is_no_shape, is_spare_disk, no_extent, has_more, passes_most, create_causes};
+ghost use Rattle.ddf_plan.specs.CreateRefusal.{references, has_named, is_taken, names_twice, is_no_shape, is_spare_disk, no_extent, has_more, passes_most, create_causes};
 
 use crate::lose::is_among;
 use crate::refuse::not_current;
@@ -16,7 +16,7 @@ use ddf_config::{
     Array, Config, ElementPlan, Extent, Position, Refusal, Seat, array_extents, first_refusal,
     has_shapes, has_tiers, refuse_if, slot_of, unserved_level,
 };
-use ddf_name::print_alike;
+use ddf_name::{print_alike, prints_as_place};
 use std::alloc::Global;
 
 /// The references of an array's positions, by element and position.
@@ -48,6 +48,13 @@ pub fn has_named(config: &Config, name: &[u8; 16]) -> bool
         .arrays
         .iter()
         .any(|(_, array)| print_alike(&array.name, name))
+}
+
+/// Whether a new array can't be called so: its name prints as one of the configuration does, or as a place in the table.
+fn is_taken(config: &Config, name: &[u8; 16]) -> bool
+    ensures { result ≡ is_taken config.now name.now }
+{
+    prints_as_place(name) || has_named(config, name)
 }
 
 /// Whether a disk is named twice.
@@ -157,7 +164,7 @@ fn first_of_create(
 {
     first_refusal(&[
         not_current(config, seats, named),
-        refuse_if(has_named(config, &array.name), Refusal::NameTaken),
+        refuse_if(is_taken(config, &array.name), Refusal::NameTaken),
         unserved_level(array),
         refuse_if(no_shape, Refusal::Shape),
         refuse_if(has_array(config, guid), Refusal::Clash(guid)),

@@ -8,7 +8,7 @@ use Rattle.ddf_primary.specs.Cells.{depth_of}
 use Rattle.ddf_array.specs.declared.part.Part.{Part}
 use Rattle.ddf_array.specs.declared.place.Place.{Place}
 use Rattle.ddf_array.specs.Volume.{Volume}
-use Rattle.ddf_volume.specs.Reading.{NoneLeft}
+use Rattle.ddf_read.specs.Reading.{NoneLeft}
 use Rattle.ddf_cells.specs.CellSources.{cell_sources, needed_positions, wanted}
 use Rattle.ddf_cells.specs.GivenCells.{IsWantedGiven}
 use Rattle.ddf_cells.specs.Writing.{AddsBut, AsksFor, IsAmongSectors, IsLeftBut, StaysBut}

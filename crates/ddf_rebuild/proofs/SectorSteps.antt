@@ -9,8 +9,8 @@ use Rattle.ddf_primary.specs.Cells.{depth_of}
 use Rattle.ddf_array.specs.declared.part.Part.{Part}
 use Rattle.ddf_array.specs.Sound.{AreSectors}
 use Rattle.ddf_array.specs.Volume.{IsVolume, Volume}
-use Rattle.ddf_volume.specs.Reading.{Failed}
-use Rattle.ddf_volume.proofs.Tries.{NotRead-wider, Within}
+use Rattle.ddf_read.specs.Reading.{Failed}
+use Rattle.ddf_read.proofs.Tries.{NotRead-wider, Within}
 use Rattle.ddf_cells.specs.Alike.{AreAlike}
 use Rattle.ddf_cells.specs.CellSources.{IsSure, NoneLeftFor, cell_sources, wanted}
 use Rattle.ddf_cells.specs.GivenCells.{IsWantedGiven}

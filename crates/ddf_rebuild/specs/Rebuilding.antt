@@ -10,9 +10,9 @@ use Rattle.ddf_array.specs.declared.part.Part.{Part}
 use Rattle.ddf_array.specs.declared.place.Place.{Place}
 use Rattle.ddf_array.specs.Volume.{Volume}
 use Rattle.ddf_array.specs.Within.{is_within}
-use Rattle.ddf_volume.specs.declared.fault.VolumeFault.{VolumeFault}
-use Rattle.ddf_volume.specs.declared.fault.VolumeFault.TheVariants.{Range, Degraded, Lost, Unsure, Disk}
-use Rattle.ddf_volume.specs.Reading.{Failed, NoneLeft}
+use Rattle.ddf_read.specs.declared.fault.VolumeFault.{VolumeFault}
+use Rattle.ddf_read.specs.declared.fault.VolumeFault.TheVariants.{Range, Degraded, Lost, Unsure, Disk}
+use Rattle.ddf_read.specs.Reading.{Failed, NoneLeft}
 use Rattle.ddf_cells.specs.CellSources.{cell_sources, needed_positions, wanted}
 use Rattle.ddf_cells.specs.GivenCells.{IsWantedGiven}
 use Rattle.ddf_rebuild.specs.Target.{IsInRows, IsTarget, IsTargetSlot}

@@ -3,7 +3,7 @@ use Rattle.std.specs.Prelude.{◌≡◌, ℕ, ◌+◌, ◌<◌, ◌≤◌, Some,
 use Rattle.ddf_bay.specs.Sectors.{Image}
 use Rattle.ddf_array.specs.declared.part.Part.{Part}
 use Rattle.ddf_array.specs.Volume.{Volume}
-use Rattle.ddf_volume.specs.Reading.{NoneLeft}
+use Rattle.ddf_read.specs.Reading.{NoneLeft}
 use Rattle.ddf_cells.specs.CellSources.{cell_sources, needed_positions, wanted}
 use Rattle.ddf_cells.specs.GivenCells.{IsWantedGiven}
 use Rattle.ddf_rebuild.specs.declared.aim.Aim.{Aim}

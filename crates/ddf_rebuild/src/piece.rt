@@ -7,7 +7,7 @@ ghost use Rattle.ddf_primary.specs.Cells.{depth_of};
 ghost use Rattle.ddf_array.specs.declared.part.Part.{Part};
 ghost use Rattle.ddf_array.specs.Sound.{AreSectors};
 ghost use Rattle.ddf_array.specs.Volume.{Fits, IsPart, IsVolume};
-ghost use Rattle.ddf_volume.specs.Reading.{Failed};
+ghost use Rattle.ddf_read.specs.Reading.{Failed};
 ghost use Rattle.ddf_cells.specs.CellSources.{IsInOneRow, IsReadable, IsSure, NoneLeftFor, wanted};
 ghost use Rattle.ddf_cells.specs.GivenCells.{IsWantedGiven};
 ghost use Rattle.ddf_cells.specs.Writing.{AddsBut, AsksFor, IsAmongSectors, IsLeftBut, StaysBut};

@@ -10,7 +10,7 @@ ghost use Rattle.ddf_array.specs.Apart.{IsApart};
 ghost use Rattle.ddf_array.specs.Sound.{AreSectors};
 ghost use Rattle.ddf_array.specs.Volume.{Fits, IsPart, IsVolume};
 ghost use Rattle.ddf_array.specs.Within.{is_within};
-ghost use Rattle.ddf_volume.specs.Reading.{Failed};
+ghost use Rattle.ddf_read.specs.Reading.{Failed};
 ghost use Rattle.ddf_cells.specs.CellSources.{IsReadable, IsSure, wanted};
 ghost use Rattle.ddf_cells.specs.Writing.{AddsBut, AsksFor, IsAmongSectors, IsLeftBut, StaysBut};
 ghost use Rattle.ddf_rebuild.specs.Rebuilding.{HasGiven, HasRebuilt, IsRebuildFault, sectors_of};
@@ -22,8 +22,8 @@ use crate::piece::rebuild_piece;
 use ddf_array::{Part, View};
 use ddf_bay::Bay;
 use ddf_cells::{depth_of, piece_at};
+use ddf_read::{VolumeFault, strip_of};
 use ddf_repair::Target;
-use ddf_volume::{VolumeFault, strip_of};
 
 /// Rebuilds the target's sectors from one on, up to an end. After a failure, the target's slot, if a write failed, or one at
 /// which no source is left.

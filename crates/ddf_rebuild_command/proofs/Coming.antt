@@ -13,8 +13,8 @@ use Rattle.ddf_history.specs.Issued.{Past, acknowledge, issue, leave_out, take_o
 use Rattle.ddf_assembly.specs.Group.{GroupValue}
 use Rattle.ddf_assembly.specs.Recovery.{some}
 use Rattle.ddf_assembly.specs.Steps.{Step}
-use Rattle.ddf_stops.specs.Going.{Goes, IsOver, IsUnderway, begun, changes_in, issue_all}
-use Rattle.ddf_stops.proofs.CommittingGoes.{change_goes, change_over}
+use Rattle.ddf_history_steps.specs.Going.{Goes, IsOver, IsUnderway, begun, changes_in, issue_all}
+use Rattle.ddf_history_steps.proofs.CommittingGoes.{change_goes, change_over}
 use Rattle.ddf_rebuild_command.specs.Filled.{HasComeIn, behind_rounds, made}
 use Rattle.ddf_rebuild_command.specs.Rounds.{Round, steps_of}
 use Rattle.ddf_rebuild_command.specs.Stages.{Stage}

@@ -16,9 +16,9 @@ use Rattle.ddf_assembly.specs.Group.{GroupValue}
 use Rattle.ddf_assembly.specs.Ready.{ReadyStep, ReadyValue}
 use Rattle.ddf_assembly.specs.Recovery.{some}
 use Rattle.ddf_assembly.specs.Steps.{Step}
-use Rattle.ddf_stops.specs.Going.{Goes, IsAdmitted, IsOver, changes_in}
-use Rattle.ddf_stops.specs.Kept.{AreAllKept, is_read, is_slot}
-use Rattle.ddf_stops.specs.Steps.{StandsReady, behind_next, with_next}
+use Rattle.ddf_history_steps.specs.Going.{Goes, IsAdmitted, IsOver, changes_in}
+use Rattle.ddf_history_steps.specs.Kept.{AreAllKept, is_read, is_slot}
+use Rattle.ddf_history_steps.specs.Steps.{StandsReady, behind_next, with_next}
 use Rattle.ddf_answer.specs.declared.failure.Failure.{Failure}
 use Rattle.ddf_answer.specs.declared.failure.Failure.TheVariants.{Conflict, Disk, Memory, Refused, Split}
 use Rattle.ddf_answer.proofs.Rises.{rose_later}

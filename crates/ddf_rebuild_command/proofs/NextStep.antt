@@ -21,12 +21,12 @@ use Rattle.ddf_assembly.specs.Seated.{seated}
 use Rattle.ddf_assembly.specs.Trying.{AreFollowing}
 use Rattle.ddf_assembly.proofs.Committed.{may_write_next, next_lies}
 use Rattle.ddf_assembly.proofs.CommittedAfter.{committed_anchored, committed_holds, left_ready}
-use Rattle.ddf_stops.specs.Kept.{ReadsTrue, is_slot}
-use Rattle.ddf_stops.specs.Steps.{IsCommit, KeepsStep, StandsReady, behind_next}
-use Rattle.ddf_stops.proofs.CommittingKeeps as committing
-use Rattle.ddf_stops.proofs.CommittingKeeps.{commit_keeps, stands_behind}
-use Rattle.ddf_stops.proofs.Slots.{slot_is}
-use Rattle.ddf_stops.proofs.Floored.{next_floored}
+use Rattle.ddf_history_steps.specs.Kept.{ReadsTrue, is_slot}
+use Rattle.ddf_history_steps.specs.Steps.{IsCommit, KeepsStep, StandsReady, behind_next}
+use Rattle.ddf_history_steps.proofs.CommittingKeeps as committing
+use Rattle.ddf_history_steps.proofs.CommittingKeeps.{commit_keeps, stands_behind}
+use Rattle.ddf_history_steps.proofs.Slots.{slot_is}
+use Rattle.ddf_history_steps.proofs.Floored.{next_floored}
 use Rattle.ddf_group_commands.specs.Writing.{IsLeftWriting}
 use Rattle.ddf_group_commands.specs.Written.{AreWritten}
 use Rattle.ddf_group_commands.proofs.Keeping.{reads_true}

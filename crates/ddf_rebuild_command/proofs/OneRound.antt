@@ -13,9 +13,9 @@ use Rattle.ddf_cells.specs.Writing.{AddsBut, IsLeftBut, StaysBut}
 use Rattle.ddf_rebuild.specs.Rebuilding.{HasGiven, HasRebuilt, IsRebuildFault}
 use Rattle.ddf_rebuild.specs.Target.{IsTargetCell}
 use Rattle.ddf_repair.specs.declared.first.Target.{Target}
-use Rattle.ddf_volume.specs.declared.fault.VolumeFault.{VolumeFault}
-use Rattle.ddf_volume.specs.declared.fault.VolumeFault.TheVariants as volumes
-use Rattle.ddf_volume.specs.Reading.{Failed}
+use Rattle.ddf_read.specs.declared.fault.VolumeFault.{VolumeFault}
+use Rattle.ddf_read.specs.declared.fault.VolumeFault.TheVariants as volumes
+use Rattle.ddf_read.specs.Reading.{Failed}
 use Rattle.ddf_history.specs.Groups.{groups}
 use Rattle.ddf_history.specs.Issued.{Past, issue}
 use Rattle.ddf_history.specs.Promise.{IsKept}
@@ -25,16 +25,16 @@ use Rattle.ddf_assembly.specs.Group.{GroupValue}
 use Rattle.ddf_assembly.specs.Reading.{HaveAnchors}
 use Rattle.ddf_assembly.specs.Ready.{ReadyStep, ReadyValue}
 use Rattle.ddf_assembly.specs.Trying.{SlotsRise}
-use Rattle.ddf_stops.specs.Kept.{AreAllKept}
-use Rattle.ddf_stops.specs.Steps.{StandsReady, behind_next, with_next}
-use Rattle.ddf_stops.specs.BlockFloors.{HaveFloors, StaySettled, WritesBelow, floor_in}
-use Rattle.ddf_stops.proofs.Below.{all_kept, moments_kept, stands_still}
-use Rattle.ddf_stops.proofs.Course.{ready_still}
-use Rattle.ddf_stops.proofs.Floored.{seats_have_floors}
+use Rattle.ddf_history_steps.specs.Kept.{AreAllKept}
+use Rattle.ddf_history_steps.specs.Steps.{StandsReady, behind_next, with_next}
+use Rattle.ddf_history_steps.specs.BlockFloors.{HaveFloors, StaySettled, WritesBelow, floor_in}
+use Rattle.ddf_history_steps.proofs.Below.{all_kept, moments_kept, stands_still}
+use Rattle.ddf_history_steps.proofs.Course.{ready_still}
+use Rattle.ddf_history_steps.proofs.Floored.{seats_have_floors}
 use Rattle.ddf_answer.specs.declared.failure.Failure.{Failure}
 use Rattle.ddf_answer.specs.declared.failure.Failure.TheVariants.{Conflict, Disk, Memory, Refused, Split}
 use Rattle.ddf_answer.proofs.Rises.{rose_later, rose_still}
-use Rattle.ddf_data_commands.specs.Use.{failure_of_volume}
+use Rattle.ddf_read_commands.specs.Use.{failure_of_volume}
 use Rattle.ddf_group_commands.specs.Others.{LeavesOthers}
 use Rattle.ddf_group_commands.specs.Writing.{IsLeftWriting}
 use Rattle.ddf_group_commands.specs.Written.{AreWritten}

@@ -17,8 +17,8 @@ use Rattle.ddf_assembly.specs.Committed.{AreSettled, slots_of}
 use Rattle.ddf_assembly.specs.Group.{GroupValue}
 use Rattle.ddf_assembly.specs.Ready.{ReadyValue}
 use Rattle.ddf_assembly.specs.Steps.{Step}
-use Rattle.ddf_stops.specs.Going.{Goes, IsAdmitted, KeepsHistory, changes_in}
-use Rattle.ddf_stops.specs.Kept.{AreAllKept, is_read}
+use Rattle.ddf_history_steps.specs.Going.{Goes, IsAdmitted, KeepsHistory, changes_in}
+use Rattle.ddf_history_steps.specs.Kept.{AreAllKept, is_read}
 use Rattle.ddf_answer.specs.declared.failure.Failure.{Failure}
 use Rattle.ddf_answer.specs.declared.failure.Failure.TheVariants.{Conflict, Disk, Memory, Refused, Split}
 use Rattle.ddf_answer.specs.Call.{Work, work_of}
@@ -40,7 +40,7 @@ use Rattle.ddf_rebuild_command.specs.Standing.{IsSlotFault}
 use Rattle.ddf_rebuild_command.proofs.Coming.{changes_both, goes_more}
 use Rattle.ddf_rebuild_command.proofs.OneRound.{stops_both}
 use Rattle.ddf_rebuild_command.proofs.PositionRun.{seat_there, written_since}
-use Rattle.ddf_stops.proofs.Entering.{admitted_still, kept_still}
+use Rattle.ddf_history_steps.proofs.Entering.{admitted_still, kept_still}
 use Rattle.ddf_group_commands.proofs.LeftWriting.{writing_since}
 
 module _ {D : Type 0} (tells : Type 0) (entry start new : BayState D) (reads : ReadsOnly entry start) (writes_rise : (slot : ℕ) → entry.failed_writes slot ≤ start.failed_writes slot)

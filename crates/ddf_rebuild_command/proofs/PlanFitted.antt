@@ -28,8 +28,8 @@ use Rattle.ddf_array.proofs.Told.{told_within}
 use Rattle.ddf_rebuild.specs.Target.{row_count}
 use Rattle.ddf_rewrite.proofs.Lists.{all_at}
 use Rattle.ddf_assembly.specs.Trying.{SlotsRise}
-use Rattle.ddf_data_commands.specs.declared.using.Access.TheVariants.{Reads}
-use Rattle.ddf_data_commands.specs.Use.{array_refusals}
+use Rattle.ddf_read_commands.specs.declared.using.Access.TheVariants.{Reads}
+use Rattle.ddf_read_commands.specs.Use.{array_refusals}
 use Rattle.ddf_write_commands.specs.Opened.{AreMembers}
 use Rattle.ddf_write_commands.specs.Planned.{Entry}
 use Rattle.ddf_write_commands.proofs.Staying.{member_there}
@@ -45,7 +45,7 @@ use Rattle.ddf_rebuild_command.proofs.PlanMade.{place_at, rows_are}
 use Rattle.ddf_rebuild_command.proofs.SeatsKept.{still_current}
 use Rattle.ddf_rebuild_command.proofs.SpareViews.{still_rows, still_within}
 use Rattle.ddf_rebuild_command.proofs.Targets.{is_again, is_fresh_at}
-use Rattle.ddf_data_commands.proofs.ArrayUse.{named_is}
+use Rattle.ddf_read_commands.proofs.ArrayUse.{named_is}
 
 -- A position can be filled over these seats.
 pub record CanFill (config : Configuration) (seats : List Seat) (entry : Entry) (filling : Filling) : Type 0 where

@@ -49,7 +49,7 @@ use Rattle.ddf_rebuild_command.proofs.PlanMade.{kept_is}
 use Rattle.ddf_rebuild_command.proofs.SeatsKept.{LosesNone, seats_kept}
 use Rattle.ddf_rebuild_command.proofs.Steps.{IsOutAt, finish_steps, out_progressed, progress_steps}
 use Rattle.ddf_rebuild_command.proofs.Targets.{is_again, is_fresh_at}
-use Rattle.ddf_data_commands.proofs.ArrayUse.{named_is}
+use Rattle.ddf_read_commands.proofs.ArrayUse.{named_is}
 use Rattle.ddf_write_commands.proofs.Splitting.{with_others}
 
 -- ---- the steps of changes, taken apart

@@ -36,8 +36,8 @@ use Rattle.ddf_assembly.specs.Asked.{CanBeAsked}
 use Rattle.ddf_request.specs.Named.{named_array, with_array}
 use Rattle.ddf_answer.specs.declared.failure.Failure.{Failure}
 use Rattle.ddf_answer.specs.declared.failure.Failure.TheVariants.{Conflict, Disk, Memory, Refused, Split}
-use Rattle.ddf_data_commands.specs.declared.using.Access.TheVariants.{Reads}
-use Rattle.ddf_data_commands.specs.Use.{IsUsable, IsViewed, MayUse, array_refusals, use_refusal}
+use Rattle.ddf_read_commands.specs.declared.using.Access.TheVariants.{Reads}
+use Rattle.ddf_read_commands.specs.Use.{IsUsable, IsViewed, MayUse, array_refusals, use_refusal}
 use Rattle.ddf_write_commands.specs.Planned.{Entry, unless_refused}
 use Rattle.ddf_rebuild_command.specs.declared.planning.Plan.{Plan}
 use Rattle.ddf_rebuild_command.specs.Asked.{bad_spare, kept_in, part_kept, rebuild_asked, rebuild_changes, rebuild_refusals, rebuild_unless, rows_in}
@@ -48,7 +48,7 @@ use Rattle.ddf_rebuild_command.proofs.Noting.{notes_below}
 use Rattle.ddf_rebuild_command.proofs.Targets.{IsFirst, IsFreshAt, is_again, is_fresh_at}
 use Rattle.ddf_rebuild_command.proofs.Views.{IsAt, few_rows, is_at, rows_by}
 use Rattle.ddf_rebuild_command.proofs.Begun.{fresh_marked, fresh_there, fresh_viewed, out_in}
-use Rattle.ddf_data_commands.proofs.ArrayUse.{named_is}
+use Rattle.ddf_read_commands.proofs.ArrayUse.{named_is}
 
 -- ---- small things
 

@@ -16,7 +16,7 @@ use Rattle.ddf_assembly.specs.Ready.{ReadyStep, ReadyValue, all_ready}
 use Rattle.ddf_assembly.specs.Recovery.{config_recovered}
 use Rattle.ddf_assembly.specs.Seated.{seated}
 use Rattle.ddf_assembly.specs.Steps.{Step}
-use Rattle.ddf_stops.specs.BlockFloors.{AreFloored}
+use Rattle.ddf_history_steps.specs.BlockFloors.{AreFloored}
 use Rattle.ddf_answer.specs.Call.{work_of}
 use Rattle.ddf_answer.specs.declared.failure.Failure.{Failure}
 use Rattle.ddf_answer.specs.Costs.{WritesAtMost}

@@ -11,7 +11,7 @@ use Rattle.ddf_config.specs.Configuration.{Configuration}
 use Rattle.ddf_config.specs.Seats.{SeatsFit}
 use Rattle.ddf_rewrite.proofs.Lists.{map_get}
 use Rattle.ddf_update.specs.Group.{IsOneOf}
-use Rattle.ddf_volume.specs.Reading.{Failed}
+use Rattle.ddf_read.specs.Reading.{Failed}
 use Rattle.ddf_history.specs.Groups.{groups}
 use Rattle.ddf_history.specs.Issued.{Past, acknowledge, issue}
 use Rattle.ddf_history.specs.Promise.{IsKept}
@@ -20,9 +20,9 @@ use Rattle.ddf_assembly.specs.Committed.{AreSettled, slots_of}
 use Rattle.ddf_assembly.specs.Group.{GroupValue}
 use Rattle.ddf_assembly.specs.Ready.{ReadyValue}
 use Rattle.ddf_assembly.specs.Steps.{Step}
-use Rattle.ddf_stops.specs.Going.{Ends, Goes, IsAdmitted, IsOver, KeepsHistory, changes_in, issue_all}
-use Rattle.ddf_stops.specs.Kept.{AreAllKept, is_read}
-use Rattle.ddf_stops.specs.Steps.{StandsReady}
+use Rattle.ddf_history_steps.specs.Going.{Ends, Goes, IsAdmitted, IsOver, KeepsHistory, changes_in, issue_all}
+use Rattle.ddf_history_steps.specs.Kept.{AreAllKept, is_read}
+use Rattle.ddf_history_steps.specs.Steps.{StandsReady}
 use Rattle.ddf_answer.specs.declared.failure.Failure.{Failure}
 use Rattle.ddf_answer.specs.declared.failure.Failure.TheVariants.{Conflict, Disk, Memory, Refused, Split}
 use Rattle.ddf_answer.specs.Call.{Work, work_of}
@@ -48,7 +48,7 @@ use Rattle.ddf_rebuild_command.proofs.Coming.{AreAbove, above_at, above_first, c
 use Rattle.ddf_rebuild_command.proofs.OneRound.{stops_both}
 use Rattle.ddf_rebuild_command.proofs.RoundsMore.{left_more, none_left_more, rounds_more}
 use Rattle.ddf_rebuild_command.proofs.Writings.{last_then}
-use Rattle.ddf_stops.proofs.Entering.{admitted_still, kept_still}
+use Rattle.ddf_history_steps.proofs.Entering.{admitted_still, kept_still}
 use Rattle.ddf_group_commands.proofs.LeftWriting.{writing_since}
 
 -- ---- since the entry of a call that read its group

@@ -12,7 +12,7 @@ use Rattle.ddf_assembly.specs.Committed.{DoRise, slots_of}
 use Rattle.ddf_assembly.specs.Group.{GroupValue}
 use Rattle.ddf_assembly.specs.Ready.{ReadyStep, ReadyValue}
 use Rattle.ddf_assembly.specs.Steps.{Step}
-use Rattle.ddf_stops.specs.Going.{KeepsHistory, changes_in}
+use Rattle.ddf_history_steps.specs.Going.{KeepsHistory, changes_in}
 use Rattle.ddf_answer.specs.declared.failure.Failure.{Failure}
 use Rattle.ddf_answer.specs.Call.{work_of}
 use Rattle.ddf_group_commands.specs.Change.{is_done, steps_of as steps_asked}

@@ -22,14 +22,14 @@ use Rattle.ddf_assembly.specs.Seated.{seated}
 use Rattle.ddf_assembly.specs.Steps.{Step}
 use Rattle.ddf_assembly.proofs.RecoveredGroup.{is_recovered, recovered_ready, recovery_follows}
 use Rattle.ddf_assembly.proofs.RecoveryWritten.{may_recover, recovered_anchored, recovered_held, recovery_lies, recovery_on_seats}
-use Rattle.ddf_stops.specs.Going.{Goes, IsAdmitted, IsOver, KeepsHistory, changes_in}
-use Rattle.ddf_stops.specs.Kept.{AreAllKept, ReadsTrue, is_read}
-use Rattle.ddf_stops.specs.Steps.{IsRecovery, StandsReady, WasTaken, recovery_changes}
-use Rattle.ddf_stops.proofs.CommittingGoes.{no_lower}
-use Rattle.ddf_stops.proofs.Entering.{keeps_where_told}
-use Rattle.ddf_stops.proofs.RecoveringKeeps as recovering
-use Rattle.ddf_stops.proofs.Course.{recovery_loses}
-use Rattle.ddf_stops.proofs.Floored.{recovered_floored}
+use Rattle.ddf_history_steps.specs.Going.{Goes, IsAdmitted, IsOver, KeepsHistory, changes_in}
+use Rattle.ddf_history_steps.specs.Kept.{AreAllKept, ReadsTrue, is_read}
+use Rattle.ddf_history_steps.specs.Steps.{IsRecovery, StandsReady, WasTaken, recovery_changes}
+use Rattle.ddf_history_steps.proofs.CommittingGoes.{no_lower}
+use Rattle.ddf_history_steps.proofs.Entering.{keeps_where_told}
+use Rattle.ddf_history_steps.proofs.RecoveringKeeps as recovering
+use Rattle.ddf_history_steps.proofs.Course.{recovery_loses}
+use Rattle.ddf_history_steps.proofs.Floored.{recovered_floored}
 use Rattle.ddf_group_commands.specs.Change.{last_sequence}
 use Rattle.ddf_group_commands.specs.GroupRead.{IsFoundBy}
 use Rattle.ddf_group_commands.specs.Writing.{IsLeftWriting}

@@ -12,13 +12,13 @@ use Rattle.ddf_config.specs.declared.seat.Seat.{Seat}
 use Rattle.ddf_rebuild.specs.Rebuilding.{NoneLeftInRows}
 use Rattle.ddf_repair.specs.declared.first.Target.{Target}
 use Rattle.ddf_rewrite.proofs.Lists.{map_get}
-use Rattle.ddf_volume.proofs.Tries.{NotRead-wider}
+use Rattle.ddf_read.proofs.Tries.{NotRead-wider}
 use Rattle.ddf_cells.specs.CellSources.{cell_sources}
 use Rattle.ddf_cells.proofs.GivenSteps.{wanted_wider}
 use Rattle.ddf_assembly.specs.Committed.{HoldsGroup, slots_of}
 use Rattle.ddf_assembly.specs.Group.{GroupValue}
-use Rattle.ddf_stops.specs.Kept.{is_slot}
-use Rattle.ddf_stops.proofs.Slots.{slot_placed}
+use Rattle.ddf_history_steps.specs.Kept.{is_slot}
+use Rattle.ddf_history_steps.proofs.Slots.{slot_placed}
 use Rattle.ddf_write_commands.specs.Holding.{holding}
 use Rattle.ddf_rebuild_command.specs.Filled.{IsLeftIn}
 use Rattle.ddf_rebuild_command.specs.Rounds.{AreRounds, IsFilled, IsSure, Round, row_before}

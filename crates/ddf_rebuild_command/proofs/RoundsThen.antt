@@ -10,7 +10,7 @@ use Rattle.ddf_cells.specs.Touching.{GoesBetween}
 use Rattle.ddf_config.specs.declared.seat.Seat.{Seat}
 use Rattle.ddf_repair.specs.declared.first.Target.{Target}
 use Rattle.ddf_update.specs.Group.{IsOneOf}
-use Rattle.ddf_volume.specs.Reading.{Failed}
+use Rattle.ddf_read.specs.Reading.{Failed}
 use Rattle.ddf_history.specs.Groups.{groups}
 use Rattle.ddf_history.specs.Issued.{Past}
 use Rattle.ddf_history.specs.Promise.{IsKept}
@@ -18,8 +18,8 @@ use Rattle.ddf_history.specs.Scenes.{scene_of}
 use Rattle.ddf_assembly.specs.Committed.{slots_of}
 use Rattle.ddf_assembly.specs.Group.{GroupValue}
 use Rattle.ddf_assembly.specs.Ready.{ReadyValue}
-use Rattle.ddf_stops.specs.Kept.{is_slot}
-use Rattle.ddf_stops.specs.Steps.{StandsReady}
+use Rattle.ddf_history_steps.specs.Kept.{is_slot}
+use Rattle.ddf_history_steps.specs.Steps.{StandsReady}
 use Rattle.ddf_answer.specs.declared.failure.Failure.{Failure}
 use Rattle.ddf_answer.specs.declared.failure.Failure.TheVariants.{Conflict, Disk, Memory, Refused, Split}
 use Rattle.ddf_answer.proofs.Rises.{rose_later, rose_still}

@@ -16,8 +16,8 @@ use Rattle.ddf_assembly.specs.Recovery.{config_recovered}
 use Rattle.ddf_assembly.specs.declared.fault.GroupFault.{GroupFault}
 use Rattle.ddf_assembly.specs.Slots.{newest_from}
 use Rattle.ddf_assembly.specs.Steps.{Step}
-use Rattle.ddf_stops.specs.Going.{IsAdmitted}
-use Rattle.ddf_stops.specs.Kept.{AreAllKept}
+use Rattle.ddf_history_steps.specs.Going.{IsAdmitted}
+use Rattle.ddf_history_steps.specs.Kept.{AreAllKept}
 use Rattle.ddf_answer.specs.declared.failure.Failure.{Failure}
 use Rattle.ddf_answer.specs.declared.failure.Failure.TheVariants.{Conflict, Disk, Memory, Refused, Split}
 use Rattle.ddf_answer.specs.Answers.{failure_of}
@@ -28,7 +28,7 @@ use Rattle.ddf_group_commands.specs.GroupRead.{IsFoundBy, IsGroupRead, group_or}
 use Rattle.ddf_group_commands.specs.Others.{LeavesOthers}
 use Rattle.ddf_group_commands.proofs.Beside.{reads_beside}
 use Rattle.ddf_group_commands.proofs.Keeping.{reads_keep}
-use Rattle.ddf_group_commands.proofs.Outcomes.{group_read, memory_told, where_done}
+use Rattle.ddf_group_commands.proofs.Outcomes.{group_read, memory_told, unsynced_in, where_done}
 use Rattle.ddf_write_commands.specs.Plans.{IsNotReadied}
 use Rattle.ddf_rebuild_command.specs.Along.{ComesAlong}
 use Rattle.ddf_rebuild_command.specs.Asked.{rebuild_request}
@@ -178,7 +178,7 @@ module _ {D : Type 0} (tells : Type 0) (entry start new : BayState D) (reads : R
       beside = λ told. of_found (λ found. LeavesOthers entry new (slots_of found.seats)) (has.beside told);
       keeps = λ told. of_found (λ found. (steps : List Step) → steps_asked found timestamp (rebuild_request word) ≡ Ok steps → KeepsHistories entry new read.left found steps (is_done outcome))
           (λ steps asked. subst (λ (all : List Step). KeepsHistories entry new read.left group all (is_done outcome)) (asked_same steps asked) (has.keeps told read.left named (found_by told)));
-      unfailed = λ done slot below kept. ap (λ (counts : ℕ → ℕ). counts slot) (where_done outcome unfailed done) ∙ (read.seen slot below kept).1;
+      unfailed = λ done slot below kept. ap (λ (counts : ℕ → ℕ). counts slot) (where_done outcome unfailed done) ∙ unsynced_in (work_of tells entry start) named (Ok group) read slot below kept;
     };
     gone = λ given. read.gone (λ spent. absurd cc);
     gives = subst (λ (one : Result GroupValue Assembly). IsRebuiltIn work timestamp word one outcome) (sym is_group) has.gives;

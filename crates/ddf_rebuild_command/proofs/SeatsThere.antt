@@ -28,9 +28,9 @@ use Rattle.ddf_rewrite.proofs.Lists.{get_map, get_range}
 use Rattle.ddf_assembly.specs.Group.{GroupValue, copy_at, group_of, seat_at, seat_of}
 use Rattle.ddf_assembly.specs.Recovery.{config_lost, config_recovered, some}
 use Rattle.ddf_assembly.proofs.LeftBefore.{kept_at}
-use Rattle.ddf_stops.proofs.Begun.{IsMadeOf, found_named}
-use Rattle.ddf_stops.proofs.Filtered.{any_kept, passes_kept}
-use Rattle.ddf_stops.proofs.Seats.{absent_are, copy_there, group_made}
+use Rattle.ddf_history_steps.proofs.Begun.{IsMadeOf, found_named}
+use Rattle.ddf_history_steps.proofs.Filtered.{any_kept, passes_kept}
+use Rattle.ddf_history_steps.proofs.Seats.{absent_are, copy_there, group_made}
 use Rattle.ddf_rebuild_command.specs.Plans.{HaveSeats}
 
 -- ---- lists

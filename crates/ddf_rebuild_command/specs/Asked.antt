@@ -23,8 +23,8 @@ use Rattle.ddf_array.specs.Viewing.{is_array_within}
 use Rattle.ddf_rebuild.specs.Target.{row_count}
 use Rattle.ddf_request.specs.Named.{named_array}
 use Rattle.ddf_group_commands.specs.Change.{Request}
-use Rattle.ddf_data_commands.specs.declared.using.Access.TheVariants.{Reads}
-use Rattle.ddf_data_commands.specs.Use.{array_refusals}
+use Rattle.ddf_read_commands.specs.declared.using.Access.TheVariants.{Reads}
+use Rattle.ddf_read_commands.specs.Use.{array_refusals}
 use Rattle.ddf_write_commands.specs.Planned.{Entry, unless_refused}
 use Rattle.ddf_rebuild_command.specs.Notes.{notes}
 

@@ -18,7 +18,7 @@ use Rattle.ddf_rebuild.specs.Rebuilding.{NoneLeftInRows}
 use Rattle.ddf_rebuild.specs.Target.{IsOut, IsTargetCell, row_count}
 use Rattle.ddf_repair.specs.declared.first.Target.{Target}
 use Rattle.ddf_update.specs.Group.{IsOneOf}
-use Rattle.ddf_volume.specs.Reading.{Failed}
+use Rattle.ddf_read.specs.Reading.{Failed}
 use Rattle.ddf_history.specs.Groups.{groups}
 use Rattle.ddf_history.specs.Issued.{Past, acknowledge, issue}
 use Rattle.ddf_history.specs.Promise.{IsKept}
@@ -26,8 +26,8 @@ use Rattle.ddf_history.specs.Scenes.{scene_of}
 use Rattle.ddf_assembly.specs.Committed.{slots_of}
 use Rattle.ddf_assembly.specs.Group.{GroupValue}
 use Rattle.ddf_assembly.specs.Ready.{ReadyStep, ReadyValue}
-use Rattle.ddf_stops.specs.Kept.{AreAllKept}
-use Rattle.ddf_stops.specs.Steps.{StandsReady}
+use Rattle.ddf_history_steps.specs.Kept.{AreAllKept}
+use Rattle.ddf_history_steps.specs.Steps.{StandsReady}
 use Rattle.ddf_answer.specs.declared.failure.Failure.{Failure}
 use Rattle.ddf_answer.specs.declared.failure.Failure.TheVariants.{Conflict, Disk, Memory, Refused, Split}
 use Rattle.ddf_group_commands.specs.Change.{last_sequence}

@@ -17,10 +17,10 @@ use Rattle.ddf_assembly.specs.Ready.{ReadyValue}
 use Rattle.ddf_assembly.specs.Recovery.{config_recovered, some}
 use Rattle.ddf_assembly.specs.Seated.{seated}
 use Rattle.ddf_assembly.specs.Steps.{Step}
-use Rattle.ddf_stops.specs.Going.{Goes, IsAdmitted, IsOver, changes_in}
-use Rattle.ddf_stops.specs.Kept.{AreAllKept, is_read}
-use Rattle.ddf_stops.specs.Steps.{StandsReady}
-use Rattle.ddf_stops.specs.BlockFloors.{AreFloored}
+use Rattle.ddf_history_steps.specs.Going.{Goes, IsAdmitted, IsOver, changes_in}
+use Rattle.ddf_history_steps.specs.Kept.{AreAllKept, is_read}
+use Rattle.ddf_history_steps.specs.Steps.{StandsReady}
+use Rattle.ddf_history_steps.specs.BlockFloors.{AreFloored}
 use Rattle.ddf_group_commands.specs.Change.{last_sequence}
 use Rattle.ddf_group_commands.specs.GroupRead.{IsFoundBy, IsReadFrom}
 use Rattle.ddf_group_commands.specs.Others.{LeavesOthers}

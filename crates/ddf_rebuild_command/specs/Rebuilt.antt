@@ -5,11 +5,11 @@ use Rattle.ddf_bay.specs.ReadsOnly.{ReadsOnly}
 use Rattle.ddf_bay.specs.Sectors.{Image, IsLeft}
 use Rattle.ddf_rebuild.specs.Rebuilding.{NoneLeftInRows}
 use Rattle.ddf_update.specs.Group.{IsOneOf}
-use Rattle.ddf_volume.specs.Reading.{Failed}
+use Rattle.ddf_read.specs.Reading.{Failed}
 use Rattle.ddf_history.specs.Groups.{groups}
 use Rattle.ddf_history.specs.Issued.{Past}
-use Rattle.ddf_stops.specs.Going.{IsAdmitted}
-use Rattle.ddf_stops.specs.Kept.{AreAllKept}
+use Rattle.ddf_history_steps.specs.Going.{IsAdmitted}
+use Rattle.ddf_history_steps.specs.Kept.{AreAllKept}
 use Rattle.ddf_group.specs.declared.answer.Assembly.{Assembly}
 use Rattle.ddf_assembly.specs.Committed.{AreSettled, slots_of}
 use Rattle.ddf_assembly.specs.Group.{GroupValue, group_of}

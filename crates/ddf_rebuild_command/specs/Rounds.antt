@@ -4,7 +4,7 @@ use Rattle.ddf_bay.specs.Sectors.{Image}
 use Rattle.ddf_array.specs.Redundant.{IsRedundant}
 use Rattle.ddf_array.specs.Sound.{AreSectors}
 use Rattle.ddf_array.specs.Volume.{Volume}
-use Rattle.ddf_volume.specs.Reading.{IsOn}
+use Rattle.ddf_read.specs.Reading.{IsOn}
 use Rattle.ddf_cells.specs.Writing.{StaysBut}
 use Rattle.ddf_rebuild.specs.Rebuilding.{HasGiven, HasRebuilt}
 use Rattle.ddf_rebuild.specs.Target.{IsTargetCell}

@@ -3,7 +3,7 @@ use Rattle.std.specs.Prelude.{◌≡◌, ℕ, List, [], ◌∷◌, Some, slice_g
 use Rattle.ddf_bay.specs.Sectors.{Image}
 use Rattle.ddf_cells.specs.Writing.{IsLeftBut}
 use Rattle.ddf_rebuild.specs.Target.{IsTargetCell}
-use Rattle.ddf_volume.specs.Reading.{Failed}
+use Rattle.ddf_read.specs.Reading.{Failed}
 use Rattle.ddf_assembly.specs.Committed.{slots_of}
 use Rattle.ddf_assembly.specs.Group.{GroupValue}
 use Rattle.ddf_answer.specs.Call.{Work}

@@ -16,9 +16,9 @@ use Rattle.ddf_assembly.specs.Reading.{HaveAnchors}
 use Rattle.ddf_assembly.specs.Ready.{ReadyStep, ReadyValue}
 use Rattle.ddf_assembly.specs.Seated.{seated, seats_in}
 use Rattle.ddf_assembly.specs.Steps.{Step}
-use Rattle.ddf_stops.specs.Kept.{is_slot}
-use Rattle.ddf_stops.specs.Steps.{KeepsStep, StandsReady, behind_next}
-use Rattle.ddf_stops.specs.BlockFloors.{AreFloored}
+use Rattle.ddf_history_steps.specs.Kept.{is_slot}
+use Rattle.ddf_history_steps.specs.Steps.{KeepsStep, StandsReady, behind_next}
+use Rattle.ddf_history_steps.specs.BlockFloors.{AreFloored}
 use Rattle.ddf_answer.specs.declared.failure.Failure.{Failure}
 use Rattle.ddf_answer.specs.declared.failure.Failure.TheVariants.{Conflict, Disk, Memory, Refused, Split}
 use Rattle.ddf_group_commands.specs.Others.{LeavesOthers}

@@ -15,7 +15,7 @@ use crate::stepping::write_step;
 use ddf_answer::Failure;
 use ddf_assembly::{Group, Ready};
 use ddf_bay::Bay;
-use ddf_data_commands::failure_of;
+use ddf_read_commands::failure_of;
 use ddf_rebuild::rebuild_rows;
 
 /// Fills the rows of a position from one on up to another, and writes the step that tells of them.

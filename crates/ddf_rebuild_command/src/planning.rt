@@ -18,7 +18,7 @@ ghost use Rattle.ddf_plan.specs.declared.change.Change.{Change};
 ghost use Rattle.ddf_repair.specs.Begin.{begun};
 ghost use Rattle.ddf_repair.specs.declared.beginning.Begun.{Begun};
 ghost use Rattle.ddf_assembly.specs.Recovery.{config_recovered};
-ghost use Rattle.ddf_data_commands.specs.Use.{IsViewed};
+ghost use Rattle.ddf_read_commands.specs.Use.{IsViewed};
 ghost use Rattle.ddf_rebuild_command.specs.Asked.{bad_spare, rows_in};
 ghost use Rattle.ddf_rebuild_command.specs.Plans.{FitsBegin, HaveSeats, MayPlan, MayPlanFor, filled, notes_and_end, spare_view};
 
@@ -27,12 +27,12 @@ use ddf_answer::Failure;
 use ddf_assembly::Group;
 use ddf_bytes::{Guid, NoMemory, Seq};
 use ddf_config::{Config, Refusal, Seat, first_refusal, refuse_if};
-use ddf_data_commands::{Access, usable};
 use ddf_group_commands::recovered;
 use ddf_plan::{Change, changed_at};
+use ddf_read::{View, ViewFault};
+use ddf_read_commands::{Access, usable};
 use ddf_rebuild::row_count;
 use ddf_repair::{Begun, RebuildFault, Target, begin, finish};
-use ddf_volume::{View, ViewFault};
 use std::alloc::Global;
 
 /// The rows of a position that are to be filled.

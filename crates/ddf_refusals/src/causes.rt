@@ -68,7 +68,7 @@ const CAUSES: [Cause; 43] = [
     Cause {
         number: 17,
         command: "create",
-        why: "The name of an array of the group prints as this one.",
+        why: "The name of an array of the group prints as this one; or it is # and digits, the word for a place in show.",
         way: "Take another name.",
     },
     Cause {

@@ -20,12 +20,12 @@ use Rattle.ddf_config.specs.Members.{same_guid}
 use Rattle.ddf_config.specs.Refusals.{refuse_if}
 use Rattle.ddf_config.specs.States.{all_with_low, array_with_low}
 use Rattle.ddf_config.proofs.Firsts.{all_pass}
-use Rattle.ddf_name.specs.Names.{name_text}
+use Rattle.ddf_name.specs.Names.{is_place_name, name_text}
 use Rattle.ddf_plan.specs.declared.change.Change.TheVariants.{Create}
 use Rattle.ddf_plan.specs.Arrays.{kept_and_added, kept_array}
 use Rattle.ddf_plan.specs.Changes.{after, changed}
 use Rattle.ddf_plan.specs.Create.{created}
-use Rattle.ddf_plan.specs.CreateRefusal.{has_named, is_no_shape, is_spare_disk, references}
+use Rattle.ddf_plan.specs.CreateRefusal.{has_named, is_taken, is_no_shape, is_spare_disk, references}
 use Rattle.ddf_plan.specs.Floors.{extents_refusal}
 use Rattle.ddf_plan.specs.Members.{members_after}
 use Rattle.ddf_plan.specs.Refusals.{not_current, refuse_first, spent}
@@ -87,8 +87,9 @@ module _ (config next : Configuration) (guid : List ℕ) (array : Array) (seats 
 
   is_new_name : has_named config array.name ≡ false
   is_new_name =
-      not_refused (has_named config array.name) NameTaken
-      (all_pass (not_current config seats (references array) ∷ []) (refuse_if (has_named config array.name) NameTaken)
+      (or_parts (is_place_name array.name) (has_named config array.name)
+      (not_refused (is_taken config array.name) NameTaken
+      (all_pass (not_current config seats (references array) ∷ []) (refuse_if (is_taken config array.name) NameTaken)
       (unserved_level array
       ∷ refuse_if (is_no_shape array) Shape
       ∷ refuse_if (is_some (lookup (same_guid guid) config.arrays)) (Clash guid)
@@ -96,7 +97,7 @@ module _ (config next : Configuration) (guid : List ℕ) (array : Array) (seats 
       ∷ extents_refusal config (Create guid array) [] seats
       ∷ spent config.sequence 1
       ∷ [])
-      (is_changed config next (Create guid array) seats e).0)
+      (is_changed config next (Create guid array) seats e).0))).1
 
   -- its printed name is a word for it
   pub is_named : named_guid next.arrays (name_text array.name) ≡ Some guid

@@ -9,11 +9,11 @@ use Rattle.ddf_array.specs.Sources.{first_copy}
 use Rattle.ddf_array.specs.Values.{bytes_at}
 use Rattle.ddf_array.specs.Volume.{Volume}
 use Rattle.ddf_array.specs.Rows.{block_at}
-use Rattle.ddf_volume.specs.Along.{further, LieAlong}
-use Rattle.ddf_volume.proofs.Followers.{follow_first}
+use Rattle.ddf_read.specs.Along.{further, LieAlong}
+use Rattle.ddf_read.proofs.Followers.{follow_first}
 use Rattle.ddf_resync.specs.Agreeing.{CopyAgrees}
 use Rattle.ddf_resync.specs.Runs.{IsCopyRun}
-use Rattle.ddf_volume.proofs.SourcesAlong.{site_further}
+use Rattle.ddf_read.proofs.SourcesAlong.{site_further}
 
 same_of : {X : Type 0} (x y : X) → Some x ≡ Some y → x ≡ y
 same_of x y e = cc

@@ -15,10 +15,10 @@ use Rattle.ddf_array.specs.Rows.{block_at}
 use Rattle.ddf_array.specs.Volume.{Volume, IsVolume}
 use Rattle.ddf_array.specs.Within.{is_mirrored}
 use Rattle.ddf_array.proofs.Consistent.{at_part, to_filter, to_flat}
-use Rattle.ddf_volume.specs.Along.{further}
-use Rattle.ddf_volume.specs.Reading.{HasSite}
-use Rattle.ddf_volume.specs.Sums.{other_sites}
-use Rattle.ddf_volume.proofs.OtherCells.{row_sites}
+use Rattle.ddf_read.specs.Along.{further}
+use Rattle.ddf_read.specs.Reading.{HasSite}
+use Rattle.ddf_read.specs.Sums.{other_sites}
+use Rattle.ddf_read.proofs.OtherCells.{row_sites}
 use Rattle.ddf_cells.proofs.Lists.{some_not_none, to_map}
 use Rattle.ddf_resync.specs.Compared.{IsCompared}
 use Rattle.ddf_resync.proofs.Failing.{available_whole, whole_sites}

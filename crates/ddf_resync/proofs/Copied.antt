@@ -9,10 +9,10 @@ use Rattle.ddf_array.specs.Places.{site_on}
 use Rattle.ddf_array.specs.Sources.{Source, copies, copy, first_copy, sources, trusts_parity}
 use Rattle.ddf_array.specs.Values.{bytes_at, given}
 use Rattle.ddf_array.specs.Volume.{Volume, IsVolume}
-use Rattle.ddf_volume.specs.Reading.{IsGivenBy}
-use Rattle.ddf_volume.proofs.BlockSources.{sources_untrusted}
-use Rattle.ddf_volume.proofs.GivenLaws.{one_of}
-use Rattle.ddf_volume.proofs.Tries.{IsGivenBy-wider, Within}
+use Rattle.ddf_read.specs.Reading.{IsGivenBy}
+use Rattle.ddf_read.proofs.BlockSources.{sources_untrusted}
+use Rattle.ddf_read.proofs.GivenLaws.{one_of}
+use Rattle.ddf_read.proofs.Tries.{IsGivenBy-wider, Within}
 use Rattle.ddf_cells.specs.CellsOn.{GivesCells}
 use Rattle.ddf_cells.specs.Touching.{IsTouchedSlot}
 use Rattle.ddf_cells.proofs.CopiesOn.{on_position}
@@ -29,7 +29,7 @@ some_is e = cc
 -- ---- what copies give
 
 -- bytes of the first copy
-first_by : (failed : ℕ → Type 0) (image : Image) (cs : List Site) (i : ℕ) (one : Site) (bytes : List ℕ) → slice_get cs i ≡ Some one → ((first : Site) → slice_get cs 0 ≡ Some first → bytes ≡ bytes_at image first) → IsGivenBy failed image (map copy cs) bytes
+pub first_by : (failed : ℕ → Type 0) (image : Image) (cs : List Site) (i : ℕ) (one : Site) (bytes : List ℕ) → slice_get cs i ≡ Some one → ((first : Site) → slice_get cs 0 ≡ Some first → bytes ≡ bytes_at image first) → IsGivenBy failed image (map copy cs) bytes
 first_by failed image [] i one bytes at is = absurd (some_not_none one (sym at))
 first_by failed image (c ∷ cs) i one bytes at is = inl (is c refl)
 

@@ -7,10 +7,10 @@ use Rattle.ddf_bay.specs.State.{BayState}
 use Rattle.ddf_array.specs.Apart.{IsApart}
 use Rattle.ddf_array.specs.Sources.{copies, copy, trusts_parity}
 use Rattle.ddf_array.specs.Volume.{Volume, IsVolume, capacity}
-use Rattle.ddf_volume.specs.Along.{LieAlong}
-use Rattle.ddf_volume.specs.Given.{AreGiven, NoneLeftIn}
-use Rattle.ddf_volume.specs.Reading.{Failed, OnlyReads}
-use Rattle.ddf_volume.proofs.Tries.{IsGivenBy-wider}
+use Rattle.ddf_read.specs.Along.{LieAlong}
+use Rattle.ddf_read.specs.Given.{AreGiven, NoneLeftIn}
+use Rattle.ddf_read.specs.Reading.{Failed, OnlyReads}
+use Rattle.ddf_read.proofs.Tries.{IsGivenBy-wider}
 use Rattle.ddf_cells.specs.CellsOn.{GivesCells, cell_on, write_cells}
 use Rattle.ddf_cells.specs.Touching.{AreSet, Writes}
 use Rattle.ddf_cells.proofs.CopiesOn.{on_position}

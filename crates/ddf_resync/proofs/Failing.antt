@@ -11,9 +11,9 @@ use Rattle.ddf_array.specs.declared.site.Site.{Site}
 use Rattle.ddf_array.specs.Places.{is_available, site_at}
 use Rattle.ddf_array.specs.Sources.{all_of}
 use Rattle.ddf_array.specs.Redundant.{whole_row}
-use Rattle.ddf_volume.specs.Along.{further}
-use Rattle.ddf_volume.specs.Sums.{other_site, other_sites}
-use Rattle.ddf_volume.proofs.SourcesAlong.{site_further}
+use Rattle.ddf_read.specs.Along.{further}
+use Rattle.ddf_read.specs.Sums.{other_site, other_sites}
+use Rattle.ddf_read.proofs.SourcesAlong.{site_further}
 use Rattle.ddf_cells.proofs.Lists.{some_not_none, to_map, true_not_false}
 use Rattle.ddf_cells.proofs.Surely.{of_place}
 use Rattle.ddf_array.proofs.Enough.{all_pass, site_there}

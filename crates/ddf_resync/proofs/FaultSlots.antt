@@ -4,7 +4,7 @@ use Rattle.ddf_bay.specs.State.{BayState}
 use Rattle.ddf_primary.specs.Cells.{depth_of}
 use Rattle.ddf_array.specs.Places.{site_on}
 use Rattle.ddf_array.specs.Volume.{IsVolume, Volume}
-use Rattle.ddf_volume.specs.Reading.{Failed, IsOn}
+use Rattle.ddf_read.specs.Reading.{Failed, IsOn}
 use Rattle.ddf_cells.proofs.Alike.{cell_site, copy_is_cell, depth_below}
 use Rattle.ddf_cells.proofs.FirstSlots.{block_on, cell_first_on}
 use Rattle.ddf_cells.proofs.Surely.{cell_on}

@@ -143,12 +143,12 @@ module _ (v : Volume) (known : IsVolume v) where
 
   module _ (image : Image) where
     module _ (all : (element sector : ℕ) (part : Part) → slice_get v.parts element ≡ Some part → sector < depth_of part.shape → Agrees v image element part sector) where
-      same_first : (block k : ℕ) (one first : Site) → slice_get (copies v block) k ≡ Some one → first_copy v block ≡ Some first → bytes_at image one ≡ bytes_at image first
+      pub same_first : (block k : ℕ) (one first : Site) → slice_get (copies v block) k ≡ Some one → first_copy v block ≡ Some first → bytes_at image one ≡ bytes_at image first
       same_first block k one first at first_at =
           let copy = copy_at block k one at in
           (all copy.element copy.sector copy.part copy.is_part copy.deep).copies copy.position block one first copy.is_block copy.is_site first_at
 
-      has_first : (found : List Site) (k : ℕ) (one : Site) → slice_get found k ≡ Some one → (first : Site) × (slice_get found 0 ≡ Some first)
+      pub has_first : (found : List Site) (k : ℕ) (one : Site) → slice_get found k ≡ Some one → (first : Site) × (slice_get found 0 ≡ Some first)
       has_first [] k one at = absurd (some_not_none one (sym at))
       has_first (first ∷ rest) k one at = (first, refl)
 

@@ -10,7 +10,7 @@ use Rattle.ddf_array.specs.Sources.{copies, copy}
 use Rattle.ddf_array.specs.Values.{bytes_at}
 use Rattle.ddf_array.specs.Volume.{Volume, IsVolume}
 use Rattle.ddf_array.proofs.Consistent.{consistent_if}
-use Rattle.ddf_volume.specs.Reading.{IsGivenBy, IsOn}
+use Rattle.ddf_read.specs.Reading.{IsGivenBy, IsOn}
 use Rattle.ddf_cells.specs.Alike.{AreAlike}
 use Rattle.ddf_cells.proofs.Alike.{copy_is_cell, redundant_same}
 use Rattle.ddf_cells.proofs.Surely.{cell_on}

@@ -8,6 +8,8 @@ pub mod Extents
 pub mod Copied
 pub mod CopyStep
 pub mod Stops
+pub mod Unread
+pub mod Differing
 pub mod FaultSlots
 pub mod SetStep
 pub mod Resynced

@@ -25,10 +25,10 @@ use Rattle.ddf_array.specs.Volume.{Volume, IsVolume, Fits, capacity}
 use Rattle.ddf_array.specs.Within.{is_mirrored, is_redundant, is_within, keeps_more}
 use Rattle.ddf_array.proofs.Bools.{or_first, or_second}
 use Rattle.ddf_array.proofs.Elements.{parts_count}
-use Rattle.ddf_volume.specs.Reading.{IsGivenBy}
-use Rattle.ddf_volume.specs.declared.fault.VolumeFault.{VolumeFault}
-use Rattle.ddf_volume.specs.declared.fault.VolumeFault.TheVariants.{Lost, Unsure}
-use Rattle.ddf_volume.proofs.Sites.{site_at_there}
+use Rattle.ddf_read.specs.Reading.{IsGivenBy}
+use Rattle.ddf_read.specs.declared.fault.VolumeFault.{VolumeFault}
+use Rattle.ddf_read.specs.declared.fault.VolumeFault.TheVariants.{Lost, Unsure}
+use Rattle.ddf_read.proofs.Sites.{site_at_there}
 use Rattle.ddf_cells.specs.CellSources.{HaveEqualCopies}
 use Rattle.ddf_cells.specs.Degraded.{is_degraded}
 use Rattle.ddf_cells.specs.Parity.{IsParityCell}

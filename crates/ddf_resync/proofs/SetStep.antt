@@ -13,10 +13,10 @@ use Rattle.ddf_array.specs.Levels.{keeps_parity}
 use Rattle.ddf_array.specs.Places.{site_at}
 use Rattle.ddf_array.specs.Rows.{row_sum}
 use Rattle.ddf_array.specs.Volume.{Volume, IsVolume, Fits}
-use Rattle.ddf_volume.specs.Along.{further}
-use Rattle.ddf_volume.specs.Reading.{OnlyReads}
-use Rattle.ddf_volume.proofs.Sites.{site_at_there}
-use Rattle.ddf_volume.proofs.SourcesAlong.{site_further}
+use Rattle.ddf_read.specs.Along.{further}
+use Rattle.ddf_read.specs.Reading.{OnlyReads}
+use Rattle.ddf_read.proofs.Sites.{site_at_there}
+use Rattle.ddf_read.proofs.SourcesAlong.{site_further}
 use Rattle.ddf_cells.specs.CellSources.{IsInOneRow}
 use Rattle.ddf_cells.specs.Degraded.{is_degraded}
 use Rattle.ddf_cells.specs.RowSums.{HoldsParityAlong}

@@ -12,7 +12,7 @@ use Rattle.ddf_array.specs.Sources.{copies, first_copy}
 use Rattle.ddf_array.specs.Volume.{Volume, IsVolume}
 use Rattle.ddf_array.proofs.Bools.{and_first, and_second, or_first, or_second}
 use Rattle.ddf_array.proofs.Ranges.{range-append}
-use Rattle.ddf_volume.specs.Along.{LieAlong, further}
+use Rattle.ddf_read.specs.Along.{LieAlong, further}
 use Rattle.ddf_cells.specs.CellsOn.{cell_on, cells_on, how_many, over_array, over_element, places_at, write_cells}
 use Rattle.ddf_cells.proofs.CopiesOn.{a_copy, on_position}
 use Rattle.ddf_cells.proofs.Items.{any_at, passing}

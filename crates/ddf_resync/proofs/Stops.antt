@@ -5,8 +5,8 @@ use Rattle.ddf_bay.specs.State.{BayState}
 use Rattle.ddf_bay.proofs.Steps.{rose_since, rose_then}
 use Rattle.ddf_array.specs.Sources.{sources}
 use Rattle.ddf_array.specs.Volume.{Volume}
-use Rattle.ddf_volume.specs.Reading.{Failed, OnlyReads}
-use Rattle.ddf_volume.proofs.Tries.{NotRead-wider}
+use Rattle.ddf_read.specs.Reading.{Failed, OnlyReads}
+use Rattle.ddf_read.proofs.Tries.{NotRead-wider}
 use Rattle.ddf_cells.specs.CellSources.{cell_sources}
 use Rattle.ddf_cells.specs.Touching.{Giving, Writes}
 use Rattle.ddf_resync.specs.Copying.{Asks}

@@ -1,15 +1,16 @@
 -- The sectors that a scrub compares (profile).
 use Rattle.std.specs.Prelude.{◌≡◌, ◌⊎◌, ℕ, ◌<◌, ◌≤◌, true, List, Some, length, slice_get}
+use Rattle.ddf_bay.specs.Sectors.{Image}
 use Rattle.ddf_bay.specs.State.{BayState}
 use Rattle.ddf_primary.specs.Cells.{depth_of}
 use Rattle.ddf_array.specs.declared.part.Part.{Part}
 use Rattle.ddf_array.specs.declared.site.Site.{Site}
 use Rattle.ddf_array.specs.Levels.{keeps_parity}
 use Rattle.ddf_array.specs.Sources.{Source, copy, row, every_source}
-use Rattle.ddf_array.specs.Redundant.{whole_row}
+use Rattle.ddf_array.specs.Redundant.{IsRedundant, whole_row}
 use Rattle.ddf_array.specs.Volume.{Volume}
 use Rattle.ddf_array.specs.Within.{is_mirrored}
-use Rattle.ddf_volume.specs.Reading.{Failed, HasSite, HasSlot}
+use Rattle.ddf_read.specs.Reading.{Failed, HasSite, HasSlot}
 
 -- a row of a mirrored array, which is compared with the block's value
 abbrev pub IsMirroredRow : Volume → Source → Type 0
@@ -44,3 +45,7 @@ IsCompared volume slot = IsOfSource volume slot ⊎ IsOfRow volume slot
 -- a read failed on such a slot
 abbrev pub FailedOn : {D : Type 0} → Volume → (old new : BayState D) → ℕ → Type 0
 FailedOn volume old new slot = IsCompared volume slot × Failed old new slot
+
+-- the array isn't redundant, or such a read failed
+abbrev pub HasDiffered : {D : Type 0} → Volume → Image → (old new : BayState D) → Type 0
+HasDiffered volume image old new = IsRedundant volume image → (slot : ℕ) × FailedOn volume old new slot

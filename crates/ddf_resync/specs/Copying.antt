@@ -6,7 +6,7 @@ use Rattle.ddf_array.specs.declared.site.Site.{Site}
 use Rattle.ddf_array.specs.Volume.{Volume}
 use Rattle.ddf_array.specs.Sources.{copies, copy}
 use Rattle.ddf_array.specs.Values.{bytes_at}
-use Rattle.ddf_volume.specs.Reading.{IsGivenBy}
+use Rattle.ddf_read.specs.Reading.{IsGivenBy}
 use Rattle.ddf_cells.specs.CellsOn.{cell_on}
 use Rattle.ddf_cells.specs.Touching.{IsTouchedSlot}
 use Rattle.ddf_resync.specs.Several.{has_other}

@@ -15,9 +15,9 @@ use Rattle.ddf_array.specs.Values.{bytes_at}
 use Rattle.ddf_array.specs.Redundant.{IsRedundant}
 use Rattle.ddf_array.specs.Levels.{keeps_parity}
 use Rattle.ddf_array.specs.Within.{is_within}
-use Rattle.ddf_volume.specs.declared.fault.VolumeFault.{VolumeFault}
-use Rattle.ddf_volume.specs.declared.fault.VolumeFault.TheVariants.{Range, Degraded, Lost, Unsure, Disk}
-use Rattle.ddf_volume.specs.Reading.{Failed, IsGivenBy, NoneLeft}
+use Rattle.ddf_read.specs.declared.fault.VolumeFault.{VolumeFault}
+use Rattle.ddf_read.specs.declared.fault.VolumeFault.TheVariants.{Range, Degraded, Lost, Unsure, Disk}
+use Rattle.ddf_read.specs.Reading.{Failed, IsGivenBy, NoneLeft}
 use Rattle.ddf_cells.specs.Degraded.{is_degraded}
 use Rattle.ddf_cells.specs.Parity.{IsParityCell}
 use Rattle.ddf_cells.specs.RowSums.{NoneLeftForSum}
@@ -89,6 +89,10 @@ pub record NoneLeftOfRow (failed : ℕ → Type 0) (volume : Volume) (slot : ℕ
   pub inside : sector + count ≤ depth_of part.shape
   pub for_sum : NoneLeftForSum failed volume element part sector count slot
 
+-- no source is left at a slot of what a resync reads
+abbrev pub IsUnread : (failed : ℕ → Type 0) → Volume → (slot : ℕ) → Type 0
+IsUnread failed volume slot = NoneLeftOfBlock failed volume slot ⊎ NoneLeftOfRow failed volume slot
+
 -- the calls ended at a slot: a write or sync of it failed, and the resync sets sectors of it; or no source is left there
 abbrev pub IsStopped : {D : Type 0} (old new : BayState D) → Volume → (slot : ℕ) → Type 0
 IsStopped old new volume slot =
@@ -108,3 +112,11 @@ IsResyncFault old new volume Degraded = ⊥
 IsResyncFault old new volume Lost = IsRefused old new volume Lost
 IsResyncFault old new volume Unsure = IsRefused old new volume Unsure
 IsResyncFault old new volume (Disk slot) = (resync_refusal volume ≡ None) × IsStopped old new volume slot
+
+-- The cause of an answer other than Ok of a look at what a resync reads.
+abbrev pub IsNeedsFault : {D : Type 0} → (old new : BayState D) → Volume → VolumeFault → Type 0
+IsNeedsFault old new volume (Range most) = ⊥
+IsNeedsFault old new volume Degraded = ⊥
+IsNeedsFault old new volume Lost = IsRefused old new volume Lost
+IsNeedsFault old new volume Unsure = IsRefused old new volume Unsure
+IsNeedsFault old new volume (Disk slot) = (resync_refusal volume ≡ None) × IsUnread (Failed old new) volume slot

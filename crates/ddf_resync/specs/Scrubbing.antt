@@ -7,8 +7,8 @@ use Rattle.ddf_array.specs.declared.part.Part.{Part}
 use Rattle.ddf_array.specs.Redundant.{IsRedundant}
 use Rattle.ddf_array.specs.Volume.{Volume}
 use Rattle.ddf_array.specs.Within.{is_within}
-use Rattle.ddf_volume.specs.declared.fault.VolumeFault.{VolumeFault}
-use Rattle.ddf_volume.specs.declared.fault.VolumeFault.TheVariants.{Range, Degraded, Lost, Unsure, Disk}
+use Rattle.ddf_read.specs.declared.fault.VolumeFault.{VolumeFault}
+use Rattle.ddf_read.specs.declared.fault.VolumeFault.TheVariants.{Range, Degraded, Lost, Unsure, Disk}
 use Rattle.ddf_resync.specs.declared.outcome.Scrub.{Scrub}
 use Rattle.ddf_resync.specs.declared.outcome.Scrub.TheVariants.{Clean, Differs}
 use Rattle.ddf_resync.specs.Agreeing.{Agrees}
@@ -40,6 +40,16 @@ pub record IsLeastDiffering (volume : Volume) (image : Image) (element row : ℕ
 abbrev pub IsScrubbed : Volume → Image → Scrub → Type 0
 IsScrubbed volume image Clean = IsRedundant volume image
 IsScrubbed volume image (Differs element row) = (IsRedundant volume image → ⊥) × IsLeastDiffering volume image element row
+
+-- each sector of the elements agrees
+abbrev pub AgreesEverywhere : Volume → Image → Type 0
+AgreesEverywhere volume image =
+    (element sector : ℕ) (part : Part) → slice_get volume.parts element ≡ Some part → sector < depth_of part.shape → Agrees volume image element part sector
+
+-- what an answer says whatever bytes the sectors have: so it is where nothing differs, and else the array isn't redundant
+abbrev pub AgreesOrNot : Volume → Image → Scrub → Type 0
+AgreesOrNot volume image Clean = AgreesEverywhere volume image
+AgreesOrNot volume image (Differs element row) = IsRedundant volume image → ⊥
 
 -- the cause of an answer other than Ok: a read failed of a slot with a sector that is compared
 abbrev pub IsScrubFault : {D : Type 0} → (old new : BayState D) → Volume → VolumeFault → Type 0

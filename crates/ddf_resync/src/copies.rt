@@ -4,8 +4,8 @@ ghost use Rattle.ddf_array.specs.declared.part.Part.{Part};
 ghost use Rattle.ddf_array.specs.Places.{site_at, site_on};
 ghost use Rattle.ddf_array.specs.Values.{bytes_at};
 ghost use Rattle.ddf_array.specs.Volume.{Fits, IsVolume, capacity};
-ghost use Rattle.ddf_volume.specs.Along.{further};
-ghost use Rattle.ddf_volume.specs.Reading.{Failed, OnlyReads};
+ghost use Rattle.ddf_read.specs.Along.{further};
+ghost use Rattle.ddf_read.specs.Reading.{Failed, OnlyReads};
 ghost use Rattle.ddf_resync.specs.Agreeing.{AllOrNot, CopyAgrees, IsStep};
 ghost use Rattle.ddf_resync.specs.Compared.{FailedOn};
 ghost use Rattle.ddf_resync.specs.Runs.{NamesEither};
@@ -16,7 +16,7 @@ use ddf_array::{Part, Site, View};
 use ddf_bay::Bay;
 use ddf_bytes::Sector;
 use ddf_cells::{SECTORS, block_at, blocks_along};
-use ddf_volume::read_from;
+use ddf_read::read_from;
 
 /// Whether sectors are equal, each to the one beside it.
 fn are_same(one: &[Sector], other: &[Sector]) -> bool

@@ -4,7 +4,7 @@ ghost use Rattle.ddf_bytes.specs.Counts.{Rose};
 ghost use Rattle.ddf_array.specs.Apart.{IsApart};
 ghost use Rattle.ddf_array.specs.Sources.{trusts_parity};
 ghost use Rattle.ddf_array.specs.Volume.{Fits, IsVolume, capacity};
-ghost use Rattle.ddf_volume.specs.Reading.{Failed};
+ghost use Rattle.ddf_read.specs.Reading.{Failed};
 ghost use Rattle.ddf_cells.specs.CellSources.{IsReadable};
 ghost use Rattle.ddf_cells.specs.Touching.{IsTouchedSlot, Writes};
 ghost use Rattle.ddf_resync.specs.Copying.{AreAsBefore, AreCopied, AreNoted, Asks};

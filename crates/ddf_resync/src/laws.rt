@@ -11,7 +11,7 @@ ghost use Rattle.ddf_array.specs.Sound.{AreSectors};
 ghost use Rattle.ddf_array.specs.Sources.{copies, first_copy};
 ghost use Rattle.ddf_array.specs.Values.{bytes_at};
 ghost use Rattle.ddf_array.specs.Volume.{Fits, IsVolume, Volume};
-ghost use Rattle.ddf_volume.specs.Reading.{Failed, IsOn};
+ghost use Rattle.ddf_read.specs.Reading.{Failed, IsOn};
 ghost use Rattle.ddf_resync.specs.Agreeing.{Agrees};
 ghost use Rattle.ddf_resync.specs.Resyncing.{HasResynced, IsAmongResynced, IsHeld, IsLeftByResync, IsStopped, MayResync};
 ghost use Rattle.ddf_resync.specs.Several.{extent_sectors, resync_sectors};

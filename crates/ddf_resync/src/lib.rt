@@ -4,6 +4,7 @@
 mod copies;
 mod copying;
 mod laws;
+mod looking;
 mod outcome;
 mod resyncing;
 mod rows;
@@ -18,6 +19,7 @@ pub use laws::{
     a_settled_resync_is_in_every_image, a_stop_in_a_resync_has_an_image_before,
     agreeing_is_redundant,
 };
+pub use looking::needs_of_resync;
 pub use outcome::Scrub;
-pub use resyncing::{resync, resync_refusal};
+pub use resyncing::{resync, resync_differing, resync_refusal};
 pub use walk::scrub;

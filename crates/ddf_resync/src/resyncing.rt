@@ -1,23 +1,27 @@
 //! The resync of an array.
-ghost use Rattle.std.specs.Prelude.{◌≡◌, ◌+◌, ◌≤◌, ℕ, None, true, false, OnOk, IfErr};
+ghost use Rattle.std.specs.Prelude.{◌≡◌, ◌⊎◌, ◌+◌, ◌≤◌, ℕ, None, true, false, OnOk, IfErr};
 ghost use Rattle.ddf_bay.specs.Moments.{IsSettled, StopsLeave};
 ghost use Rattle.ddf_array.specs.Apart.{IsApart};
 ghost use Rattle.ddf_array.specs.Sources.{trusts_parity};
 ghost use Rattle.ddf_array.specs.Volume.{Fits, IsVolume};
-ghost use Rattle.ddf_array.specs.Within.{is_redundant};
-ghost use Rattle.ddf_volume.specs.Reading.{Failed};
+ghost use Rattle.ddf_array.specs.Within.{is_redundant, is_within};
+ghost use Rattle.ddf_read.specs.Reading.{Failed, OnlyReads};
 ghost use Rattle.ddf_cells.specs.CellSources.{IsReadable};
 ghost use Rattle.ddf_cells.specs.Degraded.{is_degraded};
 ghost use Rattle.ddf_cells.specs.Touching.{GoesBetween};
+ghost use Rattle.ddf_resync.specs.Compared.{HasDiffered};
 ghost use Rattle.ddf_resync.specs.Resyncing.{AddsResynced, HasResynced, IsAmongResynced, IsLeftByResync, IsResyncFault, IsSetOn, IsStopped, IsUntouched, resync_refusal};
+ghost use Rattle.ddf_resync.specs.Scrubbing.{AgreesEverywhere};
 ghost use Rattle.ddf_resync.specs.Several.{resync_sectors};
 
 use crate::copying::copy_all;
+use crate::outcome::Scrub;
 use crate::setting::set_all;
+use crate::walk::scrub;
 use ddf_array::View;
 use ddf_bay::Bay;
 use ddf_cells::{is_degraded, sync_touched};
-use ddf_volume::VolumeFault;
+use ddf_read::VolumeFault;
 
 /// Why an array isn't resynced: `Lost` where it isn't within its level, `Unsure` where an element that keeps parity lacks a
 /// position, the first of these that holds.
@@ -101,4 +105,56 @@ pub fn resync<B: Bay>(bay: &mut B, view: &View) -> Result<(), VolumeFault>
         Ok(()) => Ok(()),
         Err(slot) => Err(VolumeFault::Disk(slot)),
     }
+}
+
+/// Whether a scrub of an array that is within its level finds nothing that differs. Where a read fails it isn't said to.
+fn is_clean<B: Bay>(bay: &mut B, view: &View) -> bool
+    requires fits { Fits (B.disks bay.old).sizes view.now }
+    requires within { is_within view.now ≡ true }
+    ensures yes { B.tells → result ≡ true → AgreesEverywhere view.now (B.disks bay.old).held }
+    ensures no { B.tells → result ≡ false → HasDiffered view.now (B.disks bay.old).held (B.disks bay.old) (B.disks bay.new) }
+    ensures reads { OnlyReads (B.disks bay.old) (B.disks bay.new) }
+{
+    match scrub(bay, view) {
+        Ok(Scrub::Clean) => true,
+        Ok(Scrub::Differs { .. }) => false,
+        Err(_) => false,
+    }
+}
+
+/// Makes an array redundant that may be so already, as one that was marked for its resync alone: it is scrubbed, and where that
+/// finds nothing that differs, nothing is written or synced. Else it is resynced, also where a read of the scrub failed.
+///
+/// # Errors
+/// Those of a resync, for the same causes.
+pub fn resync_differing<B: Bay>(bay: &mut B, view: &View) -> Result<(), VolumeFault>
+    requires apart { IsApart view.now }
+    requires fits { Fits (B.disks bay.old).sizes view.now }
+    requires marked { is_redundant view.now ≡ true → trusts_parity view.now ≡ false }
+    ensures any_moment { StopsLeave (B.disks bay.old) (B.disks bay.new) (IsAmongResynced view.now B.tells (B.disks bay.old).held (B.disks bay.old).may_hold) }
+    ensures left { AddsResynced view.now B.tells (B.disks bay.old).held (B.disks bay.old).may_hold (B.disks bay.new).may_hold }
+    ensures held { B.tells → IsLeftByResync view.now B.tells (B.disks bay.old).held (B.disks bay.new).held }
+    ensures resynced { B.tells → OnOk result (HasResynced (Failed (B.disks bay.old) (B.disks bay.new)) view.now (B.disks bay.old).held (B.disks bay.new).held) }
+    ensures settled { B.tells → OnOk result ((slot : ℕ) → IsSettled (B.disks bay.old).may_hold (B.disks bay.old).held slot → IsSettled (B.disks bay.new).may_hold (B.disks bay.new).held slot) }
+    ensures ok { OnOk result (resync_refusal view.now ≡ None) }
+    ensures unfailed { OnOk result ((B.disks bay.new).failed_writes ≡ (B.disks bay.old).failed_writes) }
+    ensures fault { IfErr result (IsResyncFault (B.disks bay.old) (B.disks bay.new) view.now) }
+    ensures goes { GoesBetween (B.disks bay.old) (B.disks bay.new) }
+    ensures asked { (B.disks bay.new).sectors_asked ≤ (B.disks bay.old).sectors_asked + resync_sectors view.now }
+    ensures sectors { (B.disks bay.new).sectors_written ≤ (B.disks bay.old).sectors_written + resync_sectors view.now }
+    ensures idle { is_redundant view.now ≡ false → IsUntouched (B.disks bay.old) (B.disks bay.new) }
+
+    // Only reads are made, unless the array isn't redundant, or a read failed on a slot that has a sector of those that a scrub compares.
+    ensures agreed { B.tells → OnlyReads (B.disks bay.old) (B.disks bay.new) ⊎ HasDiffered view.now (B.disks bay.old).held (B.disks bay.old) (B.disks bay.new) }
+{
+    if let Some(fault) = resync_refusal(view) {
+        return Err(fault);
+    }
+    if !view.redundant() {
+        return Ok(());
+    }
+    if is_clean(bay, view) {
+        return Ok(());
+    }
+    resync(bay, view)
 }

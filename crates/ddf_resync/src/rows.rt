@@ -7,8 +7,8 @@ ghost use Rattle.ddf_array.specs.Sources.{first_copy, row_without, rows};
 ghost use Rattle.ddf_array.specs.Values.{sum_at, value};
 ghost use Rattle.ddf_array.specs.Volume.{Fits, IsVolume, capacity};
 ghost use Rattle.ddf_array.specs.Within.{is_mirrored};
-ghost use Rattle.ddf_volume.specs.Reading.{Failed, HasSite, OnlyReads};
-ghost use Rattle.ddf_volume.specs.Sums.{other_sites};
+ghost use Rattle.ddf_read.specs.Reading.{Failed, HasSite, OnlyReads};
+ghost use Rattle.ddf_read.specs.Sums.{other_sites};
 ghost use Rattle.ddf_resync.specs.Agreeing.{AllOrNot, Decides, IsValue, RowAgrees};
 ghost use Rattle.ddf_resync.specs.Compared.{FailedOn};
 
@@ -17,7 +17,7 @@ use ddf_array::{Part, Site, View};
 use ddf_bay::Bay;
 use ddf_bytes::Sector;
 use ddf_cells::block_at;
-use ddf_volume::{first_missing, keeps_parity, sum_rows};
+use ddf_read::{first_missing, keeps_parity, sum_rows};
 use std::slice;
 
 /// Reads the sum of the other cells of a row. After a failure, the slot that failed.

@@ -5,7 +5,7 @@ ghost use Rattle.ddf_primary.specs.Cells.{depth_of};
 ghost use Rattle.ddf_array.specs.Apart.{IsApart};
 ghost use Rattle.ddf_array.specs.Levels.{keeps_parity};
 ghost use Rattle.ddf_array.specs.Volume.{Fits, IsVolume};
-ghost use Rattle.ddf_volume.specs.Reading.{Failed};
+ghost use Rattle.ddf_read.specs.Reading.{Failed};
 ghost use Rattle.ddf_cells.specs.CellSources.{HaveEqualCopies, IsInOneRow, IsReadable};
 ghost use Rattle.ddf_cells.specs.Degraded.{is_degraded};
 ghost use Rattle.ddf_cells.specs.Touching.{IsTouchedSlot, Writes};
@@ -17,7 +17,7 @@ ghost use Rattle.ddf_resync.specs.Several.{parity_cells, parity_of};
 use ddf_array::{Part, View};
 use ddf_bay::Bay;
 use ddf_cells::{SECTORS, depth_of, piece_at, read_sums, touch};
-use ddf_volume::{keeps_parity, strip_of};
+use ddf_read::{keeps_parity, strip_of};
 
 /// Sets the parity of neighbouring rows of one row of strips to their sums. After a failure, the slot that failed, or at
 /// which no source of a data cell is left.

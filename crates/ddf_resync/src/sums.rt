@@ -6,7 +6,7 @@ ghost use Rattle.ddf_primary.specs.Cells.{depth_of};
 ghost use Rattle.ddf_array.specs.declared.part.Part.{Part};
 ghost use Rattle.ddf_array.specs.Places.{is_available};
 ghost use Rattle.ddf_array.specs.Volume.{Fits, IsPart, IsVolume, PartFits};
-ghost use Rattle.ddf_volume.specs.Reading.{OnlyReads};
+ghost use Rattle.ddf_read.specs.Reading.{OnlyReads};
 ghost use Rattle.ddf_resync.specs.Agreeing.{AllOrNot, SumAgrees};
 ghost use Rattle.ddf_resync.specs.Compared.{FailedOn};
 
@@ -14,7 +14,7 @@ use ddf_array::{Part, View};
 use ddf_bay::Bay;
 use ddf_bytes::Sector;
 use ddf_cells::{SECTORS, all_available};
-use ddf_volume::{blank, keeps_parity, sum_rows};
+use ddf_read::{blank, keeps_parity, sum_rows};
 
 /// Whether two sectors are equal.
 pub(crate) fn is_same(one: &Sector, other: &Sector) -> bool

@@ -5,10 +5,10 @@ ghost use Rattle.ddf_array.specs.declared.part.Part.{Part};
 ghost use Rattle.ddf_array.specs.Sound.{AreSectors};
 ghost use Rattle.ddf_array.specs.Volume.{Fits, IsPart, IsVolume};
 ghost use Rattle.ddf_array.specs.Within.{is_within};
-ghost use Rattle.ddf_volume.specs.Reading.{OnlyReads};
+ghost use Rattle.ddf_read.specs.Reading.{OnlyReads};
 ghost use Rattle.ddf_resync.specs.Agreeing.{Agrees, AllOrNot, PositionAgrees};
 ghost use Rattle.ddf_resync.specs.Compared.{FailedOn};
-ghost use Rattle.ddf_resync.specs.Scrubbing.{IsElementScrubbed, IsScrubFault, IsScrubbed};
+ghost use Rattle.ddf_resync.specs.Scrubbing.{AgreesOrNot, IsElementScrubbed, IsScrubFault, IsScrubbed};
 
 use crate::copies::copies_agree;
 use crate::outcome::Scrub;
@@ -17,7 +17,7 @@ use crate::sums::sums_agree;
 use ddf_array::{Part, View};
 use ddf_bay::Bay;
 use ddf_cells::{SECTORS, depth_of};
-use ddf_volume::{VolumeFault, strip_of};
+use ddf_read::{VolumeFault, strip_of};
 
 /// Whether neighbouring cells of a position agree with the others of their blocks. After a failure, the slot that failed.
 fn position_agrees<B: Bay>(
@@ -126,6 +126,7 @@ fn scrub_all<B: Bay>(bay: &mut B, view: &View) -> Result<Scrub, usize>
     requires known { IsVolume view.now }
     requires fits { Fits (B.disks bay.old).sizes view.now }
     ensures found { B.tells → AreSectors (B.disks bay.old).held → IfOk result (IsScrubbed view.now (B.disks bay.old).held) }
+    ensures agrees { B.tells → IfOk result (AgreesOrNot view.now (B.disks bay.old).held) }
     ensures failed { IfErr result (FailedOn view.now (B.disks bay.old) (B.disks bay.new)) }
     ensures reads { OnlyReads (B.disks bay.old) (B.disks bay.new) }
 {
@@ -153,6 +154,7 @@ fn scrub_all<B: Bay>(bay: &mut B, view: &View) -> Result<Scrub, usize>
 pub fn scrub<B: Bay>(bay: &mut B, view: &View) -> Result<Scrub, VolumeFault>
     requires { Fits (B.disks bay.old).sizes view.now }
     ensures found { B.tells → AreSectors (B.disks bay.old).held → IfOk result (IsScrubbed view.now (B.disks bay.old).held) }
+    ensures agrees { B.tells → IfOk result (AgreesOrNot view.now (B.disks bay.old).held) }
     ensures ok { IfOk result (λ scrub. is_within view.now ≡ true) }
     ensures fault { IfErr result (IsScrubFault (B.disks bay.old) (B.disks bay.new) view.now) }
     ensures reads { OnlyReads (B.disks bay.old) (B.disks bay.new) }

@@ -7,7 +7,7 @@ use Rattle.std.specs.Int.{w16}
 use Rattle.ddf_bytes.specs.Bytes.{number_at}
 use Rattle.ddf_tables.specs.declared.disks.DiskEntry.{DiskEntry}
 use Rattle.ddf_tables.specs.declared.arrays.ArrayEntry.{ArrayEntry}
-use Rattle.ddf_configs.specs.ElementValue.{ElementValue}
+use Rattle.ddf_config_records.specs.ElementValue.{ElementValue}
 use Rattle.ddf_copy.specs.declared.copy.DiskCopy.{DiskCopy}
 use Rattle.ddf_config.specs.Configuration.{Configuration}
 use Rattle.ddf_view.specs.Differ.{difference, element_differs, held_differ, numbered_array, numbered_disk, same_array, same_disk, same_held, same_record}
@@ -16,12 +16,13 @@ use Rattle.ddf_view.specs.View.{HeldRecord, View, find_held, view_of}
 use Rattle.ddf_rewrite.specs.Arrays.{arrays_after}
 use Rattle.ddf_rewrite.specs.Before.{before}
 use Rattle.ddf_rewrite.specs.Copies.{own_record, recovered_copy, recovered_holding}
-use Rattle.ddf_rewrite.specs.Disks.{disk_on, recovered_disks}
+use Rattle.ddf_rewrite.specs.Disks.{disk_on, disks_for, recovered_disks}
 use Rattle.ddf_rewrite.specs.Hold.{CanBeRecovered}
 use Rattle.ddf_rewrite.specs.Notes.{Holding, note_of}
 use Rattle.ddf_rewrite.specs.Wanted.{Wanted, all_wanted}
 use Rattle.ddf_rewrite.proofs.Agreeing.{arrays_alike, find_alike, held_alike}
 use Rattle.ddf_rewrite.proofs.Differences.{disk_self, elements_alike, no_difference}
+use Rattle.ddf_rewrite.proofs.Filled.{both_filled}
 use Rattle.ddf_rewrite.proofs.Holdings.{AreSame, same_again, same_back, same_on}
 use Rattle.ddf_rewrite.proofs.Led.{is_led, led_same}
 use Rattle.ddf_rewrite.proofs.Lists.{some_same}
@@ -98,7 +99,8 @@ module _ (old other : DiskCopy) (group : List ℕ) (sequence : ℕ) (views : Lis
   recovered_agree = no_difference view other_view (record {
     disks = λ reference.
         ap (λ (list : List DiskEntry). not (option_eq same_disk (numbered_disk reference list) (numbered_disk reference other_view.disks))) (recovered_disks_are old group sequence views timestamp can)
-        ∙ ap (λ (list : List DiskEntry). not (option_eq same_disk (numbered_disk reference (recovered_disks (disks_in views) (view_of old).disks)) (numbered_disk reference list))) (recovered_disks_are other group sequence views timestamp other_can)
+        ∙ ap (λ (list : List DiskEntry). not (option_eq same_disk (numbered_disk reference (disks_for old.header.revision (before views).noted config (recovered_disks (disks_in views) (view_of old).disks))) (numbered_disk reference list))) (recovered_disks_are other group sequence views timestamp other_can)
+        ∙ ap not (both_filled config old.header.revision other.header.revision (before views).noted (before views).noted (recovered_disks (disks_in views) (view_of old).disks) (recovered_disks (disks_in views) (view_of other).disks) reference)
         ∙ disks_led reference;
     arrays = λ guid.
         ap (λ (list : List ArrayEntry). not (option_eq same_array (numbered_array guid list) (numbered_array guid other_view.arrays))) (recovered_arrays old group sequence views timestamp can)

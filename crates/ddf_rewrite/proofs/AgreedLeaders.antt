@@ -10,9 +10,9 @@ use Rattle.std.specs.Str.{bytes_eq}
 use Rattle.ddf_bytes.specs.Bytes.{number_at}
 use Rattle.ddf_tables.specs.declared.disks.DiskEntry.{DiskEntry}
 use Rattle.ddf_tables.specs.declared.arrays.ArrayEntry.{ArrayEntry}
-use Rattle.ddf_configs.specs.ElementValue.{ElementValue}
-use Rattle.ddf_configs.specs.declared.notes.SlotNote.{SlotNote}
-use Rattle.ddf_configs.specs.declared.place.Place.{Place}
+use Rattle.ddf_config_records.specs.ElementValue.{ElementValue}
+use Rattle.ddf_config_records.specs.declared.notes.SlotNote.{SlotNote}
+use Rattle.ddf_config_records.specs.declared.place.Place.{Place}
 use Rattle.ddf_copy.specs.declared.copy.DiskCopy.{DiskCopy}
 use Rattle.ddf_copy.specs.Written.{CanBeCopy}
 use Rattle.ddf_config.specs.Configuration.{Configuration}
@@ -26,13 +26,14 @@ use Rattle.ddf_view.proofs.Shown.{plan_same}
 use Rattle.ddf_rewrite.specs.Arrays.{array_on, arrays_after}
 use Rattle.ddf_rewrite.specs.Before.{before}
 use Rattle.ddf_rewrite.specs.Copies.{own_record, recovered_copy, recovered_holding}
-use Rattle.ddf_rewrite.specs.Disks.{disk_on, recovered_disks}
+use Rattle.ddf_rewrite.specs.Disks.{disk_on, disks_for, recovered_disks}
 use Rattle.ddf_rewrite.specs.Hold.{CanBeRecovered, DoAgree}
 use Rattle.ddf_rewrite.specs.Notes.{Holding}
 use Rattle.ddf_rewrite.specs.Readable.{OneRebuilt}
 use Rattle.ddf_rewrite.specs.Wanted.{Wanted, all_wanted}
 use Rattle.ddf_rewrite.proofs.After.{note_if}
 use Rattle.ddf_rewrite.proofs.Differences.{Agrees, agrees, agrees_back, agrees_self, elements_alike, no_difference, not_false, plans_alike}
+use Rattle.ddf_rewrite.proofs.Filled.{filled_alike, find_made}
 use Rattle.ddf_rewrite.proofs.Given.{plan_again}
 use Rattle.ddf_rewrite.proofs.Holdings.{AreSame, are_same, same_again, same_back, same_on}
 use Rattle.ddf_rewrite.proofs.Led.{is_led, led_same}
@@ -62,21 +63,6 @@ all_agree views agreed m k one other at there =
 first_in : (views : List View) (k : ℕ) (one : View) → slice_get views k ≡ Some one → (first : View) × (slice_get views 0 ≡ Some first) × (disks_in views ≡ first.disks) × (arrays_in views ≡ first.arrays)
 first_in [] k one at = absurd cc
 first_in (view ∷ views) k one at = (view, refl, refl, refl)
-
--- what is made of an item is as the item
-find_made : {X : Type 0} (p : ℕ × X → Bool) (same : ℕ × X → ℕ × X → Bool) (f : X → X) → ((n : ℕ) (x : X) → p (n, f x) ≡ p (n, x)) → ((n : ℕ) (x : X) (other : ℕ × X) → same (n, f x) other ≡ same (n, x) other)
-    → (n : ℕ) (xs : List X) (o : Option (ℕ × X)) → option_eq same (find p (enumerate_from n (map f xs))) o ≡ option_eq same (find p (enumerate_from n xs)) o
-find_made p same f alike is n [] o = refl
-find_made {X = X} p same f alike is n (x ∷ xs) o = go (find_made p same f alike is (n + 1) xs o) (p (n, x)) refl
-  where
-    one : (o : Option (ℕ × X)) → option_eq same (Some (n, f x)) o ≡ option_eq same (Some (n, x)) o
-    one None = refl
-    one (Some other) = is n x other
-
-    go : option_eq same (find p (enumerate_from (n + 1) (map f xs))) o ≡ option_eq same (find p (enumerate_from (n + 1) xs)) o → (b : Bool) → p (n, x) ≡ b
-        → option_eq same (find p (enumerate_from n (map f (x ∷ xs)))) o ≡ option_eq same (find p (enumerate_from n (x ∷ xs))) o
-    go rest true e = let made : p (n, f x) ≡ true = alike n x ∙ e in rw (e, made) (one o)
-    go rest false e = let made : p (n, f x) ≡ false = alike n x ∙ e in rw (e, made) rest
 
 -- ---- the plan of a record
 
@@ -214,7 +200,8 @@ module _ (old : DiskCopy) (group : List ℕ) (sequence : ℕ) (views : List View
   pub recovered_agrees : Agrees view leader
   recovered_agrees = record {
     disks = λ reference.
-        ap (λ (list : List DiskEntry). not (option_eq same_disk (numbered_disk reference list) (numbered_disk reference leader.disks))) (recovered_disks_are old group sequence views timestamp can) ∙ disk_led reference;
+        ap (λ (list : List DiskEntry). not (option_eq same_disk (numbered_disk reference list) (numbered_disk reference leader.disks))) (recovered_disks_are old group sequence views timestamp can)
+        ∙ ap not (filled_alike old.header.revision (before views).noted config (recovered_disks (disks_in views) (view_of old).disks) reference (numbered_disk reference leader.disks)) ∙ disk_led reference;
     arrays = λ guid.
         ap (λ (list : List ArrayEntry). not (option_eq same_array (numbered_array guid list) (numbered_array guid leader.arrays))) (recovered_arrays old group sequence views timestamp can) ∙ array_led guid;
     elements = elements_alike config view.elements leader.elements element_led (recovered_away old group sequence views timestamp can);

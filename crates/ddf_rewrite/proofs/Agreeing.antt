@@ -7,14 +7,14 @@ use Rattle.std.specs.Str.{bytes_eq}
 use Rattle.ddf_header.specs.declared.kind.Revision.{Revision}
 use Rattle.ddf_tables.specs.declared.disks.DiskEntry.{DiskEntry}
 use Rattle.ddf_tables.specs.declared.arrays.ArrayEntry.{ArrayEntry}
-use Rattle.ddf_configs.specs.ElementValue.{ElementValue}
+use Rattle.ddf_config_records.specs.ElementValue.{ElementValue}
 use Rattle.ddf_copy.specs.declared.copy.DiskCopy.{DiskCopy}
 use Rattle.std.specs.Option.{option_eq}
 use Rattle.ddf_config.specs.Configuration.{Configuration}
 use Rattle.ddf_config.specs.ElementValue.{ElementValue as ElementPlan}
 use Rattle.ddf_config.specs.declared.array.Array.{Array}
 use Rattle.ddf_config.specs.declared.member.Member.{Member}
-use Rattle.ddf_view.specs.Differ.{difference, element_differs, numbered_array, numbered_disk, same_array, same_disk, same_held, same_record}
+use Rattle.ddf_view.specs.Differ.{difference, element_differs, numbered_array, numbered_disk, same_array, same_disk, same_held, same_record, told_kind}
 use Rattle.ddf_view.specs.Reading.{plan_of}
 use Rattle.ddf_view.specs.Shows.{same_plan, same_position}
 use Rattle.ddf_view.specs.View.{view_of}
@@ -23,12 +23,13 @@ use Rattle.ddf_rewrite.specs.Arrays.{array_on, arrays_after}
 use Rattle.ddf_rewrite.specs.Before.{Before, leading_record}
 use Rattle.ddf_rewrite.specs.Changing.{HasRoomFor}
 use Rattle.ddf_rewrite.specs.Copies.{changed_copy, is_copied_on, own_record}
-use Rattle.ddf_rewrite.specs.Disks.{block_size_of, changed_disks, disk_on, member_entry}
+use Rattle.ddf_rewrite.specs.Disks.{block_size_of, changed_disks, disk_on, disks_for, member_entry}
 use Rattle.ddf_rewrite.specs.Elements.{changed_record}
 use Rattle.ddf_rewrite.specs.Notes.{note_of}
 use Rattle.ddf_rewrite.specs.Readable.{AreRebuilt, HasOwnNames}
 use Rattle.ddf_rewrite.specs.Wanted.{Wanted, all_wanted}
 use Rattle.ddf_rewrite.proofs.Differences.{elements_alike, no_difference}
+use Rattle.ddf_rewrite.proofs.Filled.{both_filled}
 use Rattle.ddf_rewrite.proofs.Given.{plan_again}
 use Rattle.ddf_rewrite.proofs.Changed.{record_found, none_found, disks_are, arrays_are}
 use Rattle.ddf_rewrite.proofs.Holdings.{has_plan, record_planned, records_agree}
@@ -51,7 +52,7 @@ one_disk : (all : List Wanted) (disks own other : List DiskEntry) (size other_si
 one_disk all disks own other size other_size n entry =
     let place : eqb n n ≡ true = eq-eqb n n refl in
     let guid = bytes_same entry.1.guid in
-    let kind : eqb (member_entry all disks entry).kind.0 (member_entry all disks entry).kind.0 ≡ true = eq-eqb (member_entry all disks entry).kind.0 (member_entry all disks entry).kind.0 refl in
+    let kind : eqb (told_kind (member_entry all disks entry)) (told_kind (member_entry all disks entry)) ≡ true = eq-eqb (told_kind (member_entry all disks entry)) (told_kind (member_entry all disks entry)) refl in
     let state : eqb (member_entry all disks entry).state.0 (member_entry all disks entry).state.0 ≡ true = eq-eqb (member_entry all disks entry).state.0 (member_entry all disks entry).state.0 refl in
     let long : eqb entry.1.size entry.1.size ≡ true = eq-eqb entry.1.size entry.1.size refl in
     rw (place, guid, kind, state, long) refl
@@ -122,7 +123,8 @@ copies_agree old other leaders config timestamp names rebuilt room other_room =
     no_difference one two (record {
       disks = λ reference.
           ap (λ (list : List DiskEntry). not (option_eq same_disk (find (λ pair. eqb pair.1.reference reference) (enumerate_from 0 list)) (numbered_disk reference two.disks))) disks
-          ∙ ap (λ (list : List DiskEntry). not (option_eq same_disk (find (λ pair. eqb pair.1.reference reference) (enumerate_from 0 (changed_disks config leaders.disks old.header.revision (view_of old).disks))) (find (λ pair. eqb pair.1.reference reference) (enumerate_from 0 list)))) other_disks
+          ∙ ap (λ (list : List DiskEntry). not (option_eq same_disk (find (λ pair. eqb pair.1.reference reference) (enumerate_from 0 (disks_for old.header.revision true config (changed_disks config leaders.disks old.header.revision (view_of old).disks)))) (find (λ pair. eqb pair.1.reference reference) (enumerate_from 0 list)))) other_disks
+          ∙ ap not (both_filled config old.header.revision other.header.revision true true (changed_disks config leaders.disks old.header.revision (view_of old).disks) (changed_disks config leaders.disks other.header.revision (view_of other).disks) reference)
           ∙ ap not (disks_alike config leaders.disks (view_of old).disks (view_of other).disks old.header.revision other.header.revision reference);
       arrays = λ guid.
           ap (λ (list : List ArrayEntry). not (option_eq same_array (find (λ pair. bytes_eq pair.1.guid guid) (enumerate_from 0 list)) (numbered_array guid two.arrays))) arrays

@@ -12,7 +12,7 @@ use Rattle.ddf_rewrite.specs.Arrays.{arrays_after}
 use Rattle.ddf_rewrite.specs.Before.{Before, leading_record}
 use Rattle.ddf_rewrite.specs.Changing.{HasRoomFor}
 use Rattle.ddf_rewrite.specs.Copies.{changed_copy, changed_holding, changed_holdings, is_copied_on, own_record}
-use Rattle.ddf_rewrite.specs.Disks.{block_size_of, changed_disks, disk_on, member_entry}
+use Rattle.ddf_rewrite.specs.Disks.{block_size_of, changed_disks, disk_on, disks_for, member_entry}
 use Rattle.ddf_rewrite.specs.Elements.{changed_record}
 use Rattle.ddf_rewrite.specs.Notes.{Holding, note_of}
 use Rattle.ddf_rewrite.specs.Readable.{AreRebuilt, HasOwnNames}
@@ -83,7 +83,7 @@ disks_fit old leaders config timestamp room =
     omega (arith, long, few)
 
 pub disks_are : (old : DiskCopy) (leaders : Before) (config : Configuration) (timestamp : ℕ) → HasRoomFor old leaders config timestamp
-    → (view_of (changed_copy old leaders config timestamp)).disks ≡ changed_disks config leaders.disks old.header.revision (view_of old).disks
+    → (view_of (changed_copy old leaders config timestamp)).disks ≡ disks_for old.header.revision true config (changed_disks config leaders.disks old.header.revision (view_of old).disks)
 unfolding changed_copy
 disks_are old leaders config timestamp room =
     copy_disks old true config timestamp (changed_disks config leaders.disks old.header.revision (view_of old).disks) (changed_holdings old leaders config timestamp) (disks_fit old leaders config timestamp room)

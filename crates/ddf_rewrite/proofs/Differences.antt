@@ -11,10 +11,10 @@ use Rattle.std.specs.Cmp.Lexicographic.{slice_cmp}
 use Rattle.ddf_bytes.proofs.Nones.{none_first, none_map}
 use Rattle.ddf_tables.specs.declared.disks.DiskEntry.{DiskEntry}
 use Rattle.ddf_tables.specs.declared.arrays.ArrayEntry.{ArrayEntry}
-use Rattle.ddf_configs.specs.declared.notes.SlotNote.{SlotNote}
+use Rattle.ddf_config_records.specs.declared.notes.SlotNote.{SlotNote}
 use Rattle.ddf_config.specs.Configuration.{Configuration}
 use Rattle.ddf_config.specs.ElementValue.{ElementValue as ElementPlan}
-use Rattle.ddf_view.specs.Differ.{array_differs, difference, differing_arrays, differing_disks, differing_elements, disk_differs, element_difference, element_differs, held_differ, key_cmp, key_of, least, same_array, same_disk, same_held, same_notes, same_record}
+use Rattle.ddf_view.specs.Differ.{array_differs, difference, differing_arrays, differing_disks, differing_elements, disk_differs, element_difference, element_differs, held_differ, key_cmp, key_of, least, same_array, same_disk, same_held, same_notes, same_record, told_kind}
 use Rattle.ddf_view.specs.Reading.{plan_of}
 use Rattle.ddf_view.specs.Shows.{same_plan, same_position}
 use Rattle.ddf_view.specs.View.{HeldRecord, View, find_held, is_element}
@@ -158,9 +158,9 @@ five_from a b c d e ha hb hc hd he = and_from (a && b && c && d) e (and_from (a 
 -- disks that are the same, the other way round
 disk_back : (one other : ℕ × DiskEntry) → same_disk one other ≡ true → same_disk other one ≡ true
 disk_back one other h =
-    let parts = and_five (eqb one.0 other.0) (bytes_eq one.1.guid other.1.guid) (eqb one.1.kind.0 other.1.kind.0) (eqb one.1.state.0 other.1.state.0) (eqb one.1.size other.1.size) h in
-    five_from (eqb other.0 one.0) (bytes_eq other.1.guid one.1.guid) (eqb other.1.kind.0 one.1.kind.0) (eqb other.1.state.0 one.1.state.0) (eqb other.1.size one.1.size)
-    (number_back one.0 other.0 parts.0) (bytes_back one.1.guid other.1.guid parts.1) (number_back one.1.kind.0 other.1.kind.0 parts.2) (number_back one.1.state.0 other.1.state.0 parts.3) (number_back one.1.size other.1.size parts.4)
+    let parts = and_five (eqb one.0 other.0) (bytes_eq one.1.guid other.1.guid) (eqb (told_kind one.1) (told_kind other.1)) (eqb one.1.state.0 other.1.state.0) (eqb one.1.size other.1.size) h in
+    five_from (eqb other.0 one.0) (bytes_eq other.1.guid one.1.guid) (eqb (told_kind other.1) (told_kind one.1)) (eqb other.1.state.0 one.1.state.0) (eqb other.1.size one.1.size)
+    (number_back one.0 other.0 parts.0) (bytes_back one.1.guid other.1.guid parts.1) (number_back (told_kind one.1) (told_kind other.1) parts.2) (number_back one.1.state.0 other.1.state.0 parts.3) (number_back one.1.size other.1.size parts.4)
 
 -- arrays that are the same, the other way round
 array_back : (one other : ℕ × ArrayEntry) → same_array one other ≡ true → same_array other one ≡ true
@@ -218,8 +218,8 @@ alike_self same is (Some x) = ap not (is x)
 -- a disk is the same as itself
 pub disk_self : (one : ℕ × DiskEntry) → same_disk one one ≡ true
 disk_self one =
-    five_from (eqb one.0 one.0) (bytes_eq one.1.guid one.1.guid) (eqb one.1.kind.0 one.1.kind.0) (eqb one.1.state.0 one.1.state.0) (eqb one.1.size one.1.size)
-    (eq-eqb one.0 one.0 refl) (bytes_same one.1.guid) (eq-eqb one.1.kind.0 one.1.kind.0 refl) (eq-eqb one.1.state.0 one.1.state.0 refl) (eq-eqb one.1.size one.1.size refl)
+    five_from (eqb one.0 one.0) (bytes_eq one.1.guid one.1.guid) (eqb (told_kind one.1) (told_kind one.1)) (eqb one.1.state.0 one.1.state.0) (eqb one.1.size one.1.size)
+    (eq-eqb one.0 one.0 refl) (bytes_same one.1.guid) (eq-eqb (told_kind one.1) (told_kind one.1) refl) (eq-eqb one.1.state.0 one.1.state.0 refl) (eq-eqb one.1.size one.1.size refl)
 
 -- an array is the same as itself
 array_self : (one : ℕ × ArrayEntry) → same_array one one ≡ true

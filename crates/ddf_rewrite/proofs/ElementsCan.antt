@@ -12,15 +12,15 @@ use Rattle.ddf_bytes.proofs.Nones.{none_first}
 use Rattle.ddf_header.specs.declared.geometry.Geometry.{Geometry}
 use Rattle.ddf_header.specs.declared.kind.Revision.{Revision}
 use Rattle.ddf_header.specs.declared.kind.Revision.TheVariants.{R100, R120, R200}
-use Rattle.ddf_configs.specs.declared.place.Place.{Place}
-use Rattle.ddf_configs.specs.declared.fault.ElementFault.TheVariants as faults
-use Rattle.ddf_configs.specs.ElementValue.{ElementValue}
-use Rattle.ddf_configs.specs.Elements.{record_size, HasRoom, element_fields, has_no_strip, element_faults_of, fault_of, element_fault, CanBeElement}
-use Rattle.ddf_configs.proofs.Elements.{element_within}
-use Rattle.ddf_configs.proofs.ElementRecords.{none_unless, HasMembers, has_members, allowed}
+use Rattle.ddf_config_records.specs.declared.place.Place.{Place}
+use Rattle.ddf_config_records.specs.declared.fault.ElementFault.TheVariants as faults
+use Rattle.ddf_config_records.specs.ElementValue.{ElementValue}
+use Rattle.ddf_config_records.specs.Elements.{record_size, HasRoom, element_fields, has_no_strip, element_faults_of, fault_of, element_fault, CanBeElement}
+use Rattle.ddf_config_records.proofs.Elements.{element_within}
+use Rattle.ddf_config_records.proofs.ElementRecords.{none_unless, HasMembers, has_members, allowed}
 use Rattle.std.specs.Map.{lookup}
-use Rattle.ddf_configs.proofs.Building.{element_over_can}
-use Rattle.ddf_configs.specs.Building.{element_bytes, element_unread, new_record_bytes}
+use Rattle.ddf_config_records.proofs.Building.{element_over_can}
+use Rattle.ddf_config_records.specs.Building.{element_bytes, element_unread, new_record_bytes}
 use Rattle.ddf_config.specs.Configuration.{Configuration}
 use Rattle.ddf_config.specs.Shapes.{array_capacity}
 use Rattle.ddf_config.specs.declared.array.Array.{Array}

@@ -17,7 +17,7 @@ min_none : (n : ℕ) → min n 0 ≡ 0
 min_none n = omega arith
 
 -- a flag leaves the other bits
-flag_other : (test : Bool) (flag bits place : ℕ) → bit_at flag place ≡ 0 → bit_at (with_flag test flag bits) place ≡ bit_at bits place
+pub flag_other : (test : Bool) (flag bits place : ℕ) → bit_at flag place ≡ 0 → bit_at (with_flag test flag bits) place ≡ bit_at bits place
 flag_other true flag bits place none = bit_at_or bits flag place ∙ ap (max (bit_at bits place)) none ∙ max_none (bit_at bits place)
 flag_other false flag bits place none = refl
 
@@ -25,7 +25,7 @@ flag_other false flag bits place none = refl
 masked : (kept mask place : ℕ) → bit_at mask place ≡ 0 → bit_at (bit_and kept mask) place ≡ 0
 masked kept mask place none = bit_at_and kept mask place ∙ ap (min (bit_at kept place)) none ∙ min_none (bit_at kept place)
 
-flag_fits : (test : Bool) (flag bits : ℕ) → flag < 2 ^ 16 → bits < 2 ^ 16 → with_flag test flag bits < 2 ^ 16
+pub flag_fits : (test : Bool) (flag bits : ℕ) → flag < 2 ^ 16 → bits < 2 ^ 16 → with_flag test flag bits < 2 ^ 16
 flag_fits true flag bits small fits = or_lt 16 bits flag fits small
 flag_fits false flag bits small fits = fits
 
@@ -61,6 +61,14 @@ state_fits all entry kept = go entry.1.missing
     go false =
         let low = and_le_r kept 0x38 in
         flag_fits (is_behind all entry.0) rebuilding (with_flag true online (bit_and kept 0x38)) (omega arith) (flag_fits true online (bit_and kept 0x38) (omega arith) (omega (arith, low)))
+
+-- It tells that a current disk is being rebuilt where a position on it is out of sync.
+pub rebuilding_after : (all : List Wanted) (entry : ℕ × Member) (kept : ℕ) → entry.1.missing ≡ false → is_behind all entry.0 ≡ true → has_bit (state_after all entry kept) 2 ≡ true
+unfolding state_after
+rebuilding_after all entry kept current behind =
+    let low = with_flag true online (bit_and kept 0x38) in
+    let none : bit_at low 2 ≡ 0 = flag_other true online (bit_and kept 0x38) 2 refl ∙ masked kept 0x38 2 refl in
+    rw (current, behind) (ap (λ (n : ℕ). eqb n 1) (bit_at_or low rebuilding 2 ∙ ap (λ (n : ℕ). max n 1) none))
 
 -- ---- the type
 

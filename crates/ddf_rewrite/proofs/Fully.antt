@@ -25,7 +25,7 @@ use Rattle.ddf_rewrite.specs.Arrays.{array_on, arrays_after}
 use Rattle.ddf_rewrite.specs.Before.{Before, leading_record}
 use Rattle.ddf_rewrite.specs.Changing.{CanChange, HasRoomFor}
 use Rattle.ddf_rewrite.specs.Copies.{changed_copy, changed_holdings, own_record}
-use Rattle.ddf_rewrite.specs.Disks.{block_size_of, changed_disks, disk_on, is_global, kind_after, kind_in, member_entry}
+use Rattle.ddf_rewrite.specs.Disks.{block_size_of, changed_disks, disk_on, disks_for, is_global, kind_after, kind_in, member_entry}
 use Rattle.ddf_rewrite.specs.Elements.{contains, has_places, is_spare_for, spares_after}
 use Rattle.ddf_rewrite.specs.Readable.{HasOwnNames, HasSpares}
 use Rattle.ddf_rewrite.specs.Wanted.{Wanted, all_wanted}
@@ -33,6 +33,7 @@ use Rattle.ddf_rewrite.proofs.Differences.{not_false}
 use Rattle.ddf_rewrite.proofs.Given.{not_wanted}
 use Rattle.ddf_rewrite.proofs.Changed.{changed_apart, record_found, none_found, disks_are, arrays_are, changed_shows, changed_noted, changed_holds}
 use Rattle.ddf_rewrite.proofs.Made.{made_has_notes}
+use Rattle.ddf_rewrite.proofs.Filled.{filled_spares}
 use Rattle.ddf_rewrite.proofs.Flags.{kind_global}
 use Rattle.ddf_rewrite.proofs.SpareLists.{spares_tell, base_spares, record_spares}
 use Rattle.ddf_rewrite.proofs.AllWanted.{is_wanted}
@@ -179,7 +180,7 @@ spare_given old leaders config timestamp can k member at =
 -- The copy that a change gives a disk shows the configuration fully.
 pub changed_fully : (old : DiskCopy) (leaders : Before) (config : Configuration) (timestamp : ℕ) → CanChange old leaders config timestamp
     → shows_fully config (view_of (changed_copy old leaders config timestamp)) ≡ true
-unfolding shows_fully changed_disks
+unfolding shows_fully changed_disks disks_for
 changed_fully old leaders config timestamp can =
     let view = view_of (changed_copy old leaders config timestamp) in
     let shown = changed_shows old leaders config timestamp can.names can.rebuilt can.room in
@@ -188,6 +189,7 @@ changed_fully old leaders config timestamp can =
     let disks = disks_are old leaders config timestamp can.room in
     let spares : pointwise (gives_spare view) view.disks config.members ≡ true =
     ap (λ (list : List DiskEntry). pointwise (gives_spare view) list config.members) disks
+    ∙ filled_spares old.header.revision true (all_wanted config) view (changed_disks config leaders.disks old.header.revision (view_of old).disks) config.members
     ∙ match_made (gives_spare view) (λ entry. disk_on (view_of old).disks (block_size_of old.header.revision) (member_entry (all_wanted config) leaders.disks entry)) config.members
     (λ k member at. spare_given old leaders config timestamp can k member at) in
     let a = shows config view in

@@ -4,10 +4,10 @@ use Rattle.std.proofs.lemmas.Bool.{and_parts, eqb-true, eq-eqb}
 use Rattle.std.specs.Str.{bytes_eq}
 use Rattle.ddf_header.specs.declared.geometry.Geometry.{Geometry}
 use Rattle.ddf_header.specs.declared.kind.Revision.{Revision}
-use Rattle.ddf_configs.specs.declared.place.Place.{Place}
-use Rattle.ddf_configs.specs.ElementValue.{ElementValue}
+use Rattle.ddf_config_records.specs.declared.place.Place.{Place}
+use Rattle.ddf_config_records.specs.ElementValue.{ElementValue}
 use Rattle.std.specs.Cmp.Lexicographic.{pointwise}
-use Rattle.ddf_configs.specs.Building.{element_over}
+use Rattle.ddf_config_records.specs.Building.{element_over}
 use Rattle.ddf_config.specs.Configuration.{Configuration}
 use Rattle.ddf_view.specs.Differ.{same_member_place, same_record}
 use Rattle.ddf_view.specs.View.{HeldRecord}

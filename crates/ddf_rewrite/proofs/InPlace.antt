@@ -4,7 +4,7 @@ use Rattle.std.proofs.lemmas.Bool.{or_parts, eqb-true, eq-eqb, ne_eqb, false≢t
 use Rattle.std.specs.Prelude.{slice_get, filter_map, find, option_map}
 use Rattle.std.specs.Option.{option_map_or}
 use Rattle.std.specs.List.{AllByRecursion, IsDistinct, enumerate_from, list_any, cons_option}
-use Rattle.ddf_configs.specs.declared.slot.RecordSlot.{RecordSlot}
+use Rattle.ddf_config_records.specs.declared.slot.RecordSlot.{RecordSlot}
 use Rattle.ddf_view.proofs.Finds.{place_within}
 use Rattle.ddf_rewrite.specs.Placement.{free_slots, is_item, is_others, item_at, slotted_items, slot_of, stays_in, take_slots}
 use Rattle.ddf_rewrite.specs.declared.item.Item.TheVariants as kinds

@@ -9,8 +9,8 @@ use Rattle.ddf_header.specs.Geometry.{IsSound, is_member_maximum, record_sectors
 use Rattle.ddf_header.proofs.Sound.{sound}
 use Rattle.ddf_tables.specs.declared.disks.DiskEntry.{DiskEntry}
 use Rattle.ddf_tables.specs.Disks.{is_no_disk}
-use Rattle.ddf_configs.specs.ElementValue.{ElementValue}
-use Rattle.ddf_configs.specs.Elements.{element_fields, element_fault, CanBeElement}
+use Rattle.ddf_config_records.specs.ElementValue.{ElementValue}
+use Rattle.ddf_config_records.specs.Elements.{element_fields, element_fault, CanBeElement}
 use Rattle.ddf_copy.specs.declared.copy.DiskCopy.{DiskCopy}
 use Rattle.ddf_copy.specs.Written.{CanBeCopy}
 use Rattle.ddf_view.specs.Reading.{elements_in}

@@ -5,7 +5,7 @@ use Rattle.std.specs.Prelude.{filter_map, nat_eq}
 use Rattle.std.specs.Str.{bytes_eq}
 use Rattle.std.specs.List.{AllByRecursion, IsDistinct, cons_option}
 use Rattle.ddf_header.specs.declared.geometry.Geometry.{Geometry}
-use Rattle.ddf_configs.specs.ElementValue.{ElementValue}
+use Rattle.ddf_config_records.specs.ElementValue.{ElementValue}
 use Rattle.ddf_copy.specs.declared.copy.DiskCopy.{DiskCopy}
 use Rattle.ddf_config.specs.Configuration.{Configuration}
 use Rattle.ddf_view.specs.View.{HeldRecord, find_held, is_element}

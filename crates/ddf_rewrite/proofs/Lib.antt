@@ -1,5 +1,6 @@
 pub mod Lists
 pub mod Flags
+pub mod Filled
 pub mod Plans
 pub mod Placing
 pub mod InPlace
@@ -39,3 +40,4 @@ pub mod Stays
 pub mod Altered
 pub mod Premises
 pub mod Taking
+pub mod Told

@@ -10,13 +10,13 @@ use Rattle.std.specs.Str.{bytes_eq}
 use Rattle.ddf_seal.specs.Unread.{Fits}
 use Rattle.ddf_header.specs.declared.geometry.Geometry.{Geometry}
 use Rattle.ddf_header.specs.Geometry.{IsSound, record_sectors}
-use Rattle.ddf_configs.specs.declared.notes.SlotNote.{SlotNote}
-use Rattle.ddf_configs.specs.Bits.{is_among, IsRising}
-use Rattle.ddf_configs.specs.Elements.{record_size}
-use Rattle.ddf_configs.specs.NoteRecords.{note_size, note_place, note_fields, all_note_fields, head_fields, filling, CanBeNotes}
-use Rattle.ddf_configs.proofs.Bits.{length-bits_of}
-use Rattle.ddf_configs.proofs.NoteRecords.{all-append}
-use Rattle.ddf_configs.proofs.Building.{record_small}
+use Rattle.ddf_config_records.specs.declared.notes.SlotNote.{SlotNote}
+use Rattle.ddf_config_records.specs.Bits.{is_among, IsRising}
+use Rattle.ddf_config_records.specs.Elements.{record_size}
+use Rattle.ddf_config_records.specs.NoteRecords.{note_size, note_place, note_fields, all_note_fields, head_fields, filling, CanBeNotes}
+use Rattle.ddf_config_records.proofs.Bits.{length-bits_of}
+use Rattle.ddf_config_records.proofs.NoteRecords.{all-append}
+use Rattle.ddf_config_records.proofs.Building.{record_small}
 use Rattle.ddf_config.specs.Configuration.{Configuration}
 use Rattle.ddf_config.specs.ElementValue.{ElementValue as ElementPlan}
 use Rattle.ddf_config.specs.declared.element.Position.{Position}

@@ -6,10 +6,10 @@ use Rattle.std.specs.Prelude.{slice_get, find, is_some, position, nat_lt, ◌⊎
 use Rattle.std.specs.Option.{option_or, option_map_or}
 use Rattle.std.specs.List.{AllByRecursion, IsDistinct, position_or_len}
 use Rattle.std.specs.Str.{bytes_eq}
-use Rattle.ddf_configs.specs.declared.slot.RecordSlot.{RecordSlot}
-use Rattle.ddf_configs.specs.declared.slot.RecordSlot.TheVariants as slots
-use Rattle.ddf_configs.specs.ElementValue.{ElementValue}
-use Rattle.ddf_configs.specs.Slots.{valid_of}
+use Rattle.ddf_config_records.specs.declared.slot.RecordSlot.{RecordSlot}
+use Rattle.ddf_config_records.specs.declared.slot.RecordSlot.TheVariants as slots
+use Rattle.ddf_config_records.specs.ElementValue.{ElementValue}
+use Rattle.ddf_config_records.specs.Slots.{valid_of}
 use Rattle.ddf_view.specs.View.{element_of, spare_of}
 use Rattle.ddf_view.proofs.Finds.{when_true, when_false, place_there}
 use Rattle.ddf_view.proofs.Tests.{same_bytes, bytes_same, all_map}

@@ -6,12 +6,12 @@ use Rattle.std.specs.Prelude.{slice_get}
 use Rattle.ddf_header.specs.declared.geometry.Geometry.{Geometry}
 use Rattle.ddf_header.specs.Geometry.{IsSound}
 use Rattle.ddf_header.proofs.Sound.{sound}
-use Rattle.ddf_configs.specs.declared.spare.SpareRecord.{SpareRecord}
-use Rattle.ddf_configs.specs.Elements.{CanBeElement, HasRoom}
-use Rattle.ddf_configs.specs.Building.{spare_entries}
-use Rattle.ddf_configs.specs.Spares.{CanBeSpare}
-use Rattle.ddf_configs.proofs.SpareRecords.{count_fits}
-use Rattle.ddf_configs.proofs.Sound.{room_from_sound}
+use Rattle.ddf_config_records.specs.declared.spare.SpareRecord.{SpareRecord}
+use Rattle.ddf_config_records.specs.Elements.{CanBeElement, HasRoom}
+use Rattle.ddf_config_records.specs.Building.{spare_entries}
+use Rattle.ddf_config_records.specs.Spares.{CanBeSpare}
+use Rattle.ddf_config_records.proofs.SpareRecords.{count_fits}
+use Rattle.ddf_config_records.proofs.Sound.{room_from_sound}
 use Rattle.ddf_config.specs.Configuration.{Configuration}
 use Rattle.ddf_copy.specs.declared.copy.DiskCopy.{DiskCopy}
 use Rattle.ddf_copy.specs.Written.{CanBeCopy}

@@ -13,16 +13,16 @@ use Rattle.ddf_header.specs.Geometry.{IsSound}
 use Rattle.ddf_bytes.specs.Choices.{first_of, when}
 use Rattle.ddf_tables.specs.declared.disks.DiskEntry.{DiskEntry}
 use Rattle.ddf_tables.specs.declared.arrays.ArrayEntry.{ArrayEntry}
-use Rattle.ddf_configs.specs.ElementValue.{ElementValue}
-use Rattle.ddf_configs.specs.declared.place.Place.{Place}
-use Rattle.ddf_configs.specs.declared.notes.SlotNote.{SlotNote}
-use Rattle.ddf_configs.specs.declared.notes.Notes.{Notes}
-use Rattle.ddf_configs.specs.declared.slot.RecordSlot.{RecordSlot}
-use Rattle.ddf_configs.specs.declared.slot.RecordSlot.TheVariants as slots
-use Rattle.ddf_configs.specs.Elements.{record_size, has_no_strip, CanBeElement}
-use Rattle.ddf_configs.specs.NoteRecords.{note_size, head_fields, filling, all_note_fields, CanBeNotes}
-use Rattle.ddf_configs.specs.Slots.{are_valid, valid_of, valid_notes, lists, CanBeSlot}
-use Rattle.ddf_configs.proofs.NoteRecords.{all-split}
+use Rattle.ddf_config_records.specs.ElementValue.{ElementValue}
+use Rattle.ddf_config_records.specs.declared.place.Place.{Place}
+use Rattle.ddf_config_records.specs.declared.notes.SlotNote.{SlotNote}
+use Rattle.ddf_config_records.specs.declared.notes.Notes.{Notes}
+use Rattle.ddf_config_records.specs.declared.slot.RecordSlot.{RecordSlot}
+use Rattle.ddf_config_records.specs.declared.slot.RecordSlot.TheVariants as slots
+use Rattle.ddf_config_records.specs.Elements.{record_size, has_no_strip, CanBeElement}
+use Rattle.ddf_config_records.specs.NoteRecords.{note_size, head_fields, filling, all_note_fields, CanBeNotes}
+use Rattle.ddf_config_records.specs.Slots.{are_valid, valid_of, valid_notes, lists, CanBeSlot}
+use Rattle.ddf_config_records.proofs.NoteRecords.{all-split}
 use Rattle.ddf_copy.specs.declared.copy.DiskCopy.{DiskCopy}
 use Rattle.ddf_copy.specs.Written.{CanBeCopy}
 use Rattle.ddf_config.specs.ElementValue.{ElementValue as ElementPlan}

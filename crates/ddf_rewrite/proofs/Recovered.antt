@@ -12,10 +12,10 @@ use Rattle.std.specs.Cmp.Lexicographic.{pointwise}
 use Rattle.ddf_bytes.specs.Bytes.{number_at}
 use Rattle.ddf_tables.specs.declared.disks.DiskEntry.{DiskEntry}
 use Rattle.ddf_tables.specs.declared.arrays.ArrayEntry.{ArrayEntry}
-use Rattle.ddf_configs.specs.ElementValue.{ElementValue}
-use Rattle.ddf_configs.specs.declared.notes.SlotNote.{SlotNote}
-use Rattle.ddf_configs.specs.declared.place.Place.{Place}
-use Rattle.ddf_configs.proofs.Ranges.{first_found, none_first}
+use Rattle.ddf_config_records.specs.ElementValue.{ElementValue}
+use Rattle.ddf_config_records.specs.declared.notes.SlotNote.{SlotNote}
+use Rattle.ddf_config_records.specs.declared.place.Place.{Place}
+use Rattle.ddf_config_records.proofs.Ranges.{first_found, none_first}
 use Rattle.ddf_copy.specs.declared.copy.DiskCopy.{DiskCopy}
 use Rattle.ddf_config.specs.Configuration.{Configuration}
 use Rattle.ddf_config.specs.ElementValue.{ElementValue as ElementPlan}
@@ -32,7 +32,7 @@ use Rattle.ddf_view.proofs.Tests.{bytes_same}
 use Rattle.ddf_rewrite.specs.Arrays.{array_on, arrays_after}
 use Rattle.ddf_rewrite.specs.Before.{before, leading_record}
 use Rattle.ddf_rewrite.specs.Copies.{own_record, recovered_copy, recovered_holding, recovered_holdings}
-use Rattle.ddf_rewrite.specs.Disks.{disk_on, recovered_disks}
+use Rattle.ddf_rewrite.specs.Disks.{disk_on, disks_for, recovered_disks}
 use Rattle.ddf_rewrite.specs.Elements.{contains, place_in, recovered_record}
 use Rattle.ddf_rewrite.specs.Hold.{CanBeRecovered}
 use Rattle.ddf_rewrite.specs.Notes.{Holding}
@@ -40,6 +40,7 @@ use Rattle.ddf_rewrite.specs.Readable.{OneRebuilt}
 use Rattle.ddf_rewrite.specs.Wanted.{Wanted, all_wanted}
 use Rattle.ddf_rewrite.proofs.After.{note_if}
 use Rattle.ddf_rewrite.proofs.AllWanted.{filter_map_get, get_filter_map, is_wanted, wanted_one}
+use Rattle.ddf_rewrite.proofs.Filled.{filled_spares}
 use Rattle.ddf_rewrite.proofs.Fully.{spare_again}
 use Rattle.ddf_rewrite.proofs.Given.{GivesAll, HoldsEach, elements_given, elements_held, not_wanted, plan_again}
 use Rattle.ddf_rewrite.proofs.Holdings.{AreSame}
@@ -431,7 +432,7 @@ module _ (old : DiskCopy) (group : List ℕ) (sequence : ℕ) (views : List View
   recovered_arrays = copy_arrays old (before views).noted config timestamp disks (recovered_holdings old (before views) config) can.arrays_fit
 
   -- the entries of the disks
-  pub recovered_disks_are : view.disks ≡ disks
+  pub recovered_disks_are : view.disks ≡ disks_for old.header.revision (before views).noted config disks
   unfolding recovered_copy
   recovered_disks_are = copy_disks old (before views).noted config timestamp disks (recovered_holdings old (before views) config) recovered_few
 
@@ -456,11 +457,12 @@ module _ (old : DiskCopy) (group : List ℕ) (sequence : ℕ) (views : List View
 
   -- Where a leader has valid notes it shows the configuration fully.
   pub recovered_fully : (before views).noted ≡ true → shows_fully config view ≡ true
-  unfolding shows_fully recovered_disks read
+  unfolding shows_fully recovered_disks disks_for read
   recovered_fully noted =
       let held = elements_held config view.elements (recovered_holds noted) in
       let spares : pointwise (gives_spare view) view.disks config.members ≡ true =
       ap (λ (list : List DiskEntry). pointwise (gives_spare view) list config.members) recovered_disks_are
+      ∙ filled_spares old.header.revision (before views).noted (all_wanted config) view disks config.members
       ∙ both_made (gives_spare view) (λ disk. disk_on (view_of old).disks (number_at w16 disk.rest 58) disk) (member_entry_in views) (spare_led noted) (disks_in views) in
       let a = shows config view in
       let b = view.noted in

@@ -26,9 +26,10 @@ use Rattle.ddf_view.specs.View.{array_of, disk_of, find_disk}
 use Rattle.ddf_view.proofs.Finds.{find_has}
 use Rattle.ddf_view.proofs.Tests.{all_map}
 use Rattle.ddf_rewrite.specs.Arrays.{array_entry, array_on, array_rows_after, arrays_after, find_array}
-use Rattle.ddf_rewrite.specs.Disks.{block_size_of, changed_disks, disk_on, disk_rows_after, kind_in, member_entry, recovered_disks, rows_after, state_in}
+use Rattle.ddf_rewrite.specs.Disks.{block_size_of, changed_disks, disk_on, disk_rows_after, disks_for, filled, kind_in, member_entry, recovered_disks, rows_after, state_in}
 use Rattle.ddf_rewrite.specs.Hold.{FitsArray, FitsMember}
 use Rattle.ddf_rewrite.specs.Wanted.{Wanted, all_wanted}
+use Rattle.ddf_rewrite.proofs.Filled.{filled_references, filled_rows}
 use Rattle.ddf_rewrite.proofs.Flags.{kind_fits, state_fits}
 use Rattle.ddf_rewrite.proofs.Tables.{disks_read, arrays_read}
 use Rattle.ddf_rewrite.proofs.Lists.{all_append, all_replicate, all_mapped}
@@ -100,6 +101,19 @@ own_disks_good [] good = tt
 own_disks_good (disk_rows.Entry entry ∷ rows) good = (good.0, own_disks_good rows good.1)
 own_disks_good (disk_rows.Unused whole ∷ rows) good = own_disks_good rows good.1
 
+-- So can the table of a disk of a revision.
+filled_can : (max : ℕ) (table : TableValue DiskRow) (revision : Revision) (noted : Bool) (config : Configuration) (entries : List DiskEntry) → IsDiskTable max table → AllByRecursion IsDiskEntry entries → length entries ≤ length table.rows
+    → AllByRecursion (λ reference. is_no_disk reference ≡ false) (map (λ (disk : DiskEntry). disk.reference) entries) → IsDistinct nat_eq (map (λ (disk : DiskEntry). disk.reference) entries)
+    → IsDiskTable max (replaced_table is_used_disk table (disk_rows_after table.rows (disks_for revision noted config entries)))
+unfolding disks_for
+filled_can max table revision noted config entries can good few named apart =
+    let make = filled revision noted (all_wanted config) in
+    let count = length-map entries make in
+    let same = filled_references revision noted (all_wanted config) entries in
+    disks_can max table (map make entries) can (filled_rows revision noted (all_wanted config) entries good) (omega (arith, count, few))
+    (subst (λ (l : List ℕ). AllByRecursion (λ reference. is_no_disk reference ≡ false) l) (sym same) named)
+    (subst (λ (l : List ℕ). IsDistinct nat_eq l) (sym same) apart)
+
 same_references : (all : List Wanted) (disks own : List DiskEntry) (block_size : ℕ) (members : List (ℕ × Member)) → map (λ (disk : DiskEntry). disk.reference) (map (λ entry. disk_on own block_size (member_entry all disks entry)) members) ≡ map (λ (entry : ℕ × Member). entry.0) members
 same_references all disks own block_size [] = refl
 same_references all disks own block_size (entry ∷ members) = ap (λ (l : List ℕ). entry.0 ∷ l) (same_references all disks own block_size members)
@@ -113,14 +127,14 @@ changed_rows all disks own block_size members good fit =
 -- The disk table after a change can be written.
 pub changed_disks_can : (max : ℕ) (table : TableValue DiskRow) (config : Configuration) (disks : List DiskEntry) (revision : Revision) → IsDiskTable max table → AllByRecursion FitsMember config.members → length config.members ≤ length table.rows
     → AllByRecursion (λ entry. is_no_disk entry.0 ≡ false) config.members → IsDistinct nat_eq (map (λ (entry : ℕ × Member). entry.0) config.members)
-    → IsDiskTable max (replaced_table is_used_disk table (disk_rows_after table.rows (changed_disks config disks revision (filter_map disk_of table.rows))))
+    → IsDiskTable max (replaced_table is_used_disk table (disk_rows_after table.rows (disks_for revision true config (changed_disks config disks revision (filter_map disk_of table.rows)))))
 unfolding changed_disks
 changed_disks_can max table config disks revision can fit few named apart =
     let own = filter_map disk_of table.rows in
     let make = λ (entry : ℕ × Member). disk_on own (block_size_of revision) (member_entry (all_wanted config) disks entry) in
     let count = length-map config.members make in
     let same = same_references (all_wanted config) disks own (block_size_of revision) config.members in
-    disks_can max table (map make config.members) can (changed_rows (all_wanted config) disks own (block_size_of revision) config.members (own_disks_good table.rows can.rows_good) fit) (omega (arith, count, few))
+    filled_can max table revision true config (map make config.members) can (changed_rows (all_wanted config) disks own (block_size_of revision) config.members (own_disks_good table.rows can.rows_good) fit) (omega (arith, count, few))
     (subst (λ (l : List ℕ). AllByRecursion (λ reference. is_no_disk reference ≡ false) l) (sym same) (all_mapped (λ reference. is_no_disk reference ≡ false) (λ (entry : ℕ × Member). entry.0) config.members named))
     (subst (λ (l : List ℕ). IsDistinct nat_eq l) (sym same) apart)
 
@@ -134,17 +148,17 @@ recovered_references own [] = refl
 recovered_references own (disk ∷ disks) = ap (λ (l : List ℕ). disk.reference ∷ l) (recovered_references own disks)
 
 -- The disk table after a recovery can be written.
-pub recovered_disks_can : (max : ℕ) (table : TableValue DiskRow) (disks : List DiskEntry) → IsDiskTable max table → AllByRecursion IsDiskEntry disks → length disks ≤ length table.rows
+pub recovered_disks_can : (max : ℕ) (table : TableValue DiskRow) (revision : Revision) (noted : Bool) (config : Configuration) (disks : List DiskEntry) → IsDiskTable max table → AllByRecursion IsDiskEntry disks → length disks ≤ length table.rows
     → AllByRecursion (λ disk. is_no_disk disk.reference ≡ false) disks → IsDistinct nat_eq (map (λ (disk : DiskEntry). disk.reference) disks)
-    → IsDiskTable max (replaced_table is_used_disk table (disk_rows_after table.rows (recovered_disks disks (filter_map disk_of table.rows))))
+    → IsDiskTable max (replaced_table is_used_disk table (disk_rows_after table.rows (disks_for revision noted config (recovered_disks disks (filter_map disk_of table.rows)))))
 unfolding recovered_disks
-recovered_disks_can max table disks can good few named apart =
+recovered_disks_can max table revision noted config disks can good few named apart =
     let own = filter_map disk_of table.rows in
     let make = λ (disk : DiskEntry). disk_on own (number_at w16 disk.rest 58) disk in
     let count = length-map disks make in
     let same = recovered_references own disks in
     let owns = own_disks_good table.rows can.rows_good in
-    disks_can max table (map make disks) can
+    filled_can max table revision noted config (map make disks) can
     (all_mapped IsDiskEntry make disks (all_map IsDiskEntry (λ disk. IsDiskEntry (make disk)) (λ disk is. recovered_row own disk owns is) disks good)) (omega (arith, count, few))
     (subst (λ (l : List ℕ). AllByRecursion (λ reference. is_no_disk reference ≡ false) l) (sym same) (all_mapped (λ reference. is_no_disk reference ≡ false) (λ (disk : DiskEntry). disk.reference) disks named))
     (subst (λ (l : List ℕ). IsDistinct nat_eq l) (sym same) apart)

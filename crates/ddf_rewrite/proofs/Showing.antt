@@ -14,14 +14,19 @@ use Rattle.ddf_view.specs.View.{view_of}
 use Rattle.ddf_view.proofs.Tests.{bytes_same}
 use Rattle.ddf_rewrite.specs.Arrays.{array_on, arrays_after}
 use Rattle.ddf_rewrite.specs.Copies.{copy_after}
+use Rattle.ddf_rewrite.specs.Disks.{disks_for}
 use Rattle.ddf_rewrite.specs.Notes.{Holding}
+use Rattle.ddf_rewrite.specs.Wanted.{all_wanted}
+use Rattle.ddf_rewrite.proofs.Filled.{filled_count, filled_gives}
 use Rattle.ddf_rewrite.proofs.Tables.{arrays_given, arrays_read, disks_read}
 
 module _ (old : DiskCopy) (noted : Bool) (config : Configuration) (timestamp : ℕ) (disks : List DiskEntry) (holdings : List Holding) where
   -- the entries of the disks
-  pub copy_disks : length disks ≤ length old.disks.rows → (view_of (copy_after old noted config timestamp disks holdings)).disks ≡ disks
+  pub copy_disks : length disks ≤ length old.disks.rows → (view_of (copy_after old noted config timestamp disks holdings)).disks ≡ disks_for old.header.revision noted config disks
   unfolding view_of
-  copy_disks few = disks_read old.disks.rows disks few
+  copy_disks few =
+      let count = filled_count old.header.revision noted config disks in
+      disks_read old.disks.rows (disks_for old.header.revision noted config disks) (omega (arith, count, few))
 
   -- the entries of the arrays
   pub copy_arrays : length config.arrays ≤ length old.arrays.rows → (view_of (copy_after old noted config timestamp disks holdings)).arrays ≡ arrays_after config (view_of old).arrays
@@ -36,12 +41,13 @@ module _ (old : DiskCopy) (noted : Bool) (config : Configuration) (timestamp : �
   -- It shows the configuration.
   pub copy_shows : length disks ≤ length old.disks.rows → length config.arrays ≤ length old.arrays.rows → pointwise gives_member disks config.members ≡ true
       → list_all (gives_elements (view_of (copy_after old noted config timestamp disks holdings)).elements) config.arrays ≡ true → shows config (view_of (copy_after old noted config timestamp disks holdings)) ≡ true
-  unfolding shows
+  unfolding shows disks_for
   copy_shows few_disks few_arrays given elements =
       let view = view_of (copy_after old noted config timestamp disks holdings) in
       let sequence : eqb view.sequence config.sequence ≡ true = eq-eqb view.sequence config.sequence copy_head.0 in
       let group : bytes_eq view.group config.group ≡ true = ap (λ (g : List ℕ). bytes_eq g config.group) copy_head.1 ∙ bytes_same config.group in
-      let members : pointwise gives_member view.disks config.members ≡ true = ap (λ (list : List DiskEntry). pointwise gives_member list config.members) (copy_disks few_disks) ∙ given in
+      let members : pointwise gives_member view.disks config.members ≡ true = ap (λ (list : List DiskEntry). pointwise gives_member list config.members) (copy_disks few_disks)
+      ∙ filled_gives old.header.revision noted (all_wanted config) disks config.members ∙ given in
       let arrays : pointwise gives_array view.arrays config.arrays ≡ true =
       ap (λ (rows : List ArrayEntry). pointwise gives_array rows config.arrays) (copy_arrays few_arrays) ∙ arrays_given config (view_of old).arrays in
       rw (sequence, group, members, arrays, elements) refl

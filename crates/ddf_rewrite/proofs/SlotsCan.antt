@@ -10,14 +10,14 @@ use Rattle.std.specs.Str.{bytes_eq}
 use Rattle.ddf_bytes.specs.Bytes.{number_at}
 use Rattle.ddf_seal.specs.Unread.{AreBytes}
 use Rattle.ddf_header.specs.declared.geometry.Geometry.{Geometry}
-use Rattle.ddf_configs.specs.declared.notes.Notes.{Notes}
-use Rattle.ddf_configs.specs.declared.spare.SpareRecord.{SpareRecord}
-use Rattle.ddf_configs.specs.declared.slot.RecordSlot.{RecordSlot}
-use Rattle.ddf_configs.specs.declared.slot.RecordSlot.TheVariants as slots
-use Rattle.ddf_configs.specs.Elements.{record_size, HasRoom, CanBeElement}
-use Rattle.ddf_configs.specs.Spares.{CanBeSpare}
-use Rattle.ddf_configs.specs.NoteRecords.{CanBeNotes}
-use Rattle.ddf_configs.specs.Slots.{is_known, is_copied, lists, valid_notes, IsUnused, CanBeSlot, CanBeSlots}
+use Rattle.ddf_config_records.specs.declared.notes.Notes.{Notes}
+use Rattle.ddf_config_records.specs.declared.spare.SpareRecord.{SpareRecord}
+use Rattle.ddf_config_records.specs.declared.slot.RecordSlot.{RecordSlot}
+use Rattle.ddf_config_records.specs.declared.slot.RecordSlot.TheVariants as slots
+use Rattle.ddf_config_records.specs.Elements.{record_size, HasRoom, CanBeElement}
+use Rattle.ddf_config_records.specs.Spares.{CanBeSpare}
+use Rattle.ddf_config_records.specs.NoteRecords.{CanBeNotes}
+use Rattle.ddf_config_records.specs.Slots.{is_known, is_copied, lists, valid_notes, IsUnused, CanBeSlot, CanBeSlots}
 use Rattle.ddf_config.specs.Configuration.{Configuration}
 use Rattle.ddf_config.specs.declared.member.SpareUse.{SpareUse}
 use Rattle.ddf_view.specs.View.{HeldRecord, first_spare, held_from, held_of}

@@ -6,7 +6,7 @@ use Rattle.std.specs.Option.{option_map_or}
 use Rattle.std.specs.List.{list_all}
 use Rattle.ddf_header.specs.declared.geometry.Geometry.{Geometry}
 use Rattle.ddf_header.specs.declared.kind.Revision.{Revision}
-use Rattle.ddf_configs.specs.ElementValue.{ElementValue}
+use Rattle.ddf_config_records.specs.ElementValue.{ElementValue}
 use Rattle.std.specs.Map.{lookup}
 use Rattle.ddf_config.specs.Configuration.{Configuration}
 use Rattle.ddf_config.specs.declared.member.Member.{Member}

@@ -10,14 +10,14 @@ use Rattle.ddf_seal.proofs.Same.{AreWithin}
 use Rattle.ddf_seal.proofs.Records.{written_outside}
 use Rattle.ddf_header.specs.declared.geometry.Geometry.{Geometry}
 use Rattle.ddf_header.specs.Geometry.{IsSound}
-use Rattle.ddf_configs.specs.declared.spare.SpareRecord.{SpareRecord}
-use Rattle.ddf_configs.specs.Elements.{record_size, HasRoom}
-use Rattle.ddf_configs.specs.Spares.{entry_fields, spare_fields, CanBeSpare}
-use Rattle.ddf_configs.specs.Building.{spare_bytes, spare_entries}
-use Rattle.ddf_configs.proofs.Spans.{within-append}
-use Rattle.ddf_configs.proofs.Spares.{entries_within, spare_head_within}
-use Rattle.ddf_configs.proofs.SpareRecords.{count_fits}
-use Rattle.ddf_configs.proofs.Building.{entries_fit, spare_over_can}
+use Rattle.ddf_config_records.specs.declared.spare.SpareRecord.{SpareRecord}
+use Rattle.ddf_config_records.specs.Elements.{record_size, HasRoom}
+use Rattle.ddf_config_records.specs.Spares.{entry_fields, spare_fields, CanBeSpare}
+use Rattle.ddf_config_records.specs.Building.{spare_bytes, spare_entries}
+use Rattle.ddf_config_records.proofs.Spans.{within-append}
+use Rattle.ddf_config_records.proofs.Spares.{entries_within, spare_head_within}
+use Rattle.ddf_config_records.proofs.SpareRecords.{count_fits}
+use Rattle.ddf_config_records.proofs.Building.{entries_fit, spare_over_can}
 use Rattle.ddf_config.specs.Configuration.{Configuration}
 use Rattle.ddf_config.specs.declared.array.Array.{Array}
 use Rattle.ddf_config.specs.declared.member.Member.{Member}

@@ -10,15 +10,15 @@ use Rattle.ddf_tables.specs.declared.disks.DiskEntry.{DiskEntry}
 use Rattle.ddf_tables.specs.Tables.{replaced_table}
 use Rattle.ddf_tables.specs.Disks.{is_used_disk, is_no_disk, IsDiskTable}
 use Rattle.ddf_tables.specs.Arrays.{is_used_array, IsArrayTable}
-use Rattle.ddf_configs.specs.Elements.{record_size, HasRoom, CanBeElement}
-use Rattle.ddf_configs.specs.Spares.{CanBeSpare}
-use Rattle.ddf_configs.specs.NoteRecords.{note_place}
-use Rattle.ddf_configs.specs.Slots.{CanBeSlots}
-use Rattle.ddf_configs.proofs.Sound.{room_from_sound}
-use Rattle.ddf_configs.proofs.Fits.{do_fit}
+use Rattle.ddf_config_records.specs.Elements.{record_size, HasRoom, CanBeElement}
+use Rattle.ddf_config_records.specs.Spares.{CanBeSpare}
+use Rattle.ddf_config_records.specs.NoteRecords.{note_place}
+use Rattle.ddf_config_records.specs.Slots.{CanBeSlots}
+use Rattle.ddf_config_records.proofs.Sound.{room_from_sound}
+use Rattle.ddf_config_records.proofs.Fits.{do_fit}
 use Rattle.ddf_copy.specs.declared.copy.DiskCopy.{DiskCopy}
 use Rattle.ddf_copy.specs.Written.{CanBeCopy}
-use Rattle.ddf_configs.specs.Building.{spare_entries}
+use Rattle.ddf_config_records.specs.Building.{spare_entries}
 use Rattle.ddf_config.specs.Configuration.{Configuration}
 use Rattle.ddf_config.specs.declared.member.Member.{Member}
 use Rattle.ddf_view.specs.View.{HeldRecord, find_held, first_spare, is_element, notes_of, view_of}
@@ -27,7 +27,7 @@ use Rattle.ddf_rewrite.specs.Arrays.{array_rows_after, arrays_after}
 use Rattle.ddf_rewrite.specs.Before.{Before, is_listed, leading_record}
 use Rattle.ddf_rewrite.specs.Changing.{CanChange}
 use Rattle.ddf_rewrite.specs.Copies.{changed_copy, changed_holding, changed_holdings, copy_after, items_of, own_record, slotted_on, recovered_copy, recovered_holding, recovered_holdings, slots_after}
-use Rattle.ddf_rewrite.specs.Disks.{changed_disks, disk_rows_after, recovered_disks}
+use Rattle.ddf_rewrite.specs.Disks.{changed_disks, disk_rows_after, disks_for, recovered_disks}
 use Rattle.ddf_rewrite.specs.Hold.{AreHeld, CanBeRecovered, CanHold, CanWrite, FitsPlan}
 use Rattle.ddf_rewrite.specs.Notes.{Holding, notes_after}
 use Rattle.ddf_rewrite.specs.Readable.{HasSpares}
@@ -62,7 +62,7 @@ count_of old noted config timestamp holdings =
 
 -- The header, the controller, the disk data and the log stay but for the group and the sequence.
 copy_can : (old : DiskCopy) (noted : Bool) (config : Configuration) (timestamp : ℕ) (disks : List DiskEntry) (holdings : List Holding) → CanBeCopy old → length config.group ≡ 24 → config.sequence < 2 ^ 32
-    → IsDiskTable old.header.geometry.max_disks (replaced_table is_used_disk old.disks (disk_rows_after old.disks.rows disks))
+    → IsDiskTable old.header.geometry.max_disks (replaced_table is_used_disk old.disks (disk_rows_after old.disks.rows (disks_for old.header.revision noted config disks)))
     → IsArrayTable old.header.geometry.max_arrays (replaced_table is_used_array old.arrays (array_rows_after old.arrays.rows (arrays_after config (view_of old).arrays)))
     → CanBeSlots old.header.geometry config.group config.sequence (slots_after old noted config timestamp holdings)
     → CanBeCopy (copy_after old noted config timestamp disks holdings)
@@ -213,6 +213,6 @@ pub recovered_copy_can : (old : DiskCopy) (leaders : Before) (config : Configura
 unfolding recovered_copy view_of
 recovered_copy_can old leaders config timestamp is can =
     copy_can old leaders.noted config timestamp (recovered_disks leaders.disks (view_of old).disks) (recovered_holdings old leaders config) is can.config_can.group can.config_can.sequence
-    (recovered_disks_can old.header.geometry.max_disks old.disks leaders.disks is.disks_can can.disks_can.can can.disks_fit can.disks_can.named can.disks_can.apart)
+    (recovered_disks_can old.header.geometry.max_disks old.disks old.header.revision leaders.noted config leaders.disks is.disks_can can.disks_can.can can.disks_fit can.disks_can.named can.disks_can.apart)
     (arrays_can old.header.geometry.max_arrays old.arrays config is.arrays_can can.config_can.arrays can.arrays_fit can.config_can.guids)
     (recovered_slots old leaders config timestamp is can)

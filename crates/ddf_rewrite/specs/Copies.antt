@@ -8,11 +8,11 @@ use Rattle.ddf_tables.specs.declared.disks.DiskEntry.{DiskEntry}
 use Rattle.ddf_tables.specs.Disks.{is_used_disk}
 use Rattle.ddf_tables.specs.Arrays.{is_used_array}
 use Rattle.ddf_tables.specs.Tables.{replaced_table}
-use Rattle.ddf_configs.specs.declared.notes.Notes.{Notes}
-use Rattle.ddf_configs.specs.declared.spare.SpareRecord.{SpareRecord}
-use Rattle.ddf_configs.specs.declared.slot.RecordSlot.{RecordSlot}
-use Rattle.ddf_configs.specs.declared.slot.RecordSlot.TheVariants as slots
-use Rattle.ddf_configs.specs.Elements.{record_size}
+use Rattle.ddf_config_records.specs.declared.notes.Notes.{Notes}
+use Rattle.ddf_config_records.specs.declared.spare.SpareRecord.{SpareRecord}
+use Rattle.ddf_config_records.specs.declared.slot.RecordSlot.{RecordSlot}
+use Rattle.ddf_config_records.specs.declared.slot.RecordSlot.TheVariants as slots
+use Rattle.ddf_config_records.specs.Elements.{record_size}
 use Rattle.ddf_config.specs.declared.member.SpareUse.{SpareUse}
 use Rattle.ddf_config.specs.Members.{is_spare}
 use Rattle.ddf_config.specs.Configuration.{Configuration}
@@ -23,7 +23,7 @@ use Rattle.ddf_rewrite.specs.declared.item.Item.TheVariants as items
 use Rattle.ddf_rewrite.specs.declared.item.Slotted.{Slotted}
 use Rattle.ddf_rewrite.specs.Before.{Before, leading_record}
 use Rattle.ddf_rewrite.specs.Wanted.{Wanted, all_wanted, refers_to}
-use Rattle.ddf_rewrite.specs.Disks.{changed_disks, recovered_disks, disk_rows_after}
+use Rattle.ddf_rewrite.specs.Disks.{changed_disks, disks_for, recovered_disks, disk_rows_after}
 use Rattle.ddf_rewrite.specs.Arrays.{arrays_after, array_rows_after}
 use Rattle.ddf_rewrite.specs.Elements.{changed_record, recovered_record}
 use Rattle.ddf_rewrite.specs.Placement.{slotted_items, item_at}
@@ -129,7 +129,7 @@ slots_after old noted config timestamp holdings =
 abbrev pub copy_after : DiskCopy → (noted : Bool) → Configuration → (timestamp : ℕ) → List DiskEntry → List Holding → DiskCopy
 copy_after old noted config timestamp disks holdings = record old {
   header = record old.header { guid = config.group; sequence = config.sequence };
-  disks = replaced_table is_used_disk old.disks (disk_rows_after old.disks.rows disks);
+  disks = replaced_table is_used_disk old.disks (disk_rows_after old.disks.rows (disks_for old.header.revision noted config disks));
   arrays = replaced_table is_used_array old.arrays (array_rows_after old.arrays.rows (arrays_after config (view_of old).arrays));
   slots = slots_after old noted config timestamp holdings;
 }

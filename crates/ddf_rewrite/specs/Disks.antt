@@ -18,7 +18,7 @@ use Rattle.ddf_config.specs.declared.member.SpareUse.TheVariants as uses
 use Rattle.ddf_config.specs.declared.member.Member.{Member}
 use Rattle.ddf_config.specs.declared.element.Position.{Position}
 use Rattle.ddf_config.specs.Configuration.{Configuration}
-use Rattle.ddf_view.specs.View.{find_disk}
+use Rattle.ddf_view.specs.View.{find_disk, has_bit}
 use Rattle.ddf_rewrite.specs.Wanted.{Wanted, all_wanted, refers_to}
 
 -- ---- rows
@@ -106,6 +106,26 @@ changed_disks config leading revision own = map (λ entry. disk_on own (block_si
 -- Each named field and the block size are those that the lowest leader records.
 unfoldable pub recovered_disks : (leading own : List DiskEntry) → List DiskEntry
 recovered_disks leading own = map (λ disk. disk_on own (number_at w16 disk.rest 58) disk) leading
+
+-- ---- what Linux is told
+
+-- the revision of the disks that Linux reads
+abbrev pub is_linux : Revision → Bool
+is_linux R100 = false
+is_linux R120 = true
+is_linux R200 = false
+
+-- A disk is being filled: it is being rebuilt, and the notes call a position on it out of sync. Linux takes it for a disk with room, and
+-- fills it at another place, unless its type has bit 3. Of a disk that is lost the state says no such thing.
+abbrev pub is_filled : Revision → (noted : Bool) → List Wanted → DiskEntry → Bool
+is_filled revision noted all disk = has_bit disk.state.0 2 && is_linux revision && noted && is_behind all disk.reference
+
+abbrev pub filled : Revision → (noted : Bool) → List Wanted → DiskEntry → DiskEntry
+filled revision noted all disk = record disk { kind = record { 0 = with_flag (is_filled revision noted all disk) spare disk.kind.0 } }
+
+-- the entries as the table of a disk of a revision has them, where a leader has valid notes or none has
+unfoldable pub disks_for : Revision → (noted : Bool) → Configuration → List DiskEntry → List DiskEntry
+disks_for revision noted config disks = map (filled revision noted (all_wanted config)) disks
 
 -- ---- the table
 

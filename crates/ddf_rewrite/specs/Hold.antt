@@ -8,7 +8,7 @@ use Rattle.ddf_tables.specs.declared.disks.DiskEntry.{DiskEntry}
 use Rattle.ddf_tables.specs.declared.disks.DiskRow.TheVariants.{Entry}
 use Rattle.ddf_tables.specs.Disks.{IsDiskRow, is_no_disk}
 use Rattle.ddf_tables.specs.Rows.{is_unused}
-use Rattle.ddf_configs.specs.Elements.{has_no_strip, CanBeElement}
+use Rattle.ddf_config_records.specs.Elements.{has_no_strip, CanBeElement}
 use Rattle.ddf_config.specs.declared.member.Member.{Member}
 use Rattle.ddf_config.specs.declared.element.Position.{Position}
 use Rattle.ddf_config.specs.declared.array.Array.{Array}

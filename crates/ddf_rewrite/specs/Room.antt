@@ -4,9 +4,9 @@ use Rattle.std.specs.List.{list_all}
 use Rattle.std.specs.Option.{ForSome, option_map_or}
 use Rattle.ddf_bytes.specs.Choices.{first_of, when}
 use Rattle.ddf_header.specs.Geometry.{IsSound}
-use Rattle.ddf_configs.specs.Elements.{record_size}
-use Rattle.ddf_configs.specs.NoteRecords.{note_place}
-use Rattle.ddf_configs.specs.Building.{spare_entries}
+use Rattle.ddf_config_records.specs.Elements.{record_size}
+use Rattle.ddf_config_records.specs.NoteRecords.{note_place}
+use Rattle.ddf_config_records.specs.Building.{spare_entries}
 use Rattle.ddf_config.specs.declared.refusal.FullTable.{FullTable}
 use Rattle.ddf_config.specs.declared.refusal.FullTable.TheVariants as tables
 use Rattle.ddf_config.specs.Configuration.{Configuration}

@@ -4,8 +4,8 @@ use Rattle.std.specs.Map.{lookup}
 use Rattle.std.specs.Str.{bytes_eq}
 use Rattle.std.specs.Cmp.Lexicographic.{pointwise}
 use Rattle.ddf_header.specs.declared.geometry.Geometry.{Geometry}
-use Rattle.ddf_configs.specs.declared.spare.SpareRecord.{SpareRecord}
-use Rattle.ddf_configs.specs.Building.{spare_over}
+use Rattle.ddf_config_records.specs.declared.spare.SpareRecord.{SpareRecord}
+use Rattle.ddf_config_records.specs.Building.{spare_over}
 use Rattle.ddf_config.specs.declared.member.SpareUse.{SpareUse}
 use Rattle.ddf_config.specs.declared.member.SpareUse.TheVariants as uses
 use Rattle.ddf_config.specs.Configuration.{Configuration}

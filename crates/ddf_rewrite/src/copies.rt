@@ -16,7 +16,7 @@ ghost use Rattle.ddf_rewrite.specs.Changing.{CanChange};
 ghost use Rattle.ddf_rewrite.specs.Room.{CanHoldSpare, full_after_change, full_after_recovery};
 
 use crate::arrays::arrays_after;
-use crate::disks::{Sources, changed_disks, recovered_disks};
+use crate::disks::{Sources, changed_disks, disks_for, recovered_disks};
 use crate::elements::changed_record;
 use crate::holding::{Holding, holding_on};
 use crate::issue::Issue;
@@ -143,12 +143,15 @@ fn copy_after(
     issue: &Issue,
     entries: Vec<DiskEntry>,
     holdings: &[Holding],
+    all: &[Wanted],
 ) -> Result<DiskCopy, NoMemory>
-    requires { CanHoldSpare old.now issue.now.config.now }
+    requires spare { CanHoldSpare old.now issue.now.config.now }
+    requires all { all.now ≡ all_wanted issue.now.config.now }
     ensures { IfOk result (λ copy. copy ≡ copy_after old.now noted issue.now.config.now issue.now.timestamp entries.items holdings.now) }
 {
     let config = issue.config;
-    let disks = disk_table_after(alloc, &old.disks, entries)?;
+    let told = disks_for(alloc, config, all, old.header.revision, noted, &entries)?;
+    let disks = disk_table_after(alloc, &old.disks, told)?;
     let arrays = array_table_after(alloc, &old.arrays, config)?;
     let slots = slots_after(alloc, old, noted, issue, holdings)?;
     let bad = second_log(alloc, &old.bad)?;
@@ -189,7 +192,7 @@ fn changed_copy_over(
         revision: old.header.revision,
     };
     let entries = changed_disks(alloc, config, &sources)?;
-    copy_after(alloc, old, true, &issue, entries, &holdings)
+    copy_after(alloc, old, true, &issue, entries, &holdings, &all)
 }
 
 /// The copy of a disk after a change of its group (SNIA DDF 2.0; what is kept is profile), by the copy that it has and those of the
@@ -236,7 +239,15 @@ fn recovered_copy_over(
     let all = all_wanted(alloc, config)?;
     let holdings = recovered_holdings(alloc, old, leaders, &all)?;
     let entries = recovered_disks(alloc, disk_rows(leaders), old.disks.rows())?;
-    copy_after(alloc, old, are_noted(leaders), &issue, entries, &holdings)
+    copy_after(
+        alloc,
+        old,
+        are_noted(leaders),
+        &issue,
+        entries,
+        &holdings,
+        &all,
+    )
 }
 
 /// The copy of a disk that was behind, after a recovery of its group in which nothing is lost (SNIA DDF 2.0; what is kept is profile),

@@ -9,10 +9,14 @@ ghost use Rattle.ddf_rewrite.specs.Disks.{
   block_size_of,
   changed_disks,
   disk_on,
+  disks_for,
+  filled,
   has_out_on,
   is_behind,
   is_dedicated,
+  is_filled,
   is_global,
+  is_linux,
   is_out_on,
   is_referred,
   kind_after,
@@ -29,7 +33,7 @@ use ddf_bytes::{NoMemory, be16};
 use ddf_config::{Config, Member, Position, SpareUse};
 use ddf_header::Revision;
 use ddf_tables::{DiskEntry, DiskRow, DiskState, DiskType};
-use ddf_view::find_disk;
+use ddf_view::{find_disk, is_rebuilding};
 use indexmap::IndexMap;
 use std::alloc::Global;
 
@@ -255,6 +259,51 @@ pub(crate) fn recovered_disks(
         if let DiskRow::Entry(disk) = row {
             entries.push(recovered_disk(own, *disk))?;
         }
+    }
+    Ok(entries)
+}
+
+/// Whether Linux reads the disks of a revision.
+fn is_linux(revision: Revision) -> bool
+    ensures { result ≡ is_linux revision }
+{
+    matches!(revision, Revision::R120)
+}
+
+/// Whether the table of a disk of a revision tells Linux that a disk is being filled.
+fn is_filled(all: &[Wanted], revision: Revision, noted: bool, disk: &DiskEntry) -> bool
+    ensures { result ≡ is_filled revision noted all.now disk.now }
+{
+    is_rebuilding(disk.state) && is_linux(revision) && noted && is_behind(all, disk.reference)
+}
+
+/// An entry as the table of a disk of a revision has it.
+fn filled(all: &[Wanted], revision: Revision, noted: bool, disk: DiskEntry) -> DiskEntry
+    ensures { result ≡ filled revision noted all.now disk }
+{
+    let mut kind = disk.kind;
+    if is_filled(all, revision, noted, &disk) {
+        kind.insert(DiskType::SPARE);
+    }
+    DiskEntry { kind, ..disk }
+}
+
+/// Entries as the table of a disk of a revision has them, where a leader has valid notes or none has.
+#[tactic(auto, unfolding(crate::specs::Disks::disks_for))]
+pub(crate) fn disks_for(
+    alloc: Global,
+    config: &Config,
+    all: &[Wanted],
+    revision: Revision,
+    noted: bool,
+    disks: &[DiskEntry],
+) -> Result<Vec<DiskEntry>, NoMemory>
+    requires { all.now ≡ all_wanted config.now }
+    ensures { IfOk result (λ entries. entries.items ≡ disks_for revision noted config.now disks.now) }
+{
+    let mut entries = Vec::new(alloc);
+    for disk in disks {
+        entries.push(filled(all, revision, noted, *disk))?;
     }
     Ok(entries)
 }

@@ -1,8 +1,8 @@
 //! The records of elements after a change or a recovery.
 ghost use Rattle.std.specs.Prelude.{◌≡◌, ◌≤◌, ◌<◌, ◌^◌, [], length, map, None, IfOk};
 ghost use Rattle.std.specs.Option.{ForSome, option_copied};
-ghost use Rattle.ddf_configs.specs.Elements.{CanBeElement, HasRoom};
-ghost use Rattle.ddf_configs.specs.Building.{element_over};
+ghost use Rattle.ddf_config_records.specs.Elements.{CanBeElement, HasRoom};
+ghost use Rattle.ddf_config_records.specs.Building.{element_over};
 ghost use Rattle.ddf_config.specs.Shapes.{array_capacity};
 ghost use Rattle.ddf_rewrite.specs.Elements.{altered, changed_over, changed_record, created, created_over, keeping, place_in, planned, recovered_record, spares_of};
 
@@ -13,7 +13,7 @@ use crate::wanted::Wanted;
 use arrayvec::ArrayVec;
 use ddf_bytes::{NoMemory, Seq};
 use ddf_config::{Config, Position, array_capacity};
-use ddf_configs::{Element, Place};
+use ddf_config_records::{Element, Place};
 use ddf_header::{Geometry, Header, Revision};
 use ddf_view::{HeldRecord, same_record};
 use std::alloc::Global;

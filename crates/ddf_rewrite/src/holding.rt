@@ -7,7 +7,7 @@ ghost use Rattle.ddf_rewrite.specs.Copies.{element_slot, is_copied_on};
 use crate::elements::duplicate;
 use crate::wanted::Wanted;
 use ddf_bytes::{Guid, NoMemory};
-use ddf_configs::{Element, RecordSlot};
+use ddf_config_records::{Element, RecordSlot};
 use ddf_copy::DiskCopy;
 use std::alloc::Global;
 use std::marker::Model;

@@ -1,20 +1,22 @@
 //! Laws of rewritten copies: functions that do nothing, whose contracts are the laws.
-ghost use Rattle.std.specs.Prelude.{◌≡◌, ◌∷◌, ℕ, ◌<◌, ◌^◌, true, List, map, slice_get, Some, None};
+ghost use Rattle.std.specs.Prelude.{◌≡◌, ◌∷◌, ℕ, ◌<◌, ◌^◌, true, false, List, map, option_map, slice_get, Some, None};
 ghost use Rattle.std.specs.List.{AllByRecursion};
 ghost use Rattle.ddf_header.specs.declared.geometry.Geometry.{Geometry};
 ghost use Rattle.ddf_header.specs.declared.reading.Header.{Header};
 ghost use Rattle.ddf_header.specs.Geometry.{IsSound};
 ghost use Rattle.ddf_config.specs.Configuration.{Configuration};
+ghost use Rattle.ddf_config.specs.declared.member.Member.{Member};
 ghost use Rattle.ddf_config.specs.Shapes.{array_capacity};
 ghost use Rattle.ddf_copy.specs.declared.copy.DiskCopy.{DiskCopy};
 ghost use Rattle.ddf_copy.specs.Written.{CanBeCopy};
 ghost use Rattle.ddf_copy.specs.Headers.{IsUnder};
-ghost use Rattle.ddf_view.specs.View.{View, view_of};
+ghost use Rattle.ddf_view.specs.View.{View, has_bit, view_of};
 ghost use Rattle.ddf_view.specs.Readable.{HasNotes};
 ghost use Rattle.ddf_view.specs.Reading.{are_noted, read};
 ghost use Rattle.ddf_view.specs.Shows.{shows, shows_fully};
 ghost use Rattle.ddf_view.specs.Differ.{difference};
 ghost use Rattle.ddf_rewrite.specs.Before.{Before, before, leading_record};
+ghost use Rattle.ddf_rewrite.specs.Disks.{is_behind, is_linux};
 ghost use Rattle.ddf_rewrite.specs.Wanted.{Wanted, all_wanted};
 ghost use Rattle.ddf_rewrite.specs.Copies.{changed_copy, recovered_copy};
 ghost use Rattle.ddf_rewrite.specs.Readable.{HasOwnNames, AreRebuilt};
@@ -142,4 +144,17 @@ pub fn a_recovered_copy_agrees_with_the_leaders()
         → CanBeRecovered old (before (map view_of leaders)) (read group sequence (map view_of leaders)) timestamp
         → AllByRecursion CanBeCopy leaders → DoAgree (map view_of leaders) → (k : ℕ) (leader : DiskCopy) → slice_get leaders k ≡ Some leader
         → difference (view_of leader) (view_of (recovered_copy old (before (map view_of leaders)) (read group sequence (map view_of leaders)) timestamp)) ≡ None }
+{}
+
+/// The table that a change gives a disk that Linux reads tells of each current disk with a position out of sync that it is being filled:
+/// bit 3 of its type is set, which keeps Linux from it, and bit 2 of its state.
+pub fn a_changed_copy_tells_linux_which_disks_are_filled()
+    ensures kind { (old : DiskCopy) (leaders : Before) (config : Configuration) (timestamp : ℕ) (k : ℕ) (entry : ℕ × Member)
+        → CanChange old leaders config timestamp → is_linux old.header.revision ≡ true → slice_get config.members k ≡ Some entry
+        → entry.1.missing ≡ false → is_behind (all_wanted config) entry.0 ≡ true
+        → option_map (λ disk. has_bit disk.kind.0 3) (slice_get (view_of (changed_copy old leaders config timestamp)).disks k) ≡ Some true }
+    ensures state { (old : DiskCopy) (leaders : Before) (config : Configuration) (timestamp : ℕ) (k : ℕ) (entry : ℕ × Member)
+        → CanChange old leaders config timestamp → is_linux old.header.revision ≡ true → slice_get config.members k ≡ Some entry
+        → entry.1.missing ≡ false → is_behind (all_wanted config) entry.0 ≡ true
+        → option_map (λ disk. has_bit disk.state.0 2) (slice_get (view_of (changed_copy old leaders config timestamp)).disks k) ≡ Some true }
 {}

@@ -26,9 +26,9 @@ pub use item::{Item, Slotted};
 pub use laws::{
     a_change_that_has_room_can_be_written, a_changed_copy_can_be_written,
     a_changed_copy_can_be_written_in_both_places, a_changed_copy_shows_the_configuration_fully,
-    a_configuration_that_is_read_can_be_held, a_recovered_copy_agrees_with_the_leaders,
-    a_recovered_copy_can_be_written, a_recovered_copy_shows_the_configuration,
-    a_recovery_that_has_room_can_be_written, changed_copies_agree,
-    changed_copies_give_the_configuration, recovered_copies_agree,
+    a_changed_copy_tells_linux_which_disks_are_filled, a_configuration_that_is_read_can_be_held,
+    a_recovered_copy_agrees_with_the_leaders, a_recovered_copy_can_be_written,
+    a_recovered_copy_shows_the_configuration, a_recovery_that_has_room_can_be_written,
+    changed_copies_agree, changed_copies_give_the_configuration, recovered_copies_agree,
 };
 pub use room::{full_after_change, full_after_recovery};

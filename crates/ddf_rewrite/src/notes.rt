@@ -10,7 +10,7 @@ use crate::item::{Item, Slotted};
 use crate::placement::item_at;
 use ddf_bytes::{Guid, NoMemory, Seq};
 use ddf_config::{Config, ElementPlan, Position};
-use ddf_configs::{Notes, SlotNote};
+use ddf_config_records::{Notes, SlotNote};
 use std::alloc::Global;
 
 /// The position that is noted where none is being rebuilt.

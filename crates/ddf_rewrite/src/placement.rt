@@ -2,7 +2,7 @@
 ghost use Rattle.std.specs.Prelude.{◌≡◌, ◌==◌, ◌<◌, ◌++◌, List, ℕ, Option, false, Some, filter_map, map, option_map, option_to_list, position, find, is_some, length, IfOk};
 ghost use Rattle.std.specs.List.{enumerate_from, list_any};
 ghost use Rattle.std.specs.Option.{option_map_or};
-ghost use Rattle.ddf_configs.specs.declared.slot.RecordSlot.{RecordSlot};
+ghost use Rattle.ddf_config_records.specs.declared.slot.RecordSlot.{RecordSlot};
 ghost use Rattle.ddf_rewrite.specs.declared.item.Item.{Item};
 ghost use Rattle.ddf_rewrite.specs.declared.item.Slotted.{Slotted};
 ghost use Rattle.ddf_rewrite.specs.declared.item.Item.TheVariants as items;
@@ -11,7 +11,7 @@ ghost use Rattle.ddf_rewrite.specs.Placement.{free_slot, free_slots, is_notes_sl
 
 use crate::item::{Item, Slotted};
 use ddf_bytes::{Guid, NoMemory};
-use ddf_configs::{RecordSlot, valid_notes_slot};
+use ddf_config_records::{RecordSlot, valid_notes_slot};
 use ddf_view::{element_of, spare_of};
 use std::alloc::Global;
 

@@ -1,6 +1,6 @@
 //! What a disk is to hold after a recovery in which nothing is lost.
 ghost use Rattle.std.specs.Prelude.{◌≡◌, IfOk};
-ghost use Rattle.ddf_configs.specs.Elements.{CanBeElement};
+ghost use Rattle.ddf_config_records.specs.Elements.{CanBeElement};
 ghost use Rattle.ddf_config.specs.Configuration.{Configuration};
 ghost use Rattle.ddf_copy.specs.Written.{CanBeCopy};
 ghost use Rattle.ddf_view.specs.View.{HeldRecord};
@@ -15,7 +15,7 @@ use crate::holding::{Holding, holding_on};
 use crate::leading::leading_record;
 use crate::wanted::Wanted;
 use ddf_bytes::NoMemory;
-use ddf_configs::Element;
+use ddf_config_records::Element;
 use ddf_copy::DiskCopy;
 use ddf_view::View;
 use std::alloc::Global;

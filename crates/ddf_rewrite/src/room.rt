@@ -21,7 +21,7 @@ use crate::spares::spare_use;
 use crate::wanted::{Wanted, all_wanted};
 use ddf_bytes::NoMemory;
 use ddf_config::{Config, FullTable, SpareUse};
-use ddf_configs::{notes_fit, spare_entries};
+use ddf_config_records::{notes_fit, spare_entries};
 use ddf_copy::DiskCopy;
 use ddf_view::View;
 use std::alloc::Global;

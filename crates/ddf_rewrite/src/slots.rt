@@ -1,10 +1,10 @@
 //! The slots of the configuration records after a change.
 ghost use Rattle.std.specs.Prelude.{◌≡◌, ◌++◌, ◌≤◌, length, map, replicate, IfOk, OnOk};
 ghost use Rattle.std.specs.List.{enumerate_from};
-ghost use Rattle.ddf_configs.specs.declared.notes.Notes.{Notes};
-ghost use Rattle.ddf_configs.specs.declared.spare.SpareRecord.{SpareRecord};
-ghost use Rattle.ddf_configs.specs.declared.slot.RecordSlot.TheVariants as slots;
-ghost use Rattle.ddf_configs.specs.Elements.{record_size};
+ghost use Rattle.ddf_config_records.specs.declared.notes.Notes.{Notes};
+ghost use Rattle.ddf_config_records.specs.declared.spare.SpareRecord.{SpareRecord};
+ghost use Rattle.ddf_config_records.specs.declared.slot.RecordSlot.TheVariants as slots;
+ghost use Rattle.ddf_config_records.specs.Elements.{record_size};
 ghost use Rattle.ddf_rewrite.specs.declared.item.Item.TheVariants as items;
 ghost use Rattle.ddf_rewrite.specs.Room.{CanHoldSpare};
 ghost use Rattle.ddf_rewrite.specs.Copies.{element_item, items_of, left_slot, slotted_on, record_of, slot_after, slots_after, slots_with, spare_on, unused_slot};
@@ -17,7 +17,7 @@ use crate::placement::{item_at, slotted_items};
 use crate::spares::{spare_after, spare_use};
 use ddf_bytes::{Guid, NoMemory, Seq};
 use ddf_config::{Config, SpareUse};
-use ddf_configs::{Notes, RecordSlot, SpareRecord, record_size};
+use ddf_config_records::{Notes, RecordSlot, SpareRecord, record_size};
 use ddf_copy::DiskCopy;
 use ddf_header::Geometry;
 use ddf_view::first_spare;

@@ -4,13 +4,13 @@ ghost use Rattle.std.specs.Map.{lookup};
 ghost use Rattle.ddf_config.specs.declared.member.SpareUse.TheVariants as uses;
 ghost use Rattle.std.specs.Option.{ForSome, option_copied};
 ghost use Rattle.ddf_header.specs.Geometry.{IsSound};
-ghost use Rattle.ddf_configs.specs.Elements.{record_size};
-ghost use Rattle.ddf_configs.specs.Building.{spare_entries};
+ghost use Rattle.ddf_config_records.specs.Elements.{record_size};
+ghost use Rattle.ddf_config_records.specs.Building.{spare_entries};
 ghost use Rattle.ddf_rewrite.specs.Spares.{arrays_of_spare, kind_of_spare, same_spare_record, spare_after, spare_at_time, spare_use, with_time_of};
 
 use ddf_bytes::{Guid, NoMemory, Seq};
 use ddf_config::{Config, Member, SpareUse};
-use ddf_configs::SpareRecord;
+use ddf_config_records::SpareRecord;
 use ddf_header::Geometry;
 use indexmap::IndexMap;
 use std::alloc::Global;

@@ -5,6 +5,7 @@ use ddf_bytes::{MemorySink, MemorySource, Stamp};
 use ddf_command::{Command, DiskStyle, asked, slot_paths};
 use ddf_linux::Turned;
 use ddf_scenario::Program;
+use ddf_update::NewLayout;
 use std::alloc::Global;
 
 /// The call that the program `ddf` makes.
@@ -15,16 +16,16 @@ impl Program for Ddf {
         slot_paths(words).len()
     }
 
-    fn is_for_linux(&self, alloc: Global, words: &[String]) -> bool {
-        match asked(alloc, words) {
-            Ok(asked) => matches!(
-                asked.command,
-                Command::Label {
-                    style: DiskStyle::Linux,
-                    ..
-                }
-            ),
-            Err(_) => false,
+    fn made_for_linux(&self, alloc: Global, words: &[String]) -> Option<NewLayout> {
+        let Ok(asked) = asked(alloc, words) else {
+            return None;
+        };
+        match asked.command {
+            Command::Label {
+                style: DiskStyle::Linux,
+                ..
+            } => Some(NewLayout::Small),
+            _ => None,
         }
     }
 

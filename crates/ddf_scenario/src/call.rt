@@ -23,7 +23,7 @@ pub fn command<P: Program>(
 ) -> anyhow::Result<String> {
     let inner = disks.take()?;
     let words = words_over(alloc, inner.slots(), text)?;
-    let mut bay = Turned::new(inner, program.is_for_linux(alloc, words.as_slice()));
+    let mut bay = Turned::new(inner, program.made_for_linux(alloc, words.as_slice()));
     if disks.loses_anchors {
         lose_anchors(&mut bay)?;
         disks.loses_anchors = false;
@@ -57,7 +57,7 @@ pub fn command_alone<P: Program>(
     let Some(sizes) = SMALL.get(..program.disks(words.as_slice())) else {
         bail!("there are too many disks");
     };
-    let mut bay = Turned::new(new_bay(alloc, sizes, 0)?, false);
+    let mut bay = Turned::new(new_bay(alloc, sizes, 0)?, None);
     call(
         alloc,
         program,

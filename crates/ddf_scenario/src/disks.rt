@@ -140,7 +140,7 @@ impl Disks {
             bail!("nothing is written so");
         };
         let sectors = sectors_from(alloc, rest)?;
-        let mut bay = Turned::new(self.take()?, false);
+        let mut bay = Turned::new(self.take()?, None);
         write_sectors(&mut bay, count(slot)?, number(lba)?, sectors.as_slice())?;
         self.bay = Some(bay.into_inner());
         Ok(())

@@ -6,16 +6,16 @@ use Rattle.ddf_array.specs.Sound.{AreSectors}
 use Rattle.ddf_array.specs.Values.{given}
 use Rattle.ddf_array.specs.Volume.{Volume, IsVolume}
 use Rattle.ddf_cells.specs.Alike.{AreAlike, IsCell as IsCellOf}
-use Rattle.ddf_data.specs.Allowed.{Allowed, May, while_written}
+use Rattle.ddf_data_array.specs.Allowed.{Allowed, May, while_written}
 use Rattle.ddf_array.specs.Apart.{IsApart}
 use Rattle.ddf_array.specs.Within.{is_within}
-use Rattle.ddf_data.specs.Fewer.{IsFewer, LeavesParity, LeavesRows}
-use Rattle.ddf_data.specs.Kept.{IsKeptData}
-use Rattle.ddf_data.specs.Rows.{HasNoRows}
-use Rattle.ddf_data.proofs.LessRows.{kept_less}
-use Rattle.ddf_data.proofs.RowsKept.{no_rows_kept}
-use Rattle.ddf_data.proofs.Same.{kept_alike}
-use Rattle.ddf_data.proofs.Written.{old_while}
+use Rattle.ddf_data_array.specs.Fewer.{IsFewer, LeavesParity, LeavesRows}
+use Rattle.ddf_data_array.specs.Kept.{IsKeptData}
+use Rattle.ddf_data_array.specs.Rows.{HasNoRows}
+use Rattle.ddf_data_array.proofs.LessRows.{kept_less}
+use Rattle.ddf_data_array.proofs.RowsKept.{no_rows_kept}
+use Rattle.ddf_data_array.proofs.Same.{kept_alike}
+use Rattle.ddf_data_array.proofs.Written.{old_while}
 use Rattle.ddf_stage.specs.declared.desk.Desk.{Desk}
 use Rattle.ddf_stage.specs.declared.desk.StageCell.{StageCell}
 use Rattle.ddf_stage.specs.declared.desk.Staged.{Staged}

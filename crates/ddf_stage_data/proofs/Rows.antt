@@ -24,7 +24,7 @@ use Rattle.ddf_cells.proofs.DataCells.{keeps, own_cell}
 use Rattle.ddf_cells.proofs.OnCells.{block_below, moved, on_cell, one_place}
 use Rattle.ddf_cells.proofs.Redundance.{held, parity_below, two_members}
 use Rattle.ddf_write.specs.Writing.{IsTouched}
-use Rattle.ddf_data.proofs.Totals.{from_others, total, with_sum}
+use Rattle.ddf_data_array.proofs.Totals.{from_others, total, with_sum}
 use Rattle.ddf_stage_data.specs.Staged.{IsStaged, cell_with, sum_with}
 use Rattle.ddf_stage_data.proofs.Long.{long_with}
 

@@ -27,16 +27,16 @@ use Rattle.ddf_cells.proofs.Redundance.{parity_below, parity_is, two_members}
 use Rattle.ddf_write.specs.Writing.{IsTouched}
 use Rattle.ddf_write.proofs.RowsUntouched.{touched_or_not}
 use Rattle.ddf_write.proofs.WriteLeaves.{cell_stays}
-use Rattle.ddf_data.specs.Allowed.{Allowed, May, is_in, new_bytes, once_written, while_written}
-use Rattle.ddf_data.specs.Kept.{IsKeptData}
-use Rattle.ddf_data.specs.Rows.{HasNoRows}
-use Rattle.ddf_data.proofs.From.{IsFrom, cell_of, copy_to, source_from, source_of, source_at, source_to}
-use Rattle.ddf_data.proofs.Lessened.{first_item, first_of, found_below}
-use Rattle.ddf_data.proofs.Ranges.{map_in}
-use Rattle.ddf_data.proofs.RowsKept.{no_rows_kept}
-use Rattle.ddf_data.proofs.Sitting.{block_at_is, cell_deep}
-use Rattle.ddf_data.proofs.Totals.{is_data}
-use Rattle.ddf_data.proofs.Written.{in_by, in_high, in_low, new_once, new_while, old_once, old_while}
+use Rattle.ddf_data_array.specs.Allowed.{Allowed, May, is_in, new_bytes, once_written, while_written}
+use Rattle.ddf_data_array.specs.Kept.{IsKeptData}
+use Rattle.ddf_data_array.specs.Rows.{HasNoRows}
+use Rattle.ddf_data_array.proofs.From.{IsFrom, cell_of, copy_to, source_from, source_of, source_at, source_to}
+use Rattle.ddf_data_array.proofs.Lessened.{first_item, first_of, found_below}
+use Rattle.ddf_data_array.proofs.Ranges.{map_in}
+use Rattle.ddf_data_array.proofs.RowsKept.{no_rows_kept}
+use Rattle.ddf_data_array.proofs.Sitting.{block_at_is, cell_deep}
+use Rattle.ddf_data_array.proofs.Totals.{is_data}
+use Rattle.ddf_data_array.proofs.Written.{in_by, in_high, in_low, new_once, new_while, old_once, old_while}
 use Rattle.ddf_stage_data.specs.Staged.{IsStaged, cell_with, sum_with}
 use Rattle.ddf_stage_data.proofs.Rows.{data_cell, elsewhere, row_gives, same_cell, same_site, same_sum, whole_zero}
 

@@ -8,14 +8,14 @@ use Rattle.ddf_config.specs.Configuration.{Configuration}
 use Rattle.ddf_array.specs.Sound.{AreSectors}
 use Rattle.ddf_array.specs.Viewing.{view_of}
 use Rattle.ddf_array.specs.Volume.{Volume, IsVolume}
-use Rattle.ddf_data.specs.Allowed.{Allowed, while_written}
-use Rattle.ddf_keeping.specs.Grouped.{KeepsArrays, Promises}
-use Rattle.ddf_keeping.specs.Over.{AreCurrentSeats}
-use Rattle.ddf_keeping.proofs.Clearly.{lies_of, used}
+use Rattle.ddf_data_array.specs.Allowed.{Allowed, while_written}
+use Rattle.ddf_data_group.specs.Grouped.{KeepsArrays, Promises}
+use Rattle.ddf_data_group.specs.Over.{AreCurrentSeats}
+use Rattle.ddf_data_group.proofs.Clearly.{lies_of, used}
 use Rattle.ddf_history.specs.Groups.{groups}
 use Rattle.ddf_history.specs.Issued.{Past, IsSince}
-use Rattle.ddf_promise.specs.Promised.{AreAlone, with_promise}
-use Rattle.ddf_promise.proofs.Steps.{seats_are}
+use Rattle.ddf_data_history.specs.Promised.{AreAlone, with_promise}
+use Rattle.ddf_data_history.proofs.Steps.{seats_are}
 use Rattle.ddf_stage.specs.declared.desk.Desk.{Desk}
 use Rattle.ddf_stage.specs.declared.desk.StageCell.{StageCell}
 use Rattle.ddf_stage.specs.declared.desk.Staged.{Staged}

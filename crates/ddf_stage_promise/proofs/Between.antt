@@ -25,15 +25,15 @@ use Rattle.ddf_cells.proofs.Alike.{depth_below}
 use Rattle.ddf_cells.proofs.LyingApart.{lie_apart}
 use Rattle.ddf_cells.proofs.Surely.{of_place}
 use Rattle.ddf_rebuild.specs.Target.{IsInRows, IsTarget}
-use Rattle.ddf_data.specs.Allowed.{Allowed}
-use Rattle.ddf_data.specs.Kept.{IsKeptData}
-use Rattle.ddf_data.proofs.RowsKept.{no_rows, rows_still}
-use Rattle.ddf_data.proofs.Same.{kept_alike, kept_same}
-use Rattle.ddf_keeping.specs.Clear.{ChangesItsCells, IsItsCell}
-use Rattle.ddf_keeping.specs.Grouped.{KeepsArrays, Promises}
-use Rattle.ddf_keeping.specs.Over.{AreCurrentSeats, IsOver, absent_in}
-use Rattle.ddf_keeping.proofs.Clearly.{lies_of, others_same, used}
-use Rattle.ddf_keeping.proofs.Entries.{guid_is}
+use Rattle.ddf_data_array.specs.Allowed.{Allowed}
+use Rattle.ddf_data_array.specs.Kept.{IsKeptData}
+use Rattle.ddf_data_array.proofs.RowsKept.{no_rows, rows_still}
+use Rattle.ddf_data_array.proofs.Same.{kept_alike, kept_same}
+use Rattle.ddf_data_group.specs.Clear.{ChangesItsCells, IsItsCell}
+use Rattle.ddf_data_group.specs.Grouped.{KeepsArrays, Promises}
+use Rattle.ddf_data_group.specs.Over.{AreCurrentSeats, IsOver, absent_in}
+use Rattle.ddf_data_group.proofs.Clearly.{lies_of, others_same, used}
+use Rattle.ddf_data_group.proofs.Entries.{guid_is}
 use Rattle.ddf_stage_promise.proofs.Remains.{Remains, lay, place_up}
 
 some_is : {X : Type 0} {a b : X} → Some a ≡ Some b → a ≡ b

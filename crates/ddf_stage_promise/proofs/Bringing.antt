@@ -14,16 +14,16 @@ use Rattle.ddf_config.specs.Configuration.{Configuration}
 use Rattle.ddf_config.specs.Members.{same_guid}
 use Rattle.ddf_array.specs.Volume.{Volume}
 use Rattle.ddf_array.proofs.Bools.{and_second}
-use Rattle.ddf_data.specs.Allowed.{Allowed}
-use Rattle.ddf_keeping.specs.Grouped.{Promises}
-use Rattle.ddf_keeping.specs.Kept.{KeepsArray}
-use Rattle.ddf_keeping.proofs.Agreed.{agreed}
-use Rattle.ddf_keeping.proofs.Cleared.{same_marked}
-use Rattle.ddf_keeping.proofs.Entries.{guid_is}
+use Rattle.ddf_data_array.specs.Allowed.{Allowed}
+use Rattle.ddf_data_group.specs.Grouped.{Promises}
+use Rattle.ddf_data_group.specs.Kept.{KeepsArray}
+use Rattle.ddf_data_group.proofs.Agreed.{agreed}
+use Rattle.ddf_data_group.proofs.Cleared.{same_marked}
+use Rattle.ddf_data_group.proofs.Entries.{guid_is}
 use Rattle.ddf_history.specs.Groups.{Disk, groups, has_current}
 use Rattle.ddf_history.specs.Issued.{Past, IsSince, issue}
 use Rattle.ddf_history.proofs.Lists.{get_more}
-use Rattle.ddf_promise.specs.Promised.{is_seat, seat_if}
+use Rattle.ddf_data_history.specs.Promised.{is_seat, seat_if}
 use Rattle.ddf_stage.specs.declared.desk.Desk.{Desk}
 use Rattle.ddf_stage.specs.declared.desk.Staged.{Staged}
 use Rattle.ddf_stage.specs.declared.gate.Gate.{Gate}

@@ -20,9 +20,9 @@ use Rattle.ddf_cells.proofs.CopiesOn.{block_at_sits, on_position, sits_block_at}
 use Rattle.ddf_cells.proofs.Lists.{in_both, in_filter, in_flat, in_map}
 use Rattle.ddf_cells.proofs.OnCells.{block_below, no_parity, on_cell, one_place}
 use Rattle.ddf_write.specs.Writing.{IsParityAt}
-use Rattle.ddf_data.proofs.From.{HasCell, copy_from, copy_to}
-use Rattle.ddf_data.proofs.Ranges.{to_back}
-use Rattle.ddf_data.proofs.Sitting.{block_at_is, held_from}
+use Rattle.ddf_data_array.proofs.From.{HasCell, copy_from, copy_to}
+use Rattle.ddf_data_array.proofs.Ranges.{to_back}
+use Rattle.ddf_data_array.proofs.Sitting.{block_at_is, held_from}
 use Rattle.ddf_stage.specs.declared.desk.StageCell.{StageCell}
 use Rattle.ddf_stage.specs.declared.desk.Staged.{Staged}
 use Rattle.ddf_stage.specs.Laid.{is_at}

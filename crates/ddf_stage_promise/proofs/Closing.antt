@@ -8,15 +8,15 @@ use Rattle.ddf_config.specs.Configuration.{Configuration}
 use Rattle.ddf_array.specs.Sound.{AreSectors}
 use Rattle.ddf_array.specs.Viewing.{view_of}
 use Rattle.ddf_array.specs.Volume.{Volume, IsVolume}
-use Rattle.ddf_keeping.specs.Grouped.{KeepsArrays, Promises}
-use Rattle.ddf_keeping.specs.Over.{AreCurrentSeats}
-use Rattle.ddf_keeping.proofs.Clearly.{lies_of, used}
-use Rattle.ddf_keeping.proofs.Keeping.{kept_fewer}
+use Rattle.ddf_data_group.specs.Grouped.{KeepsArrays, Promises}
+use Rattle.ddf_data_group.specs.Over.{AreCurrentSeats}
+use Rattle.ddf_data_group.proofs.Clearly.{lies_of, used}
+use Rattle.ddf_data_group.proofs.Keeping.{kept_fewer}
 use Rattle.ddf_history.specs.Groups.{groups}
 use Rattle.ddf_history.specs.Issued.{Past, IsSince}
-use Rattle.ddf_promise.specs.Promised.{AreAlone}
-use Rattle.ddf_promise.proofs.Steps.{seats_are}
-use Rattle.ddf_promise.proofs.Viewed.{are_members}
+use Rattle.ddf_data_history.specs.Promised.{AreAlone}
+use Rattle.ddf_data_history.proofs.Steps.{seats_are}
+use Rattle.ddf_data_history.proofs.Viewed.{are_members}
 use Rattle.ddf_stage.specs.declared.desk.Desk.{Desk}
 use Rattle.ddf_stage.specs.declared.desk.StageCell.{StageCell}
 use Rattle.ddf_stage.specs.declared.desk.Staged.{Staged}
@@ -38,8 +38,8 @@ use Rattle.ddf_stage_promise.proofs.Fewer.{remain_fewer, seats_fewer, view_fewer
 use Rattle.ddf_stage_promise.proofs.Laying.{laid_between, laid_none, laid_some, view_remains}
 use Rattle.ddf_stage_promise.proofs.Losing.{through_none, through_some}
 use Rattle.ddf_stage_promise.proofs.Steps.{IsLow, lies_low}
-use Rattle.ddf_data.proofs.Same.{kept_same}
-use Rattle.ddf_keeping.specs.Over.{absent_in}
+use Rattle.ddf_data_array.proofs.Same.{kept_same}
+use Rattle.ddf_data_group.specs.Over.{absent_in}
 
 some_is : {X : Type 0} {a b : X} → Some a ≡ Some b → a ≡ b
 some_is e = cc

@@ -27,18 +27,18 @@ use Rattle.ddf_array.specs.Sound.{AreSectors}
 use Rattle.ddf_array.specs.Viewing.{view_of}
 use Rattle.ddf_array.specs.Volume.{Volume, IsVolume}
 use Rattle.ddf_cells.specs.Alike.{IsCell as IsCellOf}
-use Rattle.ddf_keeping.specs.Grouped.{KeepsArrays, Promises}
-use Rattle.ddf_keeping.specs.Lessening.{AreLessParts, AreLessPositions, IsLessArray}
-use Rattle.ddf_keeping.specs.Over.{AreCurrentSeats, IsOver}
-use Rattle.ddf_keeping.proofs.Changed.{changed_keeps}
-use Rattle.ddf_keeping.proofs.Entries.{before as value_before, found_in, guid_is, never_drops, same_mark}
+use Rattle.ddf_data_group.specs.Grouped.{KeepsArrays, Promises}
+use Rattle.ddf_data_group.specs.Lessening.{AreLessParts, AreLessPositions, IsLessArray}
+use Rattle.ddf_data_group.specs.Over.{AreCurrentSeats, IsOver}
+use Rattle.ddf_data_group.proofs.Changed.{changed_keeps}
+use Rattle.ddf_data_group.proofs.Entries.{before as value_before, found_in, guid_is, never_drops, same_mark}
 use Rattle.ddf_history.specs.Groups.{Disk, groups, has_current}
 use Rattle.ddf_history.specs.Issued.{Past, IsSince, issue}
 use Rattle.ddf_history.proofs.Following.{changes_follow}
 use Rattle.ddf_history.proofs.Lists.{get_more}
-use Rattle.ddf_promise.specs.Promised.{is_seat, seat_if}
-use Rattle.ddf_promise.proofs.Steps.{seats_are}
-use Rattle.ddf_promise.proofs.Viewed.{are_members}
+use Rattle.ddf_data_history.specs.Promised.{is_seat, seat_if}
+use Rattle.ddf_data_history.proofs.Steps.{seats_are}
+use Rattle.ddf_data_history.proofs.Viewed.{are_members}
 use Rattle.ddf_stage.specs.declared.desk.Desk.{Desk}
 use Rattle.ddf_stage.specs.declared.desk.StageCell.{StageCell}
 use Rattle.ddf_stage.specs.declared.desk.Staged.{Staged}

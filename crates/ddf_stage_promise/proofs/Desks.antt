@@ -10,7 +10,7 @@ use Rattle.ddf_array.proofs.Consistent.{to_filter}
 use Rattle.ddf_cells.proofs.Lists.{in_filter, in_range}
 use Rattle.ddf_history.specs.Groups.{Disk, groups, has_current}
 use Rattle.ddf_history.specs.Issued.{Past}
-use Rattle.ddf_promise.specs.Promised.{is_seat, seat_if}
+use Rattle.ddf_data_history.specs.Promised.{is_seat, seat_if}
 use Rattle.ddf_stage.specs.declared.desk.Desk.{Desk}
 use Rattle.ddf_stage.specs.declared.desk.Staged.{Staged}
 use Rattle.ddf_stage.specs.Laid.{first_open, on_desk}

@@ -6,11 +6,11 @@ use Rattle.ddf_config.specs.Configuration.{Configuration}
 use Rattle.ddf_array.specs.Sound.{AreSectors}
 use Rattle.ddf_array.specs.Viewing.{view_of}
 use Rattle.ddf_array.specs.Volume.{Volume}
-use Rattle.ddf_data.specs.Allowed.{Allowed, once_written}
-use Rattle.ddf_keeping.specs.Grouped.{Promises}
+use Rattle.ddf_data_array.specs.Allowed.{Allowed, once_written}
+use Rattle.ddf_data_group.specs.Grouped.{Promises}
 use Rattle.ddf_history.specs.Groups.{groups}
 use Rattle.ddf_history.specs.Issued.{Past, IsSince}
-use Rattle.ddf_promise.specs.Promised.{AreAlone, with_promise}
+use Rattle.ddf_data_history.specs.Promised.{AreAlone, with_promise}
 use Rattle.ddf_stage.specs.declared.desk.Desk.{Desk}
 use Rattle.ddf_stage.specs.declared.desk.StageCell.{StageCell}
 use Rattle.ddf_stage.specs.declared.desk.Staged.{Staged}

@@ -21,14 +21,14 @@ use Rattle.ddf_array.specs.Volume.{Volume}
 use Rattle.ddf_array.proofs.Bools.{and_second}
 use Rattle.ddf_array.proofs.Usable.{below_floors}
 use Rattle.ddf_array.proofs.Viewed.{from_view, has_view}
-use Rattle.ddf_keeping.specs.Lessening.{AreLessParts, AreLessPositions, IsLessArray}
+use Rattle.ddf_data_group.specs.Lessening.{AreLessParts, AreLessPositions, IsLessArray}
 use Rattle.ddf_config.specs.declared.element.Position.{Position}
-use Rattle.ddf_keeping.specs.Over.{AreCurrentSeats}
+use Rattle.ddf_data_group.specs.Over.{AreCurrentSeats}
 use Rattle.ddf_history.specs.Groups.{groups, has_current}
 use Rattle.ddf_history.specs.Issued.{Past, IsSince}
 use Rattle.ddf_history.proofs.Sound.{groups_are_sound}
-use Rattle.ddf_promise.specs.Promised.{AreAlone, is_seat}
-use Rattle.ddf_promise.proofs.Seats.{are_fewer, found, seat_below}
+use Rattle.ddf_data_history.specs.Promised.{AreAlone, is_seat}
+use Rattle.ddf_data_history.proofs.Seats.{are_fewer, found, seat_below}
 use Rattle.ddf_stage_promise.specs.Footing.{Footing}
 use Rattle.ddf_stage_promise.specs.Staged.{losing, seats_on}
 use Rattle.ddf_stage_promise.proofs.Between.{ArraysRemain}

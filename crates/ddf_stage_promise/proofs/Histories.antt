@@ -9,17 +9,17 @@ use Rattle.ddf_config.specs.Members.{same_guid}
 use Rattle.ddf_plan.specs.declared.change.Change.TheVariants.{Delete, Lose}
 use Rattle.ddf_plan.specs.Changes.{changed_at}
 use Rattle.ddf_array.proofs.Bools.{and_second}
-use Rattle.ddf_data.specs.Allowed.{Allowed, once_written, while_written}
-use Rattle.ddf_keeping.specs.Grouped.{Promises}
-use Rattle.ddf_keeping.specs.Kept.{KeepsArray}
-use Rattle.ddf_keeping.proofs.Entries.{guid_is}
+use Rattle.ddf_data_array.specs.Allowed.{Allowed, once_written, while_written}
+use Rattle.ddf_data_group.specs.Grouped.{Promises}
+use Rattle.ddf_data_group.specs.Kept.{KeepsArray}
+use Rattle.ddf_data_group.proofs.Entries.{guid_is}
 use Rattle.ddf_history.specs.Groups.{groups, has_current, has_missing}
 use Rattle.ddf_history.specs.Issued.{Past, IsSince, acknowledge, give_back, issue, take_off, with_slots}
 use Rattle.ddf_history.proofs.Lists.{get_taken}
 use Rattle.ddf_history.proofs.Sound.{groups_are_sound}
-use Rattle.ddf_promise.specs.Promised.{is_seat, with_promise}
-use Rattle.ddf_promise.specs.History.{Moment, IsDropped, IsLoss, IsReturn, IsSettling}
-use Rattle.ddf_promise.proofs.Steps.{step_keeps as plain_step_keeps}
+use Rattle.ddf_data_history.specs.Promised.{is_seat, with_promise}
+use Rattle.ddf_data_history.specs.History.{Moment, IsDropped, IsLoss, IsReturn, IsSettling}
+use Rattle.ddf_data_history.proofs.Steps.{step_keeps as plain_step_keeps}
 use Rattle.ddf_stage_data.specs.Moments.{value_of}
 use Rattle.ddf_stage_promise.specs.Closing.{LiePastFloors}
 use Rattle.ddf_stage_promise.specs.Footing.{Footing}

@@ -38,10 +38,10 @@ use Rattle.ddf_array.specs.Viewing.{known_part, parts_of, place_of, seat_slot, v
 use Rattle.ddf_array.specs.Volume.{Volume, volume}
 use Rattle.ddf_array.proofs.Consistent.{to_flat}
 use Rattle.ddf_cells.proofs.Lists.{in_flat, in_map}
-use Rattle.ddf_data.proofs.Ranges.{map_in}
-use Rattle.ddf_keeping.specs.Agreeing.{AgreeOn}
-use Rattle.ddf_keeping.specs.Clearing.{IsSameButMark}
-use Rattle.ddf_keeping.proofs.Apart.{entry_of}
+use Rattle.ddf_data_array.proofs.Ranges.{map_in}
+use Rattle.ddf_data_group.specs.Agreeing.{AgreeOn}
+use Rattle.ddf_data_group.specs.Clearing.{IsSameButMark}
+use Rattle.ddf_data_group.proofs.Apart.{entry_of}
 use Rattle.ddf_stage_promise.proofs.LostViews.{all_stay, numbers_same}
 use Rattle.ddf_stage_promise.proofs.Remains.{parts_stay}
 

@@ -14,18 +14,18 @@ use Rattle.ddf_array.specs.Viewing.{view_of}
 use Rattle.ddf_array.specs.Volume.{Volume, IsVolume}
 use Rattle.ddf_array.proofs.Elements.{parts_count}
 use Rattle.ddf_cells.specs.Apart.{LiesAt}
-use Rattle.ddf_data.specs.Allowed.{Allowed}
-use Rattle.ddf_data.proofs.Same.{kept_same}
-use Rattle.ddf_keeping.specs.Grouped.{KeepsArrays, Promises}
-use Rattle.ddf_keeping.specs.Kept.{KeepsArray}
-use Rattle.ddf_keeping.specs.Over.{IsOver, absent_in}
-use Rattle.ddf_keeping.proofs.Agreed.{agreed}
-use Rattle.ddf_keeping.proofs.Cleared.{same_marked}
+use Rattle.ddf_data_array.specs.Allowed.{Allowed}
+use Rattle.ddf_data_array.proofs.Same.{kept_same}
+use Rattle.ddf_data_group.specs.Grouped.{KeepsArrays, Promises}
+use Rattle.ddf_data_group.specs.Kept.{KeepsArray}
+use Rattle.ddf_data_group.specs.Over.{IsOver, absent_in}
+use Rattle.ddf_data_group.proofs.Agreed.{agreed}
+use Rattle.ddf_data_group.proofs.Cleared.{same_marked}
 use Rattle.ddf_history.specs.Groups.{groups}
 use Rattle.ddf_history.specs.Issued.{Past, IsSince, issue}
 use Rattle.ddf_history.proofs.Lists.{get_more}
-use Rattle.ddf_promise.proofs.Steps.{seats_are}
-use Rattle.ddf_promise.proofs.Viewed.{are_members}
+use Rattle.ddf_data_history.proofs.Steps.{seats_are}
+use Rattle.ddf_data_history.proofs.Viewed.{are_members}
 use Rattle.ddf_stage.specs.declared.desk.Desk.{Desk}
 use Rattle.ddf_stage.specs.declared.desk.StageCell.{StageCell}
 use Rattle.ddf_stage.specs.declared.desk.Staged.{Staged}

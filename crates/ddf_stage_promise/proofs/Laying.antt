@@ -14,9 +14,9 @@ use Rattle.ddf_array.specs.Volume.{Volume, IsVolume}
 use Rattle.ddf_array.proofs.Apart.{view_apart}
 use Rattle.ddf_cells.specs.Alike.{IsCell}
 use Rattle.ddf_cells.specs.Apart.{LiesAt}
-use Rattle.ddf_keeping.specs.Grouped.{KeepsArrays, Promises}
-use Rattle.ddf_keeping.specs.Over.{AreCurrentSeats, IsOver}
-use Rattle.ddf_keeping.proofs.Clearly.{used}
+use Rattle.ddf_data_group.specs.Grouped.{KeepsArrays, Promises}
+use Rattle.ddf_data_group.specs.Over.{AreCurrentSeats, IsOver}
+use Rattle.ddf_data_group.proofs.Clearly.{used}
 use Rattle.ddf_stage.specs.declared.desk.StageCell.{StageCell}
 use Rattle.ddf_stage.specs.declared.desk.Staged.{Staged}
 use Rattle.ddf_stage.specs.Laid.{is_at, laid, sector_of}

@@ -34,11 +34,11 @@ use Rattle.ddf_array.specs.Losing.{AreFewer}
 use Rattle.ddf_array.specs.Viewing.{parts_of, view_by, view_of, viewed, known_part}
 use Rattle.ddf_array.specs.Volume.{Volume, volume}
 use Rattle.ddf_array.specs.declared.part.Part.{Part}
-use Rattle.ddf_keeping.specs.Lessening.{IsLessArray}
-use Rattle.ddf_keeping.specs.Over.{AreCurrentSeats, IsOver}
-use Rattle.ddf_keeping.proofs.Entries.{before as value_before, never_drops, same_mark}
-use Rattle.ddf_keeping.proofs.Lessened.{lessened, parts_count}
-use Rattle.ddf_keeping.proofs.Lost.{is_less}
+use Rattle.ddf_data_group.specs.Lessening.{IsLessArray}
+use Rattle.ddf_data_group.specs.Over.{AreCurrentSeats, IsOver}
+use Rattle.ddf_data_group.proofs.Entries.{before as value_before, never_drops, same_mark}
+use Rattle.ddf_data_group.proofs.Lessened.{lessened, parts_count}
+use Rattle.ddf_data_group.proofs.Lost.{is_less}
 use Rattle.ddf_stage_promise.proofs.Between.{ArraysRemain}
 use Rattle.ddf_stage_promise.proofs.Remains.{ArePositions, AreRemaining, DoRemain, Remains, RemainsElement, RemainsPart, RemainsPosition, count_positions, extent_is, parts_remain}
 

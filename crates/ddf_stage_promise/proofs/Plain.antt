@@ -7,12 +7,12 @@ use Rattle.ddf_config.specs.Configuration.{Configuration}
 use Rattle.ddf_array.specs.Sound.{AreSectors}
 use Rattle.ddf_array.specs.Viewing.{view_of}
 use Rattle.ddf_array.specs.Volume.{Volume}
-use Rattle.ddf_keeping.specs.Grouped.{KeepsArrays, Promises}
-use Rattle.ddf_keeping.proofs.Keeping.{kept_fewer}
+use Rattle.ddf_data_group.specs.Grouped.{KeepsArrays, Promises}
+use Rattle.ddf_data_group.proofs.Keeping.{kept_fewer}
 use Rattle.ddf_history.specs.Groups.{groups}
 use Rattle.ddf_history.specs.Issued.{Past, IsSince}
-use Rattle.ddf_promise.specs.Promised.{AreAlone}
-use Rattle.ddf_promise.proofs.Steps.{seats_are}
+use Rattle.ddf_data_history.specs.Promised.{AreAlone}
+use Rattle.ddf_data_history.proofs.Steps.{seats_are}
 use Rattle.ddf_stage.specs.declared.desk.Desk.{Desk}
 use Rattle.ddf_stage.specs.declared.desk.StageCell.{StageCell}
 use Rattle.ddf_stage.specs.declared.desk.Staged.{Staged}

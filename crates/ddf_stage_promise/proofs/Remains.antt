@@ -26,8 +26,8 @@ use Rattle.ddf_cells.specs.Alike.{IsCell}
 use Rattle.ddf_cells.specs.Apart.{LiesAt}
 use Rattle.ddf_cells.proofs.OnCells.{Sits, one_place, spot_of}
 use Rattle.ddf_cells.proofs.Surely.{of_place}
-use Rattle.ddf_data.specs.Fewer.{ArePlaces}
-use Rattle.ddf_keeping.proofs.Lessened.{slot_lost}
+use Rattle.ddf_data_array.specs.Fewer.{ArePlaces}
+use Rattle.ddf_data_group.proofs.Lessened.{slot_lost}
 
 some_is : {X : Type 0} {a b : X} → Some a ≡ Some b → a ≡ b
 some_is e = cc

@@ -9,16 +9,16 @@ use Rattle.ddf_array.specs.Losing.{AreFewer}
 use Rattle.ddf_array.specs.Sources.{sources}
 use Rattle.ddf_array.specs.Viewing.{view_of}
 use Rattle.ddf_array.proofs.Viewed.{from_view}
-use Rattle.ddf_volume.specs.Reading.{IsGivenBy}
-use Rattle.ddf_data.specs.Allowed.{Allowed, May}
-use Rattle.ddf_data.proofs.Given.{read_may}
-use Rattle.ddf_keeping.specs.Over.{absent_in}
-use Rattle.ddf_keeping.specs.Grouped.{KeepsArrays, Promises}
-use Rattle.ddf_keeping.proofs.Keeping.{kept_fewer}
+use Rattle.ddf_read.specs.Reading.{IsGivenBy}
+use Rattle.ddf_data_array.specs.Allowed.{Allowed, May}
+use Rattle.ddf_data_array.proofs.Given.{read_may}
+use Rattle.ddf_data_group.specs.Over.{absent_in}
+use Rattle.ddf_data_group.specs.Grouped.{KeepsArrays, Promises}
+use Rattle.ddf_data_group.proofs.Keeping.{kept_fewer}
 use Rattle.ddf_history.specs.Issued.{Past, IsSince}
 use Rattle.ddf_history.specs.Groups.{groups}
-use Rattle.ddf_promise.proofs.Returned.{view_over}
-use Rattle.ddf_promise.proofs.Steps.{seats_are}
+use Rattle.ddf_data_history.proofs.Returned.{view_over}
+use Rattle.ddf_data_history.proofs.Steps.{seats_are}
 use Rattle.ddf_stage_data.specs.Moments.{through}
 use Rattle.ddf_stage_promise.specs.Cells.{cells_in}
 use Rattle.ddf_stage_promise.specs.Footing.{Footing}

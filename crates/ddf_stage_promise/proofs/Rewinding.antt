@@ -13,13 +13,13 @@ use Rattle.ddf_array.specs.declared.place.Place.{Place}
 use Rattle.ddf_array.specs.Losing.{AreFewer}
 use Rattle.ddf_array.specs.Viewing.{place_of}
 use Rattle.ddf_array.specs.Volume.{Volume}
-use Rattle.ddf_data.specs.Allowed.{Allowed}
-use Rattle.ddf_data.specs.Rows.{HasNoRows}
-use Rattle.ddf_keeping.specs.Kept.{KeepsArray}
-use Rattle.ddf_keeping.specs.Lessening.{AllStay, AreLessParts, AreLessPositions, AreStaying, IsLessArray}
-use Rattle.ddf_keeping.specs.Over.{AreCurrentSeats, IsOver}
-use Rattle.ddf_keeping.proofs.Keeping.{kept_staying}
-use Rattle.ddf_keeping.proofs.Parts.{of_part}
+use Rattle.ddf_data_array.specs.Allowed.{Allowed}
+use Rattle.ddf_data_array.specs.Rows.{HasNoRows}
+use Rattle.ddf_data_group.specs.Kept.{KeepsArray}
+use Rattle.ddf_data_group.specs.Lessening.{AllStay, AreLessParts, AreLessPositions, AreStaying, IsLessArray}
+use Rattle.ddf_data_group.specs.Over.{AreCurrentSeats, IsOver}
+use Rattle.ddf_data_group.proofs.Keeping.{kept_staying}
+use Rattle.ddf_data_group.proofs.Parts.{of_part}
 use Rattle.ddf_stage_promise.specs.Rewinding.{set_back}
 
 positions_without : (positions : List Position) → AreLessPositions positions (map without_row positions)

@@ -12,16 +12,16 @@ use Rattle.ddf_config.specs.Configuration.{Configuration}
 use Rattle.ddf_array.specs.Sound.{AreSectors}
 use Rattle.ddf_array.specs.Volume.{Volume}
 use Rattle.ddf_cells.specs.Apart.{LiesAt}
-use Rattle.ddf_data.proofs.Same.{kept_same}
-use Rattle.ddf_keeping.specs.Grouped.{KeepsArrays, Promises}
-use Rattle.ddf_keeping.specs.Over.{IsOver, absent_in}
-use Rattle.ddf_keeping.proofs.Clearly.{below_floor}
+use Rattle.ddf_data_array.proofs.Same.{kept_same}
+use Rattle.ddf_data_group.specs.Grouped.{KeepsArrays, Promises}
+use Rattle.ddf_data_group.specs.Over.{IsOver, absent_in}
+use Rattle.ddf_data_group.proofs.Clearly.{below_floor}
 use Rattle.ddf_history.specs.Groups.{groups, has_current, has_missing}
 use Rattle.ddf_history.specs.Issued.{Past, IsSince, give_back, with_slots}
 use Rattle.ddf_history.proofs.Sound.{groups_are_sound}
-use Rattle.ddf_promise.specs.Promised.{AreAlone, KeepsData, is_seat, seat_if}
-use Rattle.ddf_promise.proofs.Seats.{is_at}
-use Rattle.ddf_promise.proofs.Steps.{by_loss}
+use Rattle.ddf_data_history.specs.Promised.{AreAlone, KeepsData, is_seat, seat_if}
+use Rattle.ddf_data_history.proofs.Seats.{is_at}
+use Rattle.ddf_data_history.proofs.Steps.{by_loss}
 use Rattle.ddf_stage.specs.declared.desk.Desk.{Desk}
 use Rattle.ddf_stage.specs.declared.desk.StageCell.{StageCell}
 use Rattle.ddf_stage.specs.declared.desk.Staged.{Staged}

@@ -17,24 +17,24 @@ use Rattle.ddf_array.specs.Volume.{Volume, IsVolume}
 use Rattle.ddf_array.proofs.Apart.{view_apart}
 use Rattle.ddf_cells.specs.Alike.{IsCell as IsCellOf}
 use Rattle.ddf_cells.specs.Apart.{LiesAt}
-use Rattle.ddf_data.specs.Allowed.{Allowed, once_written, while_written}
-use Rattle.ddf_data.specs.Fewer.{IsFewer, LeavesParity, LeavesRows}
-use Rattle.ddf_data.specs.Kept.{IsKeptData}
-use Rattle.ddf_data.specs.Rows.{HasNoRows}
-use Rattle.ddf_data.proofs.Same.{kept_same}
-use Rattle.ddf_keeping.specs.Grouped.{KeepsArrays, Promises}
-use Rattle.ddf_keeping.specs.Lessening.{AllStay, AreStaying}
-use Rattle.ddf_keeping.specs.Over.{AreCurrentSeats, IsOver, absent_in}
-use Rattle.ddf_keeping.proofs.Clearly.{lies_of, used}
-use Rattle.ddf_keeping.proofs.Entries.{guid_is}
-use Rattle.ddf_keeping.proofs.Lessened.{lessened}
-use Rattle.ddf_keeping.proofs.LessRows.{rows_left}
-use Rattle.ddf_keeping.proofs.Staying.{leaves_parity}
+use Rattle.ddf_data_array.specs.Allowed.{Allowed, once_written, while_written}
+use Rattle.ddf_data_array.specs.Fewer.{IsFewer, LeavesParity, LeavesRows}
+use Rattle.ddf_data_array.specs.Kept.{IsKeptData}
+use Rattle.ddf_data_array.specs.Rows.{HasNoRows}
+use Rattle.ddf_data_array.proofs.Same.{kept_same}
+use Rattle.ddf_data_group.specs.Grouped.{KeepsArrays, Promises}
+use Rattle.ddf_data_group.specs.Lessening.{AllStay, AreStaying}
+use Rattle.ddf_data_group.specs.Over.{AreCurrentSeats, IsOver, absent_in}
+use Rattle.ddf_data_group.proofs.Clearly.{lies_of, used}
+use Rattle.ddf_data_group.proofs.Entries.{guid_is}
+use Rattle.ddf_data_group.proofs.Lessened.{lessened}
+use Rattle.ddf_data_group.proofs.LessRows.{rows_left}
+use Rattle.ddf_data_group.proofs.Staying.{leaves_parity}
 use Rattle.ddf_history.specs.Groups.{groups}
 use Rattle.ddf_history.specs.Issued.{Past, IsSince}
-use Rattle.ddf_promise.specs.Promised.{AreAlone, KeepsData, with_promise}
-use Rattle.ddf_promise.proofs.Steps.{seats_are}
-use Rattle.ddf_promise.proofs.Viewed.{are_members}
+use Rattle.ddf_data_history.specs.Promised.{AreAlone, KeepsData, with_promise}
+use Rattle.ddf_data_history.proofs.Steps.{seats_are}
+use Rattle.ddf_data_history.proofs.Viewed.{are_members}
 use Rattle.ddf_stage.specs.declared.desk.Desk.{Desk}
 use Rattle.ddf_stage.specs.declared.desk.StageCell.{StageCell}
 use Rattle.ddf_stage.specs.declared.desk.Staged.{Staged}

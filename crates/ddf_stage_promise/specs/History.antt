@@ -11,13 +11,13 @@ use Rattle.ddf_plan.specs.Changes.{changed_at}
 use Rattle.ddf_array.specs.Sound.{AreSectors}
 use Rattle.ddf_array.specs.Viewing.{view_of}
 use Rattle.ddf_array.specs.Volume.{Volume}
-use Rattle.ddf_data.specs.Allowed.{Allowed, once_written, while_written}
-use Rattle.ddf_keeping.specs.Grouped.{Promises}
-use Rattle.ddf_keeping.specs.Kept.{KeepsArray}
+use Rattle.ddf_data_array.specs.Allowed.{Allowed, once_written, while_written}
+use Rattle.ddf_data_group.specs.Grouped.{Promises}
+use Rattle.ddf_data_group.specs.Kept.{KeepsArray}
 use Rattle.ddf_history.specs.Groups.{groups}
 use Rattle.ddf_history.specs.Issued.{Past, IsSince, issue}
-use Rattle.ddf_promise.specs.Promised.{AreAlone, with_promise}
-use Rattle.ddf_promise.specs.History.{Moment, IsDropped, IsLoss, IsReturn, IsSettling, IsStep as IsStepWithNone}
+use Rattle.ddf_data_history.specs.Promised.{AreAlone, with_promise}
+use Rattle.ddf_data_history.specs.History.{Moment, IsDropped, IsLoss, IsReturn, IsSettling, IsStep as IsStepWithNone}
 use Rattle.ddf_stage.specs.declared.desk.Desk.{Desk}
 use Rattle.ddf_stage.specs.declared.desk.Staged.{Staged}
 use Rattle.ddf_stage.specs.Laid.{first_open, on_desk}

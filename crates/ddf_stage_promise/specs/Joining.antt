@@ -8,16 +8,16 @@ use Rattle.ddf_config.specs.Members.{same_guid}
 use Rattle.ddf_config.specs.States.{is_marked, with_low_states}
 use Rattle.ddf_import.specs.Clash.{join_cause}
 use Rattle.ddf_import.specs.Joined.{arrays_joined, members_joined}
-use Rattle.ddf_data.specs.Allowed.{Allowed}
-use Rattle.ddf_keeping.specs.Agreeing.{AgreeOn}
-use Rattle.ddf_keeping.specs.Clearing.{IsSameButMark}
-use Rattle.ddf_keeping.specs.Grouped.{Promises}
+use Rattle.ddf_data_array.specs.Allowed.{Allowed}
+use Rattle.ddf_data_group.specs.Agreeing.{AgreeOn}
+use Rattle.ddf_data_group.specs.Clearing.{IsSameButMark}
+use Rattle.ddf_data_group.specs.Grouped.{Promises}
 use Rattle.ddf_history.specs.Groups.{Disk, groups, has_current}
 use Rattle.ddf_history.specs.Issued.{Past}
 use Rattle.ddf_stage.specs.declared.desk.Desk.{Desk}
 use Rattle.ddf_stage.specs.declared.desk.Staged.{Staged}
 use Rattle.ddf_stage.specs.Laid.{on_desk}
-use Rattle.ddf_promise.specs.Promised.{is_seat}
+use Rattle.ddf_data_history.specs.Promised.{is_seat}
 use Rattle.ddf_stage_promise.specs.Footing.{Footing, desk_at, guids_of}
 use Rattle.ddf_stage_promise.specs.Staged.{arrays_by, desks_on, losing, seats_on}
 

@@ -4,10 +4,10 @@ use Rattle.std.specs.Prelude.{◌≡◌, ℕ, nat_le, ◌||◌, Bool, true, List
 use Rattle.ddf_bay.specs.Sectors.{Image}
 use Rattle.ddf_config.specs.declared.seat.Seat.{Seat}
 use Rattle.ddf_config.specs.Configuration.{Configuration}
-use Rattle.ddf_keeping.specs.Grouped.{KeepsArrays, Promises}
+use Rattle.ddf_data_group.specs.Grouped.{KeepsArrays, Promises}
 use Rattle.ddf_history.specs.Groups.{groups}
 use Rattle.ddf_history.specs.Issued.{Past, IsSince, with_slots}
-use Rattle.ddf_promise.specs.Promised.{seats_in}
+use Rattle.ddf_data_history.specs.Promised.{seats_in}
 use Rattle.ddf_stage.specs.declared.desk.Desk.{Desk}
 use Rattle.ddf_stage.specs.declared.desk.Staged.{Staged}
 use Rattle.ddf_stage.specs.Laid.{on_desk}

@@ -4,7 +4,7 @@ use Rattle.ddf_bay.specs.Sectors.{Image}
 use Rattle.ddf_array.specs.Volume.{Volume}
 use Rattle.ddf_array.specs.Within.{is_within}
 use Rattle.ddf_cells.specs.Alike.{IsCell as IsCellOf}
-use Rattle.ddf_data.specs.Rows.{HasNoRows}
+use Rattle.ddf_data_array.specs.Rows.{HasNoRows}
 use Rattle.ddf_stage.specs.declared.desk.Desk.{Desk}
 use Rattle.ddf_stage.specs.declared.desk.Staged.{Staged}
 use Rattle.ddf_stage.specs.Laid.{names_one}

@@ -1,7 +1,7 @@
 -- The lines of records, one after another.
 use Rattle.std.proofs.Common.{◌≡◌, ℕ, zero, suc, ◌+◌, List, [], ◌∷◌, ◌++◌, take, Some, sym, ap, ◌∙◌, arith, append-nil, append_assoc, add-zero}
 use Rattle.std.specs.Prelude.{slice_get}
-use Rattle.ddf_configs.specs.declared.slot.RecordSlot.{RecordSlot}
+use Rattle.ddf_config_records.specs.declared.slot.RecordSlot.{RecordSlot}
 use Rattle.ddf_text.specs.Records.{record_line, record_lines}
 
 pub lines_more : (slot : ℕ) (slots : List RecordSlot) (count : ℕ) (held : RecordSlot) → slice_get slots count ≡ Some held

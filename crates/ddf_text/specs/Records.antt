@@ -8,11 +8,11 @@ use Rattle.ddf_tables.specs.declared.disks.DiskRow.TheVariants as disk_rows
 use Rattle.ddf_tables.specs.declared.arrays.ArrayRow.{ArrayRow}
 use Rattle.ddf_tables.specs.declared.arrays.ArrayRow.TheVariants as array_rows
 use Rattle.ddf_tables.specs.BadBlocks.{LogValue}
-use Rattle.ddf_configs.specs.declared.place.Place.{Place}
-use Rattle.ddf_configs.specs.ElementValue.{ElementValue}
-use Rattle.ddf_configs.specs.declared.slot.RecordSlot.{RecordSlot}
-use Rattle.ddf_configs.specs.declared.slot.RecordSlot.TheVariants as slots
-use Rattle.ddf_configs.specs.declared.spare.SpareRecord.{SpareRecord}
+use Rattle.ddf_config_records.specs.declared.place.Place.{Place}
+use Rattle.ddf_config_records.specs.ElementValue.{ElementValue}
+use Rattle.ddf_config_records.specs.declared.slot.RecordSlot.{RecordSlot}
+use Rattle.ddf_config_records.specs.declared.slot.RecordSlot.TheVariants as slots
+use Rattle.ddf_config_records.specs.declared.spare.SpareRecord.{SpareRecord}
 use Rattle.ddf_copy.specs.declared.copy.DiskCopy.{DiskCopy}
 use Rattle.ddf_name.specs.Names.{name_text}
 use Rattle.ddf_text.specs.Hexes.{hex8, hex16, hex32}

@@ -18,7 +18,7 @@ ghost use Rattle.ddf_text.specs.Records.{
 
 use crate::records::{ArrayLine, DiskLine, ElementLayout, ElementName, MemberText};
 use ddf_bytes::{Guid, Hex8, NoMemory};
-use ddf_configs::{Element, Place, RecordSlot, SpareRecord};
+use ddf_config_records::{Element, Place, RecordSlot, SpareRecord};
 use ddf_copy::{DiskCopy, Newest, Which};
 use ddf_tables::{ArrayRow, BadBlockLog, DiskRow};
 use std::alloc::Global;

@@ -1,6 +1,6 @@
 //! The lines that `examine` prints of the records of a copy.
 use ddf_bytes::{Hex8, Hex16, Hex32};
-use ddf_configs::{Element, Place};
+use ddf_config_records::{Element, Place};
 use ddf_name::NameText;
 use ddf_tables::{ArrayEntry, DiskEntry};
 use std::fmt;

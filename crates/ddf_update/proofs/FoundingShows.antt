@@ -10,7 +10,7 @@ use Rattle.ddf_header.specs.declared.kind.HeaderKind.TheVariants.{Anchor}
 use Rattle.ddf_header.specs.declared.reading.Header.{Header}
 use Rattle.ddf_header.specs.Header.{IsHeaderOf, header_signature}
 use Rattle.ddf_header.proofs.Decoded.{decoded_is}
-use Rattle.ddf_configs.proofs.SlotValues.{signature_is}
+use Rattle.ddf_config_records.proofs.SlotValues.{signature_is}
 use Rattle.ddf_copy.specs.declared.copy.DiskCopy.{DiskCopy}
 use Rattle.ddf_copy.specs.declared.which.Which.{Which}
 use Rattle.ddf_copy.specs.declared.which.Which.TheVariants.{Primary, Secondary}

@@ -14,6 +14,7 @@ pub mod GroupSteps
 pub mod Getting
 pub mod ChangeSteps
 pub mod NewBytes
+pub mod NewNumbers
 pub mod NewRoom
 pub mod NewRows
 pub mod NewSlots

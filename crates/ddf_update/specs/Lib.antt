@@ -4,5 +4,6 @@ pub mod Changes
 pub mod Prepared
 pub mod Stage
 pub mod Update
+pub mod NewLayouts
 pub mod NewCopies
 pub mod Adopting

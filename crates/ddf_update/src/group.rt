@@ -8,10 +8,12 @@ ghost use Rattle.ddf_copy.specs.declared.which.Which.TheVariants.{Secondary};
 ghost use Rattle.ddf_update.specs.declared.prepared.Mode.TheVariants.{Found};
 ghost use Rattle.ddf_update.specs.Prepared.{IsPrepared, all_calls, all_sectors};
 ghost use Rattle.ddf_update.specs.Group.{AreFirst, HaveFirstCopies, IsLeftFoundingAll, IsOneOf, LieOnSlots, MayFoundAll};
+ghost use Rattle.ddf_update.specs.NewLayouts.{least_sectors, rows_of};
 ghost use Rattle.ddf_update.specs.NewCopies.{new_copy, sizes_of};
 
 use crate::disk::write_disk;
 use crate::new_copy::new_copy;
+use crate::new_layout::NewLayout;
 use crate::prepared::{Mode, Prepared, prepare};
 use ddf_bay::{Bay, DiskFault};
 use ddf_bytes::{NoMemory, Stamp};
@@ -19,22 +21,23 @@ use ddf_copy::Which;
 use ddf_header::Revision;
 use std::alloc::Global;
 
-/// Makes the first copies of a new group's disks, each a slot and its size in sectors, with headers of a revision (profile).
+/// Makes the first copies of a new group's disks, each a slot and its size in sectors, of a layout and with headers of a revision (profile).
 pub fn found(
     alloc: Global,
     disks: &[(usize, u64)],
+    layout: NewLayout,
     revision: Revision,
     stamp: &Stamp,
 ) -> Result<Vec<Prepared>, NoMemory>
-    requires few { length disks.now ≤ 15 }
-    requires large { (i : ℕ) → i < length disks.now → 33000 ≤ slice_index (sizes_of disks.now) i }
+    requires few { length disks.now ≤ rows_of layout }
+    requires large { (i : ℕ) → i < length disks.now → least_sectors layout ≤ slice_index (sizes_of disks.now) i }
     ensures counted { IfOk result (λ updates. length updates.items ≡ length disks.now) }
-    ensures first { IfOk result (λ updates. AreFirst (sizes_of disks.now) (new_copy revision stamp.now (sizes_of disks.now)) updates.items) }
+    ensures first { IfOk result (λ updates. AreFirst (sizes_of disks.now) (new_copy layout revision stamp.now (sizes_of disks.now)) updates.items) }
 {
     let sizes = sizes_of(alloc, disks)?;
     let mut updates = Vec::with_capacity(alloc, sizes.len())?;
     for place in 0..sizes.len() {
-        updates.push(first_update(alloc, revision, stamp, &sizes, place)?)?;
+        updates.push(first_update(alloc, layout, revision, stamp, &sizes, place)?)?;
     }
     Ok(updates)
 }
@@ -42,18 +45,19 @@ pub fn found(
 /// Makes the first copies of the disk at a place.
 fn first_update(
     alloc: Global,
+    layout: NewLayout,
     revision: Revision,
     stamp: &Stamp,
     sizes: &[u64],
     place: usize,
 ) -> Result<Prepared, NoMemory>
-    requires few { length sizes.now ≤ 15 }
+    requires few { length sizes.now ≤ rows_of layout }
     requires within { place < length sizes.now }
-    requires large { (i : ℕ) → i < length sizes.now → 33000 ≤ slice_index sizes.now i }
-    ensures prepared { IfOk result (IsPrepared (new_copy revision stamp.now sizes.now place) Secondary Found) }
-    ensures under { OnOk result (IsUnder (slice_index sizes.now place) (anchor_header (new_copy revision stamp.now sizes.now place)) (new_copy revision stamp.now sizes.now place)) }
+    requires large { (i : ℕ) → i < length sizes.now → least_sectors layout ≤ slice_index sizes.now i }
+    ensures prepared { IfOk result (IsPrepared (new_copy layout revision stamp.now sizes.now place) Secondary Found) }
+    ensures under { OnOk result (IsUnder (slice_index sizes.now place) (anchor_header (new_copy layout revision stamp.now sizes.now place)) (new_copy layout revision stamp.now sizes.now place)) }
 {
-    let copy = new_copy(alloc, revision, stamp, sizes, place)?;
+    let copy = new_copy(alloc, layout, revision, stamp, sizes, place)?;
     prepare(alloc, &copy, Which::Secondary, Mode::Found)
 }
 

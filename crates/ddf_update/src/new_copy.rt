@@ -1,5 +1,5 @@
 //! The copies of a new group's disks.
-ghost use Rattle.std.specs.Prelude.{◌≡◌, ◌<◌, ◌≤◌, ℕ, length, slice_index, IfOk, IsTrue};
+ghost use Rattle.std.specs.Prelude.{◌≡◌, ◌<◌, ◌≤◌, ◌*◌, ℕ, length, slice_index, IfOk, IsTrue};
 ghost use Rattle.std.specs.List.{list_all};
 ghost use Rattle.ddf_seal.specs.Unread.{cleared, is_within, places};
 ghost use Rattle.ddf_header.specs.declared.reading.Header.{Header};
@@ -9,6 +9,7 @@ ghost use Rattle.ddf_tables.specs.Disks.{IsDiskTable, disk_fields};
 ghost use Rattle.ddf_tables.specs.Arrays.{IsArrayTable};
 ghost use Rattle.ddf_tables.specs.BadBlocks.{IsLog};
 ghost use Rattle.ddf_copy.specs.Headers.{IsUnder, anchor_header};
+ghost use Rattle.ddf_update.specs.NewLayouts.{least_sectors, rows_of, table_sectors_of};
 ghost use Rattle.ddf_update.specs.NewCopies.{
   block_size_of,
   disk_guid,
@@ -34,8 +35,9 @@ ghost use Rattle.ddf_update.specs.NewCopies.{
   unused_slot,
 };
 
+use crate::new_layout::{NewLayout, WORKSPACE};
 use ddf_bytes::{Guid, GuidKind, NoMemory, Sector, Seq, Stamp, new_guid, put16};
-use ddf_configs::{Notes, RecordSlot, SlotNote};
+use ddf_config_records::{Notes, RecordSlot, SlotNote};
 use ddf_copy::DiskCopy;
 use ddf_header::{Geometry, Header, HeaderKind, Revision, Section};
 use ddf_seal::{SEAL, Span, clear};
@@ -45,32 +47,11 @@ use ddf_tables::{
 };
 use std::alloc::Global;
 
-/// The rows of a table.
-const ROWS: u16 = 15;
-
-/// The sectors of a table.
-const TABLE_SECTORS: usize = 2;
-
-/// The slots of the configuration records.
-const SLOTS: usize = 16;
-
-/// The bytes of a slot.
-const SLOT: usize = 1024;
-
-/// The sectors of the workspace.
-const WORKSPACE: u32 = 32768;
-
-/// The fewest sectors of a new disk (profile).
-pub const LEAST_SECTORS: u64 = 33_000;
-
-/// Sectors from the primary header of a new disk to its end (profile).
-pub const PRIMARY_BACK: u64 = 41;
-
-/// Sectors from the secondary header of a new disk to its end (profile).
-pub const SECONDARY_BACK: u64 = 81;
-
-/// Sectors from the workspace to the end of the disk.
-const WORKSPACE_BACK: u64 = SECONDARY_BACK + WORKSPACE as u64;
+/// A section that isn't there.
+const ABSENT: Section = Section {
+    offset: u32::MAX,
+    length: 0,
+};
 
 /// Where the GUID of a controller or a disk stands in its sector.
 const GUID: Span = Span { at: 8, length: 24 };
@@ -98,27 +79,34 @@ const ENTRY: [Span; 1] = [Span { at: 0, length: 40 }];
 /// Where the block size stands in an entry.
 const BLOCK_SIZE: usize = 58;
 
-/// The copy of the disk at a place among the disks of a new group of a revision, by the sizes of all in sectors (profile).
+/// The copy of the disk at a place among the disks of a new group of a layout and a revision, by the sizes of all in sectors (profile).
 pub(crate) fn new_copy(
     alloc: Global,
+    layout: NewLayout,
     revision: Revision,
     stamp: &Stamp,
     sizes: &[u64],
     place: usize,
 ) -> Result<DiskCopy, NoMemory>
-    requires few { length sizes.now ≤ 15 }
+    requires few { length sizes.now ≤ rows_of layout }
     requires within { place < length sizes.now }
-    requires large { (i : ℕ) → i < length sizes.now → 33000 ≤ slice_index sizes.now i }
-    ensures exact { IfOk result (λ copy. copy ≡ new_copy revision stamp.now sizes.now place) }
+    requires large { (i : ℕ) → i < length sizes.now → least_sectors layout ≤ slice_index sizes.now i }
+    ensures exact { IfOk result (λ copy. copy ≡ new_copy layout revision stamp.now sizes.now place) }
     // It can be written in both places of its disk.
     ensures whole { IfOk result (λ copy. IsUnder (slice_index sizes.now place) (anchor_header copy) copy) }
 {
-    let disks = new_disks(alloc, revision, stamp, sizes)?;
-    let arrays = new_arrays(alloc)?;
-    let slots = new_slots(alloc, stamp)?;
+    let numbers = layout.numbers();
+    let disks = new_disks(alloc, layout, revision, stamp, sizes)?;
+    let arrays = new_arrays(alloc, layout)?;
+    let slots = new_slots(
+        alloc,
+        usize::from(numbers.slots),
+        512 * usize::from(numbers.record_length),
+        stamp,
+    )?;
     let log = new_log(alloc)?;
     Ok(DiskCopy {
-        header: new_header(revision, stamp, sizes[place]),
+        header: new_header(layout, revision, stamp, sizes[place]),
         controller: new_controller(stamp),
         disks,
         arrays,
@@ -128,9 +116,9 @@ pub(crate) fn new_copy(
     })
 }
 
-fn new_header(revision: Revision, stamp: &Stamp, size: u64) -> Header
-    requires { 33000 ≤ size }
-    ensures { result ≡ new_header revision stamp.now size }
+fn new_header(layout: NewLayout, revision: Revision, stamp: &Stamp, size: u64) -> Header
+    requires { least_sectors layout ≤ size }
+    ensures { result ≡ new_header layout revision stamp.now size }
 {
     Header {
         kind: HeaderKind::Primary,
@@ -139,9 +127,9 @@ fn new_header(revision: Revision, stamp: &Stamp, size: u64) -> Header
         sequence: 1,
         timestamp: stamp.timestamp(),
         openness: 0,
-        primary_lba: size - PRIMARY_BACK,
-        secondary_lba: size - SECONDARY_BACK,
-        geometry: new_geometry(size),
+        primary_lba: size - layout.primary_back(),
+        secondary_lba: size - layout.secondary_back(),
+        geometry: new_geometry(layout, size),
         rest: header_rest(),
     }
 }
@@ -163,36 +151,42 @@ fn blank_sector(fields: &[Span]) -> Sector
     sector
 }
 
-/// The geometry of a new disk of so many sectors (profile).
-pub fn new_geometry(size: u64) -> Geometry
-    requires { 33000 ≤ size }
-    ensures { result ≡ new_geometry size }
+/// The geometry of a new disk of a layout and of so many sectors (profile).
+pub fn new_geometry(layout: NewLayout, size: u64) -> Geometry
+    requires { least_sectors layout ≤ size }
+    ensures { result ≡ new_geometry layout size }
 {
+    let numbers = layout.numbers();
+    let table = numbers.table_sectors;
+    let records = numbers.slots * numbers.record_length;
     Geometry {
         workspace_length: WORKSPACE,
-        workspace_lba: size - WORKSPACE_BACK,
-        max_disks: ROWS,
-        max_arrays: ROWS,
-        max_partitions: 15,
-        record_length: 2,
-        max_members: 16,
+        workspace_lba: size - layout.workspace_back(),
+        max_disks: numbers.rows,
+        max_arrays: numbers.rows,
+        max_partitions: numbers.rows,
+        record_length: numbers.record_length,
+        max_members: numbers.members,
         sections: [
             section_at(1, 1),
-            section_at(2, 2),
-            section_at(4, 2),
-            section_at(6, 32),
-            section_at(38, 1),
-            section_at(39, 1),
-            section_at(u32::MAX, 0),
-            section_at(u32::MAX, 0),
+            section_at(2, table),
+            section_at(2 + table, table),
+            section_at(2 + 2 * table, records),
+            section_at(2 + 2 * table + records, 1),
+            section_at(3 + 2 * table + records, 1),
+            ABSENT,
+            ABSENT,
         ],
     }
 }
 
-fn section_at(offset: u32, length: u32) -> Section
+fn section_at(offset: u16, length: u16) -> Section
     ensures { result ≡ section_at offset length }
 {
-    Section { offset, length }
+    Section {
+        offset: u32::from(offset),
+        length: u32::from(length),
+    }
 }
 
 fn new_controller(stamp: &Stamp) -> Controller
@@ -205,7 +199,7 @@ fn new_controller(stamp: &Stamp) -> Controller
 }
 
 fn new_disk_data(stamp: &Stamp, place: usize) -> DiskData
-    requires { place < 15 }
+    requires { place < 63 }
     ensures { result ≡ new_disk_data stamp.now place }
 {
     DiskData {
@@ -216,7 +210,7 @@ fn new_disk_data(stamp: &Stamp, place: usize) -> DiskData
 }
 
 fn disk_guid(stamp: &Stamp, place: usize) -> Guid
-    requires { place < 15 }
+    requires { place < 63 }
     ensures { result ≡ disk_guid stamp.now place }
 {
     new_guid(GuidKind::Disk, stamp, place as u32)
@@ -224,7 +218,7 @@ fn disk_guid(stamp: &Stamp, place: usize) -> Guid
 
 /// The reference of the disk at a place: from a chance on, and never the one that names no disk.
 fn reference_at(stamp: &Stamp, place: usize) -> u32
-    requires { place < 15 }
+    requires { place < 63 }
     ensures { result ≡ reference_at stamp.now place }
 {
     let first = stamp.salt / (1 << 64) % ((1 << 32) - 4098);
@@ -234,64 +228,77 @@ fn reference_at(stamp: &Stamp, place: usize) -> u32
 #[tactic(auto, unfolding(crate::specs::NewCopies::blank_disks))]
 fn new_disks(
     alloc: Global,
+    layout: NewLayout,
     revision: Revision,
     stamp: &Stamp,
     sizes: &[u64],
 ) -> Result<DiskTable, NoMemory>
-    requires few { length sizes.now ≤ 15 }
-    requires large { (i : ℕ) → i < length sizes.now → 33000 ≤ slice_index sizes.now i }
-    ensures exact { IfOk result (λ table. table ≡ new_disks revision stamp.now sizes.now) }
-    ensures writable { IfOk result (IsDiskTable 15) }
-    ensures size { IfOk result (λ table. length table.rest ≡ 1024) }
+    requires few { length sizes.now ≤ rows_of layout }
+    requires large { (i : ℕ) → i < length sizes.now → least_sectors layout ≤ slice_index sizes.now i }
+    ensures exact { IfOk result (λ table. table ≡ new_disks layout revision stamp.now sizes.now) }
+    ensures writable { IfOk result (IsDiskTable (rows_of layout)) }
+    ensures size { IfOk result (λ table. length table.rest ≡ 512 * table_sectors_of layout) }
 {
-    let table = DiskTable::blank(alloc, ROWS, TABLE_SECTORS)?;
-    let rows = new_rows(alloc, revision, stamp, sizes)?;
+    let numbers = layout.numbers();
+    let table = DiskTable::blank(alloc, numbers.rows, usize::from(numbers.table_sectors))?;
+    let rows = new_rows(alloc, layout, revision, stamp, sizes)?;
     Ok(table.replaced(rows))
 }
 
 fn new_rows(
     alloc: Global,
+    layout: NewLayout,
     revision: Revision,
     stamp: &Stamp,
     sizes: &[u64],
 ) -> Result<Vec<DiskRow>, NoMemory>
-    requires few { length sizes.now ≤ 15 }
-    requires large { (i : ℕ) → i < length sizes.now → 33000 ≤ slice_index sizes.now i }
-    ensures { IfOk result (λ rows. rows.items ≡ new_rows revision stamp.now sizes.now) }
+    requires few { length sizes.now ≤ rows_of layout }
+    requires large { (i : ℕ) → i < length sizes.now → least_sectors layout ≤ slice_index sizes.now i }
+    ensures { IfOk result (λ rows. rows.items ≡ new_rows layout revision stamp.now sizes.now) }
 {
-    let mut rows = entries(alloc, revision, stamp, sizes)?;
-    rows.resize(usize::from(ROWS), DiskRow::Unused([0xFF; 64]))?;
+    let mut rows = entries(alloc, layout, revision, stamp, sizes)?;
+    rows.resize(
+        usize::from(layout.most_disks()),
+        DiskRow::Unused([0xFF; 64]),
+    )?;
     Ok(rows)
 }
 
 fn entries(
     alloc: Global,
+    layout: NewLayout,
     revision: Revision,
     stamp: &Stamp,
     sizes: &[u64],
 ) -> Result<Vec<DiskRow>, NoMemory>
-    requires few { length sizes.now ≤ 15 }
-    requires large { (i : ℕ) → i < length sizes.now → 33000 ≤ slice_index sizes.now i }
-    ensures { IfOk result (λ rows. rows.items ≡ entries_from revision stamp.now 0 sizes.now) }
+    requires few { length sizes.now ≤ rows_of layout }
+    requires large { (i : ℕ) → i < length sizes.now → least_sectors layout ≤ slice_index sizes.now i }
+    ensures { IfOk result (λ rows. rows.items ≡ entries_from layout revision stamp.now 0 sizes.now) }
 {
-    let mut rows = Vec::with_capacity(alloc, usize::from(ROWS))?;
+    let mut rows = Vec::with_capacity(alloc, usize::from(layout.most_disks()))?;
     for (place, size) in sizes.iter().enumerate() {
-        rows.push(new_entry(revision, stamp, place, *size))?;
+        rows.push(new_entry(layout, revision, stamp, place, *size))?;
     }
     Ok(rows)
 }
 
-fn new_entry(revision: Revision, stamp: &Stamp, place: usize, size: u64) -> DiskRow
-    requires within { place < 15 }
-    requires large { 33000 ≤ size }
-    ensures { result ≡ new_entry revision stamp.now place size }
+fn new_entry(
+    layout: NewLayout,
+    revision: Revision,
+    stamp: &Stamp,
+    place: usize,
+    size: u64,
+) -> DiskRow
+    requires within { place < rows_of layout }
+    requires large { least_sectors layout ≤ size }
+    ensures { result ≡ new_entry layout revision stamp.now place size }
 {
     DiskRow::Entry(DiskEntry {
         guid: disk_guid(stamp, place),
         reference: reference_at(stamp, place),
         kind: DiskType(0),
         state: DiskState::ONLINE,
-        size: size - WORKSPACE_BACK,
+        size: size - layout.workspace_back(),
         rest: entry_rest(revision),
     })
 }
@@ -316,12 +323,13 @@ fn block_size_of(revision: Revision) -> u16
 }
 
 #[tactic(auto, unfolding(crate::specs::NewCopies::new_arrays))]
-fn new_arrays(alloc: Global) -> Result<ArrayTable, NoMemory>
-    ensures exact { IfOk result (λ table. table ≡ new_arrays) }
-    ensures writable { IfOk result (IsArrayTable 15) }
-    ensures size { IfOk result (λ table. length table.rest ≡ 1024) }
+fn new_arrays(alloc: Global, layout: NewLayout) -> Result<ArrayTable, NoMemory>
+    ensures exact { IfOk result (λ table. table ≡ new_arrays layout) }
+    ensures writable { IfOk result (IsArrayTable (rows_of layout)) }
+    ensures size { IfOk result (λ table. length table.rest ≡ 512 * table_sectors_of layout) }
 {
-    ArrayTable::blank(alloc, ROWS, TABLE_SECTORS)
+    let numbers = layout.numbers();
+    ArrayTable::blank(alloc, numbers.rows, usize::from(numbers.table_sectors))
 }
 
 #[tactic(auto, unfolding(crate::specs::NewCopies::new_log))]
@@ -333,31 +341,38 @@ fn new_log(alloc: Global) -> Result<BadBlockLog, NoMemory>
     BadBlockLog::blank(alloc, 1)
 }
 
-fn new_slots(alloc: Global, stamp: &Stamp) -> Result<Vec<RecordSlot>, NoMemory>
-    ensures { IfOk result (λ slots. slots.items ≡ new_slots stamp.now) }
+/// So many slots of so many bytes: notes in the first, and all others unused.
+fn new_slots(
+    alloc: Global,
+    count: usize,
+    size: usize,
+    stamp: &Stamp,
+) -> Result<Vec<RecordSlot>, NoMemory>
+    requires { 1 ≤ count }
+    ensures { IfOk result (λ slots. slots.items ≡ new_slots count size stamp.now) }
 {
-    let mut slots = Vec::with_capacity(alloc, SLOTS)?;
-    let notes = new_notes(alloc, stamp)?;
+    let mut slots = Vec::with_capacity(alloc, count)?;
+    let notes = new_notes(alloc, count, stamp)?;
     slots.push(RecordSlot::Notes(notes))?;
-    for _ in 1..SLOTS {
-        let unused = unused_slot(alloc)?;
+    for _ in 1..count {
+        let unused = unused_slot(alloc, size)?;
         slots.push(unused)?;
     }
     Ok(slots)
 }
 
-fn unused_slot(alloc: Global) -> Result<RecordSlot, NoMemory>
-    ensures { IfOk result (λ slot. slot ≡ unused_slot) }
+fn unused_slot(alloc: Global, size: usize) -> Result<RecordSlot, NoMemory>
+    ensures { IfOk result (λ slot. slot ≡ unused_slot size) }
 {
-    let bytes = vec![in alloc; 0xFF; SLOT]?;
+    let bytes = vec![in alloc; 0xFF; size]?;
     Ok(RecordSlot::Unused(Seq::new(bytes)))
 }
 
-fn new_notes(alloc: Global, stamp: &Stamp) -> Result<Notes, NoMemory>
-    ensures { IfOk result (λ notes. notes ≡ new_notes stamp.now) }
+fn new_notes(alloc: Global, count: usize, stamp: &Stamp) -> Result<Notes, NoMemory>
+    ensures { IfOk result (λ notes. notes ≡ new_notes count stamp.now) }
 {
-    let mut slots = Vec::with_capacity(alloc, SLOTS)?;
-    for _ in 0..SLOTS {
+    let mut slots = Vec::with_capacity(alloc, count)?;
+    for _ in 0..count {
         slots.push(no_note(alloc))?;
     }
     Ok(Notes {

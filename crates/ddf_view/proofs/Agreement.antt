@@ -9,8 +9,8 @@ use Rattle.std.specs.Str.{bytes_eq}
 use Rattle.ddf_bytes.specs.Choices.{first_of}
 use Rattle.ddf_tables.specs.declared.disks.DiskEntry.{DiskEntry}
 use Rattle.ddf_tables.specs.declared.arrays.ArrayEntry.{ArrayEntry}
-use Rattle.ddf_configs.specs.declared.notes.SlotNote.{SlotNote}
-use Rattle.ddf_configs.proofs.Ranges.{first_found, none_first, each_none, made_all}
+use Rattle.ddf_config_records.specs.declared.notes.SlotNote.{SlotNote}
+use Rattle.ddf_config_records.proofs.Ranges.{first_found, none_first, each_none, made_all}
 use Rattle.ddf_config.specs.declared.member.SpareUse.{SpareUse}
 use Rattle.ddf_config.specs.declared.member.Member.{Member}
 use Rattle.ddf_config.specs.ElementValue.{ElementValue as ElementPlan}

@@ -13,14 +13,14 @@ use Rattle.ddf_tables.specs.declared.disk_data.DiskData.{DiskData}
 use Rattle.ddf_tables.specs.Disks.{decoded_disks}
 use Rattle.ddf_tables.specs.Arrays.{decoded_arrays}
 use Rattle.ddf_tables.specs.Sectors.{decoded_disk_data}
-use Rattle.ddf_configs.specs.ElementValue.{ElementValue}
-use Rattle.ddf_configs.specs.declared.notes.Notes.{Notes}
-use Rattle.ddf_configs.specs.declared.spare.SpareRecord.{SpareRecord}
-use Rattle.ddf_configs.specs.declared.slot.RecordSlot.{RecordSlot}
-use Rattle.ddf_configs.specs.declared.slot.RecordSlot.TheVariants as slots
-use Rattle.ddf_configs.specs.Elements.{HasRoom}
-use Rattle.ddf_configs.specs.Slots.{IsSlotOf, slot_at, slot_written, valid_of, valid_at, valid_notes, lists}
-use Rattle.ddf_configs.proofs.SlotValues.{slot_is, slot_size, valid_same}
+use Rattle.ddf_config_records.specs.ElementValue.{ElementValue}
+use Rattle.ddf_config_records.specs.declared.notes.Notes.{Notes}
+use Rattle.ddf_config_records.specs.declared.spare.SpareRecord.{SpareRecord}
+use Rattle.ddf_config_records.specs.declared.slot.RecordSlot.{RecordSlot}
+use Rattle.ddf_config_records.specs.declared.slot.RecordSlot.TheVariants as slots
+use Rattle.ddf_config_records.specs.Elements.{HasRoom}
+use Rattle.ddf_config_records.specs.Slots.{IsSlotOf, slot_at, slot_written, valid_of, valid_at, valid_notes, lists}
+use Rattle.ddf_config_records.proofs.SlotValues.{slot_is, slot_size, valid_same}
 use Rattle.ddf_copy.specs.declared.copy.DiskCopy.{DiskCopy}
 use Rattle.ddf_copy.specs.Shows.{IsSame}
 use Rattle.ddf_copy.specs.Written.{counted, slot_counted, disks_written, arrays_written, disk_data_written}

@@ -8,4 +8,6 @@ pub mod Names
 pub mod Search
 pub mod Zips
 pub mod Rebuilt
+pub mod Spares
+pub mod Rows
 pub mod Views

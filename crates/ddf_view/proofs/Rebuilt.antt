@@ -1,10 +1,10 @@
 -- Tables that are built of the used entries, in order.
-use Rattle.std.proofs.Common.{◌≡◌, ℕ, Bool, List, [], ◌∷◌, ◌++◌, Option, Some, None, refl, ap, sym, ◌∙◌, subst, map, filter_map, option_map, IfSome, false, ◌||◌, suc, ◌-◌, arith, append_assoc, append-nil, ◌+◌, ◌<◌, length, drop, get_or, add-one}
+use Rattle.std.proofs.Common.{◌≡◌, ℕ, Bool, List, [], ◌∷◌, ◌++◌, Option, Some, None, refl, ap, sym, ◌∙◌, subst, map, filter_map, option_map, IfSome, suc, ◌-◌, arith, append_assoc, append-nil, ◌+◌, ◌<◌, length, drop, get_or, add-one}
 use Rattle.std.proofs.Math.Seq.{drop-cons}
 use Rattle.std.specs.Cmp.{IsEquivalence}
-use Rattle.std.specs.List.{IsDistinct, cons_option, list_any, range_with_len}
+use Rattle.std.specs.List.{IsDistinct, cons_option, flat_map, range_with_len}
 use Rattle.std.specs.Map.{lookup, keys_of}
-use Rattle.std.specs.Option.{option_to_list, option_map_or}
+use Rattle.std.specs.Option.{option_to_list}
 use Rattle.ddf_config.proofs.Entries.{fresh}
 
 pub keys_are : {K X V : Type 0} (key : X → K) (value : X → V) (xs : List X) → keys_of (map (λ x. (key x, value x)) xs) ≡ map key xs
@@ -48,11 +48,8 @@ made_on f done all i n below parts =
     let rest : n - i ≡ suc (n - (i + 1)) = omega arith in
     append_assoc done (f i ∷ []) (map f (range_with_len (i + 1) (n - (i + 1)))) ∙ ap (λ (k : ℕ). done ++ map f (range_with_len i k)) (sym rest) ∙ parts
 
--- a test of what is there of each item
-pub any_there : {X Y : Type 0} (f : X → Option Y) (test : Y → Bool) (xs : List X) → list_any (λ x. option_map_or test (f x) false) xs ≡ list_any test (filter_map f xs)
-any_there f test [] = refl
-any_there f test (x ∷ xs) = ap (λ b. option_map_or test (f x) false || b) (any_there f test xs) ∙ at_one (f x)
-  where
-    at_one : (o : Option _) → (option_map_or test o false || list_any test (filter_map f xs)) ≡ list_any test (cons_option o (filter_map f xs))
-    at_one None = refl
-    at_one (Some y) = refl
+-- so do the lists that are made of rising numbers
+pub made_flat : {X : Type 0} (f : ℕ → List X) (done all : List X) (i n : ℕ) → i < n → done ++ flat_map f (range_with_len i (n - i)) ≡ all → (done ++ f i) ++ flat_map f (range_with_len (i + 1) (n - (i + 1))) ≡ all
+made_flat f done all i n below parts =
+    let rest : n - i ≡ suc (n - (i + 1)) = omega arith in
+    append_assoc done (f i) (flat_map f (range_with_len (i + 1) (n - (i + 1)))) ∙ ap (λ (k : ℕ). done ++ flat_map f (range_with_len i k)) (sym rest) ∙ parts

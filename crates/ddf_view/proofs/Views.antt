@@ -6,9 +6,9 @@ use Rattle.std.specs.Option.{option_or}
 use Rattle.ddf_bytes.specs.Choices.{first_of}
 use Rattle.ddf_view.specs.View.{View, HeldRecord, element_of, held_from, key_of_slot, note_at, is_element, find_held, find_note, note_of}
 use Rattle.ddf_view.specs.Differ.{key_of}
-use Rattle.ddf_configs.specs.ElementValue.{ElementValue}
-use Rattle.ddf_configs.specs.declared.notes.Notes.{Notes}
-use Rattle.ddf_configs.specs.declared.slot.RecordSlot.{RecordSlot}
+use Rattle.ddf_config_records.specs.ElementValue.{ElementValue}
+use Rattle.ddf_config_records.specs.declared.notes.Notes.{Notes}
+use Rattle.ddf_config_records.specs.declared.slot.RecordSlot.{RecordSlot}
 use Rattle.ddf_view.specs.Reading.{elements_in}
 
 pub held_views : (array : List ℕ) (index : ℕ) (view : View) (views : List View)

@@ -1,17 +1,22 @@
 -- The least difference of two views of one group (profile): in a disk, in an array, or in an element that both hold.
-use Rattle.std.specs.Prelude.{ℕ, Bool, false, not, ◌&&◌, ◌||◌, ◌==◌, List, [], ◌∷◌, ◌++◌, map, filter, find, Option, Some, None, option_map, is_none}
+use Rattle.std.specs.Prelude.{ℕ, Bool, true, false, not, ◌&&◌, ◌||◌, ◌==◌, List, [], ◌∷◌, ◌++◌, map, filter, find, Option, Some, None, option_map, is_none, if◌then◌else◌}
 use Rattle.std.specs.List.{enumerate_from, reduce}
 use Rattle.std.specs.Option.{option_eq}
+use Rattle.std.specs.Int.RustNames.{bit_and}
 use Rattle.std.specs.declared.cmp.Ordering.{Ordering}
 use Rattle.std.specs.Ordering.{min_by_ordering, nat_cmp, ordering_then}
 use Rattle.std.specs.Str.{bytes_eq}
 use Rattle.std.specs.Cmp.Lexicographic.{pointwise, slice_cmp}
 use Rattle.ddf_bytes.specs.Choices.{first_of}
 use Rattle.ddf_tables.specs.declared.disks.DiskEntry.{DiskEntry}
+use Rattle.ddf_tables.specs.declared.disks.DiskRow.{DiskRow}
+use Rattle.ddf_tables.specs.declared.disks.DiskRow.TheVariants as disk_rows
 use Rattle.ddf_tables.specs.declared.arrays.ArrayEntry.{ArrayEntry}
-use Rattle.ddf_configs.specs.declared.place.Place.{Place}
-use Rattle.ddf_configs.specs.ElementValue.{ElementValue}
-use Rattle.ddf_view.specs.View.{View, HeldRecord, find_held}
+use Rattle.ddf_tables.specs.declared.arrays.ArrayRow.{ArrayRow}
+use Rattle.ddf_tables.specs.declared.arrays.ArrayRow.TheVariants as array_rows
+use Rattle.ddf_config_records.specs.declared.place.Place.{Place}
+use Rattle.ddf_config_records.specs.ElementValue.{ElementValue}
+use Rattle.ddf_view.specs.View.{View, HeldRecord, has_bit, find_held}
 use Rattle.ddf_view.specs.Reading.{plan_of}
 use Rattle.ddf_view.specs.Shows.{same_position, same_plan}
 use Rattle.ddf_view.specs.declared.difference.Difference.{Difference}
@@ -23,9 +28,14 @@ least compare items = reduce (λ best item. min_by_ordering (compare best item) 
 
 -- ---- disks
 
+-- The type as it is compared. Of a disk that is being rebuilt bit 3 isn't: there it tells Linux that the disk is being filled, and only
+-- the disks that Linux reads have it.
+abbrev pub told_kind : DiskEntry → ℕ
+told_kind disk = if has_bit disk.state.0 2 then bit_and disk.kind.0 0xFFF7 else disk.kind.0
+
 abbrev pub same_disk : (ℕ × DiskEntry) → (ℕ × DiskEntry) → Bool
 same_disk one other =
-    one.0 == other.0 && bytes_eq one.1.guid other.1.guid && one.1.kind.0 == other.1.kind.0 && one.1.state.0 == other.1.state.0
+    one.0 == other.0 && bytes_eq one.1.guid other.1.guid && told_kind one.1 == told_kind other.1 && one.1.state.0 == other.1.state.0
     && one.1.size == other.1.size
 
 -- a disk with its place among the used entries
@@ -37,6 +47,13 @@ disk_differs one other reference = not (option_eq same_disk (numbered_disk refer
 
 abbrev pub differing_disks : (one other : List DiskEntry) → List ℕ
 differing_disks one other = filter (disk_differs one other) (map (λ disk. disk.reference) (one ++ other))
+
+-- Two rows at one place have one disk alike, or none. Tables all of whose rows are so don't differ in a disk.
+abbrev pub same_disk_row : DiskRow → DiskRow → Bool
+same_disk_row (disk_rows.Entry one) (disk_rows.Entry other) = one.reference == other.reference && same_disk (0, one) (0, other)
+same_disk_row (disk_rows.Entry one) (disk_rows.Unused whole) = false
+same_disk_row (disk_rows.Unused whole) (disk_rows.Entry other) = false
+same_disk_row (disk_rows.Unused whole) (disk_rows.Unused others) = true
 
 -- ---- arrays
 
@@ -53,6 +70,13 @@ array_differs one other guid = not (option_eq same_array (numbered_array guid on
 
 abbrev pub differing_arrays : (one other : List ArrayEntry) → List (List ℕ)
 differing_arrays one other = filter (array_differs one other) (map (λ entry. entry.guid) (one ++ other))
+
+-- two rows at one place have one array alike, or none
+abbrev pub same_array_row : ArrayRow → ArrayRow → Bool
+same_array_row (array_rows.Entry one) (array_rows.Entry other) = bytes_eq one.guid other.guid && same_array (0, one) (0, other)
+same_array_row (array_rows.Entry one) (array_rows.Unused whole) = false
+same_array_row (array_rows.Unused whole) (array_rows.Entry other) = false
+same_array_row (array_rows.Unused whole) (array_rows.Unused others) = true
 
 -- ---- elements
 

@@ -1,5 +1,6 @@
 pub mod View
 pub mod Reading
+pub mod Spares
 pub mod Shows
 pub mod Differ
 pub mod Readable

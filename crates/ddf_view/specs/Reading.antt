@@ -6,10 +6,10 @@ use Rattle.std.specs.Str.{bytes_eq}
 use Rattle.ddf_bytes.specs.Choices.{first_of}
 use Rattle.ddf_tables.specs.declared.disks.DiskEntry.{DiskEntry}
 use Rattle.ddf_tables.specs.declared.arrays.ArrayEntry.{ArrayEntry}
-use Rattle.ddf_configs.specs.declared.place.Place.{Place}
-use Rattle.ddf_configs.specs.ElementValue.{ElementValue}
-use Rattle.ddf_configs.specs.declared.notes.SlotNote.{SlotNote}
-use Rattle.ddf_configs.specs.Bits.{is_among}
+use Rattle.ddf_config_records.specs.declared.place.Place.{Place}
+use Rattle.ddf_config_records.specs.ElementValue.{ElementValue}
+use Rattle.ddf_config_records.specs.declared.notes.SlotNote.{SlotNote}
+use Rattle.ddf_config_records.specs.Bits.{is_among}
 use Rattle.ddf_config.specs.declared.member.SpareUse.{SpareUse}
 use Rattle.ddf_config.specs.declared.member.SpareUse.TheVariants as spares
 use Rattle.ddf_config.specs.declared.member.Member.{Member}

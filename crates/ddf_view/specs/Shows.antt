@@ -7,7 +7,7 @@ use Rattle.std.specs.Str.{bytes_eq}
 use Rattle.std.specs.Cmp.Lexicographic.{pointwise}
 use Rattle.ddf_tables.specs.declared.disks.DiskEntry.{DiskEntry}
 use Rattle.ddf_tables.specs.declared.arrays.ArrayEntry.{ArrayEntry}
-use Rattle.ddf_configs.specs.declared.notes.SlotNote.{SlotNote}
+use Rattle.ddf_config_records.specs.declared.notes.SlotNote.{SlotNote}
 use Rattle.ddf_config.specs.declared.member.SpareUse.{SpareUse}
 use Rattle.ddf_config.specs.declared.member.SpareUse.TheVariants as spares
 use Rattle.ddf_config.specs.declared.member.Member.{Member}

@@ -9,7 +9,7 @@ use crate::held::key_of_slot;
 use crate::same::same_held;
 use crate::{Difference, View};
 use ddf_bytes::Guid;
-use ddf_configs::RecordSlot;
+use ddf_config_records::RecordSlot;
 
 /// Whether both copies hold an element, and differ in it.
 fn element_differs(one: &View, other: &View, key: &(Guid, u8)) -> bool
@@ -43,10 +43,11 @@ fn least_element(one: &View, other: &View) -> Option<(Guid, u8)>
 /// The least difference of the copies of two disks of one group (profile), or None where they agree. Disks come first, by
 /// reference, then arrays, by GUID, then elements, by array and place.
 ///
-/// A disk differs in its GUID, type, state, size or place among the used entries, or where one copy lacks it. An array differs in
-/// its number, state, init, name or place among the used entries, or where one copy lacks it. An element that both copies hold
-/// differs in a named field of its record other than the timestamp and the block size, and where both have valid notes in the
-/// positions in sync and the rebuild rows.
+/// A disk differs in its GUID, type, state, size or place among the used entries, or where one copy lacks it. Of a disk that is being
+/// rebuilt bit 3 of the type isn't compared: there it tells Linux that the disk is being filled, and only the disks that Linux reads
+/// have it. An array differs in its number, state, init, name or place among the used entries, or where one copy lacks it. An element
+/// that both copies hold differs in a named field of its record other than the timestamp and the block size, and where both have
+/// valid notes in the positions in sync and the rebuild rows.
 #[tactic(auto, unfolding(crate::specs::Differ::difference))]
 pub fn first_difference(one: &View, other: &View) -> Option<Difference>
     ensures { result ≡ difference one.now other.now }

@@ -2,7 +2,7 @@
 ghost use Rattle.std.specs.Prelude.{◌≡◌, ◌==◌, ◌≤◌, filter_map, map, length, Option};
 ghost use Rattle.std.specs.Option.{option_copied};
 ghost use Rattle.std.specs.List.{enumerate_from};
-ghost use Rattle.ddf_configs.specs.Bits.{is_among};
+ghost use Rattle.ddf_config_records.specs.Bits.{is_among};
 ghost use Rattle.ddf_view.specs.View.{disk_of};
 ghost use Rattle.ddf_view.specs.Reading.{element_in, elements_in, is_synced, plan_of, position_of, row_of};
 
@@ -13,7 +13,7 @@ use crate::together::{find_held, find_note};
 use arrayvec::ArrayVec;
 use ddf_bytes::Guid;
 use ddf_config::{ElementPlan, Position};
-use ddf_configs::{Element, Place, SlotNote};
+use ddf_config_records::{Element, Place, SlotNote};
 use ddf_tables::DiskRow;
 
 fn is_among(out: &[u16], position: usize) -> bool

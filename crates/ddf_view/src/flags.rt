@@ -24,7 +24,8 @@ fn is_online(state: DiskState) -> bool
     state.contains(DiskState::ONLINE)
 }
 
-fn is_rebuilding(state: DiskState) -> bool
+/// Whether a state says that the disk is being rebuilt.
+pub fn is_rebuilding(state: DiskState) -> bool
     ensures { result ≡ has_bit state.0 2 }
 {
     state.contains(DiskState::REBUILDING)

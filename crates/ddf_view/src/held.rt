@@ -4,7 +4,7 @@ ghost use Rattle.std.specs.Option.{option_copied, option_and_then};
 ghost use Rattle.ddf_view.specs.View.{element_of, held_at, held_from, key_of_slot, note_at, find_held, find_note};
 
 use ddf_bytes::Guid;
-use ddf_configs::{Element, Notes, RecordSlot, SlotNote};
+use ddf_config_records::{Element, Notes, RecordSlot, SlotNote};
 use std::marker::Model;
 
 /// A record that counts, with its note where there are valid notes. Contracts see both without the references.

@@ -22,8 +22,12 @@ pub use arrays::array_of;
 pub use difference::Difference;
 pub use differing::first_difference;
 pub use disks::find_disk;
+pub use flags::is_rebuilding;
 pub use held::{HeldRecord, element_of};
-pub use laws::{level_copies_have_one_view, names_differ, views_give_what_they_show};
+pub use laws::{
+    a_disk_that_is_being_filled_is_no_spare, level_copies_have_one_view, names_differ,
+    views_give_what_they_show,
+};
 pub use reading::read;
 pub use same::same_record;
 pub use showing::shows;

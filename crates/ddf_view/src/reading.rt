@@ -6,6 +6,7 @@ ghost use Rattle.std.specs.Str.{bytes_eq};
 ghost use Rattle.indexmap.specs.IndexMap.{get};
 ghost use Rattle.ddf_view.specs.View.{array_of, disk_of};
 ghost use Rattle.ddf_view.specs.Readable.{DoNamesDiffer};
+ghost use Rattle.ddf_view.specs.Spares.{member_among, member_entry_among};
 ghost use Rattle.ddf_view.specs.Reading.{
   array_entry_in,
   array_in,
@@ -15,7 +16,6 @@ ghost use Rattle.ddf_view.specs.Reading.{
   element_in,
   elements_in,
   member_entry_in,
-  member_in,
   read,
 };
 
@@ -24,7 +24,7 @@ use crate::arrays::array_of;
 use crate::disks::disk_of;
 use crate::element_reading::element_in;
 use crate::flags::is_missing;
-use crate::spare_reading::spare_in;
+use crate::spare_reading::{ArraySpares, spare_among, spares_in};
 use crate::together::{array_rows, count_in, disk_rows, secondary_in};
 use ddf_bytes::{Guid, NoMemory, Seq};
 use ddf_config::{Array, Config, ElementPlan, Member, put_last};
@@ -64,10 +64,10 @@ fn array_in(alloc: Global, views: &[View], entry: &ArrayEntry) -> Result<Array, 
     })
 }
 
-fn member_in(alloc: Global, views: &[View], disk: &DiskEntry) -> Result<Member, NoMemory>
-    ensures { IfOk result (λ member. member ≡ member_in views.now disk.now) }
+fn member_among(alloc: Global, all: &[ArraySpares], disk: &DiskEntry) -> Result<Member, NoMemory>
+    ensures { IfOk result (λ member. member ≡ member_among all.now disk.now) }
 {
-    let spare = spare_in(alloc, views, disk)?;
+    let spare = spare_among(alloc, all, disk)?;
     Ok(Member {
         guid: disk.guid,
         size: disk.size,
@@ -79,16 +79,16 @@ fn member_in(alloc: Global, views: &[View], disk: &DiskEntry) -> Result<Member, 
 /// Puts the disk of a row that is used behind the other members.
 fn put_member(
     alloc: Global,
-    views: &[View],
+    all: &[ArraySpares],
     members: &mut IndexMap<u32, Member>,
     row: &DiskRow,
 ) -> Result<(), NoMemory>
     requires { IfSome (disk_of row.now) (λ disk. get nat_eq members.old disk.reference ≡ None) }
-    ensures { OnOk result (members.new.entries ≡ members.old.entries ++ option_to_list (option_map (member_entry_in views.now) (disk_of row.now))) }
+    ensures { OnOk result (members.new.entries ≡ members.old.entries ++ option_to_list (option_map (member_entry_among all.now) (disk_of row.now))) }
 {
     match disk_of(row) {
         Some(disk) => {
-            let member = member_in(alloc, views, &disk)?;
+            let member = member_among(alloc, all, &disk)?;
             put_last(members, disk.reference, member)
         }
         None => Ok(()),
@@ -114,19 +114,28 @@ fn put_array(
     }
 }
 
-fn members_in(
+fn members_among(
     alloc: Global,
-    views: &[View],
+    all: &[ArraySpares],
     rows: &[DiskRow],
 ) -> Result<IndexMap<u32, Member>, NoMemory>
     requires { IsDistinct nat_eq (map (λ disk. disk.reference) (filter_map disk_of rows.now)) }
-    ensures { IfOk result (λ members. members.entries ≡ map (member_entry_in views.now) (filter_map disk_of rows.now)) }
+    ensures { IfOk result (λ members. members.entries ≡ map (member_entry_among all.now) (filter_map disk_of rows.now)) }
 {
     let mut members = IndexMap::new(alloc);
     for row in rows {
-        put_member(alloc, views, &mut members, row)?;
+        put_member(alloc, all, &mut members, row)?;
     }
     Ok(members)
+}
+
+/// The members that views give.
+fn members_in(alloc: Global, views: &[View]) -> Result<IndexMap<u32, Member>, NoMemory>
+    requires { DoNamesDiffer views.now }
+    ensures { IfOk result (λ members. members.entries ≡ map (member_entry_in views.now) (disks_in views.now)) }
+{
+    let all = spares_in(alloc, views, array_rows(views))?;
+    members_among(alloc, &all, disk_rows(views))
 }
 
 fn arrays_in(
@@ -155,7 +164,7 @@ pub fn read(alloc: Global, group: Guid, sequence: u32, views: &[View]) -> Result
     requires { DoNamesDiffer views.now }
     ensures { IfOk result (λ config. config ≡ read group sequence views.now) }
 {
-    let members = members_in(alloc, views, disk_rows(views))?;
+    let members = members_in(alloc, views)?;
     let arrays = arrays_in(alloc, views, array_rows(views))?;
     Ok(Config {
         group,

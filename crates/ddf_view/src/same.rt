@@ -9,7 +9,7 @@ ghost use Rattle.ddf_view.specs.Differ.{same_held, same_notes, same_record};
 use crate::HeldRecord;
 use crate::element_reading::plan_of;
 use ddf_config::{ElementPlan, Position};
-use ddf_configs::{Element, SlotNote};
+use ddf_config_records::{Element, SlotNote};
 
 fn same_place(one: &Position, other: &Position) -> bool
     ensures { result ≡ same_place one.now other.now }

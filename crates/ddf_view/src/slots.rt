@@ -3,11 +3,11 @@ ghost use Rattle.std.specs.Prelude.{◌≡◌, false};
 ghost use Rattle.std.specs.Option.{option_copied, option_map_or};
 ghost use Rattle.std.specs.List.{list_any};
 ghost use Rattle.std.specs.Str.{bytes_eq};
-ghost use Rattle.ddf_configs.specs.Slots.{valid_notes, valid_of};
+ghost use Rattle.ddf_config_records.specs.Slots.{valid_notes, valid_of};
 ghost use Rattle.ddf_view.specs.View.{first_spare, spare_of};
 
 use ddf_bytes::Guid;
-use ddf_configs::{Notes, RecordSlot, SpareRecord};
+use ddf_config_records::{Notes, RecordSlot, SpareRecord};
 
 /// The notes of a slot, where they are those of a header with this GUID and sequence.
 fn valid_of<'a>(slot: &'a RecordSlot, group: &Guid, sequence: u32) -> Option<&'a Notes>

@@ -1,80 +1,193 @@
-//! What disks may stand in for.
-ghost use Rattle.std.specs.Prelude.{◌≡◌, ◌==◌, false, filter, map, IfOk};
-ghost use Rattle.std.specs.Option.{option_map_or};
-ghost use Rattle.std.specs.List.{list_any, range_with_len};
-ghost use Rattle.ddf_view.specs.View.{find_held};
-ghost use Rattle.ddf_view.specs.Reading.{arrays_in, dedicated_or_not, elements_in, is_associated, is_dedicated, names_array, spare_in};
+//! What disks may stand in for. The spares of each array are gathered once, so that a disk is looked up by its reference.
+ghost use Rattle.std.specs.Prelude.{◌≡◌, ◌==◌, ◌&&◌, ◌++◌, not, filter_map, is_some, map, option_map, IfOk, OnOk};
+ghost use Rattle.std.specs.Option.{option_to_list};
+ghost use Rattle.std.specs.List.{flat_map, list_any, range_with_len};
+ghost use Rattle.ddf_view.specs.View.{array_of, find_held};
+ghost use Rattle.ddf_view.specs.Reading.{are_noted, dedicated_or_not, elements_in, naming_record};
+ghost use Rattle.ddf_view.specs.Spares.{
+  dedicated_among,
+  dedicated_by,
+  held_spares,
+  listed_in,
+  named_by,
+  named_in,
+  counts_own,
+  spare_among,
+  spares_of,
+};
 
 use crate::View;
 use crate::arrays::array_of;
 use crate::flags::is_global;
-use crate::together::{are_noted, array_rows, count_in, find_held, naming_record};
+use crate::together::{are_noted, count_in, find_held, naming_record};
 use ddf_bytes::{Guid, NoMemory, Seq};
 use ddf_config::SpareUse;
-use ddf_tables::{ArrayEntry, DiskEntry};
+use ddf_tables::{ArrayEntry, ArrayRow, DiskEntry};
 use std::alloc::Global;
 
-fn is_listed(spares: &[u32], reference: u32) -> bool
-    ensures { result ≡ list_any (λ spare. spare == reference) spares.now }
-{
-    spares.iter().any(|spare| *spare == reference)
+/// An array, and the references of the disks that stand in for it.
+#[derive(Drop)]
+pub(crate) struct ArraySpares {
+    /// The GUID of the array.
+    pub array: Guid,
+    /// The references.
+    pub references: Seq<u32>,
 }
 
-/// Whether the record of an element of an array lists a disk among its associated spares.
-fn element_lists(views: &[View], reference: u32, array: &Guid, index: usize) -> bool
-    ensures { result ≡ option_map_or (λ held. list_any (λ spare. spare == reference) held.element.spares) (find_held array.now index (elements_in views.now)) false }
+/// Puts the associated spares of an element behind others, where a view holds its record.
+fn push_held(all: &mut Vec<u32>, views: &[View], array: &Guid, index: usize) -> Result<(), NoMemory>
+    ensures { OnOk result (all.new.items ≡ all.old.items ++ held_spares (find_held array.now index (elements_in views.now))) }
 {
     match find_held(views, array, index) {
         Some(held) => {
             let element = held.element;
-            is_listed(&element.spares, reference)
+            all.extend_from_slice(&element.spares)?;
+            Ok(())
         }
-        None => false,
+        None => Ok(()),
     }
 }
 
-/// Whether one of so many elements of an array does.
-fn some_lists(views: &[View], reference: u32, array: &Guid, count: usize) -> bool
-    ensures { result ≡ list_any (λ index. option_map_or (λ held. list_any (λ spare. spare == reference) held.element.spares) (find_held array.now index (elements_in views.now)) false) (range_with_len 0 count) }
+/// Puts the associated spares of so many elements of an array behind others.
+fn push_elements(
+    all: &mut Vec<u32>,
+    views: &[View],
+    array: &Guid,
+    count: usize,
+) -> Result<(), NoMemory>
+    ensures { OnOk result (all.new.items ≡ all.old.items ++ flat_map (λ index. held_spares (find_held array.now index (elements_in views.now))) (range_with_len 0 count)) }
 {
-    (0..count).any(|index| element_lists(views, reference, array, index))
+    for index in 0..count {
+        push_held(all, views, array, index)?;
+    }
+    Ok(())
 }
 
-/// Whether an element of an array lists a disk among its associated spares.
-fn is_associated(views: &[View], reference: u32, array: &Guid) -> bool
-    ensures { result ≡ is_associated (elements_in views.now) reference array.now }
+/// Puts the associated spares of an array behind others.
+fn push_listed(all: &mut Vec<u32>, views: &[View], array: &Guid) -> Result<(), NoMemory>
+    ensures { OnOk result (all.new.items ≡ all.old.items ++ listed_in views.now array.now) }
 {
-    some_lists(views, reference, array, count_in(views, array))
+    push_elements(all, views, array, count_in(views, array))
 }
 
-/// Whether the spare record of a disk's own copy names an array.
-fn is_named(views: &[View], reference: u32, array: &Guid) -> bool
-    ensures { result ≡ list_any (names_array reference array.now) views.now }
+/// Puts the reference of a copy's own disk behind others, where its spare record names the array.
+fn push_name(all: &mut Vec<u32>, view: &View, array: &Guid) -> Result<(), NoMemory>
+    ensures { OnOk result (all.new.items ≡ all.old.items ++ named_by array.now view.now) }
 {
-    views.iter().any(|view| view.names_array(reference, array))
+    if view.spare_names(array) {
+        all.push(view.reference())?;
+        Ok(())
+    } else {
+        Ok(())
+    }
 }
 
-/// Whether a disk is a spare for this array. Where no view has valid notes, its own spare record tells it too.
-fn is_dedicated(views: &[View], reference: u32, array: &ArrayEntry) -> bool
-    ensures { result ≡ is_dedicated views.now reference array.now }
+fn push_names(all: &mut Vec<u32>, views: &[View], array: &Guid) -> Result<(), NoMemory>
+    ensures { OnOk result (all.new.items ≡ all.old.items ++ flat_map (named_by array.now) views.now) }
 {
-    is_associated(views, reference, &array.guid)
-        || !are_noted(views)
-            && naming_record(views, &array.guid).is_some()
-            && is_named(views, reference, &array.guid)
+    for view in views {
+        push_name(all, view, array)?;
+    }
+    Ok(())
+}
+
+/// Whether the disks' own spare records count for an array: where no view has valid notes and one holds an element of it.
+fn counts_own(views: &[View], array: &Guid) -> bool
+    ensures { result ≡ counts_own views.now array.now }
+{
+    !are_noted(views) && naming_record(views, array).is_some()
+}
+
+/// Puts the disks whose own spare records name the array behind others, where these records count.
+fn push_named(all: &mut Vec<u32>, views: &[View], array: &Guid) -> Result<(), NoMemory>
+    ensures { OnOk result (all.new.items ≡ all.old.items ++ named_in views.now array.now) }
+{
+    if counts_own(views, array) {
+        push_names(all, views, array)
+    } else {
+        Ok(())
+    }
+}
+
+/// The disks that stand in for an array.
+fn spares_of(alloc: Global, views: &[View], entry: &ArrayEntry) -> Result<ArraySpares, NoMemory>
+    ensures { IfOk result (λ spares. spares ≡ spares_of views.now entry.now) }
+{
+    let mut references = Vec::new(alloc);
+    push_listed(&mut references, views, &entry.guid)?;
+    push_named(&mut references, views, &entry.guid)?;
+    Ok(ArraySpares {
+        array: entry.guid,
+        references: Seq::new(references),
+    })
+}
+
+/// Puts the spares of a row's array behind those of others.
+fn push_spares(
+    alloc: Global,
+    views: &[View],
+    all: &mut Vec<ArraySpares>,
+    row: &ArrayRow,
+) -> Result<(), NoMemory>
+    ensures { OnOk result (all.new.items ≡ all.old.items ++ option_to_list (option_map (spares_of views.now) (array_of row.now))) }
+{
+    match array_of(row) {
+        Some(entry) => {
+            let spares = spares_of(alloc, views, &entry)?;
+            all.push(spares)?;
+            Ok(())
+        }
+        None => Ok(()),
+    }
+}
+
+/// The disks that stand in for each array of these rows.
+///
+/// # Errors
+/// Memory ran out.
+pub(crate) fn spares_in(
+    alloc: Global,
+    views: &[View],
+    rows: &[ArrayRow],
+) -> Result<Vec<ArraySpares>, NoMemory>
+    ensures { IfOk result (λ all. all.items ≡ map (spares_of views.now) (filter_map array_of rows.now)) }
+{
+    let mut all = Vec::new(alloc);
+    for row in rows {
+        push_spares(alloc, views, &mut all, row)?;
+    }
+    Ok(all)
+}
+
+fn is_among(references: &[u32], reference: u32) -> bool
+    ensures { result ≡ list_any (λ spare. spare == reference) references.now }
+{
+    references.iter().any(|spare| *spare == reference)
+}
+
+/// Puts an array behind others, where the disk stands in for it.
+fn push_array(arrays: &mut Vec<Guid>, spares: &ArraySpares, reference: u32) -> Result<(), NoMemory>
+    ensures { OnOk result (arrays.new.items ≡ arrays.old.items ++ dedicated_by reference spares.now) }
+{
+    if is_among(spares.references.items(), reference) {
+        arrays.push(spares.array)?;
+        Ok(())
+    } else {
+        Ok(())
+    }
 }
 
 /// The arrays that a disk is a spare for, in table order.
-fn dedicated_arrays(alloc: Global, views: &[View], reference: u32) -> Result<Vec<Guid>, NoMemory>
-    ensures { IfOk result (λ arrays. arrays.items ≡ map (λ entry. entry.guid) (filter (is_dedicated views.now reference) (arrays_in views.now))) }
+fn dedicated_among(
+    alloc: Global,
+    all: &[ArraySpares],
+    reference: u32,
+) -> Result<Vec<Guid>, NoMemory>
+    ensures { IfOk result (λ arrays. arrays.items ≡ dedicated_among all.now reference) }
 {
     let mut arrays = Vec::new(alloc);
-    for row in array_rows(views) {
-        if let Some(array) = array_of(row) {
-            if is_dedicated(views, reference, &array) {
-                arrays.push(array.guid)?;
-            }
-        }
+    for spares in all {
+        push_array(&mut arrays, spares, reference)?;
     }
     Ok(arrays)
 }
@@ -89,21 +202,20 @@ fn dedicated_or_not(arrays: Vec<Guid>) -> SpareUse
     }
 }
 
-/// What a disk of the first view may stand in for.
+/// What a disk of the first view may stand in for, by the spares of all arrays.
 ///
 /// # Errors
 /// Memory ran out.
-#[tactic(auto, unfolding(crate::specs::Reading::spare_in))]
-pub(crate) fn spare_in(
+pub(crate) fn spare_among(
     alloc: Global,
-    views: &[View],
+    all: &[ArraySpares],
     disk: &DiskEntry,
 ) -> Result<SpareUse, NoMemory>
-    ensures { IfOk result (λ spare. spare ≡ spare_in views.now disk.now) }
+    ensures { IfOk result (λ spare. spare ≡ spare_among all.now disk.now) }
 {
     if is_global(disk.kind) {
         return Ok(SpareUse::Global);
     }
-    let arrays = dedicated_arrays(alloc, views, disk.reference)?;
+    let arrays = dedicated_among(alloc, all, disk.reference)?;
     Ok(dedicated_or_not(arrays))
 }

@@ -6,7 +6,7 @@ ghost use Rattle.ddf_view.specs.Reading.{are_noted, arrays_in, count_in, disks_i
 
 use crate::{HeldRecord, View};
 use ddf_bytes::Guid;
-use ddf_configs::SlotNote;
+use ddf_config_records::SlotNote;
 use ddf_tables::{ArrayRow, DiskRow};
 
 /// The most elements that an array has (profile).

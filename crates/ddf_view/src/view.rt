@@ -8,7 +8,7 @@ use crate::flags::is_missing;
 use crate::held::{find_held, find_note};
 use crate::slots::{spare_names, valid_notes};
 use ddf_bytes::Guid;
-use ddf_configs::{Notes, RecordSlot, SlotNote};
+use ddf_config_records::{Notes, RecordSlot, SlotNote};
 use ddf_copy::DiskCopy;
 use ddf_tables::{ArrayRow, DiskRow};
 use std::marker::Model;
@@ -46,7 +46,7 @@ impl<'a> View<'a> {
       view_of,
     };
     ghost use Rattle.ddf_view.specs.Differ.{key_of};
-    ghost use Rattle.ddf_view.specs.Reading.{names_array};
+    ghost use Rattle.ddf_view.specs.Spares.{spare_names};
 
     /// The view of a copy.
     pub fn new(copy: &'a DiskCopy) -> View<'a>
@@ -163,10 +163,10 @@ impl<'a> View<'a> {
         find_note(self.notes, self.copy.slots.items(), array, index)
     }
 
-    /// Whether this is the copy of the disk with this reference, and its spare record names the array.
-    pub fn names_array(&self, reference: u32, array: &Guid) -> bool
-        ensures { result ≡ names_array reference array.now self.now }
+    /// Whether the first spare record names the array.
+    pub(crate) fn spare_names(&self, array: &Guid) -> bool
+        ensures { result ≡ spare_names array.now self.now }
     {
-        self.copy.disk_data.reference == reference && spare_names(self.copy.slots.items(), array)
+        spare_names(self.copy.slots.items(), array)
     }
 }

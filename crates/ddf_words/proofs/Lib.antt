@@ -19,3 +19,11 @@ mod Numbers
 pub mod Finds
 pub mod Wishes
 pub mod Imports
+pub mod Batches
+pub mod LineWords
+pub mod Texts
+mod ExerciseStanding
+mod ExerciseWrongly
+mod ExerciseLeading
+mod ExerciseNumbers
+mod ExerciseTelling

@@ -7,7 +7,7 @@ use Rattle.ddf_array.specs.Places.{site_at, site_on}
 use Rattle.ddf_array.specs.Rows.{block_at}
 use Rattle.ddf_array.specs.Sources.{copy, sources}
 use Rattle.ddf_array.specs.Volume.{IsVolume, Volume}
-use Rattle.ddf_volume.specs.Reading.{FirstHasSlot, IsOn}
+use Rattle.ddf_read.specs.Reading.{FirstHasSlot, IsOn}
 use Rattle.ddf_cells.proofs.Alike.{cell_site, copy_is_cell}
 use Rattle.ddf_cells.proofs.CopiesOn.{block_at_sits}
 use Rattle.ddf_cells.proofs.FirstSlots.{block_on, own_on}

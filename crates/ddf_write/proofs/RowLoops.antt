@@ -29,7 +29,7 @@ use Rattle.ddf_array.specs.Values.{bytes_at}
 use Rattle.ddf_array.specs.Volume.{Volume, IsVolume}
 use Rattle.ddf_array.proofs.Consistent.{position_within}
 use Rattle.ddf_array.proofs.Elements.{parts_count}
-use Rattle.ddf_volume.specs.Reading.{Failed}
+use Rattle.ddf_read.specs.Reading.{Failed}
 use Rattle.ddf_write.specs.RowWrites.{AllRows, AreTouched, IsFilled, IsOnlyCell, IsSure, KeepsSums, RowsIn, RowsOf, parity_cells, parity_cells_of}
 use Rattle.ddf_cells.specs.Touching.{Writes}
 use Rattle.ddf_cells.specs.Degraded.{is_degraded}
@@ -41,7 +41,7 @@ use Rattle.ddf_cells.proofs.OnCells.{Sits, block_below, in_every_holds, on_cell,
 use Rattle.ddf_bay.proofs.Steps.{rose_since, rose_then}
 use Rattle.ddf_write.proofs.RowReads.{sure_fewer}
 use Rattle.ddf_write.proofs.RowSteps.{parity_of}
-use Rattle.ddf_volume.proofs.Tries.{NotRead-wider}
+use Rattle.ddf_read.proofs.Tries.{NotRead-wider}
 use Rattle.ddf_cells.proofs.DataCells.{keeps}
 use Rattle.ddf_write.proofs.RowsRight.{row_stays}
 use Rattle.ddf_write.proofs.Gives.{may_cell}

@@ -11,8 +11,8 @@ use Rattle.ddf_array.specs.Places.{site_at}
 use Rattle.ddf_array.specs.Rows.{block_at, cell_value}
 use Rattle.ddf_array.specs.Sources.{Source, copy, sources, trusts_parity}
 use Rattle.ddf_array.specs.Volume.{Volume, IsVolume}
-use Rattle.ddf_volume.specs.Reading.{IsGivenBy, NoneLeft}
-use Rattle.ddf_volume.proofs.Tries.{NotRead-wider}
+use Rattle.ddf_read.specs.Reading.{IsGivenBy, NoneLeft}
+use Rattle.ddf_read.proofs.Tries.{NotRead-wider}
 use Rattle.ddf_cells.specs.Degraded.{is_degraded}
 use Rattle.ddf_cells.specs.RowSums.{HoldsParityAlong}
 use Rattle.ddf_write.specs.Filling.{NoneLeftOfBlocks, NoneLeftOfCells}

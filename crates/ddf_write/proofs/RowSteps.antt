@@ -1,8 +1,8 @@
 -- The parity of a row is written.
 use Rattle.std.proofs.Common.{◌≡◌, ◌∙◌, ◌⊎◌, inl, inr, ⊎_elim, ℕ, ◌+◌, ◌-◌, ◌/◌, ◌<◌, ◌≤◌, List, [], Some, false, sym, ap, subst, arith, length, slice_get}
 use Rattle.std.specs.Prelude.{option_map, slice_index_or}
-use Rattle.ddf_volume.specs.Along.{further}
-use Rattle.ddf_volume.proofs.SourcesAlong.{site_further}
+use Rattle.ddf_read.specs.Along.{further}
+use Rattle.ddf_read.proofs.SourcesAlong.{site_further}
 use Rattle.ddf_cells.specs.Parity.{IsOfRows}
 use Rattle.ddf_cells.specs.RowSums.{HoldsParityAlong}
 use Rattle.ddf_write.specs.RowWrites.{AreTouched}

@@ -11,16 +11,16 @@ use Rattle.ddf_array.specs.Volume.{Volume, IsVolume}
 use Rattle.ddf_array.specs.Sources.{Source, copy, copies, sources, trusts_parity}
 use Rattle.ddf_array.specs.Values.{bytes_at, given, value}
 use Rattle.ddf_array.specs.Rows.{block_at, cell_value, row_sum, sources_without_block, value_without_block}
-use Rattle.ddf_volume.specs.Reading.{FirstHasSlot, IsGivenBy, IsOn}
+use Rattle.ddf_read.specs.Reading.{FirstHasSlot, IsGivenBy, IsOn}
 use Rattle.ddf_write.specs.RowWrites.{IsFilled, IsSure}
 use Rattle.ddf_cells.specs.Degraded.{is_degraded}
 use Rattle.ddf_write.specs.WriteRefused.{sources_in_write}
 use Rattle.ddf_array.specs.Apart.{IsApart}
 use Rattle.ddf_write.specs.Writing.{IsParityOf}
-use Rattle.ddf_volume.proofs.BlockSources.{sources_untrusted}
+use Rattle.ddf_read.proofs.BlockSources.{sources_untrusted}
 use Rattle.ddf_cells.proofs.CopiesOn.{block_at_sits, in_copies, on_position}
-use Rattle.ddf_volume.proofs.GivenLaws.{one_of, first_of}
-use Rattle.ddf_volume.proofs.SourceSlots.{first_on}
+use Rattle.ddf_read.proofs.GivenLaws.{one_of, first_of}
+use Rattle.ddf_read.proofs.SourceSlots.{first_on}
 use Rattle.ddf_cells.proofs.OnCells.{OnCell, block_below, no_parity, on_cell, one_owner, one_place}
 use Rattle.ddf_cells.proofs.DataCells as cells
 use Rattle.ddf_cells.proofs.DataCells.{IsReadFrom, at_first, keeps, row_is, same_sums, value_first}

@@ -13,7 +13,7 @@ use Rattle.ddf_array.specs.Sources.{copies}
 use Rattle.ddf_array.specs.Values.{bytes_at}
 use Rattle.ddf_array.specs.Volume.{Volume, IsVolume, volume}
 use Rattle.ddf_array.proofs.Consistent.{position_within}
-use Rattle.ddf_volume.specs.Reading.{IsOn}
+use Rattle.ddf_read.specs.Reading.{IsOn}
 use Rattle.ddf_cells.specs.Degraded.{is_degraded}
 use Rattle.ddf_array.specs.Apart.{IsApart}
 use Rattle.ddf_write.specs.Writing.{HasWritten, IsAmongWrites, IsLeftByWrite, MayGive}

@@ -16,8 +16,8 @@ use Rattle.ddf_array.specs.Values.{value}
 use Rattle.ddf_array.specs.Volume.{Volume, IsVolume, capacity, volume}
 use Rattle.ddf_array.specs.Within.{is_within}
 use Rattle.ddf_array.proofs.Bools.{and_first, and_second}
-use Rattle.ddf_volume.specs.declared.fault.VolumeFault.{VolumeFault}
-use Rattle.ddf_volume.specs.declared.fault.VolumeFault.TheVariants.{Range, Lost, Degraded}
+use Rattle.ddf_read.specs.declared.fault.VolumeFault.{VolumeFault}
+use Rattle.ddf_read.specs.declared.fault.VolumeFault.TheVariants.{Range, Lost, Degraded}
 use Rattle.ddf_cells.specs.Degraded.{is_degraded}
 use Rattle.ddf_write.specs.WriteRefused.{write_refusal}
 use Rattle.ddf_write.specs.Writing.{HasWritten, IsLeftByWrite}

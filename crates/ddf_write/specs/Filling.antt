@@ -4,7 +4,7 @@ use Rattle.ddf_array.specs.declared.part.Part.{Part}
 use Rattle.ddf_array.specs.Rows.{block_at}
 use Rattle.ddf_array.specs.Sources.{sources}
 use Rattle.ddf_array.specs.Volume.{Volume}
-use Rattle.ddf_volume.specs.Reading.{NoneLeft}
+use Rattle.ddf_read.specs.Reading.{NoneLeft}
 use Rattle.ddf_write.specs.WriteRefused.{IsOther, NoneLeftOfCell}
 
 -- so many blocks from one on are all among those that are written, or none of them is

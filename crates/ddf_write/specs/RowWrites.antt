@@ -10,7 +10,7 @@ use Rattle.ddf_array.specs.Levels.{keeps_parity}
 use Rattle.ddf_array.specs.Rows.{block_at, row_sum}
 use Rattle.ddf_array.specs.Values.{bytes_at}
 use Rattle.ddf_array.specs.Volume.{Volume}
-use Rattle.ddf_volume.specs.Reading.{IsOn}
+use Rattle.ddf_read.specs.Reading.{IsOn}
 use Rattle.ddf_cells.specs.CellSources.{HaveEqualCopies}
 use Rattle.ddf_cells.specs.CellsOn.{cell_on}
 use Rattle.ddf_cells.specs.Touching.{IsTouchedSlot}

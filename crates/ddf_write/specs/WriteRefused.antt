@@ -11,9 +11,9 @@ use Rattle.ddf_array.specs.Volume.{Volume, capacity}
 use Rattle.ddf_array.specs.Within.{is_within}
 use Rattle.ddf_array.specs.Sources.{Source, copy, sources}
 use Rattle.ddf_array.specs.Rows.{block_at}
-use Rattle.ddf_volume.specs.declared.fault.VolumeFault.{VolumeFault}
-use Rattle.ddf_volume.specs.declared.fault.VolumeFault.TheVariants.{Range, Lost, Unsure, Degraded, Disk}
-use Rattle.ddf_volume.specs.Reading.{Failed, NoneLeft}
+use Rattle.ddf_read.specs.declared.fault.VolumeFault.{VolumeFault}
+use Rattle.ddf_read.specs.declared.fault.VolumeFault.TheVariants.{Range, Lost, Unsure, Degraded, Disk}
+use Rattle.ddf_read.specs.Reading.{Failed, NoneLeft}
 use Rattle.ddf_cells.specs.Degraded.{is_degraded}
 use Rattle.ddf_write.specs.Writing.{IsTouched, IsWritten}
 

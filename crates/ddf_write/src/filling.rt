@@ -6,7 +6,7 @@ ghost use Rattle.ddf_array.specs.Places.{site_at};
 ghost use Rattle.ddf_array.specs.Rows.{block_at};
 ghost use Rattle.ddf_array.specs.Sources.{copy, sources, trusts_parity};
 ghost use Rattle.ddf_array.specs.Volume.{Fits, IsPart, IsVolume, PartFits, capacity};
-ghost use Rattle.ddf_volume.specs.Reading.{OnlyReads, Failed, IsGivenBy, NoneLeft};
+ghost use Rattle.ddf_read.specs.Reading.{OnlyReads, Failed, IsGivenBy, NoneLeft};
 ghost use Rattle.ddf_cells.specs.CellSources.{AreCells, IsReadable};
 ghost use Rattle.ddf_cells.specs.Degraded.{is_degraded};
 ghost use Rattle.ddf_write.specs.Filling.{AreAlike, NoneLeftOfBlocks, NoneLeftOfCells};
@@ -17,7 +17,7 @@ use ddf_array::{Part, View};
 use ddf_bay::Bay;
 use ddf_bytes::Sector;
 use ddf_cells::{block_at, blocks_along, empty_from, read_run};
-use ddf_volume::read_from;
+use ddf_read::read_from;
 
 /// How many blocks from one on, at most so many, are all among those that are written, or all others.
 fn alike_from(block: u64, start: u64, count: usize, most: usize) -> usize

@@ -10,7 +10,7 @@ ghost use Rattle.ddf_array.specs.Values.{bytes_at, value};
 ghost use Rattle.ddf_array.specs.Volume.{Fits, Volume, IsVolume, volume, capacity};
 ghost use Rattle.ddf_cells.specs.CellsOn.{copy_cells, write_cells};
 ghost use Rattle.ddf_array.specs.Within.{is_within};
-ghost use Rattle.ddf_volume.specs.Reading.{IsOn};
+ghost use Rattle.ddf_read.specs.Reading.{IsOn};
 ghost use Rattle.ddf_cells.specs.Degraded.{is_degraded};
 ghost use Rattle.ddf_array.specs.Apart.{IsApart};
 ghost use Rattle.ddf_write.specs.WriteRefused.{IsStopped};

@@ -4,7 +4,7 @@ ghost use Rattle.ddf_array.specs.Apart.{IsApart};
 ghost use Rattle.ddf_array.specs.Levels.{keeps_parity};
 ghost use Rattle.ddf_array.specs.Sources.{trusts_parity};
 ghost use Rattle.ddf_array.specs.Volume.{Fits, IsVolume};
-ghost use Rattle.ddf_volume.specs.Reading.{OnlyReads, Failed};
+ghost use Rattle.ddf_read.specs.Reading.{OnlyReads, Failed};
 ghost use Rattle.ddf_cells.specs.CellSources.{AreSums, IsReadable};
 ghost use Rattle.ddf_cells.specs.Degraded.{is_degraded};
 ghost use Rattle.ddf_cells.specs.RowSums.{AreAddedAt, HoldsParityAlong, is_other};
@@ -16,7 +16,7 @@ use crate::filling::fill_cells;
 use ddf_array::{Part, View};
 use ddf_bay::Bay;
 use ddf_bytes::Sector;
-use ddf_volume::{add_each, clear};
+use ddf_read::{add_each, clear};
 
 /// Adds the values of neighbouring cells of a position, but for the one with the parity. After a failure, the slot at
 /// which no source of a cell is left.

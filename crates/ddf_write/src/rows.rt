@@ -8,7 +8,7 @@ ghost use Rattle.ddf_array.specs.Rows.{block_at, row_sum};
 ghost use Rattle.ddf_array.specs.Sources.{trusts_parity};
 ghost use Rattle.ddf_array.specs.Values.{bytes_at};
 ghost use Rattle.ddf_array.specs.Volume.{Fits, IsVolume, capacity};
-ghost use Rattle.ddf_volume.specs.Reading.{Failed};
+ghost use Rattle.ddf_read.specs.Reading.{Failed};
 ghost use Rattle.ddf_cells.specs.CellSources.{IsReadable};
 ghost use Rattle.ddf_cells.specs.Degraded.{is_degraded};
 ghost use Rattle.ddf_cells.specs.Parity.{IsOfRows};
@@ -24,7 +24,7 @@ use ddf_bay::Bay;
 use ddf_bytes::Sector;
 use ddf_cells::{SECTORS, block_at, blocks_along, piece_at, touch};
 use ddf_primary::Cell;
-use ddf_volume::keeps_parity;
+use ddf_read::keeps_parity;
 
 /// Sets the parity of neighbouring rows to the sums of their data cells. After a failure, the slot that failed, or at which
 /// no source of a data cell is left.

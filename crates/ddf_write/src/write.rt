@@ -8,7 +8,7 @@ ghost use Rattle.ddf_array.specs.Sources.{trusts_parity};
 ghost use Rattle.ddf_array.specs.Volume.{Fits, IsVolume, capacity};
 ghost use Rattle.ddf_cells.specs.CellSources.{IsReadable};
 ghost use Rattle.ddf_cells.specs.CellsOn.{copy_cells, write_stretches};
-ghost use Rattle.ddf_volume.specs.Reading.{Failed};
+ghost use Rattle.ddf_read.specs.Reading.{Failed};
 ghost use Rattle.ddf_write.specs.RowWrites.{IsSure, keeps_parity_anywhere, row_cells};
 ghost use Rattle.ddf_cells.specs.Touching.{GoesBetween};
 ghost use Rattle.ddf_cells.specs.Degraded.{is_degraded, lacks_place};
@@ -21,7 +21,7 @@ use ddf_array::View;
 use ddf_bay::Bay;
 use ddf_bytes::Sector;
 use ddf_cells::{is_degraded, sync_touched, write_cells};
-use ddf_volume::VolumeFault;
+use ddf_read::VolumeFault;
 
 /// Why `write_blocks` writes none of so many blocks from one on: `Range` where they pass the capacity, `Lost` where the array
 /// isn't within its level, `Degraded` where an element that keeps parity lacks a position, the first of these that holds.

@@ -12,10 +12,10 @@ use Rattle.ddf_assembly.specs.Ready.{ReadyValue, readied}
 use Rattle.ddf_assembly.specs.Recovery.{config_recovered}
 use Rattle.ddf_assembly.specs.Seated.{seated}
 use Rattle.ddf_assembly.specs.Steps.{Step}
-use Rattle.ddf_stops.specs.Going.{KeepsHistory, changes_in}
-use Rattle.ddf_stops.specs.Steps.{IsCommit}
-use Rattle.ddf_stops.specs.BlockFloors.{AreFloored, floor_in}
-use Rattle.ddf_stops.proofs.Course.{recovery_failed}
+use Rattle.ddf_history_steps.specs.Going.{KeepsHistory, changes_in}
+use Rattle.ddf_history_steps.specs.Steps.{IsCommit}
+use Rattle.ddf_history_steps.specs.BlockFloors.{AreFloored, floor_in}
+use Rattle.ddf_history_steps.proofs.Course.{recovery_failed}
 use Rattle.ddf_answer.specs.declared.failure.Failure.{Failure}
 use Rattle.ddf_answer.specs.declared.failure.Failure.TheVariants.{Disk}
 use Rattle.ddf_answer.specs.Call.{work_of}

@@ -14,7 +14,7 @@ use Rattle.ddf_array.specs.Sources.{copies}
 use Rattle.ddf_array.specs.Viewing.{view_of}
 use Rattle.ddf_array.specs.Volume.{Fits, IsVolume, Volume}
 use Rattle.ddf_array.proofs.Fits.{view_fits}
-use Rattle.ddf_volume.proofs.Sites.{IsThere, site_at_there}
+use Rattle.ddf_read.proofs.Sites.{IsThere, site_at_there}
 use Rattle.ddf_cells.specs.Parity.{IsParityCell}
 use Rattle.ddf_array.specs.declared.part.Part.{Part}
 use Rattle.ddf_cells.proofs.CopiesOn.{block_at_sits, on_position}
@@ -25,8 +25,8 @@ use Rattle.ddf_write.specs.Writing.{MayGive}
 use Rattle.ddf_rewrite.proofs.Lists.{all_at}
 use Rattle.ddf_assembly.specs.Committed.{slots_of}
 use Rattle.ddf_assembly.specs.Trying.{SlotsRise}
-use Rattle.ddf_stops.specs.Kept.{is_slot}
-use Rattle.ddf_stops.specs.BlockFloors.{floor_in}
+use Rattle.ddf_history_steps.specs.Kept.{is_slot}
+use Rattle.ddf_history_steps.specs.BlockFloors.{floor_in}
 
 -- ---- the floors of seats
 

@@ -15,7 +15,7 @@ use Rattle.ddf_plan.specs.declared.change.Change.{Change}
 use Rattle.ddf_rewrite.proofs.Lists.{map_get}
 use Rattle.ddf_array.specs.Sound.{AreSectors}
 use Rattle.ddf_array.specs.Volume.{Volume}
-use Rattle.ddf_volume.specs.Reading.{Failed}
+use Rattle.ddf_read.specs.Reading.{Failed}
 use Rattle.ddf_update.specs.Group.{IsOneOf}
 use Rattle.ddf_history.specs.Groups.{groups}
 use Rattle.ddf_history.specs.Issued.{Past}
@@ -28,12 +28,12 @@ use Rattle.ddf_assembly.specs.Reading.{HaveAnchors}
 use Rattle.ddf_assembly.specs.Ready.{ReadyValue, readied}
 use Rattle.ddf_assembly.specs.Seated.{seated}
 use Rattle.ddf_assembly.specs.Steps.{Step}
-use Rattle.ddf_stops.specs.Going.{Goes, IsAdmitted, KeepsHistory, changes_in}
-use Rattle.ddf_stops.specs.Kept.{AreAllKept, is_read, is_slot}
-use Rattle.ddf_stops.specs.Steps.{IsCommit}
-use Rattle.ddf_stops.proofs.Slots.{slot_placed}
-use Rattle.ddf_stops.specs.Course.{IsUnderWay}
-use Rattle.ddf_stops.specs.BlockFloors.{AreFloored, WritesBelow, floor_in}
+use Rattle.ddf_history_steps.specs.Going.{Goes, IsAdmitted, KeepsHistory, changes_in}
+use Rattle.ddf_history_steps.specs.Kept.{AreAllKept, is_read, is_slot}
+use Rattle.ddf_history_steps.specs.Steps.{IsCommit}
+use Rattle.ddf_history_steps.proofs.Slots.{slot_placed}
+use Rattle.ddf_history_steps.specs.Course.{IsUnderWay}
+use Rattle.ddf_history_steps.specs.BlockFloors.{AreFloored, WritesBelow, floor_in}
 use Rattle.ddf_answer.specs.declared.failure.Failure.{Failure}
 use Rattle.ddf_answer.specs.declared.failure.Failure.TheVariants.{Conflict, Disk, Memory, Refused, Split}
 use Rattle.ddf_answer.specs.Call.{Work, work_of}
@@ -50,7 +50,7 @@ use Rattle.ddf_write_commands.specs.Doing.{Doing}
 use Rattle.ddf_write_commands.specs.Holding.{holding}
 use Rattle.ddf_write_commands.specs.Opened.{CanGoOn, IsOpened, steps_left}
 use Rattle.ddf_write_commands.specs.Planned.{IsPlanned}
-use Rattle.ddf_write_commands.specs.Worked.{IsArrayDone, IsArrayLeft, IsArrayStopped, IsLeftClosing, IsLeftDoing, IsLeftWorking, IsWorkedOf}
+use Rattle.ddf_write_commands.specs.Worked.{HasBegun, IsArrayDone, IsArrayLeft, IsArrayStopped, IsLeftClosing, IsLeftDoing, IsLeftWorking, IsWorkedOf}
 use Rattle.ddf_write_commands.proofs.BelowFloors.{floor_slot}
 use Rattle.ddf_write_commands.proofs.Closing.{last_keeps}
 use Rattle.ddf_write_commands.proofs.Courses.{write_fails, writes}
@@ -73,7 +73,7 @@ last_behind config (step ∷ first) last = last_behind step.config first last
 -- ---- a call that failed before the blocks
 
 module _ {D : Type 0} (doing : Doing) (work : Work D) (found : GroupValue) (timestamp : ℕ) (word : List ℕ) (request : Request) where
-  seat_there : SeatsFit work.old.sizes found.seats → (slot : ℕ) → IsOneOf (slots_of found.seats) slot → slot < length work.old.sizes
+  pub seat_there : SeatsFit work.old.sizes found.seats → (slot : ℕ) → IsOneOf (slots_of found.seats) slot → slot < length work.old.sizes
   seat_there fit slot one =
       let seat = map_get (λ (each : Seat). each.slot) found.seats one.place slot one.is_there in
       subst (λ (n : ℕ). n < length work.old.sizes) seat.2 (fit one.place seat.0 seat.1).0
@@ -152,6 +152,12 @@ module _ {D : Type 0} (tells : Type 0) (doing : Doing) (steady : IsSteady doing)
     same_sizes_behind = works.goes.same_sizes ∙ same_sizes
 
     module _ (word : List ℕ) (request : Request) (plan : IsPlanned found timestamp word request) (first_is : plan.first ≡ opens.steps) (last_is : plan.last ≡ last) (volume_is : plan.volume ≡ volume) where
+      first_written : tells → AreWritten old.sizes old.held plan.first opened.held
+      first_written told = subst (λ (steps : List Step). AreWritten old.sizes old.held steps opened.held) (sym first_is) (opens.are_written told)
+
+      begun_so_far : tells → HasBegun doing (work_of tells old behind) plan.first plan.volume
+      begun_so_far told = (opened.held, first_written told, subst (λ (v : Volume). doing.IsLeft v opened.held behind.held) (sym volume_is) (works.is_left told))
+
       pub work_stopped : (slot : ℕ) → HasStopped doing found.seats volume opened behind slot → IsWorkedOf doing (work_of tells old behind) found timestamp word request (Err (Disk slot))
       work_stopped slot stops = record {
         plan = plan;
@@ -159,13 +165,13 @@ module _ {D : Type 0} (tells : Type 0) (doing : Doing) (steady : IsSteady doing)
         there = seat_there doing (work_of tells old behind) found timestamp word request from.seats slot stops.is_seat;
         stopped = ⊎_elim
             (λ rose. inl (rose_later (old.failed_writes slot) (opened.failed_writes slot) (behind.failed_writes slot) (opened_rise slot) rose))
-            (λ none. inr (subst (λ (v : Volume). doing.NoneLeft (Failed old behind) v slot) (sym volume_is)
-            (steady.more_left (Failed opened behind) (Failed old behind) (more_failed behind (λ s. omega arith)) volume slot none)))
+            (λ none. inr (
+              subst (λ (v : Volume). doing.NoneLeft (Failed old behind) v slot) (sym volume_is)
+                  (steady.more_left (Failed opened behind) (Failed old behind) (more_failed behind (λ s. omega arith)) volume slot none),
+              inr begun_so_far,
+            ))
             stops.stopped;
       }
-
-      first_written : tells → AreWritten old.sizes old.held plan.first opened.held
-      first_written told = subst (λ (steps : List Step). AreWritten old.sizes old.held steps opened.held) (sym first_is) (opens.are_written told)
 
       -- it was, and nothing behind it
       pub work_left : done ≡ true → IsArrayLeft doing (work_of tells old behind) found timestamp word request

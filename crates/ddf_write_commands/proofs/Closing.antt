@@ -17,12 +17,12 @@ use Rattle.ddf_assembly.specs.Committed.{IsReadyFor, MayWriteNext, group_next, l
 use Rattle.ddf_assembly.specs.Group.{GroupValue}
 use Rattle.ddf_assembly.specs.Ready.{ReadyStep, ReadyValue}
 use Rattle.ddf_assembly.proofs.Committed.{may_write_next, next_lies}
-use Rattle.ddf_stops.specs.Going.{KeepsHistory}
-use Rattle.ddf_stops.specs.Kept.{ReadsTrue, is_slot}
-use Rattle.ddf_stops.specs.Steps.{IsCommit}
-use Rattle.ddf_stops.proofs.Slots.{slot_is}
-use Rattle.ddf_stops.specs.Course.{IsUnderWay}
-use Rattle.ddf_stops.proofs.Course.{course_ends}
+use Rattle.ddf_history_steps.specs.Going.{KeepsHistory}
+use Rattle.ddf_history_steps.specs.Kept.{ReadsTrue, is_slot}
+use Rattle.ddf_history_steps.specs.Steps.{IsCommit}
+use Rattle.ddf_history_steps.proofs.Slots.{slot_is}
+use Rattle.ddf_history_steps.specs.Course.{IsUnderWay}
+use Rattle.ddf_history_steps.proofs.Course.{course_ends}
 use Rattle.ddf_group_commands.specs.Others.{LeavesOthers}
 use Rattle.ddf_group_commands.specs.Writing.{IsLeftWriting}
 use Rattle.ddf_group_commands.proofs.Keeping.{reads_true}

@@ -11,18 +11,18 @@ use Rattle.ddf_assembly.specs.Committed.{group_next, group_recovered, left_behin
 use Rattle.ddf_assembly.specs.Group.{GroupValue}
 use Rattle.ddf_assembly.specs.Ready.{ReadyValue}
 use Rattle.ddf_assembly.specs.Seated.{seated}
-use Rattle.ddf_stops.specs.Going.{IsAdmitted, KeepsHistory}
-use Rattle.ddf_stops.specs.Kept.{AreAllKept}
-use Rattle.ddf_stops.specs.Steps.{IsCommit, IsRecovery, WasTaken, behind_recovery, recovery_changes}
-use Rattle.ddf_stops.proofs.CommittingKeeps.{commit_keeps, may, stands_behind}
-use Rattle.ddf_stops.proofs.Entering.{keeps_where_told}
-use Rattle.ddf_stops.proofs.RecoveringKeeps as recovering
-use Rattle.ddf_stops.specs.Course.{IsUnderWay, changes_ready}
-use Rattle.ddf_stops.specs.BlockFloors.{AreFloored, StaySettled, WritesBelow, floor_in}
-use Rattle.ddf_stops.proofs.Below.{all_kept, moments_kept, stands_still}
-use Rattle.ddf_stops.proofs.Course as course
-use Rattle.ddf_stops.proofs.Course.{blocks_failed, blocks_written, changes_parts, ready_still, recovery_loses, recovery_moments, reads_true, step_failed, step_written}
-use Rattle.ddf_stops.proofs.Floored.{seats_have_floors}
+use Rattle.ddf_history_steps.specs.Going.{IsAdmitted, KeepsHistory}
+use Rattle.ddf_history_steps.specs.Kept.{AreAllKept}
+use Rattle.ddf_history_steps.specs.Steps.{IsCommit, IsRecovery, WasTaken, behind_recovery, recovery_changes}
+use Rattle.ddf_history_steps.proofs.CommittingKeeps.{commit_keeps, may, stands_behind}
+use Rattle.ddf_history_steps.proofs.Entering.{keeps_where_told}
+use Rattle.ddf_history_steps.proofs.RecoveringKeeps as recovering
+use Rattle.ddf_history_steps.specs.Course.{IsUnderWay, changes_ready}
+use Rattle.ddf_history_steps.specs.BlockFloors.{AreFloored, StaySettled, WritesBelow, floor_in}
+use Rattle.ddf_history_steps.proofs.Below.{all_kept, moments_kept, stands_still}
+use Rattle.ddf_history_steps.proofs.Course as course
+use Rattle.ddf_history_steps.proofs.Course.{blocks_failed, blocks_written, changes_parts, ready_still, recovery_loses, recovery_moments, reads_true, step_failed, step_written}
+use Rattle.ddf_history_steps.proofs.Floored.{seats_have_floors}
 
 module _ (group : List ℕ) {D : Type 0} (past : Past (groups group)) (old new : BayState D) (tells_old : IsTold old) (tells_new : IsTold new) (left : List Bool) (named : Option (List ℕ)) (found : GroupValue)
     (asked : List Change) (timestamp : ℕ) (ready : ReadyValue) (taken : WasTaken old left named found asked timestamp ready) (same_group : found.config.group ≡ group) (kept : AreAllKept group past old)

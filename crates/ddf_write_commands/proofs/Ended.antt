@@ -4,7 +4,7 @@ use Rattle.std.proofs.lemmas.Bool.{false≢true}
 use Rattle.std.specs.Prelude.{IsTrue}
 use Rattle.ddf_bay.specs.Moments.{GoesOn}
 use Rattle.ddf_bay.specs.ReadsOnly.{ReadsOnly}
-use Rattle.ddf_volume.specs.Reading.{Failed}
+use Rattle.ddf_read.specs.Reading.{Failed}
 use Rattle.ddf_group.specs.declared.answer.Assembly.{Assembly}
 use Rattle.ddf_assembly.specs.Group.{GroupValue}
 use Rattle.ddf_answer.specs.declared.failure.Failure.{Failure}
@@ -26,7 +26,7 @@ module _ {D : Type 0} (traits : Traits) (refuses : traits.may_refuse ≡ true) (
   slot_rose found slot is = record {
     slot = slot;
     there = is.there;
-    rose = ⊎_elim inr (λ none. inl (steady.left_failed (Failed work.old work.new) is.plan.volume slot none)) is.stopped;
+    rose = ⊎_elim inr (λ none. inl (steady.left_failed (Failed work.old work.new) is.plan.volume slot none.0)) is.stopped;
   }
 
   pub failure_cause : (failure : Failure) (found : Result GroupValue Assembly) → IsWorkedIn doing work timestamp word request found (Err failure) → IsToldFailure failure answer

@@ -17,12 +17,15 @@ mod ResyncWorks
 mod Between
 pub mod Arrays
 mod ResyncArray
+mod Sparing
+mod ResyncBlocks
 mod PlanWritten
 mod WriteWorks
 mod WriteArray
 mod WriteBlocks
 pub mod Since
 pub mod Ended
+mod Looked
 mod FirstPiece
 mod WriteTaken
 mod WriteCame

@@ -41,7 +41,7 @@ use Rattle.ddf_array.specs.Viewing.{known_part, part_of, parts_of, place_of, vie
 use Rattle.ddf_array.specs.Volume.{Volume}
 use Rattle.ddf_array.specs.Within.{is_mirrored, is_part_within, is_redundant, is_within, keeps_more}
 use Rattle.ddf_array.proofs.Viewed.{Viewed, from_view, has_view}
-use Rattle.ddf_volume.specs.declared.fault.VolumeFault.TheVariants as volumes
+use Rattle.ddf_read.specs.declared.fault.VolumeFault.TheVariants as volumes
 use Rattle.ddf_cells.specs.Degraded.{is_degraded, lacks_place}
 use Rattle.ddf_resync.specs.Resyncing.{resync_refusal}
 

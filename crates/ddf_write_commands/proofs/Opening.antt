@@ -27,13 +27,13 @@ use Rattle.ddf_assembly.proofs.Committed.{may_write_next}
 use Rattle.ddf_assembly.proofs.CommittedAfter.{committed_anchored, committed_holds, left_ready}
 use Rattle.ddf_assembly.proofs.RecoveredGroup.{recovered_ready}
 use Rattle.ddf_assembly.proofs.RecoveryWritten.{may_recover, recovered_anchored, recovered_held, recovery_on_seats}
-use Rattle.ddf_stops.specs.Going.{IsAdmitted, KeepsHistory, changes_in}
-use Rattle.ddf_stops.specs.Kept.{AreAllKept, is_slot}
-use Rattle.ddf_stops.specs.Steps.{IsCommit, IsRecovery, WasTaken, recovery_changes}
-use Rattle.ddf_stops.proofs.Slots.{slot_is}
-use Rattle.ddf_stops.specs.Course.{IsUnderWay, changes_ready}
-use Rattle.ddf_stops.proofs.Course.{changes_parts}
-use Rattle.ddf_stops.proofs.Floored.{next_floored, recovered_floored}
+use Rattle.ddf_history_steps.specs.Going.{IsAdmitted, KeepsHistory, changes_in}
+use Rattle.ddf_history_steps.specs.Kept.{AreAllKept, is_slot}
+use Rattle.ddf_history_steps.specs.Steps.{IsCommit, IsRecovery, WasTaken, recovery_changes}
+use Rattle.ddf_history_steps.proofs.Slots.{slot_is}
+use Rattle.ddf_history_steps.specs.Course.{IsUnderWay, changes_ready}
+use Rattle.ddf_history_steps.proofs.Course.{changes_parts}
+use Rattle.ddf_history_steps.proofs.Floored.{next_floored, recovered_floored}
 use Rattle.ddf_group_commands.specs.Change.{KeepsHistories}
 use Rattle.ddf_group_commands.specs.GroupRead.{IsFoundBy, IsReadFrom}
 use Rattle.ddf_group_commands.specs.Others.{LeavesOthers}

@@ -15,15 +15,15 @@ use Rattle.ddf_assembly.specs.Group.{GroupValue}
 use Rattle.ddf_assembly.specs.Ready.{ReadyStep, ReadyValue}
 use Rattle.ddf_assembly.specs.Seated.{seated}
 use Rattle.ddf_assembly.specs.Steps.{Step}
-use Rattle.ddf_stops.specs.Going.{Goes, IsOver, KeepsHistory, changes_in, issue_all}
-use Rattle.ddf_stops.specs.Kept.{AreAllKept, is_read}
-use Rattle.ddf_stops.specs.Steps.{IsCommit, KeepsStep, behind_next, with_next}
-use Rattle.ddf_stops.proofs.CommittingKeeps.{commit_keeps}
-use Rattle.ddf_stops.proofs.LastIssued.{over_length}
-use Rattle.ddf_stops.specs.Course.{HasCome as Come, IsUnderWay}
-use Rattle.ddf_stops.specs.BlockFloors.{AreFloored, StaySettled, WritesBelow, floor_in}
-use Rattle.ddf_stops.proofs.Below.{all_kept, moments_kept}
-use Rattle.ddf_stops.proofs.Floored.{seats_have_floors}
+use Rattle.ddf_history_steps.specs.Going.{Goes, IsOver, KeepsHistory, changes_in, issue_all}
+use Rattle.ddf_history_steps.specs.Kept.{AreAllKept, is_read}
+use Rattle.ddf_history_steps.specs.Steps.{IsCommit, KeepsStep, behind_next, with_next}
+use Rattle.ddf_history_steps.proofs.CommittingKeeps.{commit_keeps}
+use Rattle.ddf_history_steps.proofs.LastIssued.{over_length}
+use Rattle.ddf_history_steps.specs.Course.{HasCome as Come, IsUnderWay}
+use Rattle.ddf_history_steps.specs.BlockFloors.{AreFloored, StaySettled, WritesBelow, floor_in}
+use Rattle.ddf_history_steps.proofs.Below.{all_kept, moments_kept}
+use Rattle.ddf_history_steps.proofs.Floored.{seats_have_floors}
 use Rattle.ddf_answer.specs.Call.{work_of}
 use Rattle.ddf_group_commands.specs.Change.{Request}
 use Rattle.ddf_group_commands.specs.Writing.{IsLeftWriting}

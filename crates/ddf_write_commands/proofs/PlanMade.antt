@@ -24,15 +24,15 @@ use Rattle.ddf_array.specs.Within.{is_redundant, is_within}
 use Rattle.ddf_array.proofs.Told.{told_redundant, told_within}
 use Rattle.ddf_array.proofs.Viewed.{from_view}
 use Rattle.ddf_cells.specs.Degraded.{is_degraded}
-use Rattle.ddf_volume.specs.declared.fault.VolumeFault.{VolumeFault}
-use Rattle.ddf_volume.specs.declared.fault.VolumeFault.TheVariants as volumes
+use Rattle.ddf_read.specs.declared.fault.VolumeFault.{VolumeFault}
+use Rattle.ddf_read.specs.declared.fault.VolumeFault.TheVariants as volumes
 use Rattle.ddf_resync.specs.Resyncing.{resync_refusal}
 use Rattle.ddf_request.specs.Named.{named_array}
 use Rattle.ddf_answer.specs.declared.failure.Failure.{Failure}
 use Rattle.ddf_answer.specs.declared.failure.Failure.TheVariants.{Conflict, Disk, Memory, Refused, Split}
-use Rattle.ddf_data_commands.specs.declared.using.Access.{Access}
-use Rattle.ddf_data_commands.specs.declared.using.Access.TheVariants.{Reads}
-use Rattle.ddf_data_commands.specs.Use.{IsUsable, IsViewed, MayUse, array_refusals, failure_of_volume, use_refusal}
+use Rattle.ddf_read_commands.specs.declared.using.Access.{Access}
+use Rattle.ddf_read_commands.specs.declared.using.Access.TheVariants.{Reads}
+use Rattle.ddf_read_commands.specs.Use.{IsUsable, IsViewed, MayUse, array_refusals, failure_of_volume, use_refusal}
 use Rattle.ddf_write_commands.specs.declared.planning.Plan.{Plan}
 use Rattle.ddf_write_commands.specs.Around.{marking}
 use Rattle.ddf_write_commands.specs.Marking.{IsMarkedAs, marks}
@@ -41,7 +41,7 @@ use Rattle.ddf_write_commands.specs.Plans.{IsPlanFor, IsPlanOf, MayPlan, MayPlan
 use Rattle.ddf_write_commands.specs.Resync.{resync_behind, resync_refusals}
 use Rattle.ddf_write_commands.proofs.Marked.{marked_view, refusal_same, was_marked}
 use Rattle.ddf_write_commands.proofs.PlanKept.{either}
-use Rattle.ddf_data_commands.proofs.ArrayUse.{named_is}
+use Rattle.ddf_read_commands.proofs.ArrayUse.{named_is}
 
 some_is : {A : Type 0} {one other : A} → ◌≡◌ {A = Option A} (Some one) (Some other) → one ≡ other
 some_is e = cc

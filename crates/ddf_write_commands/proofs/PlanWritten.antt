@@ -26,8 +26,8 @@ use Rattle.ddf_array.specs.Within.{is_mirrored, is_redundant, is_within, keeps_m
 use Rattle.ddf_array.proofs.Told.{told_capacity, told_redundant, told_within}
 use Rattle.ddf_array.proofs.Viewed.{from_view}
 use Rattle.ddf_cells.specs.Degraded.{is_degraded}
-use Rattle.ddf_volume.specs.declared.fault.VolumeFault.{VolumeFault}
-use Rattle.ddf_volume.specs.declared.fault.VolumeFault.TheVariants as volumes
+use Rattle.ddf_read.specs.declared.fault.VolumeFault.{VolumeFault}
+use Rattle.ddf_read.specs.declared.fault.VolumeFault.TheVariants as volumes
 use Rattle.ddf_resync.specs.Resyncing.{resync_refusal}
 use Rattle.ddf_write.specs.RowWrites.{keeps_parity_anywhere, keeps_parity_in}
 use Rattle.ddf_write.specs.WriteRefused.{write_refusal}
@@ -35,8 +35,8 @@ use Rattle.ddf_assembly.specs.Asked.{CanBeAsked}
 use Rattle.ddf_request.specs.Usable.{bad_blocks, useless}
 use Rattle.ddf_answer.specs.declared.failure.Failure.{Failure}
 use Rattle.ddf_answer.specs.declared.failure.Failure.TheVariants.{Refused}
-use Rattle.ddf_data_commands.specs.declared.using.Access.TheVariants.{Writes}
-use Rattle.ddf_data_commands.specs.Use.{IsUsable, array_refusals, is_forbidden, is_out_of_range}
+use Rattle.ddf_read_commands.specs.declared.using.Access.TheVariants.{Writes}
+use Rattle.ddf_read_commands.specs.Use.{IsUsable, array_refusals, is_forbidden, is_out_of_range}
 use Rattle.ddf_write_commands.specs.declared.planning.Plan.{Plan}
 use Rattle.ddf_write_commands.specs.Planned.{Entry, lacks_position}
 use Rattle.ddf_write_commands.specs.Plans.{IsPlanOf, MayPlan, MayPlanFor}
@@ -44,7 +44,7 @@ use Rattle.ddf_write_commands.specs.Write.{write_behind, write_refusals}
 use Rattle.ddf_write_commands.proofs.Marked.{refusal_same}
 use Rattle.ddf_write_commands.proofs.PlanKept.{either}
 use Rattle.ddf_write_commands.proofs.PlanMade.{found_there, plan_of, refused_more, within_is}
-use Rattle.ddf_data_commands.proofs.ArrayUse.{named_is}
+use Rattle.ddf_read_commands.proofs.ArrayUse.{named_is}
 
 some_is : {A : Type 0} {one other : A} → ◌≡◌ {A = Option A} (Some one) (Some other) → one ≡ other
 some_is e = cc

@@ -9,15 +9,15 @@ use Rattle.ddf_array.specs.Sources.{copies, copy, sources}
 use Rattle.ddf_array.specs.Values.{bytes_at}
 use Rattle.ddf_array.specs.Volume.{Volume}
 use Rattle.ddf_array.specs.Within.{is_redundant}
-use Rattle.ddf_volume.specs.Reading.{Failed}
-use Rattle.ddf_volume.proofs.Tries.{IsGivenBy-wider, NotRead-wider}
+use Rattle.ddf_read.specs.Reading.{Failed}
+use Rattle.ddf_read.proofs.Tries.{IsGivenBy-wider, NotRead-wider}
 use Rattle.ddf_cells.specs.CellSources.{cell_sources}
 use Rattle.ddf_cells.specs.Touching.{GoesBetween}
 use Rattle.ddf_resync.specs.Resyncing.{AddsResynced, HasResynced, IsAmongResynced, IsLeftByResync, IsStopped, IsUntouched, MayResync, NoneLeftOfBlock, NoneLeftOfRow}
 use Rattle.ddf_resync.specs.Several.{resync_sectors}
 use Rattle.ddf_update.specs.Group.{IsOneOf}
 use Rattle.ddf_assembly.specs.Committed.{slots_of}
-use Rattle.ddf_stops.specs.BlockFloors.{StaySettled}
+use Rattle.ddf_history_steps.specs.BlockFloors.{StaySettled}
 use Rattle.ddf_answer.specs.Call.{work_of}
 use Rattle.ddf_answer.specs.Costs.{WritesAtMost}
 use Rattle.ddf_answer.proofs.Costs.{none_written}

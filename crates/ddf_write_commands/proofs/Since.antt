@@ -9,7 +9,7 @@ use Rattle.ddf_bay.proofs.Looks.{reads_then}
 use Rattle.ddf_bay.proofs.Steps.{left_keeps, stops_then, stops_weaken}
 use Rattle.ddf_plan.specs.declared.change.Change.{Change}
 use Rattle.ddf_array.specs.Volume.{Volume}
-use Rattle.ddf_volume.specs.Reading.{Failed}
+use Rattle.ddf_read.specs.Reading.{Failed}
 use Rattle.ddf_cells.specs.Touching.{GoesBetween}
 use Rattle.ddf_copy.specs.declared.newest_copy.Newest.{Newest}
 use Rattle.ddf_group.specs.declared.answer.Assembly.{Assembly}
@@ -23,7 +23,7 @@ use Rattle.ddf_history.specs.Groups.{groups}
 use Rattle.ddf_history.specs.Issued.{Past}
 use Rattle.ddf_history.specs.Promise.{IsKept}
 use Rattle.ddf_history.specs.Scenes.{scene_of}
-use Rattle.ddf_stops.specs.Kept.{AreAllKept}
+use Rattle.ddf_history_steps.specs.Kept.{AreAllKept}
 use Rattle.ddf_answer.specs.declared.failure.Failure.{Failure}
 use Rattle.ddf_answer.specs.declared.failure.Failure.TheVariants.{Conflict, Disk, Memory, Refused, Split}
 use Rattle.ddf_answer.specs.Answers.{failure_of}
@@ -35,7 +35,7 @@ use Rattle.ddf_group_commands.specs.Others.{LeavesOthers}
 use Rattle.ddf_group_commands.specs.Written.{AreWritten}
 use Rattle.ddf_group_commands.proofs.Beside.{beside_since, reads_beside}
 use Rattle.ddf_group_commands.proofs.Keeping.{reads_keep, since_entry}
-use Rattle.ddf_group_commands.proofs.Outcomes.{group_read, memory_told, where_done}
+use Rattle.ddf_group_commands.proofs.Outcomes.{group_read, memory_told, unsynced_in, where_done}
 use Rattle.ddf_write_commands.specs.Along.{AllComeAlong, ComesAlong, GoesAlong, HasCome, IsAlong, IsLeftAt, Stage}
 use Rattle.ddf_write_commands.specs.Along.Stage.{Closing, Done, Opening, Working}
 use Rattle.ddf_write_commands.specs.Costs.{CostsOfDoing, CostsOfPlan}
@@ -43,10 +43,10 @@ use Rattle.ddf_write_commands.specs.Doing.{Doing}
 use Rattle.ddf_write_commands.specs.Holding.{holding}
 use Rattle.ddf_write_commands.specs.Planned.{Entry, IsPlanned, Refusing, request_around}
 use Rattle.ddf_write_commands.specs.Plans.{IsNotReadied, MayPlan}
-use Rattle.ddf_write_commands.specs.Worked.{IsArrayLeft, IsLeftClosing, IsLeftDoing, IsLeftWorking, IsWorkedIn, IsWorkedOf, LeavesDoing}
+use Rattle.ddf_write_commands.specs.Worked.{HasBegun, IsArrayLeft, IsLeftClosing, IsLeftDoing, IsLeftWorking, IsWorkedIn, IsWorkedOf, LeavesDoing}
 use Rattle.ddf_write_commands.proofs.Costs.{unwritten_costs, plan_since}
 use Rattle.ddf_write_commands.proofs.Works.{IsSteady}
-use Rattle.ddf_stops.proofs.Entering.{admitted_still, kept_still}
+use Rattle.ddf_history_steps.proofs.Entering.{admitted_still, kept_still}
 use Rattle.ddf_group_commands.proofs.LeftWriting.{left_still, writing_more, writing_since}
 
 -- ---- what the command promises of a group that was read
@@ -219,6 +219,10 @@ module _ {D : Type 0} (tells : Type 0) (doing : Doing) (steady : IsSteady doing)
   written_since : (steps : List Step) (image : Image) → AreWritten middle.sizes middle.held steps image → AreWritten old.sizes old.held steps image
   written_since steps image written = rw (reads.same_sizes, reads.same_held) at written
 
+  begun_since : (first : List Step) (volume : Volume) → ReadsOnly middle new ⊎ (tells → HasBegun doing (work_of tells middle new) first volume) → ReadsOnly old new ⊎ (tells → HasBegun doing (work_of tells old new) first volume)
+  begun_since first volume (inl only) = inl (reads_then reads only)
+  begun_since first volume (inr begun) = inr (λ told. let all = begun told in (all.0, written_since first all.0 all.1, all.2))
+
   -- what came of a group that was read before
   pub worked_since : (group : GroupValue) (timestamp : ℕ) (word : List ℕ) (request : Request) (outcome : Result ℕ Failure) → IsWorkedOf doing (work_of tells middle new) group timestamp word request outcome
       → IsWorkedOf doing (work_of tells old new) group timestamp word request outcome
@@ -242,7 +246,7 @@ module _ {D : Type 0} (tells : Type 0) (doing : Doing) (steady : IsSteady doing)
     is_seat = is.is_seat;
     there = rw reads.same_sizes at is.there;
     stopped = ⊎_elim (λ rose. inl (rose_later (old.failed_writes slot) (middle.failed_writes slot) (new.failed_writes slot) (writes_rise slot) rose))
-        (λ none. inr (steady.more_left (Failed middle new) (Failed old new) more is.plan.volume slot none)) is.stopped;
+        (λ none. inr (steady.more_left (Failed middle new) (Failed old new) more is.plan.volume slot none.0, begun_since is.plan.first is.plan.volume none.1)) is.stopped;
   }
   worked_since group timestamp word request (Err Memory) is = reads_then reads is
   worked_since group timestamp word request (Err (Conflict i j sequence differ)) is = absurd is
@@ -281,7 +285,7 @@ module _ {D : Type 0} (tells : Type 0) (doing : Doing) (steady : IsSteady doing)
     }
 
   -- and what a stop left
-  left_since : (group : GroupValue) (timestamp : ℕ) (word : List ℕ) (request : Request) (image : Image) → IsLeftDoing doing (work_of tells middle new) group timestamp word request image
+  pub left_since : (group : GroupValue) (timestamp : ℕ) (word : List ℕ) (request : Request) (image : Image) → IsLeftDoing doing (work_of tells middle new) group timestamp word request image
       → IsLeftDoing doing (work_of tells old new) group timestamp word request image
   left_since group timestamp word request image is = record {
     plan = is.plan;
@@ -309,7 +313,7 @@ module _ {D : Type 0} (tells : Type 0) (doing : Doing) (steady : IsSteady doing)
     first_along : AreAllKept guid past old → (image : Image) → IsLeft old.may_hold image → IsAlong guid doing (work_of tells old new) past left group plan image
     first_along kept image was = record { stage = Opening; now = past; has_come = inl refl; is_left = left_still old plan.first image was; is_kept = kept image was }
 
-    along_since : (done : Bool) → AreAllKept guid past old → ComesAlong guid doing (work_of tells middle new) past left group plan done → ComesAlong guid doing (work_of tells old new) past left group plan done
+    pub along_since : (done : Bool) → AreAllKept guid past old → ComesAlong guid doing (work_of tells middle new) past left group plan done → ComesAlong guid doing (work_of tells old new) past left group plan done
     along_since done kept along = record {
       any_moment = stops_then (stops_weaken reads.any_moment (first_along kept)) along.any_moment (λ image is. record {
         stage = is.stage;
@@ -360,7 +364,7 @@ module _ {D : Type 0} (tells : Type 0) (doing : Doing) (steady : IsSteady doing)
             subst (λ (one : GroupValue). steps_of one timestamp request ≡ Ok steps → KeepsHistories old new read.left one steps done) same
             (λ now_asked. since_entry old middle new read.left group steps done reads (has.keeps told read.left named (found_by told) steps now_asked))
             asked;
-        unfailed = λ is slot below kept. ap (λ (counts : ℕ → ℕ). counts slot) (has.unfailed is) ∙ (read.seen slot below kept).1;
+        unfailed = λ is slot below kept. ap (λ (counts : ℕ → ℕ). counts slot) (has.unfailed is) ∙ unsynced_in (work_of tells old middle) named (Ok group) read slot below kept;
       };
       is_group = is_group;
       gone = read.gone (λ spent. absurd cc);

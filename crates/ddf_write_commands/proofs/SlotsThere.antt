@@ -16,8 +16,8 @@ use Rattle.ddf_array.specs.Sources.{Source, all_of, copy, other_positions, row, 
 use Rattle.ddf_array.specs.Viewing.{view_of}
 use Rattle.ddf_array.specs.Volume.{IsVolume, Volume}
 use Rattle.ddf_array.proofs.Fits.{place_seat}
-use Rattle.ddf_volume.specs.Reading.{FirstHasSlot, HasSite}
-use Rattle.ddf_volume.proofs.SourceSlots.{slot_on}
+use Rattle.ddf_read.specs.Reading.{FirstHasSlot, HasSite}
+use Rattle.ddf_read.proofs.SourceSlots.{slot_on}
 use Rattle.ddf_cells.specs.CellSources.{cell_sources}
 use Rattle.ddf_cells.specs.Without.{own_sources}
 use Rattle.ddf_resync.specs.Resyncing.{IsSetOn, IsStopped}
@@ -25,8 +25,8 @@ use Rattle.ddf_rewrite.proofs.Lists.{get_map}
 use Rattle.ddf_update.specs.Group.{IsOneOf}
 use Rattle.ddf_assembly.specs.Committed.{slots_of}
 use Rattle.ddf_assembly.specs.Trying.{SlotsRise}
-use Rattle.ddf_stops.proofs.Slots.{slot_placed}
-use Rattle.ddf_stops.specs.BlockFloors.{floor_in}
+use Rattle.ddf_history_steps.proofs.Slots.{slot_placed}
+use Rattle.ddf_history_steps.specs.BlockFloors.{floor_in}
 use Rattle.ddf_write_commands.proofs.BelowFloors.{floor_slot, given_below}
 
 -- each place of an element is on a slot of this kind

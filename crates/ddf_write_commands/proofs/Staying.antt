@@ -39,9 +39,9 @@ use Rattle.ddf_assembly.specs.Steps.{disks_after, rewritten, stays_in}
 use Rattle.ddf_assembly.proofs.AssembledLists.{first_of_reference}
 use Rattle.ddf_assembly.proofs.LeftMembers.{IsCurrentIn, read_current}
 use Rattle.ddf_assembly.proofs.Leaders.{filter_pass, leading_fit}
-use Rattle.ddf_stops.proofs.Begun.{IsMadeOf, found_named}
-use Rattle.ddf_stops.proofs.Filtered.{passes_kept}
-use Rattle.ddf_stops.proofs.Seats.{absent_are, group_made, seat_claims, view_at}
+use Rattle.ddf_history_steps.proofs.Begun.{IsMadeOf, found_named}
+use Rattle.ddf_history_steps.proofs.Filtered.{passes_kept}
+use Rattle.ddf_history_steps.proofs.Seats.{absent_are, group_made, seat_claims, view_at}
 
 -- ---- lists
 

@@ -21,8 +21,8 @@ use Rattle.ddf_assembly.specs.Group.{GroupValue}
 use Rattle.ddf_assembly.specs.Held.{IsHeldOn, StandsUnder}
 use Rattle.ddf_assembly.specs.Seated.{seated}
 use Rattle.ddf_assembly.specs.Settled.{IsLevelIn, IsSettledGroup}
-use Rattle.ddf_stops.specs.BlockFloors.{AreFloored, HasFloor, HaveFloors, IsFloored, StaySettled, floor_in}
-use Rattle.ddf_stops.proofs.Above.{AreSameFrom, anchor_same, newest_of_same}
+use Rattle.ddf_history_steps.specs.BlockFloors.{AreFloored, HasFloor, HaveFloors, IsFloored, StaySettled, floor_in}
+use Rattle.ddf_history_steps.proofs.Above.{AreSameFrom, anchor_same, newest_of_same}
 
 same_ok : {A B : Type 0} {one other : A} → ◌≡◌ {A = Result A B} (Ok one) (Ok other) → one ≡ other
 same_ok e = cc

@@ -6,11 +6,11 @@ use Rattle.ddf_bay.specs.Sectors.{Image, IsLeft, Outcomes}
 use Rattle.ddf_bay.specs.State.{BayState}
 use Rattle.ddf_config.specs.declared.seat.Seat.{Seat}
 use Rattle.ddf_array.specs.Volume.{Volume}
-use Rattle.ddf_volume.specs.Reading.{Failed}
+use Rattle.ddf_read.specs.Reading.{Failed}
 use Rattle.ddf_cells.specs.Touching.{GoesBetween}
 use Rattle.ddf_update.specs.Group.{IsOneOf}
 use Rattle.ddf_assembly.specs.Committed.{slots_of}
-use Rattle.ddf_stops.specs.BlockFloors.{StaySettled, WritesBelow}
+use Rattle.ddf_history_steps.specs.BlockFloors.{StaySettled, WritesBelow}
 use Rattle.ddf_write_commands.specs.Doing.{Doing}
 
 -- What is said of a work stays so where more reads failed; what a stop might leave before it is left on its way; and an image that is left on its way is one of

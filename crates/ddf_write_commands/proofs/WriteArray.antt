@@ -8,7 +8,7 @@ use Rattle.ddf_array.specs.Places.{site_at}
 use Rattle.ddf_array.specs.Rows.{block_at}
 use Rattle.ddf_array.specs.Sources.{copy, sources}
 use Rattle.ddf_update.specs.Group.{IsOneOf}
-use Rattle.ddf_volume.specs.Reading.{FirstHasSlot}
+use Rattle.ddf_read.specs.Reading.{FirstHasSlot}
 use Rattle.ddf_pieces.specs.Pieces.{piece_blocks, room_for}
 use Rattle.ddf_pieces.specs.Writing.{IsStoppedInPieces}
 use Rattle.ddf_pieces.proofs.WriteParts.{stopped_full}
@@ -17,8 +17,8 @@ use Rattle.ddf_write.specs.Writing.{IsWritten, MayGive}
 use Rattle.ddf_assembly.specs.Committed.{slots_of}
 use Rattle.ddf_assembly.specs.Group.{GroupValue}
 use Rattle.ddf_assembly.specs.Recovery.{config_recovered}
-use Rattle.ddf_stops.proofs.Slots.{slot_placed}
-use Rattle.ddf_stops.specs.BlockFloors.{floor_in}
+use Rattle.ddf_history_steps.proofs.Slots.{slot_placed}
+use Rattle.ddf_history_steps.specs.BlockFloors.{floor_in}
 use Rattle.ddf_group_commands.specs.GroupRead.{IsReadFrom}
 use Rattle.ddf_write_commands.specs.declared.planning.Plan.{Plan}
 use Rattle.ddf_write_commands.specs.Marking.{marked_config}

@@ -7,8 +7,8 @@ use Rattle.ddf_bay.specs.Moments.{GoesOn, StopsLeave}
 use Rattle.ddf_bay.specs.State.{BayState}
 use Rattle.ddf_plan.specs.declared.change.Change.{Change}
 use Rattle.ddf_update.specs.Prepared.{all_sectors}
-use Rattle.ddf_volume.specs.declared.fault.VolumeFault.{VolumeFault}
-use Rattle.ddf_volume.specs.declared.fault.VolumeFault.TheVariants as volumes
+use Rattle.ddf_read.specs.declared.fault.VolumeFault.{VolumeFault}
+use Rattle.ddf_read.specs.declared.fault.VolumeFault.TheVariants as volumes
 use Rattle.ddf_cells.specs.Touching.{GoesBetween}
 use Rattle.ddf_pieces.specs.declared.fault.PieceFault.TheVariants as pieces
 use Rattle.ddf_pieces.specs.Pieces.{piece_of, room_for}
@@ -20,13 +20,13 @@ use Rattle.ddf_assembly.specs.Ready.{ReadyValue, readied}
 use Rattle.ddf_assembly.specs.Recovery.{config_recovered}
 use Rattle.ddf_assembly.specs.Seated.{seated}
 use Rattle.ddf_assembly.specs.Steps.{Step}
-use Rattle.ddf_stops.specs.Steps.{IsCommit}
-use Rattle.ddf_stops.specs.BlockFloors.{AreFloored, floor_in}
+use Rattle.ddf_history_steps.specs.Steps.{IsCommit}
+use Rattle.ddf_history_steps.specs.BlockFloors.{AreFloored, floor_in}
 use Rattle.ddf_answer.specs.declared.failure.Failure.{Failure}
 use Rattle.ddf_answer.specs.declared.failure.Failure.TheVariants.{Disk}
 use Rattle.ddf_answer.specs.Call.{work_of}
 use Rattle.ddf_answer.specs.Costs.{WritesAtMost}
-use Rattle.ddf_data_commands.specs.Use.{failure_of_volume}
+use Rattle.ddf_read_commands.specs.Use.{failure_of_volume}
 use Rattle.ddf_group_commands.specs.Change.{IsChanged, KeepsHistories, steps_or}
 use Rattle.ddf_group_commands.specs.GroupRead.{IsFoundBy, IsReadFrom}
 use Rattle.ddf_group_commands.specs.Others.{LeavesOthers}

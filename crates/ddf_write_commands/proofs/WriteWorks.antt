@@ -6,7 +6,7 @@ use Rattle.ddf_bay.specs.State.{BayState}
 use Rattle.ddf_bay.proofs.Steps.{stops_weaken}
 use Rattle.ddf_config.specs.declared.seat.Seat.{Seat}
 use Rattle.ddf_array.specs.Volume.{Volume}
-use Rattle.ddf_volume.specs.Reading.{Failed}
+use Rattle.ddf_read.specs.Reading.{Failed}
 use Rattle.ddf_cells.specs.Touching.{GoesBetween}
 use Rattle.ddf_write.specs.RowWrites.{IsSure}
 use Rattle.ddf_write.specs.Writing.{AddsWrites, HasWritten, IsAmongWrites, IsLeftByWrite, MayGive}
@@ -16,7 +16,7 @@ use Rattle.ddf_pieces.specs.Writing.{IsStoppedInPieces, NoneLeftOfPiece}
 use Rattle.ddf_pieces.proofs.WriteParts.{row_more}
 use Rattle.ddf_update.specs.Group.{IsOneOf}
 use Rattle.ddf_assembly.specs.Committed.{slots_of}
-use Rattle.ddf_stops.specs.BlockFloors.{StaySettled}
+use Rattle.ddf_history_steps.specs.BlockFloors.{StaySettled}
 use Rattle.ddf_write_commands.specs.Write.{writing}
 use Rattle.ddf_write_commands.proofs.Works.{HasStopped, HasWorked, IsSteady}
 

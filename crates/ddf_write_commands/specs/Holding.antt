@@ -2,7 +2,7 @@
 use Rattle.std.specs.Prelude.{◌≡◌, ◌⊎◌, ℕ, true, false, List}
 use Rattle.ddf_bay.specs.Sectors.{Image}
 use Rattle.ddf_bay.specs.State.{BayState}
-use Rattle.ddf_stops.specs.Kept.{is_slot}
+use Rattle.ddf_history_steps.specs.Kept.{is_slot}
 
 -- The disks once these slots hold an image: a stop leaves of them what they hold, and of every other slot what it might leave before.
 abbrev pub holding : {D : Type 0} → BayState D → (slots : List ℕ) → Image → BayState D

@@ -13,10 +13,10 @@ use Rattle.ddf_assembly.specs.Reading.{HaveAnchors}
 use Rattle.ddf_assembly.specs.Ready.{ReadyValue, readied}
 use Rattle.ddf_assembly.specs.Seated.{seated}
 use Rattle.ddf_assembly.specs.Steps.{Step}
-use Rattle.ddf_stops.specs.Going.{IsAdmitted, changes_in}
-use Rattle.ddf_stops.specs.Kept.{AreAllKept, is_slot}
-use Rattle.ddf_stops.specs.Course.{IsUnderWay}
-use Rattle.ddf_stops.specs.BlockFloors.{AreFloored}
+use Rattle.ddf_history_steps.specs.Going.{IsAdmitted, changes_in}
+use Rattle.ddf_history_steps.specs.Kept.{AreAllKept, is_slot}
+use Rattle.ddf_history_steps.specs.Course.{IsUnderWay}
+use Rattle.ddf_history_steps.specs.BlockFloors.{AreFloored}
 use Rattle.ddf_group_commands.specs.GroupRead.{IsFoundBy}
 use Rattle.ddf_group_commands.specs.Written.{AreWritten}
 use Rattle.ddf_write_commands.specs.Around.{config_behind}

@@ -7,7 +7,7 @@ use Rattle.ddf_bay.specs.Sectors.{Image, IsLeft}
 use Rattle.ddf_array.specs.Sound.{AreSectors}
 use Rattle.ddf_array.specs.Volume.{Volume}
 use Rattle.ddf_update.specs.Group.{IsOneOf}
-use Rattle.ddf_volume.specs.Reading.{Failed}
+use Rattle.ddf_read.specs.Reading.{Failed}
 use Rattle.ddf_group.specs.declared.answer.Assembly.{Assembly}
 use Rattle.ddf_assembly.specs.Committed.{AreSettled, slots_of}
 use Rattle.ddf_assembly.specs.Group.{GroupValue}
@@ -42,12 +42,18 @@ pub record IsArrayDone {D : Type 0} (doing : Doing) (work : Work D) (found : Gro
   pub is_last : sequence ≡ last_sequence found.config.sequence (plan.first ++ plan.last)
   pub done : work.tells → AreBlocksDone doing work found plan.first plan.last plan.volume
 
--- It wasn't: a write or a sync of this slot, a seat's, failed in the call; or a read did, and no source is left there of a cell that the work needs.
+-- The first steps were written, and of what the disks held behind them no sector is another one but those that the work gives bytes.
+abbrev pub HasBegun : {D : Type 0} → Doing → Work D → (first : List Step) → Volume → Type 0
+HasBegun doing work first volume = (before : Image) × AreWritten work.old.sizes work.old.held first before × doing.IsLeft volume before work.new.held
+
+-- It wasn't: a write or a sync of this slot, a seat's, failed in the call; or a read did, and no source is left there of a cell that the work needs: before anything was
+-- written, or behind the first steps.
 pub record IsArrayStopped {D : Type 0} (doing : Doing) (work : Work D) (found : GroupValue) (timestamp : ℕ) (word : List ℕ) (request : Request) (slot : ℕ) : Type 0 where
   pub plan : IsPlanned found timestamp word request
   pub is_seat : IsOneOf (slots_of found.seats) slot
   pub there : slot < length work.old.sizes
-  pub stopped : Rose (work.old.failed_writes slot) (work.new.failed_writes slot) ⊎ doing.NoneLeft (Failed work.old work.new) plan.volume slot
+  pub stopped : Rose (work.old.failed_writes slot) (work.new.failed_writes slot)
+      ⊎ (doing.NoneLeft (Failed work.old work.new) plan.volume slot × (ReadsOnly work.old work.new ⊎ (work.tells → HasBegun doing work plan.first plan.volume)))
 
 -- The work was done behind the first steps, and the last step wasn't begun: a redundant array has its mark.
 pub record IsArrayLeft {D : Type 0} (doing : Doing) (work : Work D) (found : GroupValue) (timestamp : ℕ) (word : List ℕ) (request : Request) : Type 0 where

@@ -35,8 +35,8 @@ use Rattle.ddf_group_commands.specs.Change.{KeepsHistories, Request, TakesGroup,
 use Rattle.ddf_group_commands.specs.Costs.{steps_sectors}
 use Rattle.ddf_group_commands.specs.GroupRead.{IsFoundBy}
 use Rattle.ddf_group_commands.specs.Others.{LeavesOthers}
-use Rattle.ddf_data_commands.specs.declared.using.Access.TheVariants.{Writes}
-use Rattle.ddf_data_commands.specs.Use.{array_refusals}
+use Rattle.ddf_read_commands.specs.declared.using.Access.TheVariants.{Writes}
+use Rattle.ddf_read_commands.specs.Use.{array_refusals}
 use Rattle.ddf_write_commands.specs.Along.{AllComeAlong, GoesAlong}
 use Rattle.ddf_write_commands.specs.Costs.{CostsOfDoing}
 use Rattle.ddf_write_commands.specs.Doing.{Doing}

@@ -10,7 +10,7 @@ ghost use Rattle.ddf_assembly.specs.Committed.{WasReadied, next_updates, slots_o
 ghost use Rattle.ddf_assembly.specs.Ready.{readied};
 ghost use Rattle.ddf_assembly.specs.Recovery.{config_recovered};
 ghost use Rattle.ddf_assembly.specs.Steps.{Step};
-ghost use Rattle.ddf_stops.specs.Steps.{IsCommit};
+ghost use Rattle.ddf_history_steps.specs.Steps.{IsCommit};
 ghost use Rattle.ddf_answer.specs.Call.{work_of};
 ghost use Rattle.ddf_answer.specs.Costs.{WritesAtMost};
 ghost use Rattle.ddf_group_commands.specs.Change.{IsChanged, KeepsHistories, is_done, steps_or};

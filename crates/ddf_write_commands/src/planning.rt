@@ -11,7 +11,7 @@ ghost use Rattle.ddf_config.specs.declared.refusal.Refusal.{Refusal};
 ghost use Rattle.ddf_config.specs.Members.{same_guid};
 ghost use Rattle.ddf_plan.specs.declared.change.Change.{Change};
 ghost use Rattle.ddf_assembly.specs.Recovery.{config_recovered};
-ghost use Rattle.ddf_data_commands.specs.Use.{IsViewed};
+ghost use Rattle.ddf_read_commands.specs.Use.{IsViewed};
 ghost use Rattle.ddf_write_commands.specs.Marking.{IsMarkedAs};
 ghost use Rattle.ddf_write_commands.specs.Planned.{Entry};
 ghost use Rattle.ddf_write_commands.specs.Plans.{MayPlan, MayPlanFor};
@@ -23,11 +23,11 @@ use ddf_assembly::Group;
 use ddf_bytes::{Guid, NoMemory, Seq};
 use ddf_cells::is_degraded;
 use ddf_config::{Config, Refusal, Seat, first_refusal, refuse_if};
-use ddf_data_commands::{Access, failure_of, usable};
 use ddf_group_commands::recovered;
 use ddf_plan::{Change, changed_at, same_tables};
+use ddf_read::{View, ViewFault};
+use ddf_read_commands::{Access, failure_of, usable};
 use ddf_resync::resync_refusal;
-use ddf_volume::{View, ViewFault};
 use std::alloc::Global;
 
 /// How far an array is initialized once it was resynced: wholly.

@@ -1,29 +1,29 @@
 //! `resync`: the copies and the parity of an array are made to agree.
-ghost use Rattle.std.specs.Prelude.{◌≡◌, ◌+◌, ℕ, List, Bool, Option, Ok, OnOk};
+ghost use Rattle.std.specs.Prelude.{◌≡◌, ◌⊎◌, ◌+◌, ◌≤◌, ℕ, List, None, false, true, OnOk, IfErr};
 ghost use Rattle.ddf_bytes.specs.Stamps.{timestamp_of};
-ghost use Rattle.ddf_bay.specs.Moments.{GoesOn, StopsLeave};
+ghost use Rattle.ddf_bay.specs.Moments.{GoesOn, IsSettled, StopsLeave};
+ghost use Rattle.ddf_array.specs.Apart.{IsApart};
+ghost use Rattle.ddf_array.specs.Sources.{trusts_parity};
+ghost use Rattle.ddf_array.specs.Volume.{Fits, IsVolume};
+ghost use Rattle.ddf_array.specs.Within.{is_redundant};
+ghost use Rattle.ddf_read.specs.Reading.{Failed, OnlyReads};
 ghost use Rattle.ddf_cells.specs.Touching.{GoesBetween};
-ghost use Rattle.ddf_assembly.specs.Committed.{WasReadied, slots_of};
-ghost use Rattle.ddf_assembly.specs.Ready.{readied};
+ghost use Rattle.ddf_resync.specs.Compared.{HasDiffered};
+ghost use Rattle.ddf_resync.specs.Resyncing.{AddsResynced, HasResynced, IsAmongResynced, IsLeftByResync, IsResyncFault, IsSetOn, IsUntouched, resync_refusal};
+ghost use Rattle.ddf_resync.specs.Several.{resync_sectors};
+ghost use Rattle.ddf_assembly.specs.Committed.{WasReadied};
 ghost use Rattle.ddf_assembly.specs.Recovery.{config_recovered};
 ghost use Rattle.ddf_assembly.specs.Seated.{seated};
-ghost use Rattle.ddf_assembly.specs.Steps.{Step};
-ghost use Rattle.ddf_stops.specs.BlockFloors.{AreFloored};
+ghost use Rattle.ddf_history_steps.specs.BlockFloors.{AreFloored};
 ghost use Rattle.ddf_answer.specs.Call.{answer_of, work_of};
-ghost use Rattle.ddf_answer.specs.Costs.{WritesAtMost};
 ghost use Rattle.ddf_answer.specs.Ends.{Ends};
 ghost use Rattle.ddf_words.specs.declared.command.Command.{Command};
 ghost use Rattle.ddf_words.specs.Traits.{traits_of};
 ghost use Rattle.ddf_answer.specs.Status.{code_of};
-ghost use Rattle.ddf_group_commands.specs.Change.{KeepsHistories, is_done};
-ghost use Rattle.ddf_group_commands.specs.Costs.{steps_sectors};
-ghost use Rattle.ddf_group_commands.specs.GroupRead.{IsFoundBy, IsReadFrom};
-ghost use Rattle.ddf_group_commands.specs.Others.{LeavesOthers};
-ghost use Rattle.ddf_write_commands.specs.Along.{AllComeAlong};
+ghost use Rattle.ddf_group_commands.specs.GroupRead.{IsReadFrom};
 ghost use Rattle.ddf_write_commands.specs.Opened.{AreMembers};
 ghost use Rattle.ddf_write_commands.specs.Plans.{IsPlanOf};
-ghost use Rattle.ddf_write_commands.specs.Resync.{HasResyncedArray, IsResyncDone, resync_behind, resync_refusals, resync_request, resyncing};
-ghost use Rattle.ddf_write_commands.specs.Worked.{IsLeftDoing, IsWorkedOf};
+ghost use Rattle.ddf_write_commands.specs.Resync.{HasResyncedArray, HasResyncedBlocks, IsResyncDone, IsUnreadAt, resync_behind, resync_refusals};
 
 use crate::around::{close_blocks, open_blocks, ready_blocks};
 use crate::planning::{Plan, plan_resync};
@@ -31,9 +31,10 @@ use ddf_answer::{Failure, Status, tell, tell_failure};
 use ddf_assembly::{Group, Ready};
 use ddf_bay::Bay;
 use ddf_bytes::{Guid, Sink, Stamp};
-use ddf_data_commands::failure_of;
 use ddf_group_commands::read_group;
-use ddf_resync::resync;
+use ddf_read::VolumeFault;
+use ddf_read_commands::failure_of;
+use ddf_resync::{needs_of_resync, resync, resync_differing};
 use ddf_text::sequence_line;
 use std::alloc::Global;
 
@@ -75,7 +76,7 @@ fn resynced<B: Bay>(
     resync_array(&mut group, &mut ready, &plan, timestamp, bay)
 }
 
-/// Resyncs an array between the steps of its group that are ready. It takes no memory.
+/// Resyncs an array between the steps of its group that are ready, where what that needs can be read. It takes no memory.
 fn resync_array<B: Bay>(
     group: &mut Group,
     ready: &mut Ready,
@@ -88,24 +89,77 @@ fn resync_array<B: Bay>(
     requires planned { (word : List ℕ) × IsPlanOf resync_refusals resync_behind (config_recovered group.old) group.old.seats word plan.now }
     requires members { AreMembers (config_recovered group.old) group.old.seats }
     requires floored { AreFloored (seated group.old) }
-    ensures worked { (word : List ℕ) → IsPlanOf resync_refusals resync_behind (config_recovered group.old) group.old.seats word plan.now
-        → IsWorkedOf resyncing (work_of B.tells (B.disks bay.old) (B.disks bay.new)) group.old timestamp word (resync_request word) result }
-    ensures leaves { B.tells → (word : List ℕ) → IsPlanOf resync_refusals resync_behind (config_recovered group.old) group.old.seats word plan.now
-        → StopsLeave (B.disks bay.old) (B.disks bay.new) (IsLeftDoing resyncing (work_of B.tells (B.disks bay.old) (B.disks bay.new)) group.old timestamp word (resync_request word)) }
-    ensures beside { B.tells → LeavesOthers (B.disks bay.old) (B.disks bay.new) (slots_of group.old.seats) }
-    ensures keeps { B.tells → (left : List Bool) (named : Option (List ℕ)) → IsFoundBy (B.disks bay.old) left named group.old → (steps : List Step) → readied group.old plan.now.changes timestamp ≡ Ok steps
-        → KeepsHistories (B.disks bay.old) (B.disks bay.new) left group.old steps (is_done result) }
-    ensures along { B.tells → (left : List Bool) (named : Option (List ℕ)) → IsFoundBy (B.disks bay.old) left named group.old
-        → (word : List ℕ) → IsPlanOf resync_refusals resync_behind (config_recovered group.old) group.old.seats word plan.now
-        → AllComeAlong resyncing (work_of B.tells (B.disks bay.old) (B.disks bay.new)) left group.old timestamp word (resync_request word) (is_done result) }
-    ensures costs { (steps : List Step) → readied group.old plan.now.changes timestamp ≡ Ok steps
-        → WritesAtMost (work_of B.tells (B.disks bay.old) (B.disks bay.new)) (steps_sectors steps + resyncing.most_sectors plan.now.view) }
+    ensures done { HasResyncedBlocks B.tells (B.disks bay.old) (B.disks bay.new) group.old plan.now timestamp result }
+    ensures unfailed { OnOk result ((B.disks bay.new).failed_writes ≡ (B.disks bay.old).failed_writes) }
+    ensures goes { GoesBetween (B.disks bay.old) (B.disks bay.new) }
+{
+    look(plan, bay)?;
+    resync_between(group, ready, plan, timestamp, bay)
+}
+
+/// Reads what the resync of an array needs, before it is marked for this: where a sector can't be read nothing is written. One that has its mark is resynced as it is.
+fn look<B: Bay>(plan: &Plan, bay: &mut B) -> Result<(), Failure>
+    requires known { IsVolume plan.now.view }
+    requires fits { Fits (B.disks bay.old).sizes plan.now.view }
+    requires accepted { resync_refusal plan.now.view ≡ None }
+    ensures failed { IfErr result (IsUnreadAt (B.disks bay.old) (B.disks bay.new) plan.now.view) }
+    ensures reads { OnlyReads (B.disks bay.old) (B.disks bay.new) }
+{
+    if !plan.marks {
+        return Ok(());
+    }
+    match needs_of_resync(bay, &plan.view) {
+        Ok(()) => Ok(()),
+        Err(fault) => Err(failure_of(fault)),
+    }
+}
+
+/// Resyncs an array between the steps of its group that are ready.
+fn resync_between<B: Bay>(
+    group: &mut Group,
+    ready: &mut Ready,
+    plan: &Plan,
+    timestamp: u32,
+    bay: &mut B,
+) -> Result<u32, Failure>
+    requires from { IsReadFrom B.tells (B.disks bay.old) group.old }
+    requires was { WasReadied group.old plan.now.changes timestamp ready.old }
+    requires planned { (word : List ℕ) × IsPlanOf resync_refusals resync_behind (config_recovered group.old) group.old.seats word plan.now }
+    requires members { AreMembers (config_recovered group.old) group.old.seats }
+    requires floored { AreFloored (seated group.old) }
+    ensures done { HasResyncedBlocks B.tells (B.disks bay.old) (B.disks bay.new) group.old plan.now timestamp result }
     ensures unfailed { OnOk result ((B.disks bay.new).failed_writes ≡ (B.disks bay.old).failed_writes) }
     ensures goes { GoesBetween (B.disks bay.old) (B.disks bay.new) }
 {
     open_blocks(group, ready, plan, timestamp, bay)?;
-    match resync(bay, &plan.view) {
+    match resync_blocks(plan, bay) {
         Ok(()) => close_blocks(group, ready, bay),
         Err(fault) => Err(failure_of(fault)),
     }
+}
+
+/// Resyncs the blocks of an array. One that was marked for this alone is resynced where it differs: else nothing of it is written.
+fn resync_blocks<B: Bay>(plan: &Plan, bay: &mut B) -> Result<(), VolumeFault>
+    requires apart { IsApart plan.now.view }
+    requires fits { Fits (B.disks bay.old).sizes plan.now.view }
+    requires marked { is_redundant plan.now.view ≡ true → trusts_parity plan.now.view ≡ false }
+    ensures any_moment { StopsLeave (B.disks bay.old) (B.disks bay.new) (IsAmongResynced plan.now.view B.tells (B.disks bay.old).held (B.disks bay.old).may_hold) }
+    ensures left { AddsResynced plan.now.view B.tells (B.disks bay.old).held (B.disks bay.old).may_hold (B.disks bay.new).may_hold }
+    ensures held { B.tells → IsLeftByResync plan.now.view B.tells (B.disks bay.old).held (B.disks bay.new).held }
+    ensures resynced { B.tells → OnOk result (HasResynced (Failed (B.disks bay.old) (B.disks bay.new)) plan.now.view (B.disks bay.old).held (B.disks bay.new).held) }
+    ensures settled { B.tells → OnOk result ((slot : ℕ) → IsSettled (B.disks bay.old).may_hold (B.disks bay.old).held slot → IsSettled (B.disks bay.new).may_hold (B.disks bay.new).held slot) }
+    ensures unfailed { OnOk result ((B.disks bay.new).failed_writes ≡ (B.disks bay.old).failed_writes) }
+    ensures fault { IfErr result (IsResyncFault (B.disks bay.old) (B.disks bay.new) plan.now.view) }
+    ensures goes { GoesBetween (B.disks bay.old) (B.disks bay.new) }
+    ensures asked { (B.disks bay.new).sectors_asked ≤ (B.disks bay.old).sectors_asked + resync_sectors plan.now.view }
+    ensures sectors { (B.disks bay.new).sectors_written ≤ (B.disks bay.old).sectors_written + resync_sectors plan.now.view }
+    ensures idle { is_redundant plan.now.view ≡ false → IsUntouched (B.disks bay.old) (B.disks bay.new) }
+    ensures agreed { B.tells → plan.now.marks ≡ true → OnlyReads (B.disks bay.old) (B.disks bay.new) ⊎ HasDiffered plan.now.view (B.disks bay.old).held (B.disks bay.old) (B.disks bay.new) }
+    // An array that is marked may read well from what a sync that failed has lost, so it is written whatever it reads.
+    ensures durable { B.tells → plan.now.marks ≡ false → OnOk result ((slot : ℕ) → IsSetOn plan.now.view slot → IsSettled (B.disks bay.new).may_hold (B.disks bay.new).held slot) }
+{
+    if plan.marks {
+        return resync_differing(bay, &plan.view);
+    }
+    resync(bay, &plan.view)
 }

@@ -2,7 +2,7 @@ use Rattle.std.proofs.Common.{◌++◌, List, Result, Ok, Err, subst}
 use Rattle.std.specs.Prelude.{IfOk}
 use Rattle.ddf_tables.specs.declared.arrays.ArrayRow.{ArrayRow}
 use Rattle.ddf_tables.specs.declared.disks.DiskRow.{DiskRow}
-use Rattle.ddf_configs.specs.declared.slot.RecordSlot.{RecordSlot}
+use Rattle.ddf_config_records.specs.declared.slot.RecordSlot.{RecordSlot}
 use Rattle.ddf_copy.specs.declared.copy.DiskCopy.{DiskCopy}
 use Rattle.ddf_assembly.specs.Telling.{Tells, array_rows_told, slots_told}
 use Rattle.ddf_assembly.proofs.Telling.{tells_both}

@@ -1,6 +1,6 @@
 use Rattle.std.proofs.Common.{◌≡◌, ◌∙◌, inl, inr, sym, subst, refl}
-use Rattle.ddf_batch_words.specs.Input.{IsUnread}
-use Rattle.ddf_batch_words.specs.declared.input.BatchFault.{BatchFault}
+use Rattle.ddf_words.specs.Input.{IsUnread}
+use Rattle.ddf_words.specs.declared.batch_input.BatchFault.{BatchFault}
 use Rattle.ddf_batch.proofs.batch.batch.Goals as goal
 
 pub returns-in-Err-Long-clause-run : goal.returns-in-Err-Long-clause-run

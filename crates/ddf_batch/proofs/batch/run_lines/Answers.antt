@@ -4,7 +4,7 @@ use Rattle.std.proofs.lemmas.Iterator.Consumers.{YieldsList-turn, YieldsList-end
 use Rattle.std.proofs.lemmas.Iterator.Splits.{YieldsList-from_str_split}
 use Rattle.std.proofs.lemmas.List.{length_push}
 use Rattle.ddf_words.specs.Words.{words_of}
-use Rattle.ddf_batch_words.specs.Lines.{is_end}
+use Rattle.ddf_words.specs.Lines.{is_end}
 use Rattle.ddf_batch.specs.Batch.{AreLinesRun, point, whole_status}
 use Rattle.ddf_batch.proofs.Runs.{SoFar, goes_past, runs_end, runs_on, runs_stop, stops_past}
 use Rattle.ddf_batch.proofs.batch.run_lines.Goals as goal

@@ -2,7 +2,7 @@ use Rattle.std.proofs.Common.{◌≡◌, length}
 use Rattle.std.specs.List.{slice_split}
 use Rattle.ddf_bay.specs.Moments.{GoesOn}
 use Rattle.ddf_words.specs.Words.{words_of}
-use Rattle.ddf_batch_words.specs.Lines.{is_end}
+use Rattle.ddf_words.specs.Lines.{is_end}
 use Rattle.ddf_batch.specs.Batch.{point}
 use Rattle.ddf_batch.proofs.Runs.{SoFar}
 use Rattle.ddf_batch.proofs.batch.run_lines.Given as goal

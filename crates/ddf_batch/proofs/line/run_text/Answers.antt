@@ -4,7 +4,7 @@ use Rattle.ddf_text.specs.Refusal.{refusal_line}
 use Rattle.ddf_words.specs.Words.{words_of}
 use Rattle.ddf_answer.specs.Call.{answer_of}
 use Rattle.ddf_answer.specs.Tells.{EndsWith}
-use Rattle.ddf_batch_words.specs.Lines.{numbered, parts_of}
+use Rattle.ddf_words.specs.Lines.{numbered, parts_of}
 use Rattle.ddf_batch.specs.Batch.{point}
 use Rattle.ddf_batch.proofs.LineRuns.{command_run, one_command, words_refused, words_unread}
 use Rattle.ddf_batch.proofs.line.run_text.Goals as goal

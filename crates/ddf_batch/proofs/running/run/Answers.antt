@@ -4,8 +4,8 @@ use Rattle.ddf_text.specs.Refusal.{refusal_line}
 use Rattle.ddf_words.specs.Words.{Word, GoWrongAt, images_of, words_of}
 use Rattle.ddf_answer.specs.Call.{answer_of}
 use Rattle.ddf_answer.specs.Tells.{EndsWith}
-use Rattle.ddf_batch_words.specs.Batch.{AskForBatch, IsOrder, IsServed}
-use Rattle.ddf_batch_words.specs.declared.order.Order.{Order}
+use Rattle.ddf_words.specs.Batch.{AskForBatch, IsOrder, IsServed}
+use Rattle.ddf_words.specs.declared.batch_order.Order.{Order}
 use Rattle.ddf_batch.specs.Batch.{IsBatchRun, point}
 use Rattle.ddf_batch.proofs.LineRuns.{one_place}
 use Rattle.ddf_command.proofs.Endings.{done_nothing}

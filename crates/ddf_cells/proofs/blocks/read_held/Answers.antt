@@ -1,7 +1,7 @@
 use Rattle.std.proofs.Common.{◌∙◌, ◌+◌, sym, subst, arith}
 use Rattle.std.proofs.lemmas.List.{get_or_append_left, length-take-le}
 use Rattle.std.proofs.lemmas.Result.{err_from_is_err_and}
-use Rattle.ddf_volume.specs.Reading.{Failed}
+use Rattle.ddf_read.specs.Reading.{Failed}
 use Rattle.ddf_cells.specs.GivenCells.{IsCellGiven}
 use Rattle.ddf_cells.proofs.CellSteps.{left_held}
 use Rattle.ddf_cells.proofs.GivenSteps.{cell_held}

@@ -1,6 +1,6 @@
 use Rattle.std.proofs.Common.{length, arith}
 use Rattle.std.proofs.lemmas.Result.{err_from_is_err_and}
-use Rattle.ddf_volume.proofs.OnlyReading.{only_reads_then}
+use Rattle.ddf_read.proofs.OnlyReading.{only_reads_then}
 use Rattle.ddf_cells.proofs.WithoutSteps.{given_one_more, left_one}
 use Rattle.ddf_cells.proofs.without.read_each.Goals as goal
 

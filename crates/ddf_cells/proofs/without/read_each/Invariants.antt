@@ -1,4 +1,4 @@
-use Rattle.ddf_volume.specs.Reading.{OnlyReads, Failed}
+use Rattle.ddf_read.specs.Reading.{OnlyReads, Failed}
 use Rattle.ddf_cells.specs.Without.{AreGivenWithout}
 use Rattle.ddf_cells.proofs.without.read_each.Given as goal
 

@@ -2,7 +2,7 @@ use Rattle.std.proofs.Common.{◌≡◌, Some, refl, arith, slice_get}
 use Rattle.std.proofs.lemmas.List.{length-take-le}
 use Rattle.std.proofs.lemmas.Option.{slice_get_read}
 use Rattle.std.proofs.lemmas.Result.{err_from_is_err_and}
-use Rattle.ddf_volume.proofs.WithoutCopies.{same_part}
+use Rattle.ddf_read.proofs.WithoutCopies.{same_part}
 use Rattle.ddf_cells.proofs.CellSteps.{given_kept, left_empty, left_kept}
 use Rattle.ddf_cells.proofs.without.read_empty.Goals as goal
 

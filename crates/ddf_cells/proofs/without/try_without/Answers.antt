@@ -3,7 +3,7 @@ use Rattle.std.specs.Prelude.{◌&&◌, is_some, option_to_list}
 use Rattle.ddf_array.specs.Levels.{keeps_parity}
 use Rattle.ddf_array.specs.Places.{site_at}
 use Rattle.ddf_array.specs.Sources.{copy, row, row_without}
-use Rattle.ddf_volume.proofs.Steps.{not_read_twice}
+use Rattle.ddf_read.proofs.Steps.{not_read_twice}
 use Rattle.ddf_cells.proofs.Depths.{kept_sources}
 use Rattle.ddf_cells.proofs.OwnSources.{own_unmarked}
 use Rattle.ddf_cells.proofs.without.try_without.Goals as goal

@@ -1,4 +1,4 @@
-use Rattle.ddf_stops.proofs.MembersKept.{members_kept}
+use Rattle.ddf_history_steps.proofs.MembersKept.{members_kept}
 use Rattle.ddf_command.proofs.laws.a_calls_changes_keep_members.Goals as goal
 
 pub returns : goal.returns

@@ -1,5 +1,6 @@
-use Rattle.ddf_stops.proofs.Founding.{founded_since}
+use Rattle.ddf_history_steps.proofs.Founding.{founded_since}
 use Rattle.ddf_disk_commands.specs.Label.{label_slots}
+use Rattle.ddf_disk_commands.specs.LabelRefusal.{label_layout}
 use Rattle.ddf_disk_commands.proofs.Chosen.{chosen_once}
 use Rattle.ddf_command.proofs.laws.a_label_begins_a_history.Goals as goal
 
@@ -7,5 +8,5 @@ pub returns : goal.returns
 returns g c = λ told revision stamp named old new tried same_sizes is_left names_new past is_new.
     let one = tried told in
     let before = g.B.Bay.disks old in
-    founded_since revision stamp before (g.B.Bay.disks new) same_sizes (label_slots before.sizes named) (chosen_once before.sizes named) one.1 past is_new
+    founded_since label_layout revision stamp before (g.B.Bay.disks new) same_sizes (label_slots before.sizes named) (chosen_once before.sizes named) one.1 past is_new
     is_left names_new

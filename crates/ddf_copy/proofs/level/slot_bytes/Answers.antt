@@ -1,5 +1,5 @@
 use Rattle.std.proofs.Common.{◌≡◌, ◌+◌, ◌*◌, ◌-◌, ◌≤◌, ◌∙◌, ℕ, List, length, ap, arith}
-use Rattle.ddf_configs.specs.Elements.{record_size}
+use Rattle.ddf_config_records.specs.Elements.{record_size}
 use Rattle.ddf_copy.specs.Sections.{bytes_in}
 use Rattle.ddf_copy.proofs.Levels.{slot_stands, slot_within, slots_length}
 use Rattle.ddf_copy.proofs.level.slot_bytes.Goals as goal

@@ -1,9 +1,9 @@
 use Rattle.std.proofs.Common.{◌≡◌, ◌*◌, ◌/◌, ◌<◌, ◌∙◌, ap, sym, refl, length, arith, List, ℕ}
 use Rattle.ddf_header.specs.Geometry.{section_of}
-use Rattle.ddf_configs.specs.declared.slot.RecordSlot.{RecordSlot}
-use Rattle.ddf_configs.specs.Elements.{record_size}
-use Rattle.ddf_configs.specs.Slots.{AreSlotsOf}
-use Rattle.ddf_configs.proofs.Sound.{room_from_sound}
+use Rattle.ddf_config_records.specs.declared.slot.RecordSlot.{RecordSlot}
+use Rattle.ddf_config_records.specs.Elements.{record_size}
+use Rattle.ddf_config_records.specs.Slots.{AreSlotsOf}
+use Rattle.ddf_config_records.proofs.Sound.{room_from_sound}
 use Rattle.ddf_copy.specs.Written.{records_written}
 use Rattle.ddf_copy.proofs.Slots.{count_of_whole, whole_again}
 use Rattle.ddf_copy.proofs.sections.slots_in.Goals as goal

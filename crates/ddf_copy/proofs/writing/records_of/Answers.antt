@@ -2,8 +2,8 @@ use Rattle.std.proofs.Common.{◌≡◌, ◌*◌, ◌/◌, ◌∙◌, ap, sym, l
 use Rattle.ddf_header.specs.declared.geometry.Section.{Section}
 use Rattle.ddf_header.specs.Geometry.{section_of}
 use Rattle.ddf_header.proofs.Sound.{sound}
-use Rattle.ddf_configs.specs.Elements.{record_size}
-use Rattle.ddf_configs.proofs.Sound.{room_from_sound}
+use Rattle.ddf_config_records.specs.Elements.{record_size}
+use Rattle.ddf_config_records.proofs.Sound.{room_from_sound}
 use Rattle.ddf_copy.specs.Written.{records_written}
 use Rattle.ddf_copy.proofs.Slots.{slots_are_read, whole_again}
 use Rattle.ddf_copy.proofs.writing.records_of.Goals as goal

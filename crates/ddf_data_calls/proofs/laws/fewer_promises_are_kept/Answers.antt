@@ -1,5 +1,5 @@
 use Rattle.std.proofs.Common.{None}
-use Rattle.ddf_promise.specs.Promised.{with_promise}
+use Rattle.ddf_data_history.specs.Promised.{with_promise}
 use Rattle.ddf_data_calls.proofs.Begun.{dropped_less, fewer_keep}
 use Rattle.ddf_data_calls.proofs.laws.fewer_promises_are_kept.Goals as goal
 

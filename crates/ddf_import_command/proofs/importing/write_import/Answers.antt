@@ -4,8 +4,8 @@ use Rattle.std.proofs.lemmas.Result.{err_from_is_err_and}
 use Rattle.ddf_bay.proofs.Looks.{reads_start}
 use Rattle.ddf_config.specs.Configuration.{Configuration}
 use Rattle.ddf_assembly.specs.Group.{GroupValue}
-use Rattle.ddf_stops.specs.Joins.{IsImport}
-use Rattle.ddf_stops.specs.Steps.{IsRecovery}
+use Rattle.ddf_history_steps.specs.Joins.{IsImport}
+use Rattle.ddf_history_steps.specs.Steps.{IsRecovery}
 use Rattle.ddf_answer.specs.Call.{work_of}
 use Rattle.ddf_group_commands.proofs.Keeping.{Tells, reads_true}
 use Rattle.ddf_group_commands.proofs.LeftWriting.{reads_leave}

@@ -1,7 +1,7 @@
 use Rattle.std.proofs.Common.{◌≡◌, ◌∙◌, ◌-◌, length, take, arith}
 use Rattle.std.proofs.lemmas.List.{length-take-le}
 use Rattle.std.proofs.lemmas.Result.{err_from_is_err_and}
-use Rattle.ddf_volume.proofs.Narrower.{part_of}
+use Rattle.ddf_read.proofs.Narrower.{part_of}
 use Rattle.ddf_pieces.specs.Pieces.{piece_of}
 use Rattle.ddf_pieces.proofs.ReadSteps.{cut_calls, gone_fault, gone_more, gone_start}
 use Rattle.ddf_pieces.proofs.reading.read_each.Goals as goal

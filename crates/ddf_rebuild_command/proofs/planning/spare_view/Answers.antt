@@ -3,7 +3,7 @@ use Rattle.ddf_array.specs.Viewing.{view_of}
 use Rattle.ddf_config.specs.declared.refusal.Refusal.{Refusal}
 use Rattle.ddf_config.specs.Configuration.{Configuration}
 use Rattle.ddf_plan.specs.Changes.{changed_at}
-use Rattle.ddf_data_commands.specs.Use.{IsViewed}
+use Rattle.ddf_read_commands.specs.Use.{IsViewed}
 use Rattle.ddf_rebuild_command.proofs.planning.spare_view.Goals as goal
 
 pub returns-clause-viewed : goal.returns-clause-viewed

@@ -1,7 +1,7 @@
 use Rattle.std.proofs.Common.{true, false, ⊎_elim}
 use Rattle.std.proofs.lemmas.Result.{err_from_is_err_and}
 use Rattle.ddf_cells.specs.Touching.{GoesBetween}
-use Rattle.ddf_stops.specs.Steps.{IsRecovery}
+use Rattle.ddf_history_steps.specs.Steps.{IsRecovery}
 use Rattle.ddf_bay.specs.Told.{IsTold}
 use Rattle.ddf_rebuild_command.proofs.Costs.{asks_spent}
 use Rattle.ddf_rebuild_command.proofs.Recovery.{lies, on_seats, recovery_done, recovery_failed, recovery_opened, there}

@@ -1,7 +1,7 @@
 use Rattle.std.proofs.Common.{◌≡◌, ⊎_elim, ◌+◌, ◌-◌, ◌<◌, ◌≤◌, subst, arith}
 use Rattle.std.proofs.lemmas.Bool.{cases_lt}
 use Rattle.ddf_bay.specs.Sectors.{Image}
-use Rattle.ddf_volume.proofs.OnlyReading.{only_reads_then}
+use Rattle.ddf_read.proofs.OnlyReading.{only_reads_then}
 use Rattle.ddf_resync.specs.Agreeing.{CopyAgrees, IsStep}
 use Rattle.ddf_array.proofs.Bools.{not_true}
 use Rattle.ddf_resync.proofs.Failing.{not_false, step_bad, step_good}

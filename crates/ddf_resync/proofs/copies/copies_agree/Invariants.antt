@@ -1,5 +1,5 @@
 use Rattle.std.proofs.Common.{ℕ, ◌+◌, ◌-◌, ◌<◌, ◌≤◌}
-use Rattle.ddf_volume.specs.Reading.{OnlyReads}
+use Rattle.ddf_read.specs.Reading.{OnlyReads}
 use Rattle.ddf_resync.specs.Agreeing.{CopyAgrees}
 use Rattle.ddf_resync.proofs.copies.copies_agree.Given as goal
 

@@ -2,10 +2,10 @@ use Rattle.std.proofs.Common.{◌≡◌, ◌∙◌, ⊎_elim, ◌+◌, ◌-◌, 
 use Rattle.std.proofs.lemmas.Result.{err_from_is_err_and}
 use Rattle.ddf_array.specs.declared.site.Site.{Site}
 use Rattle.ddf_array.specs.Values.{bytes_at}
-use Rattle.ddf_volume.specs.Along.{further}
-use Rattle.ddf_volume.proofs.FirstCopies.{first_there}
-use Rattle.ddf_volume.proofs.Followers.{follow_first}
-use Rattle.ddf_volume.proofs.Sites.{site_at_there}
+use Rattle.ddf_read.specs.Along.{further}
+use Rattle.ddf_read.proofs.FirstCopies.{first_there}
+use Rattle.ddf_read.proofs.Followers.{follow_first}
+use Rattle.ddf_read.proofs.Sites.{site_at_there}
 use Rattle.ddf_cells.proofs.BlockOf.{block_within}
 use Rattle.ddf_resync.specs.Agreeing.{CopyAgrees}
 use Rattle.ddf_resync.proofs.Beside.{copy_run, run_bad, run_good}

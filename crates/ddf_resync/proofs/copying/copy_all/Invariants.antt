@@ -1,6 +1,6 @@
 use Rattle.std.proofs.Common.{◌≡◌, ◌-◌, ◌≤◌}
 use Rattle.ddf_array.specs.Volume.{capacity}
-use Rattle.ddf_volume.specs.Reading.{Failed}
+use Rattle.ddf_read.specs.Reading.{Failed}
 use Rattle.ddf_cells.specs.Touching.{Writes}
 use Rattle.ddf_resync.specs.Copying.{AreCopied, AreNoted, Asks}
 use Rattle.ddf_resync.specs.Resyncing.{MayResync}

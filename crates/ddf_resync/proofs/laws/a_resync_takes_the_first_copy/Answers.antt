@@ -1,5 +1,5 @@
 use Rattle.ddf_array.specs.Values.{bytes_at}
-use Rattle.ddf_volume.specs.Reading.{Failed}
+use Rattle.ddf_read.specs.Reading.{Failed}
 use Rattle.ddf_resync.proofs.Copied.{first_taken, given_held}
 use Rattle.ddf_resync.proofs.laws.a_resync_takes_the_first_copy.Goals as goal
 

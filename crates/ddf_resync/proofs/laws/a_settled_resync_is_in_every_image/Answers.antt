@@ -1,4 +1,4 @@
-use Rattle.ddf_volume.specs.Reading.{Failed}
+use Rattle.ddf_read.specs.Reading.{Failed}
 use Rattle.ddf_resync.proofs.Leaves.{settled_resynced}
 use Rattle.ddf_resync.proofs.laws.a_settled_resync_is_in_every_image.Goals as goal
 

@@ -1,6 +1,6 @@
 use Rattle.std.proofs.Common.{◌≡◌, false, sym}
 use Rattle.ddf_array.specs.Within.{is_redundant}
-use Rattle.ddf_volume.specs.Reading.{Failed}
+use Rattle.ddf_read.specs.Reading.{Failed}
 use Rattle.ddf_cells.proofs.Whole.{readable}
 use Rattle.ddf_resync.proofs.Resynced.{not_refused, plain_resynced, plain_set}
 use Rattle.ddf_resync.proofs.resyncing.resync.Goals as goal

@@ -4,7 +4,7 @@ use Rattle.ddf_bytes.specs.Counts.{Rose}
 use Rattle.ddf_bay.specs.Sectors.{Image}
 use Rattle.ddf_bay.proofs.Steps.{rose_since}
 use Rattle.ddf_array.specs.Volume.{capacity}
-use Rattle.ddf_volume.specs.Reading.{Failed}
+use Rattle.ddf_read.specs.Reading.{Failed}
 use Rattle.ddf_cells.specs.Parity.{IsParityCell}
 use Rattle.ddf_cells.specs.Touching.{IsTouchedSlot}
 use Rattle.ddf_cells.proofs.Ends.{both_of_err, moments_end, settled_end}

@@ -1,5 +1,5 @@
 use Rattle.std.proofs.Common.{◌∙◌, Some, sym, ap, arith}
-use Rattle.ddf_volume.proofs.FirstCopies.{first_there}
+use Rattle.ddf_read.proofs.FirstCopies.{first_there}
 use Rattle.ddf_resync.proofs.Values.{value_copy}
 use Rattle.ddf_resync.proofs.rows.read_first.Goals as goal
 

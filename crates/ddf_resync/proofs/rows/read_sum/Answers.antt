@@ -1,8 +1,8 @@
 use Rattle.std.proofs.Common.{◌∙◌, ◌<◌, [], length, ap, arith}
 use Rattle.std.proofs.lemmas.List.{get_or_default}
 use Rattle.ddf_array.specs.Values.{sum_at}
-use Rattle.ddf_volume.specs.Sums.{other_sites}
-use Rattle.ddf_volume.proofs.OtherCells.{first_sum, row_sites}
+use Rattle.ddf_read.specs.Sums.{other_sites}
+use Rattle.ddf_read.proofs.OtherCells.{first_sum, row_sites}
 use Rattle.ddf_resync.proofs.rows.read_sum.Goals as goal
 
 pub sum_rows-requires-clause-part : goal.sum_rows-requires-clause-part

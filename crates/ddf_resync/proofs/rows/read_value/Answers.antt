@@ -2,8 +2,8 @@ use Rattle.std.proofs.Common.{◌≡◌, ◌∙◌, Some, sym, ap, subst}
 use Rattle.ddf_array.specs.declared.part.Part.{Part}
 use Rattle.ddf_array.specs.Sources.{row_without}
 use Rattle.std.proofs.lemmas.Result.{err_from_is_err_and}
-use Rattle.ddf_volume.specs.Reading.{HasSite}
-use Rattle.ddf_volume.proofs.OtherCells.{row_sites}
+use Rattle.ddf_read.specs.Reading.{HasSite}
+use Rattle.ddf_read.proofs.OtherCells.{row_sites}
 use Rattle.ddf_resync.specs.Compared.{IsCompared}
 use Rattle.ddf_resync.proofs.Comparing.{beside_row, row_compared}
 use Rattle.ddf_resync.proofs.Values.{value_row}

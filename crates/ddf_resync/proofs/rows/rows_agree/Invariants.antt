@@ -1,5 +1,5 @@
 use Rattle.std.proofs.Common.{ℕ, ◌+◌, ◌<◌}
-use Rattle.ddf_volume.specs.Reading.{OnlyReads}
+use Rattle.ddf_read.specs.Reading.{OnlyReads}
 use Rattle.ddf_resync.specs.Agreeing.{RowAgrees}
 use Rattle.ddf_resync.proofs.rows.rows_agree.Given as goal
 

@@ -12,8 +12,8 @@ use Rattle.ddf_parity.specs.Xor.{zeros}
 use Rattle.ddf_array.specs.declared.site.Site.{Site}
 use Rattle.ddf_array.specs.Places.{is_available}
 use Rattle.ddf_array.specs.Redundant.{whole_row}
-use Rattle.ddf_volume.specs.Along.{further}
-use Rattle.ddf_volume.specs.Sums.{other_sites}
+use Rattle.ddf_read.specs.Along.{further}
+use Rattle.ddf_read.specs.Sums.{other_sites}
 use Rattle.ddf_resync.specs.Agreeing.{SumAgrees}
 use Rattle.ddf_resync.proofs.Comparing.{whole_compared}
 use Rattle.ddf_resync.proofs.Failing.{all_or_not, available_whole, whole_available, whole_sites}

@@ -3,7 +3,7 @@ use Rattle.std.proofs.lemmas.Bool.{cases_lt}
 use Rattle.ddf_bay.specs.Sectors.{Image}
 use Rattle.ddf_primary.proofs.ShapeFacts.{cell_facts, depth_le}
 use Rattle.ddf_array.proofs.Consistent.{position_within}
-use Rattle.ddf_volume.proofs.OnlyReading.{only_reads_then}
+use Rattle.ddf_read.proofs.OnlyReading.{only_reads_then}
 use Rattle.ddf_cells.proofs.BlockOf.{holds_both}
 use Rattle.ddf_resync.specs.Agreeing.{AllOrNot, PositionAgrees, SumAgrees}
 use Rattle.ddf_resync.proofs.Failing.{all_bad, all_good}

@@ -1,6 +1,6 @@
 use Rattle.std.proofs.Common.{◌+◌, refl, subst}
 use Rattle.ddf_bay.specs.Sectors.{Image}
-use Rattle.ddf_volume.proofs.OnlyReading.{only_reads_then}
+use Rattle.ddf_read.proofs.OnlyReading.{only_reads_then}
 use Rattle.ddf_resync.specs.Agreeing.{AllOrNot, CopyAgrees, PositionAgrees, RowAgrees}
 use Rattle.ddf_resync.proofs.Failing.{all_good, all_or_not}
 use Rattle.ddf_resync.proofs.walk.position_agrees.Goals as goal

@@ -4,7 +4,7 @@ use Rattle.std.proofs.lemmas.Option.{slice_get_read, slice_get_within}
 use Rattle.ddf_bay.specs.Sectors.{Image}
 use Rattle.ddf_primary.specs.Cells.{depth_of}
 use Rattle.ddf_array.specs.declared.part.Part.{Part}
-use Rattle.ddf_volume.proofs.OnlyReading.{only_reads_then}
+use Rattle.ddf_read.proofs.OnlyReading.{only_reads_then}
 use Rattle.ddf_resync.specs.Agreeing.{Agrees}
 use Rattle.ddf_resync.specs.Scrubbing.{DiffersFirst, IsElementScrubbed}
 use Rattle.ddf_resync.proofs.Found.{all_redundant, redundant_agrees}
@@ -83,3 +83,23 @@ returns-clause-found g c = λ tells are.
     all_redundant c.args.view.now c.requires.known (g.B.Bay.disks c.args.bay.now).held
     (λ element sector part part_at below.
     c.loop-element.invariant.agree tells element sector part (omega (arith, slice_get_within c.args.view.now.parts element part part_at, n, c.loop-element-test.false)) part_at below) are
+
+pub returns-clause-agrees : goal.returns-clause-agrees
+returns-clause-agrees g c = λ tells element sector part part_at below.
+    let n = ap length c.parts-element-end.ensures.parts in
+    c.loop-element.invariant.agree tells element sector part (omega (arith, slice_get_within c.args.view.now.parts element part part_at, n, c.loop-element-test.false)) part_at below
+
+pub returns-in-Some-clause-agrees : goal.returns-in-Some-clause-agrees
+returns-in-Some-clause-agrees g c = λ tells redundant.
+    let v = c.args.view.now in
+    let held = (g.B.Bay.disks c.args.bay.now).held in
+    let element = c.loop-element.element in
+    let part = c.index-parts-element.result in
+    let n = ap length c.parts-element-end.ensures.parts in
+    let m = ap length c.parts.ensures.parts in
+    let inside : element < length c.parts.result.now = omega (arith, n, m, c.loop-element-test.true) in
+    let at : slice_get v.parts element ≡ Some part = rw c.parts.ensures.parts at (slice_get_read c.parts.result.now _ element part refl inside c.index-parts-element.is) in
+    let found : IsElementScrubbed v held element part c.in_ok-found.found =
+    subst (λ (image : Image). IsElementScrubbed v image element part c.in_ok-found.found) c.loop-element.invariant.reads.reads.same_held (c.in_ok-found.ensures.found tells) in
+    let here : DiffersFirst v held element part c.in-Some.row = subst (λ (o : Option ℕ). IsElementScrubbed v held element part o) c.in-Some.is found in
+    here.differs (redundant_agrees v c.requires.known held redundant element here.sector part at here.deep)

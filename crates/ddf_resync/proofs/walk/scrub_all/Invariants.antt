@@ -1,4 +1,4 @@
-use Rattle.ddf_volume.specs.Reading.{OnlyReads}
+use Rattle.ddf_read.specs.Reading.{OnlyReads}
 use Rattle.ddf_resync.specs.Scrubbing.{AgreeBefore}
 use Rattle.ddf_resync.proofs.walk.scrub_all.Given as goal
 

@@ -14,11 +14,14 @@ use Rattle.ddf_rewrite.proofs.Premises.{can_hold_spare}
 use Rattle.ddf_rewrite.proofs.Roomy.{room_from_none, roomy_change_can, write_can}
 use Rattle.ddf_rewrite.proofs.copies.changed_copy_over.Goals as goal
 
-pub copy_after-requires : goal.copy_after-requires
-copy_after-requires c =
+pub copy_after-requires-clause-spare : goal.copy_after-requires-clause-spare
+copy_after-requires-clause-spare c =
     let old = c.args.old.now in
     let config = c.args.config.now in
     can_hold_spare old config c.requires.old (room_from_none old (before c.args.leaders.now) config c.args.timestamp c.requires.old c.requires.room).entries
+
+pub copy_after-requires-clause-all : goal.copy_after-requires-clause-all
+copy_after-requires-clause-all c = c.deref-4.ensures.value ∙ c.in_ok-all.ensures
 
 pub returns-clause-exact : goal.returns-clause-exact
 unfolding changed_copy view_of

@@ -10,8 +10,11 @@ use Rattle.ddf_rewrite.specs.Notes.{Holding}
 use Rattle.ddf_rewrite.proofs.Premises.{can_hold_spare}
 use Rattle.ddf_rewrite.proofs.copies.recovered_copy_over.Goals as goal
 
-pub copy_after-requires : goal.copy_after-requires
-copy_after-requires c = can_hold_spare c.args.old.now c.args.config.now c.requires.old c.requires.fits.entries_fit
+pub copy_after-requires-clause-spare : goal.copy_after-requires-clause-spare
+copy_after-requires-clause-spare c = can_hold_spare c.args.old.now c.args.config.now c.requires.old c.requires.fits.entries_fit
+
+pub copy_after-requires-clause-all : goal.copy_after-requires-clause-all
+copy_after-requires-clause-all c = c.deref-3.ensures.value ∙ c.in_ok-all.ensures
 
 pub returns : goal.returns
 unfolding recovered_copy view_of

@@ -1,5 +1,5 @@
 use Rattle.std.proofs.Common.{◌≡◌, ◌∙◌, true, false, sym, ap}
-use Rattle.ddf_configs.specs.ElementValue.{ElementValue}
+use Rattle.ddf_config_records.specs.ElementValue.{ElementValue}
 use Rattle.ddf_view.specs.Differ.{same_record}
 use Rattle.ddf_rewrite.specs.Elements.{planned}
 use Rattle.ddf_rewrite.proofs.Altered.{changes_named, named, stays_named}

@@ -1,8 +1,8 @@
 use Rattle.std.proofs.Common.{sym, ap, subst}
 use Rattle.std.specs.Option.{option_copied}
-use Rattle.ddf_configs.specs.Elements.{CanBeElement}
-use Rattle.ddf_configs.specs.ElementValue.{ElementValue}
-use Rattle.ddf_configs.proofs.ElementRecords.{allowed}
+use Rattle.ddf_config_records.specs.Elements.{CanBeElement}
+use Rattle.ddf_config_records.specs.ElementValue.{ElementValue}
+use Rattle.ddf_config_records.proofs.ElementRecords.{allowed}
 use Rattle.ddf_view.specs.View.{HeldRecord}
 use Rattle.ddf_rewrite.proofs.elements.changed_over.Goals as goal
 

@@ -1,7 +1,7 @@
 use Rattle.std.proofs.Common.{ap}
 use Rattle.std.specs.Option.{option_copied}
-use Rattle.ddf_configs.specs.Elements.{CanBeElement}
-use Rattle.ddf_configs.proofs.ElementRecords.{allowed}
+use Rattle.ddf_config_records.specs.Elements.{CanBeElement}
+use Rattle.ddf_config_records.proofs.ElementRecords.{allowed}
 use Rattle.ddf_rewrite.proofs.elements.created_over.Goals as goal
 
 pub over-requires-clause-size : goal.over-requires-clause-size

@@ -1,4 +1,4 @@
-use Rattle.ddf_configs.proofs.ElementRecords.{allowed}
+use Rattle.ddf_config_records.proofs.ElementRecords.{allowed}
 use Rattle.ddf_rewrite.proofs.elements.over_own.Goals as goal
 
 pub over-requires-clause-few_before : goal.over-requires-clause-few_before

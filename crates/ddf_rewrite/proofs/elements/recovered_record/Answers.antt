@@ -1,9 +1,9 @@
 use Rattle.std.proofs.Common.{◌≡◌, ◌∙◌, IfOk, ap, subst}
 use Rattle.std.specs.Option.{option_copied}
-use Rattle.ddf_configs.specs.Building.{element_over}
-use Rattle.ddf_configs.specs.Elements.{CanBeElement}
-use Rattle.ddf_configs.specs.ElementValue.{ElementValue}
-use Rattle.ddf_configs.proofs.ElementRecords.{allowed}
+use Rattle.ddf_config_records.specs.Building.{element_over}
+use Rattle.ddf_config_records.specs.Elements.{CanBeElement}
+use Rattle.ddf_config_records.specs.ElementValue.{ElementValue}
+use Rattle.ddf_config_records.proofs.ElementRecords.{allowed}
 use Rattle.ddf_rewrite.specs.Elements.{recovered_record}
 use Rattle.ddf_rewrite.proofs.Altered.{element_named}
 use Rattle.ddf_rewrite.proofs.elements.recovered_record.Goals as goal

@@ -1,6 +1,6 @@
 use Rattle.std.proofs.Common.{◌≡◌, ◌∙◌, ℕ, ap, map}
 use Rattle.std.specs.List.{range_with_len}
-use Rattle.ddf_configs.specs.declared.notes.SlotNote.{SlotNote}
+use Rattle.ddf_config_records.specs.declared.notes.SlotNote.{SlotNote}
 use Rattle.ddf_view.proofs.Rebuilt.{made_on}
 use Rattle.ddf_rewrite.specs.Placement.{item_at}
 use Rattle.ddf_rewrite.specs.Notes.{note_for}

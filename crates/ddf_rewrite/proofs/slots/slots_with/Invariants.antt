@@ -1,8 +1,8 @@
 use Rattle.std.proofs.Common.{◌≡◌, ◌++◌, drop, map}
 use Rattle.std.specs.List.{enumerate_from}
-use Rattle.ddf_configs.specs.declared.notes.Notes.{Notes}
-use Rattle.ddf_configs.specs.declared.spare.SpareRecord.{SpareRecord}
-use Rattle.ddf_configs.specs.declared.slot.RecordSlot.TheVariants as slots
+use Rattle.ddf_config_records.specs.declared.notes.Notes.{Notes}
+use Rattle.ddf_config_records.specs.declared.spare.SpareRecord.{SpareRecord}
+use Rattle.ddf_config_records.specs.declared.slot.RecordSlot.TheVariants as slots
 use Rattle.ddf_rewrite.specs.Copies.{slot_after, slots_with}
 use Rattle.ddf_rewrite.proofs.slots.slots_with.Given as goal
 

@@ -9,5 +9,5 @@ loop-place-preserved c =
     let sizes = c.args.sizes.now in
     let pushed : c.push.new.self.items ≡ c.loop-place.rows.items ++ c.new_entry.result ∷ [] = c.in_ok-push.ensures.items in
     let within : place < length sizes = omega arith in
-    let more = entries_more c.args.revision c.args.stamp.now 0 sizes place place within (omega arith) in
-    pushed ∙ ap (λ row. c.loop-place.rows.items ++ row ∷ []) c.new_entry.ensures ∙ ap (λ rows. rows ++ new_entry c.args.revision c.args.stamp.now place (get_or sizes place 0) ∷ []) c.loop-place.invariant ∙ sym more
+    let more = entries_more c.args.layout c.args.revision c.args.stamp.now 0 sizes place place within (omega arith) in
+    pushed ∙ ap (λ row. c.loop-place.rows.items ++ row ∷ []) c.new_entry.ensures ∙ ap (λ rows. rows ++ new_entry c.args.layout c.args.revision c.args.stamp.now place (get_or sizes place 0) ∷ []) c.loop-place.invariant ∙ sym more

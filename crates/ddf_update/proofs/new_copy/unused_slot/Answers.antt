@@ -5,5 +5,5 @@ use Rattle.ddf_update.proofs.new_copy.unused_slot.Goals as goal
 pub returns : goal.returns
 unfolding unused_slot
 returns c =
-    let full : c.in_ok-bytes.bytes.items ≡ replicate 1024 255 = c.in_ok-bytes.ensures.items_if_clones_equal (λ y e. e) in
+    let full : c.in_ok-bytes.bytes.items ≡ replicate c.args.size 255 = c.in_ok-bytes.ensures.items_if_clones_equal (λ y e. e) in
     rw (c.new.ensures, full) refl

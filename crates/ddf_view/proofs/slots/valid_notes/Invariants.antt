@@ -1,5 +1,5 @@
 use Rattle.std.proofs.Common.{◌≡◌, drop}
-use Rattle.ddf_configs.specs.Slots.{valid_notes}
+use Rattle.ddf_config_records.specs.Slots.{valid_notes}
 use Rattle.ddf_view.proofs.slots.valid_notes.Given as goal
 
 abbrev pub invariant-loop-slot : goal.invariant-loop-slot

@@ -2,8 +2,8 @@ use Rattle.std.proofs.Common.{◌≡◌, ◌∙◌, ◌+◌, ◌-◌, length, ta
 use Rattle.std.proofs.lemmas.Result.{err_from_is_err_and}
 use Rattle.ddf_bay.specs.Sectors.{Image}
 use Rattle.ddf_array.specs.Rows.{cell_value}
-use Rattle.ddf_volume.specs.Reading.{Failed}
-use Rattle.ddf_volume.proofs.OnlyReading.{failed_before, failed_behind, only_reads_then}
+use Rattle.ddf_read.specs.Reading.{Failed}
+use Rattle.ddf_read.proofs.OnlyReading.{failed_before, failed_behind, only_reads_then}
 use Rattle.ddf_cells.proofs.Piecewise.{piece_more, rest_long}
 use Rattle.ddf_write.specs.RowWrites.{IsFilled}
 use Rattle.ddf_write.proofs.RowReads.{left_of_more, sure_fewer}

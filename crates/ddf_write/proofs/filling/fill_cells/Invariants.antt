@@ -1,5 +1,5 @@
 use Rattle.std.proofs.Common.{ℕ, ◌-◌, ◌≤◌, List, length}
-use Rattle.ddf_volume.specs.Reading.{Failed, OnlyReads}
+use Rattle.ddf_read.specs.Reading.{Failed, OnlyReads}
 use Rattle.ddf_cells.specs.CellSources.{AreCells}
 use Rattle.ddf_write.specs.RowWrites.{IsFilled, IsSure}
 use Rattle.ddf_write.proofs.filling.fill_cells.Given as goal

@@ -1,6 +1,6 @@
 use Rattle.std.proofs.Common.{◌∙◌, ◌+◌, sym}
 use Rattle.std.proofs.lemmas.Result.{err_from_is_err_and}
-use Rattle.ddf_volume.specs.Reading.{Failed}
+use Rattle.ddf_read.specs.Reading.{Failed}
 use Rattle.ddf_cells.proofs.BlockOf.{block_within}
 use Rattle.ddf_write.proofs.RowReads.{cell_by_block, cell_by_own, left_of_blocks, left_of_own, never_some}
 use Rattle.ddf_cells.proofs.Whole.{whole_site}

@@ -1,5 +1,5 @@
 use Rattle.std.proofs.Common.{sym, arith}
-use Rattle.ddf_volume.proofs.Sites.{site_at_there}
+use Rattle.ddf_read.proofs.Sites.{site_at_there}
 use Rattle.ddf_write.proofs.filling.read_own.Goals as goal
 
 pub read_from-requires-clause-slot : goal.read_from-requires-clause-slot

@@ -3,8 +3,8 @@ use Rattle.std.specs.Prelude.{slice_index_or}
 use Rattle.ddf_bay.specs.Sectors.{Image}
 use Rattle.ddf_parity.specs.Xor.{xor_all}
 use Rattle.ddf_array.specs.Rows.{cell_value}
-use Rattle.ddf_volume.specs.Reading.{Failed}
-use Rattle.ddf_volume.proofs.OnlyReading.{failed_before, failed_behind, only_reads_then}
+use Rattle.ddf_read.specs.Reading.{Failed}
+use Rattle.ddf_read.proofs.OnlyReading.{failed_before, failed_behind, only_reads_then}
 use Rattle.ddf_cells.specs.RowSums.{AreAddedAt, is_other, others_among}
 use Rattle.ddf_cells.proofs.SumSteps.{sum_more, sum_of_all}
 use Rattle.ddf_write.specs.RowWrites.{IsFilled}

@@ -2,7 +2,7 @@ use Rattle.std.proofs.Common.{◌≡◌, ℕ, ◌+◌, ◌<◌, List, [], map, l
 use Rattle.std.specs.Prelude.{slice_index_or}
 use Rattle.ddf_parity.specs.Xor.{xor_all}
 use Rattle.ddf_array.specs.Rows.{cell_value}
-use Rattle.ddf_volume.specs.Reading.{Failed, OnlyReads}
+use Rattle.ddf_read.specs.Reading.{Failed, OnlyReads}
 use Rattle.ddf_cells.specs.RowSums.{others_among}
 use Rattle.ddf_write.specs.RowWrites.{IsFilled, IsSure}
 use Rattle.ddf_write.proofs.row.sum_rows.Given as goal

@@ -1,6 +1,6 @@
 use Rattle.std.proofs.Common.{◌≡◌, ℕ, ◌+◌, ◌≤◌, List, false, length}
 use Rattle.std.specs.List.{range_with_len, sum_by}
-use Rattle.ddf_volume.specs.Reading.{Failed}
+use Rattle.ddf_read.specs.Reading.{Failed}
 use Rattle.ddf_cells.specs.Touching.{Writes}
 use Rattle.ddf_write.specs.RowWrites.{IsFilled, IsNoted, IsSummed, IsSure, RowsOf, keeps_parity_anywhere, parity_cells}
 use Rattle.ddf_write.specs.Writing.{MayGive}

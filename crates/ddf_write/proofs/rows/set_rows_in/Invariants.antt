@@ -1,5 +1,5 @@
 use Rattle.std.proofs.Common.{◌≡◌, ℕ, ◌+◌, ◌-◌, ◌≤◌, List, length}
-use Rattle.ddf_volume.specs.Reading.{Failed}
+use Rattle.ddf_read.specs.Reading.{Failed}
 use Rattle.ddf_cells.specs.Touching.{Writes}
 use Rattle.ddf_write.specs.RowWrites.{IsFilled, IsNoted, IsSummed, IsSure, KeepsSums, RowsIn}
 use Rattle.ddf_write.specs.Writing.{MayGive}

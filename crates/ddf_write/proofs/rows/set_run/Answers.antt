@@ -7,10 +7,10 @@ use Rattle.ddf_bay.specs.Moments.{Mixes}
 use Rattle.ddf_bay.proofs.Runs.{put_mixes}
 use Rattle.ddf_array.specs.declared.site.Site.{Site}
 use Rattle.ddf_array.specs.Rows.{row_sum}
-use Rattle.ddf_volume.specs.Along.{further}
-use Rattle.ddf_volume.specs.Reading.{Failed}
-use Rattle.ddf_volume.proofs.Sites.{site_at_there}
-use Rattle.ddf_volume.proofs.SourcesAlong.{site_further}
+use Rattle.ddf_read.specs.Along.{further}
+use Rattle.ddf_read.specs.Reading.{Failed}
+use Rattle.ddf_read.proofs.Sites.{site_at_there}
+use Rattle.ddf_read.proofs.SourcesAlong.{site_further}
 use Rattle.ddf_cells.specs.Touching.{IsTouchedSlot}
 use Rattle.ddf_cells.proofs.WriteSteps.{touch_here, writes_read, writes_run, writes_then}
 use Rattle.ddf_write.specs.RowWrites.{IsSure}

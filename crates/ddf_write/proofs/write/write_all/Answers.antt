@@ -2,7 +2,7 @@ use Rattle.std.proofs.Common.{◌∙◌, inl, ℕ, length, sym, ap, subst, arith
 use Rattle.std.proofs.lemmas.Result.{err_from_is_err_and, IfErr-weaker, on_ok_weaker}
 use Rattle.ddf_bytes.specs.Counts.{Rose}
 use Rattle.ddf_bay.proofs.Steps.{rose_since}
-use Rattle.ddf_volume.specs.Reading.{Failed}
+use Rattle.ddf_read.specs.Reading.{Failed}
 use Rattle.ddf_write.specs.RowWrites.{AllSet, IsSure}
 use Rattle.ddf_write.proofs.CellsCount.{cells_are_copies}
 use Rattle.ddf_write.proofs.RowLoops.{failed_since, filled_then, stopped_since}

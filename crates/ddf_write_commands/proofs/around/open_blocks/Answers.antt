@@ -3,7 +3,7 @@ use Rattle.std.proofs.lemmas.Result.{err_from_is_err_and}
 use Rattle.ddf_update.specs.Group.{IsOneOf, LieOnSlots}
 use Rattle.ddf_assembly.specs.Committed.{next_slots, next_updates}
 use Rattle.ddf_assembly.specs.Ready.{ReadyValue}
-use Rattle.ddf_stops.specs.Steps.{IsCommit, IsRecovery}
+use Rattle.ddf_history_steps.specs.Steps.{IsCommit, IsRecovery}
 use Rattle.ddf_group_commands.proofs.Recovering.{commit_failed, first_lies, recover_failed, rest_lies, slots_there}
 use Rattle.ddf_write_commands.proofs.Costs.{alone_costs, behind_costs, left_marked, left_unmarked}
 use Rattle.ddf_bay.specs.Told.{IsTold}

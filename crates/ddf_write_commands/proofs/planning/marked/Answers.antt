@@ -3,7 +3,7 @@ use Rattle.std.proofs.lemmas.Result.{err_from_is_err_and}
 use Rattle.ddf_config.specs.Configuration.{Configuration}
 use Rattle.ddf_plan.specs.Same.{same_tables}
 use Rattle.ddf_array.specs.Viewing.{view_of}
-use Rattle.ddf_data_commands.specs.Use.{IsViewed}
+use Rattle.ddf_read_commands.specs.Use.{IsViewed}
 use Rattle.ddf_write_commands.proofs.PlanMade.{a_step, no_view, not_step}
 use Rattle.ddf_write_commands.proofs.planning.marked.Goals as goal
 

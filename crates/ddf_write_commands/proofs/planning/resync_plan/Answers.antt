@@ -1,7 +1,7 @@
 use Rattle.std.proofs.Common.{Err, refl, subst, sym}
 use Rattle.std.proofs.lemmas.Result.{err_from_is_err_and}
 use Rattle.ddf_answer.specs.declared.failure.Failure.{Failure}
-use Rattle.ddf_data_commands.specs.declared.using.Access.TheVariants.{Reads}
+use Rattle.ddf_read_commands.specs.declared.using.Access.TheVariants.{Reads}
 use Rattle.ddf_write_commands.specs.Plans.{MayPlan}
 use Rattle.ddf_write_commands.specs.Resync.{resync_behind, resync_refusals}
 use Rattle.ddf_write_commands.proofs.PlanMade.{found_there, more_of_resync, not_usable, resync_plan, resync_refused}

@@ -1,6 +1,6 @@
 use Rattle.std.proofs.Common.{◌∙◌, sym}
 use Rattle.std.proofs.lemmas.Result.{err_from_is_err_and}
-use Rattle.ddf_data_commands.specs.declared.using.Access.TheVariants.{Writes}
+use Rattle.ddf_read_commands.specs.declared.using.Access.TheVariants.{Writes}
 use Rattle.ddf_write_commands.specs.Write.{write_behind}
 use Rattle.ddf_write_commands.proofs.PlanMade.{found_there, not_usable}
 use Rattle.ddf_write_commands.proofs.PlanWritten.{behind_is, more_of_write, write_plan, write_refused}

@@ -1,16 +1,19 @@
 use Rattle.std.proofs.Common.{◌∙◌, ℕ, Err, refl, subst, sym, arith}
 use Rattle.std.proofs.lemmas.Result.{err_from_is_err_and}
 use Rattle.ddf_bytes.specs.Stamps.{timestamp_of}
+use Rattle.ddf_assembly.specs.Group.{GroupValue}
 use Rattle.ddf_assembly.specs.Ready.{readied}
-use Rattle.ddf_stops.proofs.Floored.{group_floored}
+use Rattle.ddf_history_steps.proofs.Floored.{group_floored}
 use Rattle.ddf_answer.specs.Call.{work_of}
 use Rattle.ddf_group_commands.proofs.Outcomes.{asked_of, group_read, read_still}
-use Rattle.ddf_write_commands.specs.Resync.{resync_behind, resync_refusals, resync_request, resyncing}
+use Rattle.ddf_write_commands.specs.Resync.{SparesWhatAgrees, resync_behind, resync_refusals, resync_request, resyncing}
 use Rattle.ddf_write_commands.proofs.Costs.{plan_costs}
+use Rattle.ddf_write_commands.proofs.OnePlan.{same_ok}
 use Rattle.ddf_write_commands.proofs.PlanKept.{planned, steps_are}
 use Rattle.ddf_write_commands.proofs.ResyncArray.{has_resynced}
 use Rattle.ddf_write_commands.proofs.ResyncWorks.{resync_steady}
-use Rattle.ddf_write_commands.proofs.Since.{HasDoneArray, come_since, none_come, not_planned, not_ready, unwritten_come}
+use Rattle.ddf_write_commands.proofs.Since.{HasDoneArray, come_since, found_since, none_come, not_planned, not_ready, unwritten_come}
+use Rattle.ddf_write_commands.proofs.Sparing.{spares_since, spares_unwritten}
 use Rattle.ddf_write_commands.proofs.Staying.{current_recovered}
 use Rattle.ddf_write_commands.proofs.resyncing.resynced.Goals as goal
 
@@ -20,7 +23,8 @@ returns-in_err-group-clause-resynced g c =
     let work = work_of g.B.Bay.tells (g.B.Bay.disks c.args.bay.now) (g.B.Bay.disks c.read_group.new.bay) in
     rw (failed.1, failed.2)
     (has_resynced work c.args.named (timestamp_of c.args.stamp.now) c.args.name.now (Err c.in_err-group.field-0.0)
-    (none_come resyncing work c.args.named (timestamp_of c.args.stamp.now) c.args.name.now (resync_request c.args.name.now) c.read_group.ensures.reads c.in_err-group.field-0.0 c.in_err-group.ensures.read))
+    (none_come resyncing work c.args.named (timestamp_of c.args.stamp.now) c.args.name.now (resync_request c.args.name.now) c.read_group.ensures.reads c.in_err-group.field-0.0 c.in_err-group.ensures.read)
+    (λ told found is. spares_unwritten work found (timestamp_of c.args.stamp.now) c.args.name.now c.read_group.ensures.reads))
 
 pub returns-in_err-plan-clause-resynced : goal.returns-in_err-plan-clause-resynced
 returns-in_err-plan-clause-resynced g c =
@@ -31,7 +35,8 @@ returns-in_err-plan-clause-resynced g c =
     (has_resynced work c.args.named (timestamp_of c.args.stamp.now) c.args.name.now (Err c.in_err-plan.field-0.0)
     (unwritten_come resyncing work c.args.named (timestamp_of c.args.stamp.now) c.args.name.now request c.read_group.ensures.reads c.in_ok-group.group c.in_err-plan.field-0.0 c.in_ok-group.ensures.read
     (not_planned resyncing work c.args.named (timestamp_of c.args.stamp.now) c.args.name.now request c.read_group.ensures.reads resync_refusals resync_behind c.in_ok-group.group c.in_err-plan.field-0.0 refl
-    c.in_err-plan.ensures)))
+    c.in_err-plan.ensures))
+    (λ told found is. spares_unwritten work found (timestamp_of c.args.stamp.now) c.args.name.now c.read_group.ensures.reads))
 
 pub returns-in_err-ready-clause-resynced : goal.returns-in_err-ready-clause-resynced
 returns-in_err-ready-clause-resynced g c =
@@ -44,7 +49,8 @@ returns-in_err-ready-clause-resynced g c =
     (unwritten_come resyncing work c.args.named timestamp c.args.name.now request c.read_group.ensures.reads c.in_ok-group.group c.in_err-ready.field-0.0 c.in_ok-group.ensures.read
     (not_ready resyncing work c.args.named timestamp c.args.name.now request c.read_group.ensures.reads c.in_ok-group.group c.in_err-ready.field-0.0 (readied c.in_ok-group.group c.in_ok-plan.plan.changes timestamp)
     (steps_are c.in_ok-group.group resync_refusals resync_behind c.args.name.now c.in_ok-plan.plan timestamp c.in_ok-plan.ensures (omega arith))
-    (rw c.timestamp-timestamp.ensures at c.in_err-ready.ensures.refused))))
+    (rw c.timestamp-timestamp.ensures at c.in_err-ready.ensures.refused)))
+    (λ told found is. spares_unwritten work found timestamp c.args.name.now c.read_group.ensures.reads))
 
 pub resync_array-requires-clause-from : goal.resync_array-requires-clause-from
 resync_array-requires-clause-from g c =
@@ -71,7 +77,7 @@ returns-clause-resynced g c =
     let group = c.in_ok-group.group in
     let plan = c.in_ok-plan.plan in
     let timestamp = timestamp_of c.args.stamp.now in
-    let array = c.resync_array.ensures in
+    let array = c.resync_array.ensures.done in
     let done : HasDoneArray resyncing g.B.Bay.tells middle new group timestamp word (resync_request word) c.resync_array.result =
     subst (λ (n : ℕ). HasDoneArray resyncing g.B.Bay.tells middle new group n word (resync_request word) c.resync_array.result) c.timestamp-timestamp.ensures (record {
       worked = array.worked word c.in_ok-plan.ensures;
@@ -81,11 +87,19 @@ returns-clause-resynced g c =
           array.keeps told left named by steps
           (asked_of (readied group plan.changes c.timestamp-timestamp.result) steps (sym (steps_are group resync_refusals resync_behind word plan c.timestamp-timestamp.result c.in_ok-plan.ensures (omega arith)) ∙ asked));
       along = λ told left named by. array.along told left named by word c.in_ok-plan.ensures;
-      unfailed = array.unfailed;
-      goes = array.goes;
+      unfailed = c.resync_array.ensures.unfailed;
+      goes = c.resync_array.ensures.goes;
       costs = plan_costs resyncing (work_of g.B.Bay.tells middle new) group resync_refusals resync_behind word plan c.timestamp-timestamp.result c.in_ok-plan.ensures (omega arith)
           (planned group resync_refusals resync_behind word plan c.timestamp-timestamp.result c.in_ok-plan.ensures (omega arith) c.in_ok-ready.ready c.in_ok-ready.ensures.was) array.costs;
     }) in
+    let spares : g.B.Bay.tells → SparesWhatAgrees (work_of g.B.Bay.tells old new) group timestamp word =
+    λ told. subst (λ (n : ℕ). SparesWhatAgrees (work_of g.B.Bay.tells old new) group n word) c.timestamp-timestamp.ensures
+    (spares_since g.B.Bay.tells old middle new c.read_group.ensures.reads c.read_group.ensures.reads_rise group c.timestamp-timestamp.result word (array.spares told word c.in_ok-plan.ensures)) in
     has_resynced (work_of g.B.Bay.tells old new) c.args.named timestamp word c.resync_array.result
     (come_since g.B.Bay.tells resyncing resync_steady old middle new c.read_group.ensures.reads c.read_group.ensures.reads_rise c.read_group.ensures.writes_rise c.args.named timestamp word (resync_request word) group
     c.in_ok-group.ensures.read c.resync_array.result done)
+    (λ told found is.
+    subst (λ (one : GroupValue). SparesWhatAgrees (work_of g.B.Bay.tells old new) one timestamp word)
+    (same_ok (sym (found_since g.B.Bay.tells resyncing resync_steady old middle new c.read_group.ensures.reads c.read_group.ensures.reads_rise c.read_group.ensures.writes_rise c.args.named timestamp word (resync_request word) group
+    c.in_ok-group.ensures.read c.resync_array.result done) ∙ is))
+    (spares told))

@@ -1,4 +1,0 @@
-pub mod Batch
-pub mod Lines
-pub mod Input
-pub mod Text

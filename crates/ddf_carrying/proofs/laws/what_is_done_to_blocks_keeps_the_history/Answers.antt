@@ -1,6 +1,0 @@
-use Rattle.ddf_carrying.proofs.Aside.{still_kept}
-use Rattle.ddf_carrying.proofs.laws.what_is_done_to_blocks_keeps_the_history.Goals as goal
-
-pub returns : goal.returns
-returns g c = λ group past found end floors guid volume view known before image left changes.
-    still_kept group past (g.B.Bay.disks c.args.bay.now) found end floors guid volume view known before image left changes

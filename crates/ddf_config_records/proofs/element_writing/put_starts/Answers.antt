@@ -1,0 +1,31 @@
+use Rattle.std.proofs.Common.{◌≡◌, ◌+◌, ◌*◌, ◌<◌, ◌∙◌, refl, sym, ap, length, get_or, arith, List, ℕ}
+use Rattle.std.specs.List.{flat_map}
+use Rattle.std.specs.Int.{w64, to_be_bytes}
+use Rattle.std.proofs.lemmas.List.{take_all}
+use Rattle.ddf_seal.specs.Unread.{placed}
+use Rattle.ddf_seal.proofs.Same.{as_placed, placed_none}
+use Rattle.ddf_config_records.specs.declared.place.Place.{Place}
+use Rattle.ddf_config_records.proofs.Numbers.{one_more, flat_map-map}
+use Rattle.ddf_config_records.proofs.element_writing.put_starts.Goals as goal
+
+pub loop-index-init : goal.loop-index-init
+loop-index-init c = sym (placed_none c.args.into.now c.args.at)
+
+pub loop-index-preserved : goal.loop-index-preserved
+loop-index-preserved c =
+    let into = c.args.into.now in
+    let items = c.args.members.now in
+    let i = c.loop-index.index in
+    let lt : i < length items = omega arith in
+    let none : Place = record { reference = 0; start = 0 } in
+    let f = λ (place : Place). to_be_bytes w64 place.start in
+    let now : c.put64.new.into ≡ placed c.loop-index.into (c.args.at + 8 * i) (f (get_or items i none)) = as_placed _ _ _ _ c.put64.ensures.written in
+    now ∙ ap (λ (l : List ℕ). placed l (c.args.at + 8 * i) (f (get_or items i none))) c.loop-index.invariant
+    ∙ one_more f 8 c.args.at into items i none (λ _. refl) lt (omega arith)
+
+pub returns : goal.returns
+returns c =
+    let items = c.args.members.now in
+    let f = λ (place : Place). to_be_bytes w64 place.start in
+    c.loop-index.invariant ∙ ap (λ (l : List Place). placed c.args.into.now c.args.at (flat_map f l)) (take_all c.loop-index.index items (omega arith))
+    ∙ ap (placed c.args.into.now c.args.at) (sym (flat_map-map (to_be_bytes w64) (λ (place : Place). place.start) items))

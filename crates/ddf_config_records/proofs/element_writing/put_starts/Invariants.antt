@@ -1,0 +1,8 @@
+use Rattle.std.proofs.Common.{◌≡◌, take}
+use Rattle.std.specs.List.{flat_map}
+use Rattle.std.specs.Int.{w64, to_be_bytes}
+use Rattle.ddf_seal.specs.Unread.{placed}
+use Rattle.ddf_config_records.proofs.element_writing.put_starts.Given as goal
+
+abbrev pub invariant-loop-index : goal.invariant-loop-index
+invariant-loop-index l = l.into ≡ placed l.initial.into l.at (flat_map (λ member. to_be_bytes w64 member.start) (take l.index l.members))

@@ -1,6 +1,0 @@
-use Rattle.std.proofs.Common.{◌≡◌}
-use Rattle.ddf_configs.specs.Elements.{members_at}
-use Rattle.ddf_configs.proofs.element_reading.members.Given as goal
-
-abbrev pub invariant-loop-index : goal.invariant-loop-index
-invariant-loop-index l = l.members.items ≡ members_at l.most l.bytes l.index

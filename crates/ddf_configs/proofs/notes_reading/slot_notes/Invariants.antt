@@ -1,6 +1,0 @@
-use Rattle.std.proofs.Common.{◌≡◌}
-use Rattle.ddf_configs.specs.NoteRecords.{notes_of_slots}
-use Rattle.ddf_configs.proofs.notes_reading.slot_notes.Given as goal
-
-abbrev pub invariant-loop-slot : goal.invariant-loop-slot
-invariant-loop-slot l = l.notes.items ≡ notes_of_slots l.most l.slot l.bytes

@@ -1,7 +1,0 @@
-use Rattle.std.proofs.Common.{◌≡◌, take}
-use Rattle.ddf_seal.specs.Unread.{written}
-use Rattle.ddf_configs.specs.NoteRecords.{all_note_fields}
-use Rattle.ddf_configs.proofs.notes_writing.put_notes.Given as goal
-
-abbrev pub invariant-loop-slot : goal.invariant-loop-slot
-invariant-loop-slot l = l.into ≡ written (all_note_fields l.most 64 (take l.slot l.notes)) l.initial.into

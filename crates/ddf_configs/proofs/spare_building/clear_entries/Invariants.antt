@@ -1,8 +1,0 @@
-use Rattle.std.proofs.Common.{◌≡◌, map}
-use Rattle.std.specs.List.{range_with_len}
-use Rattle.ddf_seal.specs.Unread.{cleared}
-use Rattle.ddf_configs.specs.Spares.{entry_place}
-use Rattle.ddf_configs.proofs.spare_building.clear_entries.Given as goal
-
-abbrev pub invariant-loop-index : goal.invariant-loop-index
-invariant-loop-index l = l.bytes.items ≡ cleared (map entry_place (range_with_len 0 l.index)) l.initial.bytes.items

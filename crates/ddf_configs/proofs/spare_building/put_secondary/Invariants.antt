@@ -1,7 +1,0 @@
-use Rattle.std.proofs.Common.{◌≡◌}
-use Rattle.ddf_seal.specs.Unread.{written}
-use Rattle.ddf_configs.specs.Building.{secondary_fields}
-use Rattle.ddf_configs.proofs.spare_building.put_secondary.Given as goal
-
-abbrev pub invariant-loop-index : goal.invariant-loop-index
-invariant-loop-index l = l.into ≡ written (secondary_fields l.index) l.initial.into

@@ -1,9 +1,0 @@
-use Rattle.std.proofs.Common.{subst, length, ◌≡◌, List, ℕ, arith}
-use Rattle.std.specs.List.{AllByRecursion}
-use Rattle.ddf_configs.proofs.Building.{entries_fit}
-use Rattle.ddf_configs.proofs.spare_building.with_rest.Goals as goal
-
-pub returns-clause-fits : goal.returns-clause-fits
-returns-clause-fits c =
-    let guids = subst (λ (l : List (List ℕ)). AllByRecursion (λ guid. length guid ≡ 24) l) c.items.ensures c.guids_fit.ensures in
-    (omega arith, (omega arith, entries_fit 32 c.args.spare.arrays guids))

@@ -1,7 +1,0 @@
-use Rattle.std.proofs.Common.{◌≡◌, take}
-use Rattle.ddf_seal.specs.Unread.{written}
-use Rattle.ddf_configs.specs.Spares.{entry_fields}
-use Rattle.ddf_configs.proofs.spare_writing.put_arrays.Given as goal
-
-abbrev pub invariant-loop-index : goal.invariant-loop-index
-invariant-loop-index l = l.into ≡ written (entry_fields 32 (take l.index l.arrays)) l.initial.into

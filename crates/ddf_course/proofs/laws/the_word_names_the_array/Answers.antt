@@ -1,5 +1,0 @@
-use Rattle.ddf_course.proofs.Used as used
-use Rattle.ddf_course.proofs.laws.the_word_names_the_array.Goals as goal
-
-pub returns : goal.returns
-returns c = λ guid positions state init. used.is_named guid positions state init

@@ -1,5 +1,0 @@
-use Rattle.ddf_data.proofs.FinishedRows.{kept_finished}
-use Rattle.ddf_data.proofs.laws.a_rebuilt_position_may_be_in_sync.Goals as goal
-
-pub returns : goal.returns
-returns c = kept_finished

@@ -1,5 +1,0 @@
-use Rattle.ddf_data.proofs.RowsKept.{no_rows_kept}
-use Rattle.ddf_data.proofs.laws.an_array_without_rows_keeps_them.Goals as goal
-
-pub returns : goal.returns
-returns c = no_rows_kept

@@ -1,5 +1,0 @@
-use Rattle.ddf_data_headline.proofs.Printed.{printed}
-use Rattle.ddf_data_headline.proofs.laws.a_read_prints_what_its_history_promises.Goals as goal
-
-pub returns : goal.returns
-returns c = λ group old exit guid all member read unread told allowed promised. printed group old exit guid all member read unread told allowed promised

@@ -1,5 +1,0 @@
-use Rattle.ddf_data_headline.proofs.Lives.{outlives}
-use Rattle.ddf_data_headline.proofs.laws.what_was_written_outlives_a_stop_and_a_lost_disk.Goals as goal
-
-pub returns : goal.returns
-returns c = λ revision stamp guid kept lost life. outlives life

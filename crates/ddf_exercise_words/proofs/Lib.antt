@@ -1,5 +1,0 @@
-mod Standing
-mod Wrongly
-mod Leading
-mod Numbers
-mod Telling

@@ -1,5 +1,0 @@
-use Rattle.ddf_headline.proofs.Lives.{outlives}
-use Rattle.ddf_headline.proofs.laws.what_was_acknowledged_outlives_stops_and_a_lost_disk.Goals as goal
-
-pub returns : goal.returns
-returns c = λ revision stamp kept lost life. outlives revision stamp kept lost life

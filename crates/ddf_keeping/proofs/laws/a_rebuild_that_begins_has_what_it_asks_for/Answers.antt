@@ -1,5 +1,0 @@
-use Rattle.ddf_keeping.proofs.Vacant.{asks_for}
-use Rattle.ddf_keeping.proofs.laws.a_rebuild_that_begins_has_what_it_asks_for.Goals as goal
-
-pub returns : goal.returns
-returns c = asks_for

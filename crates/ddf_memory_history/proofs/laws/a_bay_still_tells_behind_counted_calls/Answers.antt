@@ -1,5 +1,0 @@
-use Rattle.ddf_memory_history.proofs.Slots.{still_tells}
-use Rattle.ddf_memory_history.proofs.laws.a_bay_still_tells_behind_counted_calls.Goals as goal
-
-pub returns : goal.returns
-returns c = λ old exit most well counted below early. still_tells old exit well most counted below early

@@ -1,5 +1,0 @@
-use Rattle.ddf_memory_history.proofs.Slots.{left_gone}
-use Rattle.ddf_memory_history.proofs.laws.no_plugged_slot_is_left_out.Goals as goal
-
-pub returns : goal.returns
-returns c = λ group old exit readable found changes done well taken told. left_gone old exit well told readable taken.every_slot taken.failed

@@ -1,0 +1,81 @@
+-- Cells that the other cells of their rows give.
+use Rattle.std.proofs.Common.{◌≡◌, ◌∙◌, ℕ, ◌+◌, ◌-◌, ◌<◌, ◌≤◌, List, [], true, false, Option, Some, None, slice_get, refl, ap, arith}
+use Rattle.std.specs.Prelude.{filter_map, is_some, MatchOption, if◌then◌else◌}
+use Rattle.std.specs.List.{range_with_len, flat_map, cons_option}
+use Rattle.ddf_primary.specs.declared.layout.Layout.{Layout}
+use Rattle.ddf_primary.specs.declared.layout.Layout.TheVariants.{Raid0, Raid1, Parity, Jbod, Concatenation}
+use Rattle.ddf_primary.specs.Cells.{cells}
+use Rattle.ddf_primary.proofs.ShapeFacts.{cell_facts, depth_le}
+use Rattle.ddf_array.specs.declared.part.Part.{Part}
+use Rattle.ddf_array.specs.declared.site.Site.{Site}
+use Rattle.ddf_array.specs.Levels.{is_on_every, keeps_parity}
+use Rattle.ddf_array.specs.Cells.{element_cells}
+use Rattle.ddf_array.specs.Sources.{row_without, element_rows}
+use Rattle.ddf_array.specs.Volume.{Volume, IsPart}
+use Rattle.ddf_array.proofs.ElementCells.{cells_one}
+use Rattle.ddf_array.proofs.Firsts.{none_more, first_found}
+use Rattle.ddf_read.specs.declared.missing.MissingCell.{MissingCell}
+use Rattle.ddf_read.specs.Along.{IsAlong}
+use Rattle.ddf_read.specs.Missing.{IsMissing, IsMissingAt}
+
+parity_on_one : (layout : Layout) → keeps_parity layout ≡ true → is_on_every layout ≡ false
+parity_on_one Raid0 e = refl
+parity_on_one Raid1 e = absurd (cc)
+parity_on_one (Parity parity) e = refl
+parity_on_one Jbod e = refl
+parity_on_one Concatenation e = refl
+
+only_one : {X : Type 0} (o : Option X) → slice_get (cons_option o []) 0 ≡ o
+only_one None = refl
+only_one (Some x) = refl
+
+module _ (part : Part) (block member sector : ℕ) (there : slice_get (cells part.shape) block ≡ Some (member, sector)) where
+  -- the one row of a block
+  first_row : keeps_parity part.shape.layout ≡ true → slice_get (element_rows part block) 0 ≡ row_without part.places member sector
+  first_row parity =
+      ap (λ b. slice_get (if b then filter_map (λ (cell : ℕ × ℕ). row_without part.places cell.0 cell.1) (element_cells part.shape block) else []) 0) parity
+      ∙ ap (λ l. slice_get (filter_map (λ (cell : ℕ × ℕ). row_without part.places cell.0 cell.1) l) 0) (cells_one part block member sector there (parity_on_one part.shape.layout parity))
+      ∙ only_one (row_without part.places member sector)
+
+  -- the sectors that are left are in the element
+  room_left : IsPart part → (count : ℕ) → 0 < count → IsAlong part block count → sector + count ≤ part.shape.blocks
+  room_left known count some along =
+      let facts = cell_facts part.shape known.shape_is in
+      let last = along.cells_lie (count - 1) member sector (omega arith) there in
+      omega (
+        arith,
+        some,
+        facts.sector_within member (sector + (count - 1)) (block + (count - 1)) (facts.named member (sector + (count - 1)) (block + (count - 1)) last),
+        depth_le part.shape.layout part.shape.strip part.shape.blocks,
+      )
+
+  missing_by : IsPart part → (missing : MissingCell) (found : Option (List Site)) → row_without part.places missing.position missing.sector ≡ found → is_some found ≡ true
+      → slice_get (element_rows part block) 0 ≡ found → 0 < missing.left → missing.sector + missing.left ≤ part.shape.blocks → IsMissing part (slice_get (element_rows part block) 0) missing
+  missing_by known missing None gives there first some room = absurd (cc)
+  missing_by known missing (Some sites) gives there first some room = record { sites = sites; row_is = first; gives = gives; some = some; room = room }
+
+  pub is_missing : IsPart part → keeps_parity part.shape.layout ≡ true → is_some (row_without part.places member sector) ≡ true → (missing : MissingCell) → missing.position ≡ member → missing.sector ≡ sector
+      → 0 < missing.left → IsAlong part block missing.left → IsMissing part (slice_get (element_rows part block) 0) missing
+  is_missing known parity has missing on at some along =
+      missing_by known missing (row_without part.places member sector)
+      (ap (λ p. row_without part.places p missing.sector) on ∙ ap (row_without part.places member) at) has (first_row parity) some
+      (omega (arith, at, room_left known missing.left some along))
+
+-- ---- element by element
+
+module _ (v : Volume) (each : ℕ → List (List Site)) (k : ℕ) (none : flat_map each (range_with_len 0 k) ≡ []) where
+  pub missing_found : (n : ℕ) → k < n → (found : Option MissingCell) → is_some found ≡ true
+      → MatchOption found (slice_get (each k) 0 ≡ None) (IsMissingAt v (slice_get (each k) 0))
+      → MatchOption found (slice_get (flat_map each (range_with_len 0 n)) 0 ≡ None) (IsMissingAt v (slice_get (flat_map each (range_with_len 0 n)) 0))
+  missing_found n below None is missing = absurd (cc)
+  missing_found n below (Some one) is missing =
+      let mine = missing.is_missing in
+      let first = first_found each n k mine.sites none below mine.row_is in
+      record { part = missing.part; is_there = missing.is_there; is_missing = record { sites = mine.sites; row_is = first; gives = mine.gives; some = mine.some; room = mine.room } }
+
+  none_here : (found : Option MissingCell) → is_some found ≡ false → MatchOption found (slice_get (each k) 0 ≡ None) (IsMissingAt v (slice_get (each k) 0)) → slice_get (each k) 0 ≡ None
+  none_here None is cell = cell
+  none_here (Some one) is cell = absurd (cc)
+
+  pub missing_more : (found : Option MissingCell) → is_some found ≡ false → MatchOption found (slice_get (each k) 0 ≡ None) (IsMissingAt v (slice_get (each k) 0)) → flat_map each (range_with_len 0 (k + 1)) ≡ []
+  missing_more found is cell = none_more each k none (none_here found is cell)

@@ -1,0 +1,13 @@
+use Rattle.std.proofs.Common.{◌∙◌, sym, ap}
+use Rattle.ddf_array.specs.Levels.{is_on_every}
+use Rattle.ddf_array.proofs.ElementCells.{copies_on_every}
+use Rattle.ddf_read.proofs.Sites.{site_at_within}
+use Rattle.ddf_read.proofs.element.read_copies.Goals as goal
+
+pub returns-then-is_on_every-clause-tried : goal.returns-then-is_on_every-clause-tried
+returns-then-is_on_every-clause-tried g c =
+    let on_every = ap is_on_every (sym c.layout.ensures) ∙ sym c.is_on_every.ensures ∙ c.if-is_on_every.true in
+    rw (copies_on_every c.args.part.now c.args.block c.place-cell.result.member c.place-cell.result.sector c.place-cell.ensures.cell on_every c.requires.part.has_places) c.read_any.ensures.tried
+
+pub try_site-requires : goal.try_site-requires
+try_site-requires g c = rw c.site_at-site.ensures (site_at_within _ c.args.part.now _ c.place-cell.result.sector c.requires.fits c.place-cell.ensures.sector)

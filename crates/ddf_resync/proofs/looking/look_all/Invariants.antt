@@ -1,0 +1,7 @@
+use Rattle.ddf_read.specs.Reading.{OnlyReads}
+use Rattle.ddf_resync.proofs.looking.look_all.Given as goal
+
+abbrev pub invariant-loop-element : goal.invariant-loop-element
+invariant-loop-element g l =
+    let B = g.B.Bay in
+    record { reads : OnlyReads (B.disks l.fn.bay) (B.disks l.bay) }

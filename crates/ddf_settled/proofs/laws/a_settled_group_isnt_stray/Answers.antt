@@ -1,5 +1,0 @@
-use Rattle.ddf_settled.proofs.SettledStray.{not_stray}
-use Rattle.ddf_settled.proofs.laws.a_settled_group_isnt_stray.Goals as goal
-
-pub returns : goal.returns
-returns c = λ group settled. not_stray group settled

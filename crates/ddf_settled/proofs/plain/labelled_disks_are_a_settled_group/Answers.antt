@@ -1,5 +1,0 @@
-use Rattle.ddf_settled.proofs.PlainLabelling.{labelled_settles}
-use Rattle.ddf_settled.proofs.plain.labelled_disks_are_a_settled_group.Goals as goal
-
-pub returns : goal.returns
-returns g c = λ revision stamp old new none fit first. labelled_settles revision stamp (g.B.Bay.disks old) (g.B.Bay.disks new) none fit first

@@ -1,5 +1,0 @@
-use Rattle.ddf_settled_data.proofs.Less.{holds_less}
-use Rattle.ddf_settled_data.proofs.laws.fewer_places_leave_the_blocks.Goals as goal
-
-pub returns : goal.returns
-returns c = holds_less

@@ -1,0 +1,15 @@
+//! Sizes, and what may be written for short: a group by the first digits of its GUID, `100%` and units in the words of a command, the numbers
+//! of `create` and of arrays told in units on standard error, and how long a command will go on.
+#![tactic(auto)]
+
+mod founded;
+mod length;
+mod numbers;
+mod people;
+mod shape;
+mod short;
+
+pub use length::length_of;
+pub use numbers::name_numbers;
+pub use people::name_sizes;
+pub use short::{complete, is_short};

@@ -1,9 +1,0 @@
--- Where an exercise loses a disk.
-use Rattle.std.specs.Prelude.{ℕ}
-use Rattle.ddf_course.specs.Turns.{Loss}
-use Rattle.ddf_course.specs.Turns.Loss.{OfSecond, OfThird}
-
--- the slot of the disk that is lost
-abbrev pub lost_slot : Loss → ℕ
-lost_slot OfSecond = 1
-lost_slot OfThird = 2

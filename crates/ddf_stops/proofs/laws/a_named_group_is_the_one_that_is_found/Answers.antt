@@ -1,5 +1,0 @@
-use Rattle.ddf_stops.proofs.Told.{found_name}
-use Rattle.ddf_stops.proofs.laws.a_named_group_is_the_one_that_is_found.Goals as goal
-
-pub returns : goal.returns
-returns c = λ newest name found is. found_name newest name found is

@@ -1,0 +1,186 @@
+-- What `label` leaves of a bay whose slots it labels all, and that nothing refuses it on disks of zeros.
+use Rattle.std.proofs.Common.{◌≡◌, ℕ, zero, suc, ◌+◌, ◌<◌, ◌≤◌, ◌^◌, ◌==◌, Bool, true, false, not, nat_lt, List, [], ◌∷◌, length, get_or, map, replicate, Option, Some, None, Result, refl, ap, sym, ◌∙◌, subst, arith}
+use Rattle.std.proofs.lemmas.Bool.{le-ltb, ltb-false, ne_eqb}
+use Rattle.std.proofs.lemmas.Option.{get_or_from_slice_get, slice_get_within}
+use Rattle.std.specs.Prelude.{filter, find, option_map, slice_get, slice_index}
+use Rattle.std.specs.List.{AllByRecursion, range_with_len}
+use Rattle.ddf_bytes.specs.Choices.{first_of, when}
+use Rattle.ddf_bytes.proofs.Nones.{none_first, none_map, none_when}
+use Rattle.ddf_bay.specs.Logged.{held_of}
+use Rattle.ddf_bay.specs.Memory.{MemoryState, blank, disks_of, state_of}
+use Rattle.ddf_bay.specs.Sectors.{Image}
+use Rattle.ddf_bay.specs.declared.memory.MemoryBay.{MemoryBay}
+use Rattle.ddf_bay.specs.State.{BayState}
+use Rattle.ddf_bytes.specs.declared.stamp.Stamp.{Stamp}
+use Rattle.ddf_header.specs.declared.kind.Revision.{Revision}
+use Rattle.ddf_header.specs.declared.reading.Header.{Header}
+use Rattle.ddf_copy.specs.declared.fault.AnchorFault.{AnchorFault}
+use Rattle.ddf_copy.specs.Headers.{anchor_header}
+use Rattle.ddf_config.specs.declared.refusal.FullTable.TheVariants.{Disks}
+use Rattle.ddf_config.specs.declared.refusal.Refusal.TheVariants.{Full, NoSlot, NotBlank, Small}
+use Rattle.ddf_update.specs.Group.{HaveFirstCopies, slot_sizes}
+use Rattle.ddf_update.specs.NewCopies.{new_copy}
+use Rattle.ddf_update.specs.Update.{AreBoth}
+use Rattle.ddf_disk_commands.specs.Label.{label_copy, label_slots}
+use Rattle.ddf_disk_commands.specs.LabelRefusal.{chosen, is_anchored, is_blank, is_chosen, is_small, label_layout, label_refusal, least_sectors, missing, most_disks, unfit}
+use Rattle.ddf_rewrite.proofs.Lists.{all_by_get}
+use Rattle.ddf_uncut_group.specs.Labelled.{labelled_group}
+use Rattle.ddf_uncut_group.specs.Settled.{AreSettledAs}
+use Rattle.ddf_uncut_group.proofs.PlainBlank.{held_blank}
+use Rattle.ddf_uncut_group.proofs.PlainLabel.{labelled_as}
+use Rattle.ddf_uncut_group.proofs.PlainRanges.{range_is, range_there}
+
+-- ---- all slots
+
+-- Without names every slot is chosen.
+all_chosen : (first count : ℕ) → filter (is_chosen []) (range_with_len first count) ≡ range_with_len first count
+all_chosen first zero = refl
+all_chosen first (suc count) = ap (λ slots. first ∷ slots) (all_chosen (first + 1) count)
+
+range_long : (first count : ℕ) → length (range_with_len first count) ≡ count
+range_long first zero = refl
+range_long first (suc count) = ap suc (range_long (first + 1) count)
+
+-- What is at each place of a list is the list.
+placed_all : {X : Type 0} (f : ℕ → X) (first : ℕ) (xs : List X) → ((k : ℕ) (x : X) → slice_get xs k ≡ Some x → f (first + k) ≡ x) → map f (range_with_len first (length xs)) ≡ xs
+placed_all f first [] each = refl
+placed_all {X} f first (x ∷ xs) each =
+    let here : first + 0 ≡ first = omega arith in
+    let made : f first ≡ x = subst (λ (n : ℕ). f n ≡ x) here (each 0 x refl) in
+    ap (λ (y : X). y ∷ map f (range_with_len (first + 1) (length xs))) made
+    ∙ ap (λ (rest : List X). x ∷ rest)
+    (placed_all f (first + 1) xs (λ k y at. let there : first + suc k ≡ first + 1 + k = omega arith in subst (λ (n : ℕ). f n ≡ y) there (each (suc k) y at)))
+
+-- The slots are all slots, and their sizes those of the bay.
+slots_all : (sizes : List ℕ) → label_slots sizes [] ≡ range_with_len 0 (length sizes)
+slots_all sizes = all_chosen 0 (length sizes)
+
+sizes_all : (sizes : List ℕ) → slot_sizes sizes (label_slots sizes []) ≡ sizes
+sizes_all sizes =
+    ap (map (slice_index sizes)) (slots_all sizes)
+    ∙ placed_all (slice_index sizes) 0 sizes
+    (λ k size at. let here : 0 + k ≡ k = omega arith in ap (slice_index sizes) here ∙ get_or_from_slice_get sizes k size 0 at)
+
+-- ---- what isn't refused
+
+-- Where a test finds none, each fails it.
+none_found : {X : Type 0} (test : X → Bool) (xs : List X) → find test xs ≡ None → (k : ℕ) (x : X) → slice_get xs k ≡ Some x → test x ≡ false
+none_found test [] none k x at = absurd cc
+none_found {X} test (y ∷ ys) none k x at = by (test y) refl none k at (none_found test ys)
+  where
+    by : (passes : Bool) → test y ≡ passes → find test (y ∷ ys) ≡ None → (k : ℕ) → slice_get (y ∷ ys) k ≡ Some x
+        → (find test ys ≡ None → (k : ℕ) (x : X) → slice_get ys k ≡ Some x → test x ≡ false) → test x ≡ false
+    by true is none k at later = let found : ◌≡◌ {A = Option X} (Some y) None = sym (rw is refl) ∙ none in absurd cc
+    by false is none zero at later = let same : y ≡ x = cc in ap test (sym same) ∙ is
+    by false is none (suc k) at later = later (rw is at none) k x at
+
+-- A bay on which `label` of all slots isn't refused has slots, and these are few and large.
+pub record AreFit (sizes : List ℕ) : Type 0 where
+  pub some : 0 < length sizes
+  pub few : length sizes ≤ 15
+  pub large : (place : ℕ) → place < length sizes → 33000 ≤ get_or sizes place 0
+
+pub fit_unrefused : (sizes : List ℕ) (held : Image) → label_refusal sizes held [] ≡ None → AreFit sizes
+unfolding label_refusal
+fit_unrefused sizes held none =
+    let slots = chosen (length sizes) [] in
+    let all = slots_all sizes in
+    let parts = none_first (option_map NoSlot (missing (length sizes) []) ∷ unfit sizes held slots ∷ []) none in
+    let there = none_when (length sizes == 0) 0 (none_map NoSlot (missing (length sizes) []) parts.0) in
+    let own = none_first (option_map NotBlank (find (is_anchored sizes held) slots)
+    ∷ option_map (λ slot. Small least_sectors (slice_index sizes slot)) (find (is_small sizes) slots)
+    ∷ when (nat_lt most_disks (length slots)) (Full Disks)
+    ∷ []) parts.1.0 in
+    let large = none_found (is_small sizes) slots (none_map (λ slot. Small least_sectors (slice_index sizes slot)) (find (is_small sizes) slots) own.1.0) in
+    let few = ltb-false most_disks (length slots) (none_when (nat_lt most_disks (length slots)) (Full Disks) own.1.1.0) in
+    let counted : length slots ≡ length sizes = ap length all ∙ range_long 0 (length sizes) in
+    record {
+      some = some_by (length sizes) there;
+      few = omega (arith, few, counted);
+      large = λ place low. ltb-false (slice_index sizes place) least_sectors (large place place (ap (λ (every : List ℕ). slice_get every place) all ∙ range_there (length sizes) place low));
+    }
+  where
+    some_by : (count : ℕ) → (count == 0) ≡ false → 0 < count
+    some_by zero none = absurd cc
+    some_by (suc count) none = omega arith
+
+-- ---- what it leaves
+
+-- Sizes that fit a word do so at each place.
+sizes_fit : (sizes : List ℕ) → AllByRecursion (λ size. size < 2 ^ 64) sizes → (place : ℕ) → get_or sizes place 0 < 2 ^ 64
+sizes_fit [] fit place = omega arith
+sizes_fit (size ∷ sizes) fit zero = fit.0
+sizes_fit (size ∷ sizes) fit (suc place) = sizes_fit sizes fit.1 place
+
+-- The disks of a bay whose slots all got their first copies are the new group, settled.
+settled_by : (revision : Revision) (stamp : Stamp) (sizes : List ℕ) (image : Image) → AreFit sizes → AllByRecursion (λ size. size < 2 ^ 64) sizes
+    → ((place : ℕ) → place < length sizes → AreBoth (slice_index sizes place) (image place) (anchor_header (new_copy label_layout revision stamp sizes place)) (new_copy label_layout revision stamp sizes place))
+    → AreSettledAs sizes image (replicate (length sizes) false) (labelled_group revision stamp sizes)
+settled_by revision stamp [] image are fit both = let some = are.some in absurd (omega (arith, some))
+settled_by revision stamp (size ∷ more) image are fit both = labelled_as revision stamp size more are.few are.large (sizes_fit (size ∷ more) fit) image both
+
+pub labelled_settles : {D : Type 0} (revision : Revision) (stamp : Stamp) (old new : BayState D) → label_refusal old.sizes old.held [] ≡ None → AllByRecursion (λ size. size < 2 ^ 64) old.sizes
+    → HaveFirstCopies old new (label_slots old.sizes []) (label_copy revision stamp old.sizes []) (length (label_slots old.sizes []))
+    → AreSettledAs old.sizes new.held (replicate (length old.sizes) false) (labelled_group revision stamp old.sizes)
+labelled_settles revision stamp old new none fit first =
+    settled_by revision stamp old.sizes new.held (fit_unrefused old.sizes old.held none) fit
+    (λ place low.
+    let slots = label_slots old.sizes [] in
+    let all = slots_all old.sizes in
+    let at : slice_get slots place ≡ Some place = ap (λ (every : List ℕ). slice_get every place) all ∙ range_there (length old.sizes) place low in
+    let within : place < length slots = slice_get_within slots place place at in
+    subst (λ (sizes : List ℕ). AreBoth (slice_index old.sizes place) (new.held place) (anchor_header (new_copy label_layout revision stamp sizes place)) (new_copy label_layout revision stamp sizes place)) (sizes_all old.sizes)
+    (first.are_both place place within at))
+
+-- ---- disks of zeros
+
+-- None of them has an anchor.
+none_anchored : (sizes slots : List ℕ) → find (is_anchored sizes (held_of [])) slots ≡ None
+none_anchored sizes [] = refl
+none_anchored sizes (slot ∷ slots) =
+    let blank : is_anchored sizes (held_of []) slot ≡ false = ap (λ (found : Result Header AnchorFault). not (is_blank found)) (held_blank (slice_index sizes slot) slot) in
+    rw blank (none_anchored sizes slots)
+
+-- None of large disks is small.
+none_small : (sizes slots : List ℕ) → AllByRecursion (λ slot. least_sectors ≤ slice_index sizes slot) slots → find (is_small sizes) slots ≡ None
+none_small sizes [] large = refl
+none_small sizes (slot ∷ slots) large =
+    let here : is_small sizes slot ≡ false = le-ltb (slice_index sizes slot) least_sectors large.0 in
+    rw here (none_small sizes slots large.1)
+
+-- So nothing refuses to label few large disks of zeros.
+pub zeros_unrefused : (sizes : List ℕ) → AreFit sizes → label_refusal sizes (held_of []) [] ≡ None
+unfolding label_refusal
+zeros_unrefused sizes are =
+    let slots = chosen (length sizes) [] in
+    let all = slots_all sizes in
+    let few = are.few in
+    let some = are.some in
+    let counted : length slots ≡ length sizes = ap length all ∙ range_long 0 (length sizes) in
+    let large : AllByRecursion (λ slot. least_sectors ≤ slice_index sizes slot) slots =
+    subst (AllByRecursion (λ slot. least_sectors ≤ slice_index sizes slot)) (sym all)
+    (all_by_get (λ slot. least_sectors ≤ slice_index sizes slot) (range_with_len 0 (length sizes))
+    (λ k slot at. let placed = range_is 0 (length sizes) k slot at in let same = placed.0 in let below = placed.1 in are.large slot (omega (arith, same, below)))) in
+    let there : (length sizes == 0) ≡ false = ne_eqb (length sizes) 0 (λ (none : length sizes ≡ 0). absurd (omega (arith, none, some))) in
+    let many : nat_lt most_disks (length slots) ≡ false = le-ltb most_disks (length slots) (omega (arith, few, counted)) in
+    none_of (missing (length sizes) []) (find (is_anchored sizes (held_of [])) slots) (find (is_small sizes) slots) (nat_lt most_disks (length slots))
+    (ap (λ (none : Bool). when none 0) there) (none_anchored sizes slots) (none_small sizes slots large) many
+  where
+    none_of : (lacking anchored small : Option ℕ) (many : Bool) → lacking ≡ None → anchored ≡ None → small ≡ None → many ≡ false
+        → first_of (option_map NoSlot lacking
+        ∷ first_of (option_map NotBlank anchored ∷ option_map (λ slot. Small least_sectors (slice_index sizes slot)) small ∷ when many (Full Disks) ∷ [])
+        ∷ []) ≡ None
+    none_of lacking anchored small many p q r s = rw (p, q, r, s) refl
+
+-- Large sizes are so at each place.
+all_large : (sizes : List ℕ) → AllByRecursion (λ size. 33000 ≤ size) sizes → (place : ℕ) → place < length sizes → 33000 ≤ get_or sizes place 0
+all_large [] large place low = absurd (omega (arith, low))
+all_large (size ∷ sizes) large zero low = large.0
+all_large (size ∷ sizes) large (suc place) low = all_large sizes large.1 place (omega (arith, low))
+
+-- Nor does it on a bay in memory that was just made.
+pub memory_unrefused : (bay : MemoryBay) (sizes : List ℕ) (writes : ℕ) (failing : List ℕ) (stop_after : Option ℕ) → state_of bay ≡ blank sizes writes failing stop_after
+    → 0 < length sizes → length sizes ≤ 15 → AllByRecursion (λ size. 33000 ≤ size) sizes → label_refusal (disks_of bay).sizes (disks_of bay).held [] ≡ None
+memory_unrefused bay sizes writes failing stop_after is some few large =
+    ap (λ (state : MemoryState). label_refusal state.sizes (held_of state.logged) []) is
+    ∙ zeros_unrefused sizes (record { some = some; few = few; large = all_large sizes large })

@@ -1,8 +1,0 @@
-use Rattle.std.proofs.Common.{◌≡◌, ◌++◌, drop, map, filter_map}
-use Rattle.ddf_view.specs.View.{disk_of}
-use Rattle.ddf_view.specs.Reading.{member_entry_in}
-use Rattle.ddf_view.proofs.reading.members_in.Given as goal
-
-abbrev pub invariant-loop-row : goal.invariant-loop-row
-invariant-loop-row l =
-    l.members.entries ++ map (member_entry_in l.views) (filter_map disk_of (drop l.row-index l.rows)) ≡ map (member_entry_in l.views) (filter_map disk_of l.rows)

@@ -1,6 +1,0 @@
-use Rattle.ddf_bytes.specs.Counts.{Rose}
-use Rattle.ddf_volume.proofs.GivenLaws.{one_of}
-use Rattle.ddf_volume.proofs.laws.a_read_gives_a_source.Goals as goal
-
-pub returns : goal.returns
-returns c = λ old new. one_of (λ slot. Rose (old slot) (new slot))
