@@ -20,6 +20,7 @@ tarball=$(echo "$work/once"/ddf-*.tar.gz)
 cmp -s "$tarball" "$work/twice/$(basename "$tarball")" || fail "two releases differ"
 tar -xzf "$tarball" -C "$work/unpacked" --strip-components=1
 (cd "$work/unpacked" && sha256sum -c --quiet SHA256SUMS) || fail "a file isn't what its sum says"
+grep -q "^# ddf" "$work/unpacked/README.md" || fail "it has no README.md"
 grep -q "^this repository:" "$work/unpacked/LICENCES.txt" || fail "nothing is said of licences"
 
 prefix=$work/prefix

@@ -70,7 +70,7 @@ rm -rf "$into/tools/__pycache__"
 cp "$top"/completion/* "$into/completion/"
 cp "$top/scripts/ddf-nbd.sh" "$top/scripts/picture.py" "$into/scripts/"
 cp -R "$top"/docs/. "$into/docs/"
-cp "$top/install" "$into/"
+cp "$top/install" "$top/README.md" "$top/CHANGELOG.md" "$top/TODO.md" "$into/"
 
 {
     take_licences "this repository" "$top"

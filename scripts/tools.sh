@@ -125,6 +125,14 @@ try_save() {
     [ "$(cksum d?.img)" = "$after" ] || fail "a refused restore writes"
     tool 0 ddf-save restore --yes saved d3.img d1.img d0.img d2.img
     same "as they were saved"
+    # Twice within a second: each keeps what it found.
+    for name in a b; do
+        ddf d?.img -- create $name jbod 0 single 0@8 >/dev/null
+        tool 0 ddf-save restore --yes saved d?.img
+        same "as they were saved"
+        mv "$(sed -n 's/.* is in //p' printed)" "again.$name"
+        ls saved.before-* >/dev/null 2>&1 || fail "what the first restore found is gone"
+    done
     before=$after
     tool 0 ddf-save restore --yes saved.before-* d?.img
     same "as restore found them"
@@ -210,6 +218,19 @@ TEXT
         fail "a refusal has no number or no way out: $(cat printed)"
     tool 0 ddf-json d?.img -- examine
     tool 2 ddf-json d?.img -- read home 0 1
+    # The image beside each slot is its own behind --yes too.
+    tool 0 ddf-json --yes d?.img
+    [ "$(sed -n 's/.*"image": "\(.*\)".*/\1/p' printed | xargs)" = "d0.img d1.img d2.img d3.img" ] || fail "--yes is taken for an image: $(cat printed)"
+    # At a terminal nobody is asked, so nothing is done without --yes.
+    if command -v script >/dev/null; then
+        before=$(cksum d?.img)
+        status=0
+        script -qec "'$top/tools/ddf-json' d?.img -- delete fast" /dev/null >printed 2>said </dev/null || status=$?
+        [ "$status" = 3 ] || fail "at a terminal it ends with $status: $(cat printed)"
+        [ "$(cksum d?.img)" = "$before" ] || fail "at a terminal it does what it should ask about"
+    else
+        lacks "json: a terminal, as there is no script"
+    fi
 }
 
 try_scan() {

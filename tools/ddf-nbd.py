@@ -123,7 +123,7 @@ def blocks_alone(start: int, end: int) -> bytes:
         told = (ended.stderr or ended.stdout[:200]).decode(errors="replace").strip()
         nbdkit.debug(f"ddf: read of {last - first} blocks from {first} on ended with {ended.returncode}: {told}")
         nbdkit.set_error(5)
-        raise OSError(5, f"read of blocks {first} to {last - 1} ended with {ended.returncode}")
+        raise OSError(5, f"read of blocks {first} to {last - 1} ended with {ended.returncode}: {told.splitlines()[-1] if told else ''}")
     return ended.stdout[start - first * SECTOR : end - first * SECTOR]
 
 
