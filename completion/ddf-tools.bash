@@ -8,7 +8,7 @@ _ddf_tools() {
     ddf-check:*) words="--quiet --scrub --group --help" ;;
     ddf-save:*) words="--yes --some" ;;
     ddf-try:*) words="--keep --help --" ;;
-    ddf-json:*) words="--text --help --" ;;
+    ddf-json:*) words="--careful --yes --text --help --" ;;
     ddf-scan:*) words="--all --help" ;;
     ddf-dmsetup:*) words="--write --group --help" ;;
     esac

@@ -9,6 +9,8 @@ complete -c ddf-save -n 'not __fish_is_first_arg' -l yes -d 'Put records back wi
 complete -c ddf-save -n 'not __fish_is_first_arg' -l some -d 'Put back only the disks that are named'
 
 complete -c ddf-try -l keep -r -d 'Keep the copies in a folder'
+complete -c ddf-json -l careful -d 'Do nothing where ddf would ask'
+complete -c ddf-json -l yes -d 'Ask nothing'
 complete -c ddf-json -l text -x -d 'Take what ddf printed, and its status'
 complete -c ddf-scan -l all -d 'Name blank devices, too'
 
