@@ -8,6 +8,7 @@ use Rattle.ddf_bytes.specs.Bytes.{number_at}
 use Rattle.ddf_seal.proofs.Placing.{get_or-bytes_at}
 use Rattle.ddf_seal.proofs.Same.{both_true}
 use Rattle.ddf_header.specs.declared.geometry.Geometry.{Geometry}
+use Rattle.ddf_config_records.specs.declared.layout.TheConstants.{MEMBERS_AT, NOTES_AT, NOTE_ZERO_AT, NOTE_ZEROS_AT}
 use Rattle.ddf_config_records.specs.ElementValue.{ElementValue}
 use Rattle.ddf_config_records.specs.Elements.{IsElementOf}
 use Rattle.ddf_config_records.specs.NoteRecords.{note_place, is_note, is_headed, is_notes}
@@ -19,7 +20,7 @@ is_false true h = absurd (h refl)
 is_false false h = refl
 
 -- what the first note of notes has
-first_note : (most m : ℕ) (bytes : List ℕ) → is_notes most (suc m) bytes ≡ true → (slice_index bytes 64 ≤ 1) × (slice_index bytes 65 ≡ 0)
+first_note : (most m : ℕ) (bytes : List ℕ) → is_notes most (suc m) bytes ≡ true → (slice_index bytes NOTES_AT ≤ 1) × (slice_index bytes (NOTES_AT + NOTE_ZERO_AT) ≡ 0)
 unfolding is_notes
 first_note most m bytes h =
     let at = note_place most (suc m) in
@@ -29,10 +30,10 @@ first_note most m bytes h =
     let body = both_true (leb at (length bytes)) (each && filled) top.1 in
     let notes = both_true each filled body.1 in
     let one = both_true (is_note bytes (note_place most 0)) (list_all (λ slot. is_note bytes (note_place most slot)) (range_with_len (0 + 1) m)) notes.0 in
-    let first : IsTrue (is_note bytes 64) = subst (λ (k : ℕ). IsTrue (is_note bytes k)) (first_place most) one.0 in
-    let flag = both_true (leb (slice_index bytes 64) 1) (eqb (slice_index bytes 65) 0 && eqb (number_at w32 bytes 68) 0) first in
-    let zeros = both_true (eqb (slice_index bytes 65) 0) (eqb (number_at w32 bytes 68) 0) flag.1 in
-    (leb-true (slice_index bytes 64) 1 flag.0, eqb-true (slice_index bytes 65) 0 zeros.0)
+    let first : IsTrue (is_note bytes NOTES_AT) = subst (λ (k : ℕ). IsTrue (is_note bytes k)) (first_place most) one.0 in
+    let flag = both_true (leb (slice_index bytes NOTES_AT) 1) (eqb (slice_index bytes (NOTES_AT + NOTE_ZERO_AT)) 0 && eqb (number_at w32 bytes (NOTES_AT + NOTE_ZEROS_AT)) 0) first in
+    let zeros = both_true (eqb (slice_index bytes (NOTES_AT + NOTE_ZERO_AT)) 0) (eqb (number_at w32 bytes (NOTES_AT + NOTE_ZEROS_AT)) 0) flag.1 in
+    (leb-true (slice_index bytes NOTES_AT) 1 flag.0, eqb-true (slice_index bytes (NOTES_AT + NOTE_ZERO_AT)) 0 zeros.0)
 
 pub element_no_notes : (signature : ℕ) (geometry : Geometry) (count : ℕ) (element : ElementValue) (bytes : List ℕ) → 0 < count → IsElementOf signature geometry element bytes → is_notes geometry.max_members count bytes ≡ false
 element_no_notes signature geometry zero element bytes some is = absurd (omega arith)
@@ -42,7 +43,7 @@ element_no_notes signature geometry (suc m) element bytes some is =
     let flag = note.0 in
     let none = note.1 in
     let members = has_members geometry.max_members (length element.members) element.strip element.level element.elements element.index element.block_size is.is_element in
-    let number : number_at w16 bytes 64 ≡ length element.members = is.is_record.fields_stand.1.1.1.0 in
-    let high = get_or-bytes_at bytes 64 2 0 0 (omega arith) in
-    let low = get_or-bytes_at bytes 64 2 1 0 (omega arith) in
+    let number : number_at w16 bytes MEMBERS_AT ≡ length element.members = is.is_record.fields_stand.1.1.1.0 in
+    let high = get_or-bytes_at bytes MEMBERS_AT 2 0 0 (omega arith) in
+    let low = get_or-bytes_at bytes MEMBERS_AT 2 1 0 (omega arith) in
     omega (arith, high, low, number, flag, none, members.present, members.few))

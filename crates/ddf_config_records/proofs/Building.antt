@@ -18,6 +18,7 @@ use Rattle.ddf_seal.proofs.Records.{written_outside}
 use Rattle.ddf_header.specs.declared.geometry.Geometry.{Geometry}
 use Rattle.ddf_header.specs.Geometry.{IsSound, is_member_maximum, record_sectors}
 use Rattle.ddf_config_records.specs.declared.spare.SpareRecord.{SpareRecord}
+use Rattle.ddf_config_records.specs.declared.layout.TheConstants.{SPARE_TIMESTAMP_AT, SPARE_KIND_AT, SPARE_POPULATED_AT, SPARE_MAXIMUM_AT, SPARE_ENTRIES_AT, SPARE_ENTRY_BYTES, SPARE_SECONDARY_AT}
 use Rattle.ddf_config_records.specs.ElementValue.{ElementValue}
 use Rattle.ddf_config_records.specs.Elements.{record_size, HasRoom, element_fields, element_fault, CanBeElement}
 use Rattle.ddf_config_records.specs.Spares.{entry_fields, spare_fields, CanBeSpare}
@@ -43,12 +44,12 @@ element_over_can geometry bytes element room long fit none =
 
 -- ---- a spare record
 
-pub secondary_more : (bytes : List ℕ) (i : ℕ) → placed (written (secondary_fields i) bytes) (32 + 32 * i + 24) (to_be_bytes w16 0) ≡ written (secondary_fields (i + 1)) bytes
+pub secondary_more : (bytes : List ℕ) (i : ℕ) → placed (written (secondary_fields i) bytes) (SPARE_ENTRIES_AT + SPARE_ENTRY_BYTES * i + SPARE_SECONDARY_AT) (to_be_bytes w16 0) ≡ written (secondary_fields (i + 1)) bytes
 secondary_more bytes i =
-    let place : 32 + 32 * i + 24 ≡ 56 + 32 * i = omega arith in
+    let place : SPARE_ENTRIES_AT + SPARE_ENTRY_BYTES * i + SPARE_SECONDARY_AT ≡ SPARE_ENTRIES_AT + SPARE_SECONDARY_AT + SPARE_ENTRY_BYTES * i = omega arith in
     ap (λ (at : ℕ). placed (written (secondary_fields i) bytes) at (to_be_bytes w16 0)) place
-    ∙ sym (written-append (secondary_fields i) (u16_at (56 + 32 * i) 0 ∷ []) bytes)
-    ∙ ap (λ (fields : List Field). written fields bytes) (sym (map-range_with_len_more (λ (index : ℕ). u16_at (56 + 32 * index) 0) 0 i i (omega arith)))
+    ∙ sym (written-append (secondary_fields i) (u16_at (SPARE_ENTRIES_AT + SPARE_SECONDARY_AT + SPARE_ENTRY_BYTES * i) 0 ∷ []) bytes)
+    ∙ ap (λ (fields : List Field). written fields bytes) (sym (map-range_with_len_more (λ (index : ℕ). u16_at (SPARE_ENTRIES_AT + SPARE_SECONDARY_AT + SPARE_ENTRY_BYTES * index) 0) 0 i i (omega arith)))
 
 pub all_below : (bound : ℕ) (values : List ℕ) → ((i : ℕ) → slice_index values i < bound) → AllByRecursion (λ value. value < bound) values
 all_below bound [] below = tt
@@ -64,23 +65,23 @@ all_more P f (x ∷ xs) (suc i) d lt all one = (all.0, all_more P f xs i d (omeg
 
 pub entries_fit : (at : ℕ) (arrays : List (List ℕ)) → AllByRecursion (λ guid. length guid ≡ 24) arrays → AllByRecursion Fits (entry_fields at arrays)
 entries_fit at [] all = tt
-entries_fit at (guid ∷ arrays) all = (all.0, entries_fit (at + 32) arrays all.1)
+entries_fit at (guid ∷ arrays) all = (all.0, entries_fit (at + SPARE_ENTRY_BYTES) arrays all.1)
 
-spare_within : (spare : SpareRecord) (size : ℕ) → 512 ≤ size → 32 + 32 * length spare.arrays ≤ size → AreWithin size (seal_place ∷ places (spare_fields spare))
+spare_within : (spare : SpareRecord) (size : ℕ) → 512 ≤ size → SPARE_ENTRIES_AT + SPARE_ENTRY_BYTES * length spare.arrays ≤ size → AreWithin size (seal_place ∷ places (spare_fields spare))
 spare_within spare size long room =
-    within-append size (seal_place ∷ record { at = 8; length = 4 } ∷ record { at = 19; length = 1 } ∷ []) (places (entry_fields 32 spare.arrays)) (spare_head_within size long) (entries_within 32 size spare.arrays room)
+    within-append size (seal_place ∷ record { at = SPARE_TIMESTAMP_AT; length = 4 } ∷ record { at = SPARE_KIND_AT; length = 1 } ∷ []) (places (entry_fields SPARE_ENTRIES_AT spare.arrays)) (spare_head_within size long) (entries_within SPARE_ENTRIES_AT size spare.arrays room)
 
 -- ---- the numbers that are set
 
 -- the secondary elements of so many entries from one on
 abbrev secondary_from : (from count : ℕ) → List Field
-secondary_from from count = map (λ index. u16_at (56 + 32 * index) 0) (range_with_len from count)
+secondary_from from count = map (λ index. u16_at (SPARE_ENTRIES_AT + SPARE_SECONDARY_AT + SPARE_ENTRY_BYTES * index) 0) (range_with_len from count)
 
-secondary_within : (from count size : ℕ) → 32 + 32 * (from + count) ≤ size → AreWithin size (places (secondary_from from count))
+secondary_within : (from count size : ℕ) → SPARE_ENTRIES_AT + SPARE_ENTRY_BYTES * (from + count) ≤ size → AreWithin size (places (secondary_from from count))
 secondary_within from zero size le = tt
 secondary_within from (suc count) size le = (omega (arith, le), secondary_within (from + 1) count size (omega (arith, le)))
 
-secondary_outside : (from count i : ℕ) → i < 56 → IsOutsideAll (places (secondary_from from count)) i
+secondary_outside : (from count i : ℕ) → i < SPARE_ENTRIES_AT + SPARE_SECONDARY_AT → IsOutsideAll (places (secondary_from from count)) i
 secondary_outside from zero i lt = tt
 secondary_outside from (suc count) i lt = (inl (omega (arith, lt)), secondary_outside (from + 1) count i lt)
 
@@ -107,21 +108,21 @@ record_small geometry sound =
     let fit : geometry.record_length ≡ record_sectors geometry.max_members = sound.records_fit in
     omega (arith, few, fit)
 
-count_outside : (spare : SpareRecord) (i : ℕ) → 20 ≤ i → i < 22 → IsOutsideAll (seal_place ∷ places (spare_fields spare)) i
-count_outside spare i low high = (inr (omega (arith, low)), (inr (omega (arith, low)), (inr (omega (arith, low)), entries_outside 32 i spare.arrays (omega (arith, high)))))
+count_outside : (spare : SpareRecord) (i : ℕ) → SPARE_POPULATED_AT ≤ i → i < SPARE_POPULATED_AT + 2 → IsOutsideAll (seal_place ∷ places (spare_fields spare)) i
+count_outside spare i low high = (inr (omega (arith, low)), (inr (omega (arith, low)), (inr (omega (arith, low)), entries_outside SPARE_ENTRIES_AT i spare.arrays (omega (arith, high)))))
 
 min_first : (a b : ℕ) → a ≤ b → min a b ≡ a
 min_first a b le = omega (arith, le)
 
 -- the populated count stands in what is left
-populated_stands : (spare : SpareRecord) (maximum : ℕ) (bytes : List ℕ) → 512 ≤ length bytes → 32 + 32 * length spare.arrays ≤ length bytes → length spare.arrays ≤ maximum → maximum < 2 ^ 16
-    → let all = written (u16_at 20 (length spare.arrays) ∷ u16_at 22 maximum ∷ secondary_fields (length spare.arrays)) bytes in
-    (length all ≡ length bytes) × (number_at w16 (cleared (seal_place ∷ places (spare_fields spare)) all) 20 ≡ length spare.arrays)
+populated_stands : (spare : SpareRecord) (maximum : ℕ) (bytes : List ℕ) → 512 ≤ length bytes → SPARE_ENTRIES_AT + SPARE_ENTRY_BYTES * length spare.arrays ≤ length bytes → length spare.arrays ≤ maximum → maximum < 2 ^ 16
+    → let all = written (u16_at SPARE_POPULATED_AT (length spare.arrays) ∷ u16_at SPARE_MAXIMUM_AT maximum ∷ secondary_fields (length spare.arrays)) bytes in
+    (length all ≡ length bytes) × (number_at w16 (cleared (seal_place ∷ places (spare_fields spare)) all) SPARE_POPULATED_AT ≡ length spare.arrays)
 populated_stands spare maximum bytes long room few small =
     let n = length spare.arrays in
-    let first = placed bytes 20 (to_be_bytes w16 n) in
-    let first_size : length first ≡ length bytes = length-placed bytes 20 (to_be_bytes w16 n) (omega (arith, long)) in
-    let more = u16_at 22 maximum ∷ secondary_fields n in
+    let first = placed bytes SPARE_POPULATED_AT (to_be_bytes w16 n) in
+    let first_size : length first ≡ length bytes = length-placed bytes SPARE_POPULATED_AT (to_be_bytes w16 n) (omega (arith, long)) in
+    let more = u16_at SPARE_MAXIMUM_AT maximum ∷ secondary_fields n in
     let inside : AreWithin (length first) (places more) = (omega (arith, first_size, long), secondary_within 0 n (length first) (omega (arith, first_size, room))) in
     let outside = written_outside more first inside (small, secondary_fit 0 n) in
     let all = written more first in
@@ -129,9 +130,9 @@ populated_stands spare maximum bytes long room few small =
     let spans = seal_place ∷ places (spare_fields spare) in
     let within : AreWithin (length all) spans = spare_within spare (length all) (omega (arith, all_size, long)) (omega (arith, all_size, room)) in
     let cleared_out = cleared_outside spans all within in
-    let at_cleared = bytes_at-same (IsOutsideAll spans) (cleared spans all) all (record { at = 20; length = 2 }) (omega (arith, all_size, long)) (count_outside spare) cleared_out in
-    let at_first = bytes_at-same (IsOutsideAll (places more)) all first (record { at = 20; length = 2 }) (omega (arith, first_size, long)) (λ i low high. (inl (omega (arith, high)), secondary_outside 0 n i (omega (arith, high)))) outside in
-    let stands = bytes_at-placed bytes (record { at = 20; length = 2 }) (to_be_bytes w16 n) refl (omega (arith, long)) in
+    let at_cleared = bytes_at-same (IsOutsideAll spans) (cleared spans all) all (record { at = SPARE_POPULATED_AT; length = 2 }) (omega (arith, all_size, long)) (count_outside spare) cleared_out in
+    let at_first = bytes_at-same (IsOutsideAll (places more)) all first (record { at = SPARE_POPULATED_AT; length = 2 }) (omega (arith, first_size, long)) (λ i low high. (inl (omega (arith, high)), secondary_outside 0 n i (omega (arith, high)))) outside in
+    let stands = bytes_at-placed bytes (record { at = SPARE_POPULATED_AT; length = 2 }) (to_be_bytes w16 n) refl (omega (arith, long)) in
     (all_size, ap (from_be_bytes w16) (at_cleared ∙ at_first ∙ stands) ∙ from_be_bytes-to_be_bytes_2 n (omega (arith, few, small)))
 
 -- A spare record over other bytes can be written.
@@ -141,7 +142,7 @@ spare_over_can geometry bytes spare sound long few fit =
     let whole = (room_from_sound geometry sound).whole in
     let small = record_small geometry sound in
     let n = length spare.arrays in
-    let room : 32 + 32 * n ≤ length bytes = omega (arith, long, few, whole) in
+    let room : SPARE_ENTRIES_AT + SPARE_ENTRY_BYTES * n ≤ length bytes = omega (arith, long, few, whole) in
     let stands = populated_stands spare (spare_entries geometry) bytes (omega (arith, long, whole)) room few (omega (arith, small)) in
     let all = written (spare_numbers geometry n) bytes in
     let all_size = stands.0 in
@@ -150,7 +151,7 @@ spare_over_can geometry bytes spare sound long few fit =
     let size : length (cleared spans all) ≡ record_size geometry = (cleared_outside spans all within).size ∙ all_size ∙ long in
     record {
       size = size;
-      counted = sym (ap (λ (k : ℕ). min k ((length (cleared spans all) - 32) / 32)) stands.1 ∙ ap (λ (k : ℕ). min n ((k - 32) / 32)) size ∙ min_first n (spare_entries geometry) few);
+      counted = sym (ap (λ (k : ℕ). min k ((length (cleared spans all) - SPARE_ENTRIES_AT) / SPARE_ENTRY_BYTES)) stands.1 ∙ ap (λ (k : ℕ). min n ((k - SPARE_ENTRIES_AT) / SPARE_ENTRY_BYTES)) size ∙ min_first n (spare_entries geometry) few);
       is_record = record { fields_fit = fit; others_clear = cleared-cleared spans all within };
     }
 

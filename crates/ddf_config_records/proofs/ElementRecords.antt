@@ -15,6 +15,7 @@ use Rattle.ddf_seal.proofs.Records.{record_again, record_from_bytes, record_writ
 use Rattle.ddf_header.specs.declared.geometry.Geometry.{Geometry}
 use Rattle.ddf_config_records.specs.declared.place.Place.{Place}
 use Rattle.ddf_config_records.specs.declared.fault.ElementFault.TheVariants as faults
+use Rattle.ddf_config_records.specs.declared.layout.TheConstants.{MEMBERS_AT, STRIP_AT, LEVEL_AT, ELEMENTS_AT, INDEX_AT, BLOCK_SIZE_AT, REFERENCES_AT}
 use Rattle.ddf_config_records.specs.ElementValue.{ElementValue}
 use Rattle.ddf_config_records.specs.Elements.{record_size, HasRoom, element_fields, element_faults_of, fault_of, element_fault, element_fault_at, member_at, members_at, element_with, element_rest, element_at, CanBeElement, IsElementOf}
 use Rattle.ddf_config_records.proofs.Elements.{same_place, length-members_at, element_within, element_apart}
@@ -49,33 +50,33 @@ has_members most members strip level elements index block_size h =
       few = ltb-false 64 members last.1;
     }
 
-pub members_at_most : (most : ℕ) (bytes : List ℕ) → element_fault_at most bytes ≡ None → HasMembers most (number_at w16 bytes 64)
-members_at_most most bytes none = has_members most (number_at w16 bytes 64) (slice_index bytes 66) (slice_index bytes 67) (slice_index bytes 69) (slice_index bytes 70) (number_at w16 bytes 88) none
+pub members_at_most : (most : ℕ) (bytes : List ℕ) → element_fault_at most bytes ≡ None → HasMembers most (number_at w16 bytes MEMBERS_AT)
+members_at_most most bytes none = has_members most (number_at w16 bytes MEMBERS_AT) (slice_index bytes STRIP_AT) (slice_index bytes LEVEL_AT) (slice_index bytes ELEMENTS_AT) (slice_index bytes INDEX_AT) (number_at w16 bytes BLOCK_SIZE_AT) none
 
 -- ---- members
 
-numbers_of_references : (most : ℕ) (bytes : List ℕ) (k count : ℕ) → numbers32_at bytes (512 + 4 * k) count ≡ map (λ (place : Place). place.reference) (map (member_at most bytes) (range_with_len k count))
+numbers_of_references : (most : ℕ) (bytes : List ℕ) (k count : ℕ) → numbers32_at bytes (REFERENCES_AT + 4 * k) count ≡ map (λ (place : Place). place.reference) (map (member_at most bytes) (range_with_len k count))
 unfolding numbers32_at
 numbers_of_references most bytes k zero = refl
 numbers_of_references most bytes k (suc count) =
-    let next : 512 + 4 * k + 4 ≡ 512 + 4 * (k + 1) = omega arith in
-    ap (λ (at : ℕ). number_at w32 bytes (512 + 4 * k) ∷ numbers32_at bytes at count) next ∙ ap (λ (l : List ℕ). number_at w32 bytes (512 + 4 * k) ∷ l) (numbers_of_references most bytes (k + 1) count)
+    let next : REFERENCES_AT + 4 * k + 4 ≡ REFERENCES_AT + 4 * (k + 1) = omega arith in
+    ap (λ (at : ℕ). number_at w32 bytes (REFERENCES_AT + 4 * k) ∷ numbers32_at bytes at count) next ∙ ap (λ (l : List ℕ). number_at w32 bytes (REFERENCES_AT + 4 * k) ∷ l) (numbers_of_references most bytes (k + 1) count)
 
-numbers_of_starts : (most : ℕ) (bytes : List ℕ) (k count : ℕ) → numbers64_at bytes (512 + 4 * most + 8 * k) count ≡ map (λ (place : Place). place.start) (map (member_at most bytes) (range_with_len k count))
+numbers_of_starts : (most : ℕ) (bytes : List ℕ) (k count : ℕ) → numbers64_at bytes (REFERENCES_AT + 4 * most + 8 * k) count ≡ map (λ (place : Place). place.start) (map (member_at most bytes) (range_with_len k count))
 unfolding numbers64_at
 numbers_of_starts most bytes k zero = refl
 numbers_of_starts most bytes k (suc count) =
-    let next : 512 + 4 * most + 8 * k + 8 ≡ 512 + 4 * most + 8 * (k + 1) = omega arith in
-    ap (λ (at : ℕ). number_at w64 bytes (512 + 4 * most + 8 * k) ∷ numbers64_at bytes at count) next ∙ ap (λ (l : List ℕ). number_at w64 bytes (512 + 4 * most + 8 * k) ∷ l) (numbers_of_starts most bytes (k + 1) count)
+    let next : REFERENCES_AT + 4 * most + 8 * k + 8 ≡ REFERENCES_AT + 4 * most + 8 * (k + 1) = omega arith in
+    ap (λ (at : ℕ). number_at w64 bytes (REFERENCES_AT + 4 * most + 8 * k) ∷ numbers64_at bytes at count) next ∙ ap (λ (l : List ℕ). number_at w64 bytes (REFERENCES_AT + 4 * most + 8 * k) ∷ l) (numbers_of_starts most bytes (k + 1) count)
 
-pub references_stand : (most : ℕ) (bytes : List ℕ) (count : ℕ) → numbers32_at bytes 512 count ≡ map (λ (place : Place). place.reference) (members_at most bytes count)
+pub references_stand : (most : ℕ) (bytes : List ℕ) (count : ℕ) → numbers32_at bytes REFERENCES_AT count ≡ map (λ (place : Place). place.reference) (members_at most bytes count)
 unfolding members_at
 references_stand most bytes count = numbers_of_references most bytes 0 count
 
-pub starts_stand : (most : ℕ) (bytes : List ℕ) (count : ℕ) → numbers64_at bytes (512 + 4 * most) count ≡ map (λ (place : Place). place.start) (members_at most bytes count)
+pub starts_stand : (most : ℕ) (bytes : List ℕ) (count : ℕ) → numbers64_at bytes (REFERENCES_AT + 4 * most) count ≡ map (λ (place : Place). place.start) (members_at most bytes count)
 unfolding members_at
 starts_stand most bytes count =
-    let here : 512 + 4 * most ≡ 512 + 4 * most + 8 * 0 = omega arith in
+    let here : REFERENCES_AT + 4 * most ≡ REFERENCES_AT + 4 * most + 8 * 0 = omega arith in
     ap (λ (at : ℕ). numbers64_at bytes at count) here ∙ numbers_of_starts most bytes 0 count
 
 cons_parts : (x y : ℕ) (xs ys : List ℕ) → x ∷ xs ≡ y ∷ ys → (x ≡ y) × (xs ≡ ys)
@@ -124,7 +125,7 @@ same_element a b e1 e2 e3 e4 e5 e6 e7 e8 e9 e10 e11 e12 e13 e14 e15 =
 pub fault_at_is : (most : ℕ) (bytes : List ℕ) → element_fault most (element_at most bytes) ≡ element_fault_at most bytes
 unfolding element_with
 fault_at_is most bytes =
-    ap (λ (n : ℕ). fault_of most n (slice_index bytes 66) (slice_index bytes 67) (slice_index bytes 69) (slice_index bytes 70) (number_at w16 bytes 88)) (length-members_at most bytes (number_at w16 bytes 64))
+    ap (λ (n : ℕ). fault_of most n (slice_index bytes STRIP_AT) (slice_index bytes LEVEL_AT) (slice_index bytes ELEMENTS_AT) (slice_index bytes INDEX_AT) (number_at w16 bytes BLOCK_SIZE_AT)) (length-members_at most bytes (number_at w16 bytes MEMBERS_AT))
 
 -- the element that is read from a sealed record without a fault is its value
 pub element_at_is : (signature : ℕ) (geometry : Geometry) (bytes : List ℕ) → length bytes ≡ record_size geometry → AreBytes bytes → IsSealed signature bytes → element_fault_at geometry.max_members bytes ≡ None
@@ -132,12 +133,12 @@ pub element_at_is : (signature : ℕ) (geometry : Geometry) (bytes : List ℕ) �
 unfolding element_with element_rest
 element_at_is signature geometry bytes size are sealed none =
     let most = geometry.max_members in
-    let count = number_at w16 bytes 64 in
+    let count = number_at w16 bytes MEMBERS_AT in
     let same : count ≡ length (members_at most bytes count) = sym (length-members_at most bytes count) in
-    let references : numbers32_at bytes 512 (length (members_at most bytes count)) ≡ map (λ (place : Place). place.reference) (members_at most bytes count) =
-    ap (numbers32_at bytes 512) (sym same) ∙ references_stand most bytes count in
-    let starts : numbers64_at bytes (512 + 4 * most) (length (members_at most bytes count)) ≡ map (λ (place : Place). place.start) (members_at most bytes count) =
-    ap (numbers64_at bytes (512 + 4 * most)) (sym same) ∙ starts_stand most bytes count in
+    let references : numbers32_at bytes REFERENCES_AT (length (members_at most bytes count)) ≡ map (λ (place : Place). place.reference) (members_at most bytes count) =
+    ap (numbers32_at bytes REFERENCES_AT) (sym same) ∙ references_stand most bytes count in
+    let starts : numbers64_at bytes (REFERENCES_AT + 4 * most) (length (members_at most bytes count)) ≡ map (λ (place : Place). place.start) (members_at most bytes count) =
+    ap (numbers64_at bytes (REFERENCES_AT + 4 * most)) (sym same) ∙ starts_stand most bytes count in
     record {
       size = size;
       is_record = record {
@@ -170,10 +171,10 @@ element_is signature geometry element bytes is =
     let s14 = s13.1 in
     let s15 = s14.1 in
     let s16 = s15.1 in
-    let count = number_at w16 bytes 64 in
+    let count = number_at w16 bytes MEMBERS_AT in
     let read = members_at most bytes count in
-    let references : map (λ (place : Place). place.reference) read ≡ map (λ (place : Place). place.reference) element.members = sym (references_stand most bytes count) ∙ ap (numbers32_at bytes 512) s4.0 ∙ s15.0 in
-    let starts : map (λ (place : Place). place.start) read ≡ map (λ (place : Place). place.start) element.members = sym (starts_stand most bytes count) ∙ ap (numbers64_at bytes (512 + 4 * most)) s4.0 ∙ s16.0 in
+    let references : map (λ (place : Place). place.reference) read ≡ map (λ (place : Place). place.reference) element.members = sym (references_stand most bytes count) ∙ ap (numbers32_at bytes REFERENCES_AT) s4.0 ∙ s15.0 in
+    let starts : map (λ (place : Place). place.start) read ≡ map (λ (place : Place). place.start) element.members = sym (starts_stand most bytes count) ∙ ap (numbers64_at bytes (REFERENCES_AT + 4 * most)) s4.0 ∙ s16.0 in
     let members : read ≡ element.members = same_places read element.members references starts in
     let rest : element_rest most bytes ≡ element.rest =
     ap (λ (places_of : List Place). cleared (seal_place ∷ places (element_fields most (record element { members = places_of }))) bytes) members ∙ sym is.is_record.others_stay in

@@ -7,6 +7,7 @@ use Rattle.ddf_config_records.specs.declared.notes.Notes.{Notes}
 use Rattle.ddf_config_records.specs.declared.spare.SpareRecord.{SpareRecord}
 use Rattle.ddf_config_records.specs.declared.slot.RecordSlot.{RecordSlot}
 use Rattle.ddf_config_records.specs.declared.slot.RecordSlot.TheVariants as slots
+use Rattle.ddf_config_records.specs.declared.layout.TheConstants.{SPARE_ENTRIES_AT, SPARE_ENTRY_BYTES}
 use Rattle.ddf_config_records.specs.Bits.{IsRising, AreBelow}
 use Rattle.ddf_config_records.specs.Elements.{record_size, HasRoom}
 use Rattle.ddf_config_records.specs.Spares.{CanBeSpare}
@@ -28,7 +29,7 @@ notes_fit geometry count notes can = record {
   below = all_below geometry.max_members notes.slots can.rising;
 }
 
-spare_fits : (geometry : Geometry) (spare : SpareRecord) → HasRoom geometry → CanBeSpare geometry spare → 32 + 32 * length spare.arrays ≤ record_size geometry
+spare_fits : (geometry : Geometry) (spare : SpareRecord) → HasRoom geometry → CanBeSpare geometry spare → SPARE_ENTRIES_AT + SPARE_ENTRY_BYTES * length spare.arrays ≤ record_size geometry
 spare_fits geometry spare room can = let fits = count_fits spare.rest (omega (arith, room.whole, can.size)) in omega (arith, can.counted, can.size)
 
 pub slot_fits : (geometry : Geometry) (count : ℕ) (listed : Bool) (slot : RecordSlot) → HasRoom geometry → CanBeSlot geometry count listed slot → FitsSlot geometry slot

@@ -15,6 +15,7 @@ use Rattle.ddf_seal.proofs.Same.{both_true}
 use Rattle.ddf_seal.proofs.Spelled.{AreBytes-bytes_at}
 use Rattle.ddf_config_records.specs.declared.notes.SlotNote.{SlotNote}
 use Rattle.ddf_config_records.specs.declared.notes.Notes.{Notes}
+use Rattle.ddf_config_records.specs.declared.layout.TheConstants.{NOTES_AT, NOTE_ZERO_AT, NOTE_ZEROS_AT, NOTE_BITS_AT}
 use Rattle.ddf_config_records.specs.Bits.{positions, bits_of, IsRising}
 use Rattle.ddf_config_records.specs.NoteRecords.{note_size, note_place, note_fields, all_note_fields, filling, notes_fields, is_note, note_at, notes_of_slots}
 use Rattle.ddf_config_records.proofs.Bits.{positions_rise, positions_of_bits, bits_of_positions}
@@ -62,11 +63,11 @@ all_tiles most at (note ∷ notes) =
 
 pub notes_tiles : (most size : ℕ) (notes : Notes) → note_place most (length notes.slots) ≤ size → AreTiles 0 (seal_place ∷ places (notes_fields most size notes)) size
 notes_tiles most size notes le =
-    let all = all_note_fields most 64 notes.slots in
+    let all = all_note_fields most NOTES_AT notes.slots in
     let last = filling most size (length notes.slots) in
-    let behind : AreTiles 64 (places all ++ places (last ∷ [])) size =
-    tiles-append 64 (64 + length notes.slots * note_size most) size (places all) (places (last ∷ [])) (all_tiles most 64 notes.slots) (refl, omega arith) in
-    (refl, (refl, (refl, (refl, (refl, (refl, (refl, subst (λ (spans : List Span). AreTiles 64 spans size) (sym (places-append all (last ∷ []))) behind)))))))
+    let behind : AreTiles NOTES_AT (places all ++ places (last ∷ [])) size =
+    tiles-append NOTES_AT (NOTES_AT + length notes.slots * note_size most) size (places all) (places (last ∷ [])) (all_tiles most NOTES_AT notes.slots) (refl, omega arith) in
+    (refl, (refl, (refl, (refl, (refl, (refl, (refl, subst (λ (spans : List Span). AreTiles NOTES_AT spans size) (sym (places-append all (last ∷ []))) behind)))))))
 
 -- ---- a note
 
@@ -88,12 +89,12 @@ note_stands : (most : ℕ) (bytes : List ℕ) (at : ℕ) → IsTrue (is_note byt
 unfolding note_at
 note_stands most bytes at h within are whole =
     let flag = slice_index bytes at in
-    let first = both_true (leb flag 1) (eqb (slice_index bytes (at + 1)) 0 && eqb (number_at w32 bytes (at + 4)) 0) h in
-    let second = both_true (eqb (slice_index bytes (at + 1)) 0) (eqb (number_at w32 bytes (at + 4)) 0) first.1 in
-    let bits = bytes_at bytes (at + 16) (most / 8) in
-    let size : length bits ≡ most / 8 = length-bytes_at bytes (at + 16) (most / 8) (omega arith) in
-    let same : bits ≡ bits_of (most / 8) (positions most bits) = sym (bits_of_positions most bits whole size (AreBytes-bytes_at bytes (at + 16) (most / 8) (omega arith) are)) in
-    (flag_is flag (leb-true flag 1 first.0), (eqb-true (slice_index bytes (at + 1)) 0 second.0, (refl, (eqb-true (number_at w32 bytes (at + 4)) 0 second.1, (refl, (same, tt))))))
+    let first = both_true (leb flag 1) (eqb (slice_index bytes (at + NOTE_ZERO_AT)) 0 && eqb (number_at w32 bytes (at + NOTE_ZEROS_AT)) 0) h in
+    let second = both_true (eqb (slice_index bytes (at + NOTE_ZERO_AT)) 0) (eqb (number_at w32 bytes (at + NOTE_ZEROS_AT)) 0) first.1 in
+    let bits = bytes_at bytes (at + NOTE_BITS_AT) (most / 8) in
+    let size : length bits ≡ most / 8 = length-bytes_at bytes (at + NOTE_BITS_AT) (most / 8) (omega arith) in
+    let same : bits ≡ bits_of (most / 8) (positions most bits) = sym (bits_of_positions most bits whole size (AreBytes-bytes_at bytes (at + NOTE_BITS_AT) (most / 8) (omega arith) are)) in
+    (flag_is flag (leb-true flag 1 first.0), (eqb-true (slice_index bytes (at + NOTE_ZERO_AT)) 0 second.0, (refl, (eqb-true (number_at w32 bytes (at + NOTE_ZEROS_AT)) 0 second.1, (refl, (same, tt))))))
 
 make_note : (copied : Bool) (position row : ℕ) (out : List ℕ) → SlotNote
 make_note copied position row out = record { copied = copied; position = position; row = row; out = out }
@@ -108,14 +109,14 @@ note_read : (most : ℕ) (bytes : List ℕ) (at : ℕ) (note : SlotNote) → All
 unfolding note_at
 note_read most bytes at note h rising whole =
     let copied : eqb (slice_index bytes at) 1 ≡ note.copied = ap (λ (n : ℕ). eqb n 1) h.0 ∙ flag_of note.copied in
-    let out : positions most (bytes_at bytes (at + 16) (most / 8)) ≡ note.out = ap (positions most) h.1.1.1.1.1.0 ∙ positions_of_bits most note.out whole rising in
+    let out : positions most (bytes_at bytes (at + NOTE_BITS_AT) (most / 8)) ≡ note.out = ap (positions most) h.1.1.1.1.1.0 ∙ positions_of_bits most note.out whole rising in
     same_note (note_at most bytes at) note copied h.1.1.0 h.1.1.1.1.0 out
 
 note_is_note : (most : ℕ) (bytes : List ℕ) (at : ℕ) (note : SlotNote) → AllByRecursion (Stands bytes) (note_fields most at note) → IsTrue (is_note bytes at)
 note_is_note most bytes at note h =
-    both (leb (slice_index bytes at) 1) (eqb (slice_index bytes (at + 1)) 0 && eqb (number_at w32 bytes (at + 4)) 0)
+    both (leb (slice_index bytes at) 1) (eqb (slice_index bytes (at + NOTE_ZERO_AT)) 0 && eqb (number_at w32 bytes (at + NOTE_ZEROS_AT)) 0)
     (ap (λ (n : ℕ). leb n 1) h.0 ∙ flag_small note.copied)
-    (both (eqb (slice_index bytes (at + 1)) 0) (eqb (number_at w32 bytes (at + 4)) 0) (eq-eqb (slice_index bytes (at + 1)) 0 h.1.0) (eq-eqb (number_at w32 bytes (at + 4)) 0 h.1.1.1.0))
+    (both (eqb (slice_index bytes (at + NOTE_ZERO_AT)) 0) (eqb (number_at w32 bytes (at + NOTE_ZEROS_AT)) 0) (eq-eqb (slice_index bytes (at + NOTE_ZERO_AT)) 0 h.1.0) (eq-eqb (number_at w32 bytes (at + NOTE_ZEROS_AT)) 0 h.1.1.1.0))
 
 -- ---- all notes
 
@@ -143,7 +144,7 @@ notes_stand_from most bytes k (suc count) h within are whole =
 notes_rise_from : (most : ℕ) (bytes : List ℕ) (k count : ℕ) → AllByRecursion (λ note. IsRising most note.out) (map (λ slot. note_at most bytes (note_place most slot)) (range_with_len k count))
 unfolding note_at
 notes_rise_from most bytes k zero = tt
-notes_rise_from most bytes k (suc count) = (positions_rise most (bytes_at bytes (note_place most k + 16) (most / 8)), notes_rise_from most bytes (k + 1) count)
+notes_rise_from most bytes k (suc count) = (positions_rise most (bytes_at bytes (note_place most k + NOTE_BITS_AT) (most / 8)), notes_rise_from most bytes (k + 1) count)
 
 notes_read_from : (most : ℕ) (bytes : List ℕ) (k : ℕ) (notes : List SlotNote) → AllByRecursion (Stands bytes) (all_note_fields most (note_place most k) notes) → AllByRecursion (λ note. IsRising most note.out) notes
     → 8 * (most / 8) ≡ most → map (λ slot. note_at most bytes (note_place most slot)) (range_with_len k (length notes)) ≡ notes
@@ -176,11 +177,11 @@ pub notes_of_slots_more : (most count : ℕ) (bytes : List ℕ) → notes_of_slo
 unfolding notes_of_slots
 notes_of_slots_more most count bytes = map-range_with_len_more (λ slot. note_at most bytes (note_place most slot)) 0 count count (omega arith)
 
-pub first_place : (most : ℕ) → note_place most 0 ≡ 64
+pub first_place : (most : ℕ) → note_place most 0 ≡ NOTES_AT
 first_place most = omega arith
 
 pub slots_stand : (most count : ℕ) (bytes : List ℕ) → IsTrue (list_all (λ slot. is_note bytes (note_place most slot)) (range_with_len 0 count)) → note_place most count ≤ length bytes → AreBytes bytes → 8 * (most / 8) ≡ most
-    → AllByRecursion (Stands bytes) (all_note_fields most 64 (notes_of_slots most count bytes))
+    → AllByRecursion (Stands bytes) (all_note_fields most NOTES_AT (notes_of_slots most count bytes))
 unfolding notes_of_slots
 slots_stand most count bytes h within are whole =
     let all : note_place most (0 + count) ≤ length bytes = subst (λ (n : ℕ). note_place most n ≤ length bytes) (omega arith) within in
@@ -190,13 +191,13 @@ pub slots_rise : (most count : ℕ) (bytes : List ℕ) → AllByRecursion (λ no
 unfolding notes_of_slots
 slots_rise most count bytes = notes_rise_from most bytes 0 count
 
-pub slots_read : (most : ℕ) (bytes : List ℕ) (notes : List SlotNote) → AllByRecursion (Stands bytes) (all_note_fields most 64 notes) → AllByRecursion (λ note. IsRising most note.out) notes → 8 * (most / 8) ≡ most
+pub slots_read : (most : ℕ) (bytes : List ℕ) (notes : List SlotNote) → AllByRecursion (Stands bytes) (all_note_fields most NOTES_AT notes) → AllByRecursion (λ note. IsRising most note.out) notes → 8 * (most / 8) ≡ most
     → notes_of_slots most (length notes) bytes ≡ notes
 unfolding notes_of_slots
 slots_read most bytes notes h rising whole =
     notes_read_from most bytes 0 notes (subst (λ (at : ℕ). AllByRecursion (Stands bytes) (all_note_fields most at notes)) (sym (first_place most)) h) rising whole
 
-pub slots_test : (most : ℕ) (bytes : List ℕ) (notes : List SlotNote) → AllByRecursion (Stands bytes) (all_note_fields most 64 notes) → IsTrue (list_all (λ slot. is_note bytes (note_place most slot)) (range_with_len 0 (length notes)))
+pub slots_test : (most : ℕ) (bytes : List ℕ) (notes : List SlotNote) → AllByRecursion (Stands bytes) (all_note_fields most NOTES_AT notes) → IsTrue (list_all (λ slot. is_note bytes (note_place most slot)) (range_with_len 0 (length notes)))
 slots_test most bytes notes h = notes_test_from most bytes 0 notes (subst (λ (at : ℕ). AllByRecursion (Stands bytes) (all_note_fields most at notes)) (sym (first_place most)) h)
 
 -- ---- one more note
@@ -212,11 +213,11 @@ all_note_fields_more most at (other ∷ notes) note =
     ∙ ap (λ (k : ℕ). (note_fields most at other ++ all_note_fields most (at + note_size most) notes) ++ note_fields most k note) there
 
 pub written_note_more : (most : ℕ) (bytes : List ℕ) (notes : List SlotNote) (i : ℕ) (d : SlotNote) → i < length notes
-    → written (note_fields most (note_place most i) (get_or notes i d)) (written (all_note_fields most 64 (take i notes)) bytes) ≡ written (all_note_fields most 64 (take (i + 1) notes)) bytes
+    → written (note_fields most (note_place most i) (get_or notes i d)) (written (all_note_fields most NOTES_AT (take i notes)) bytes) ≡ written (all_note_fields most NOTES_AT (take (i + 1) notes)) bytes
 written_note_more most bytes notes i d lt =
     let done = take i notes in
     let one = get_or notes i d in
     let len : length done ≡ i = length-take-le i notes (omega arith) in
-    ap (λ (n : ℕ). written (note_fields most (64 + n * note_size most) one) (written (all_note_fields most 64 done) bytes)) (sym len)
-    ∙ sym (written-append (all_note_fields most 64 done) (note_fields most (64 + length done * note_size most) one) bytes)
-    ∙ ap (λ (fields : List Field). written fields bytes) (sym (all_note_fields_more most 64 done one) ∙ ap (all_note_fields most 64) (sym (take_more notes i d lt)))
+    ap (λ (n : ℕ). written (note_fields most (NOTES_AT + n * note_size most) one) (written (all_note_fields most NOTES_AT done) bytes)) (sym len)
+    ∙ sym (written-append (all_note_fields most NOTES_AT done) (note_fields most (NOTES_AT + length done * note_size most) one) bytes)
+    ∙ ap (λ (fields : List Field). written fields bytes) (sym (all_note_fields_more most NOTES_AT done one) ∙ ap (all_note_fields most NOTES_AT) (sym (take_more notes i d lt)))

@@ -17,6 +17,7 @@ use Rattle.ddf_seal.proofs.Records.{record_again, record_from_bytes, record_writ
 use Rattle.ddf_header.specs.declared.geometry.Geometry.{Geometry}
 use Rattle.ddf_config_records.specs.declared.notes.SlotNote.{SlotNote}
 use Rattle.ddf_config_records.specs.declared.notes.Notes.{Notes}
+use Rattle.ddf_config_records.specs.declared.layout.TheConstants.{NOTES_NAME_AT, NOTES_SLOTS_AT, NOTES_MEMBERS_AT, NOTES_ZEROS_AT, NOTES_AT}
 use Rattle.ddf_config_records.specs.Elements.{record_size}
 use Rattle.ddf_config_records.specs.Vendors.{vendor_signature}
 use Rattle.ddf_config_records.specs.NoteRecords.{note_place, all_note_fields, head_fields, filling, notes_fields, CanBeNotes, IsNotesOf, is_note, is_headed, is_named, has_numbers, is_notes, notes_of_slots, notes_at}
@@ -50,28 +51,28 @@ notes_at_is geometry count bytes size are sealed whole test =
     let at = note_place most count in
     let slots = notes_of_slots most count bytes in
     let notes = notes_at most count bytes in
-    let named = bytes_eq (bytes_at bytes 32 8) (codes "RDDFNOTE") in
-    let zeros = list_all (λ x. eqb x 0) (bytes_at bytes 48 16) in
+    let named = bytes_eq (bytes_at bytes NOTES_NAME_AT 8) (codes "RDDFNOTE") in
+    let zeros = list_all (λ x. eqb x 0) (bytes_at bytes NOTES_ZEROS_AT 16) in
     let each = list_all (λ slot. is_note bytes (note_place most slot)) (range_with_len 0 count) in
     let filled = list_all (λ x. eqb x 255) (drop at bytes) in
     let top = both_true (is_headed most count bytes) (leb at (length bytes) && (each && filled)) test in
     let head = both_true named (has_numbers most count bytes && zeros) top.0 in
     let numbers = both_true (has_numbers most count bytes) zeros head.1 in
-    let counts = both_true (eqb (number_at w16 bytes 44) count) (eqb (number_at w16 bytes 46) most) numbers.0 in
+    let counts = both_true (eqb (number_at w16 bytes NOTES_SLOTS_AT) count) (eqb (number_at w16 bytes NOTES_MEMBERS_AT) most) numbers.0 in
     let body = both_true (leb at (length bytes)) (each && filled) top.1 in
     let body2 = both_true each filled body.1 in
     let fits : at ≤ length bytes = leb-true at (length bytes) body.0 in
-    let long : 64 ≤ length bytes = omega arith in
+    let long : NOTES_AT ≤ length bytes = omega arith in
     let counted : length slots ≡ count = length-notes_of_slots most count bytes in
     let room : at ≤ record_size geometry = omega arith in
-    let name : bytes_at bytes 32 8 ≡ codes "RDDFNOTE" = (bytes_eq-Decides (bytes_at bytes 32 8) (codes "RDDFNOTE")).0 head.0 in
-    let number : number_at w16 bytes 44 ≡ length slots = eqb-true (number_at w16 bytes 44) count counts.0 ∙ sym counted in
-    let allowed : number_at w16 bytes 46 ≡ most = eqb-true (number_at w16 bytes 46) most counts.1 in
-    let none : bytes_at bytes 48 16 ≡ replicate 16 0 = all_are 0 (bytes_at bytes 48 16) numbers.1 ∙ ap (λ (n : ℕ). replicate n 0) (length-bytes_at bytes 48 16 (omega arith)) in
+    let name : bytes_at bytes NOTES_NAME_AT 8 ≡ codes "RDDFNOTE" = (bytes_eq-Decides (bytes_at bytes NOTES_NAME_AT 8) (codes "RDDFNOTE")).0 head.0 in
+    let number : number_at w16 bytes NOTES_SLOTS_AT ≡ length slots = eqb-true (number_at w16 bytes NOTES_SLOTS_AT) count counts.0 ∙ sym counted in
+    let allowed : number_at w16 bytes NOTES_MEMBERS_AT ≡ most = eqb-true (number_at w16 bytes NOTES_MEMBERS_AT) most counts.1 in
+    let none : bytes_at bytes NOTES_ZEROS_AT 16 ≡ replicate 16 0 = all_are 0 (bytes_at bytes NOTES_ZEROS_AT 16) numbers.1 ∙ ap (λ (n : ℕ). replicate n 0) (length-bytes_at bytes NOTES_ZEROS_AT 16 (omega arith)) in
     let head_stands : AllByRecursion (Stands bytes) (head_fields most notes) = (refl, (name, (refl, (number, (allowed, (none, tt)))))) in
     let last : Stands bytes (filling most (record_size geometry) (length slots)) =
     subst (λ (n : ℕ). Stands bytes (filling most (record_size geometry) n)) (sym counted) (filling_stands most (record_size geometry) count bytes size body2.1) in
-    let tail = all-append (Stands bytes) (all_note_fields most 64 slots) (filling most (record_size geometry) (length slots) ∷ []) (slots_stand most count bytes body2.0 fits are whole) (last, tt) in
+    let tail = all-append (Stands bytes) (all_note_fields most NOTES_AT slots) (filling most (record_size geometry) (length slots) ∷ []) (slots_stand most count bytes body2.0 fits are whole) (last, tt) in
     let spans = seal_place ∷ places (notes_fields most (record_size geometry) notes) in
     let tiles = notes_tiles most (record_size geometry) notes (subst (λ (n : ℕ). note_place most n ≤ record_size geometry) (sym counted) room) in
     record {
@@ -82,7 +83,7 @@ notes_at_is geometry count bytes size are sealed whole test =
       is_record = record {
         are_bytes = are;
         is_sealed = sealed;
-        fields_stand = all-append (Stands bytes) (head_fields most notes) (all_note_fields most 64 slots ++ filling most (record_size geometry) (length slots) ∷ []) head_stands tail;
+        fields_stand = all-append (Stands bytes) (head_fields most notes) (all_note_fields most NOTES_AT slots ++ filling most (record_size geometry) (length slots) ∷ []) head_stands tail;
         others_stay = ap (λ (n : ℕ). replicate n 0) (sym size) ∙ sym (tiles_cleared spans bytes (subst (λ (n : ℕ). AreTiles 0 spans n) (sym size) tiles));
       };
     }
@@ -99,8 +100,8 @@ same_notes a b e1 e2 e3 =
 pub notes_is : (geometry : Geometry) (count : ℕ) (notes : Notes) (bytes : List ℕ) → 8 * (geometry.max_members / 8) ≡ geometry.max_members → IsNotesOf geometry count notes bytes → notes_at geometry.max_members count bytes ≡ notes
 notes_is geometry count notes bytes whole is =
     let most = geometry.max_members in
-    let parts = all-split (Stands bytes) (head_fields most notes) (all_note_fields most 64 notes.slots ++ filling most (record_size geometry) (length notes.slots) ∷ []) is.is_record.fields_stand in
-    let tail = all-split (Stands bytes) (all_note_fields most 64 notes.slots) (filling most (record_size geometry) (length notes.slots) ∷ []) parts.1 in
+    let parts = all-split (Stands bytes) (head_fields most notes) (all_note_fields most NOTES_AT notes.slots ++ filling most (record_size geometry) (length notes.slots) ∷ []) is.is_record.fields_stand in
+    let tail = all-split (Stands bytes) (all_note_fields most NOTES_AT notes.slots) (filling most (record_size geometry) (length notes.slots) ∷ []) parts.1 in
     let slots : notes_of_slots most count bytes ≡ notes.slots = ap (λ (n : ℕ). notes_of_slots most n bytes) (sym is.counted) ∙ slots_read most bytes notes.slots tail.0 is.rising whole in
     same_notes (notes_at most count bytes) notes parts.0.0 parts.0.1.1.0 slots
 
@@ -109,21 +110,21 @@ unfolding is_notes is_named has_numbers
 notes_are_notes geometry count notes bytes is =
     let most = geometry.max_members in
     let at = note_place most count in
-    let parts = all-split (Stands bytes) (head_fields most notes) (all_note_fields most 64 notes.slots ++ filling most (record_size geometry) (length notes.slots) ∷ []) is.is_record.fields_stand in
-    let tail = all-split (Stands bytes) (all_note_fields most 64 notes.slots) (filling most (record_size geometry) (length notes.slots) ∷ []) parts.1 in
-    let named = bytes_eq (bytes_at bytes 32 8) (codes "RDDFNOTE") in
-    let zeros = list_all (λ x. eqb x 0) (bytes_at bytes 48 16) in
+    let parts = all-split (Stands bytes) (head_fields most notes) (all_note_fields most NOTES_AT notes.slots ++ filling most (record_size geometry) (length notes.slots) ∷ []) is.is_record.fields_stand in
+    let tail = all-split (Stands bytes) (all_note_fields most NOTES_AT notes.slots) (filling most (record_size geometry) (length notes.slots) ∷ []) parts.1 in
+    let named = bytes_eq (bytes_at bytes NOTES_NAME_AT 8) (codes "RDDFNOTE") in
+    let zeros = list_all (λ x. eqb x 0) (bytes_at bytes NOTES_ZEROS_AT 16) in
     let each = list_all (λ slot. is_note bytes (note_place most slot)) (range_with_len 0 count) in
     let filled = list_all (λ x. eqb x 255) (drop at bytes) in
-    let name : IsTrue named = (bytes_eq-Decides (bytes_at bytes 32 8) (codes "RDDFNOTE")).1 parts.0.1.0 in
-    let number : IsTrue (eqb (number_at w16 bytes 44) count) = eq-eqb (number_at w16 bytes 44) count (parts.0.1.1.1.0 ∙ is.counted) in
-    let allowed : IsTrue (eqb (number_at w16 bytes 46) most) = eq-eqb (number_at w16 bytes 46) most parts.0.1.1.1.1.0 in
+    let name : IsTrue named = (bytes_eq-Decides (bytes_at bytes NOTES_NAME_AT 8) (codes "RDDFNOTE")).1 parts.0.1.0 in
+    let number : IsTrue (eqb (number_at w16 bytes NOTES_SLOTS_AT) count) = eq-eqb (number_at w16 bytes NOTES_SLOTS_AT) count (parts.0.1.1.1.0 ∙ is.counted) in
+    let allowed : IsTrue (eqb (number_at w16 bytes NOTES_MEMBERS_AT) most) = eq-eqb (number_at w16 bytes NOTES_MEMBERS_AT) most parts.0.1.1.1.1.0 in
     let none : IsTrue zeros = subst (λ (l : List ℕ). IsTrue (list_all (λ x. eqb x 0) l)) (sym parts.0.1.1.1.1.1.0) (are_all 0 16) in
     let all : IsTrue each = subst (λ (n : ℕ). IsTrue (list_all (λ slot. is_note bytes (note_place most slot)) (range_with_len 0 n))) is.counted (slots_test most bytes notes.slots tail.0) in
     let last : IsTrue filled = filling_test most (record_size geometry) count bytes is.size (subst (λ (n : ℕ). Stands bytes (filling most (record_size geometry) n)) is.counted tail.1.0) in
     let fits : IsTrue (leb at (length bytes)) = le-leb at (length bytes) (omega (arith, is.room, is.size)) in
     both (is_headed most count bytes) (leb at (length bytes) && (each && filled))
-    (both named (has_numbers most count bytes && zeros) name (both (has_numbers most count bytes) zeros (both (eqb (number_at w16 bytes 44) count) (eqb (number_at w16 bytes 46) most) number allowed) none))
+    (both named (has_numbers most count bytes && zeros) name (both (has_numbers most count bytes) zeros (both (eqb (number_at w16 bytes NOTES_SLOTS_AT) count) (eqb (number_at w16 bytes NOTES_MEMBERS_AT) most) number allowed) none))
     (both (leb at (length bytes)) (each && filled) fits (both each filled all last))
 
 -- ---- writing

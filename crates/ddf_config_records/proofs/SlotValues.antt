@@ -14,6 +14,7 @@ use Rattle.ddf_config_records.specs.declared.fault.ElementFault.{ElementFault}
 use Rattle.ddf_config_records.specs.declared.notes.Notes.{Notes}
 use Rattle.ddf_config_records.specs.declared.slot.RecordSlot.{RecordSlot}
 use Rattle.ddf_config_records.specs.declared.slot.RecordSlot.TheVariants as slots
+use Rattle.ddf_config_records.specs.declared.layout.TheConstants.{VENDOR_GUID_AT}
 use Rattle.ddf_config_records.specs.ElementValue.{ElementValue}
 use Rattle.ddf_config_records.specs.Elements.{record_size, HasRoom, element_fields, element_fault, element_fault_at, element_at, IsElementOf}
 use Rattle.ddf_config_records.specs.Spares.{spare_signature, spare_at}
@@ -76,7 +77,7 @@ vendor_slot_is : (geometry : Geometry) (count : ℕ) (listed : Bool) (bytes : Li
 unfolding IsSlotOf
 vendor_slot_is geometry count listed bytes room size are sealed =
     let most = geometry.max_members in
-    cond_two (λ slot. IsSlotOf geometry count listed slot bytes) (is_notes most count bytes) (is_copy most listed bytes) (slots.Notes (notes_at most count bytes)) (slots.Copied (element_at most bytes)) (slots.Vendor (bytes_at bytes 8 24) (vendor_rest bytes))
+    cond_two (λ slot. IsSlotOf geometry count listed slot bytes) (is_notes most count bytes) (is_copy most listed bytes) (slots.Notes (notes_at most count bytes)) (slots.Copied (element_at most bytes)) (slots.Vendor (bytes_at bytes VENDOR_GUID_AT 24) (vendor_rest bytes))
     (λ yes. notes_at_is geometry count bytes size are sealed room.bits yes)
     (λ no copy. let parts = copy_parts listed (element_fault_at most bytes) copy in (element_at_is vendor_signature geometry bytes size are sealed parts.1, parts.0, no))
     (λ no other. (vendor_at_is geometry bytes size are sealed, no, other))
@@ -158,7 +159,7 @@ slot_is geometry count listed (slots.Vendor guid rest) bytes room is =
     let no = is.1 in
     let other = is.2 in
     let parts = vendor_is geometry guid rest bytes is.0 in
-    let kept : vendor_slot most count listed bytes ≡ slots.Vendor (bytes_at bytes 8 24) (vendor_rest bytes) = rw (no, other) refl in
+    let kept : vendor_slot most count listed bytes ≡ slots.Vendor (bytes_at bytes VENDOR_GUID_AT 24) (vendor_rest bytes) = rw (no, other) refl in
     at_vendor most count listed bytes (signature_is vendor_signature bytes (omega arith) is.0.is_record.is_sealed) ∙ kept
     ∙ ap (λ (g : List ℕ). slots.Vendor g (vendor_rest bytes)) parts.0 ∙ ap (slots.Vendor guid) parts.1
 slot_is geometry count listed (slots.Unread fault kept) bytes room is =
@@ -241,7 +242,7 @@ valid_three : (most count : ℕ) (group : List ℕ) (sequence : ℕ) (listed : B
     ≡ cond (b && is_notes most count bytes) (when (are_valid group sequence (notes_at most count bytes)) (notes_at most count bytes)) None
 valid_three most count group sequence listed bytes true true c apart = let no = apart refl in absurd cc
 valid_three most count group sequence listed bytes true false c apart = no_notes most bytes group sequence (element_fault_at most bytes)
-valid_three most count group sequence listed bytes false true c apart = notes_cond group sequence (is_notes most count bytes) (is_copy most listed bytes) (notes_at most count bytes) (element_at most bytes) (bytes_at bytes 8 24) (vendor_rest bytes)
+valid_three most count group sequence listed bytes false true c apart = notes_cond group sequence (is_notes most count bytes) (is_copy most listed bytes) (notes_at most count bytes) (element_at most bytes) (bytes_at bytes VENDOR_GUID_AT 24) (vendor_rest bytes)
 valid_three most count group sequence listed bytes false false true apart = refl
 valid_three most count group sequence listed bytes false false false apart = refl
 

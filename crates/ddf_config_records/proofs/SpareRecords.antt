@@ -11,6 +11,7 @@ use Rattle.ddf_seal.proofs.Same.{AreWithin, IsOutsideAll, cleared_outside, bytes
 use Rattle.ddf_seal.proofs.Records.{AreAllApart, apart_from_test, record_again, record_from_bytes, record_written, length-record_bytes}
 use Rattle.ddf_header.specs.declared.geometry.Geometry.{Geometry}
 use Rattle.ddf_config_records.specs.declared.spare.SpareRecord.{SpareRecord}
+use Rattle.ddf_config_records.specs.declared.layout.TheConstants.{SPARE_TIMESTAMP_AT, SPARE_KIND_AT, SPARE_POPULATED_AT, SPARE_ENTRIES_AT, SPARE_ENTRY_BYTES}
 use Rattle.ddf_config_records.specs.Elements.{record_size}
 use Rattle.ddf_config_records.specs.Spares.{spare_signature, entry_fields, spare_fields, spare_count, spare_rest, spare_at, array_at, arrays_at, CanBeSpare, IsSpareOf}
 use Rattle.ddf_config_records.proofs.Spans.{within-append, apart-append}
@@ -18,54 +19,54 @@ use Rattle.ddf_config_records.proofs.Spares.{length-arrays_at, entries_within, e
 
 -- ---- entries
 
-stand_from : (bytes : List ℕ) (k count : ℕ) → AllByRecursion (Stands bytes) (entry_fields (32 + 32 * k) (map (array_at bytes) (range_with_len k count)))
+stand_from : (bytes : List ℕ) (k count : ℕ) → AllByRecursion (Stands bytes) (entry_fields (SPARE_ENTRIES_AT + SPARE_ENTRY_BYTES * k) (map (array_at bytes) (range_with_len k count)))
 stand_from bytes k zero = tt
 stand_from bytes k (suc count) =
-    let next : 32 + 32 * (k + 1) ≡ 32 + 32 * k + 32 = omega arith in
+    let next : SPARE_ENTRIES_AT + SPARE_ENTRY_BYTES * (k + 1) ≡ SPARE_ENTRIES_AT + SPARE_ENTRY_BYTES * k + SPARE_ENTRY_BYTES = omega arith in
     (refl, subst (λ (at : ℕ). AllByRecursion (Stands bytes) (entry_fields at (map (array_at bytes) (range_with_len (k + 1) count)))) next (stand_from bytes (k + 1) count))
 
-entries_stand : (bytes : List ℕ) (count : ℕ) → AllByRecursion (Stands bytes) (entry_fields 32 (arrays_at bytes count))
+entries_stand : (bytes : List ℕ) (count : ℕ) → AllByRecursion (Stands bytes) (entry_fields SPARE_ENTRIES_AT (arrays_at bytes count))
 unfolding arrays_at
 entries_stand bytes count = stand_from bytes 0 count
 
-read_from : (bytes : List ℕ) (k : ℕ) (guids : List (List ℕ)) → AllByRecursion (Stands bytes) (entry_fields (32 + 32 * k) guids) → map (array_at bytes) (range_with_len k (length guids)) ≡ guids
+read_from : (bytes : List ℕ) (k : ℕ) (guids : List (List ℕ)) → AllByRecursion (Stands bytes) (entry_fields (SPARE_ENTRIES_AT + SPARE_ENTRY_BYTES * k) guids) → map (array_at bytes) (range_with_len k (length guids)) ≡ guids
 read_from bytes k [] h = refl
 read_from bytes k (guid ∷ guids) h =
-    let next : 32 + 32 * k + 32 ≡ 32 + 32 * (k + 1) = omega arith in
+    let next : SPARE_ENTRIES_AT + SPARE_ENTRY_BYTES * k + SPARE_ENTRY_BYTES ≡ SPARE_ENTRIES_AT + SPARE_ENTRY_BYTES * (k + 1) = omega arith in
     let rest = read_from bytes (k + 1) guids (subst (λ (at : ℕ). AllByRecursion (Stands bytes) (entry_fields at guids)) next h.1) in
     ap (λ (first : List ℕ). first ∷ map (array_at bytes) (range_with_len (k + 1) (length guids))) h.0 ∙ ap (λ (l : List (List ℕ)). guid ∷ l) rest
 
-entries_read : (bytes : List ℕ) (guids : List (List ℕ)) → AllByRecursion (Stands bytes) (entry_fields 32 guids) → arrays_at bytes (length guids) ≡ guids
+entries_read : (bytes : List ℕ) (guids : List (List ℕ)) → AllByRecursion (Stands bytes) (entry_fields SPARE_ENTRIES_AT guids) → arrays_at bytes (length guids) ≡ guids
 unfolding arrays_at
 entries_read bytes guids h = read_from bytes 0 guids h
 
 -- ---- places
 
-spare_within : (spare : SpareRecord) (size : ℕ) → 512 ≤ size → 32 + 32 * length spare.arrays ≤ size → AreWithin size (seal_place ∷ places (spare_fields spare))
+spare_within : (spare : SpareRecord) (size : ℕ) → 512 ≤ size → SPARE_ENTRIES_AT + SPARE_ENTRY_BYTES * length spare.arrays ≤ size → AreWithin size (seal_place ∷ places (spare_fields spare))
 spare_within spare size long room =
-    within-append size (seal_place ∷ record { at = 8; length = 4 } ∷ record { at = 19; length = 1 } ∷ []) (places (entry_fields 32 spare.arrays)) (spare_head_within size long) (entries_within 32 size spare.arrays room)
+    within-append size (seal_place ∷ record { at = SPARE_TIMESTAMP_AT; length = 4 } ∷ record { at = SPARE_KIND_AT; length = 1 } ∷ []) (places (entry_fields SPARE_ENTRIES_AT spare.arrays)) (spare_head_within size long) (entries_within SPARE_ENTRIES_AT size spare.arrays room)
 
 spare_apart : (spare : SpareRecord) → AreAllApart (seal_place ∷ places (spare_fields spare))
 spare_apart spare =
-    let head : List Span = seal_place ∷ record { at = 8; length = 4 } ∷ record { at = 19; length = 1 } ∷ [] in
-    apart-append 32 head (places (entry_fields 32 spare.arrays)) (omega arith, (omega arith, (omega arith, tt))) (entries_from 32 32 spare.arrays (omega arith)) (apart_from_test head refl) (entries_apart 32 spare.arrays)
+    let head : List Span = seal_place ∷ record { at = SPARE_TIMESTAMP_AT; length = 4 } ∷ record { at = SPARE_KIND_AT; length = 1 } ∷ [] in
+    apart-append SPARE_ENTRIES_AT head (places (entry_fields SPARE_ENTRIES_AT spare.arrays)) (omega arith, (omega arith, (omega arith, tt))) (entries_from SPARE_ENTRIES_AT SPARE_ENTRIES_AT spare.arrays (omega arith)) (apart_from_test head refl) (entries_apart SPARE_ENTRIES_AT spare.arrays)
 
 -- as many entries as are read fit the record
-pub count_fits : (bytes : List ℕ) → 32 ≤ length bytes → 32 + 32 * spare_count bytes ≤ length bytes
+pub count_fits : (bytes : List ℕ) → SPARE_ENTRIES_AT ≤ length bytes → SPARE_ENTRIES_AT + SPARE_ENTRY_BYTES * spare_count bytes ≤ length bytes
 count_fits bytes long = omega arith
 
 -- no field is in the place of the populated count
-count_outside : (spare : SpareRecord) (i : ℕ) → 20 ≤ i → i < 22 → IsOutsideAll (seal_place ∷ places (spare_fields spare)) i
-count_outside spare i low high = (inr (omega arith), (inr (omega arith), (inr (omega arith), entries_outside 32 i spare.arrays (omega arith))))
+count_outside : (spare : SpareRecord) (i : ℕ) → SPARE_POPULATED_AT ≤ i → i < SPARE_POPULATED_AT + 2 → IsOutsideAll (seal_place ∷ places (spare_fields spare)) i
+count_outside spare i low high = (inr (omega arith), (inr (omega arith), (inr (omega arith), entries_outside SPARE_ENTRIES_AT i spare.arrays (omega arith))))
 
 -- the rest has the populated count of the bytes
-pub count_same : (spare : SpareRecord) (bytes : List ℕ) → 512 ≤ length bytes → 32 + 32 * length spare.arrays ≤ length bytes → IsRecordOf spare_signature (spare_fields spare) spare.rest bytes → spare_count spare.rest ≡ spare_count bytes
+pub count_same : (spare : SpareRecord) (bytes : List ℕ) → 512 ≤ length bytes → SPARE_ENTRIES_AT + SPARE_ENTRY_BYTES * length spare.arrays ≤ length bytes → IsRecordOf spare_signature (spare_fields spare) spare.rest bytes → spare_count spare.rest ≡ spare_count bytes
 count_same spare bytes long room is =
     let spans = seal_place ∷ places (spare_fields spare) in
     let outside = cleared_outside spans bytes (spare_within spare (length bytes) long room) in
-    let number : number_at w16 (cleared spans bytes) 20 ≡ number_at w16 bytes 20 =
-    ap (from_be_bytes w16) (bytes_at-same (IsOutsideAll spans) (cleared spans bytes) bytes (record { at = 20; length = 2 }) (omega arith) (count_outside spare) outside) in
-    ap spare_count is.others_stay ∙ ap (λ (n : ℕ). min n ((length (cleared spans bytes) - 32) / 32)) number ∙ ap (λ (n : ℕ). min (number_at w16 bytes 20) ((n - 32) / 32)) outside.size
+    let number : number_at w16 (cleared spans bytes) SPARE_POPULATED_AT ≡ number_at w16 bytes SPARE_POPULATED_AT =
+    ap (from_be_bytes w16) (bytes_at-same (IsOutsideAll spans) (cleared spans bytes) bytes (record { at = SPARE_POPULATED_AT; length = 2 }) (omega arith) (count_outside spare) outside) in
+    ap spare_count is.others_stay ∙ ap (λ (n : ℕ). min n ((length (cleared spans bytes) - SPARE_ENTRIES_AT) / SPARE_ENTRY_BYTES)) number ∙ ap (λ (n : ℕ). min (number_at w16 bytes SPARE_POPULATED_AT) ((n - SPARE_ENTRIES_AT) / SPARE_ENTRY_BYTES)) outside.size
 
 -- ---- both ways
 
@@ -103,7 +104,7 @@ spare_is geometry spare bytes is =
 
 -- ---- writing
 
-room_of : (geometry : Geometry) (spare : SpareRecord) (bytes : List ℕ) → 512 ≤ length bytes → length spare.arrays ≡ spare_count bytes → 32 + 32 * length spare.arrays ≤ length bytes
+room_of : (geometry : Geometry) (spare : SpareRecord) (bytes : List ℕ) → 512 ≤ length bytes → length spare.arrays ≡ spare_count bytes → SPARE_ENTRIES_AT + SPARE_ENTRY_BYTES * length spare.arrays ≤ length bytes
 room_of geometry spare bytes long counted = let fits = count_fits bytes (omega arith) in omega arith
 
 pub spare_again : (geometry : Geometry) (spare : SpareRecord) (bytes : List ℕ) → 512 ≤ record_size geometry → IsSpareOf geometry spare bytes → record_bytes spare_signature (spare_fields spare) spare.rest ≡ bytes

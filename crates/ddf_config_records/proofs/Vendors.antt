@@ -7,20 +7,21 @@ use Rattle.ddf_seal.specs.Records.{record_bytes}
 use Rattle.ddf_seal.proofs.Same.{AreWithin, cleared_outside}
 use Rattle.ddf_seal.proofs.Records.{apart_from_test, record_again, record_from_bytes, record_written, length-record_bytes}
 use Rattle.ddf_header.specs.declared.geometry.Geometry.{Geometry}
+use Rattle.ddf_config_records.specs.declared.layout.TheConstants.{VENDOR_GUID_AT}
 use Rattle.ddf_config_records.specs.Elements.{record_size}
 use Rattle.ddf_config_records.specs.Vendors.{vendor_signature, vendor_fields, vendor_rest, CanBeVendor, IsVendorOf}
 
 within : (guid : List ℕ) (size : ℕ) → 512 ≤ size → AreWithin size (seal_place ∷ places (vendor_fields guid))
 within guid size le = (omega arith, (omega arith, tt))
 
-pub vendor_at_is : (geometry : Geometry) (bytes : List ℕ) → length bytes ≡ record_size geometry → AreBytes bytes → IsSealed vendor_signature bytes → IsVendorOf geometry (bytes_at bytes 8 24) (vendor_rest bytes) bytes
+pub vendor_at_is : (geometry : Geometry) (bytes : List ℕ) → length bytes ≡ record_size geometry → AreBytes bytes → IsSealed vendor_signature bytes → IsVendorOf geometry (bytes_at bytes VENDOR_GUID_AT 24) (vendor_rest bytes) bytes
 unfolding vendor_rest
 vendor_at_is geometry bytes size are sealed = record {
   size = size;
   is_record = record { are_bytes = are; is_sealed = sealed; fields_stand = (refl, tt); others_stay = refl };
 }
 
-pub vendor_is : (geometry : Geometry) (guid rest bytes : List ℕ) → IsVendorOf geometry guid rest bytes → (bytes_at bytes 8 24 ≡ guid) × (vendor_rest bytes ≡ rest)
+pub vendor_is : (geometry : Geometry) (guid rest bytes : List ℕ) → IsVendorOf geometry guid rest bytes → (bytes_at bytes VENDOR_GUID_AT 24 ≡ guid) × (vendor_rest bytes ≡ rest)
 unfolding vendor_rest
 vendor_is geometry guid rest bytes is = (is.is_record.fields_stand.0, sym is.is_record.others_stay)
 

@@ -6,6 +6,7 @@ use Rattle.ddf_seal.specs.Seal.{seal_place}
 use Rattle.ddf_seal.specs.Unread.{Field, u16_at, cleared, placed, places, written}
 use Rattle.ddf_header.specs.declared.geometry.Geometry.{Geometry}
 use Rattle.ddf_config_records.specs.declared.spare.SpareRecord.{SpareRecord}
+use Rattle.ddf_config_records.specs.declared.layout.TheConstants.{CACHE_AT, SPARE_POPULATED_AT, SPARE_MAXIMUM_AT, SPARE_ENTRIES_AT, SPARE_ENTRY_BYTES, SPARE_SECONDARY_AT}
 use Rattle.ddf_config_records.specs.ElementValue.{ElementValue}
 use Rattle.ddf_config_records.specs.Elements.{element_fields, record_size}
 use Rattle.ddf_config_records.specs.Spares.{spare_fields}
@@ -26,7 +27,7 @@ element_over geometry bytes element = record element { rest = element_unread geo
 
 -- A new record has FF in all bytes, and zeros in the cache bytes 128 to 135.
 unfoldable pub new_record_bytes : Geometry → List ℕ
-new_record_bytes geometry = placed (replicate (record_size geometry) 255) 128 (replicate 8 0)
+new_record_bytes geometry = placed (replicate (record_size geometry) 255) CACHE_AT (replicate 8 0)
 
 -- an element over a new record
 abbrev pub fresh_element : Geometry → ElementValue → ElementValue
@@ -36,16 +37,16 @@ fresh_element geometry element = record element { rest = element_unread geometry
 
 -- how many arrays a spare record has room for
 abbrev pub spare_entries : Geometry → ℕ
-spare_entries geometry = (record_size geometry - 32) / 32
+spare_entries geometry = (record_size geometry - SPARE_ENTRIES_AT) / SPARE_ENTRY_BYTES
 
 -- secondary element 0 in so many entries
 abbrev pub secondary_fields : ℕ → List Field
-secondary_fields count = map (λ index. u16_at (56 + 32 * index) 0) (range_with_len 0 count)
+secondary_fields count = map (λ index. u16_at (SPARE_ENTRIES_AT + SPARE_SECONDARY_AT + SPARE_ENTRY_BYTES * index) 0) (range_with_len 0 count)
 
 -- The numbers of a spare record that no field of it names and that its arrays give: the populated count, the maximum, and the
 -- secondary element of each entry.
 abbrev pub spare_numbers : Geometry → (arrays : ℕ) → List Field
-spare_numbers geometry arrays = u16_at 20 arrays ∷ u16_at 22 (spare_entries geometry) ∷ secondary_fields arrays
+spare_numbers geometry arrays = u16_at SPARE_POPULATED_AT arrays ∷ u16_at SPARE_MAXIMUM_AT (spare_entries geometry) ∷ secondary_fields arrays
 
 -- the bytes of an old record but its seal, or else FF
 abbrev pub spare_bytes : Geometry → Option SpareRecord → List ℕ

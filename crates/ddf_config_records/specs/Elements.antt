@@ -12,6 +12,7 @@ use Rattle.ddf_header.specs.declared.geometry.Geometry.{Geometry}
 use Rattle.ddf_config_records.specs.declared.place.Place.{Place}
 use Rattle.ddf_config_records.specs.declared.fault.ElementFault.{ElementFault}
 use Rattle.ddf_config_records.specs.declared.fault.ElementFault.TheVariants as faults
+use Rattle.ddf_config_records.specs.declared.layout.TheConstants.{GUID_AT, TIMESTAMP_AT, SEQUENCE_AT, MEMBERS_AT, STRIP_AT, LEVEL_AT, QUALIFIER_AT, ELEMENTS_AT, INDEX_AT, SECONDARY_AT, BLOCKS_AT, SIZE_AT, BLOCK_SIZE_AT, SPARES_AT, REFERENCES_AT}
 use Rattle.ddf_config_records.specs.ElementValue.{ElementValue}
 
 -- the bytes of each record
@@ -21,7 +22,7 @@ record_size geometry = 512 * geometry.record_length
 -- What a geometry without a fault has: a record has room for the references and starting LBAs of as many members as are
 -- allowed, and a bit for each of these fills whole bytes.
 pub record HasRoom (geometry : Geometry) : Type 0 where
-  pub whole : 512 + 12 * geometry.max_members ≤ record_size geometry
+  pub whole : REFERENCES_AT + 12 * geometry.max_members ≤ record_size geometry
   pub bits : 8 * (geometry.max_members / 8) ≡ geometry.max_members
 
 -- ---- the table of fields
@@ -29,24 +30,24 @@ pub record HasRoom (geometry : Geometry) : Type 0 where
 -- the fields in the first sector
 abbrev pub name_fields : ElementValue → List Field
 name_fields element =
-    plain_at 8 24 element.array
-    ∷ u32_at 32 element.timestamp
-    ∷ u32_at 36 element.sequence
-    ∷ u16_at 64 (length element.members)
-    ∷ u8_at 66 element.strip
-    ∷ u8_at 67 element.level
-    ∷ u8_at 68 element.qualifier
+    plain_at GUID_AT 24 element.array
+    ∷ u32_at TIMESTAMP_AT element.timestamp
+    ∷ u32_at SEQUENCE_AT element.sequence
+    ∷ u16_at MEMBERS_AT (length element.members)
+    ∷ u8_at STRIP_AT element.strip
+    ∷ u8_at LEVEL_AT element.level
+    ∷ u8_at QUALIFIER_AT element.qualifier
     ∷ []
 
 abbrev pub shape_fields : ElementValue → List Field
 shape_fields element =
-    u8_at 69 element.elements
-    ∷ u8_at 70 element.index
-    ∷ u8_at 71 element.secondary
-    ∷ u64_at 72 element.blocks
-    ∷ u64_at 80 element.size
-    ∷ u16_at 88 element.block_size
-    ∷ u32s_at 96 8 element.spares
+    u8_at ELEMENTS_AT element.elements
+    ∷ u8_at INDEX_AT element.index
+    ∷ u8_at SECONDARY_AT element.secondary
+    ∷ u64_at BLOCKS_AT element.blocks
+    ∷ u64_at SIZE_AT element.size
+    ∷ u16_at BLOCK_SIZE_AT element.block_size
+    ∷ u32s_at SPARES_AT 8 element.spares
     ∷ []
 
 abbrev pub head_fields : ElementValue → List Field
@@ -56,13 +57,13 @@ head_fields element = name_fields element ++ shape_fields element
 -- geometry allows.
 abbrev pub member_fields : ℕ → ElementValue → List Field
 member_fields most element =
-    u32s_at 512 (length element.members) (map (λ member. member.reference) element.members)
-    ∷ u64s_at (512 + 4 * most) (length element.members) (map (λ member. member.start) element.members)
+    u32s_at REFERENCES_AT (length element.members) (map (λ member. member.reference) element.members)
+    ∷ u64s_at (REFERENCES_AT + 4 * most) (length element.members) (map (λ member. member.start) element.members)
     ∷ []
 
 -- the places of so many members' references and starting LBAs
 abbrev pub member_places : (most count : ℕ) → List Span
-member_places most count = record { at = 512; length = 4 * count } ∷ record { at = 512 + 4 * most; length = 8 * count } ∷ []
+member_places most count = record { at = REFERENCES_AT; length = 4 * count } ∷ record { at = REFERENCES_AT + 4 * most; length = 8 * count } ∷ []
 
 -- all fields, in order
 abbrev pub element_fields : ℕ → ElementValue → List Field
@@ -109,13 +110,13 @@ pub record IsElementOf (signature : ℕ) (geometry : Geometry) (element : Elemen
 -- what is wrong with the element of a record
 abbrev pub element_fault_at : ℕ → List ℕ → Option ElementFault
 element_fault_at most bytes =
-    fault_of most (number_at w16 bytes 64) (slice_index bytes 66) (slice_index bytes 67) (slice_index bytes 69) (slice_index bytes 70) (number_at w16 bytes 88)
+    fault_of most (number_at w16 bytes MEMBERS_AT) (slice_index bytes STRIP_AT) (slice_index bytes LEVEL_AT) (slice_index bytes ELEMENTS_AT) (slice_index bytes INDEX_AT) (number_at w16 bytes BLOCK_SIZE_AT)
 
 -- the member of an index
 abbrev pub member_at : ℕ → List ℕ → ℕ → Place
 member_at most bytes index = record {
-  reference = number_at w32 bytes (512 + 4 * index);
-  start = number_at w64 bytes (512 + 4 * most + 8 * index);
+  reference = number_at w32 bytes (REFERENCES_AT + 4 * index);
+  start = number_at w64 bytes (REFERENCES_AT + 4 * most + 8 * index);
 }
 
 unfoldable pub members_at : ℕ → List ℕ → ℕ → List Place
@@ -124,20 +125,20 @@ members_at most bytes count = map (member_at most bytes) (range_with_len 0 count
 -- the value of each field, and these bytes as the rest
 unfoldable pub element_with : ℕ → List ℕ → List ℕ → ElementValue
 element_with most bytes rest = record {
-  array = bytes_at bytes 8 24;
-  timestamp = number_at w32 bytes 32;
-  sequence = number_at w32 bytes 36;
-  strip = slice_index bytes 66;
-  level = slice_index bytes 67;
-  qualifier = slice_index bytes 68;
-  elements = slice_index bytes 69;
-  index = slice_index bytes 70;
-  secondary = slice_index bytes 71;
-  blocks = number_at w64 bytes 72;
-  size = number_at w64 bytes 80;
-  block_size = number_at w16 bytes 88;
-  spares = numbers32_at bytes 96 8;
-  members = members_at most bytes (number_at w16 bytes 64);
+  array = bytes_at bytes GUID_AT 24;
+  timestamp = number_at w32 bytes TIMESTAMP_AT;
+  sequence = number_at w32 bytes SEQUENCE_AT;
+  strip = slice_index bytes STRIP_AT;
+  level = slice_index bytes LEVEL_AT;
+  qualifier = slice_index bytes QUALIFIER_AT;
+  elements = slice_index bytes ELEMENTS_AT;
+  index = slice_index bytes INDEX_AT;
+  secondary = slice_index bytes SECONDARY_AT;
+  blocks = number_at w64 bytes BLOCKS_AT;
+  size = number_at w64 bytes SIZE_AT;
+  block_size = number_at w16 bytes BLOCK_SIZE_AT;
+  spares = numbers32_at bytes SPARES_AT 8;
+  members = members_at most bytes (number_at w16 bytes MEMBERS_AT);
   rest = rest;
 }
 

@@ -9,28 +9,29 @@ use Rattle.ddf_seal.specs.Unread.{Field, Fits, u8_at, u16_at, u32_at, u64_at, pl
 use Rattle.ddf_header.specs.declared.geometry.Geometry.{Geometry}
 use Rattle.ddf_config_records.specs.declared.notes.SlotNote.{SlotNote}
 use Rattle.ddf_config_records.specs.declared.notes.Notes.{Notes}
+use Rattle.ddf_config_records.specs.declared.layout.TheConstants.{NOTES_GROUP_AT, NOTES_NAME_AT, NOTES_SEQUENCE_AT, NOTES_SLOTS_AT, NOTES_MEMBERS_AT, NOTES_ZEROS_AT, NOTES_AT, NOTE_POSITION_AT, NOTE_ZERO_AT, NOTE_ZEROS_AT, NOTE_ROW_AT, NOTE_BITS_AT}
 use Rattle.ddf_config_records.specs.Bits.{positions, bits_of, IsRising}
 use Rattle.ddf_config_records.specs.Elements.{record_size}
 use Rattle.ddf_config_records.specs.Vendors.{vendor_signature}
 
 -- the bytes of a note: 16, and a bit for each member that the geometry allows
 abbrev pub note_size : ℕ → ℕ
-note_size most = 16 + most / 8
+note_size most = NOTE_BITS_AT + most / 8
 
 -- where the note of a slot begins
 abbrev pub note_place : (most slot : ℕ) → ℕ
-note_place most slot = 64 + slot * note_size most
+note_place most slot = NOTES_AT + slot * note_size most
 
 -- ---- the table of fields
 
 abbrev pub note_fields : (most at : ℕ) → SlotNote → List Field
 note_fields most at note =
     u8_at at (if note.copied then 1 else 0)
-    ∷ u8_at (at + 1) 0
-    ∷ u16_at (at + 2) note.position
-    ∷ u32_at (at + 4) 0
-    ∷ u64_at (at + 8) note.row
-    ∷ plain_at (at + 16) (most / 8) (bits_of (most / 8) note.out)
+    ∷ u8_at (at + NOTE_ZERO_AT) 0
+    ∷ u16_at (at + NOTE_POSITION_AT) note.position
+    ∷ u32_at (at + NOTE_ZEROS_AT) 0
+    ∷ u64_at (at + NOTE_ROW_AT) note.row
+    ∷ plain_at (at + NOTE_BITS_AT) (most / 8) (bits_of (most / 8) note.out)
     ∷ []
 
 -- the fields of notes that follow one another
@@ -40,12 +41,12 @@ all_note_fields most at (note ∷ notes) = note_fields most at note ++ all_note_
 
 abbrev pub head_fields : ℕ → Notes → List Field
 head_fields most notes =
-    plain_at 8 24 notes.group
-    ∷ plain_at 32 8 (codes "RDDFNOTE")
-    ∷ u32_at 40 notes.sequence
-    ∷ u16_at 44 (length notes.slots)
-    ∷ u16_at 46 most
-    ∷ plain_at 48 16 (replicate 16 0)
+    plain_at NOTES_GROUP_AT 24 notes.group
+    ∷ plain_at NOTES_NAME_AT 8 (codes "RDDFNOTE")
+    ∷ u32_at NOTES_SEQUENCE_AT notes.sequence
+    ∷ u16_at NOTES_SLOTS_AT (length notes.slots)
+    ∷ u16_at NOTES_MEMBERS_AT most
+    ∷ plain_at NOTES_ZEROS_AT 16 (replicate 16 0)
     ∷ []
 
 -- FF in all bytes behind the notes of so many slots
@@ -54,7 +55,7 @@ filling most size count = plain_at (note_place most count) (size - note_place mo
 
 -- All fields: they leave no byte of the record out.
 abbrev pub notes_fields : (most size : ℕ) → Notes → List Field
-notes_fields most size notes = head_fields most notes ++ (all_note_fields most 64 notes.slots ++ filling most size (length notes.slots) ∷ [])
+notes_fields most size notes = head_fields most notes ++ (all_note_fields most NOTES_AT notes.slots ++ filling most size (length notes.slots) ∷ [])
 
 -- Notes can be written under a geometry in a section of so many slots: there is one for each slot, they fit the record, their
 -- numbers fit, and the positions that are out of sync rise.
@@ -77,18 +78,18 @@ pub record IsNotesOf (geometry : Geometry) (count : ℕ) (notes : Notes) (bytes 
 
 -- a note may stand here
 abbrev pub is_note : List ℕ → (at : ℕ) → Bool
-is_note bytes at = nat_le (slice_index bytes at) 1 && (slice_index bytes (at + 1) == 0 && number_at w32 bytes (at + 4) == 0)
+is_note bytes at = nat_le (slice_index bytes at) 1 && (slice_index bytes (at + NOTE_ZERO_AT) == 0 && number_at w32 bytes (at + NOTE_ZEROS_AT) == 0)
 
 -- the name of a notes record
 unfoldable pub is_named : List ℕ → Bool
-is_named bytes = bytes_eq (bytes_at bytes 32 8) (codes "RDDFNOTE")
+is_named bytes = bytes_eq (bytes_at bytes NOTES_NAME_AT 8) (codes "RDDFNOTE")
 
 -- how many slots and members there are
 unfoldable pub has_numbers : (most count : ℕ) → List ℕ → Bool
-has_numbers most count bytes = number_at w16 bytes 44 == count && number_at w16 bytes 46 == most
+has_numbers most count bytes = number_at w16 bytes NOTES_SLOTS_AT == count && number_at w16 bytes NOTES_MEMBERS_AT == most
 
 abbrev pub is_headed : (most count : ℕ) → List ℕ → Bool
-is_headed most count bytes = is_named bytes && (has_numbers most count bytes && list_all (λ byte. byte == 0) (bytes_at bytes 48 16))
+is_headed most count bytes = is_named bytes && (has_numbers most count bytes && list_all (λ byte. byte == 0) (bytes_at bytes NOTES_ZEROS_AT 16))
 
 -- The bytes of a record are notes, where the section has so many slots and the geometry allows so many members.
 unfoldable pub is_notes : (most count : ℕ) → List ℕ → Bool
@@ -101,9 +102,9 @@ is_notes most count bytes =
 unfoldable pub note_at : (most : ℕ) → List ℕ → (at : ℕ) → SlotNote
 note_at most bytes at = record {
   copied = slice_index bytes at == 1;
-  position = number_at w16 bytes (at + 2);
-  row = number_at w64 bytes (at + 8);
-  out = positions most (bytes_at bytes (at + 16) (most / 8));
+  position = number_at w16 bytes (at + NOTE_POSITION_AT);
+  row = number_at w64 bytes (at + NOTE_ROW_AT);
+  out = positions most (bytes_at bytes (at + NOTE_BITS_AT) (most / 8));
 }
 
 unfoldable pub notes_of_slots : (most count : ℕ) → List ℕ → List SlotNote
@@ -112,7 +113,7 @@ notes_of_slots most count bytes = map (λ slot. note_at most bytes (note_place m
 -- the notes that stand in a record
 abbrev pub notes_at : (most count : ℕ) → List ℕ → Notes
 notes_at most count bytes = record {
-  group = bytes_at bytes 8 24;
-  sequence = number_at w32 bytes 40;
+  group = bytes_at bytes NOTES_GROUP_AT 24;
+  sequence = number_at w32 bytes NOTES_SEQUENCE_AT;
   slots = notes_of_slots most count bytes;
 }

@@ -17,6 +17,7 @@ use Rattle.ddf_config_records.specs.declared.notes.SlotNote.{SlotNote}
 use Rattle.ddf_config_records.specs.declared.notes.Notes.{Notes}
 use Rattle.ddf_config_records.specs.declared.slot.RecordSlot.{RecordSlot}
 use Rattle.ddf_config_records.specs.declared.slot.RecordSlot.TheVariants as slots
+use Rattle.ddf_config_records.specs.declared.layout.TheConstants.{VENDOR_GUID_AT, SPARE_ENTRIES_AT, SPARE_ENTRY_BYTES}
 use Rattle.ddf_config_records.specs.Bits.{AreBelow}
 use Rattle.ddf_config_records.specs.Elements.{record_size, element_fields, element_fault_at, element_at, CanBeElement, IsElementOf}
 use Rattle.ddf_config_records.specs.Spares.{spare_signature, spare_fields, spare_at, CanBeSpare, IsSpareOf}
@@ -140,7 +141,7 @@ abbrev pub vendor_slot : (most count : ℕ) → (listed : Bool) → List ℕ →
 vendor_slot most count listed bytes =
     if is_notes most count bytes then slots.Notes (notes_at most count bytes)
     else if is_copy most listed bytes then slots.Copied (element_at most bytes)
-    else slots.Vendor (bytes_at bytes 8 24) (vendor_rest bytes)
+    else slots.Vendor (bytes_at bytes VENDOR_GUID_AT 24) (vendor_rest bytes)
 
 -- the slot that stands in these bytes
 unfoldable pub slot_at : (most count : ℕ) → (listed : Bool) → List ℕ → RecordSlot
@@ -196,7 +197,7 @@ pub record DoNotesFit (geometry : Geometry) (notes : Notes) : Type 0 where
 unfoldable pub FitsSlot : Geometry → RecordSlot → Type 0
 FitsSlot geometry (slots.Element element) = (length element.rest ≡ record_size geometry) × (length element.members ≤ geometry.max_members)
 FitsSlot geometry (slots.Copied element) = (length element.rest ≡ record_size geometry) × (length element.members ≤ geometry.max_members)
-FitsSlot geometry (slots.Spare spare) = (length spare.rest ≡ record_size geometry) × (32 + 32 * length spare.arrays ≤ record_size geometry)
+FitsSlot geometry (slots.Spare spare) = (length spare.rest ≡ record_size geometry) × (SPARE_ENTRIES_AT + SPARE_ENTRY_BYTES * length spare.arrays ≤ record_size geometry)
 FitsSlot geometry (slots.Notes notes) = DoNotesFit geometry notes
 FitsSlot geometry (slots.Vendor guid rest) = length rest ≡ record_size geometry
 FitsSlot geometry (slots.Unread fault kept) = length kept ≡ record_size geometry

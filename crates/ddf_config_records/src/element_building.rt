@@ -3,6 +3,7 @@ ghost use Rattle.std.specs.Prelude.{◌≡◌, ◌≤◌, ◌<◌, ◌^◌, ◌+
 ghost use Rattle.std.specs.List.{AllByRecursion};
 ghost use Rattle.ddf_seal.specs.Seal.{seal_place};
 ghost use Rattle.ddf_seal.specs.Unread.{Fits, cleared, placed, places, written};
+ghost use Rattle.ddf_config_records.specs.declared.layout.TheConstants.{CACHE_AT, REFERENCES_AT};
 ghost use Rattle.ddf_config_records.specs.ElementValue.{ElementValue};
 ghost use Rattle.ddf_config_records.specs.Elements.{CanBeElement, HasRoom, element_fault, element_fields, record_size};
 ghost use Rattle.ddf_config_records.specs.Building.{element_over, fresh_element, new_record_bytes};
@@ -75,7 +76,7 @@ fn with_rest(element: Element, rest: Vec<u8>) -> Element
 /// The bytes of an element's record but its seal.
 fn bytes_of(alloc: Global, element: &Element, most: u16) -> Result<Vec<u8>, NoMemory>
     requires few { length element.now.members ≤ most }
-    requires whole { 512 + 12 * most ≤ length element.now.rest }
+    requires whole { REFERENCES_AT + 12 * most ≤ length element.now.rest }
     ensures exact { IfOk result (λ bytes.
         bytes.items ≡ written (element_fields most element.now) element.now.rest) }
     ensures size { IfOk result (λ bytes. length bytes.items ≡ length element.now.rest) }
@@ -88,7 +89,7 @@ fn bytes_of(alloc: Global, element: &Element, most: u16) -> Result<Vec<u8>, NoMe
 /// Writes the fields of an element.
 fn put_fields(into: &mut [u8], element: &Element, most: u16)
     requires few { length element.now.members ≤ most }
-    requires whole { 512 + 12 * most ≤ length into.old }
+    requires whole { REFERENCES_AT + 12 * most ≤ length into.old }
     ensures { into.new ≡ written (element_fields most element.now) into.old }
 {
     put_names(into, element);
@@ -99,7 +100,7 @@ fn put_fields(into: &mut [u8], element: &Element, most: u16)
 /// Writes zeros in the places of the seal and of the fields of an element with so many members.
 fn clear_fields(bytes: &mut Vec<u8>, members: usize, most: u16)
     requires few { members ≤ most }
-    requires whole { 512 + 12 * most ≤ length bytes.old.items }
+    requires whole { REFERENCES_AT + 12 * most ≤ length bytes.old.items }
     ensures { (element : ElementValue) → length element.members ≡ members
         → bytes.new.items ≡ cleared (seal_place ∷ places (element_fields most element)) bytes.old.items }
 {
@@ -121,7 +122,7 @@ fn new_record(alloc: Global, geometry: &Geometry) -> Result<Vec<u8>, NoMemory>
 
 fn clear_cache(bytes: &mut [u8])
     requires { 512 ≤ length bytes.old }
-    ensures { bytes.new ≡ placed bytes.old 128 (replicate 8 0) }
+    ensures { bytes.new ≡ placed bytes.old CACHE_AT (replicate 8 0) }
 {
-    place(bytes, layout::CACHE, &[0; 8]);
+    place(bytes, layout::CACHE_AT, &[0; 8]);
 }

@@ -4,6 +4,7 @@ ghost use Rattle.std.specs.Prelude.{◌≡◌, ◌+◌, ◌*◌, ◌≤◌, leng
 ghost use Rattle.std.specs.Int.{w16};
 ghost use Rattle.ddf_bytes.specs.Bytes.{number_at};
 ghost use Rattle.ddf_seal.specs.Unread.{numbers32_at};
+ghost use Rattle.ddf_config_records.specs.declared.layout.TheConstants.{MEMBERS_AT, SPARES_AT, REFERENCES_AT};
 ghost use Rattle.ddf_config_records.specs.Elements.{
   element_at,
   element_fault_at,
@@ -33,19 +34,19 @@ pub(crate) fn element_fault(bytes: &[u8], most: u16) -> Option<ElementFault>
     requires { 512 ≤ length bytes.now }
     ensures { result ≡ element_fault_at most bytes.now }
 {
-    let members = be16(bytes, layout::MEMBERS);
+    let members = be16(bytes, layout::MEMBERS_AT);
     if members == 0 || members > most || members > MOST_MEMBERS {
         return Some(ElementFault::Members(members));
     }
-    let strip = bytes[layout::STRIP];
-    let elements = bytes[layout::ELEMENTS];
-    if strip > 31 && !has_no_strip(bytes[layout::LEVEL], elements) {
+    let strip = bytes[layout::STRIP_AT];
+    let elements = bytes[layout::ELEMENTS_AT];
+    if strip > 31 && !has_no_strip(bytes[layout::LEVEL_AT], elements) {
         return Some(ElementFault::Stripe(strip));
     }
-    if elements == 0 || elements > 16 || bytes[layout::INDEX] >= elements {
+    if elements == 0 || elements > 16 || bytes[layout::INDEX_AT] >= elements {
         return Some(ElementFault::Secondary(elements));
     }
-    let block_size = be16(bytes, layout::BLOCK_SIZE);
+    let block_size = be16(bytes, layout::BLOCK_SIZE_AT);
     if !matches!(block_size, 0 | 512 | 0xFFFF) {
         return Some(ElementFault::Block(block_size));
     }
@@ -61,7 +62,7 @@ fn has_no_strip(level: u8, elements: u8) -> bool
 
 /// The element of a record that has none of its faults.
 pub(crate) fn read_element(alloc: Global, bytes: &[u8], most: u16) -> Result<Element, NoMemory>
-    requires whole { 512 + 12 * most ≤ length bytes.now }
+    requires whole { REFERENCES_AT + 12 * most ≤ length bytes.now }
     requires sound { element_fault_at most bytes.now ≡ None }
     ensures { IfOk result (λ element. element ≡ element_at most bytes.now) }
 {
@@ -71,24 +72,24 @@ pub(crate) fn read_element(alloc: Global, bytes: &[u8], most: u16) -> Result<Ele
 
 #[tactic(auto, unfolding(crate::specs::Elements::element_with))]
 fn with_rest(bytes: &[u8], most: u16, rest: Seq<u8>) -> Element
-    requires whole { 512 + 12 * most ≤ length bytes.now }
-    requires allowed { number_at w16 bytes.now 64 ≤ most }
-    requires few { number_at w16 bytes.now 64 ≤ 64 }
+    requires whole { REFERENCES_AT + 12 * most ≤ length bytes.now }
+    requires allowed { number_at w16 bytes.now MEMBERS_AT ≤ most }
+    requires few { number_at w16 bytes.now MEMBERS_AT ≤ 64 }
     ensures { result ≡ element_with most bytes.now rest }
 {
     Element {
-        array: guid_at(bytes, layout::GUID),
-        timestamp: be32(bytes, layout::TIMESTAMP),
-        sequence: be32(bytes, layout::SEQUENCE),
-        strip: bytes[layout::STRIP],
-        level: bytes[layout::LEVEL],
-        qualifier: bytes[layout::QUALIFIER],
-        elements: bytes[layout::ELEMENTS],
-        index: bytes[layout::INDEX],
-        secondary: bytes[layout::SECONDARY],
-        blocks: be64(bytes, layout::BLOCKS),
-        size: be64(bytes, layout::SIZE),
-        block_size: be16(bytes, layout::BLOCK_SIZE),
+        array: guid_at(bytes, layout::GUID_AT),
+        timestamp: be32(bytes, layout::TIMESTAMP_AT),
+        sequence: be32(bytes, layout::SEQUENCE_AT),
+        strip: bytes[layout::STRIP_AT],
+        level: bytes[layout::LEVEL_AT],
+        qualifier: bytes[layout::QUALIFIER_AT],
+        elements: bytes[layout::ELEMENTS_AT],
+        index: bytes[layout::INDEX_AT],
+        secondary: bytes[layout::SECONDARY_AT],
+        blocks: be64(bytes, layout::BLOCKS_AT),
+        size: be64(bytes, layout::SIZE_AT),
+        block_size: be16(bytes, layout::BLOCK_SIZE_AT),
         spares: spares(bytes),
         members: members(bytes, most),
         rest,
@@ -97,11 +98,11 @@ fn with_rest(bytes: &[u8], most: u16, rest: Seq<u8>) -> Element
 
 /// The bytes of the record that no field names.
 fn unread(alloc: Global, bytes: &[u8], most: u16) -> Result<Seq<u8>, NoMemory>
-    requires whole { 512 + 12 * most ≤ length bytes.now }
-    requires allowed { number_at w16 bytes.now 64 ≤ most }
+    requires whole { REFERENCES_AT + 12 * most ≤ length bytes.now }
+    requires allowed { number_at w16 bytes.now MEMBERS_AT ≤ most }
     ensures { IfOk result (λ rest. rest ≡ element_rest most bytes.now) }
 {
-    let count = usize::from(be16(bytes, layout::MEMBERS));
+    let count = usize::from(be16(bytes, layout::MEMBERS_AT));
     let mut rest = rest_of(alloc, bytes, &layout::HEAD)?;
     clear_more(&mut rest, &member_spans(most, count));
     Ok(Seq::new(rest))
@@ -114,11 +115,11 @@ pub(crate) fn member_spans(most: u16, count: usize) -> [Span; 2]
 {
     [
         Span {
-            at: layout::REFERENCES,
+            at: layout::REFERENCES_AT,
             length: 4 * count,
         },
         Span {
-            at: layout::REFERENCES + 4 * usize::from(most),
+            at: layout::REFERENCES_AT + 4 * usize::from(most),
             length: 8 * count,
         },
     ]
@@ -126,32 +127,32 @@ pub(crate) fn member_spans(most: u16, count: usize) -> [Span; 2]
 
 fn spares(bytes: &[u8]) -> [u32; 8]
     requires { 512 ≤ length bytes.now }
-    ensures { result ≡ numbers32_at bytes.now 96 8 }
+    ensures { result ≡ numbers32_at bytes.now SPARES_AT 8 }
 {
     [
-        be32(bytes, layout::SPARES),
-        be32(bytes, layout::SPARES + 4),
-        be32(bytes, layout::SPARES + 8),
-        be32(bytes, layout::SPARES + 12),
-        be32(bytes, layout::SPARES + 16),
-        be32(bytes, layout::SPARES + 20),
-        be32(bytes, layout::SPARES + 24),
-        be32(bytes, layout::SPARES + 28),
+        be32(bytes, layout::SPARES_AT),
+        be32(bytes, layout::SPARES_AT + 4),
+        be32(bytes, layout::SPARES_AT + 8),
+        be32(bytes, layout::SPARES_AT + 12),
+        be32(bytes, layout::SPARES_AT + 16),
+        be32(bytes, layout::SPARES_AT + 20),
+        be32(bytes, layout::SPARES_AT + 24),
+        be32(bytes, layout::SPARES_AT + 28),
     ]
 }
 
 fn members(bytes: &[u8], most: u16) -> ArrayVec<Place, 64>
-    requires whole { 512 + 12 * most ≤ length bytes.now }
-    requires allowed { number_at w16 bytes.now 64 ≤ most }
-    requires few { number_at w16 bytes.now 64 ≤ 64 }
-    ensures { result.items ≡ members_at most bytes.now (number_at w16 bytes.now 64) }
+    requires whole { REFERENCES_AT + 12 * most ≤ length bytes.now }
+    requires allowed { number_at w16 bytes.now MEMBERS_AT ≤ most }
+    requires few { number_at w16 bytes.now MEMBERS_AT ≤ 64 }
+    ensures { result.items ≡ members_at most bytes.now (number_at w16 bytes.now MEMBERS_AT) }
 {
-    let starts = layout::REFERENCES + 4 * usize::from(most);
-    let count = usize::from(be16(bytes, layout::MEMBERS));
+    let starts = layout::REFERENCES_AT + 4 * usize::from(most);
+    let count = usize::from(be16(bytes, layout::MEMBERS_AT));
     let mut members = ArrayVec::new();
     for index in 0..count {
         members.push(Place {
-            reference: be32(bytes, layout::REFERENCES + 4 * index),
+            reference: be32(bytes, layout::REFERENCES_AT + 4 * index),
             start: be64(bytes, starts + 8 * index),
         });
     }

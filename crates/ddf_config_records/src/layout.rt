@@ -1,96 +1,111 @@
 //! Where the fields of the configuration records stand (SNIA DDF 2.0).
 use ddf_seal::{SEAL, Span};
 
-pub(crate) const GUID: usize = 8;
+/// Offset of the GUID of the array.
+pub const GUID_AT: usize = 8;
 
-pub(crate) const TIMESTAMP: usize = 32;
+/// Offset of the timestamp.
+pub const TIMESTAMP_AT: usize = 32;
 
-pub(crate) const SEQUENCE: usize = 36;
+/// Offset of the sequence number of the update that last altered the record.
+pub const SEQUENCE_AT: usize = 36;
 
-pub(crate) const MEMBERS: usize = 64;
+/// Offset of the count of the members.
+pub const MEMBERS_AT: usize = 64;
 
-pub(crate) const STRIP: usize = 66;
+/// Offset of the stripe size code n.
+pub const STRIP_AT: usize = 66;
 
-pub(crate) const LEVEL: usize = 67;
+/// Offset of the RAID level.
+pub const LEVEL_AT: usize = 67;
 
-pub(crate) const QUALIFIER: usize = 68;
+/// Offset of the qualifier of the level.
+pub const QUALIFIER_AT: usize = 68;
 
-pub(crate) const ELEMENTS: usize = 69;
+/// Offset of the count of the array's elements.
+pub const ELEMENTS_AT: usize = 69;
 
-pub(crate) const INDEX: usize = 70;
+/// Offset of the place of this element among them.
+pub const INDEX_AT: usize = 70;
 
-pub(crate) const SECONDARY: usize = 71;
+/// Offset of the level over the elements.
+pub const SECONDARY_AT: usize = 71;
 
-pub(crate) const BLOCKS: usize = 72;
+/// Offset of the sectors of each member.
+pub const BLOCKS_AT: usize = 72;
 
-pub(crate) const SIZE: usize = 80;
+/// Offset of the sectors of the array.
+pub const SIZE_AT: usize = 80;
 
-pub(crate) const BLOCK_SIZE: usize = 88;
+/// Offset of the bytes of a block.
+pub const BLOCK_SIZE_AT: usize = 88;
 
-pub(crate) const SPARES: usize = 96;
+/// Offset of the associated spares: eight references.
+pub const SPARES_AT: usize = 96;
 
-/// The cache policies and parameters of the array: eight bytes, which no field names.
-pub(crate) const CACHE: usize = 128;
+/// Offset of the cache policies and parameters: eight bytes, unread.
+pub const CACHE_AT: usize = 128;
 
-pub(crate) const REFERENCES: usize = 512;
+/// Offset of the references of the members: behind those of as many members as the header allows stand the LBAs of their first sectors.
+pub const REFERENCES_AT: usize = 512;
 
 /// The places of the seal and of the fields of an element record in its first sector.
 pub(crate) const HEAD: [Span; 15] = [
     SEAL,
     Span {
-        at: GUID,
+        at: GUID_AT,
         length: 24,
     },
     Span {
-        at: TIMESTAMP,
+        at: TIMESTAMP_AT,
         length: 4,
     },
     Span {
-        at: SEQUENCE,
+        at: SEQUENCE_AT,
         length: 4,
     },
     Span {
-        at: MEMBERS,
+        at: MEMBERS_AT,
         length: 2,
     },
     Span {
-        at: STRIP,
+        at: STRIP_AT,
         length: 1,
     },
     Span {
-        at: LEVEL,
+        at: LEVEL_AT,
         length: 1,
     },
     Span {
-        at: QUALIFIER,
+        at: QUALIFIER_AT,
         length: 1,
     },
     Span {
-        at: ELEMENTS,
+        at: ELEMENTS_AT,
         length: 1,
     },
     Span {
-        at: INDEX,
+        at: INDEX_AT,
         length: 1,
     },
     Span {
-        at: SECONDARY,
+        at: SECONDARY_AT,
         length: 1,
     },
     Span {
-        at: BLOCKS,
+        at: BLOCKS_AT,
         length: 8,
     },
     Span {
-        at: SIZE,
+        at: SIZE_AT,
         length: 8,
     },
     Span {
-        at: BLOCK_SIZE,
+        at: BLOCK_SIZE_AT,
         length: 2,
     },
     Span {
-        at: SPARES,
+        at: SPARES_AT,
         length: 32,
     },
 ];
@@ -101,41 +116,48 @@ pub(crate) const VENDOR_SIGNATURE: u32 = 0x8888_8888;
 
 pub(crate) const SPARE_SIGNATURE: u32 = 0x5555_5555;
 
+/// Offset of the GUID of the vendor's record.
+pub const VENDOR_GUID_AT: usize = 8;
+
 /// The places of the seal and of the GUID of a vendor's record.
 pub(crate) const VENDOR_HEAD: [Span; 2] = [
     SEAL,
     Span {
-        at: GUID,
+        at: VENDOR_GUID_AT,
         length: 24,
     },
 ];
 
-pub(crate) const SPARE_TIMESTAMP: usize = 8;
+/// Offset of the timestamp of a spare record.
+pub const SPARE_TIMESTAMP_AT: usize = 8;
 
-pub(crate) const SPARE_KIND: usize = 19;
+/// Offset of the type of a spare record.
+pub const SPARE_KIND_AT: usize = 19;
 
-pub(crate) const POPULATED: usize = 20;
+/// Offset of the populated count of a spare record.
+pub const SPARE_POPULATED_AT: usize = 20;
 
-pub(crate) const MAXIMUM: usize = 22;
+/// Offset of the maximum of a spare record.
+pub const SPARE_MAXIMUM_AT: usize = 22;
 
-/// Where the entries of a spare record begin.
-pub(crate) const ENTRIES: usize = 32;
+/// Offset of the entries of a spare record.
+pub const SPARE_ENTRIES_AT: usize = 32;
 
-/// The bytes of an entry.
-pub(crate) const ENTRY: usize = 32;
+/// The bytes of an entry of a spare record, which begins with the GUID of an array.
+pub const SPARE_ENTRY_BYTES: usize = 32;
 
-/// Where the secondary element stands in an entry: two bytes behind the GUID.
-pub(crate) const SECONDARY_ELEMENT: usize = 24;
+/// Offset of the place of the element in an entry of a spare record: two bytes.
+pub const SPARE_SECONDARY_AT: usize = 24;
 
 /// The places of the seal and of the fields of a spare record before its entries.
 pub(crate) const SPARE_HEAD: [Span; 3] = [
     SEAL,
     Span {
-        at: SPARE_TIMESTAMP,
+        at: SPARE_TIMESTAMP_AT,
         length: 4,
     },
     Span {
-        at: SPARE_KIND,
+        at: SPARE_KIND_AT,
         length: 1,
     },
 ];
@@ -143,21 +165,38 @@ pub(crate) const SPARE_HEAD: [Span; 3] = [
 /// The name of a notes record (profile).
 pub(crate) const NOTES: &[u8; 8] = b"RDDFNOTE";
 
-pub(crate) const NOTES_NAME: usize = 32;
+/// Offset of the GUID of the group in a notes record.
+pub const NOTES_GROUP_AT: usize = 8;
 
-pub(crate) const NOTES_SEQUENCE: usize = 40;
+/// Offset of `RDDFNOTE` in ASCII, the name of a notes record.
+pub const NOTES_NAME_AT: usize = 32;
 
-pub(crate) const NOTES_SLOTS: usize = 44;
+/// Offset of the sequence number of the header that the notes belong to.
+pub const NOTES_SEQUENCE_AT: usize = 40;
 
-pub(crate) const NOTES_MEMBERS: usize = 46;
+/// Offset of how many slots the section has.
+pub const NOTES_SLOTS_AT: usize = 44;
 
-pub(crate) const NOTES_ZEROS: usize = 48;
+/// Offset of Max_Primary_Element_Entries in a notes record.
+pub const NOTES_MEMBERS_AT: usize = 46;
 
-/// Where the notes begin.
-pub(crate) const NOTES_HEAD: usize = 64;
+/// Offset of sixteen bytes 00 in a notes record.
+pub const NOTES_ZEROS_AT: usize = 48;
 
-pub(crate) const NOTE_POSITION: usize = 2;
+/// Offset of the notes in a notes record.
+pub const NOTES_AT: usize = 64;
 
-pub(crate) const NOTE_ROW: usize = 8;
+/// Offset of a byte 00 in a note.
+pub const NOTE_ZERO_AT: usize = 1;
 
-pub(crate) const NOTE_BITS: usize = 16;
+/// Offset of the position that is rebuilt in a note, which begins with the byte that tells a copy.
+pub const NOTE_POSITION_AT: usize = 2;
+
+/// Offset of four bytes 00 in a note.
+pub const NOTE_ZEROS_AT: usize = 4;
+
+/// Offset of the row that the rebuild has come to in a note.
+pub const NOTE_ROW_AT: usize = 8;
+
+/// Offset of a bit for each position in a note.
+pub const NOTE_BITS_AT: usize = 16;

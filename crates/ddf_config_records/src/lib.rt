@@ -10,7 +10,7 @@ mod element_reading;
 mod element_writing;
 mod encoding;
 mod fault;
-mod layout;
+pub mod layout;
 mod notes;
 mod notes_reading;
 mod notes_writing;

@@ -2,6 +2,7 @@
 //! sync that isn't. docs/FORMAT.md#notes-record
 ghost use Rattle.std.specs.Prelude.{◌≡◌, ◌+◌, ◌*◌, ◌/◌, ◌≤◌, ◌<◌, ◌==◌, length, IfOk, IsTrue};
 ghost use Rattle.std.specs.List.{list_all, range_with_len};
+ghost use Rattle.ddf_config_records.specs.declared.layout.TheConstants.{NOTE_BITS_AT};
 ghost use Rattle.ddf_config_records.specs.NoteRecords.{
   has_numbers,
   is_headed,
@@ -44,7 +45,7 @@ fn is_headed(bytes: &[u8], count: usize, most: u16) -> bool
 {
     is_named(bytes)
         && has_numbers(bytes, count, most)
-        && are_zeros(&bytes[layout::NOTES_ZEROS..layout::NOTES_HEAD])
+        && are_zeros(&bytes[layout::NOTES_ZEROS_AT..layout::NOTES_AT])
 }
 
 #[tactic(auto, unfolding(crate::specs::NoteRecords::is_named))]
@@ -52,7 +53,7 @@ fn is_named(bytes: &[u8]) -> bool
     requires { 512 ≤ length bytes.now }
     ensures { result ≡ is_named bytes.now }
 {
-    &bytes[layout::NOTES_NAME..layout::NOTES_NAME + 8] == layout::NOTES.as_slice()
+    &bytes[layout::NOTES_NAME_AT..layout::NOTES_NAME_AT + 8] == layout::NOTES.as_slice()
 }
 
 #[tactic(auto, unfolding(crate::specs::NoteRecords::has_numbers))]
@@ -61,8 +62,8 @@ fn has_numbers(bytes: &[u8], count: usize, most: u16) -> bool
     ensures exact { result ≡ has_numbers most count bytes.now }
     ensures small { IsTrue result → count < 65536 }
 {
-    let slots = usize::from(be16(bytes, layout::NOTES_SLOTS));
-    let members = be16(bytes, layout::NOTES_MEMBERS);
+    let slots = usize::from(be16(bytes, layout::NOTES_SLOTS_AT));
+    let members = be16(bytes, layout::NOTES_MEMBERS_AT);
     slots == count && members == most
 }
 
@@ -77,14 +78,14 @@ pub(crate) fn note_place(slot: usize, most: u16) -> usize
     requires { slot < 65536 }
     ensures { result ≡ note_place most slot }
 {
-    layout::NOTES_HEAD + slot * note_size(most)
+    layout::NOTES_AT + slot * note_size(most)
 }
 
 /// The bytes of a note.
 pub(crate) fn note_size(most: u16) -> usize
     ensures { result ≡ note_size most }
 {
-    16 + usize::from(most) / 8
+    layout::NOTE_BITS_AT + usize::from(most) / 8
 }
 
 fn are_notes(bytes: &[u8], count: usize, most: u16) -> bool
@@ -97,10 +98,12 @@ fn are_notes(bytes: &[u8], count: usize, most: u16) -> bool
 }
 
 fn is_note(bytes: &[u8], at: usize) -> bool
-    requires { at + 16 ≤ length bytes.now }
+    requires { at + NOTE_BITS_AT ≤ length bytes.now }
     ensures { result ≡ is_note bytes.now at }
 {
-    bytes[at] <= 1 && bytes[at + 1] == 0 && be32(bytes, at + 4) == 0
+    bytes[at] <= 1
+        && bytes[at + layout::NOTE_ZERO_AT] == 0
+        && be32(bytes, at + layout::NOTE_ZEROS_AT) == 0
 }
 
 fn is_filled(bytes: &[u8]) -> bool
@@ -123,8 +126,8 @@ pub(crate) fn read_notes(
 {
     let slots = slot_notes(alloc, bytes, count, most)?;
     Ok(Notes {
-        group: guid_at(bytes, layout::GUID),
-        sequence: be32(bytes, layout::NOTES_SEQUENCE),
+        group: guid_at(bytes, layout::NOTES_GROUP_AT),
+        sequence: be32(bytes, layout::NOTES_SEQUENCE_AT),
         slots: Seq::new(slots),
     })
 }
@@ -154,12 +157,12 @@ fn read_note(alloc: Global, bytes: &[u8], at: usize, most: u16) -> Result<SlotNo
     requires whole { at + note_size most ≤ length bytes.now }
     ensures { IfOk result (λ note. note ≡ note_at most bytes.now at) }
 {
-    let bits = at + layout::NOTE_BITS;
+    let bits = at + layout::NOTE_BITS_AT;
     let out = positions(alloc, &bytes[bits..bits + usize::from(most) / 8], most)?;
     Ok(SlotNote {
         copied: bytes[at] == 1,
-        position: be16(bytes, at + layout::NOTE_POSITION),
-        row: be64(bytes, at + layout::NOTE_ROW),
+        position: be16(bytes, at + layout::NOTE_POSITION_AT),
+        row: be64(bytes, at + layout::NOTE_ROW_AT),
         out: Seq::new(out),
     })
 }

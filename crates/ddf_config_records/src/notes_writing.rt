@@ -3,6 +3,7 @@ ghost use Rattle.std.specs.Prelude.{◌≡◌, ◌+◌, ◌-◌, ◌*◌, ◌/�
 ghost use Rattle.std.specs.List.{AllByRecursion};
 ghost use Rattle.ddf_seal.specs.Records.{record_bytes};
 ghost use Rattle.ddf_seal.specs.Unread.{AreBytes, placed, written};
+ghost use Rattle.ddf_config_records.specs.declared.layout.TheConstants.{NOTES_AT};
 ghost use Rattle.ddf_config_records.specs.Bits.{AreBelow, bits_of};
 ghost use Rattle.ddf_config_records.specs.Vendors.{vendor_signature};
 ghost use Rattle.ddf_config_records.specs.NoteRecords.{
@@ -40,15 +41,19 @@ pub(crate) fn write_notes(into: &mut [u8], notes: &Notes, most: u16)
 
 fn put_head(into: &mut [u8], notes: &Notes, most: u16)
     requires small { length notes.now.slots < 65536 }
-    requires whole { 64 ≤ length into.old }
+    requires whole { NOTES_AT ≤ length into.old }
     ensures { into.new ≡ written (head_fields most notes.now) into.old }
 {
-    place(into, layout::GUID, &notes.group.bytes());
-    place(into, layout::NOTES_NAME, layout::NOTES);
-    put32(into, layout::NOTES_SEQUENCE, notes.sequence);
-    put16(into, layout::NOTES_SLOTS, notes.slots.items().len() as u16);
-    put16(into, layout::NOTES_MEMBERS, most);
-    place(into, layout::NOTES_ZEROS, &[0; 16]);
+    place(into, layout::NOTES_GROUP_AT, &notes.group.bytes());
+    place(into, layout::NOTES_NAME_AT, layout::NOTES);
+    put32(into, layout::NOTES_SEQUENCE_AT, notes.sequence);
+    put16(
+        into,
+        layout::NOTES_SLOTS_AT,
+        notes.slots.items().len() as u16,
+    );
+    put16(into, layout::NOTES_MEMBERS_AT, most);
+    place(into, layout::NOTES_ZEROS_AT, &[0; 16]);
 }
 
 fn put_notes(into: &mut [u8], notes: &[SlotNote], most: u16)
@@ -56,7 +61,7 @@ fn put_notes(into: &mut [u8], notes: &[SlotNote], most: u16)
     requires bits { 8 * (most / 8) ≡ most }
     requires room { note_place most (length notes.now) ≤ length into.old }
     requires below { AllByRecursion (λ note. AreBelow most note.out) notes.now }
-    ensures { into.new ≡ written (all_note_fields most 64 notes.now) into.old }
+    ensures { into.new ≡ written (all_note_fields most NOTES_AT notes.now) into.old }
 {
     for (slot, note) in notes.iter().enumerate() {
         put_note(into, note_place(slot, most), note, most);
@@ -70,11 +75,11 @@ fn put_note(into: &mut [u8], at: usize, note: &SlotNote, most: u16)
     ensures { into.new ≡ written (note_fields most at note.now) into.old }
 {
     place(into, at, &[u8::from(note.copied)]);
-    place(into, at + 1, &[0]);
-    put16(into, at + layout::NOTE_POSITION, note.position);
-    put32(into, at + 4, 0);
-    put64(into, at + layout::NOTE_ROW, note.row);
-    put_out(into, at + layout::NOTE_BITS, note.out.items(), most);
+    place(into, at + layout::NOTE_ZERO_AT, &[0]);
+    put16(into, at + layout::NOTE_POSITION_AT, note.position);
+    put32(into, at + layout::NOTE_ZEROS_AT, 0);
+    put64(into, at + layout::NOTE_ROW_AT, note.row);
+    put_out(into, at + layout::NOTE_BITS_AT, note.out.items(), most);
 }
 
 fn put_out(into: &mut [u8], at: usize, out: &[u16], most: u16)

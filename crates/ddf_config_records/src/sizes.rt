@@ -24,13 +24,12 @@ pub fn notes_fit(geometry: &Geometry, slots: usize) -> bool
     ensures { IsTrue result ↔ (note_place geometry.now.max_members slots ≤ record_size geometry.now) }
 {
     let size = record_size(geometry);
-    size >= layout::NOTES_HEAD
-        && slots <= (size - layout::NOTES_HEAD) / note_size(geometry.max_members)
+    size >= layout::NOTES_AT && slots <= (size - layout::NOTES_AT) / note_size(geometry.max_members)
 }
 
 /// How many arrays a spare record has room for.
 pub fn spare_entries(geometry: &Geometry) -> usize
     ensures { result ≡ spare_entries geometry.now }
 {
-    record_size(geometry).saturating_sub(layout::ENTRIES) / layout::ENTRY
+    record_size(geometry).saturating_sub(layout::SPARE_ENTRIES_AT) / layout::SPARE_ENTRY_BYTES
 }

@@ -3,6 +3,7 @@
 ghost use Rattle.std.specs.Prelude.{◌≡◌, ◌+◌, ◌*◌, ◌/◌, ◌≤◌, length, IfOk};
 ghost use Rattle.std.specs.Int.{w32};
 ghost use Rattle.ddf_bytes.specs.Bytes.{number_at};
+ghost use Rattle.ddf_config_records.specs.declared.layout.TheConstants.{REFERENCES_AT};
 ghost use Rattle.ddf_config_records.specs.NoteRecords.{is_notes};
 ghost use Rattle.ddf_config_records.specs.Slots.{element_slot, slot_at, valid_at, vendor_slot};
 ghost use Rattle.ddf_config_records.specs.Elements.{element_fault_at};
@@ -27,7 +28,7 @@ pub(crate) fn read_slot(
     most: u16,
     listed: bool,
 ) -> Result<RecordSlot, NoMemory>
-    requires whole { 512 + 12 * most ≤ length bytes.now }
+    requires whole { REFERENCES_AT + 12 * most ≤ length bytes.now }
     requires bits { 8 * (most / 8) ≡ most }
     ensures { IfOk result (λ slot. slot ≡ slot_at most count listed bytes.now) }
 {
@@ -46,7 +47,7 @@ pub(crate) fn read_slot(
 }
 
 fn read_element_slot(alloc: Global, bytes: &[u8], most: u16) -> Result<RecordSlot, NoMemory>
-    requires { 512 + 12 * most ≤ length bytes.now }
+    requires { REFERENCES_AT + 12 * most ≤ length bytes.now }
     ensures { IfOk result (λ slot. slot ≡ element_slot most bytes.now (element_fault_at most bytes.now)) }
 {
     match element_fault(bytes, most) {
@@ -68,7 +69,7 @@ fn read_vendor_slot(
     most: u16,
     listed: bool,
 ) -> Result<RecordSlot, NoMemory>
-    requires whole { 512 + 12 * most ≤ length bytes.now }
+    requires whole { REFERENCES_AT + 12 * most ≤ length bytes.now }
     requires bits { 8 * (most / 8) ≡ most }
     ensures { IfOk result (λ slot. slot ≡ vendor_slot most count listed bytes.now) }
 {
@@ -83,7 +84,7 @@ fn read_vendor_slot(
         }
         _ => {
             let rest = read_vendor(alloc, bytes)?;
-            Ok(RecordSlot::Vendor(guid_at(bytes, layout::GUID), rest))
+            Ok(RecordSlot::Vendor(guid_at(bytes, layout::VENDOR_GUID_AT), rest))
         }
     }
 }
@@ -105,8 +106,8 @@ pub(crate) fn valid_notes(
     if be32(bytes, 0) != layout::VENDOR_SIGNATURE || !is_notes(bytes, count, most) {
         return Ok(None);
     }
-    let own = &bytes[layout::GUID..layout::GUID + 24];
-    if own != group.bytes().as_slice() || be32(bytes, layout::NOTES_SEQUENCE) != sequence {
+    let own = &bytes[layout::NOTES_GROUP_AT..layout::NOTES_GROUP_AT + 24];
+    if own != group.bytes().as_slice() || be32(bytes, layout::NOTES_SEQUENCE_AT) != sequence {
         return Ok(None);
     }
     let notes = read_notes(alloc, bytes, count, most)?;

@@ -6,6 +6,7 @@ ghost use Rattle.ddf_seal.specs.Seal.{seal_place};
 ghost use Rattle.ddf_seal.specs.Unread.{Fits, cleared, places, u16_at, written};
 ghost use Rattle.ddf_header.specs.Geometry.{IsSound};
 ghost use Rattle.ddf_config_records.specs.declared.spare.SpareRecord.{SpareRecord};
+ghost use Rattle.ddf_config_records.specs.declared.layout.TheConstants.{SPARE_POPULATED_AT, SPARE_MAXIMUM_AT, SPARE_ENTRIES_AT, SPARE_ENTRY_BYTES};
 ghost use Rattle.ddf_config_records.specs.Elements.{record_size};
 ghost use Rattle.ddf_config_records.specs.Spares.{CanBeSpare, entry_place, spare_fields};
 ghost use Rattle.ddf_config_records.specs.Building.{secondary_fields, spare_bytes, spare_entries, spare_numbers, spare_over};
@@ -83,7 +84,7 @@ fn kept_bytes(
 /// The bytes of a spare record but its seal.
 fn bytes_of(alloc: Global, spare: &SpareRecord) -> Result<Vec<u8>, NoMemory>
     requires long { 512 ≤ length spare.now.rest }
-    requires whole { 32 + 32 * length spare.now.arrays ≤ length spare.now.rest }
+    requires whole { SPARE_ENTRIES_AT + SPARE_ENTRY_BYTES * length spare.now.arrays ≤ length spare.now.rest }
     ensures exact { IfOk result (λ bytes. bytes.items ≡ written (spare_fields spare.now) spare.now.rest) }
     ensures size { IfOk result (λ bytes. length bytes.items ≡ length spare.now.rest) }
 {
@@ -95,21 +96,21 @@ fn bytes_of(alloc: Global, spare: &SpareRecord) -> Result<Vec<u8>, NoMemory>
 /// Writes the fields of a spare record.
 fn put_fields(into: &mut [u8], spare: &SpareRecord)
     requires long { 512 ≤ length into.old }
-    requires whole { 32 + 32 * length spare.now.arrays ≤ length into.old }
+    requires whole { SPARE_ENTRIES_AT + SPARE_ENTRY_BYTES * length spare.now.arrays ≤ length into.old }
     ensures { into.new ≡ written (spare_fields spare.now) into.old }
 {
-    put32(into, layout::SPARE_TIMESTAMP, spare.timestamp);
-    place(into, layout::SPARE_KIND, &[spare.kind]);
+    put32(into, layout::SPARE_TIMESTAMP_AT, spare.timestamp);
+    place(into, layout::SPARE_KIND_AT, &[spare.kind]);
     put_arrays(into, spare.arrays.items());
 }
 
 /// Writes how many entries are populated, how many fit, and secondary element 0 in each populated one.
 fn set_numbers(bytes: &mut Vec<u8>, populated: usize, maximum: usize)
     requires long { 512 ≤ length bytes.old.items }
-    requires whole { 32 + 32 * populated ≤ length bytes.old.items }
+    requires whole { SPARE_ENTRIES_AT + SPARE_ENTRY_BYTES * populated ≤ length bytes.old.items }
     requires few { populated ≤ maximum }
     requires small { maximum < 2 ^ 16 }
-    ensures exact { bytes.new.items ≡ written (u16_at 20 populated ∷ u16_at 22 maximum ∷ secondary_fields populated) bytes.old.items }
+    ensures exact { bytes.new.items ≡ written (u16_at SPARE_POPULATED_AT populated ∷ u16_at SPARE_MAXIMUM_AT maximum ∷ secondary_fields populated) bytes.old.items }
     ensures size { length bytes.new.items ≡ length bytes.old.items }
 {
     put_numbers(bytes, populated, maximum);
@@ -117,24 +118,26 @@ fn set_numbers(bytes: &mut Vec<u8>, populated: usize, maximum: usize)
 
 fn put_numbers(into: &mut [u8], populated: usize, maximum: usize)
     requires long { 512 ≤ length into.old }
-    requires whole { 32 + 32 * populated ≤ length into.old }
+    requires whole { SPARE_ENTRIES_AT + SPARE_ENTRY_BYTES * populated ≤ length into.old }
     requires few { populated ≤ maximum }
     requires small { maximum < 2 ^ 16 }
-    ensures { into.new ≡ written (u16_at 20 populated ∷ u16_at 22 maximum ∷ secondary_fields populated) into.old }
+    ensures { into.new ≡ written (u16_at SPARE_POPULATED_AT populated ∷ u16_at SPARE_MAXIMUM_AT maximum ∷ secondary_fields populated) into.old }
 {
-    put16(into, layout::POPULATED, populated as u16);
-    put16(into, layout::MAXIMUM, maximum as u16);
+    put16(into, layout::SPARE_POPULATED_AT, populated as u16);
+    put16(into, layout::SPARE_MAXIMUM_AT, maximum as u16);
     put_secondary(into, populated);
 }
 
 fn put_secondary(into: &mut [u8], entries: usize)
-    requires { 32 + 32 * entries ≤ length into.old }
+    requires { SPARE_ENTRIES_AT + SPARE_ENTRY_BYTES * entries ≤ length into.old }
     ensures { into.new ≡ written (secondary_fields entries) into.old }
 {
     for index in 0..entries {
         put16(
             into,
-            layout::ENTRIES + layout::ENTRY * index + layout::SECONDARY_ELEMENT,
+            layout::SPARE_ENTRIES_AT
+                + layout::SPARE_ENTRY_BYTES * index
+                + layout::SPARE_SECONDARY_AT,
             0,
         );
     }
@@ -143,7 +146,7 @@ fn put_secondary(into: &mut [u8], entries: usize)
 /// Writes zeros in the places of the seal and of the fields of a record with so many arrays.
 fn clear_fields(bytes: &mut Vec<u8>, arrays: usize)
     requires long { 512 ≤ length bytes.old.items }
-    requires whole { 32 + 32 * arrays ≤ length bytes.old.items }
+    requires whole { SPARE_ENTRIES_AT + SPARE_ENTRY_BYTES * arrays ≤ length bytes.old.items }
     ensures { (spare : SpareRecord) → length spare.arrays ≡ arrays
         → bytes.new.items ≡ cleared (seal_place ∷ places (spare_fields spare)) bytes.old.items }
 {
@@ -152,14 +155,14 @@ fn clear_fields(bytes: &mut Vec<u8>, arrays: usize)
 }
 
 fn clear_entries(bytes: &mut Vec<u8>, entries: usize)
-    requires { 32 + 32 * entries ≤ length bytes.old.items }
+    requires { SPARE_ENTRIES_AT + SPARE_ENTRY_BYTES * entries ≤ length bytes.old.items }
     ensures { bytes.new.items ≡ cleared (map entry_place (range_with_len 0 entries)) bytes.old.items }
 {
     for index in 0..entries {
         clear_more(
             bytes,
             &[Span {
-                at: layout::ENTRIES + layout::ENTRY * index,
+                at: layout::SPARE_ENTRIES_AT + layout::SPARE_ENTRY_BYTES * index,
                 length: 24,
             }],
         );

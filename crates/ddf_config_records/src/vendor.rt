@@ -28,6 +28,6 @@ pub(crate) fn write_vendor(into: &mut [u8], guid: &Guid, rest: &[u8])
     ensures bytes { AreBytes into.new }
 {
     into.copy_from_slice(rest);
-    place(into, layout::GUID, &guid.bytes());
+    place(into, layout::VENDOR_GUID_AT, &guid.bytes());
     seal(into, layout::VENDOR_SIGNATURE);
 }

@@ -23,6 +23,7 @@ use Rattle.std.specs.Int.{from_be_bytes, w64}
 use Rattle.ddf_bytes.specs.Bytes.{number_at}
 use Rattle.ddf_header.specs.declared.kind.HeaderKind.{HeaderKind}
 use Rattle.ddf_header.specs.declared.kind.HeaderKind.TheVariants.{Anchor}
+use Rattle.ddf_header.specs.declared.layout.TheConstants.{PRIMARY_LBA_AT, SECONDARY_LBA_AT, KIND_AT}
 use Rattle.ddf_header.specs.Header.{IsHeaderOf}
 use Rattle.ddf_copy.specs.Which.{kind_of}
 use Rattle.std.proofs.Common.{Err}
@@ -190,16 +191,16 @@ under_again size anchor which copy is places gate =
 
 -- ---- a copy that was read
 
-number_same : (one other : List ℕ) → first_difference one other ≡ None → (at : ℕ) → 96 ≤ at → at + 8 ≤ 112 → number_at w64 one at ≡ number_at w64 other at
+number_same : (one other : List ℕ) → first_difference one other ≡ None → (at : ℕ) → PRIMARY_LBA_AT ≤ at → at + 8 ≤ KIND_AT → number_at w64 one at ≡ number_at w64 other at
 number_same one other same at from fits =
     ap (from_be_bytes w64) (bytes_same one other at 8 (λ i low below. same_at one other same i (omega (arith, below, fits)) (shared_middle i (omega (arith, from, low)) (omega (arith, below, fits)))))
 
 same_places : (kind : HeaderKind) (anchor header : Header) (one other : List ℕ) → IsHeaderOf Anchor anchor one → IsHeaderOf kind header other → first_difference one other ≡ None
     → (also : Which) → place_of also header ≡ place_of also anchor
 same_places kind anchor header one other is here same Primary =
-    sym here.is_record.fields_stand.1.1.1.1.1.0 ∙ sym (number_same one other same 96 (omega arith) (omega arith)) ∙ is.is_record.fields_stand.1.1.1.1.1.0
+    sym here.is_record.fields_stand.1.1.1.1.1.0 ∙ sym (number_same one other same PRIMARY_LBA_AT (omega arith) (omega arith)) ∙ is.is_record.fields_stand.1.1.1.1.1.0
 same_places kind anchor header one other is here same Secondary =
-    sym here.is_record.fields_stand.1.1.1.1.1.1.0 ∙ sym (number_same one other same 104 (omega arith) (omega arith)) ∙ is.is_record.fields_stand.1.1.1.1.1.1.0
+    sym here.is_record.fields_stand.1.1.1.1.1.1.0 ∙ sym (number_same one other same SECONDARY_LBA_AT (omega arith) (omega arith)) ∙ is.is_record.fields_stand.1.1.1.1.1.1.0
 
 closed_is : (copy : DiskCopy) (which : Which) → copy.header.kind ≡ kind_of which → copy.header.openness ≡ 0 → closed_header copy which ≡ copy.header
 closed_is copy which kind closed = rw (← kind, ← closed) refl

@@ -12,6 +12,7 @@ use Rattle.ddf_seal.proofs.Spelled.{length-bytes_of}
 use Rattle.ddf_header.specs.declared.kind.HeaderKind.{HeaderKind}
 use Rattle.ddf_header.specs.declared.kind.HeaderKind.TheVariants.{Anchor, Primary, Secondary}
 use Rattle.ddf_header.specs.declared.reading.Header.{Header}
+use Rattle.ddf_header.specs.declared.layout.TheConstants.{GUID_AT, SEQUENCE_AT, OPEN_FLAG_AT, PRIMARY_LBA_AT, KIND_AT, WORKSPACE_LENGTH_AT}
 use Rattle.ddf_header.specs.Header.{header_fields, header_signature}
 use Rattle.ddf_header.specs.Layout.{kind_code}
 use Rattle.ddf_copy.specs.declared.copy.DiskCopy.{DiskCopy}
@@ -66,7 +67,7 @@ written_alike P (one ∷ ones) (other ∷ others) a b alike within ones_fit othe
 
 -- the offsets of the bytes that headers under one anchor share
 abbrev IsShared : ℕ → Type 0
-IsShared at = ((8 ≤ at) × (at < 40)) ⊎ ((96 ≤ at) × (at < 112)) ⊎ ((116 ≤ at) × (at < 512))
+IsShared at = ((GUID_AT ≤ at) × (at < SEQUENCE_AT)) ⊎ ((PRIMARY_LBA_AT ≤ at) × (at < KIND_AT)) ⊎ ((WORKSPACE_LENGTH_AT ≤ at) × (at < 512))
 
 -- the header with another kind, sequence and open flag
 abbrev changed : Header → HeaderKind → (sequence openness : ℕ) → Header
@@ -89,11 +90,11 @@ are_alike header one other one_sequence other_sequence one_openness other_openne
   (
     inl refl,
     (
-      inr (refl, λ i p. elim p [ inl head ↦ inl head.1 | inr rest ↦ inr (omega (arith, past 44 i (omega arith) rest)) ]),
+      inr (refl, λ i p. elim p [ inl head ↦ inl head.1 | inr rest ↦ inr (omega (arith, past (SEQUENCE_AT + 4) i (omega arith) rest)) ]),
       (
         inl refl,
         (
-          inr (refl, λ i p. elim p [ inl head ↦ inl (omega (arith, head.1)) | inr rest ↦ inr (omega (arith, past 49 i (omega arith) rest)) ]),
+          inr (refl, λ i p. elim p [ inl head ↦ inl (omega (arith, head.1)) | inr rest ↦ inr (omega (arith, past (OPEN_FLAG_AT + 1) i (omega arith) rest)) ]),
           (
             inl refl,
             (
@@ -110,7 +111,7 @@ are_alike header one other one_sequence other_sequence one_openness other_openne
   ),
 )
   where
-    past : (bound i : ℕ) → bound ≤ 96 → ((96 ≤ i) × (i < 112)) ⊎ ((116 ≤ i) × (i < 512)) → bound ≤ i
+    past : (bound i : ℕ) → bound ≤ PRIMARY_LBA_AT → ((PRIMARY_LBA_AT ≤ i) × (i < KIND_AT)) ⊎ ((WORKSPACE_LENGTH_AT ≤ i) × (i < 512)) → bound ≤ i
     past bound i low (inl middle) = omega (arith, low, middle.0)
     past bound i low (inr tail) = omega (arith, low, tail.0)
 
@@ -164,12 +165,12 @@ in_range low high at h =
 
 shared_from : (at : ℕ) → is_shared at ≡ true → IsShared at
 shared_from at h =
-    elim (either ((leb 8 at && ltb at 40) || (leb 96 at && ltb at 112)) (leb 116 at && ltb at 512) h) [
-      | inl before ↦ elim (either (leb 8 at && ltb at 40) (leb 96 at && ltb at 112) before) [
-        | inl head ↦ inl (in_range 8 40 at head)
-        | inr middle ↦ inr (inl (in_range 96 112 at middle))
+    elim (either ((leb GUID_AT at && ltb at SEQUENCE_AT) || (leb PRIMARY_LBA_AT at && ltb at KIND_AT)) (leb WORKSPACE_LENGTH_AT at && ltb at 512) h) [
+      | inl before ↦ elim (either (leb GUID_AT at && ltb at SEQUENCE_AT) (leb PRIMARY_LBA_AT at && ltb at KIND_AT) before) [
+        | inl head ↦ inl (in_range GUID_AT SEQUENCE_AT at head)
+        | inr middle ↦ inr (inl (in_range PRIMARY_LBA_AT KIND_AT at middle))
       ]
-      | inr tail ↦ inr (inr (in_range 116 512 at tail))
+      | inr tail ↦ inr (inr (in_range WORKSPACE_LENGTH_AT 512 at tail))
     ]
 
 none_differ : (shared same : Bool) → (shared ≡ true → same ≡ true) → (shared && not same) ≡ false

@@ -11,6 +11,7 @@ use Rattle.ddf_bytes.specs.Bytes.{bytes_at, number_at}
 use Rattle.ddf_bytes.specs.Choices.{first_of, ok_unless, when}
 use Rattle.ddf_header.specs.declared.fault.HeaderFault.{HeaderFault}
 use Rattle.ddf_header.specs.declared.kind.HeaderKind.{HeaderKind}
+use Rattle.ddf_header.specs.declared.layout.TheConstants.{GUID_AT, PRIMARY_LBA_AT, SECONDARY_LBA_AT, SECTIONS_AT}
 use Rattle.ddf_header.proofs.Decoded.{decoded_is}
 use Rattle.ddf_header.specs.Header.{IsHeaderOf, decoded, first_fault, header_at}
 use Rattle.ddf_header.specs.Geometry.{geometry_at}
@@ -84,7 +85,7 @@ no_header : (bad : Bool) (rest : Option ℕ) → cond bad (Some 0) rest ≡ None
 no_header true rest h = absurd cc
 no_header false rest h = (refl, h)
 
-none_map : (o : Option ℕ) → option_map (λ index. 192 + 8 * index) o ≡ None → o ≡ None
+none_map : (o : Option ℕ) → option_map (λ index. SECTIONS_AT + 8 * index) o ≡ None → o ≡ None
 none_map None h = refl
 none_map (Some n) h = absurd cc
 
@@ -104,7 +105,7 @@ pub section_in_room : (last own other : ℕ) (sections : List Section) → room_
     → (index : ℕ) (section : Section) → slice_get sections index ≡ Some section → 0 < section.length → IsInRoom last own other sections section
 unfolding room_fault is_out_of_room
 section_in_room last own other sections h index section at some =
-    let rest = no_header (has_no_room last own other sections) (option_map (λ index. 192 + 8 * index) (position (is_out_of_room last own other sections) sections)) h in
+    let rest = no_header (has_no_room last own other sections) (option_map (λ index. SECTIONS_AT + 8 * index) (position (is_out_of_room last own other sections) sections)) h in
     let none = none_map (position (is_out_of_room last own other sections) sections) rest.1 in
     let out : is_out_of_room last own other sections section ≡ false = none_passes (is_out_of_room last own other sections) 0 sections index section (sym (position_from-zero (is_out_of_room last own other sections) sections) ∙ none) at in
     let parts = none_of (eqb section.length 0) (ltb last (own + section.offset + section.length)) (ltb last (other + section.offset + section.length))
@@ -136,9 +137,9 @@ placed_parts false found header h = absurd cc
 -- A header that was found has what stands in its sector, and is the anchor's.
 pub record IsFound (size : ℕ) (sector : ℕ → List ℕ) (anchor : Header) (which : Which) (header : Header) : Type 0 where
   pub geometry_is : header.geometry ≡ geometry_at (sector (place_of which anchor))
-  pub guid_is : header.guid ≡ bytes_at (sector (place_of which anchor)) 8 24
-  pub primary_is : header.primary_lba ≡ number_at w64 (sector (place_of which anchor)) 96
-  pub secondary_is : header.secondary_lba ≡ number_at w64 (sector (place_of which anchor)) 104
+  pub guid_is : header.guid ≡ bytes_at (sector (place_of which anchor)) GUID_AT 24
+  pub primary_is : header.primary_lba ≡ number_at w64 (sector (place_of which anchor)) PRIMARY_LBA_AT
+  pub secondary_is : header.secondary_lba ≡ number_at w64 (sector (place_of which anchor)) SECONDARY_LBA_AT
   pub is_gate : IsGate size anchor which header (sector (place_of which anchor))
 
 pub found_is : (size : ℕ) (sector : ℕ → List ℕ) (anchor : Header) (which : Which) (header : Header) → header_of size sector anchor which ≡ Ok header → IsFound size sector anchor which header
@@ -170,7 +171,7 @@ pub record AreHeadersInRoom (last own other : ℕ) (sections : List Section) : T
 pub headers_in_room : (last own other : ℕ) (sections : List Section) → room_fault last own other sections ≡ None → AreHeadersInRoom last own other sections
 unfolding room_fault has_no_room
 headers_in_room last own other sections h =
-    let none = no_header (has_no_room last own other sections) (option_map (λ index. 192 + 8 * index) (position (is_out_of_room last own other sections) sections)) h in
+    let none = no_header (has_no_room last own other sections) (option_map (λ index. SECTIONS_AT + 8 * index) (position (is_out_of_room last own other sections) sections)) h in
     let parts = neither (leb last own) (leb last other) (meets_copy other sections own 1) none.0 in
     record { own_below = leb-false last own parts.0; other_below = leb-false last other parts.1; is_apart = parts.2 }
 

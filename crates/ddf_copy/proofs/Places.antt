@@ -2,6 +2,7 @@
 use Rattle.std.proofs.Common.{◌≡◌, ◌⊎◌, ◌∙◌, inl, inr, ⊎_elim, ℕ, Bool, true, false, List, Some, Result, Ok, Err, if◌then◌else◌, ap, sym, arith}
 use Rattle.std.specs.Prelude.{nat_lt}
 use Rattle.ddf_header.specs.declared.reading.Header.{Header}
+use Rattle.ddf_header.specs.declared.layout.TheConstants.{PRIMARY_LBA_AT, SECONDARY_LBA_AT}
 use Rattle.ddf_copy.specs.declared.copy.DiskCopy.{DiskCopy}
 use Rattle.ddf_copy.specs.declared.fault.CopyFault.{CopyFault}
 use Rattle.ddf_copy.specs.declared.newest_copy.Newest.TheVariants as newests
@@ -34,8 +35,8 @@ module _ (size : ℕ) (anchor : Header) (here there : ℕ → List ℕ) (one oth
   pub alike : AreAlike first second
   alike = record {
     same_sections = (own).geometry_is ∙ shared_geometry (header_bytes anchor) (here (place_of one anchor)) (there (place_of other anchor)) both ∙ sym (its).geometry_is;
-    same_primary = (own).primary_is ∙ shared_place (header_bytes anchor) (here (place_of one anchor)) (there (place_of other anchor)) both 96 (omega arith) (omega arith) ∙ sym (its).primary_is;
-    same_secondary = (own).secondary_is ∙ shared_place (header_bytes anchor) (here (place_of one anchor)) (there (place_of other anchor)) both 104 (omega arith) (omega arith) ∙ sym (its).secondary_is;
+    same_primary = (own).primary_is ∙ shared_place (header_bytes anchor) (here (place_of one anchor)) (there (place_of other anchor)) both PRIMARY_LBA_AT (omega arith) (omega arith) ∙ sym (its).primary_is;
+    same_secondary = (own).secondary_is ∙ shared_place (header_bytes anchor) (here (place_of one anchor)) (there (place_of other anchor)) both SECONDARY_LBA_AT (omega arith) (omega arith) ∙ sym (its).secondary_is;
   }
 
 -- ---- the copy that stands for a disk is read of one of its places

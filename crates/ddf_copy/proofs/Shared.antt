@@ -6,6 +6,7 @@ use Rattle.std.specs.Prelude.{slice_get}
 use Rattle.std.specs.List.{range_with_len}
 use Rattle.std.specs.Int.{Width, byte_len, from_be_bytes, w16, w32, w64}
 use Rattle.ddf_bytes.specs.Bytes.{bytes_at, number_at}
+use Rattle.ddf_header.specs.declared.layout.TheConstants.{GUID_AT, SEQUENCE_AT, PRIMARY_LBA_AT, KIND_AT, WORKSPACE_LENGTH_AT, WORKSPACE_LBA_AT, MAX_DISKS_AT, MAX_ARRAYS_AT, MAX_PARTITIONS_AT, RECORD_LENGTH_AT, MAX_MEMBERS_AT, SECTIONS_AT}
 use Rattle.ddf_header.specs.Geometry.{geometry_at}
 use Rattle.ddf_copy.specs.Gate.{differ_at, first_difference, is_same_byte, is_shared}
 use Rattle.ddf_copy.proofs.Gates.{none_passes}
@@ -65,18 +66,18 @@ or_true : (b : Bool) → (b || true) ≡ true
 or_true true = refl
 or_true false = refl
 
-shared_head : (at : ℕ) → 8 ≤ at → at < 40 → is_shared at ≡ true
-shared_head at from below = rw (le-leb 8 at from, lt-ltb at 40 below) refl
+shared_head : (at : ℕ) → GUID_AT ≤ at → at < SEQUENCE_AT → is_shared at ≡ true
+shared_head at from below = rw (le-leb GUID_AT at from, lt-ltb at SEQUENCE_AT below) refl
 
-shared_tail : (at : ℕ) → 116 ≤ at → at < 512 → is_shared at ≡ true
-shared_tail at from below = rw (le-leb 116 at from, lt-ltb at 512 below) (or_true _)
+shared_tail : (at : ℕ) → WORKSPACE_LENGTH_AT ≤ at → at < 512 → is_shared at ≡ true
+shared_tail at from below = rw (le-leb WORKSPACE_LENGTH_AT at from, lt-ltb at 512 below) (or_true _)
 
 or_middle : (a c : Bool) → ((a || true) || c) ≡ true
 or_middle true c = refl
 or_middle false c = refl
 
-pub shared_middle : (at : ℕ) → 96 ≤ at → at < 112 → is_shared at ≡ true
-shared_middle at from below = rw (le-leb 96 at from, lt-ltb at 112 below) (or_middle _ _)
+pub shared_middle : (at : ℕ) → PRIMARY_LBA_AT ≤ at → at < KIND_AT → is_shared at ≡ true
+shared_middle at from below = rw (le-leb PRIMARY_LBA_AT at from, lt-ltb at KIND_AT below) (or_middle _ _)
 
 -- Two sectors that both share these bytes with an anchor.
 pub record AreShared (anchor one other : List ℕ) : Type 0 where
@@ -86,45 +87,45 @@ pub record AreShared (anchor one other : List ℕ) : Type 0 where
 same_here : (anchor one other : List ℕ) → AreShared anchor one other → (at : ℕ) → at < 512 → is_shared at ≡ true → slice_get one at ≡ slice_get other at
 same_here anchor one other are at lt shared = sym (same_at anchor one are.one_is at lt shared) ∙ same_at anchor other are.other_is at lt shared
 
-pub shared_guid : (anchor one other : List ℕ) → AreShared anchor one other → bytes_at one 8 24 ≡ bytes_at other 8 24
-shared_guid anchor one other are = bytes_same one other 8 24 (λ i from below. same_here anchor one other are i (omega (arith, below)) (shared_head i from (omega (arith, below))))
+pub shared_guid : (anchor one other : List ℕ) → AreShared anchor one other → bytes_at one GUID_AT 24 ≡ bytes_at other GUID_AT 24
+shared_guid anchor one other are = bytes_same one other GUID_AT 24 (λ i from below. same_here anchor one other are i (omega (arith, below)) (shared_head i from (omega (arith, below))))
 
-pub shared_place : (anchor one other : List ℕ) → AreShared anchor one other → (at : ℕ) → 96 ≤ at → at + 8 ≤ 112 → number_at w64 one at ≡ number_at w64 other at
+pub shared_place : (anchor one other : List ℕ) → AreShared anchor one other → (at : ℕ) → PRIMARY_LBA_AT ≤ at → at + 8 ≤ KIND_AT → number_at w64 one at ≡ number_at w64 other at
 shared_place anchor one other are at from fits =
     ap (from_be_bytes w64) (bytes_same one other at 8 (λ i low below. same_here anchor one other are i (omega (arith, below, fits)) (shared_middle i (omega (arith, from, low)) (omega (arith, below, fits)))))
 
-number_same : (anchor one other : List ℕ) → AreShared anchor one other → (width : Width) (at : ℕ) → 116 ≤ at → at + byte_len width ≤ 512 → number_at width one at ≡ number_at width other at
+number_same : (anchor one other : List ℕ) → AreShared anchor one other → (width : Width) (at : ℕ) → WORKSPACE_LENGTH_AT ≤ at → at + byte_len width ≤ 512 → number_at width one at ≡ number_at width other at
 number_same anchor one other are width at from fits =
     ap (from_be_bytes width) (bytes_same one other at (byte_len width) (λ i low below. same_here anchor one other are i (omega (arith, below, fits)) (shared_tail i (omega (arith, from, low)) (omega (arith, below, fits)))))
 
 pub shared_geometry : (anchor one other : List ℕ) → AreShared anchor one other → geometry_at one ≡ geometry_at other
 unfolding geometry_at
 shared_geometry anchor one other are =
-    let n16 = λ (at : ℕ) (from : 116 ≤ at) (fits : at + 2 ≤ 512). number_same anchor one other are w16 at from fits in
-    let n32 = λ (at : ℕ) (from : 116 ≤ at) (fits : at + 4 ≤ 512). number_same anchor one other are w32 at from fits in
-    let n64 = λ (at : ℕ) (from : 116 ≤ at) (fits : at + 8 ≤ 512). number_same anchor one other are w64 at from fits in
+    let n16 = λ (at : ℕ) (from : WORKSPACE_LENGTH_AT ≤ at) (fits : at + 2 ≤ 512). number_same anchor one other are w16 at from fits in
+    let n32 = λ (at : ℕ) (from : WORKSPACE_LENGTH_AT ≤ at) (fits : at + 4 ≤ 512). number_same anchor one other are w32 at from fits in
+    let n64 = λ (at : ℕ) (from : WORKSPACE_LENGTH_AT ≤ at) (fits : at + 8 ≤ 512). number_same anchor one other are w64 at from fits in
     rw (
-      n32 116 (omega arith) (omega arith),
-      n64 120 (omega arith) (omega arith),
-      n16 128 (omega arith) (omega arith),
-      n16 130 (omega arith) (omega arith),
-      n16 132 (omega arith) (omega arith),
-      n16 134 (omega arith) (omega arith),
-      n16 136 (omega arith) (omega arith),
-      n32 192 (omega arith) (omega arith),
-      n32 196 (omega arith) (omega arith),
-      n32 200 (omega arith) (omega arith),
-      n32 204 (omega arith) (omega arith),
-      n32 208 (omega arith) (omega arith),
-      n32 212 (omega arith) (omega arith),
-      n32 216 (omega arith) (omega arith),
-      n32 220 (omega arith) (omega arith),
-      n32 224 (omega arith) (omega arith),
-      n32 228 (omega arith) (omega arith),
-      n32 232 (omega arith) (omega arith),
-      n32 236 (omega arith) (omega arith),
-      n32 240 (omega arith) (omega arith),
-      n32 244 (omega arith) (omega arith),
-      n32 248 (omega arith) (omega arith),
-      n32 252 (omega arith) (omega arith),
+      n32 WORKSPACE_LENGTH_AT (omega arith) (omega arith),
+      n64 WORKSPACE_LBA_AT (omega arith) (omega arith),
+      n16 MAX_DISKS_AT (omega arith) (omega arith),
+      n16 MAX_ARRAYS_AT (omega arith) (omega arith),
+      n16 MAX_PARTITIONS_AT (omega arith) (omega arith),
+      n16 RECORD_LENGTH_AT (omega arith) (omega arith),
+      n16 MAX_MEMBERS_AT (omega arith) (omega arith),
+      n32 SECTIONS_AT (omega arith) (omega arith),
+      n32 (SECTIONS_AT + 4) (omega arith) (omega arith),
+      n32 (SECTIONS_AT + 8) (omega arith) (omega arith),
+      n32 (SECTIONS_AT + 12) (omega arith) (omega arith),
+      n32 (SECTIONS_AT + 16) (omega arith) (omega arith),
+      n32 (SECTIONS_AT + 20) (omega arith) (omega arith),
+      n32 (SECTIONS_AT + 24) (omega arith) (omega arith),
+      n32 (SECTIONS_AT + 28) (omega arith) (omega arith),
+      n32 (SECTIONS_AT + 32) (omega arith) (omega arith),
+      n32 (SECTIONS_AT + 36) (omega arith) (omega arith),
+      n32 (SECTIONS_AT + 40) (omega arith) (omega arith),
+      n32 (SECTIONS_AT + 44) (omega arith) (omega arith),
+      n32 (SECTIONS_AT + 48) (omega arith) (omega arith),
+      n32 (SECTIONS_AT + 52) (omega arith) (omega arith),
+      n32 (SECTIONS_AT + 56) (omega arith) (omega arith),
+      n32 (SECTIONS_AT + 60) (omega arith) (omega arith),
     ) refl

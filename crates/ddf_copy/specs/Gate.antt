@@ -5,6 +5,7 @@ use Rattle.ddf_bytes.specs.Choices.{first_of, ok_unless, when}
 use Rattle.ddf_seal.specs.Records.{record_bytes}
 use Rattle.ddf_header.specs.declared.reading.Header.{Header}
 use Rattle.ddf_header.specs.declared.fault.HeaderFault.{HeaderFault}
+use Rattle.ddf_header.specs.declared.layout.TheConstants.{GUID_AT, SEQUENCE_AT, PRIMARY_LBA_AT, KIND_AT, WORKSPACE_LENGTH_AT}
 use Rattle.ddf_header.specs.Header.{decoded, header_signature, header_fields}
 use Rattle.ddf_copy.specs.declared.which.Which.{Which}
 use Rattle.ddf_copy.specs.declared.fault.CopyFault.{CopyFault}
@@ -18,7 +19,7 @@ header_bytes header = record_bytes header_signature (header_fields header) heade
 
 -- The GUID and the revision, the two LBAs, and all from the workspace length on are the anchor's.
 abbrev pub is_shared : ℕ → Bool
-is_shared at = (nat_le 8 at && nat_lt at 40) || (nat_le 96 at && nat_lt at 112) || (nat_le 116 at && nat_lt at 512)
+is_shared at = (nat_le GUID_AT at && nat_lt at SEQUENCE_AT) || (nat_le PRIMARY_LBA_AT at && nat_lt at KIND_AT) || (nat_le WORKSPACE_LENGTH_AT at && nat_lt at 512)
 
 -- two bytes, where there are some, are the same
 abbrev pub is_same_byte : Option ℕ → Option ℕ → Bool

@@ -2,6 +2,7 @@
 use Rattle.std.specs.Prelude.{◌≡◌, ℕ, ◌+◌, ◌*◌, ◌<◌, ◌≤◌, slice_get, Bool, not, ◌&&◌, ◌||◌, nat_le, nat_lt, List, Option, Some, option_map, if◌then◌else◌, position}
 use Rattle.std.specs.List.{list_any}
 use Rattle.ddf_header.specs.declared.geometry.Section.{Section}
+use Rattle.ddf_header.specs.declared.layout.TheConstants.{SECTIONS_AT}
 use Rattle.ddf_header.specs.Geometry.{is_absent}
 
 -- two runs of sectors, each by its first sector and its length, share a sector
@@ -34,7 +35,7 @@ is_out_of_room last own other sections section =
 unfoldable pub room_fault : (last own other : ℕ) → List Section → Option ℕ
 room_fault last own other sections =
     if has_no_room last own other sections then Some 0
-    else option_map (λ index. 192 + 8 * index) (position (is_out_of_room last own other sections) sections)
+    else option_map (λ index. SECTIONS_AT + 8 * index) (position (is_out_of_room last own other sections) sections)
 
 -- Each present section of the copy at an LBA ends before the last sector.
 abbrev pub DoFit : (last lba : ℕ) → List Section → Type 0

@@ -7,7 +7,7 @@ use crate::fault::CopyFault;
 use crate::room::Room;
 use crate::which::Which;
 use ddf_bytes::Sector;
-use ddf_header::{Header, encode};
+use ddf_header::{Header, encode, layout};
 
 /// What is wrong with a header that was read at its place, on a disk of so many sectors.
 #[tactic(auto, unfolding(crate::specs::Gate::gate_fault))]
@@ -54,5 +54,10 @@ fn differ_at(one: &Sector, other: &Sector, at: usize) -> bool
 fn is_shared(at: usize) -> bool
     ensures { result ≡ is_shared at }
 {
-    matches!(at, 8..40 | 96..112 | 116..512)
+    matches!(
+        at,
+        layout::GUID_AT..layout::SEQUENCE_AT
+            | layout::PRIMARY_LBA_AT..layout::KIND_AT
+            | layout::WORKSPACE_LENGTH_AT..512
+    )
 }

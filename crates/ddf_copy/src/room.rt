@@ -3,12 +3,8 @@ ghost use Rattle.std.specs.Prelude.{◌≡◌, ◌+◌, ◌^◌, ◌<◌, ◌≤
 ghost use Rattle.std.specs.List.{list_any};
 ghost use Rattle.ddf_copy.specs.Room.{has_no_room, has_sector_of, is_out_of_room, meets_copy, room_fault, share};
 
+use ddf_header::layout::SECTIONS_AT;
 use ddf_header::{Geometry, Section};
-
-/// Where the offset and length of the first section stand in a header, and how many bytes they have.
-const PAIRS: usize = 192;
-
-const PAIR: usize = 8;
 
 /// Where the headers of the two copies stand on a disk, and its last sector.
 #[derive(Clone, Copy, PartialEq, Eq)]
@@ -29,7 +25,7 @@ impl Room {
             return Some(0);
         }
         self.bad_section(geometry)
-            .map(|index| (PAIRS + PAIR * index) as u16)
+            .map(|index| (SECTIONS_AT + 8 * index) as u16)
     }
 
     #[tactic(auto, unfolding(crate::specs::Room::has_no_room))]

@@ -26,6 +26,7 @@ use Rattle.ddf_config_records.specs.declared.notes.SlotNote.{SlotNote}
 use Rattle.ddf_config_records.specs.declared.place.Place.{Place}
 use Rattle.ddf_config_records.specs.declared.slot.RecordSlot.{RecordSlot}
 use Rattle.ddf_config_records.specs.declared.slot.RecordSlot.TheVariants as slots
+use Rattle.ddf_config_records.specs.declared.layout.TheConstants.{MEMBERS_AT, VENDOR_GUID_AT}
 use Rattle.ddf_config_records.specs.Elements.{element_at, element_fault_at, element_with}
 use Rattle.ddf_config_records.specs.NoteRecords.{is_notes, notes_at}
 use Rattle.ddf_config_records.specs.Slots.{decoded_slots, element_signature, element_slot, is_copy, lists, notes_in, seal_fault, slot_at, slot_bytes, slot_count, slots_at, vendor_slot}
@@ -72,7 +73,7 @@ SlotFew slot = (element : ElementValue) → element_of slot ≡ Some element →
 element_few : (most : ℕ) (bytes : List ℕ) → element_fault_at most bytes ≡ None → length (element_at most bytes).members ≤ 64
 unfolding element_with
 element_few most bytes none =
-    let count = length-members_at most bytes (number_at w16 bytes 64) in
+    let count = length-members_at most bytes (number_at w16 bytes MEMBERS_AT) in
     let few = (members_at_most most bytes none).few in
     omega (arith, count, few)
 
@@ -91,7 +92,7 @@ vendor_slot_few : (most count : ℕ) (listed : Bool) (bytes : List ℕ) → Slot
 vendor_slot_few most count listed bytes = by (is_notes most count bytes) (is_copy most listed bytes) refl
   where
     by : (noted copied : Bool) → is_copy most listed bytes ≡ copied
-        → SlotFew (if noted then slots.Notes (notes_at most count bytes) else if copied then slots.Copied (element_at most bytes) else slots.Vendor (bytes_at bytes 8 24) (vendor_rest bytes))
+        → SlotFew (if noted then slots.Notes (notes_at most count bytes) else if copied then slots.Copied (element_at most bytes) else slots.Vendor (bytes_at bytes VENDOR_GUID_AT 24) (vendor_rest bytes))
     by true copied e element is = absurd cc
     by false true e element is =
         made_few most bytes element (none_of (element_fault_at most bytes) (and_parts listed (is_none (element_fault_at most bytes)) e).1) (let same : element_at most bytes ≡ element = cc in same)

@@ -8,6 +8,7 @@ use Rattle.ddf_bay.specs.Sectors.{IsWhole}
 use Rattle.ddf_header.specs.declared.fault.HeaderFault.{HeaderFault}
 use Rattle.ddf_header.specs.declared.kind.HeaderKind.TheVariants.{Anchor}
 use Rattle.ddf_header.specs.declared.reading.Header.{Header}
+use Rattle.ddf_header.specs.declared.layout.TheConstants.{PRIMARY_LBA_AT, SECONDARY_LBA_AT}
 use Rattle.ddf_header.specs.Header.{IsHeaderOf, decoded, first_fault, header_at, header_signature}
 use Rattle.ddf_header.proofs.Decoded.{header_at_is}
 use Rattle.ddf_header.proofs.Encoded.{encoded_again}
@@ -70,11 +71,11 @@ module _ (size : ℕ) (sector : ℕ → List ℕ) (anchor : Header) (anchored : 
   spelled : header_bytes anchor ≡ last
   spelled = encoded_again Anchor anchor last is_value
 
-  primary_spelled : number_at w64 (header_bytes anchor) 96 ≡ anchor.primary_lba
-  primary_spelled = let parts = read in ap (λ (bytes : List ℕ). number_at w64 bytes 96) spelled ∙ ap (λ (header : Header). header.primary_lba) parts.1
+  primary_spelled : number_at w64 (header_bytes anchor) PRIMARY_LBA_AT ≡ anchor.primary_lba
+  primary_spelled = let parts = read in ap (λ (bytes : List ℕ). number_at w64 bytes PRIMARY_LBA_AT) spelled ∙ ap (λ (header : Header). header.primary_lba) parts.1
 
-  secondary_spelled : number_at w64 (header_bytes anchor) 104 ≡ anchor.secondary_lba
-  secondary_spelled = let parts = read in ap (λ (bytes : List ℕ). number_at w64 bytes 104) spelled ∙ ap (λ (header : Header). header.secondary_lba) parts.1
+  secondary_spelled : number_at w64 (header_bytes anchor) SECONDARY_LBA_AT ≡ anchor.secondary_lba
+  secondary_spelled = let parts = read in ap (λ (bytes : List ℕ). number_at w64 bytes SECONDARY_LBA_AT) spelled ∙ ap (λ (header : Header). header.secondary_lba) parts.1
 
   number_same : (other : List ℕ) → first_difference (header_bytes anchor) other ≡ None → (at : ℕ) → 96 ≤ at → at + 8 ≤ 112 → number_at w64 (header_bytes anchor) at ≡ number_at w64 other at
   number_same other same at from fits =

@@ -21,6 +21,7 @@ use Rattle.ddf_header.specs.declared.geometry.Geometry.{Geometry}
 use Rattle.ddf_header.specs.declared.reading.Header.{Header}
 use Rattle.ddf_header.specs.declared.fault.HeaderFault.{HeaderFault}
 use Rattle.ddf_header.specs.declared.fault.HeaderFault.TheVariants as faults
+use Rattle.ddf_header.specs.declared.layout.TheConstants.{REVISION_AT, OPEN_FLAG_AT, PRIMARY_LBA_AT, SECONDARY_LBA_AT, KIND_AT}
 use Rattle.ddf_header.specs.Layout.{kind_code, revision_text, revision_of}
 use Rattle.ddf_header.specs.Geometry.{geometry_at, geometry_fault, IsSound}
 use Rattle.ddf_header.specs.Header.{header_signature, is_open_flag, are_header_places, IsHeaderOf, IsWritable, faults_of, first_fault, header_at, decoded}
@@ -47,7 +48,7 @@ ok_parts None x y h = (refl, cc)
 ok_parts (Some e) x y h = absurd cc
 
 conditions : (kind : HeaderKind) (sector : List ℕ) → first_fault kind sector ≡ None
-    → KindStands kind sector (unwrap_or (revision_of (bytes_at sector 32 8)) R100) × (geometry_fault (geometry_at sector) ≡ None)
+    → KindStands kind sector (unwrap_or (revision_of (bytes_at sector REVISION_AT 8)) R100) × (geometry_fault (geometry_at sector) ≡ None)
 unfolding first_fault
 conditions kind sector h =
     let none = none_first (faults_of kind sector) h in
@@ -57,13 +58,13 @@ conditions kind sector h =
           before = record {
             before = record {
               before = record { seal_stands = none_err seal (none_map faults.Seal (result_err seal) none.0) };
-              revision_stands = some_revision (revision_of (bytes_at sector 32 8)) none.1.0;
+              revision_stands = some_revision (revision_of (bytes_at sector REVISION_AT 8)) none.1.0;
             };
-            flag_stands = none_when_not (is_open_flag kind (slice_index sector 48)) (faults.OpenFlag (slice_index sector 48)) none.1.1.0;
+            flag_stands = none_when_not (is_open_flag kind (slice_index sector OPEN_FLAG_AT)) (faults.OpenFlag (slice_index sector OPEN_FLAG_AT)) none.1.1.0;
           };
-          places_stand = none_when_not (are_header_places (number_at w64 sector 96) (number_at w64 sector 104)) faults.Place none.1.1.1.0;
+          places_stand = none_when_not (are_header_places (number_at w64 sector PRIMARY_LBA_AT) (number_at w64 sector SECONDARY_LBA_AT)) faults.Place none.1.1.1.0;
         };
-        kind_stands = eqb-true (slice_index sector 112) (kind_code kind) (none_when_not (eqb (slice_index sector 112) (kind_code kind)) (faults.Kind (slice_index sector 112)) none.1.1.1.1.0);
+        kind_stands = eqb-true (slice_index sector KIND_AT) (kind_code kind) (none_when_not (eqb (slice_index sector KIND_AT) (kind_code kind)) (faults.Kind (slice_index sector KIND_AT)) none.1.1.1.1.0);
       },
       none_map faults.Geometry (geometry_fault (geometry_at sector)) none.1.1.1.1.1.0,
     )
@@ -150,7 +151,7 @@ header_at_is kind sector size are h =
         fields_stand = (
           refl,
           (
-            text_of_revision (bytes_at sector 32 8) (unwrap_or (revision_of (bytes_at sector 32 8)) R100) stands.before.before.before.revision_stands,
+            text_of_revision (bytes_at sector REVISION_AT 8) (unwrap_or (revision_of (bytes_at sector REVISION_AT 8)) R100) stands.before.before.before.revision_stands,
             (refl, (refl, (refl, (refl, (refl, (stands.kind_stands, (refl, (refl, (refl, (refl, (refl, (refl, (refl, (numbers_of_sections sector, tt)))))))))))))),
           ),
         );
@@ -185,10 +186,10 @@ decoded_is kind sector header is =
     let max_members = record_length.1 in
     let numbers = max_members.1 in
     let of_kind = is.is_header.of_kind in
-    let known : revision_of (bytes_at sector 32 8) ≡ Some header.revision = ap revision_of revision.0 ∙ revision_of_text header.revision in
+    let known : revision_of (bytes_at sector REVISION_AT 8) ≡ Some header.revision = ap revision_of revision.0 ∙ revision_of_text header.revision in
     let geometry : geometry_at sector ≡ header.geometry = same_geometry (geometry_at sector) header.geometry workspace_length.0 workspace_lba.0 max_disks.0 max_arrays.0 max_partitions.0
     record_length.0 max_members.0 (sections_from_numbers sector header.geometry.sections numbers.0) in
-    let places : are_header_places (number_at w64 sector 96) (number_at w64 sector 104) ≡ true = rw (primary.0, secondary.0) is.is_header.has_places in
+    let places : are_header_places (number_at w64 sector PRIMARY_LBA_AT) (number_at w64 sector SECONDARY_LBA_AT) ≡ true = rw (primary.0, secondary.0) is.is_header.has_places in
     let stands : KindStands kind sector header.revision = record {
       before = record {
         before = record {

@@ -6,6 +6,7 @@ use Rattle.std.proofs.lemmas.List.{take_more}
 use Rattle.std.proofs.lemmas.List.Concat.{flat_map-append}
 use Rattle.ddf_seal.specs.Unread.{numbers32_at}
 use Rattle.ddf_header.specs.declared.geometry.Section.{Section}
+use Rattle.ddf_header.specs.declared.layout.TheConstants.{SECTIONS_AT}
 use Rattle.ddf_header.specs.Geometry.{sections_at, section_numbers}
 
 paired : List ℕ → List Section
@@ -18,11 +19,11 @@ unfolding paired
 paired-numbers [] = refl
 paired-numbers (section ∷ sections) = ap (λ rest. section ∷ rest) (paired-numbers sections)
 
-pub numbers_of_sections : (sector : List ℕ) → numbers32_at sector 192 16 ≡ section_numbers (sections_at sector)
+pub numbers_of_sections : (sector : List ℕ) → numbers32_at sector SECTIONS_AT 16 ≡ section_numbers (sections_at sector)
 unfolding numbers32_at
 numbers_of_sections sector = refl
 
-pub sections_from_numbers : (sector : List ℕ) (sections : List Section) → numbers32_at sector 192 16 ≡ section_numbers sections → sections_at sector ≡ sections
+pub sections_from_numbers : (sector : List ℕ) (sections : List Section) → numbers32_at sector SECTIONS_AT 16 ≡ section_numbers sections → sections_at sector ≡ sections
 sections_from_numbers sector sections h =
     sym (paired-numbers (sections_at sector)) ∙ ap paired (sym (numbers_of_sections sector) ∙ h) ∙ paired-numbers sections
 

@@ -7,6 +7,7 @@ use Rattle.std.proofs.lemmas.Iterator.Adapters.{position_from-zero}
 use Rattle.ddf_bytes.proofs.Nones.{none_first, none_map, none_when_not}
 use Rattle.ddf_header.specs.declared.geometry.Section.{Section}
 use Rattle.ddf_header.specs.declared.geometry.Geometry.{Geometry}
+use Rattle.ddf_header.specs.declared.layout.TheConstants.{MAX_DISKS_AT, MAX_ARRAYS_AT, RECORD_LENGTH_AT, MAX_MEMBERS_AT, SECTIONS_AT}
 use Rattle.ddf_header.specs.Geometry.{is_maximum, is_member_maximum, record_sectors, least_bytes, is_short, is_long, meets, is_bad_section, bad_section, geometry_faults_of, geometry_fault, IsGoodSection, IsSound}
 
 -- ---- no place passes
@@ -84,12 +85,12 @@ unfolding geometry_fault
 sound geometry h =
     let none = none_first (geometry_faults_of geometry) h in
     let no_section : position_from (test geometry) 0 (enumerate_from 0 geometry.sections) ≡ None =
-    sym (position_from-zero (test geometry) (enumerate_from 0 geometry.sections)) ∙ none_map (λ (index : ℕ). 192 + 8 * index) (bad_section geometry) none.1.1.1.1.0 in
+    sym (position_from-zero (test geometry) (enumerate_from 0 geometry.sections)) ∙ none_map (λ (index : ℕ). SECTIONS_AT + 8 * index) (bad_section geometry) none.1.1.1.1.0 in
     record {
-      disks_known = none_when_not (is_maximum geometry.max_disks) 128 none.0;
-      arrays_known = none_when_not (is_maximum geometry.max_arrays) 130 none.1.0;
-      records_fit = eqb-true geometry.record_length (record_sectors geometry.max_members) (none_when_not (eqb geometry.record_length (record_sectors geometry.max_members)) 134 none.1.1.0);
-      members_known = none_when_not (is_member_maximum geometry.max_members) 136 none.1.1.1.0;
+      disks_known = none_when_not (is_maximum geometry.max_disks) MAX_DISKS_AT none.0;
+      arrays_known = none_when_not (is_maximum geometry.max_arrays) MAX_ARRAYS_AT none.1.0;
+      records_fit = eqb-true geometry.record_length (record_sectors geometry.max_members) (none_when_not (eqb geometry.record_length (record_sectors geometry.max_members)) RECORD_LENGTH_AT none.1.1.0);
+      members_known = none_when_not (is_member_maximum geometry.max_members) MAX_MEMBERS_AT none.1.1.1.0;
       sections_good = λ index section at.
           good_section geometry index section (ap (λ (n : ℕ). is_bad_section geometry n section) (sym (zero-add index))
           ∙ none_passes (test geometry) 0 (enumerate_from 0 geometry.sections) index (0 + index, section) no_section (numbered 0 geometry.sections index section at));

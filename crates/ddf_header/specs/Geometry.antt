@@ -7,6 +7,7 @@ use Rattle.ddf_bytes.specs.Choices.{first_of, when}
 use Rattle.ddf_seal.specs.Unread.{Field, u16_at, u32_at, u64_at, u32s_at}
 use Rattle.ddf_header.specs.declared.geometry.Section.{Section}
 use Rattle.ddf_header.specs.declared.geometry.Geometry.{Geometry}
+use Rattle.ddf_header.specs.declared.layout.TheConstants.{WORKSPACE_LENGTH_AT, WORKSPACE_LBA_AT, MAX_DISKS_AT, MAX_ARRAYS_AT, MAX_PARTITIONS_AT, RECORD_LENGTH_AT, MAX_MEMBERS_AT, SECTIONS_AT}
 
 -- ---- where it stands
 
@@ -16,18 +17,18 @@ section_at bytes at = record { offset = number_at w32 bytes at; length = number_
 -- the eight pairs of offset and length
 abbrev pub sections_at : List ℕ → List Section
 sections_at bytes =
-    section_at bytes 192 ∷ section_at bytes 200 ∷ section_at bytes 208 ∷ section_at bytes 216
-    ∷ section_at bytes 224 ∷ section_at bytes 232 ∷ section_at bytes 240 ∷ section_at bytes 248 ∷ []
+    section_at bytes SECTIONS_AT ∷ section_at bytes (SECTIONS_AT + 8) ∷ section_at bytes (SECTIONS_AT + 16) ∷ section_at bytes (SECTIONS_AT + 24)
+    ∷ section_at bytes (SECTIONS_AT + 32) ∷ section_at bytes (SECTIONS_AT + 40) ∷ section_at bytes (SECTIONS_AT + 48) ∷ section_at bytes (SECTIONS_AT + 56) ∷ []
 
 unfoldable pub geometry_at : List ℕ → Geometry
 geometry_at bytes = record {
-  workspace_length = number_at w32 bytes 116;
-  workspace_lba = number_at w64 bytes 120;
-  max_disks = number_at w16 bytes 128;
-  max_arrays = number_at w16 bytes 130;
-  max_partitions = number_at w16 bytes 132;
-  record_length = number_at w16 bytes 134;
-  max_members = number_at w16 bytes 136;
+  workspace_length = number_at w32 bytes WORKSPACE_LENGTH_AT;
+  workspace_lba = number_at w64 bytes WORKSPACE_LBA_AT;
+  max_disks = number_at w16 bytes MAX_DISKS_AT;
+  max_arrays = number_at w16 bytes MAX_ARRAYS_AT;
+  max_partitions = number_at w16 bytes MAX_PARTITIONS_AT;
+  record_length = number_at w16 bytes RECORD_LENGTH_AT;
+  max_members = number_at w16 bytes MAX_MEMBERS_AT;
   sections = sections_at bytes;
 }
 
@@ -37,14 +38,14 @@ section_numbers sections = flat_map (λ section. section.offset ∷ section.leng
 
 abbrev pub geometry_fields : Geometry → List Field
 geometry_fields geometry =
-    u32_at 116 geometry.workspace_length
-    ∷ u64_at 120 geometry.workspace_lba
-    ∷ u16_at 128 geometry.max_disks
-    ∷ u16_at 130 geometry.max_arrays
-    ∷ u16_at 132 geometry.max_partitions
-    ∷ u16_at 134 geometry.record_length
-    ∷ u16_at 136 geometry.max_members
-    ∷ u32s_at 192 16 (section_numbers geometry.sections)
+    u32_at WORKSPACE_LENGTH_AT geometry.workspace_length
+    ∷ u64_at WORKSPACE_LBA_AT geometry.workspace_lba
+    ∷ u16_at MAX_DISKS_AT geometry.max_disks
+    ∷ u16_at MAX_ARRAYS_AT geometry.max_arrays
+    ∷ u16_at MAX_PARTITIONS_AT geometry.max_partitions
+    ∷ u16_at RECORD_LENGTH_AT geometry.record_length
+    ∷ u16_at MAX_MEMBERS_AT geometry.max_members
+    ∷ u32s_at SECTIONS_AT 16 (section_numbers geometry.sections)
     ∷ []
 
 -- ---- the values that it may have
@@ -110,11 +111,11 @@ bad_section geometry = position (λ pair. is_bad_section geometry pair.0 pair.1)
 -- what may be wrong with a geometry, by offset: the offset of the field
 abbrev pub geometry_faults_of : Geometry → List (Option ℕ)
 geometry_faults_of geometry =
-    when (not (is_maximum geometry.max_disks)) 128
-    ∷ when (not (is_maximum geometry.max_arrays)) 130
-    ∷ when (not (geometry.record_length == record_sectors geometry.max_members)) 134
-    ∷ when (not (is_member_maximum geometry.max_members)) 136
-    ∷ option_map (λ index. 192 + 8 * index) (bad_section geometry)
+    when (not (is_maximum geometry.max_disks)) MAX_DISKS_AT
+    ∷ when (not (is_maximum geometry.max_arrays)) MAX_ARRAYS_AT
+    ∷ when (not (geometry.record_length == record_sectors geometry.max_members)) RECORD_LENGTH_AT
+    ∷ when (not (is_member_maximum geometry.max_members)) MAX_MEMBERS_AT
+    ∷ option_map (λ index. SECTIONS_AT + 8 * index) (bad_section geometry)
     ∷ []
 
 -- the first of them

@@ -13,6 +13,7 @@ use Rattle.ddf_header.specs.declared.kind.Revision.TheVariants.{R100}
 use Rattle.ddf_header.specs.declared.reading.Header.{Header}
 use Rattle.ddf_header.specs.declared.fault.HeaderFault.{HeaderFault}
 use Rattle.ddf_header.specs.declared.fault.HeaderFault.TheVariants as faults
+use Rattle.ddf_header.specs.declared.layout.TheConstants.{GUID_AT, REVISION_AT, SEQUENCE_AT, TIMESTAMP_AT, OPEN_FLAG_AT, PRIMARY_LBA_AT, SECONDARY_LBA_AT, KIND_AT}
 use Rattle.ddf_header.specs.Layout.{kind_code, revision_text, revision_of}
 use Rattle.ddf_header.specs.Geometry.{geometry_at, geometry_fields, geometry_fault}
 
@@ -23,14 +24,14 @@ header_signature = 0xDE11_DE11
 
 abbrev pub name_fields : Header → List Field
 name_fields header =
-    plain_at 8 24 header.guid
-    ∷ plain_at 32 8 (revision_text header.revision)
-    ∷ u32_at 40 header.sequence
-    ∷ u32_at 44 header.timestamp
-    ∷ u8_at 48 header.openness
-    ∷ u64_at 96 header.primary_lba
-    ∷ u64_at 104 header.secondary_lba
-    ∷ u8_at 112 (kind_code header.kind)
+    plain_at GUID_AT 24 header.guid
+    ∷ plain_at REVISION_AT 8 (revision_text header.revision)
+    ∷ u32_at SEQUENCE_AT header.sequence
+    ∷ u32_at TIMESTAMP_AT header.timestamp
+    ∷ u8_at OPEN_FLAG_AT header.openness
+    ∷ u64_at PRIMARY_LBA_AT header.primary_lba
+    ∷ u64_at SECONDARY_LBA_AT header.secondary_lba
+    ∷ u8_at KIND_AT (kind_code header.kind)
     ∷ []
 
 -- all fields of a header, in order
@@ -78,10 +79,10 @@ pub record IsHeaderOf (kind : HeaderKind) (header : Header) (sector : List ℕ) 
 abbrev pub faults_of : HeaderKind → List ℕ → List (Option HeaderFault)
 faults_of kind sector =
     option_map faults.Seal (result_err (seal_check header_signature sector))
-    ∷ when (is_none (revision_of (bytes_at sector 32 8))) faults.Revision
-    ∷ when (not (is_open_flag kind (slice_index sector 48))) (faults.OpenFlag (slice_index sector 48))
-    ∷ when (not (are_header_places (number_at w64 sector 96) (number_at w64 sector 104))) faults.Place
-    ∷ when (not (slice_index sector 112 == kind_code kind)) (faults.Kind (slice_index sector 112))
+    ∷ when (is_none (revision_of (bytes_at sector REVISION_AT 8))) faults.Revision
+    ∷ when (not (is_open_flag kind (slice_index sector OPEN_FLAG_AT))) (faults.OpenFlag (slice_index sector OPEN_FLAG_AT))
+    ∷ when (not (are_header_places (number_at w64 sector PRIMARY_LBA_AT) (number_at w64 sector SECONDARY_LBA_AT))) faults.Place
+    ∷ when (not (slice_index sector KIND_AT == kind_code kind)) (faults.Kind (slice_index sector KIND_AT))
     ∷ option_map faults.Geometry (geometry_fault (geometry_at sector))
     ∷ []
 
@@ -92,13 +93,13 @@ first_fault kind sector = first_of (faults_of kind sector)
 abbrev pub named : HeaderKind → List ℕ → Header
 named kind sector = record {
   kind = kind;
-  guid = bytes_at sector 8 24;
-  revision = unwrap_or (revision_of (bytes_at sector 32 8)) R100;
-  sequence = number_at w32 sector 40;
-  timestamp = number_at w32 sector 44;
-  openness = slice_index sector 48;
-  primary_lba = number_at w64 sector 96;
-  secondary_lba = number_at w64 sector 104;
+  guid = bytes_at sector GUID_AT 24;
+  revision = unwrap_or (revision_of (bytes_at sector REVISION_AT 8)) R100;
+  sequence = number_at w32 sector SEQUENCE_AT;
+  timestamp = number_at w32 sector TIMESTAMP_AT;
+  openness = slice_index sector OPEN_FLAG_AT;
+  primary_lba = number_at w64 sector PRIMARY_LBA_AT;
+  secondary_lba = number_at w64 sector SECONDARY_LBA_AT;
   geometry = geometry_at sector;
   rest = sector;
 }

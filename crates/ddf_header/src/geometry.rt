@@ -4,6 +4,7 @@ ghost use Rattle.std.specs.Prelude.{◌≡◌, [], ◌∷◌, ◌+◌, ◌<◌, 
 ghost use Rattle.std.specs.List.{flat_map, list_any};
 ghost use Rattle.std.specs.Int.{w32, to_be_bytes};
 ghost use Rattle.ddf_seal.specs.Unread.{placed, written};
+ghost use Rattle.ddf_header.specs.declared.layout.TheConstants.{SECTIONS_AT};
 ghost use Rattle.ddf_header.specs.Geometry.{
   geometry_at,
   geometry_fields,
@@ -80,22 +81,22 @@ impl Geometry {
         ensures { result ≡ geometry_at header.now }
     {
         Geometry {
-            workspace_length: be32(header, layout::WORKSPACE_LENGTH),
-            workspace_lba: be64(header, layout::WORKSPACE_LBA),
-            max_disks: be16(header, layout::MAX_DISKS),
-            max_arrays: be16(header, layout::MAX_ARRAYS),
-            max_partitions: be16(header, layout::MAX_PARTITIONS),
-            record_length: be16(header, layout::RECORD_LENGTH),
-            max_members: be16(header, layout::MAX_MEMBERS),
+            workspace_length: be32(header, layout::WORKSPACE_LENGTH_AT),
+            workspace_lba: be64(header, layout::WORKSPACE_LBA_AT),
+            max_disks: be16(header, layout::MAX_DISKS_AT),
+            max_arrays: be16(header, layout::MAX_ARRAYS_AT),
+            max_partitions: be16(header, layout::MAX_PARTITIONS_AT),
+            record_length: be16(header, layout::RECORD_LENGTH_AT),
+            max_members: be16(header, layout::MAX_MEMBERS_AT),
             sections: [
-                section_at(header, layout::PAIRS),
-                section_at(header, layout::PAIRS + 8),
-                section_at(header, layout::PAIRS + 16),
-                section_at(header, layout::PAIRS + 24),
-                section_at(header, layout::PAIRS + 32),
-                section_at(header, layout::PAIRS + 40),
-                section_at(header, layout::PAIRS + 48),
-                section_at(header, layout::PAIRS + 56),
+                section_at(header, layout::SECTIONS_AT),
+                section_at(header, layout::SECTIONS_AT + 8),
+                section_at(header, layout::SECTIONS_AT + 16),
+                section_at(header, layout::SECTIONS_AT + 24),
+                section_at(header, layout::SECTIONS_AT + 32),
+                section_at(header, layout::SECTIONS_AT + 40),
+                section_at(header, layout::SECTIONS_AT + 48),
+                section_at(header, layout::SECTIONS_AT + 56),
             ],
         }
     }
@@ -105,13 +106,13 @@ impl Geometry {
         requires { 256 ≤ length header.old }
         ensures { header.new ≡ written (geometry_fields self.now) header.old }
     {
-        put32(header, layout::WORKSPACE_LENGTH, self.workspace_length);
-        put64(header, layout::WORKSPACE_LBA, self.workspace_lba);
-        put16(header, layout::MAX_DISKS, self.max_disks);
-        put16(header, layout::MAX_ARRAYS, self.max_arrays);
-        put16(header, layout::MAX_PARTITIONS, self.max_partitions);
-        put16(header, layout::RECORD_LENGTH, self.record_length);
-        put16(header, layout::MAX_MEMBERS, self.max_members);
+        put32(header, layout::WORKSPACE_LENGTH_AT, self.workspace_length);
+        put64(header, layout::WORKSPACE_LBA_AT, self.workspace_lba);
+        put16(header, layout::MAX_DISKS_AT, self.max_disks);
+        put16(header, layout::MAX_ARRAYS_AT, self.max_arrays);
+        put16(header, layout::MAX_PARTITIONS_AT, self.max_partitions);
+        put16(header, layout::RECORD_LENGTH_AT, self.record_length);
+        put16(header, layout::MAX_MEMBERS_AT, self.max_members);
         put_sections(header, &self.sections);
     }
 
@@ -131,19 +132,19 @@ impl Geometry {
         ensures { result ≡ geometry_fault self.now }
     {
         if !is_maximum(self.max_disks) {
-            return Some(layout::MAX_DISKS as u16);
+            return Some(layout::MAX_DISKS_AT as u16);
         }
         if !is_maximum(self.max_arrays) {
-            return Some(layout::MAX_ARRAYS as u16);
+            return Some(layout::MAX_ARRAYS_AT as u16);
         }
         if self.record_length != record_sectors(self.max_members) {
-            return Some(layout::RECORD_LENGTH as u16);
+            return Some(layout::RECORD_LENGTH_AT as u16);
         }
         if !is_member_maximum(self.max_members) {
-            return Some(layout::MAX_MEMBERS as u16);
+            return Some(layout::MAX_MEMBERS_AT as u16);
         }
         self.bad_section()
-            .map(|index| (layout::PAIRS + 8 * index) as u16)
+            .map(|index| (layout::SECTIONS_AT + 8 * index) as u16)
     }
 
     fn bad_section(&self) -> Option<usize>
@@ -215,10 +216,10 @@ fn section_at(header: &[u8], at: usize) -> Section
 fn put_sections(header: &mut [u8], sections: &[Section; 8])
     requires { 256 ≤ length header.old }
     ensures { header.new
-        ≡ placed header.old 192 (flat_map (to_be_bytes w32) (section_numbers sections.now)) }
+        ≡ placed header.old SECTIONS_AT (flat_map (to_be_bytes w32) (section_numbers sections.now)) }
 {
     for (index, section) in sections.iter().enumerate() {
-        put_section(header, layout::PAIRS + 8 * index, section);
+        put_section(header, layout::SECTIONS_AT + 8 * index, section);
     }
 }
 

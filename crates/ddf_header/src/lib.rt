@@ -4,7 +4,7 @@
 mod fault;
 mod geometry;
 mod kind;
-mod layout;
+pub mod layout;
 mod reading;
 mod writing;
 

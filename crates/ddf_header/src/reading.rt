@@ -52,20 +52,21 @@ fn read(sector: &Sector, kind: HeaderKind) -> Result<Header, HeaderFault>
     if let Err(fault) = check(sector, layout::HEADER_SIGNATURE) {
         return Err(HeaderFault::Seal(fault));
     }
-    let Some(revision) = Revision::from_text(&sector[layout::REVISION..layout::REVISION + 8]) else {
+    let Some(revision) = Revision::from_text(&sector[layout::REVISION_AT..layout::REVISION_AT + 8])
+    else {
         return Err(HeaderFault::Revision);
     };
-    let openness = sector[layout::OPEN_FLAG];
+    let openness = sector[layout::OPEN_FLAG_AT];
     if !is_open_flag(kind, openness) {
         return Err(HeaderFault::OpenFlag(openness));
     }
-    let primary_lba = be64(sector, layout::PRIMARY_LBA);
-    let secondary_lba = be64(sector, layout::SECONDARY_LBA);
+    let primary_lba = be64(sector, layout::PRIMARY_LBA_AT);
+    let secondary_lba = be64(sector, layout::SECONDARY_LBA_AT);
     if !are_header_places(primary_lba, secondary_lba) {
         return Err(HeaderFault::Place);
     }
-    if sector[layout::KIND] != kind.code() {
-        return Err(HeaderFault::Kind(sector[layout::KIND]));
+    if sector[layout::KIND_AT] != kind.code() {
+        return Err(HeaderFault::Kind(sector[layout::KIND_AT]));
     }
     let geometry = Geometry::read(sector);
     if let Some(offset) = geometry.fault() {
@@ -75,10 +76,10 @@ fn read(sector: &Sector, kind: HeaderKind) -> Result<Header, HeaderFault>
     clear(&mut rest, &layout::FIELDS);
     Ok(Header {
         kind,
-        guid: guid_at(sector, layout::GUID),
+        guid: guid_at(sector, layout::GUID_AT),
         revision,
-        sequence: be32(sector, layout::SEQUENCE),
-        timestamp: be32(sector, layout::TIMESTAMP),
+        sequence: be32(sector, layout::SEQUENCE_AT),
+        timestamp: be32(sector, layout::TIMESTAMP_AT),
         openness,
         primary_lba,
         secondary_lba,

@@ -48,12 +48,12 @@ fn put_names(sector: &mut [u8], header: &Header)
     requires { 256 ≤ length sector.old }
     ensures { sector.new ≡ written (name_fields header.now) sector.old }
 {
-    place(sector, layout::GUID, &header.guid.bytes());
-    place(sector, layout::REVISION, &header.revision.text());
-    put32(sector, layout::SEQUENCE, header.sequence);
-    put32(sector, layout::TIMESTAMP, header.timestamp);
-    place(sector, layout::OPEN_FLAG, &[header.openness]);
-    put64(sector, layout::PRIMARY_LBA, header.primary_lba);
-    put64(sector, layout::SECONDARY_LBA, header.secondary_lba);
-    place(sector, layout::KIND, &[header.kind.code()]);
+    place(sector, layout::GUID_AT, &header.guid.bytes());
+    place(sector, layout::REVISION_AT, &header.revision.text());
+    put32(sector, layout::SEQUENCE_AT, header.sequence);
+    put32(sector, layout::TIMESTAMP_AT, header.timestamp);
+    place(sector, layout::OPEN_FLAG_AT, &[header.openness]);
+    put64(sector, layout::PRIMARY_LBA_AT, header.primary_lba);
+    put64(sector, layout::SECONDARY_LBA_AT, header.secondary_lba);
+    place(sector, layout::KIND_AT, &[header.kind.code()]);
 }

@@ -14,6 +14,7 @@ use Rattle.ddf_header.specs.Geometry.{IsSound, geometry_at, least_bytes, section
 use Rattle.ddf_header.specs.Header.{decoded}
 use Rattle.ddf_header.proofs.Decoded.{decoded_sound}
 use Rattle.ddf_tables.specs.declared.fault.TableFault.{TableFault}
+use Rattle.ddf_tables.specs.declared.layout.TheConstants.{ROWS_AT, ROW_BYTES}
 use Rattle.ddf_tables.specs.Arrays.{array_signature, decoded_arrays}
 use Rattle.ddf_tables.specs.Disks.{decoded_disks, disk_signature}
 use Rattle.ddf_tables.specs.Sectors.{decoded_controller, decoded_disk_data}
@@ -211,7 +212,7 @@ section_holds geometry bytes index is sound below =
 table_written : {Row : Type 0} {IsRowAt : Row → List ℕ → Type 0} {IsRow : Row → Type 0} {row_at : List ℕ → Row} {row_bytes : Row → List ℕ}
     {twice : List Row → Row → Option TableFault} {HaveNames : List Row → Type 0}
     (laws : RowLaws IsRowAt IsRow row_at row_bytes) (names : NameLaws twice HaveNames) (signature max : ℕ) (section : List ℕ) (table : TableValue Row)
-    → 64 + 64 * max ≤ length section → AreBytes section
+    → ROWS_AT + ROW_BYTES * max ≤ length section → AreBytes section
     → decoded_table signature row_at twice max section ≡ Ok table → table_bytes signature row_bytes table ≡ section
 table_written {IsRowAt = IsRowAt} {row_at = row_at} {twice = twice} {HaveNames = HaveNames} laws names signature max section table long are is =
     let parts = ok_parts (first_of (table_faults signature row_at twice max section)) (table_at row_at max section) table is in

@@ -10,6 +10,7 @@ use Rattle.std.specs.Int.{w16}
 use Rattle.ddf_bytes.specs.Bytes.{number_at}
 use Rattle.ddf_tables.specs.declared.disks.DiskEntry.{DiskEntry}
 use Rattle.ddf_tables.specs.declared.arrays.ArrayEntry.{ArrayEntry}
+use Rattle.ddf_tables.specs.declared.layout.TheConstants.{DISK_BLOCK_SIZE_AT}
 use Rattle.ddf_config_records.specs.declared.notes.SlotNote.{SlotNote}
 use Rattle.ddf_config.specs.Configuration.{Configuration}
 use Rattle.ddf_config.specs.ElementValue.{ElementValue as ElementPlan}
@@ -121,16 +122,16 @@ module _ (group : List ℕ) (sequence timestamp : ℕ) (leaders : List DiskCopy)
         arrays = ap arrays_in are.are ∙ sym (ap arrays_in led.1) ∙ map_stays (arrays_in views);
       }
       go (inr fresh) = record {
-        disk_made = λ disk. filled fresh.old.header.revision (before views).noted (all_wanted config) (disk_on (view_of fresh.old).disks (number_at w16 disk.rest 58) disk);
+        disk_made = λ disk. filled fresh.old.header.revision (before views).noted (all_wanted config) (disk_on (view_of fresh.old).disks (number_at w16 disk.rest DISK_BLOCK_SIZE_AT) disk);
         keeps_disk = record {
           guid = λ disk. refl;
           reference = λ disk. refl;
-          kind = λ disk. filled_global fresh.old.header.revision (before views).noted (all_wanted config) (disk_on (view_of fresh.old).disks (number_at w16 disk.rest 58) disk);
+          kind = λ disk. filled_global fresh.old.header.revision (before views).noted (all_wanted config) (disk_on (view_of fresh.old).disks (number_at w16 disk.rest DISK_BLOCK_SIZE_AT) disk);
           state = λ disk. refl;
           size = λ disk. refl;
         };
         disks = ap disks_in are.are ∙ ap (λ (view : View). view.disks) (sym fresh.is_view) ∙ recovered_disks_are fresh.old group sequence views timestamp fresh.can
-            ∙ map-map (filled fresh.old.header.revision (before views).noted (all_wanted config)) (λ (disk : DiskEntry). disk_on (view_of fresh.old).disks (number_at w16 disk.rest 58) disk) (disks_in views);
+            ∙ map-map (filled fresh.old.header.revision (before views).noted (all_wanted config)) (λ (disk : DiskEntry). disk_on (view_of fresh.old).disks (number_at w16 disk.rest DISK_BLOCK_SIZE_AT) disk) (disks_in views);
         array_made = λ row. array_on (view_of fresh.old).arrays (array_entry_in views row);
         keeps_array = record { guid = λ row. refl; name = λ row. refl; number = λ row. refl; state = λ row. refl; init = λ row. refl };
         arrays = ap arrays_in are.are ∙ ap (λ (view : View). view.arrays) (sym fresh.is_view) ∙ recovered_arrays fresh.old group sequence views timestamp fresh.can ∙ map-map (array_on (view_of fresh.old).arrays) (array_entry_in views) (arrays_in views);

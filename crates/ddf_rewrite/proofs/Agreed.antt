@@ -7,6 +7,7 @@ use Rattle.std.specs.Int.{w16}
 use Rattle.ddf_bytes.specs.Bytes.{number_at}
 use Rattle.ddf_tables.specs.declared.disks.DiskEntry.{DiskEntry}
 use Rattle.ddf_tables.specs.declared.arrays.ArrayEntry.{ArrayEntry}
+use Rattle.ddf_tables.specs.declared.layout.TheConstants.{DISK_BLOCK_SIZE_AT}
 use Rattle.ddf_config_records.specs.ElementValue.{ElementValue}
 use Rattle.ddf_copy.specs.declared.copy.DiskCopy.{DiskCopy}
 use Rattle.ddf_config.specs.Configuration.{Configuration}
@@ -88,10 +89,10 @@ module _ (old other : DiskCopy) (group : List ℕ) (sequence : ℕ) (views : Lis
   disks_led : (reference : ℕ) → not (option_eq same_disk (numbered_disk reference (recovered_disks (disks_in views) (view_of old).disks)) (numbered_disk reference (recovered_disks (disks_in views) (view_of other).disks))) ≡ false
   unfolding recovered_disks
   disks_led reference =
-      ap not (find_alike (λ pair. eqb pair.1.reference reference) same_disk (λ disk. disk_on (view_of old).disks (number_at w16 disk.rest 58) disk) (λ disk. disk_on (view_of other).disks (number_at w16 disk.rest 58) disk)
+      ap not (find_alike (λ pair. eqb pair.1.reference reference) same_disk (λ disk. disk_on (view_of old).disks (number_at w16 disk.rest DISK_BLOCK_SIZE_AT) disk) (λ disk. disk_on (view_of other).disks (number_at w16 disk.rest DISK_BLOCK_SIZE_AT) disk)
       (λ n disk. refl) one_disk 0 (disks_in views))
     where
-      one_disk : (n : ℕ) (disk : DiskEntry) → same_disk (n, disk_on (view_of old).disks (number_at w16 disk.rest 58) disk) (n, disk_on (view_of other).disks (number_at w16 disk.rest 58) disk) ≡ true
+      one_disk : (n : ℕ) (disk : DiskEntry) → same_disk (n, disk_on (view_of old).disks (number_at w16 disk.rest DISK_BLOCK_SIZE_AT) disk) (n, disk_on (view_of other).disks (number_at w16 disk.rest DISK_BLOCK_SIZE_AT) disk) ≡ true
       one_disk n disk = disk_self (n, disk)
 
   -- The copies that a recovery gives two disks agree.

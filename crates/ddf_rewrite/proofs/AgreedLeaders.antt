@@ -10,6 +10,7 @@ use Rattle.std.specs.Str.{bytes_eq}
 use Rattle.ddf_bytes.specs.Bytes.{number_at}
 use Rattle.ddf_tables.specs.declared.disks.DiskEntry.{DiskEntry}
 use Rattle.ddf_tables.specs.declared.arrays.ArrayEntry.{ArrayEntry}
+use Rattle.ddf_tables.specs.declared.layout.TheConstants.{DISK_BLOCK_SIZE_AT}
 use Rattle.ddf_config_records.specs.ElementValue.{ElementValue}
 use Rattle.ddf_config_records.specs.declared.notes.SlotNote.{SlotNote}
 use Rattle.ddf_config_records.specs.declared.place.Place.{Place}
@@ -179,7 +180,7 @@ module _ (old : DiskCopy) (group : List ℕ) (sequence : ℕ) (views : List View
   unfolding recovered_disks
   disk_led reference =
       let first = first_in views k leader leads in
-      ap not (find_made (λ pair. eqb pair.1.reference reference) same_disk (λ disk. disk_on (view_of old).disks (number_at w16 disk.rest 58) disk) (λ n disk. refl) (λ n disk other. refl) 0 (disks_in views) (numbered_disk reference leader.disks))
+      ap not (find_made (λ pair. eqb pair.1.reference reference) same_disk (λ disk. disk_on (view_of old).disks (number_at w16 disk.rest DISK_BLOCK_SIZE_AT) disk) (λ n disk. refl) (λ n disk other. refl) 0 (disks_in views) (numbered_disk reference leader.disks))
       ∙ ap (λ (disks : List DiskEntry). not (option_eq same_disk (numbered_disk reference disks) (numbered_disk reference leader.disks))) first.2
       ∙ (all_agree views agreed 0 k first.0 leader first.1 leads).disks reference
 

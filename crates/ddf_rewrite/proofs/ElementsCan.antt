@@ -14,6 +14,7 @@ use Rattle.ddf_header.specs.declared.kind.Revision.{Revision}
 use Rattle.ddf_header.specs.declared.kind.Revision.TheVariants.{R100, R120, R200}
 use Rattle.ddf_config_records.specs.declared.place.Place.{Place}
 use Rattle.ddf_config_records.specs.declared.fault.ElementFault.TheVariants as faults
+use Rattle.ddf_config_records.specs.declared.layout.TheConstants.{CACHE_AT}
 use Rattle.ddf_config_records.specs.ElementValue.{ElementValue}
 use Rattle.ddf_config_records.specs.Elements.{record_size, HasRoom, element_fields, has_no_strip, element_faults_of, fault_of, element_fault, CanBeElement}
 use Rattle.ddf_config_records.proofs.Elements.{element_within}
@@ -192,7 +193,7 @@ new_long : (geometry : Geometry) → HasRoom geometry → length (new_record_byt
 unfolding new_record_bytes
 new_long geometry room =
     let long : length (ffs (record_size geometry)) ≡ record_size geometry = length-replicate {A = ℕ} (record_size geometry) 255 in
-    length-placed (ffs (record_size geometry)) 128 (replicate 8 0) (omega (arith, long, room.whole)) ∙ long
+    length-placed (ffs (record_size geometry)) CACHE_AT (replicate 8 0) (omega (arith, long, room.whole)) ∙ long
   where
     ffs : ℕ → List ℕ
     ffs n = replicate n 255

@@ -11,6 +11,7 @@ use Rattle.ddf_seal.specs.Unread.{Fits}
 use Rattle.ddf_header.specs.declared.geometry.Geometry.{Geometry}
 use Rattle.ddf_header.specs.Geometry.{IsSound, record_sectors}
 use Rattle.ddf_config_records.specs.declared.notes.SlotNote.{SlotNote}
+use Rattle.ddf_config_records.specs.declared.layout.TheConstants.{NOTES_AT}
 use Rattle.ddf_config_records.specs.Bits.{is_among, IsRising}
 use Rattle.ddf_config_records.specs.Elements.{record_size}
 use Rattle.ddf_config_records.specs.NoteRecords.{note_size, note_place, note_fields, all_note_fields, head_fields, filling, CanBeNotes}
@@ -157,6 +158,6 @@ notes_can geometry config holdings placed count sound room group sequence fit =
       counted = counted;
       room = room;
       rising = rising most notes.slots all;
-      fields_fit = all-append Fits (head_fields most notes) (all_note_fields most 64 notes.slots ++ filling most (record_size geometry) (length notes.slots) ∷ []) head
-          (all-append Fits (all_note_fields most 64 notes.slots) (filling most (record_size geometry) (length notes.slots) ∷ []) (notes_fit most 64 notes.slots all) last);
+      fields_fit = all-append Fits (head_fields most notes) (all_note_fields most NOTES_AT notes.slots ++ filling most (record_size geometry) (length notes.slots) ∷ []) head
+          (all-append Fits (all_note_fields most NOTES_AT notes.slots) (filling most (record_size geometry) (length notes.slots) ∷ []) (notes_fit most NOTES_AT notes.slots all) last);
     }

@@ -19,6 +19,7 @@ use Rattle.ddf_config_records.specs.declared.notes.SlotNote.{SlotNote}
 use Rattle.ddf_config_records.specs.declared.notes.Notes.{Notes}
 use Rattle.ddf_config_records.specs.declared.slot.RecordSlot.{RecordSlot}
 use Rattle.ddf_config_records.specs.declared.slot.RecordSlot.TheVariants as slots
+use Rattle.ddf_config_records.specs.declared.layout.TheConstants.{NOTES_AT}
 use Rattle.ddf_config_records.specs.Elements.{record_size, has_no_strip, CanBeElement}
 use Rattle.ddf_config_records.specs.NoteRecords.{note_size, head_fields, filling, all_note_fields, CanBeNotes}
 use Rattle.ddf_config_records.specs.Slots.{are_valid, valid_of, valid_notes, lists, CanBeSlot}
@@ -51,9 +52,9 @@ rows_from most at (note ∷ notes) h = (h.1.1.1.1.0, rows_from most (at + note_s
 
 rows_small : (geometry : Geometry) (count : ℕ) (notes : Notes) → CanBeNotes geometry count notes → AllByRecursion (λ note. note.row < 2 ^ 64) notes.slots
 rows_small geometry count notes can =
-    let parts = all-split Fits (head_fields geometry.max_members notes) (all_note_fields geometry.max_members 64 notes.slots ++ filling geometry.max_members (record_size geometry) (length notes.slots) ∷ []) can.fields_fit in
-    let inner = all-split Fits (all_note_fields geometry.max_members 64 notes.slots) (filling geometry.max_members (record_size geometry) (length notes.slots) ∷ []) parts.1 in
-    rows_from geometry.max_members 64 notes.slots inner.0
+    let parts = all-split Fits (head_fields geometry.max_members notes) (all_note_fields geometry.max_members NOTES_AT notes.slots ++ filling geometry.max_members (record_size geometry) (length notes.slots) ∷ []) can.fields_fit in
+    let inner = all-split Fits (all_note_fields geometry.max_members NOTES_AT notes.slots) (filling geometry.max_members (record_size geometry) (length notes.slots) ∷ []) parts.1 in
+    rows_from geometry.max_members NOTES_AT notes.slots inner.0
 
 first_has : {X Y : Type 0} (P : Y → Type 0) (f : X → Option Y) (xs : List X) (y : Y) → ((i : ℕ) (x : X) (z : Y) → slice_get xs i ≡ Some x → f x ≡ Some z → P z) → first_of (map f xs) ≡ Some y → P y
 first_has P f [] y h is = absurd cc

@@ -12,6 +12,7 @@ use Rattle.std.specs.Cmp.Lexicographic.{pointwise}
 use Rattle.ddf_bytes.specs.Bytes.{number_at}
 use Rattle.ddf_tables.specs.declared.disks.DiskEntry.{DiskEntry}
 use Rattle.ddf_tables.specs.declared.arrays.ArrayEntry.{ArrayEntry}
+use Rattle.ddf_tables.specs.declared.layout.TheConstants.{DISK_BLOCK_SIZE_AT}
 use Rattle.ddf_config_records.specs.ElementValue.{ElementValue}
 use Rattle.ddf_config_records.specs.declared.notes.SlotNote.{SlotNote}
 use Rattle.ddf_config_records.specs.declared.place.Place.{Place}
@@ -169,7 +170,7 @@ naming_is most disks elements row pair fit e =
 -- ---- the members
 
 -- a leader's entry gives the member that is read from it
-pub member_led : (views : List View) (own : List DiskEntry) (disk : DiskEntry) → gives_member (disk_on own (number_at w16 disk.rest 58) disk) (member_entry_in views disk) ≡ true
+pub member_led : (views : List View) (own : List DiskEntry) (disk : DiskEntry) → gives_member (disk_on own (number_at w16 disk.rest DISK_BLOCK_SIZE_AT) disk) (member_entry_in views disk) ≡ true
 member_led views own disk =
     let reference : eqb disk.reference disk.reference ≡ true = eq-eqb disk.reference disk.reference refl in
     let guid = bytes_same disk.guid in
@@ -185,7 +186,7 @@ both_made m f g h (x ∷ xs) = let first = h x in let rest = both_made m f g h x
 -- all entries give the members
 members_led : (group : List ℕ) (sequence : ℕ) (views : List View) (own : List DiskEntry) → pointwise gives_member (recovered_disks (disks_in views) own) (read group sequence views).members ≡ true
 unfolding recovered_disks read
-members_led group sequence views own = both_made gives_member (λ disk. disk_on own (number_at w16 disk.rest 58) disk) (member_entry_in views) (member_led views own) (disks_in views)
+members_led group sequence views own = both_made gives_member (λ disk. disk_on own (number_at w16 disk.rest DISK_BLOCK_SIZE_AT) disk) (member_entry_in views) (member_led views own) (disks_in views)
 
 -- what is told of each record of an array, where its spares are the same
 any_alike : (test : List ℕ → Bool) (f g : ℕ → Option HeldRecord) (k n : ℕ) → ((i : ℕ) → i < n → option_map (λ held. held.element.spares) (f (k + i)) ≡ option_map (λ held. held.element.spares) (g (k + i)))
@@ -348,7 +349,7 @@ module _ (old : DiskCopy) (group : List ℕ) (sequence : ℕ) (views : List View
   recovered_few : length disks ≤ length old.disks.rows
   unfolding recovered_disks
   recovered_few =
-      let long = length-map (disks_in views) (λ disk. disk_on (view_of old).disks (number_at w16 disk.rest 58) disk) in
+      let long = length-map (disks_in views) (λ disk. disk_on (view_of old).disks (number_at w16 disk.rest DISK_BLOCK_SIZE_AT) disk) in
       let few = can.disks_fit in
       omega (arith, long, few)
 
@@ -442,7 +443,7 @@ module _ (old : DiskCopy) (group : List ℕ) (sequence : ℕ) (views : List View
   recovered_noted = made_noted old (before views).noted config timestamp disks (recovered_holdings old (before views) config) (led_apart old (before views) config can.names) can.records_fit
 
   -- the spare use of each member
-  spare_led : (before views).noted ≡ true → (disk : DiskEntry) → gives_spare view (disk_on (view_of old).disks (number_at w16 disk.rest 58) disk) (member_entry_in views disk) ≡ true
+  spare_led : (before views).noted ≡ true → (disk : DiskEntry) → gives_spare view (disk_on (view_of old).disks (number_at w16 disk.rest DISK_BLOCK_SIZE_AT) disk) (member_entry_in views disk) ≡ true
   unfolding spare_in arrays_after read
   spare_led noted disk =
       let own = (view_of old).arrays in
@@ -463,7 +464,7 @@ module _ (old : DiskCopy) (group : List ℕ) (sequence : ℕ) (views : List View
       let spares : pointwise (gives_spare view) view.disks config.members ≡ true =
       ap (λ (list : List DiskEntry). pointwise (gives_spare view) list config.members) recovered_disks_are
       ∙ filled_spares old.header.revision (before views).noted (all_wanted config) view disks config.members
-      ∙ both_made (gives_spare view) (λ disk. disk_on (view_of old).disks (number_at w16 disk.rest 58) disk) (member_entry_in views) (spare_led noted) (disks_in views) in
+      ∙ both_made (gives_spare view) (λ disk. disk_on (view_of old).disks (number_at w16 disk.rest DISK_BLOCK_SIZE_AT) disk) (member_entry_in views) (spare_led noted) (disks_in views) in
       let a = shows config view in
       let b = view.noted in
       let c = list_all (holds_all view.elements) config.arrays in

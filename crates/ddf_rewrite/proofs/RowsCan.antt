@@ -15,6 +15,7 @@ use Rattle.ddf_tables.specs.declared.disks.DiskRow.TheVariants as disk_rows
 use Rattle.ddf_tables.specs.declared.arrays.ArrayEntry.{ArrayEntry}
 use Rattle.ddf_tables.specs.declared.arrays.ArrayRow.{ArrayRow}
 use Rattle.ddf_tables.specs.declared.arrays.ArrayRow.TheVariants as array_rows
+use Rattle.ddf_tables.specs.declared.layout.TheConstants.{DISK_BLOCK_SIZE_AT}
 use Rattle.ddf_tables.specs.Disks.{IsDiskRow, is_used_disk, reference_of, is_no_disk, HaveReferences, IsDiskTable}
 use Rattle.ddf_tables.specs.Arrays.{IsArrayRow, is_used_array, guid_of, is_no_array, HaveGuids, IsArrayTable}
 use Rattle.ddf_tables.proofs.TableSections.{replaced_can_be_written}
@@ -140,10 +141,10 @@ changed_disks_can max table config disks revision can fit few named apart =
 
 -- ---- a recovery
 
-recovered_row : (own : List DiskEntry) (disk : DiskEntry) → AllByRecursion IsDiskEntry own → IsDiskEntry disk → IsDiskEntry (disk_on own (number_at w16 disk.rest 58) disk)
-recovered_row own disk good is = disk_over_can (find_disk disk.reference own) (number_at w16 disk.rest 58) disk is.0.fields_fit (find_good disk.reference own good) is.2
+recovered_row : (own : List DiskEntry) (disk : DiskEntry) → AllByRecursion IsDiskEntry own → IsDiskEntry disk → IsDiskEntry (disk_on own (number_at w16 disk.rest DISK_BLOCK_SIZE_AT) disk)
+recovered_row own disk good is = disk_over_can (find_disk disk.reference own) (number_at w16 disk.rest DISK_BLOCK_SIZE_AT) disk is.0.fields_fit (find_good disk.reference own good) is.2
 
-recovered_references : (own disks : List DiskEntry) → map (λ (disk : DiskEntry). disk.reference) (map (λ disk. disk_on own (number_at w16 disk.rest 58) disk) disks) ≡ map (λ (disk : DiskEntry). disk.reference) disks
+recovered_references : (own disks : List DiskEntry) → map (λ (disk : DiskEntry). disk.reference) (map (λ disk. disk_on own (number_at w16 disk.rest DISK_BLOCK_SIZE_AT) disk) disks) ≡ map (λ (disk : DiskEntry). disk.reference) disks
 recovered_references own [] = refl
 recovered_references own (disk ∷ disks) = ap (λ (l : List ℕ). disk.reference ∷ l) (recovered_references own disks)
 
@@ -154,7 +155,7 @@ pub recovered_disks_can : (max : ℕ) (table : TableValue DiskRow) (revision : R
 unfolding recovered_disks
 recovered_disks_can max table revision noted config disks can good few named apart =
     let own = filter_map disk_of table.rows in
-    let make = λ (disk : DiskEntry). disk_on own (number_at w16 disk.rest 58) disk in
+    let make = λ (disk : DiskEntry). disk_on own (number_at w16 disk.rest DISK_BLOCK_SIZE_AT) disk in
     let count = length-map disks make in
     let same = recovered_references own disks in
     let owns = own_disks_good table.rows can.rows_good in

@@ -11,6 +11,7 @@ use Rattle.ddf_seal.proofs.Records.{written_outside}
 use Rattle.ddf_header.specs.declared.geometry.Geometry.{Geometry}
 use Rattle.ddf_header.specs.Geometry.{IsSound}
 use Rattle.ddf_config_records.specs.declared.spare.SpareRecord.{SpareRecord}
+use Rattle.ddf_config_records.specs.declared.layout.TheConstants.{SPARE_TIMESTAMP_AT, SPARE_KIND_AT, SPARE_ENTRIES_AT, SPARE_ENTRY_BYTES}
 use Rattle.ddf_config_records.specs.Elements.{record_size, HasRoom}
 use Rattle.ddf_config_records.specs.Spares.{entry_fields, spare_fields, CanBeSpare}
 use Rattle.ddf_config_records.specs.Building.{spare_bytes, spare_entries}
@@ -31,9 +32,9 @@ use Rattle.ddf_rewrite.specs.Spares.{arrays_of_spare, kind_of_spare, same_spare_
 
 -- ---- the record of a spare
 
-spare_within : (spare : SpareRecord) (size : ℕ) → 512 ≤ size → 32 + 32 * length spare.arrays ≤ size → AreWithin size (seal_place ∷ places (spare_fields spare))
+spare_within : (spare : SpareRecord) (size : ℕ) → 512 ≤ size → SPARE_ENTRIES_AT + SPARE_ENTRY_BYTES * length spare.arrays ≤ size → AreWithin size (seal_place ∷ places (spare_fields spare))
 spare_within spare size long room =
-    within-append size (seal_place ∷ record { at = 8; length = 4 } ∷ record { at = 19; length = 1 } ∷ []) (places (entry_fields 32 spare.arrays)) (spare_head_within size long) (entries_within 32 size spare.arrays room)
+    within-append size (seal_place ∷ record { at = SPARE_TIMESTAMP_AT; length = 4 } ∷ record { at = SPARE_KIND_AT; length = 1 } ∷ []) (places (entry_fields SPARE_ENTRIES_AT spare.arrays)) (spare_head_within size long) (entries_within SPARE_ENTRIES_AT size spare.arrays room)
 
 kind_small : (use_as : SpareUse) → kind_of_spare use_as < 2 ^ 8
 kind_small uses.No = omega arith
@@ -59,7 +60,7 @@ at_time_can : (geometry : Geometry) (own : Option SpareRecord) (timestamp : ℕ)
     → length (arrays_of_spare use_as) ≤ spare_entries geometry → CanBeOwn geometry own → CanBeSpare geometry (spare_at_time geometry own timestamp use_as)
 at_time_can geometry own timestamp use_as sound room time guids few can =
     spare_over_can geometry (spare_bytes geometry own) (record { timestamp = timestamp; kind = kind_of_spare use_as; arrays = arrays_of_spare use_as; rest = [] }) sound (bytes_long geometry own room can) few
-    (time, (kind_small use_as, entries_fit 32 (arrays_of_spare use_as) guids))
+    (time, (kind_small use_as, entries_fit SPARE_ENTRIES_AT (arrays_of_spare use_as) guids))
 
 -- with another time
 timed_can : (geometry : Geometry) (spare : SpareRecord) (timestamp : ℕ) → timestamp < 2 ^ 32 → CanBeSpare geometry spare → CanBeSpare geometry (record spare { timestamp = timestamp })

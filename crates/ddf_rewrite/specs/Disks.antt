@@ -10,6 +10,7 @@ use Rattle.ddf_header.specs.declared.kind.Revision.TheVariants.{R100, R120, R200
 use Rattle.ddf_tables.specs.declared.disks.DiskEntry.{DiskEntry}
 use Rattle.ddf_tables.specs.declared.disks.DiskRow.{DiskRow}
 use Rattle.ddf_tables.specs.declared.disks.DiskRow.TheVariants as disk_rows
+use Rattle.ddf_tables.specs.declared.layout.TheConstants.{DISK_BLOCK_SIZE_AT}
 use Rattle.ddf_tables.specs.Disks.{is_used_disk}
 use Rattle.ddf_tables.specs.DiskFlags.{in_array, global_spare, spare, online, rebuilding}
 use Rattle.ddf_tables.specs.Building.{disk_over}
@@ -105,7 +106,7 @@ changed_disks config leading revision own = map (λ entry. disk_on own (block_si
 
 -- Each named field and the block size are those that the lowest leader records.
 unfoldable pub recovered_disks : (leading own : List DiskEntry) → List DiskEntry
-recovered_disks leading own = map (λ disk. disk_on own (number_at w16 disk.rest 58) disk) leading
+recovered_disks leading own = map (λ disk. disk_on own (number_at w16 disk.rest DISK_BLOCK_SIZE_AT) disk) leading
 
 -- ---- what Linux is told
 

@@ -32,6 +32,7 @@ use bitflags::Flags;
 use ddf_bytes::{NoMemory, be16};
 use ddf_config::{Config, Member, Position, SpareUse};
 use ddf_header::Revision;
+use ddf_tables::layout::DISK_BLOCK_SIZE_AT;
 use ddf_tables::{DiskEntry, DiskRow, DiskState, DiskType};
 use ddf_view::{find_disk, is_rebuilding};
 use indexmap::IndexMap;
@@ -42,9 +43,6 @@ const OTHER_TYPE: u16 = 0xFFF1;
 
 /// The bits of a current disk's state that a change keeps: in transition, a predicted failure, a read error that was not made good.
 const OTHER_STATE: u16 = 0x0038;
-
-/// Where the size of a block stands among the bytes of an entry that no field names.
-const BLOCK_SIZE: usize = 58;
 
 /// The block size that records are written with, in bytes: 512 from revision 02.00.00 on, and not given before.
 pub(crate) fn block_size_of(revision: Revision) -> u16
@@ -240,9 +238,9 @@ pub(crate) fn changed_disks(
 
 /// The entry of a disk that the lowest leader records.
 fn recovered_disk(own: &[DiskRow], disk: DiskEntry) -> DiskEntry
-    ensures { result ≡ disk_on (filter_map disk_of own.now) (number_at w16 disk.rest 58) disk }
+    ensures { result ≡ disk_on (filter_map disk_of own.now) (number_at w16 disk.rest DISK_BLOCK_SIZE_AT) disk }
 {
-    disk_on(own, be16(&disk.rest, BLOCK_SIZE), disk)
+    disk_on(own, be16(&disk.rest, DISK_BLOCK_SIZE_AT), disk)
 }
 
 /// The entries of the disks after a recovery, in table order, where the lowest leader has these rows.

@@ -14,6 +14,7 @@ use Rattle.ddf_seal.proofs.Same.{AreWithin, IsOutside, within_from_test}
 use Rattle.ddf_seal.proofs.Records.{apart_from_test, length-record_bytes, sealed_outside, spelled_kept, written_outside, written_spelled}
 use Rattle.ddf_seal.proofs.Spelled.{all_stand_from_spelled}
 use Rattle.ddf_stage.specs.declared.gate.Gate.{Gate}
+use Rattle.ddf_stage.specs.declared.layout.TheConstants.{OPEN_AT}
 use Rattle.ddf_stage.specs.Gate.{IsGate, blank, gate_at, gate_bytes, gate_fields, gate_signature, open_flag, opened}
 
 -- ---- lists that are alike
@@ -105,11 +106,11 @@ pub opened_closed : (gate : Gate) → IsGate gate → opened (gate_bytes false g
 unfolding opened
 opened_closed gate is =
     let again = gate_again false gate is in
-    let one : slice_index (gate_bytes true gate) 40 ≡ 1 = (fields_stand true gate is).1.1.0 in
-    let none : slice_index (gate_bytes false gate) 40 ≡ 0 = (fields_stand false gate is).1.1.0 in
+    let one : slice_index (gate_bytes true gate) OPEN_AT ≡ 1 = (fields_stand true gate is).1.1.0 in
+    let none : slice_index (gate_bytes false gate) OPEN_AT ≡ 0 = (fields_stand false gate is).1.1.0 in
     ap (λ (g : Gate). if pointwise nat_eq (gate_bytes true g) (gate_bytes false gate) then Some g else None) again
     ∙ not_open (pointwise nat_eq (gate_bytes true gate) (gate_bytes false gate)) (gate_bytes false gate) gate refl
-    (λ same. let e : slice_index (gate_bytes true gate) 40 ≡ slice_index (gate_bytes false gate) 40 = ap (λ l. slice_index l 40) same in omega (arith, sym one ∙ e ∙ none))
+    (λ same. let e : slice_index (gate_bytes true gate) OPEN_AT ≡ slice_index (gate_bytes false gate) OPEN_AT = ap (λ l. slice_index l OPEN_AT) same in omega (arith, sym one ∙ e ∙ none))
 
 -- ---- the gate that is read
 

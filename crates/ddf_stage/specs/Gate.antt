@@ -6,6 +6,7 @@ use Rattle.ddf_bytes.specs.Bytes.{bytes_at, number_at}
 use Rattle.ddf_seal.specs.Unread.{Field, plain_at, u8_at, u16_at, u64_at}
 use Rattle.ddf_seal.specs.Records.{record_bytes}
 use Rattle.ddf_stage.specs.declared.gate.Gate.{Gate}
+use Rattle.ddf_stage.specs.declared.layout.TheConstants.{ARRAY_AT, MARKER_AT, OPEN_AT, BLOCK_AT, PARITIES_AT}
 
 abbrev pub gate_signature : ℕ
 gate_signature = 0x5354_4147
@@ -19,7 +20,7 @@ open_flag is_open = if is_open then 1 else 0
 
 abbrev pub gate_fields : Bool → Gate → List Field
 gate_fields is_open gate =
-    plain_at 8 24 gate.array ∷ plain_at 32 8 marker ∷ u8_at 40 (open_flag is_open) ∷ u64_at 48 gate.block ∷ u16_at 56 gate.parities ∷ []
+    plain_at ARRAY_AT 24 gate.array ∷ plain_at MARKER_AT 8 marker ∷ u8_at OPEN_AT (open_flag is_open) ∷ u64_at BLOCK_AT gate.block ∷ u16_at PARITIES_AT gate.parities ∷ []
 
 -- all bytes that no field names are zeros
 unfoldable pub blank : List ℕ
@@ -37,7 +38,7 @@ gate_bytes is_open gate = record_bytes gate_signature (gate_fields is_open gate)
 
 -- the values in the places of the fields
 abbrev pub gate_at : List ℕ → Gate
-gate_at sector = record { array = bytes_at sector 8 24; block = number_at w64 sector 48; parities = number_at w16 sector 56 }
+gate_at sector = record { array = bytes_at sector ARRAY_AT 24; block = number_at w64 sector BLOCK_AT; parities = number_at w16 sector PARITIES_AT }
 
 -- stands open in a sector; none where the sector is another
 unfoldable pub opened : List ℕ → Option Gate

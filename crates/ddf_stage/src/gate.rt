@@ -5,6 +5,7 @@ ghost use Rattle.ddf_seal.specs.Records.{record_bytes};
 ghost use Rattle.ddf_seal.specs.Unread.{AreBytes, written};
 ghost use Rattle.ddf_stage.specs.Gate.{IsGate, gate_at, gate_bytes, gate_fields, gate_signature, open_flag, opened};
 
+use crate::layout;
 use ddf_bytes::{Guid, Sector, be16, be64, put16, put64};
 use ddf_seal::{guid_at, place, seal};
 
@@ -20,16 +21,6 @@ pub struct Gate {
 }
 
 const SIGNATURE: u32 = 0x5354_4147;
-
-const ARRAY: usize = 8;
-
-const MARKER: usize = 32;
-
-const OPEN: usize = 40;
-
-const BLOCK: usize = 48;
-
-const PARITIES: usize = 56;
 
 /// The sealed sector of a gate, open or closed (profile).
 pub fn gate_sector(gate: &Gate, is_open: bool) -> Sector
@@ -61,9 +52,9 @@ fn read(sector: &Sector) -> Gate
     ensures fits { IsGate result }
 {
     Gate {
-        array: guid_at(sector, ARRAY),
-        block: be64(sector, BLOCK),
-        parities: be16(sector, PARITIES),
+        array: guid_at(sector, layout::ARRAY_AT),
+        block: be64(sector, layout::BLOCK_AT),
+        parities: be16(sector, layout::PARITIES_AT),
     }
 }
 
@@ -80,11 +71,11 @@ fn put_fields(sector: &mut [u8], gate: &Gate, is_open: bool)
     requires { length sector.old ≡ 512 }
     ensures { sector.new ≡ written (gate_fields is_open gate.now) sector.old }
 {
-    place(sector, ARRAY, &gate.array.bytes());
-    place(sector, MARKER, b"RDDFSTAG");
-    place(sector, OPEN, &[flag(is_open)]);
-    put64(sector, BLOCK, gate.block);
-    put16(sector, PARITIES, gate.parities);
+    place(sector, layout::ARRAY_AT, &gate.array.bytes());
+    place(sector, layout::MARKER_AT, b"RDDFSTAG");
+    place(sector, layout::OPEN_AT, &[flag(is_open)]);
+    put64(sector, layout::BLOCK_AT, gate.block);
+    put16(sector, layout::PARITIES_AT, gate.parities);
 }
 
 /// The flag of a gate that is open, or closed.

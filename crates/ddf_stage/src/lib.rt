@@ -6,6 +6,7 @@ mod cells;
 mod desk;
 mod each;
 mod gate;
+pub mod layout;
 mod reading;
 mod staging;
 

@@ -11,6 +11,7 @@ use Rattle.ddf_seal.proofs.Records.{AreAllApart, apart_from_test, row_again, row
 use Rattle.ddf_tables.specs.declared.arrays.ArrayEntry.{ArrayEntry}
 use Rattle.ddf_tables.specs.declared.arrays.ArrayRow.{ArrayRow}
 use Rattle.ddf_tables.specs.declared.arrays.ArrayRow.TheVariants.{Entry, Unused}
+use Rattle.ddf_tables.specs.declared.layout.TheConstants.{ARRAY_GUID_AT}
 use Rattle.ddf_tables.specs.Rows.{is_unused}
 use Rattle.ddf_tables.specs.Arrays.{array_fields, array_at, array_row_at, array_row_bytes, array_twice, HaveGuids, guid_of, is_no_array, IsArrayRowOf, IsArrayRow}
 use Rattle.ddf_tables.proofs.TableValues.{RowLaws}
@@ -29,14 +30,14 @@ same_entry a b e1 e2 e3 e4 e5 e6 =
     let all : entry_of a.guid a.number a.state a.init a.name a.rest ≡ entry_of b.guid b.number b.state b.init b.name b.rest = cc in
     all
 
-pub used_row : (bytes : List ℕ) → is_unused (bytes_at bytes 0 24) ≡ false → array_row_at bytes ≡ Entry (array_at bytes)
+pub used_row : (bytes : List ℕ) → is_unused (bytes_at bytes ARRAY_GUID_AT 24) ≡ false → array_row_at bytes ≡ Entry (array_at bytes)
 unfolding array_row_at
 used_row bytes used = rw used refl
 
 read_is : (bytes : List ℕ) → length bytes ≡ 64 → AreBytes bytes → IsArrayRowOf (array_row_at bytes) bytes
 unfolding array_row_at
 read_is bytes size are =
-    elim (cases_Bool (is_unused (bytes_at bytes 0 24))) [
+    elim (cases_Bool (is_unused (bytes_at bytes ARRAY_GUID_AT 24))) [
       | inl unused ↦ rw unused (refl, unused)
       | inr used ↦ rw used (record { are_bytes = are; fields_stand = (refl, (refl, (refl, (refl, (refl, tt))))); others_stay = refl }, used)
     ]
@@ -45,10 +46,10 @@ read_only : (row : ArrayRow) (bytes : List ℕ) → length bytes ≡ 64 → IsAr
 unfolding array_row_at
 read_only (Entry entry) bytes size is =
     let stand = is.0.fields_stand in
-    let used : is_unused (bytes_at bytes 0 24) ≡ false = ap is_unused stand.0 ∙ is.1 in
+    let used : is_unused (bytes_at bytes ARRAY_GUID_AT 24) ≡ false = ap is_unused stand.0 ∙ is.1 in
     rw used (ap Entry (same_entry (array_at bytes) entry stand.0 stand.1.0 stand.1.1.0 stand.1.1.1.0 stand.1.1.1.1.0 (sym is.0.others_stay)))
 read_only (Unused whole) bytes size is =
-    let unused : is_unused (bytes_at bytes 0 24) ≡ true = ap (λ l. is_unused (bytes_at l 0 24)) (sym is.0) ∙ is.1 in
+    let unused : is_unused (bytes_at bytes ARRAY_GUID_AT 24) ≡ true = ap (λ l. is_unused (bytes_at l ARRAY_GUID_AT 24)) (sym is.0) ∙ is.1 in
     rw unused (ap Unused (sym is.0))
 
 bytes_again : (row : ArrayRow) (bytes : List ℕ) → length bytes ≡ 64 → IsArrayRowOf row bytes → array_row_bytes row ≡ bytes

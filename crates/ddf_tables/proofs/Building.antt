@@ -12,6 +12,7 @@ use Rattle.ddf_tables.specs.declared.disks.DiskEntry.{DiskEntry}
 use Rattle.ddf_tables.specs.declared.disks.DiskRow.TheVariants as disk_rows
 use Rattle.ddf_tables.specs.declared.arrays.ArrayEntry.{ArrayEntry}
 use Rattle.ddf_tables.specs.declared.arrays.ArrayRow.TheVariants as array_rows
+use Rattle.ddf_tables.specs.declared.layout.TheConstants.{DISK_GUID_AT, DISK_REFERENCE_AT, DISK_KIND_AT, DISK_STATE_AT, DISK_SIZE_AT, DISK_BLOCK_SIZE_AT, ARRAY_GUID_AT, ARRAY_NUMBER_AT, ARRAY_KIND_AT, ARRAY_STATE_AT, ARRAY_INIT_AT, ARRAY_NAME_AT}
 use Rattle.ddf_tables.specs.Rows.{is_unused}
 use Rattle.ddf_tables.specs.Disks.{disk_fields, IsDiskRow}
 use Rattle.ddf_tables.specs.Arrays.{array_fields, IsArrayRow}
@@ -52,20 +53,20 @@ clear_beside spans rest span new size fits within beside clear =
 -- ---- a disk
 
 abbrev disk_spans : List Span
-disk_spans = record { at = 0; length = 24 } ∷ record { at = 24; length = 4 } ∷ record { at = 28; length = 2 } ∷ record { at = 30; length = 2 } ∷ record { at = 32; length = 8 } ∷ []
+disk_spans = record { at = DISK_GUID_AT; length = 24 } ∷ record { at = DISK_REFERENCE_AT; length = 4 } ∷ record { at = DISK_KIND_AT; length = 2 } ∷ record { at = DISK_STATE_AT; length = 2 } ∷ record { at = DISK_SIZE_AT; length = 8 } ∷ []
 
 disk_kept : (old : Option DiskEntry) (entry : DiskEntry) → ForSome old (λ disk. IsDiskRow (disk_rows.Entry disk)) → IsRest disk_spans (kept_disk_rest old entry)
 unfolding new_disk_rest
 disk_kept None entry can = rest_of_cleared disk_spans (replicate 64 255) refl (within_from_test 64 disk_spans refl)
 disk_kept (Some disk) entry can = let row = can disk refl in record { long = row.1; clear = row.0.others_clear }
 
-with_block_size : (rest : List ℕ) (block_size : ℕ) → IsRest disk_spans rest → IsRest disk_spans (placed rest 58 (to_be_bytes w16 block_size))
+with_block_size : (rest : List ℕ) (block_size : ℕ) → IsRest disk_spans rest → IsRest disk_spans (placed rest DISK_BLOCK_SIZE_AT (to_be_bytes w16 block_size))
 with_block_size rest block_size is =
     let long = is.long in
-    let fits : 60 ≤ length rest = omega (arith, long) in
+    let fits : DISK_BLOCK_SIZE_AT + 2 ≤ length rest = omega (arith, long) in
     record {
-      long = length-placed rest 58 (to_be_bytes w16 block_size) fits ∙ long;
-      clear = clear_beside disk_spans rest (record { at = 58; length = 2 }) (to_be_bytes w16 block_size) refl fits
+      long = length-placed rest DISK_BLOCK_SIZE_AT (to_be_bytes w16 block_size) fits ∙ long;
+      clear = clear_beside disk_spans rest (record { at = DISK_BLOCK_SIZE_AT; length = 2 }) (to_be_bytes w16 block_size) refl fits
           (subst (λ n. AreWithin n disk_spans) (sym long) (within_from_test 64 disk_spans refl))
           (λ i low high. (inr (omega (arith, low)), (inr (omega (arith, low)), (inr (omega (arith, low)), (inr (omega (arith, low)), (inr (omega (arith, low)), tt))))))
           is.clear;
@@ -80,11 +81,11 @@ disk_over_can old block_size entry fit can used =
 -- ---- an array
 
 abbrev array_spans : List Span
-array_spans = record { at = 0; length = 24 } ∷ record { at = 24; length = 2 } ∷ record { at = 32; length = 1 } ∷ record { at = 33; length = 1 } ∷ record { at = 48; length = 16 } ∷ []
+array_spans = record { at = ARRAY_GUID_AT; length = 24 } ∷ record { at = ARRAY_NUMBER_AT; length = 2 } ∷ record { at = ARRAY_STATE_AT; length = 1 } ∷ record { at = ARRAY_INIT_AT; length = 1 } ∷ record { at = ARRAY_NAME_AT; length = 16 } ∷ []
 
 array_kept : (old : Option ArrayEntry) (entry : ArrayEntry) → ForSome old (λ array. IsArrayRow (array_rows.Entry array)) → IsRest array_spans (kept_array_rest old entry)
 unfolding new_array_rest
-array_kept None entry can = rest_of_cleared array_spans (placed (replicate 64 255) 28 (replicate 4 0)) (length-placed (replicate 64 255) 28 (replicate 4 0) (omega arith)) (within_from_test 64 array_spans refl)
+array_kept None entry can = rest_of_cleared array_spans (placed (replicate 64 255) ARRAY_KIND_AT (replicate 4 0)) (length-placed (replicate 64 255) ARRAY_KIND_AT (replicate 4 0) (omega arith)) (within_from_test 64 array_spans refl)
 array_kept (Some array) entry can = let row = can array refl in record { long = row.1; clear = row.0.others_clear }
 
 pub array_over_can : (old : Option ArrayEntry) (entry : ArrayEntry) → AllByRecursion Fits (array_fields entry) → ForSome old (λ array. IsArrayRow (array_rows.Entry array)) → is_unused entry.guid ≡ false

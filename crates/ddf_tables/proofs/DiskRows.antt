@@ -13,6 +13,7 @@ use Rattle.ddf_tables.specs.declared.bits.DiskType.{DiskType}
 use Rattle.ddf_tables.specs.declared.bits.DiskState.{DiskState}
 use Rattle.ddf_tables.specs.declared.disks.DiskRow.{DiskRow}
 use Rattle.ddf_tables.specs.declared.disks.DiskRow.TheVariants.{Entry, Unused}
+use Rattle.ddf_tables.specs.declared.layout.TheConstants.{DISK_GUID_AT}
 use Rattle.ddf_tables.specs.Rows.{is_unused}
 use Rattle.ddf_tables.specs.Disks.{disk_fields, disk_at, disk_row_at, disk_row_bytes, disk_twice, HaveReferences, reference_of, is_no_disk, IsDiskRowOf, IsDiskRow}
 use Rattle.ddf_tables.proofs.TableValues.{RowLaws}
@@ -33,14 +34,14 @@ same_entry a b e1 e2 e3 e4 e5 e6 =
     let all : entry_of a.guid a.reference a.kind a.state a.size a.rest ≡ entry_of b.guid b.reference b.kind b.state b.size b.rest = cc in
     all
 
-pub used_row : (bytes : List ℕ) → is_unused (bytes_at bytes 0 24) ≡ false → disk_row_at bytes ≡ Entry (disk_at bytes)
+pub used_row : (bytes : List ℕ) → is_unused (bytes_at bytes DISK_GUID_AT 24) ≡ false → disk_row_at bytes ≡ Entry (disk_at bytes)
 unfolding disk_row_at
 used_row bytes used = rw used refl
 
 read_is : (bytes : List ℕ) → length bytes ≡ 64 → AreBytes bytes → IsDiskRowOf (disk_row_at bytes) bytes
 unfolding disk_row_at
 read_is bytes size are =
-    elim (cases_Bool (is_unused (bytes_at bytes 0 24))) [
+    elim (cases_Bool (is_unused (bytes_at bytes DISK_GUID_AT 24))) [
       | inl unused ↦ rw unused (refl, unused)
       | inr used ↦ rw used (record { are_bytes = are; fields_stand = (refl, (refl, (refl, (refl, (refl, tt))))); others_stay = refl }, used)
     ]
@@ -49,10 +50,10 @@ read_only : (row : DiskRow) (bytes : List ℕ) → length bytes ≡ 64 → IsDis
 unfolding disk_row_at
 read_only (Entry entry) bytes size is =
     let stand = is.0.fields_stand in
-    let used : is_unused (bytes_at bytes 0 24) ≡ false = ap is_unused stand.0 ∙ is.1 in
+    let used : is_unused (bytes_at bytes DISK_GUID_AT 24) ≡ false = ap is_unused stand.0 ∙ is.1 in
     rw used (ap Entry (same_entry (disk_at bytes) entry stand.0 stand.1.0 stand.1.1.0 stand.1.1.1.0 stand.1.1.1.1.0 (sym is.0.others_stay)))
 read_only (Unused whole) bytes size is =
-    let unused : is_unused (bytes_at bytes 0 24) ≡ true = ap (λ l. is_unused (bytes_at l 0 24)) (sym is.0) ∙ is.1 in
+    let unused : is_unused (bytes_at bytes DISK_GUID_AT 24) ≡ true = ap (λ l. is_unused (bytes_at l DISK_GUID_AT 24)) (sym is.0) ∙ is.1 in
     rw unused (ap Unused (sym is.0))
 
 bytes_again : (row : DiskRow) (bytes : List ℕ) → length bytes ≡ 64 → IsDiskRowOf row bytes → disk_row_bytes row ≡ bytes

@@ -8,6 +8,7 @@ use Rattle.ddf_bytes.specs.Choices.{first_of}
 use Rattle.ddf_seal.specs.Unread.{placed}
 use Rattle.ddf_seal.proofs.Same.{placed_after}
 use Rattle.ddf_tables.specs.declared.fault.TableFault.{TableFault}
+use Rattle.ddf_tables.specs.declared.layout.TheConstants.{ROWS_AT, ROW_BYTES}
 
 -- what is wrong with rows that stand from some place on among all, by those before them
 abbrev pub faults_from : {Row : Type 0} → (List Row → Row → Option TableFault) → List Row → ℕ → List Row → Option TableFault
@@ -29,8 +30,8 @@ row_bytes_more row_bytes rows i row lt is =
     ∙ flat_map-append row_bytes (take i rows) (row ∷ []) ∙ ap (λ l. flat_map row_bytes (take i rows) ++ l) (append-nil (row_bytes row))
 
 -- what is placed behind so many rows that were placed
-pub placed_more : (section done bytes : List ℕ) (i : ℕ) → length done ≡ 64 * i → 64 + 64 * i + length bytes ≤ length section
-    → placed (placed section 64 done) (64 + 64 * i) bytes ≡ placed section 64 (done ++ bytes)
+pub placed_more : (section done bytes : List ℕ) (i : ℕ) → length done ≡ ROW_BYTES * i → ROWS_AT + ROW_BYTES * i + length bytes ≤ length section
+    → placed (placed section ROWS_AT done) (ROWS_AT + ROW_BYTES * i) bytes ≡ placed section ROWS_AT (done ++ bytes)
 placed_more section done bytes i size within =
-    let at : 64 + 64 * i ≡ 64 + length done = omega arith in
-    ap (λ k. placed (placed section 64 done) k bytes) at ∙ placed_after section 64 done bytes (omega arith)
+    let at : ROWS_AT + ROW_BYTES * i ≡ ROWS_AT + length done = omega arith in
+    ap (λ k. placed (placed section ROWS_AT done) k bytes) at ∙ placed_after section ROWS_AT done bytes (omega arith)

@@ -19,6 +19,7 @@ use Rattle.ddf_seal.proofs.Seals.{sealed_from_check, check_from_sealed}
 use Rattle.ddf_seal.proofs.Records.{AreAllApart, record_again, record_from_bytes, record_written, length-record_bytes}
 use Rattle.ddf_tables.specs.declared.fault.TableFault.{TableFault}
 use Rattle.ddf_tables.specs.declared.fault.TableFault.TheVariants as faults
+use Rattle.ddf_tables.specs.declared.layout.TheConstants.{MAXIMUM_AT, ROWS_AT, ROW_BYTES}
 use Rattle.ddf_tables.specs.Faults.{UpToMemory}
 use Rattle.ddf_tables.specs.Tables.{TableValue, table_fields, first_twice, IsTableOf, IsTable, table_places, unread_of_table, table_bytes, rows_at, table_at, table_faults, decoded_table, blank_table, replaced_table}
 use Rattle.ddf_tables.proofs.Answers.{none_err, if_ok, if_ok_then}
@@ -27,7 +28,7 @@ use Rattle.ddf_tables.proofs.Names.{NameLaws}
 use Rattle.ddf_tables.proofs.TableValues.{RowLaws, rows_at_stand, rows_at_only, row_bytes_again, rows_are_good, length-row_bytes, rows_stand_written}
 
 -- all fields of a table lie within its section, and share no byte
-table_within : (count size : ℕ) → 64 + 64 * count ≤ size → AreWithin size (seal_place ∷ table_places count)
+table_within : (count size : ℕ) → ROWS_AT + ROW_BYTES * count ≤ size → AreWithin size (seal_place ∷ table_places count)
 table_within count size long = (omega arith, (omega arith, (omega arith, (long, tt))))
 
 table_apart : (count : ℕ) → AreAllApart (seal_place ∷ table_places count)
@@ -39,13 +40,13 @@ table_apart count = (
 -- ---- reading
 
 pub table_from_section : {Row : Type 0} {IsRowAt : Row → List ℕ → Type 0} {IsRow : Row → Type 0} {row_at : List ℕ → Row} {row_bytes : Row → List ℕ} {twice : List Row → Row → Option TableFault} {HaveNames : List Row → Type 0} (laws : RowLaws IsRowAt IsRow row_at row_bytes) (names : NameLaws twice HaveNames)
-    (signature : ℕ) (max : ℕ) (section : List ℕ) → 64 + 64 * max ≤ length section → AreBytes section
+    (signature : ℕ) (max : ℕ) (section : List ℕ) → ROWS_AT + ROW_BYTES * max ≤ length section → AreBytes section
     → first_of (table_faults signature row_at twice max section) ≡ None → IsTableOf signature IsRowAt HaveNames max (table_at row_at max section) section
 table_from_section {row_at = row_at} {twice = twice} laws names signature max section long are h =
     let none = none_first (table_faults signature row_at twice max section) h in
     let seal = seal_check signature section in
-    let stated : number_at w16 section 10 ≡ max = eqb-true (number_at w16 section 10) max (none_when_not (eqb (number_at w16 section 10) max) (faults.Count (number_at w16 section 10) max) none.1.0) in
-    let count = length-each_at (λ place. row_at (bytes_at section place 64)) 64 64 max in
+    let stated : number_at w16 section MAXIMUM_AT ≡ max = eqb-true (number_at w16 section MAXIMUM_AT) max (none_when_not (eqb (number_at w16 section MAXIMUM_AT) max) (faults.Count (number_at w16 section MAXIMUM_AT) max) none.1.0) in
+    let count = length-each_at (λ place. row_at (bytes_at section place ROW_BYTES)) ROW_BYTES ROWS_AT max in
     record {
       has_rows = count;
       long = long;
@@ -55,8 +56,8 @@ table_from_section {row_at = row_at} {twice = twice} laws names signature max se
         fields_stand = (refl, (stated ∙ sym count, (refl, tt)));
         others_stay = ap (λ n. unread_of_table n section) (sym count);
       };
-      rows_stand = rows_at_stand laws section 64 max long are;
-      have_names = names.own_from_none (rows_at row_at section 64 max) none.1.1.0;
+      rows_stand = rows_at_stand laws section ROWS_AT max long are;
+      have_names = names.own_from_none (rows_at row_at section ROWS_AT max) none.1.1.0;
     }
 
 pub section_of_table : {Row : Type 0} {IsRowAt : Row → List ℕ → Type 0} {IsRow : Row → Type 0} {row_at : List ℕ → Row} {row_bytes : Row → List ℕ} {twice : List Row → Row → Option TableFault} {HaveNames : List Row → Type 0} (laws : RowLaws IsRowAt IsRow row_at row_bytes) (names : NameLaws twice HaveNames)
@@ -64,15 +65,15 @@ pub section_of_table : {Row : Type 0} {IsRowAt : Row → List ℕ → Type 0} {I
     → decoded_table signature row_at twice max section ≡ Ok table
 section_of_table {Row} {row_at = row_at} {twice = twice} laws names signature max table section fits is =
     let seal = check_from_sealed signature section (let long = is.long in omega arith) is.is_record.are_bytes fits is.is_record.is_sealed in
-    let stated : eqb (number_at w16 section 10) max ≡ true = eq-eqb (number_at w16 section 10) max (is.is_record.fields_stand.1.0 ∙ is.has_rows) in
-    let rows : rows_at row_at section 64 max ≡ table.rows =
-    ap (rows_at row_at section 64) (sym is.has_rows) ∙ rows_at_only laws section 64 table.rows (let long = is.long in let count = is.has_rows in omega arith) is.rows_stand in
-    let apart : first_twice twice (rows_at row_at section 64 max) ≡ None = ap (first_twice twice) rows ∙ names.none_from_own table.rows is.have_names in
+    let stated : eqb (number_at w16 section MAXIMUM_AT) max ≡ true = eq-eqb (number_at w16 section MAXIMUM_AT) max (is.is_record.fields_stand.1.0 ∙ is.has_rows) in
+    let rows : rows_at row_at section ROWS_AT max ≡ table.rows =
+    ap (rows_at row_at section ROWS_AT) (sym is.has_rows) ∙ rows_at_only laws section ROWS_AT table.rows (let long = is.long in let count = is.has_rows in omega arith) is.rows_stand in
+    let apart : first_twice twice (rows_at row_at section ROWS_AT max) ≡ None = ap (first_twice twice) rows ∙ names.none_from_own table.rows is.have_names in
     let none : first_of (table_faults signature row_at twice max section) ≡ None = rw (seal, stated, apart) refl in
     let rest : unread_of_table max section ≡ table.rest = ap (λ n. unread_of_table n section) (sym is.has_rows) ∙ sym is.is_record.others_stay in
     let made : (populated : ℕ) (rows : List Row) (rest : List ℕ) → TableValue Row = λ populated rows rest. record { populated = populated; rows = rows; rest = rest } in
     let same : table_at row_at max section ≡ table =
-    ap (λ n. made n (rows_at row_at section 64 max) (unread_of_table max section)) is.is_record.fields_stand.0
+    ap (λ n. made n (rows_at row_at section ROWS_AT max) (unread_of_table max section)) is.is_record.fields_stand.0
     ∙ ap (λ r. made table.populated r (unread_of_table max section)) rows ∙ ap (made table.populated table.rows) rest in
     ap (λ o. ok_unless o (table_at row_at max section)) none ∙ ap Ok same
 
@@ -84,16 +85,16 @@ pub table_again : {Row : Type 0} {IsRowAt : Row → List ℕ → Type 0} {IsRow 
 table_again {row_bytes = row_bytes} laws signature HaveNames max table section is =
     let count = is.has_rows in
     let long = is.long in
-    let within : 64 + 64 * length table.rows ≤ length section = omega arith in
-    ap (λ rows. record_bytes signature (table_fields table rows) table.rest) (row_bytes_again laws section 64 table.rows within is.rows_stand)
-    ∙ record_again signature (table_fields table (bytes_at section 64 (64 * length table.rows))) table.rest section (table_within (length table.rows) (length section) within) is.is_record
+    let within : ROWS_AT + ROW_BYTES * length table.rows ≤ length section = omega arith in
+    ap (λ rows. record_bytes signature (table_fields table rows) table.rest) (row_bytes_again laws section ROWS_AT table.rows within is.rows_stand)
+    ∙ record_again signature (table_fields table (bytes_at section ROWS_AT (ROW_BYTES * length table.rows))) table.rest section (table_within (length table.rows) (length section) within) is.is_record
 
 pub length-rest_of_table : {Row : Type 0} {IsRowAt : Row → List ℕ → Type 0} (signature : ℕ) (HaveNames : List Row → Type 0) (max : ℕ) (table : TableValue Row) (section : List ℕ)
     → IsTableOf signature IsRowAt HaveNames max table section → length table.rest ≡ length section
 length-rest_of_table signature HaveNames max table section is =
     let count = is.has_rows in
     let long = is.long in
-    let within : 64 + 64 * length table.rows ≤ length section = omega arith in
+    let within : ROWS_AT + ROW_BYTES * length table.rows ≤ length section = omega arith in
     ap length is.is_record.others_stay ∙ (cleared_outside (seal_place ∷ table_places (length table.rows)) section (table_within (length table.rows) (length section) within)).size
 
 pub table_can_be_written : {Row : Type 0} {IsRowAt : Row → List ℕ → Type 0} {IsRow : Row → Type 0} {row_at : List ℕ → Row} {row_bytes : Row → List ℕ} (laws : RowLaws IsRowAt IsRow row_at row_bytes)
@@ -101,16 +102,16 @@ pub table_can_be_written : {Row : Type 0} {IsRowAt : Row → List ℕ → Type 0
 table_can_be_written laws signature HaveNames max table section is =
     let count = is.has_rows in
     let long = is.long in
-    let within : 64 + 64 * length table.rows ≤ length section = omega arith in
+    let within : ROWS_AT + ROW_BYTES * length table.rows ≤ length section = omega arith in
     let inside = table_within (length table.rows) (length section) within in
-    let can = record_from_bytes signature (table_fields table (bytes_at section 64 (64 * length table.rows))) table.rest section inside is.is_record in
+    let can = record_from_bytes signature (table_fields table (bytes_at section ROWS_AT (ROW_BYTES * length table.rows))) table.rest section inside is.is_record in
     record {
       has_rows = count;
       max_fits = subst (λ n. n < 2 ^ 16) count can.fields_fit.1.0;
       populated_fits = can.fields_fit.0;
       long = let size = length-rest_of_table signature HaveNames max table section is in omega (arith, size);
       others_clear = ap (λ n. unread_of_table n table.rest) (sym count) ∙ can.others_clear;
-      rows_good = rows_are_good laws section 64 table.rows within is.rows_stand;
+      rows_good = rows_are_good laws section ROWS_AT table.rows within is.rows_stand;
       have_names = is.have_names;
     }
 
@@ -120,7 +121,7 @@ pub table_is_written : {Row : Type 0} {IsRowAt : Row → List ℕ → Type 0} {I
 table_is_written {row_bytes = row_bytes} laws signature HaveNames max table can are =
     let count = can.has_rows in
     let room = can.long in
-    let within : 64 + 64 * length table.rows ≤ length table.rest = omega arith in
+    let within : ROWS_AT + ROW_BYTES * length table.rows ≤ length table.rest = omega arith in
     let rows = flat_map row_bytes table.rows in
     let fields = table_fields table rows in
     let section = table_bytes signature row_bytes table in
@@ -131,20 +132,20 @@ table_is_written {row_bytes = row_bytes} laws signature HaveNames max table can 
     } in
     let size = length-record_bytes signature fields table.rest inside fit.fields_fit in
     let is = record_written signature fields table.rest inside (table_apart (length table.rows)) fit are in
-    let stands : bytes_at section 64 (64 * length table.rows) ≡ rows = is.fields_stand.1.1.0 in
-    let whole : 64 + 64 * length table.rows ≤ length section = omega (arith, size) in
+    let stands : bytes_at section ROWS_AT (ROW_BYTES * length table.rows) ≡ rows = is.fields_stand.1.1.0 in
+    let whole : ROWS_AT + ROW_BYTES * length table.rows ≤ length section = omega (arith, size) in
     record {
       has_rows = count;
       long = omega (arith, size);
       is_record = subst (λ r. IsRecordOf signature (table_fields table r) table.rest section) (sym stands) is;
-      rows_stand = rows_stand_written laws section 64 table.rows whole are can.rows_good stands;
+      rows_stand = rows_stand_written laws section ROWS_AT table.rows whole are can.rows_good stands;
       have_names = can.have_names;
     }
 
 -- ---- what the calls say
 
 pub decodes_value : {Row : Type 0} {IsRowAt : Row → List ℕ → Type 0} {IsRow : Row → Type 0} {row_at : List ℕ → Row} {row_bytes : Row → List ℕ} {twice : List Row → Row → Option TableFault} {HaveNames : List Row → Type 0} (laws : RowLaws IsRowAt IsRow row_at row_bytes) (names : NameLaws twice HaveNames)
-    (signature : ℕ) (max : ℕ) (section : List ℕ) (result : Result (TableValue Row) TableFault) → 64 + 64 * max ≤ length section → AreBytes section
+    (signature : ℕ) (max : ℕ) (section : List ℕ) (result : Result (TableValue Row) TableFault) → ROWS_AT + ROW_BYTES * max ≤ length section → AreBytes section
     → UpToMemory result (decoded_table signature row_at twice max section) → IfOk result (λ table. IsTableOf signature IsRowAt HaveNames max table section)
 decodes_value {IsRowAt = IsRowAt} {row_at = row_at} {twice = twice} {HaveNames = HaveNames} laws names signature max section result long are given =
     if_ok (λ table. IsTableOf signature IsRowAt HaveNames max table section) (first_of (table_faults signature row_at twice max section)) (table_at row_at max section) result given
@@ -174,7 +175,7 @@ all_of_replicate : {X : Type 0} (P : X → Type 0) (x : X) (count : ℕ) → P x
 all_of_replicate P x zero h = tt
 all_of_replicate P x (suc count) h = (h, all_of_replicate P x count h)
 
-length-blank : {Row : Type 0} (unused : Row) (max size : ℕ) → 64 + 64 * max ≤ size → length (blank_table unused max size).rest ≡ size
+length-blank : {Row : Type 0} (unused : Row) (max size : ℕ) → ROWS_AT + ROW_BYTES * max ≤ size → length (blank_table unused max size).rest ≡ size
 length-blank unused max size room =
     let bytes : List ℕ = replicate size 255 in
     let len = length-replicate {A = ℕ} size 255 in
@@ -182,7 +183,7 @@ length-blank unused max size room =
     (cleared_outside (seal_place ∷ table_places max) bytes inside).size ∙ len
 
 blank_can_be_written : {Row : Type 0} (IsRow : Row → Type 0) (HaveNames : List Row → Type 0) (unused : Row) (max size : ℕ) → IsRow unused → HaveNames (replicate max unused) → max < 2 ^ 16
-    → 64 + 64 * max ≤ size → IsTable IsRow HaveNames max (blank_table unused max size)
+    → ROWS_AT + ROW_BYTES * max ≤ size → IsTable IsRow HaveNames max (blank_table unused max size)
 blank_can_be_written IsRow HaveNames unused max size good own fits room =
     let bytes : List ℕ = replicate size 255 in
     let len = length-replicate {A = ℕ} size 255 in
@@ -198,7 +199,7 @@ blank_can_be_written IsRow HaveNames unused max size good own fits room =
     }
 
 pub blank_is_writable : {Row : Type 0} (IsRow : Row → Type 0) (HaveNames : List Row → Type 0) (unused : Row) (max size : ℕ) (result : Result (TableValue Row) NoMemory) → IsRow unused
-    → HaveNames (replicate max unused) → max < 2 ^ 16 → 64 + 64 * max ≤ size → IfOk result (λ table. table ≡ blank_table unused max size) → IfOk result (IsTable IsRow HaveNames max)
+    → HaveNames (replicate max unused) → max < 2 ^ 16 → ROWS_AT + ROW_BYTES * max ≤ size → IfOk result (λ table. table ≡ blank_table unused max size) → IfOk result (IsTable IsRow HaveNames max)
 blank_is_writable IsRow HaveNames unused max size result good own fits room given =
     if_ok_then (λ table. table ≡ blank_table unused max size) (IsTable IsRow HaveNames max) result
     (λ table is. subst (IsTable IsRow HaveNames max) (sym is) (blank_can_be_written IsRow HaveNames unused max size good own fits room)) given
@@ -206,7 +207,7 @@ blank_is_writable IsRow HaveNames unused max size result good own fits room give
 rest_of : {Row : Type 0} (a b : TableValue Row) → a ≡ b → a.rest ≡ b.rest
 rest_of {Row} a b e = let f : TableValue Row → List ℕ = λ table. table.rest in ap f e
 
-pub blank_has_size : {Row : Type 0} (unused : Row) (max size : ℕ) (result : Result (TableValue Row) NoMemory) → 64 + 64 * max ≤ size → IfOk result (λ table. table ≡ blank_table unused max size)
+pub blank_has_size : {Row : Type 0} (unused : Row) (max size : ℕ) (result : Result (TableValue Row) NoMemory) → ROWS_AT + ROW_BYTES * max ≤ size → IfOk result (λ table. table ≡ blank_table unused max size)
     → IfOk result (λ table. length table.rest ≡ size)
 blank_has_size unused max size result room given =
     if_ok_then (λ table. table ≡ blank_table unused max size) (λ table. length table.rest ≡ size) result

@@ -10,6 +10,7 @@ use Rattle.ddf_tables.specs.declared.arrays.ArrayRow.{ArrayRow}
 use Rattle.ddf_tables.specs.declared.arrays.ArrayRow.TheVariants.{Entry, Unused}
 use Rattle.ddf_tables.specs.declared.fault.TableFault.{TableFault}
 use Rattle.ddf_tables.specs.declared.fault.TableFault.TheVariants.{TwiceSameGuid}
+use Rattle.ddf_tables.specs.declared.layout.TheConstants.{ARRAY_GUID_AT, ARRAY_NUMBER_AT, ARRAY_STATE_AT, ARRAY_INIT_AT, ARRAY_NAME_AT}
 use Rattle.ddf_tables.specs.Rows.{is_unused, has_name, twice_by, HaveOwnNames}
 use Rattle.ddf_tables.specs.Tables.{TableValue, IsTableOf, IsTable, table_bytes, decoded_table}
 
@@ -21,22 +22,22 @@ array_signature = 0xDDDD_DDDD
 -- the fields of a used entry
 abbrev pub array_fields : ArrayEntry → List Field
 array_fields entry =
-    plain_at 0 24 entry.guid
-    ∷ u16_at 24 entry.number
-    ∷ u8_at 32 entry.state
-    ∷ u8_at 33 entry.init
-    ∷ plain_at 48 16 entry.name
+    plain_at ARRAY_GUID_AT 24 entry.guid
+    ∷ u16_at ARRAY_NUMBER_AT entry.number
+    ∷ u8_at ARRAY_STATE_AT entry.state
+    ∷ u8_at ARRAY_INIT_AT entry.init
+    ∷ plain_at ARRAY_NAME_AT 16 entry.name
     ∷ []
 
 -- A row is the value of 64 bytes: an unused one is all of them, a used one has the fields that stand in them and the rest.
 abbrev pub IsArrayRowOf : ArrayRow → List ℕ → Type 0
 IsArrayRowOf (Entry entry) bytes = IsRowOf (array_fields entry) entry.rest bytes × (is_unused entry.guid ≡ false)
-IsArrayRowOf (Unused whole) bytes = (whole ≡ bytes) × (is_unused (bytes_at whole 0 24) ≡ true)
+IsArrayRowOf (Unused whole) bytes = (whole ≡ bytes) × (is_unused (bytes_at whole ARRAY_GUID_AT 24) ≡ true)
 
 -- A row can be written.
 abbrev pub IsArrayRow : ArrayRow → Type 0
 IsArrayRow (Entry entry) = IsRow (array_fields entry) entry.rest × (length entry.rest ≡ 64) × (is_unused entry.guid ≡ false)
-IsArrayRow (Unused whole) = (length whole ≡ 64) × (is_unused (bytes_at whole 0 24) ≡ true)
+IsArrayRow (Unused whole) = (length whole ≡ 64) × (is_unused (bytes_at whole ARRAY_GUID_AT 24) ≡ true)
 
 -- the bytes that a row is written as
 abbrev pub array_row_bytes : ArrayRow → List ℕ
@@ -46,11 +47,11 @@ array_row_bytes (Unused whole) = whole
 -- the value of each field, and all bytes as the rest
 abbrev pub named_array : List ℕ → ArrayEntry
 named_array bytes = record {
-  guid = bytes_at bytes 0 24;
-  number = number_at w16 bytes 24;
-  state = slice_index bytes 32;
-  init = slice_index bytes 33;
-  name = bytes_at bytes 48 16;
+  guid = bytes_at bytes ARRAY_GUID_AT 24;
+  number = number_at w16 bytes ARRAY_NUMBER_AT;
+  state = slice_index bytes ARRAY_STATE_AT;
+  init = slice_index bytes ARRAY_INIT_AT;
+  name = bytes_at bytes ARRAY_NAME_AT 16;
   rest = bytes;
 }
 
@@ -59,7 +60,7 @@ abbrev pub array_at : List ℕ → ArrayEntry
 array_at bytes = record (named_array bytes) { rest = cleared (places (array_fields (named_array bytes))) bytes }
 
 unfoldable pub array_row_at : List ℕ → ArrayRow
-array_row_at bytes = if is_unused (bytes_at bytes 0 24) then Unused bytes else Entry (array_at bytes)
+array_row_at bytes = if is_unused (bytes_at bytes ARRAY_GUID_AT 24) then Unused bytes else Entry (array_at bytes)
 
 -- ---- the rows of a table
 

@@ -9,6 +9,7 @@ use Rattle.ddf_tables.specs.declared.disks.DiskRow.{DiskRow}
 use Rattle.ddf_tables.specs.declared.disks.DiskRow.TheVariants.{Entry, Unused}
 use Rattle.ddf_tables.specs.declared.fault.TableFault.{TableFault}
 use Rattle.ddf_tables.specs.declared.fault.TableFault.TheVariants.{TwiceSameReference}
+use Rattle.ddf_tables.specs.declared.layout.TheConstants.{DISK_GUID_AT, DISK_REFERENCE_AT, DISK_KIND_AT, DISK_STATE_AT, DISK_SIZE_AT}
 use Rattle.ddf_tables.specs.Rows.{is_unused, has_name, twice_by, HaveOwnNames}
 use Rattle.ddf_tables.specs.Tables.{TableValue, IsTableOf, IsTable, table_bytes, decoded_table}
 
@@ -20,22 +21,22 @@ disk_signature = 0x2222_2222
 -- the fields of a used entry
 abbrev pub disk_fields : DiskEntry → List Field
 disk_fields entry =
-    plain_at 0 24 entry.guid
-    ∷ u32_at 24 entry.reference
-    ∷ u16_at 28 entry.kind.0
-    ∷ u16_at 30 entry.state.0
-    ∷ u64_at 32 entry.size
+    plain_at DISK_GUID_AT 24 entry.guid
+    ∷ u32_at DISK_REFERENCE_AT entry.reference
+    ∷ u16_at DISK_KIND_AT entry.kind.0
+    ∷ u16_at DISK_STATE_AT entry.state.0
+    ∷ u64_at DISK_SIZE_AT entry.size
     ∷ []
 
 -- A row is the value of 64 bytes: an unused one is all of them, a used one has the fields that stand in them and the rest.
 abbrev pub IsDiskRowOf : DiskRow → List ℕ → Type 0
 IsDiskRowOf (Entry entry) bytes = IsRowOf (disk_fields entry) entry.rest bytes × (is_unused entry.guid ≡ false)
-IsDiskRowOf (Unused whole) bytes = (whole ≡ bytes) × (is_unused (bytes_at whole 0 24) ≡ true)
+IsDiskRowOf (Unused whole) bytes = (whole ≡ bytes) × (is_unused (bytes_at whole DISK_GUID_AT 24) ≡ true)
 
 -- A row can be written.
 abbrev pub IsDiskRow : DiskRow → Type 0
 IsDiskRow (Entry entry) = IsRow (disk_fields entry) entry.rest × (length entry.rest ≡ 64) × (is_unused entry.guid ≡ false)
-IsDiskRow (Unused whole) = (length whole ≡ 64) × (is_unused (bytes_at whole 0 24) ≡ true)
+IsDiskRow (Unused whole) = (length whole ≡ 64) × (is_unused (bytes_at whole DISK_GUID_AT 24) ≡ true)
 
 -- the bytes that a row is written as
 abbrev pub disk_row_bytes : DiskRow → List ℕ
@@ -45,11 +46,11 @@ disk_row_bytes (Unused whole) = whole
 -- the value of each field, and all bytes as the rest
 abbrev pub named_disk : List ℕ → DiskEntry
 named_disk bytes = record {
-  guid = bytes_at bytes 0 24;
-  reference = number_at w32 bytes 24;
-  kind = record { 0 = number_at w16 bytes 28 };
-  state = record { 0 = number_at w16 bytes 30 };
-  size = number_at w64 bytes 32;
+  guid = bytes_at bytes DISK_GUID_AT 24;
+  reference = number_at w32 bytes DISK_REFERENCE_AT;
+  kind = record { 0 = number_at w16 bytes DISK_KIND_AT };
+  state = record { 0 = number_at w16 bytes DISK_STATE_AT };
+  size = number_at w64 bytes DISK_SIZE_AT;
   rest = bytes;
 }
 
@@ -58,7 +59,7 @@ abbrev pub disk_at : List ℕ → DiskEntry
 disk_at bytes = record (named_disk bytes) { rest = cleared (places (disk_fields (named_disk bytes))) bytes }
 
 unfoldable pub disk_row_at : List ℕ → DiskRow
-disk_row_at bytes = if is_unused (bytes_at bytes 0 24) then Unused bytes else Entry (disk_at bytes)
+disk_row_at bytes = if is_unused (bytes_at bytes DISK_GUID_AT 24) then Unused bytes else Entry (disk_at bytes)
 
 -- ---- the rows of a table
 

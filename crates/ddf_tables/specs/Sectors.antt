@@ -10,6 +10,7 @@ use Rattle.ddf_seal.specs.Records.{IsRecord, IsRecordOf}
 use Rattle.ddf_seal.specs.Unread.{Field, u32_at, plain_at, cleared}
 use Rattle.ddf_tables.specs.declared.controller.Controller.{Controller}
 use Rattle.ddf_tables.specs.declared.disk_data.DiskData.{DiskData}
+use Rattle.ddf_tables.specs.declared.layout.TheConstants.{CONTROLLER_GUID_AT, DISK_DATA_GUID_AT, DISK_DATA_REFERENCE_AT}
 
 -- the fault of a seal, or else the value
 abbrev pub sealed_value : {T : Type 0} → ℕ → T → List ℕ → Result T SealFault
@@ -21,7 +22,7 @@ abbrev pub controller_signature : ℕ
 controller_signature = 0xAD11_1111
 
 abbrev pub controller_fields : Controller → List Field
-controller_fields controller = plain_at 8 24 controller.guid ∷ []
+controller_fields controller = plain_at CONTROLLER_GUID_AT 24 controller.guid ∷ []
 
 -- A controller is the value of 512 bytes.
 pub record IsControllerOf (controller : Controller) (sector : List ℕ) : Type 0 where
@@ -36,8 +37,8 @@ pub record IsController (controller : Controller) : Type 0 where
 -- the controller that stands in a sector
 abbrev pub controller_at : List ℕ → Controller
 controller_at sector = record {
-  guid = bytes_at sector 8 24;
-  rest = cleared (seal_place ∷ record { at = 8; length = 24 } ∷ []) sector;
+  guid = bytes_at sector CONTROLLER_GUID_AT 24;
+  rest = cleared (seal_place ∷ record { at = CONTROLLER_GUID_AT; length = 24 } ∷ []) sector;
 }
 
 abbrev pub decoded_controller : List ℕ → Result Controller SealFault
@@ -49,7 +50,7 @@ abbrev pub disk_data_signature : ℕ
 disk_data_signature = 0x3333_3333
 
 abbrev pub disk_data_fields : DiskData → List Field
-disk_data_fields disk = plain_at 8 24 disk.guid ∷ u32_at 32 disk.reference ∷ []
+disk_data_fields disk = plain_at DISK_DATA_GUID_AT 24 disk.guid ∷ u32_at DISK_DATA_REFERENCE_AT disk.reference ∷ []
 
 -- The disk data are the value of 512 bytes.
 pub record IsDiskDataOf (disk : DiskData) (sector : List ℕ) : Type 0 where
@@ -64,9 +65,9 @@ pub record IsDiskData (disk : DiskData) : Type 0 where
 -- the disk data that stand in a sector
 abbrev pub disk_data_at : List ℕ → DiskData
 disk_data_at sector = record {
-  guid = bytes_at sector 8 24;
-  reference = number_at w32 sector 32;
-  rest = cleared (seal_place ∷ record { at = 8; length = 24 } ∷ record { at = 32; length = 4 } ∷ []) sector;
+  guid = bytes_at sector DISK_DATA_GUID_AT 24;
+  reference = number_at w32 sector DISK_DATA_REFERENCE_AT;
+  rest = cleared (seal_place ∷ record { at = DISK_DATA_GUID_AT; length = 24 } ∷ record { at = DISK_DATA_REFERENCE_AT; length = 4 } ∷ []) sector;
 }
 
 abbrev pub decoded_disk_data : List ℕ → Result DiskData SealFault

@@ -11,6 +11,7 @@ use Rattle.ddf_seal.specs.Records.{IsRecordOf, record_bytes}
 use Rattle.ddf_seal.specs.Unread.{Field, u16_at, plain_at, cleared}
 use Rattle.ddf_tables.specs.declared.fault.TableFault.{TableFault}
 use Rattle.ddf_tables.specs.declared.fault.TableFault.TheVariants as faults
+use Rattle.ddf_tables.specs.declared.layout.TheConstants.{POPULATED_AT, MAXIMUM_AT, ROWS_AT, ROW_BYTES}
 use Rattle.ddf_tables.specs.Places.{each_at}
 
 -- What contracts see of a table: the populated count as it is stored, the rows in order, and the section with zeros in
@@ -25,26 +26,26 @@ pub record TableValue (Row : Type 0) : Type 0 where
 -- each row is the value of 64 bytes, which lie one after another from an offset on
 abbrev pub RowsStand : {Row : Type 0} → (Row → List ℕ → Type 0) → List ℕ → ℕ → List Row → Type 0
 RowsStand IsRowAt bytes at [] = Unit {0}
-RowsStand IsRowAt bytes at (row ∷ rows) = IsRowAt row (bytes_at bytes at 64) × RowsStand IsRowAt bytes (at + 64) rows
+RowsStand IsRowAt bytes at (row ∷ rows) = IsRowAt row (bytes_at bytes at ROW_BYTES) × RowsStand IsRowAt bytes (at + ROW_BYTES) rows
 
 -- the fields of a table, of which the last is the bytes of its rows
 abbrev pub table_fields : {Row : Type 0} → TableValue Row → List ℕ → List Field
-table_fields table bytes = u16_at 8 table.populated ∷ u16_at 10 (length table.rows) ∷ plain_at 64 (64 * length table.rows) bytes ∷ []
+table_fields table bytes = u16_at POPULATED_AT table.populated ∷ u16_at MAXIMUM_AT (length table.rows) ∷ plain_at ROWS_AT (ROW_BYTES * length table.rows) bytes ∷ []
 
 -- A table is the value of a section: it is sealed, the counts have the values that stand in it, there are as many rows as
 -- the header gives, each is the value of its bytes, the rest is all other bytes, and each used row has a name of its own.
 pub record IsTableOf {Row : Type 0} (signature : ℕ) (IsRowAt : Row → List ℕ → Type 0) (HaveNames : List Row → Type 0) (max : ℕ) (table : TableValue Row) (section : List ℕ) : Type 0 where
   pub has_rows : length table.rows ≡ max
-  pub long : 64 + 64 * max ≤ length section
-  pub is_record : IsRecordOf signature (table_fields table (bytes_at section 64 (64 * length table.rows))) table.rest section
-  pub rows_stand : RowsStand IsRowAt section 64 table.rows
+  pub long : ROWS_AT + ROW_BYTES * max ≤ length section
+  pub is_record : IsRecordOf signature (table_fields table (bytes_at section ROWS_AT (ROW_BYTES * length table.rows))) table.rest section
+  pub rows_stand : RowsStand IsRowAt section ROWS_AT table.rows
   pub have_names : HaveNames table.rows
 
 -- ---- what can be written
 
 -- the places of the two counts and of the rows
 abbrev pub table_places : ℕ → List Span
-table_places count = record { at = 8; length = 2 } ∷ record { at = 10; length = 2 } ∷ record { at = 64; length = 64 * count } ∷ []
+table_places count = record { at = POPULATED_AT; length = 2 } ∷ record { at = MAXIMUM_AT; length = 2 } ∷ record { at = ROWS_AT; length = ROW_BYTES * count } ∷ []
 
 -- zeros in the places of the seal, the counts and the rows
 abbrev pub unread_of_table : ℕ → List ℕ → List ℕ
@@ -56,7 +57,7 @@ pub record IsTable {Row : Type 0} (IsRow : Row → Type 0) (HaveNames : List Row
   pub has_rows : length table.rows ≡ max
   pub max_fits : max < 2 ^ 16
   pub populated_fits : table.populated < 2 ^ 16
-  pub long : 64 + 64 * max ≤ length table.rest
+  pub long : ROWS_AT + ROW_BYTES * max ≤ length table.rest
   pub others_clear : unread_of_table max table.rest ≡ table.rest
   pub rows_good : AllByRecursion IsRow table.rows
   pub have_names : HaveNames table.rows
@@ -69,13 +70,13 @@ table_bytes signature row_bytes table = record_bytes signature (table_fields tab
 
 -- so many rows, one after another from an offset on
 abbrev pub rows_at : {Row : Type 0} → (List ℕ → Row) → List ℕ → ℕ → ℕ → List Row
-rows_at row_at bytes at count = each_at (λ place. row_at (bytes_at bytes place 64)) 64 at count
+rows_at row_at bytes at count = each_at (λ place. row_at (bytes_at bytes place ROW_BYTES)) ROW_BYTES at count
 
 -- the table that stands in a section
 abbrev pub table_at : {Row : Type 0} → (List ℕ → Row) → ℕ → List ℕ → TableValue Row
 table_at row_at max section = record {
-  populated = number_at w16 section 8;
-  rows = rows_at row_at section 64 max;
+  populated = number_at w16 section POPULATED_AT;
+  rows = rows_at row_at section ROWS_AT max;
   rest = unread_of_table max section;
 }
 
@@ -87,8 +88,8 @@ first_twice twice rows = first_of (map (λ pair. twice (take pair.0 rows) pair.1
 abbrev pub table_faults : {Row : Type 0} → ℕ → (List ℕ → Row) → (List Row → Row → Option TableFault) → ℕ → List ℕ → List (Option TableFault)
 table_faults signature row_at twice max section =
     option_map faults.Seal (result_err (seal_check signature section))
-    ∷ when (not (number_at w16 section 10 == max)) (faults.Count (number_at w16 section 10) max)
-    ∷ first_twice twice (rows_at row_at section 64 max)
+    ∷ when (not (number_at w16 section MAXIMUM_AT == max)) (faults.Count (number_at w16 section MAXIMUM_AT) max)
+    ∷ first_twice twice (rows_at row_at section ROWS_AT max)
     ∷ []
 
 -- the first fault, or else the table

@@ -8,10 +8,8 @@ ghost use Rattle.ddf_tables.specs.Arrays.{IsArrayRow};
 ghost use Rattle.ddf_tables.specs.Building.{array_over, kept_array_rest, new_array_rest};
 
 use crate::arrays::{ArrayEntry, FIELDS};
+use crate::layout::ARRAY_KIND_AT;
 use ddf_seal::{clear, place};
-
-/// Where the type of an array stands in its entry: four bytes, which no field names.
-const KIND: usize = 28;
 
 impl ArrayEntry {
     /// This entry's fields over the bytes of an old entry that no field names, all of which stay. Where there is none, they
@@ -44,7 +42,7 @@ fn new_rest() -> [u8; 64]
     ensures { (entry : ArrayEntry) → result ≡ new_array_rest entry }
 {
     let mut rest = [0xFF; 64];
-    place(&mut rest, KIND, &[0; 4]);
+    place(&mut rest, ARRAY_KIND_AT, &[0; 4]);
     clear(&mut rest, &FIELDS);
     rest
 }

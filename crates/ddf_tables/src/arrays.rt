@@ -4,6 +4,7 @@ ghost use Rattle.ddf_seal.specs.Unread.{written};
 ghost use Rattle.ddf_tables.specs.Arrays.{array_at, array_fields};
 
 use crate::fault::TableFault;
+use crate::layout::{ARRAY_GUID_AT, ARRAY_INIT_AT, ARRAY_NAME_AT, ARRAY_NUMBER_AT, ARRAY_STATE_AT};
 use crate::row::{Row, is_unused};
 use ddf_bytes::{Guid, NoMemory, be16, put16};
 use ddf_seal::{Span, clear, guid_at, place};
@@ -36,36 +37,26 @@ pub enum ArrayRow {
     Unused([u8; 64]),
 }
 
-const GUID: usize = 0;
-
-const NUMBER: usize = 24;
-
-const STATE: usize = 32;
-
-const INIT: usize = 33;
-
-const NAME: usize = 48;
-
 /// The places of the fields. The other bytes of an entry are unread.
 pub(crate) const FIELDS: [Span; 5] = [
     Span {
-        at: GUID,
+        at: ARRAY_GUID_AT,
         length: 24,
     },
     Span {
-        at: NUMBER,
+        at: ARRAY_NUMBER_AT,
         length: 2,
     },
     Span {
-        at: STATE,
+        at: ARRAY_STATE_AT,
         length: 1,
     },
     Span {
-        at: INIT,
+        at: ARRAY_INIT_AT,
         length: 1,
     },
     Span {
-        at: NAME,
+        at: ARRAY_NAME_AT,
         length: 16,
     },
 ];
@@ -87,7 +78,7 @@ impl Row for ArrayRow {
 
     #[tactic(auto, unfolding(crate::specs::Arrays::array_row_at))]
     fn read(bytes: &[u8]) -> ArrayRow {
-        let guid = guid_at(bytes, GUID);
+        let guid = guid_at(bytes, ARRAY_GUID_AT);
         let mut rest = [0; 64];
         rest.copy_from_slice(bytes);
         if is_unused(&guid) {
@@ -126,14 +117,14 @@ fn entry_at(bytes: [u8; 64]) -> ArrayEntry
     ensures { result ≡ array_at bytes }
 {
     let mut name = [0; 16];
-    name.copy_from_slice(&bytes[NAME..]);
+    name.copy_from_slice(&bytes[ARRAY_NAME_AT..]);
     let mut rest = bytes;
     clear(&mut rest, &FIELDS);
     ArrayEntry {
-        guid: guid_at(&bytes, GUID),
-        number: be16(&bytes, NUMBER),
-        state: bytes[STATE],
-        init: bytes[INIT],
+        guid: guid_at(&bytes, ARRAY_GUID_AT),
+        number: be16(&bytes, ARRAY_NUMBER_AT),
+        state: bytes[ARRAY_STATE_AT],
+        init: bytes[ARRAY_INIT_AT],
         name,
         rest,
     }
@@ -143,10 +134,10 @@ fn entry_bytes(entry: &ArrayEntry) -> [u8; 64]
     ensures { result ≡ written (array_fields entry.now) entry.now.rest }
 {
     let mut bytes = entry.rest;
-    place(&mut bytes, GUID, &entry.guid.bytes());
-    put16(&mut bytes, NUMBER, entry.number);
-    place(&mut bytes, STATE, &[entry.state]);
-    place(&mut bytes, INIT, &[entry.init]);
-    place(&mut bytes, NAME, &entry.name);
+    place(&mut bytes, ARRAY_GUID_AT, &entry.guid.bytes());
+    put16(&mut bytes, ARRAY_NUMBER_AT, entry.number);
+    place(&mut bytes, ARRAY_STATE_AT, &[entry.state]);
+    place(&mut bytes, ARRAY_INIT_AT, &[entry.init]);
+    place(&mut bytes, ARRAY_NAME_AT, &entry.name);
     bytes
 }

@@ -18,6 +18,10 @@ ghost use Rattle.ddf_tables.specs.BadBlocks.{
 };
 
 use crate::fault::TableFault;
+use crate::layout::{
+    BAD_COUNT_AT, BAD_SPARE_AT, LOG_COUNT_AT, LOG_ENTRIES_AT, LOG_ENTRY_BYTES, LOG_FIRST_SPARE_AT,
+    LOG_SPARE_COUNT_AT,
+};
 use ddf_bytes::{NoMemory, be16, be32, be64, put16, put32, put64};
 use ddf_seal::{SEAL, Span, check, clear, seal};
 use std::alloc::Global;
@@ -46,6 +50,7 @@ pub struct BadBlockLog {
 
 impl Model for BadBlockLog {
     ghost use Rattle.std.specs.Prelude.{◌+◌, ◌*◌, ◌^◌, ◌<◌, ◌≤◌, length};
+    ghost use Rattle.ddf_tables.specs.declared.layout.TheConstants.{LOG_ENTRIES_AT, LOG_ENTRY_BYTES};
     ghost use Rattle.ddf_tables.specs.BadBlocks.{LogValue};
 
     ghost Value = { LogValue };
@@ -57,23 +62,11 @@ impl Model for BadBlockLog {
       rest = log.rest.items;
     } };
 
-    ghost invariant = { λ log. (32 + 16 * length log.entries.items ≤ length log.rest.items)
-        × (length log.entries.items < 2 ^ 16) };
+    ghost invariant = { λ log.
+        (LOG_ENTRIES_AT + LOG_ENTRY_BYTES * length log.entries.items ≤ length log.rest.items) × (length log.entries.items < 2 ^ 16) };
 }
 
 const SIGNATURE: u32 = 0xABAD_B10C;
-
-const COUNT: usize = 8;
-
-const SPARE_COUNT: usize = 10;
-
-const FIRST_SPARE: usize = 24;
-
-/// Where the entries begin.
-const ENTRIES: usize = 32;
-
-/// The bytes of an entry.
-const ENTRY: usize = 16;
 
 impl BadBlockLog {
     /// A log without entries and without spare blocks, in a section of so many sectors. All other bytes are FF (profile).
@@ -133,7 +126,7 @@ impl BadBlockLog {
 /// The bad block log that stands in a section, or else the first fault. The section has at least the 32 bytes in front of
 /// the entries.
 pub fn decode_bad_blocks(alloc: Global, section: &[u8]) -> Result<BadBlockLog, TableFault>
-    requires { 32 ≤ length section.now }
+    requires { LOG_ENTRIES_AT ≤ length section.now }
     ensures exact { UpToMemory result (decoded_log section.now) }
     // The log is the value of the section, and the only one.
     ensures value { IfOk result (λ log. IsLogOf log section.now) }
@@ -157,14 +150,14 @@ pub fn encode_bad_blocks(log: &BadBlockLog, into: &mut [u8])
 }
 
 fn read(alloc: Global, section: &[u8]) -> Result<BadBlockLog, TableFault>
-    requires { 32 ≤ length section.now }
+    requires { LOG_ENTRIES_AT ≤ length section.now }
     ensures { UpToMemory result (decoded_log section.now) }
 {
     if let Err(fault) = check(section, SIGNATURE) {
         return Err(TableFault::Seal(fault));
     }
-    let stated = be16(section, COUNT);
-    let fit = (section.len() - ENTRIES) / ENTRY;
+    let stated = be16(section, LOG_COUNT_AT);
+    let fit = (section.len() - LOG_ENTRIES_AT) / LOG_ENTRY_BYTES;
     if fit < usize::from(stated) {
         return Err(TableFault::Count {
             stated,
@@ -179,8 +172,8 @@ fn read(alloc: Global, section: &[u8]) -> Result<BadBlockLog, TableFault>
     };
     Ok(BadBlockLog {
         entries,
-        spare_count: be32(section, SPARE_COUNT),
-        first_spare: be64(section, FIRST_SPARE),
+        spare_count: be32(section, LOG_SPARE_COUNT_AT),
+        first_spare: be64(section, LOG_FIRST_SPARE_AT),
         rest,
     })
 }
@@ -201,32 +194,32 @@ fn new_log(alloc: Global, sectors: usize) -> Result<BadBlockLog, NoMemory>
 }
 
 fn read_entries(alloc: Global, section: &[u8], count: u16) -> Result<Vec<BadBlock>, NoMemory>
-    requires { 32 + 16 * count ≤ length section.now }
-    ensures entries { IfOk result (λ entries. entries.items ≡ each_at (entry_at section.now) 16 32 count) }
+    requires { LOG_ENTRIES_AT + LOG_ENTRY_BYTES * count ≤ length section.now }
+    ensures entries { IfOk result (λ entries. entries.items ≡ each_at (entry_at section.now) LOG_ENTRY_BYTES LOG_ENTRIES_AT count) }
     ensures count { IfOk result (λ entries. length entries.items ≡ count) }
 {
     let count = usize::from(count);
     let mut entries = Vec::with_capacity(alloc, count)?;
     for index in 0..count {
-        entries.push(entry_at(section, ENTRIES + ENTRY * index))?;
+        entries.push(entry_at(section, LOG_ENTRIES_AT + LOG_ENTRY_BYTES * index))?;
     }
     Ok(entries)
 }
 
 fn entry_at(section: &[u8], at: usize) -> BadBlock
-    requires { at + 16 ≤ length section.now }
+    requires { at + LOG_ENTRY_BYTES ≤ length section.now }
     ensures { result ≡ entry_at section.now at }
 {
     BadBlock {
         start: be64(section, at),
-        spare: be32(section, at + 8),
-        count: be16(section, at + 12),
+        spare: be32(section, at + BAD_SPARE_AT),
+        count: be16(section, at + BAD_COUNT_AT),
     }
 }
 
 /// The section with zeros in the places of the seal and of all fields.
 fn unread(alloc: Global, section: &[u8], count: u16) -> Result<Vec<u8>, NoMemory>
-    requires { 32 + 16 * count ≤ length section.now }
+    requires { LOG_ENTRIES_AT + LOG_ENTRY_BYTES * count ≤ length section.now }
     ensures rest { IfOk result (λ rest. rest.items ≡ unread_of_log count section.now) }
     ensures size { IfOk result (λ rest. length rest.items ≡ length section.now) }
 {
@@ -236,7 +229,7 @@ fn unread(alloc: Global, section: &[u8], count: u16) -> Result<Vec<u8>, NoMemory
 }
 
 fn clear_log(section: &mut Vec<u8>, count: u16)
-    requires { 32 + 16 * count ≤ length section.old.items }
+    requires { LOG_ENTRIES_AT + LOG_ENTRY_BYTES * count ≤ length section.old.items }
     ensures rest { section.new.items ≡ unread_of_log count section.old.items }
     ensures size { length section.new.items ≡ length section.old.items }
 {
@@ -249,40 +242,40 @@ fn clear_log(section: &mut Vec<u8>, count: u16)
 const HEAD: [Span; 4] = [
     SEAL,
     Span {
-        at: COUNT,
+        at: LOG_COUNT_AT,
         length: 2,
     },
     Span {
-        at: SPARE_COUNT,
+        at: LOG_SPARE_COUNT_AT,
         length: 4,
     },
     Span {
-        at: FIRST_SPARE,
+        at: LOG_FIRST_SPARE_AT,
         length: 8,
     },
 ];
 
 fn clear_entries(section: &mut [u8], count: u16)
-    requires { 32 + 16 * count ≤ length section.old }
-    ensures { section.new ≡ cleared (entry_places 32 count) section.old }
+    requires { LOG_ENTRIES_AT + LOG_ENTRY_BYTES * count ≤ length section.old }
+    ensures { section.new ≡ cleared (entry_places LOG_ENTRIES_AT count) section.old }
 {
     for index in 0..usize::from(count) {
-        clear_entry(section, ENTRIES + ENTRY * index);
+        clear_entry(section, LOG_ENTRIES_AT + LOG_ENTRY_BYTES * index);
     }
 }
 
 fn clear_entry(section: &mut [u8], at: usize)
-    requires { at + 16 ≤ length section.old }
+    requires { at + LOG_ENTRY_BYTES ≤ length section.old }
     ensures { section.new ≡ cleared (entry_spans at) section.old }
 {
     let spans = [
         Span { at, length: 8 },
         Span {
-            at: at + 8,
+            at: at + BAD_SPARE_AT,
             length: 4,
         },
         Span {
-            at: at + 12,
+            at: at + BAD_COUNT_AT,
             length: 2,
         },
     ];
@@ -296,27 +289,27 @@ fn write(log: &BadBlockLog, into: &mut [u8])
 {
     let entries = log.entries.as_slice();
     into.copy_from_slice(log.rest.as_slice());
-    put16(into, COUNT, entries.len() as u16);
-    put32(into, SPARE_COUNT, log.spare_count);
-    put64(into, FIRST_SPARE, log.first_spare);
+    put16(into, LOG_COUNT_AT, entries.len() as u16);
+    put32(into, LOG_SPARE_COUNT_AT, log.spare_count);
+    put64(into, LOG_FIRST_SPARE_AT, log.first_spare);
     put_entries(into, entries);
     seal(into, SIGNATURE);
 }
 
 fn put_entries(section: &mut [u8], entries: &[BadBlock])
-    requires { 32 + 16 * length entries.now ≤ length section.old }
-    ensures { section.new ≡ written (entry_fields 32 entries.now) section.old }
+    requires { LOG_ENTRIES_AT + LOG_ENTRY_BYTES * length entries.now ≤ length section.old }
+    ensures { section.new ≡ written (entry_fields LOG_ENTRIES_AT entries.now) section.old }
 {
     for (index, block) in entries.iter().enumerate() {
-        put_entry(section, ENTRIES + ENTRY * index, block);
+        put_entry(section, LOG_ENTRIES_AT + LOG_ENTRY_BYTES * index, block);
     }
 }
 
 fn put_entry(section: &mut [u8], at: usize, block: &BadBlock)
-    requires { at + 16 ≤ length section.old }
+    requires { at + LOG_ENTRY_BYTES ≤ length section.old }
     ensures { section.new ≡ written (entry_fields at (block.now ∷ [])) section.old }
 {
     put64(section, at, block.start);
-    put32(section, at + 8, block.spare);
-    put16(section, at + 12, block.count);
+    put32(section, at + BAD_SPARE_AT, block.spare);
+    put16(section, at + BAD_COUNT_AT, block.count);
 }

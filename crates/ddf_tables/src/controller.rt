@@ -10,6 +10,7 @@ ghost use Rattle.ddf_tables.specs.Sectors.{
   decoded_controller,
 };
 
+use crate::layout::CONTROLLER_GUID_AT;
 use ddf_bytes::{Guid, Sector};
 use ddf_seal::{SEAL, SealFault, Span, check, clear, guid_at, place, seal};
 
@@ -24,13 +25,11 @@ pub struct Controller {
 
 const SIGNATURE: u32 = 0xAD11_1111;
 
-const GUID: usize = 8;
-
 /// The places of the seal and of all fields. The other bytes of the sector are unread.
 const FIELDS: [Span; 2] = [
     SEAL,
     Span {
-        at: GUID,
+        at: CONTROLLER_GUID_AT,
         length: 24,
     },
 ];
@@ -65,7 +64,7 @@ fn read(sector: &Sector) -> Result<Controller, SealFault>
     let mut rest = *sector;
     clear(&mut rest, &FIELDS);
     Ok(Controller {
-        guid: guid_at(sector, GUID),
+        guid: guid_at(sector, CONTROLLER_GUID_AT),
         rest,
     })
 }
@@ -75,6 +74,6 @@ fn write(sector: &mut [u8], value: &Controller)
     ensures exact { sector.new ≡ record_bytes controller_signature (controller_fields value.now) sector.old }
     ensures bytes { AreBytes sector.new }
 {
-    place(sector, GUID, &value.guid.bytes());
+    place(sector, CONTROLLER_GUID_AT, &value.guid.bytes());
     seal(sector, SIGNATURE);
 }

@@ -8,11 +8,9 @@ ghost use Rattle.ddf_tables.specs.Disks.{IsDiskRow};
 ghost use Rattle.ddf_tables.specs.Building.{disk_over, kept_disk_rest, new_disk_rest};
 
 use crate::disks::{DiskEntry, FIELDS};
+use crate::layout::DISK_BLOCK_SIZE_AT;
 use ddf_bytes::put16;
 use ddf_seal::clear;
-
-/// Where the size of a block stands in the entry of a disk.
-const BLOCK_SIZE: usize = 58;
 
 impl DiskEntry {
     /// This entry's fields over the bytes of an old entry that no field names, or over FF where there is none. The block
@@ -26,7 +24,7 @@ impl DiskEntry {
             → is_unused self.guid ≡ false → IsDiskRow (Entry result) }
     {
         let mut rest = kept_rest(bytes);
-        put16(&mut rest, BLOCK_SIZE, block_size);
+        put16(&mut rest, DISK_BLOCK_SIZE_AT, block_size);
         DiskEntry { rest, ..self }
     }
 }

@@ -10,6 +10,7 @@ ghost use Rattle.ddf_tables.specs.Sectors.{
   disk_data_signature,
 };
 
+use crate::layout::{DISK_DATA_GUID_AT, DISK_DATA_REFERENCE_AT};
 use ddf_bytes::{Guid, Sector, be32, put32};
 use ddf_seal::{SEAL, SealFault, Span, check, clear, guid_at, place, seal};
 
@@ -26,19 +27,15 @@ pub struct DiskData {
 
 const SIGNATURE: u32 = 0x3333_3333;
 
-const GUID: usize = 8;
-
-const REFERENCE: usize = 32;
-
 /// The places of the seal and of all fields. The other bytes of the sector are unread.
 const FIELDS: [Span; 3] = [
     SEAL,
     Span {
-        at: GUID,
+        at: DISK_DATA_GUID_AT,
         length: 24,
     },
     Span {
-        at: REFERENCE,
+        at: DISK_DATA_REFERENCE_AT,
         length: 4,
     },
 ];
@@ -73,8 +70,8 @@ fn read(sector: &Sector) -> Result<DiskData, SealFault>
     let mut rest = *sector;
     clear(&mut rest, &FIELDS);
     Ok(DiskData {
-        guid: guid_at(sector, GUID),
-        reference: be32(sector, REFERENCE),
+        guid: guid_at(sector, DISK_DATA_GUID_AT),
+        reference: be32(sector, DISK_DATA_REFERENCE_AT),
         rest,
     })
 }
@@ -92,6 +89,6 @@ fn put_fields(sector: &mut [u8], value: &DiskData)
     requires { length sector.old ≡ 512 }
     ensures { sector.new ≡ written (disk_data_fields value.now) sector.old }
 {
-    place(sector, GUID, &value.guid.bytes());
-    put32(sector, REFERENCE, value.reference);
+    place(sector, DISK_DATA_GUID_AT, &value.guid.bytes());
+    put32(sector, DISK_DATA_REFERENCE_AT, value.reference);
 }

@@ -17,6 +17,7 @@ ghost use Rattle.ddf_tables.specs.Disks.{
 
 use crate::disks::DiskRow;
 use crate::fault::TableFault;
+use crate::layout::{ROW_BYTES, ROWS_AT};
 use crate::table::Table;
 use ddf_bytes::NoMemory;
 use std::alloc::Global;
@@ -43,7 +44,7 @@ impl DiskTable {
     /// other bytes are FF (profile).
     pub fn blank(alloc: Global, max: u16, sectors: usize) -> Result<DiskTable, NoMemory>
         requires few { sectors ≤ 8192 }
-        requires room { 64 + 64 * max ≤ 512 * sectors }
+        requires room { ROWS_AT + ROW_BYTES * max ≤ 512 * sectors }
         ensures exact { IfOk result (λ table.
             table ≡ blank_table (Unused (replicate 64 255)) max (512 * sectors)) }
         ensures writable { IfOk result (IsDiskTable max) }
@@ -85,7 +86,7 @@ impl DiskTable {
 /// The physical disk records of `max` rows that stand in a section, or else the first fault. The section has room for the rows
 /// behind a head of 64 bytes.
 pub fn decode_disks(alloc: Global, section: &[u8], max: u16) -> Result<DiskTable, TableFault>
-    requires { 64 + 64 * max ≤ length section.now }
+    requires { ROWS_AT + ROW_BYTES * max ≤ length section.now }
     ensures exact { UpToMemory result (decoded_disks max section.now) }
     // The table is the value of the section, and the only one.
     ensures value { IfOk result (λ table. IsDiskTableOf max table section.now) }
@@ -111,7 +112,7 @@ pub fn encode_disks(table: &DiskTable, into: &mut [u8])
 }
 
 fn read(alloc: Global, section: &[u8], max: u16) -> Result<DiskTable, TableFault>
-    requires { 64 + 64 * max ≤ length section.now }
+    requires { ROWS_AT + ROW_BYTES * max ≤ length section.now }
     ensures { UpToMemory result (decoded_disks max section.now) }
 {
     Ok(DiskTable {
@@ -121,7 +122,7 @@ fn read(alloc: Global, section: &[u8], max: u16) -> Result<DiskTable, TableFault
 
 fn new_table(alloc: Global, max: u16, sectors: usize) -> Result<DiskTable, NoMemory>
     requires few { sectors ≤ 8192 }
-    requires room { 64 + 64 * max ≤ 512 * sectors }
+    requires room { ROWS_AT + ROW_BYTES * max ≤ 512 * sectors }
     ensures { IfOk result (λ table.
         table ≡ blank_table (Unused (replicate 64 255)) max (512 * sectors)) }
 {

@@ -5,6 +5,7 @@ ghost use Rattle.ddf_tables.specs.Disks.{disk_at, disk_fields};
 
 use crate::bits::{DiskState, DiskType};
 use crate::fault::TableFault;
+use crate::layout::{DISK_GUID_AT, DISK_KIND_AT, DISK_REFERENCE_AT, DISK_SIZE_AT, DISK_STATE_AT};
 use crate::row::{Row, is_unused};
 use ddf_bytes::{Guid, NoMemory, be16, be32, be64, put16, put32, put64};
 use ddf_seal::{Span, clear, guid_at, place};
@@ -37,36 +38,26 @@ pub enum DiskRow {
     Unused([u8; 64]),
 }
 
-const GUID: usize = 0;
-
-const REFERENCE: usize = 24;
-
-const KIND: usize = 28;
-
-const STATE: usize = 30;
-
-const SIZE: usize = 32;
-
 /// The places of the fields. The other bytes of an entry are unread.
 pub(crate) const FIELDS: [Span; 5] = [
     Span {
-        at: GUID,
+        at: DISK_GUID_AT,
         length: 24,
     },
     Span {
-        at: REFERENCE,
+        at: DISK_REFERENCE_AT,
         length: 4,
     },
     Span {
-        at: KIND,
+        at: DISK_KIND_AT,
         length: 2,
     },
     Span {
-        at: STATE,
+        at: DISK_STATE_AT,
         length: 2,
     },
     Span {
-        at: SIZE,
+        at: DISK_SIZE_AT,
         length: 8,
     },
 ];
@@ -91,7 +82,7 @@ impl Row for DiskRow {
 
     #[tactic(auto, unfolding(crate::specs::Disks::disk_row_at))]
     fn read(bytes: &[u8]) -> DiskRow {
-        let guid = guid_at(bytes, GUID);
+        let guid = guid_at(bytes, DISK_GUID_AT);
         let mut rest = [0; 64];
         rest.copy_from_slice(bytes);
         if is_unused(&guid) {
@@ -132,11 +123,11 @@ fn entry_at(bytes: [u8; 64]) -> DiskEntry
     let mut rest = bytes;
     clear(&mut rest, &FIELDS);
     DiskEntry {
-        guid: guid_at(&bytes, GUID),
-        reference: be32(&bytes, REFERENCE),
-        kind: DiskType(be16(&bytes, KIND)),
-        state: DiskState(be16(&bytes, STATE)),
-        size: be64(&bytes, SIZE),
+        guid: guid_at(&bytes, DISK_GUID_AT),
+        reference: be32(&bytes, DISK_REFERENCE_AT),
+        kind: DiskType(be16(&bytes, DISK_KIND_AT)),
+        state: DiskState(be16(&bytes, DISK_STATE_AT)),
+        size: be64(&bytes, DISK_SIZE_AT),
         rest,
     }
 }
@@ -145,10 +136,10 @@ fn entry_bytes(entry: &DiskEntry) -> [u8; 64]
     ensures { result ≡ written (disk_fields entry.now) entry.now.rest }
 {
     let mut bytes = entry.rest;
-    place(&mut bytes, GUID, &entry.guid.bytes());
-    put32(&mut bytes, REFERENCE, entry.reference);
-    put16(&mut bytes, KIND, entry.kind.0);
-    put16(&mut bytes, STATE, entry.state.0);
-    put64(&mut bytes, SIZE, entry.size);
+    place(&mut bytes, DISK_GUID_AT, &entry.guid.bytes());
+    put32(&mut bytes, DISK_REFERENCE_AT, entry.reference);
+    put16(&mut bytes, DISK_KIND_AT, entry.kind.0);
+    put16(&mut bytes, DISK_STATE_AT, entry.state.0);
+    put64(&mut bytes, DISK_SIZE_AT, entry.size);
     bytes
 }

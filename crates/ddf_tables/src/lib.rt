@@ -12,6 +12,7 @@ mod disk_data;
 mod disk_table;
 mod disks;
 mod fault;
+pub mod layout;
 mod row;
 mod table;
 

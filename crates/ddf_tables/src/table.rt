@@ -14,20 +14,12 @@ ghost use Rattle.ddf_tables.specs.Tables.{
 };
 
 use crate::fault::TableFault;
+use crate::layout::{MAXIMUM_AT, POPULATED_AT, ROW_BYTES, ROWS_AT};
 use crate::row::Row;
 use ddf_bytes::{NoMemory, be16, put16};
 use ddf_seal::{SEAL, Span, check, clear, place, seal};
 use std::alloc::Global;
 use std::marker::Model;
-
-/// Where the populated count stands in the section of a table (SNIA DDF 2.0).
-const POPULATED: usize = 8;
-/// Where the number of its rows stands.
-const MAXIMUM: usize = 10;
-/// Where its rows begin.
-const ROWS: usize = 64;
-/// The bytes of a row.
-const ROW: usize = 64;
 
 /// The rows of a table in order, its populated count as it is stored, and the section with zeros in their places.
 #[derive(Drop)]
@@ -39,25 +31,26 @@ pub(crate) struct Table<R> {
 
 impl<R> Model for Table<R> {
     ghost use Rattle.std.specs.Prelude.{◌+◌, ◌*◌, ◌^◌, ◌<◌, ◌≤◌, length};
+    ghost use Rattle.ddf_tables.specs.declared.layout.TheConstants.{ROWS_AT, ROW_BYTES};
     ghost use Rattle.ddf_tables.specs.Tables.{TableValue};
 
     ghost Value = { TableValue R };
 
     ghost view = { λ table. record { populated = table.populated; rows = table.rows.items; rest = table.rest.items } };
 
-    ghost invariant = { λ table. (64 + 64 * length table.rows.items ≤ length table.rest.items)
+    ghost invariant = { λ table. (ROWS_AT + ROW_BYTES * length table.rows.items ≤ length table.rest.items)
         × (length table.rows.items < 2 ^ 16) };
 }
 
 impl<R: Row> Table<R> {
     pub(crate) fn decode(alloc: Global, section: &[u8], max: u16) -> Result<Table<R>, TableFault>
-        requires { 64 + 64 * max ≤ length section.now }
+        requires { ROWS_AT + ROW_BYTES * max ≤ length section.now }
         ensures { UpToMemory result (decoded_table R.SIGNATURE R.row_at R.twice_after max section.now) }
     {
         if let Err(fault) = check(section, R::SIGNATURE) {
             return Err(TableFault::Seal(fault));
         }
-        let stated = be16(section, MAXIMUM);
+        let stated = be16(section, MAXIMUM_AT);
         if stated != max {
             return Err(TableFault::Count { stated, found: max });
         }
@@ -74,7 +67,7 @@ impl<R: Row> Table<R> {
             return Err(TableFault::Memory);
         };
         Ok(Table {
-            populated: be16(section, POPULATED),
+            populated: be16(section, POPULATED_AT),
             rows,
             rest,
         })
@@ -88,8 +81,8 @@ impl<R: Row> Table<R> {
     {
         let rows = self.rows.as_slice();
         into.copy_from_slice(self.rest.as_slice());
-        put16(into, POPULATED, self.populated);
-        put16(into, MAXIMUM, rows.len() as u16);
+        put16(into, POPULATED_AT, self.populated);
+        put16(into, MAXIMUM_AT, rows.len() as u16);
         put_rows(into, rows);
         seal(into, R::SIGNATURE);
     }
@@ -97,7 +90,7 @@ impl<R: Row> Table<R> {
     /// A table of unused rows, all of whose bytes are FF.
     pub(crate) fn blank(alloc: Global, max: u16, sectors: usize) -> Result<Table<R>, NoMemory>
         requires few { sectors ≤ 8192 }
-        requires room { 64 + 64 * max ≤ 512 * sectors }
+        requires room { ROWS_AT + ROW_BYTES * max ≤ 512 * sectors }
         ensures { IfOk result (λ table. table ≡ blank_table (R.row_at (replicate 64 255)) max (512 * sectors)) }
     {
         let mut rest = vec![in alloc; 0xFF; 512 * sectors]?;
@@ -145,15 +138,15 @@ impl<R: Row> Table<R> {
 
 /// The rows that stand in a section.
 fn read_rows<R: Row>(alloc: Global, section: &[u8], max: u16) -> Result<Vec<R>, NoMemory>
-    requires { 64 + 64 * max ≤ length section.now }
-    ensures rows { IfOk result (λ rows. rows.items ≡ rows_at R.row_at section.now 64 max) }
+    requires { ROWS_AT + ROW_BYTES * max ≤ length section.now }
+    ensures rows { IfOk result (λ rows. rows.items ≡ rows_at R.row_at section.now ROWS_AT max) }
     ensures count { IfOk result (λ rows. length rows.items ≡ max) }
 {
     let max = usize::from(max);
     let mut rows = Vec::with_capacity(alloc, max)?;
     for index in 0..max {
-        let at = ROWS + ROW * index;
-        rows.push(R::read(&section[at..at + ROW]))?;
+        let at = ROWS_AT + ROW_BYTES * index;
+        rows.push(R::read(&section[at..at + ROW_BYTES]))?;
     }
     Ok(rows)
 }
@@ -167,17 +160,17 @@ fn count_used<R: Row>(rows: &[R]) -> usize
 
 /// Writes the rows into a section, one after another.
 fn put_rows<R: Row>(section: &mut [u8], rows: &[R])
-    requires { 64 + 64 * length rows.now ≤ length section.old }
-    ensures { section.new ≡ placed section.old 64 (flat_map R.row_bytes rows.now) }
+    requires { ROWS_AT + ROW_BYTES * length rows.now ≤ length section.old }
+    ensures { section.new ≡ placed section.old ROWS_AT (flat_map R.row_bytes rows.now) }
 {
     for (index, row) in rows.iter().enumerate() {
-        place(section, ROWS + ROW * index, &row.bytes());
+        place(section, ROWS_AT + ROW_BYTES * index, &row.bytes());
     }
 }
 
 /// The section with zeros in the places of the seal, the counts and the rows.
 fn unread(alloc: Global, section: &[u8], max: u16) -> Result<Vec<u8>, NoMemory>
-    requires { 64 + 64 * max ≤ length section.now }
+    requires { ROWS_AT + ROW_BYTES * max ≤ length section.now }
     ensures rest { IfOk result (λ rest. rest.items ≡ unread_of_table max section.now) }
     ensures size { IfOk result (λ rest. length rest.items ≡ length section.now) }
 {
@@ -187,17 +180,17 @@ fn unread(alloc: Global, section: &[u8], max: u16) -> Result<Vec<u8>, NoMemory>
 }
 
 fn clear_table(section: &mut Vec<u8>, max: u16)
-    requires { 64 + 64 * max ≤ length section.old.items }
+    requires { ROWS_AT + ROW_BYTES * max ≤ length section.old.items }
     ensures rest { section.new.items ≡ unread_of_table max section.old.items }
     ensures size { length section.new.items ≡ length section.old.items }
 {
     let rows = Span {
-        at: ROWS,
-        length: ROW * usize::from(max),
+        at: ROWS_AT,
+        length: ROW_BYTES * usize::from(max),
     };
     clear(
         section.as_mut_slice(),
-        &[SEAL, span16(POPULATED), span16(MAXIMUM), rows],
+        &[SEAL, span16(POPULATED_AT), span16(MAXIMUM_AT), rows],
     );
 }
 

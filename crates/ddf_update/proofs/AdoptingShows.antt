@@ -7,6 +7,7 @@ use Rattle.ddf_bay.specs.Sectors.{Image, IsLeft}
 use Rattle.ddf_bay.specs.Moments.{IsSettled, StopsLeave}
 use Rattle.ddf_bay.proofs.Steps.{stops_weaken}
 use Rattle.ddf_header.specs.declared.reading.Header.{Header}
+use Rattle.ddf_header.specs.declared.layout.TheConstants.{GUID_AT}
 use Rattle.ddf_header.specs.Geometry.{geometry_at}
 use Rattle.ddf_copy.specs.declared.copy.DiskCopy.{DiskCopy}
 use Rattle.ddf_copy.specs.declared.fault.CopyFault.{CopyFault}
@@ -44,7 +45,7 @@ use Rattle.ddf_copy.proofs.Places.{alike}
 -- The header of a copy that is read has what the anchor has.
 pub record IsShared (sector : ℕ → List ℕ) (anchor : Header) (which : Which) (copy : DiskCopy) : Type 0 where
   pub shared : first_difference (header_bytes anchor) (sector (place_of which anchor)) ≡ None
-  pub guid : copy.header.guid ≡ bytes_at (sector (place_of which anchor)) 8 24
+  pub guid : copy.header.guid ≡ bytes_at (sector (place_of which anchor)) GUID_AT 24
   pub geometry : copy.header.geometry ≡ geometry_at (sector (place_of which anchor))
 
 pub shared_of : (size : ℕ) (sector : ℕ → List ℕ) (anchor : Header) (which : Which) (copy : DiskCopy) → copy_of size sector anchor which ≡ Ok copy → IsShared sector anchor which copy
@@ -64,7 +65,7 @@ ok_or (Err fault) = inr (fault, refl)
 
 -- No copy stands under the anchor of another group.
 not_read : (size : ℕ) (sector : ℕ → List ℕ) (anchor : Header) (which : Which) (reference : List ℕ) → first_difference (header_bytes anchor) reference ≡ None
-    → bytes_at reference 8 24 ≢ bytes_at (sector (place_of which anchor)) 8 24 → (fault : CopyFault) × (copy_of size sector anchor which ≡ Err fault)
+    → bytes_at reference GUID_AT 24 ≢ bytes_at (sector (place_of which anchor)) GUID_AT 24 → (fault : CopyFault) × (copy_of size sector anchor which ≡ Err fault)
 not_read size sector anchor which reference shared differs = ⊎_elim
     (λ read.
     let own = shared_of size sector anchor which read.0 read.1 in
@@ -129,7 +130,7 @@ module _ {D : Type 0} (disks : BayState D) (slot : ℕ) (anchor : Header) (last 
       → (fault : CopyFault) × (copy_of size now anchor (other_of last) ≡ Err fault)
   not_former now same has =
       let reads = shared_of size now own (other_of last) (written_as new (other_of last)) (stands (other_of last) prepared.first is.first_is now has) in
-      let guid : new.header.guid ≡ bytes_at (now (place_of (other_of last) anchor)) 8 24 = rw (own_place (other_of last)) at reads.guid in
+      let guid : new.header.guid ≡ bytes_at (now (place_of (other_of last) anchor)) GUID_AT 24 = rw (own_place (other_of last)) at reads.guid in
       not_read size now anchor (other_of last) (before (place_of last anchor)) old_shares.shared
       (λ equal. can.other_group (guid ∙ sym equal ∙ sym old_shares.guid))
 
@@ -138,7 +139,7 @@ module _ {D : Type 0} (disks : BayState D) (slot : ℕ) (anchor : Header) (last 
       → (fault : CopyFault) × (copy_of size now own last ≡ Err fault)
   not_new now same has =
       let reads = shared_of size now own (other_of last) (written_as new (other_of last)) (stands (other_of last) prepared.first is.first_is now has) in
-      let former : old.header.guid ≡ bytes_at (now (place_of last own)) 8 24 = rw (own_place last, same) old_shares.guid in
+      let former : old.header.guid ≡ bytes_at (now (place_of last own)) GUID_AT 24 = rw (own_place last, same) old_shares.guid in
       not_read size now own last (now (place_of (other_of last) own)) reads.shared
       (λ equal. can.other_group (reads.guid ∙ equal ∙ sym former))
 

@@ -8,6 +8,7 @@ use Rattle.ddf_bytes.specs.declared.stamp.Stamp.{Stamp}
 use Rattle.ddf_bytes.specs.Bytes.{number_at}
 use Rattle.ddf_seal.specs.Unread.{AreBytes, Fits}
 use Rattle.ddf_config_records.specs.declared.slot.RecordSlot.{RecordSlot}
+use Rattle.ddf_config_records.specs.declared.layout.TheConstants.{NOTES_AT}
 use Rattle.ddf_config_records.specs.Bits.{AreBelow, IsRising}
 use Rattle.ddf_config_records.specs.NoteRecords.{CanBeNotes, all_note_fields, filling, head_fields, note_size}
 use Rattle.ddf_config_records.specs.Slots.{CanBeSlot, CanBeSlots, DoFit, DoNotesFit, FitsSlot, is_known}
@@ -50,18 +51,18 @@ can_be_notes Small stamp size = record {
   room = omega arith;
   rising = all_replicate (λ note. IsRising 16 note.out) 16 no_note (none_rises Small);
   fields_fit =
-      all-append Fits (head_fields 16 (new_notes 16 stamp)) (all_note_fields 16 64 (replicate 16 no_note) ++ filling 16 1024 16 ∷ [])
+      all-append Fits (head_fields 16 (new_notes 16 stamp)) (all_note_fields 16 NOTES_AT (replicate 16 no_note) ++ filling 16 1024 16 ∷ [])
       (refl, (refl, (omega arith, (omega arith, (omega arith, (refl, tt))))))
-      (all-append Fits (all_note_fields 16 64 (replicate 16 no_note)) (filling 16 1024 16 ∷ []) (notes_fit_from Small 64 16) (length-replicate {A = ℕ} 672 255, tt));
+      (all-append Fits (all_note_fields 16 NOTES_AT (replicate 16 no_note)) (filling 16 1024 16 ∷ []) (notes_fit_from Small NOTES_AT 16) (length-replicate {A = ℕ} 672 255, tt));
 }
 can_be_notes Large stamp size = record {
   counted = refl;
   room = omega arith;
   rising = all_replicate (λ note. IsRising 64 note.out) 60 no_note (none_rises Large);
   fields_fit =
-      all-append Fits (head_fields 64 (new_notes 60 stamp)) (all_note_fields 64 64 (replicate 60 no_note) ++ filling 64 1536 60 ∷ [])
+      all-append Fits (head_fields 64 (new_notes 60 stamp)) (all_note_fields 64 NOTES_AT (replicate 60 no_note) ++ filling 64 1536 60 ∷ [])
       (refl, (refl, (omega arith, (omega arith, (omega arith, (refl, tt))))))
-      (all-append Fits (all_note_fields 64 64 (replicate 60 no_note)) (filling 64 1536 60 ∷ []) (notes_fit_from Large 64 60) (length-replicate {A = ℕ} 32 255, tt));
+      (all-append Fits (all_note_fields 64 NOTES_AT (replicate 60 no_note)) (filling 64 1536 60 ∷ []) (notes_fit_from Large NOTES_AT 60) (length-replicate {A = ℕ} 32 255, tt));
 }
 
 notes_do_fit : (layout : NewLayout) (stamp : Stamp) (size : ℕ) → DoNotesFit (new_geometry layout size) (new_notes (slots_of layout) stamp)

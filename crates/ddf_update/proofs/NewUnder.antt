@@ -9,6 +9,7 @@ use Rattle.ddf_seal.proofs.Same.{AreWithin, cleared-cleared, cleared_outside, wi
 use Rattle.ddf_header.specs.declared.kind.HeaderKind.TheVariants.{Primary}
 use Rattle.ddf_header.specs.declared.kind.Revision.{Revision}
 use Rattle.ddf_header.specs.declared.kind.Revision.TheVariants.{R100, R120, R200}
+use Rattle.ddf_header.specs.declared.layout.TheConstants.{SECTIONS_AT}
 use Rattle.ddf_header.specs.Layout.{revision_text}
 use Rattle.ddf_header.specs.Geometry.{section_numbers}
 use Rattle.ddf_header.specs.Header.{IsHeader, IsWritable, are_header_places, header_fields, is_open_flag}
@@ -70,7 +71,7 @@ header_is layout revision stamp size large fits = record {
   has_geometry = no_geometry_fault layout size;
 }
 
-sections_fit : (layout : NewLayout) (size : ℕ) → Fits (u32s_at 192 16 (section_numbers (new_geometry layout size).sections))
+sections_fit : (layout : NewLayout) (size : ℕ) → Fits (u32s_at SECTIONS_AT 16 (section_numbers (new_geometry layout size).sections))
 sections_fit layout size = let few = are_few layout in (
   refl,
   (

@@ -13,6 +13,7 @@ use Rattle.ddf_header.specs.declared.kind.HeaderKind.TheVariants.{Primary}
 use Rattle.ddf_header.specs.declared.kind.Revision.{Revision}
 use Rattle.ddf_header.specs.declared.kind.Revision.TheVariants.{R100, R120, R200}
 use Rattle.ddf_header.specs.declared.reading.Header.{Header}
+use Rattle.ddf_header.specs.declared.layout.TheConstants.{FOREIGN_FLAG_AT}
 use Rattle.ddf_header.specs.Header.{unread}
 use Rattle.ddf_tables.specs.declared.controller.Controller.{Controller}
 use Rattle.ddf_tables.specs.declared.disk_data.DiskData.{DiskData}
@@ -21,6 +22,7 @@ use Rattle.ddf_tables.specs.declared.disks.DiskRow.{DiskRow}
 use Rattle.ddf_tables.specs.declared.disks.DiskRow.TheVariants as disk_rows
 use Rattle.ddf_tables.specs.declared.arrays.ArrayRow.{ArrayRow}
 use Rattle.ddf_tables.specs.declared.arrays.ArrayRow.TheVariants as array_rows
+use Rattle.ddf_tables.specs.declared.layout.TheConstants.{DISK_BLOCK_SIZE_AT}
 use Rattle.ddf_tables.specs.Disks.{disk_fields, is_used_disk}
 use Rattle.ddf_tables.specs.Sectors.{controller_fields, disk_data_fields}
 use Rattle.ddf_tables.specs.Tables.{TableValue, blank_table, replaced_table}
@@ -77,7 +79,7 @@ new_geometry layout size = record {
 
 -- new unread bytes are FF, but the foreign flag and the disk grouping of a header, which are 0
 unfoldable pub new_header_bytes : List ℕ
-new_header_bytes = placed (replicate 512 255) 49 (0 ∷ 0 ∷ [])
+new_header_bytes = placed (replicate 512 255) FOREIGN_FLAG_AT (0 ∷ 0 ∷ [])
 
 abbrev pub named_header : NewLayout → Revision → Stamp → (size : ℕ) → Header
 named_header layout revision stamp size = record {
@@ -122,7 +124,7 @@ block_size_of R120 = 0xFFFF
 
 -- A new disk is online, and has its block size behind its path.
 unfoldable pub new_entry_bytes : Revision → List ℕ
-new_entry_bytes revision = placed (replicate 64 255) 58 (to_be_bytes w16 (block_size_of revision))
+new_entry_bytes revision = placed (replicate 64 255) DISK_BLOCK_SIZE_AT (to_be_bytes w16 (block_size_of revision))
 
 abbrev pub named_entry : NewLayout → Revision → Stamp → (place size : ℕ) → DiskEntry
 named_entry layout revision stamp place size = record {

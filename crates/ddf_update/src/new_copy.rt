@@ -39,8 +39,15 @@ use crate::new_layout::{NewLayout, WORKSPACE};
 use ddf_bytes::{Guid, GuidKind, NoMemory, Sector, Seq, Stamp, new_guid, put16};
 use ddf_config_records::{Notes, RecordSlot, SlotNote};
 use ddf_copy::DiskCopy;
+use ddf_header::layout::{
+    GROUPING_AT, KIND_AT, MAX_MEMBERS_AT, PRIMARY_LBA_AT, SECTIONS_AT, WORKSPACE_LENGTH_AT,
+};
 use ddf_header::{Geometry, Header, HeaderKind, Revision, Section};
 use ddf_seal::{SEAL, Span, clear};
+use ddf_tables::layout::{
+    CONTROLLER_GUID_AT, DISK_BLOCK_SIZE_AT, DISK_DATA_GUID_AT, DISK_DATA_REFERENCE_AT,
+    DISK_GUID_AT, DISK_SIZE_AT,
+};
 use ddf_tables::{
     ArrayTable, BadBlockLog, Controller, DiskData, DiskEntry, DiskRow, DiskState, DiskTable,
     DiskType,
@@ -53,31 +60,48 @@ const ABSENT: Section = Section {
     length: 0,
 };
 
-/// Where the GUID of a controller or a disk stands in its sector.
-const GUID: Span = Span { at: 8, length: 24 };
+/// Where the GUID of a controller stands in its sector.
+const CONTROLLER_GUID: Span = Span {
+    at: CONTROLLER_GUID_AT,
+    length: 24,
+};
 
-/// Where the reference of a disk stands in its sector.
-const REFERENCE: Span = Span { at: 32, length: 4 };
+/// Where the GUID and the reference of a disk stand in its sector.
+const DISK_GUID: Span = Span {
+    at: DISK_DATA_GUID_AT,
+    length: 24,
+};
+
+const DISK_REFERENCE: Span = Span {
+    at: DISK_DATA_REFERENCE_AT,
+    length: 4,
+};
 
 /// Where the seal and the fields of a header stand, and the foreign flag and the disk grouping, which are 0.
 const HEADER: [Span; 4] = [
-    Span { at: 0, length: 51 },
-    Span { at: 96, length: 17 },
     Span {
-        at: 116,
-        length: 22,
+        at: 0,
+        length: GROUPING_AT + 1,
     },
     Span {
-        at: 192,
+        at: PRIMARY_LBA_AT,
+        length: KIND_AT + 1 - PRIMARY_LBA_AT,
+    },
+    Span {
+        at: WORKSPACE_LENGTH_AT,
+        length: MAX_MEMBERS_AT + 2 - WORKSPACE_LENGTH_AT,
+    },
+    Span {
+        at: SECTIONS_AT,
         length: 64,
     },
 ];
 
 /// Where the fields of an entry stand.
-const ENTRY: [Span; 1] = [Span { at: 0, length: 40 }];
-
-/// Where the block size stands in an entry.
-const BLOCK_SIZE: usize = 58;
+const ENTRY: [Span; 1] = [Span {
+    at: DISK_GUID_AT,
+    length: DISK_SIZE_AT + 8,
+}];
 
 /// The copy of the disk at a place among the disks of a new group of a layout and a revision, by the sizes of all in sectors (profile).
 pub(crate) fn new_copy(
@@ -194,7 +218,7 @@ fn new_controller(stamp: &Stamp) -> Controller
 {
     Controller {
         guid: new_guid(GuidKind::Controller, stamp, 0),
-        rest: blank_sector(&[SEAL, GUID]),
+        rest: blank_sector(&[SEAL, CONTROLLER_GUID]),
     }
 }
 
@@ -205,7 +229,7 @@ fn new_disk_data(stamp: &Stamp, place: usize) -> DiskData
     DiskData {
         guid: disk_guid(stamp, place),
         reference: reference_at(stamp, place),
-        rest: blank_sector(&[SEAL, GUID, REFERENCE]),
+        rest: blank_sector(&[SEAL, DISK_GUID, DISK_REFERENCE]),
     }
 }
 
@@ -307,7 +331,7 @@ fn entry_rest(revision: Revision) -> [u8; 64]
     ensures { (entry : DiskEntry) → result ≡ cleared (places (disk_fields entry)) (new_entry_bytes revision) }
 {
     let mut rest = [0xFF; 64];
-    put16(&mut rest, BLOCK_SIZE, block_size_of(revision));
+    put16(&mut rest, DISK_BLOCK_SIZE_AT, block_size_of(revision));
     clear(&mut rest, &ENTRY);
     rest
 }

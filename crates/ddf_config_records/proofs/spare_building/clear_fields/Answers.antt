@@ -4,12 +4,13 @@ use Rattle.ddf_seal.specs.declared.unread.Span.{Span}
 use Rattle.ddf_seal.specs.Seal.{seal_place}
 use Rattle.ddf_seal.specs.Unread.{cleared}
 use Rattle.ddf_seal.proofs.Same.{cleared_outside}
+use Rattle.ddf_config_records.specs.declared.layout.TheConstants.{SPARE_TIMESTAMP_AT, SPARE_KIND_AT}
 use Rattle.ddf_config_records.specs.Spares.{entry_place}
 use Rattle.ddf_config_records.proofs.Spares.{entry_places, spare_head_within}
 use Rattle.ddf_config_records.proofs.spare_building.clear_fields.Goals as goal
 
 abbrev head : List Span
-head = seal_place ∷ record { at = 8; length = 4 } ∷ record { at = 19; length = 1 } ∷ []
+head = seal_place ∷ record { at = SPARE_TIMESTAMP_AT; length = 4 } ∷ record { at = SPARE_KIND_AT; length = 1 } ∷ []
 
 pub clear_entries-requires : goal.clear_entries-requires
 clear_entries-requires c =

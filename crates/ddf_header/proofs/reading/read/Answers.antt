@@ -3,6 +3,7 @@ use Rattle.std.specs.Int.{w64}
 use Rattle.std.specs.Prelude.{slice_index}
 use Rattle.std.proofs.lemmas.Bool.{ne_eqb}
 use Rattle.ddf_bytes.specs.Bytes.{bytes_at, number_at}
+use Rattle.ddf_header.specs.declared.layout.TheConstants.{REVISION_AT, PRIMARY_LBA_AT, SECONDARY_LBA_AT, KIND_AT}
 use Rattle.ddf_header.specs.Layout.{kind_code, revision_of}
 use Rattle.ddf_header.specs.Geometry.{geometry_at, geometry_fault}
 use Rattle.ddf_header.specs.Header.{are_header_places}
@@ -18,11 +19,11 @@ returns-in_default-from_text c =
     let sealed : SealStands c.args.sector.now = record { seal_stands = sym c.check.ensures.exact ∙ c.in_default.is } in
     rw (revision_fault c.args.kind c.args.sector.now sealed (sym c.from_text.ensures ∙ c.in_default-from_text.is)) refl
 
-places : (c : After-are_header_places) → are_header_places (number_at w64 c.args.sector.now 96) (number_at w64 c.args.sector.now 104) ≡ c.are_header_places.result
+places : (c : After-are_header_places) → are_header_places (number_at w64 c.args.sector.now PRIMARY_LBA_AT) (number_at w64 c.args.sector.now SECONDARY_LBA_AT) ≡ c.are_header_places.result
 places c = sym (rw (← c.be64-primary_lba.ensures, ← c.be64-secondary_lba.ensures) c.are_header_places.ensures)
 
 -- what is known once the geometry is read
-of_kind : (c : After-fault) → are_header_places (number_at w64 c.args.sector.now 96) (number_at w64 c.args.sector.now 104) ≡ c.are_header_places.result → KindStands c.args.kind c.args.sector.now c.in-Some.revision
+of_kind : (c : After-fault) → are_header_places (number_at w64 c.args.sector.now PRIMARY_LBA_AT) (number_at w64 c.args.sector.now SECONDARY_LBA_AT) ≡ c.are_header_places.result → KindStands c.args.kind c.args.sector.now c.in-Some.revision
 of_kind c places = record {
   before = record {
     before = flag_stands_from c.args.kind c.args.sector.now c.in-Some.revision (sym c.check.ensures.exact ∙ c.in_default.is) (sym c.from_text.ensures ∙ c.in-Some.is)
@@ -57,7 +58,7 @@ returns-then-sector-code c =
     (sym c.is_open_flag.ensures ∙ c.if-not-is_open_flag.false) in
     let of_places = places (goal.at.returns-then-sector-code c).After-are_header_places in
     let placed : PlacesStand c.args.kind sector c.in-Some.revision = record { before = flagged; places_stand = of_places ∙ c.if-not-are_header_places.false } in
-    let other = ne_eqb (slice_index sector 112) (kind_code c.args.kind) (λ e. c.if-sector-code.true (e ∙ sym c.code.ensures)) in
+    let other = ne_eqb (slice_index sector KIND_AT) (kind_code c.args.kind) (λ e. c.if-sector-code.true (e ∙ sym c.code.ensures)) in
     rw (kind_fault c.args.kind sector c.in-Some.revision placed other) refl
 
 pub returns-in-Some-fault : goal.returns-in-Some-fault
@@ -71,5 +72,5 @@ returns c =
     let known = (goal.at.returns c).After-fault in
     let of_places = places (goal.at.returns c).After-are_header_places in
     let none = no_fault c.args.kind c.args.sector.now c.in-Some.revision (of_kind known of_places) (geometry known ∙ c.in_default-fault.is) in
-    let revision : revision_of (bytes_at c.args.sector.now 32 8) ≡ Some c.in-Some.revision = sym c.from_text.ensures ∙ c.in-Some.is in
+    let revision : revision_of (bytes_at c.args.sector.now REVISION_AT 8) ≡ Some c.in-Some.revision = sym c.from_text.ensures ∙ c.in-Some.is in
     rw (none, revision, c.guid_at.ensures, c.be32.ensures, c.be32-2.ensures, c.be64-primary_lba.ensures, c.be64-secondary_lba.ensures, c.read-geometry.ensures, c.clear.ensures.unread) refl

@@ -1,4 +1,5 @@
 use Rattle.std.proofs.Common.{◌≡◌, ◌+◌, ◌*◌, ◌∙◌, refl, ap, length}
+use Rattle.ddf_tables.specs.declared.layout.TheConstants.{LOG_ENTRIES_AT, LOG_ENTRY_BYTES}
 use Rattle.ddf_tables.specs.Places.{each_at}
 use Rattle.ddf_tables.specs.BadBlocks.{entry_at}
 use Rattle.ddf_tables.proofs.Parts.{each_at_more, length-each_at}
@@ -12,6 +13,6 @@ pub loop-index-preserved : goal.loop-index-preserved
 loop-index-preserved c =
     let i = c.loop-index.index in
     let section = c.args.section.now in
-    let more = each_at_more (entry_at section) 16 32 i (32 + 16 * i) refl in
-    let read : c.push.new.self.items ≡ each_at (entry_at section) 16 32 (i + 1) = rw (c.in_ok-push.ensures.items, c.loop-index.invariant.read, c.entry_at.ensures, more) refl in
-    record { read = read; count = ap length read ∙ length-each_at (entry_at section) 16 32 (i + 1) }
+    let more = each_at_more (entry_at section) LOG_ENTRY_BYTES LOG_ENTRIES_AT i (LOG_ENTRIES_AT + LOG_ENTRY_BYTES * i) refl in
+    let read : c.push.new.self.items ≡ each_at (entry_at section) LOG_ENTRY_BYTES LOG_ENTRIES_AT (i + 1) = rw (c.in_ok-push.ensures.items, c.loop-index.invariant.read, c.entry_at.ensures, more) refl in
+    record { read = read; count = ap length read ∙ length-each_at (entry_at section) LOG_ENTRY_BYTES LOG_ENTRIES_AT (i + 1) }

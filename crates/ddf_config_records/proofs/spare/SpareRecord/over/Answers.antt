@@ -1,6 +1,7 @@
 use Rattle.std.proofs.Common.{◌≡◌, ◌∷◌, ◌∙◌, ap, sym, subst, length, option_copied, List, ℕ, arith}
 use Rattle.ddf_seal.specs.Seal.{seal_place}
 use Rattle.ddf_seal.specs.Unread.{u16_at, cleared, places, written}
+use Rattle.ddf_config_records.specs.declared.layout.TheConstants.{SPARE_POPULATED_AT, SPARE_MAXIMUM_AT}
 use Rattle.ddf_config_records.specs.Elements.{record_size}
 use Rattle.ddf_config_records.specs.Spares.{spare_fields, CanBeSpare}
 use Rattle.ddf_config_records.specs.Building.{secondary_fields, spare_bytes, spare_numbers}
@@ -18,8 +19,8 @@ returns-clause-exact c =
     let count : length c.items-count.result.now ≡ length spare.arrays = ap length c.items-count.ensures in
     let set : c.set_numbers.new.bytes.items ≡ written (spare_numbers geometry (length spare.arrays)) c.in_ok-rest.rest.items =
     c.set_numbers.ensures.exact
-    ∙ ap (λ (n : ℕ). written (u16_at 20 n ∷ u16_at 22 c.spare_entries.result ∷ secondary_fields n) c.in_ok-rest.rest.items) count
-    ∙ ap (λ (n : ℕ). written (u16_at 20 (length spare.arrays) ∷ u16_at 22 n ∷ secondary_fields (length spare.arrays)) c.in_ok-rest.rest.items) c.spare_entries.ensures in
+    ∙ ap (λ (n : ℕ). written (u16_at SPARE_POPULATED_AT n ∷ u16_at SPARE_MAXIMUM_AT c.spare_entries.result ∷ secondary_fields n) c.in_ok-rest.rest.items) count
+    ∙ ap (λ (n : ℕ). written (u16_at SPARE_POPULATED_AT (length spare.arrays) ∷ u16_at SPARE_MAXIMUM_AT n ∷ secondary_fields (length spare.arrays)) c.in_ok-rest.rest.items) c.spare_entries.ensures in
     let rest : c.clear_fields.new.bytes.items ≡ cleared spans (written (spare_numbers geometry (length spare.arrays)) (spare_bytes geometry (option_copied c.args.bytes))) =
     c.clear_fields.ensures spare (sym count) ∙ ap (cleared spans) (set ∙ ap (written (spare_numbers geometry (length spare.arrays))) c.in_ok-rest.ensures.exact) in
     c.with_rest.ensures.exact ∙ ap (λ (l : List ℕ). record spare { rest = l }) rest
