@@ -298,7 +298,7 @@ def by_promise(all_found: list[Scenario]) -> list[str]:
     lines = ["## By promise", "", "[GUARANTEES.md](GUARANTEES.md#the-main-promises) has the clauses, and what else shows a promise.", ""]
     with (TOP / "docs/promises.tsv").open(encoding="utf-8", newline="") as file:
         rows = list(csv.reader(file, delimiter="\t", quoting=csv.QUOTE_NONE))[1:]
-    for mark, says, *_ in rows:
+    for mark, says in rows:
         paths = [it.path for it in all_found if re.search(rf"\bpromise:{mark}\b", it.says)]
         lines.append(item(f"**`{mark}`** {sentence(says)} " + ", ".join(map(short, paths))))
     return lines

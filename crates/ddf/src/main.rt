@@ -198,6 +198,8 @@ fn changes_group(command: &Command) -> bool {
 
 /// Opens the disks, and hands them to the command. A group isn't changed where a disk that is named can't be opened, and isn't looked
 /// at where one is locked.
+// argued: that a command gets the images that its words name, and that one which changes a group isn't run where an image can't be opened, nor one that
+// looks at a group where an image is locked, for the steps before `serve` are one call each, in this order.
 fn perform<R>(
     rt: &R,
     words: &[String],
@@ -217,6 +219,8 @@ where
     let stamp = stamp_for(rt, makes_names).map_err(Failure::Chance)?;
     let files = open_disks(rt, paths, &asked.command)?;
     check_opened(&files, &asked.command)?;
+    // argued: that the program makes the bay for `label linux`, and for nothing else, for this line alone makes the bay that a command gets, by the
+    // command itself.
     let mut bay = Turned::new(files, made_for_linux(&asked.command));
     let risks = name_before(rt, &mut bay, paths, asked, kind, person)?;
     let given = input_of(rt, kind, person)?;

@@ -65,6 +65,7 @@ pub fn parity_is_the_sum_of_its_row()
 
 /// A loss of disks changes no value of a sound array that isn't marked and is still within its level, as it then was
 /// before.
+// promise:values
 pub fn a_loss_changes_no_value()
     ensures value { (is_absent : ℕ → ℕ → Bool) (before after : Volume) (image : Image) (block : ℕ) → IsVolume after
         → IsLoss before after → IsSound is_absent before image → before.marked ≡ false → is_within after ≡ true

@@ -1,5 +1,8 @@
 //! What the program names on standard error before a command and after it, and what it asks: members, disks and arrays that would be lost, what a disk holds that is
 //! to be labelled, what Linux makes of its disks, and where a command that ended early left them.
+//!
+//! argued: that what is named and asked before a command is what it would lose or write over, and what is named after it is what it left, for each is a
+//! few lines over the group as it was assembled, or over the sectors of one disk.
 #![tactic(auto)]
 
 mod arrays_after;

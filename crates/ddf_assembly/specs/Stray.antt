@@ -72,12 +72,15 @@ abbrev pub is_lost_since : Seated → (ℕ × Member) → Bool
 is_lost_since disk entry = entry.1.missing && not (lists_missing (view_of disk.copy) entry.1.guid entry.0)
 
 -- How many sequence numbers stops and failing disks leave a disk behind at the most: one change, and two for each member that is missing and that
--- the disk doesn't list so. For until a change is on all disks nothing else is issued but losses. The change takes one number, or it is a failing
--- disk's and takes two, and that disk is counted; each loss takes two, and a member of it is counted. This is argued, and not proved of a history.
+-- the disk doesn't list so.
 -- One more would be too many: a write of a redundant array takes two numbers, for it sets the array's mark and clears it, so a disk that missed one
 -- is two behind.
 -- A loss takes two numbers however many members it has, so where several were lost at once the bound is wider than what was issued, and an image from
 -- before a write may be within it: what disks record tells nothing closer.
+--
+-- argued: that no disk is further behind in a history than `most_behind` says, for until a change is on all disks nothing else is issued but losses;
+-- the change takes one number, or it is a failing disk's and takes two, and that disk is counted; and each loss takes two, and a member of it is
+-- counted.
 abbrev pub most_behind : Configuration → Seated → ℕ
 most_behind config disk = 1 + 2 * count_by (is_lost_since disk) config.members
 

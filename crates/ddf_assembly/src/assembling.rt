@@ -125,6 +125,7 @@ pub fn first_left_out(left_out: &[bool], seats: &[Seat]) -> Option<usize>
 /// No slot shows the group; no group is named and there are several; two newest records contradict each other; an older record lists
 /// the disk of a newest one as missing; or memory ran out.
 pub fn assemble<B: Bay>(alloc: Global, bay: &mut B, group: Option<Guid>) -> Result<Group, Assembly>
+    // promise:newest
     ensures assembled { IsAssembled B.tells (B.disks bay.old) (B.disks bay.new) group result }
 
     // Each newest copy can be written again, in both places under the anchor of its slot, and each seat is on a slot that has room
@@ -160,6 +161,7 @@ pub fn assemble_with_left_out<B: Bay>(
     bay: &mut B,
     group: Option<Guid>,
 ) -> Result<AssembledGroup, Assembly>
+    // promise:newest
     ensures assembled { IsAssembledLeavingOut B.tells (B.disks bay.old) (B.disks bay.new) group result }
     ensures none { IfOk result (λ made. LeaveNone made.left_out made.group.newest) }
 

@@ -39,6 +39,7 @@ impl Group {
         // From entry to exit a stop leaves what it might have left before, or, once the seats' slots were synced, each slot with its old
         // or its new copy, and one of them at most partly written. At Ok no other slot was written, and a stop leaves of the seats'
         // slots what they hold.
+        // promise:whole
         ensures any_moment { B.tells → (seat : ℕ → SlotChange) → MayChangeAll (synced (B.disks bay.old) (slots_of self.old.seats)) (recovery_slots ready.old) seat (recovery_updates ready.old)
             → StopsLeave (B.disks bay.old) (B.disks bay.new) (λ image. IsLeft (B.disks bay.old).may_hold image
             ⊎ IsLeftChangingAll (synced (B.disks bay.old) (slots_of self.old.seats)) (recovery_slots ready.old) seat (recovery_updates ready.old) image) }
@@ -77,6 +78,7 @@ impl Group {
         ensures left { ready.new ≡ left_behind ready.old }
 
         // From entry to exit a stop leaves each slot with its old or its new copy, and one of them at most partly written.
+        // promise:whole
         ensures any_moment { B.tells → (seat : ℕ → SlotChange) → MayChangeAll (B.disks bay.old) (next_slots ready.old) seat (next_updates ready.old)
             → StopsLeave (B.disks bay.old) (B.disks bay.new) (IsLeftChangingAll (B.disks bay.old) (next_slots ready.old) seat (next_updates ready.old)) }
         ensures changed { B.tells → (seat : ℕ → SlotChange) → MayChangeAll (B.disks bay.old) (next_slots ready.old) seat (next_updates ready.old)

@@ -41,6 +41,7 @@ pub fn a_step_gives_the_configuration_after_the_change()
 /// What a change left of a settled group is assembled to the group after it, by what the group was assembled by before, and by its GUID: its
 /// configuration is the step's, its seats are the step's, nothing is absent, and nothing lags. The step has written some disk; one that loses
 /// every disk writes none.
+// promise:settled
 pub fn what_a_change_left_is_assembled_to_the_group_after_it()
     ensures again { (newest : List (Option Newest)) (named : Option (List ℕ)) (group : GroupValue) (change : Change) (timestamp : ℕ) (step : Step)
         → AreNewest newest → group_of newest named ≡ Ok group → IsSettledGroup group → CanBeAsked change
@@ -54,6 +55,7 @@ pub fn what_a_change_left_is_assembled_to_the_group_after_it()
 
 /// The disks of a join are written in this order: those of the group that is joined, in rising slots, and then those that join it, in rising
 /// slots. Each group's disks are in rising slots, no slot is in both, and those of the one show its group, and those of the other don't.
+// promise:last
 pub fn a_join_is_written_to_the_disks_that_join_last()
     ensures order { (timestamp : ℕ) (native other : GroupValue) → SlotsRise (seats_in (disks_recovered timestamp native)) → SlotsRise (seats_in (seated other))
         → AreApart (disks_recovered timestamp native) (seated other)

@@ -25,8 +25,8 @@ use ddf_bytes::Sink;
 use ddf_command::a_group_is_assembled_at_every_moment_of_its_history;
 
 /// A line whose command may write takes the group that it finds as a call of the program does, and one by which another group joins takes both. Where it
-/// finds the group of a history that admits it, it is a call of that history: at its end, done where its status is 0, and at each moment within it, with whatever image a stop left since it began. So the
-/// calls of a batch's lines are calls of one history, each from where the one before it ended.
+/// finds the group of a history that admits it, it is a call of that history: at its end, done where its status is 0, and at each moment within it,
+/// with whatever image a stop left since it began. So the calls of a batch's lines are calls of one history, each from where the one before it ended.
 pub fn a_line_is_an_event_of_its_history<B: Bay, K: Sink>()
     ensures took { (stamp : Stamp) (group : Option (List ℕ)) (words : List Word) (from to : Point B) (code : ℕ) (command : Command)
         → IsLineRun B.tells B.disks K.tells stamp group words from to code → AsksFor words command → (traits_of command).may_write ≡ true
@@ -52,6 +52,7 @@ pub fn a_line_is_an_event_of_its_history<B: Bay, K: Sink>()
 /// What a line acknowledged is held at each moment since: where it was done all of its changes are issued and acknowledged, and at every later moment of
 /// the history, within the lines behind it or after any stop, they are so still, and assembly gives the configuration after a prefix of the issued
 /// changes that holds them. The moments behind the lines of a batch are such a history.
+// promise:lines
 pub fn what_lines_acknowledged_is_held<B: Bay, K: Sink>()
     ensures acknowledged { (told : B.tells) (guid : List ℕ) (old new : Moment (groups guid) B) (end : IsEnd told B.disks guid old new) → end.call.done ≡ true
         → IsOver guid old.past (is_read end.call.taken.left) end.call.group (changes_in end.call.group end.call.steps) new.past }

@@ -46,6 +46,7 @@ pub fn run<B: Bay, S: Source, K: Sink>(
     // What is told, and with which status, by what it made of the disks and took from the input.
     ensures done { (asked : Asked) → IsAsked (words_of words.now) asked
         → IsDone (work_of B.tells (B.disks bay.old) (B.disks bay.new)) (input_of S.tells (S.input source.old) (S.input source.new)) stamp asked (answer_of K.tells (K.output sink.old) (K.output sink.new) result) }
+    // promise:batch
     ensures batch { (group : Option (List ℕ)) → AsksForBatch (words_of words.now) group
         → IsBatchRun B.tells B.disks K.tells stamp group (images_of (words_of words.now)) S.tells (S.input source.old) (S.input source.new) (point bay.old (K.output sink.old)) (point bay.new (K.output sink.new)) result }
 

@@ -8,6 +8,7 @@ use ddf_bytes::{Sink, Source, Stamp};
 use std::alloc::Global;
 
 /// The same call for a program, of which the contract names the conditions alone: what it promises stands at `run`, which it calls.
+// argued: that `serve` does what `run` promises, for its body is one call of `run` with the same arguments.
 pub fn serve<B: Bay, S: Source, K: Sink>(
     alloc: Global,
     words: &[String],

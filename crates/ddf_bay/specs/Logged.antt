@@ -45,6 +45,8 @@ IsPending m [] s l bytes = ⊥
 IsPending m (r ∷ rs) s l bytes = (IsTrue (is_at r s l && is_pending m r) × (bytes ≡ r.bytes)) ⊎ IsPending m rs s l bytes
 
 -- A stop at the moment m may leave these bytes in the sector: those of the last good sync, or of any write since.
+-- argued: that these are the images of the disk model, for it says that a stop leaves in each sector the bytes of its last good sync, or those of a
+-- write since, and the definition has these two cases and no other.
 abbrev pub MayHold : ℕ → List LoggedWrite → ℕ → ℕ → List ℕ → Type 0
 MayHold m rs s l bytes = (bytes ≡ sure_bytes m rs s l zeros) ⊎ IsPending m rs s l bytes
 

@@ -126,6 +126,8 @@ impl<R: Files> FileBay<R> {
     }
 }
 
+// argued: that a call moves the sectors that it is asked for, of the file of its slot, for each body hands this file and the first sector to one
+// transfer, which is proved to move the run from or to there.
 impl<R: Files> Bay for FileBay<R> {
     ghost use Rattle.ddf_bay.specs.FileBays.{disks_of, has_opened, is_writable, moment_stays, IsCounted};
     ghost use Rattle.ddf_bay.specs.MemoryLaws.{size_small};

@@ -44,26 +44,34 @@ pub fn run<B: Bay, S: Source, K: Sink>(
     requires slots { length (B.disks bay.old).sizes ≡ slot_count (words_of words.now) }
 
     // Words that are no command's are refused at the place where they go wrong, and no others are.
+    // promise:words
     ensures wrong_words { (place : ℕ) → GoWrongAt IsAccepted (words_of words.now) place → EndsWith 2 (refusal_line (Refusal.Words place)) (answer_of K.tells (K.output sink.old) (K.output sink.new) result) }
+    // promise:words
     ensures wrong_words_only { result ≡ 2 → (place : ℕ) × GoWrongAt IsAccepted (words_of words.now) place }
 
     // What is told, and with which status, by what it made of the disks and took from the input.
+    // promise:contradiction, promise:refused, promise:examined, promise:header, promise:sums, promise:costs
     ensures done { (asked : Asked) → IsAsked (words_of words.now) asked
         → IsDone (work_of B.tells (B.disks bay.old) (B.disks bay.new)) (input_of S.tells (S.input source.old) (S.input source.new)) stamp asked (answer_of K.tells (K.output sink.old) (K.output sink.new) result) }
 
     // It ends with one of these statuses, and at those of these that are unwritten no sector was written.
     ensures status { IsTrue (is_status result) }
+    // promise:contradiction, promise:refused
     ensures unwritten { IsTrue (is_unwritten result) → ReadsOnly (B.disks bay.old) (B.disks bay.new) }
 
     // What stays.
+    // promise:looks
     ensures stays { AsksForNoWrite (words_of words.now) → ReadsOnly (B.disks bay.old) (B.disks bay.new) }
     ensures goes_on { GoesOn (B.disks bay.old) (B.disks bay.new) }
     ensures same_sizes { (B.disks bay.new).sizes ≡ (B.disks bay.old).sizes }
     ensures source { TakesNoInput (words_of words.now) → source.new ≡ source.old }
 
     // Each status has its cause.
+    // promise:statuses
     ensures disk_fault { result ≡ 3 → SomeSlotRose (B.disks bay.old) (B.disks bay.new) }
+    // promise:statuses
     ensures stream_fault { result ≡ 6 → SinkRose (K.output sink.old) (K.output sink.new) ⊎ (TakesInput (words_of words.now) × Rose (S.input source.old).faults (S.input source.new).faults) }
+    // promise:statuses
     ensures complete { (asked : Asked) → IsAsked (words_of words.now) asked → (SomeSlotRose (B.disks bay.old) (B.disks bay.new) → ⊥)
         → (SinkRose (K.output sink.old) (K.output sink.new) → ⊥)
         → ((traits_of asked.command).takes_input ≡ true → Rose (S.input source.old).faults (S.input source.new).faults → ⊥)

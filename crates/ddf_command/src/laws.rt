@@ -44,6 +44,7 @@ use ddf_bay::Bay;
 /// and returns of disks: at every moment, whatever a stop leaves, assembly of the readable disks, one current member among them, gives the
 /// configuration after a prefix of the issued changes that holds every acknowledged one, or names two records that contradict each other
 /// where a disk that came back is read. What was acknowledged stays in the list.
+// promise:acknowledged
 pub fn a_group_is_assembled_at_every_moment_of_its_history<B: Bay>()
     ensures answers { (told : B.tells) (group : List ℕ) (start : Moment (groups group) B) (history : List (Moment (groups group) B))
         → AllKept (Leaves told B.disks group) start → IsHistory (Leaves told B.disks group) (IsCall told B.disks group) start history
@@ -70,6 +71,7 @@ pub fn a_call_is_an_event_of_its_history<B: Bay>()
 {}
 
 /// So is each call by which another group joins it, where its history admits the call and the join, and no disk that joins showed the group.
+// promise:joined
 pub fn an_import_is_an_event_of_its_history<B: Bay>()
     ensures ends { (told : B.tells) (group : List ℕ) (old : Moment (groups group) B) (call : JoinCall told B.disks group old) → AreAllKept group old.past (B.disks old.bay)
         → (B.disks call.exit).tells_left → (new : Moment (groups group) B) × (new.bay ≡ call.exit) × IsJoinEnd told B.disks group old new }
@@ -93,6 +95,7 @@ pub fn a_label_begins_a_history<B: Bay>()
 
 /// A `label` that was cut short begins a history too, of the disks that had their copies by then: the members whose disks had none are absent.
 /// The names of the group and of its disks are new, so that no slot showed them before.
+// promise:labelled
 pub fn a_label_cut_short_begins_a_history<B: Bay>()
     ensures begins { (revision : Revision) (stamp : Stamp) (named : List ℕ) (old new cut : B) (founded : ℕ → Bool) → IsNewLabel (B.disks old) (B.disks new) revision stamp named
         → IsLeftByLabel (B.disks old) (B.disks new) (B.disks cut) revision stamp named founded
@@ -164,6 +167,7 @@ pub fn an_import_that_was_done_leaves_current_members<B: Bay>()
 {}
 
 /// Behind a call that was done each current member whose disk it didn't read is missing.
+// promise:lost
 pub fn a_member_that_was_left_out_is_missing<B: Bay>()
     ensures { (told : B.tells) (group : List ℕ) (old new : Moment (groups group) B) (end : IsEnd told B.disks group old new) → end.call.done ≡ true
         → (slot : ℕ) → is_read end.call.taken.left slot ≡ false → has_current end.call.group.config (old.past.disk slot) ≡ true
@@ -172,6 +176,7 @@ pub fn a_member_that_was_left_out_is_missing<B: Bay>()
 
 /// However far a call on a group came, it makes no disk a current member that was none since the last acknowledged configuration, keeps one
 /// that each of its steps has as one, and keeps missing what was missing.
+// promise:raised
 pub fn a_calls_changes_keep_members()
     ensures { (group : List ℕ) (past now : Past (groups group)) (readable : ℕ → Bool) (own : GroupValue) (changes : List Change) (timestamp : ℕ) (steps : List Step)
         → readied own changes timestamp ≡ Ok steps → (done : Bool) → Ends group past readable own (changes_in own steps) done now
@@ -221,6 +226,7 @@ pub fn a_change_of_another_group_is_aside<B: Bay>()
 
 /// Where a stop cut an import of a group behind whose last acknowledged configuration none was issued, what is assembled is that one, or one of the
 /// changes of the import: the loss of absent members, or the join.
+// promise:joined
 pub fn an_import_that_was_cut_is_before_or_behind_a_change<B: Bay>()
     ensures { (told : B.tells) (group : List ℕ) (old new : Moment (groups group) B) (cut : IsJoinCut told B.disks group old new) → AllKept (Leaves told B.disks group) old
         → length old.past.changes.issued ≡ old.past.changes.acked + 1 → (scene : Scene View) → Leaves told B.disks group new.bay scene → (readable : ℕ → Bool)

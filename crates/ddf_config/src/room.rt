@@ -13,6 +13,7 @@ use std::alloc::Global;
 /// sectors) and end within `size`. None exactly where there is none. A taken extent may reach past `size`.
 pub fn least_start(taken: &[(u64, u64)], size: u64, strip: u64, blocks: u64) -> Option<u64>
     requires { 1 ≤ strip }
+    // promise:extents
     ensures { result ≡ least_start_of taken.now size strip blocks }
 {
     let mut place: u128 = 0;

@@ -37,6 +37,7 @@ pub fn encode_slots(slots: &[RecordSlot], geometry: &Geometry, into: &mut [u8])
         ≡ drop (length slots.now * record_size geometry.now) into.old }
 
     // What was decoded is given back.
+    // promise:unread
     ensures back { (group : List ℕ) (sequence : ℕ) (section : List ℕ)
         → AreSlotsOf geometry.now group sequence slots.now section
         → take (length slots.now * record_size geometry.now) into.new

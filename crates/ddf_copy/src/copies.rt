@@ -60,6 +60,7 @@ pub fn newest<B: Bay>(
     requires { slot < length (B.disks bay.old).sizes }
     ensures writable { IfOk result IsNewestCopy }
     ensures under { IsAnchor anchor.now → IfOk result (IsNewestUnder (slice_index (B.disks bay.old).sizes slot) anchor.now) }
+    // promise:newest
     ensures newest { B.tells → IfOk result (λ newest. newest ≡ on_slot newest_of (B.disks bay.old) slot anchor.now) }
     ensures reads { ReadsOnly (B.disks bay.old) (B.disks bay.new) }
     ensures look { LooksAt (B.disks bay.old) (B.disks bay.new) slot (show_failed result) }

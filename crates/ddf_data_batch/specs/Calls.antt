@@ -44,8 +44,8 @@ use Rattle.ddf_batch.specs.Line.{no_input}
 abbrev pub IsUnwritten : List Word → (code : ℕ) → Type 0
 IsUnwritten words code = (IsLine words → ⊥) ⊎ ((command : Command) × AsksFor words command × ((traits_of command).may_write ≡ false)) ⊎ IsTrue (is_unwritten code)
 
--- `disks` is what a bay of type B tells, and `told` that it tells what they hold; `streams` is what an input of type S tells. A line is run over the named group or the only one, from the bay of a moment on, and
--- leaves this bay.
+-- `disks` is what a bay of type B tells, and `told` that it tells what they hold; `streams` is what an input of type S tells. A line is run over the
+-- named group or the only one, from the bay of a moment on, and leaves this bay.
 module _ {B : Type 0} {tells : Type 0} (told : tells) (disks : B → BayState B) {S : Type 0} (tells_bytes : Type 0) (streams : S → SourceState) (stamp : Stamp) (group : Option (List ℕ)) (guid : List ℕ)
     (old : Moment guid B) (exit : B) where
   abbrev pub work : Work B

@@ -44,8 +44,9 @@ module _ {B : Type 0} {tells : Type 0} (told : tells) (disks : B → BayState B)
         (MayPromise told disks tells_bytes streams guid (call_of told disks tells_bytes streams stamp group guid old exit answer line)) Holds
 
   module _ (sink : Type 0) (stamp : Stamp) (group : Option (List ℕ)) (images : List Word) where
-    -- All is kept at a moment at which these lines are left to be run, and stays so, for so many turns: through whatever else happens, a stop among it, behind which no line is run; through what
-    -- happens between two lines; and through the line, which was run from this moment's bay on, to a moment at which the bay is the one that it left, and from which those behind it are run.
+    -- All is kept at a moment at which these lines are left to be run, and stays so, for so many turns: through whatever else happens, a stop among
+    -- it, behind which no line is run; through what happens between two lines; and through the line, which was run from this moment's bay on, to a
+    -- moment at which the bay is the one that it left, and from which those behind it are run.
     abbrev pub KeepsThrough : (turns : ℕ) (lines : List (List ℕ)) (from to : Point B) (refused : Bool) (status : ℕ) → AreLinesRun tells disks sink stamp group images lines from to refused status
         → Moment guid B → Type 0
     KeepsThrough zero lines from to refused status ran old = KeepsAll disks old

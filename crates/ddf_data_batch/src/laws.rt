@@ -17,9 +17,10 @@ use ddf_bay::Bay;
 use ddf_bytes::{Sink, Source};
 use ddf_data_events::a_group_keeps_its_history_and_its_data_at_every_moment;
 
-/// A line of a batch goes on in a history of a group and of its data as a call of the program does that was asked for the same: at its end, where the bay still tells what a stop may leave, with
-/// all of its changes acknowledged where its status is 0, and with whatever image a stop left since it began. What it promises of its command is what such a call does; where it finds the group of the history, which
-/// admits it, it is a call of the history; where it changes another group, or wrote nothing, the history stays.
+/// A line of a batch goes on in a history of a group and of its data as a call of the program does that was asked for the same: at its end, where the
+/// bay still tells what a stop may leave, with all of its changes acknowledged where its status is 0, and with whatever image a stop left since it
+/// began. What it promises of its command is what such a call does; where it finds the group of the history, which admits it, it is a call of the
+/// history; where it changes another group, or wrote nothing, the history stays.
 pub fn a_line_is_an_event_of_its_history_of_data<B: Bay, S: Source, K: Sink>()
     ensures reads { (stamp : Stamp) (group : Option (List ℕ)) (words : List Word) (from to : Point B) (code : ℕ)
         → IsLineRun B.tells B.disks K.tells stamp group words from to code → IsUnwritten words code → ReadsOnly (B.disks from.bay) (B.disks to.bay) }
@@ -37,8 +38,8 @@ pub fn a_line_is_an_event_of_its_history_of_data<B: Bay, S: Source, K: Sink>()
     a_group_keeps_its_history_and_its_data_at_every_moment::<B, S>();
 }
 
-/// So do the lines of a batch that were run one after another, each from the moment behind the one before it, with whatever happens between them: all is kept at every moment, and what was acknowledged
-/// stays in the list.
+/// So do the lines of a batch that were run one after another, each from the moment behind the one before it, with whatever happens between them: all
+/// is kept at every moment, and what was acknowledged stays in the list.
 pub fn the_lines_of_a_batch_go_on_in_their_history_of_data<B: Bay, S: Source, K: Sink>()
     ensures { (told : B.tells) (stamp : Stamp) (group : Option (List ℕ)) (images : List Word) (guid : List ℕ) (lines : List (List ℕ)) (from to : Point B) (refused : Bool) (status : ℕ)
         (ran : AreLinesRun B.tells B.disks K.tells stamp group images lines from to refused status) (old : Moment guid B) → old.bay ≡ from.bay → KeepsAll B.disks old → (turns : ℕ)

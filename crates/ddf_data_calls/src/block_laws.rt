@@ -34,6 +34,7 @@ use ddf_bytes::Source;
 /// A call of `resync` that a history of its group and of the group's data admits keeps both at once: whatever a stop leaves, at any moment since the call's
 /// entry and at its end, shows what it should and keeps the data of the group, by the same promises. That the mark of its array may be set, and cleared
 /// behind the blocks, follows from what the call promises.
+// promise:resynced
 pub fn a_resync_keeps_its_history_and_its_data<B: Bay>()
     ensures both { (told : B.tells) (group : List ℕ) (past : Past (groups group)) (floor : ℕ → ℕ) → ((slot : ℕ) → floor slot < 2 ^ 64) → (promises : Promises)
         → (old new : B) → (B.disks old).tells_left → (named : Option (List ℕ)) (timestamp : ℕ) (word : List ℕ) (outcome : Result ℕ Failure)
@@ -114,6 +115,7 @@ pub fn a_write_keeps_its_history_and_its_data<B: Bay, S: Source>()
 /// at its end, shows what it should and keeps the data of the group, by the same promises. That the position may get its spare, that its rows count as they are
 /// noted, and that it may be in sync once all are set, follows from what the call promises: the array is unmarked, and so redundant, so that what was read for the
 /// rows is sure whichever reads failed.
+// promise:rebuilt
 pub fn a_rebuild_keeps_its_history_and_its_data<B: Bay>()
     ensures both { (told : B.tells) (group : List ℕ) (past : Past (groups group)) (floor : ℕ → ℕ) → ((slot : ℕ) → floor slot < 2 ^ 64) → (promises : Promises)
         → (old new : B) → (B.disks old).tells_left → (named : Option (List ℕ)) (timestamp : ℕ) (word : List ℕ) (outcome : Result ℕ Failure)

@@ -129,7 +129,8 @@ module _ {B : Type 0} {tells : Type 0} (told : tells) (disks : B → BayState B)
 
   -- ---- a command by which another group joins
 
-  -- A call of `import` that wasn't refused, as the histories of its group have it: its own group is this one. Nothing is promised of the arrays that join, and the disks that join have their floors.
+  -- A call of `import` that wasn't refused, as the histories of its group have it: its own group is this one. Nothing is promised of the arrays that
+  -- join, and the disks that join have their floors.
   pub record JoinCall (old : Moment guid B) : Type 0 where
     pub join : GroupsJoin told disks guid (record { past = old.past; bay = old.bay })
     pub tells_left : (disks old.bay).tells_left

@@ -42,8 +42,8 @@ AgreesAt {guid = guid} disks moment array allowed =
     → lookup (same_guid array) config.arrays ≡ Some entry → (volume : Volume) → IsOver (seats_in guid moment.past moment.floor config) entry volume
     → IsAgreeing (absent_in config.members (seats_in guid moment.past moment.floor config) entry.elements) volume image allowed
 
--- An array keeps in whatever a stop may leave at a moment the bytes that its blocks may have by this, under each configuration since the last acknowledged one that has it, over the members' disks that aren't
--- lost.
+-- An array keeps in whatever a stop may leave at a moment the bytes that its blocks may have by this, under each configuration since the last
+-- acknowledged one that has it, over the members' disks that aren't lost.
 abbrev pub KeepsAt : {guid : List ℕ} {B : Type 0} → (disks : B → BayState B) → Moment guid B → (array : List ℕ) → Allowed → Type 0
 KeepsAt {guid = guid} disks moment array allowed =
     (image : Image) → IsLeft (disks moment.bay).may_hold image → (number : ℕ) (config : Configuration) (entry : Array) → IsSince moment.past.changes number config
@@ -66,8 +66,9 @@ module _ {B : Type 0} {tells : Type 0} (told : tells) (disks : B → BayState B)
         → ((number : ℕ) (config : Configuration) → IsSince old.past.changes number config → has_missing config (old.past.disk slot) ≡ true) → Event old
     -- Less is promised from now on: of an array that is to be deleted, or accepted though it isn't consistent, nothing.
     Forgotten : (fewer : Promises) → ((array : List ℕ) (allowed : Allowed) → fewer array ≡ Some allowed → old.promises array ≡ Some allowed) → Event old
-    -- Of an array it is promised from now on that its blocks may have any bytes. Under each configuration since the last acknowledged one that has it, and over whichever seats, it is marked, or
-    -- keeps each block in one place alone: as one that was created, also where a stop cut the call short, or a disk failed in it.
+    -- Of an array it is promised from now on that its blocks may have any bytes. Under each configuration since the last acknowledged one that has
+    -- it, and over whichever seats, it is marked, or keeps each block in one place alone: as one that was created, also where a stop cut the call
+    -- short, or a disk failed in it.
     Noticed : (array : List ℕ)
         → ((number : ℕ) (config : Configuration) (entry : Array) → IsSince old.past.changes number config → lookup (same_guid array) config.arrays ≡ Some entry
         → (seats : List Seat) (volume : Volume) → IsOver seats entry volume → IsWritable volume) → Event old

@@ -20,14 +20,15 @@ use Rattle.ddf_data_events.specs.Moments.{KeepsAll, Moment}
 abbrev pub IsNonePromised : (joining : Configuration) → Promises → Type 0
 IsNonePromised joining promises = (guid : List ℕ) (array : Array) → lookup (same_guid guid) joining.arrays ≡ Some array → promises guid ≡ None
 
--- The disk of each slot that joins has its floor, and of each that is known as a current member of the configuration that joins, by whatever a stop may leave of the slot. None need have it on a slot that is lost.
+-- The disk of each slot that joins has its floor, and of each that is known as a current member of the configuration that joins, by whatever a stop
+-- may leave of the slot. None need have it on a slot that is lost.
 abbrev pub HaveJoiningFloors : {D : Type 0} → (group : List ℕ) → Past (groups group) → BayState D → (floor : ℕ → ℕ) → (joining : GroupValue) → Type 0
 HaveJoiningFloors group past disks floor joining =
     (slot : ℕ) → (is_slot (slots_of joining.seats) slot ≡ true) ⊎ ((past.lost slot ≡ false) × (has_current (config_joining joining) (past.disk slot) ≡ true)) → (sector : ℕ → List ℕ)
     → ((l : ℕ) → disks.may_hold slot l (sector l)) → HasFloor (slice_index disks.sizes slot) sector (floor slot)
 
--- A group that joins this one from a moment of its history on does so wholly, as a moment of its own history has it: that is one of the same bay, with the same floors, at which all is kept; it admits what was found of
--- the group by a look that left these slots out, and no member is absent.
+-- A group that joins this one from a moment of its history on does so wholly, as a moment of its own history has it: that is one of the same bay,
+-- with the same floors, at which all is kept; it admits what was found of the group by a look that left these slots out, and no member is absent.
 pub record JoinsWholly {B : Type 0} (disks : B → BayState B) {group : List ℕ} (old : Moment group B) (former : List ℕ) (left : List Bool) (joining : GroupValue) (theirs : Moment former B) : Type 0 where
   pub same_bay : theirs.bay ≡ old.bay
   pub same_floor : theirs.floor ≡ old.floor

@@ -46,12 +46,13 @@ use ddf_bytes::Source;
 /// them, losses and returns of disks. What was acknowledged stays in the list. At every moment, whatever a stop leaves shows what it should, so that assembly
 /// gives a configuration since the last acknowledged one, and keeps the data: each block has the bytes of its last acknowledged write, or of one that was
 /// interrupted the old or the new ones.
+// promise:read
 pub fn a_group_keeps_its_history_and_its_data_at_every_moment<B: Bay, S: Source>()
     ensures { (told : B.tells) (group : List ℕ) (start : Moment group B) → KeepsAll B.disks start → (events : ℕ) → KeepsOn told B.disks S.tells S.input group events start }
 {}
 
-/// A history of a new group and of its data begins where a `label` was done: there is no array, so that nothing is promised of any, and the disk of each member has the floor of its new copy.
-/// The names of the group and of its disks are new, so that no other slot shows them.
+/// A history of a new group and of its data begins where a `label` was done: there is no array, so that nothing is promised of any, and the disk of
+/// each member has the floor of its new copy. The names of the group and of its disks are new, so that no other slot shows them.
 pub fn a_label_begins_a_history_of_data<B: Bay>()
     ensures { (told : B.tells) (revision : Revision) (stamp : Stamp) (named : List ℕ) (old new : B) → IsTried (work_of B.tells (B.disks old) (B.disks new)) revision stamp named (Ok tt)
         → (B.disks new).sizes ≡ (B.disks old).sizes → IsLeft (B.disks old).may_hold (B.disks old).held → (B.disks new).tells_left
@@ -69,15 +70,16 @@ pub fn a_label_cut_short_begins_a_history_of_data<B: Bay>()
         → IsNewGroup (name_of stamp) past (B.disks old).sizes (label_slots (B.disks old).sizes named) (label_copy revision stamp (B.disks old).sizes named) founded → Begins (name_of stamp) B.disks past cut }
 {}
 
-/// So does a group from elsewhere that was found whole on disks of which nothing is pending. Nothing is promised of its arrays: what they hold counts once they are told to agree, as events of
-/// the history, or by an `accept` or a `resync`.
+/// So does a group from elsewhere that was found whole on disks of which nothing is pending. Nothing is promised of its arrays: what they hold counts
+/// once they are told to agree, as events of the history, or by an `accept` or a `resync`.
 pub fn a_group_that_was_found_whole_begins_a_history_of_data<B: Bay>()
     ensures { (group : List ℕ) (bay : B) (found : GroupValue) (begins : BeginsFound group (B.disks bay) found) → (B.disks bay).tells_left
         → ((slot : ℕ) → IsSettled (B.disks bay).may_hold (B.disks bay).held slot) → Begins group B.disks begins.past bay }
 {}
 
-/// A `scrub` tells that an array agrees, as one from elsewhere of which nothing is promised: where its history admits the call, no member was absent, and the group has one configuration since the
-/// last acknowledged one; where blocks may be read from each seat, nothing is pending on the disks, no element of the array that keeps parity lacks a position, and no rows count as rebuilt. So what its blocks hold may count from then on.
+/// A `scrub` tells that an array agrees, as one from elsewhere of which nothing is promised: where its history admits the call, no member was absent,
+/// and the group has one configuration since the last acknowledged one; where blocks may be read from each seat, nothing is pending on the disks, no
+/// element of the array that keeps parity lacks a position, and no rows count as rebuilt. So what its blocks hold may count from then on.
 pub fn an_array_that_a_scrub_found_clean_agrees<B: Bay>()
     ensures { (told : B.tells) (group : List ℕ) (moment : Moment group B) → KeepsAll B.disks moment → (B.disks moment.bay).tells_left → (new : B) (word : List ℕ)
         → (named : Option (List ℕ)) → (scrubbed : HasScrubbed (work_of B.tells (B.disks moment.bay) (B.disks new)) named word (Ok Clean)) → Means group scrubbed.newest named
@@ -95,8 +97,9 @@ pub fn disks_that_join_wholly_have_their_floors<B: Bay>()
         → HaveJoiningFloors group old.past (B.disks old.bay) old.floor join.joining }
 {}
 
-/// What the history of a group promised of its arrays they keep in the history of the group that it joined, once the import was done and the group joined it wholly: so it may be promised there from then
-/// on, as an event of that history.
+/// What the history of a group promised of its arrays they keep in the history of the group that it joined, once the import was done and the group
+/// joined it wholly: so it may be promised there from then on, as an event of that history.
+// promise:joined
 pub fn arrays_that_joined_keep_what_was_promised_of_them<B: Bay, S: Source>()
     ensures { (told : B.tells) (group : List ℕ) (old : Moment group B) → KeepsAll B.disks old → (call : JoinCall told B.disks S.tells S.input group old) → is_done call.join.outcome ≡ true
         → (new : Moment group B) → new.bay ≡ call.join.exit → new.floor ≡ old.floor → EndsAt told B.disks S.tells S.input group (Joins call) new.past
@@ -106,6 +109,7 @@ pub fn arrays_that_joined_keep_what_was_promised_of_them<B: Bay, S: Source>()
 
 /// A read at a moment at which all is kept, that is admitted then, prints of each block of the named array bytes that the block may have by what is promised at that
 /// moment: whichever reads fail on the way, and where it stops behind the first blocks.
+// promise:read
 pub fn a_read_prints_what_its_moment_promises<B: Bay>()
     ensures { (told : B.tells) (group : List ℕ) (moment : Moment group B) → KeepsAll B.disks moment → (B.disks moment.bay).tells_left
         → (new : B) (named : Option (List ℕ)) (word : List ℕ) (start count : ℕ) (outcome : Outcome)

@@ -51,6 +51,7 @@ pub fn a_lessened_array_is_one_with_fewer_places()
 {}
 
 /// An array keeps its data through a loss of disks, marked or not, and however many.
+// promise:values
 pub fn a_loss_of_disks_keeps_the_data()
     ensures { (members : List (ℕ × Member)) (seats fewer : List Seat) (array : Array) (image : Image) (allowed : Allowed) → AreCurrentSeats members seats
         → AreFewer seats fewer → KeepsArray members seats array image allowed → KeepsArray members fewer array image allowed }

@@ -38,8 +38,8 @@ pub record GoesOnTo (group : List ℕ) (old : Moment group MemoryBay) (bay : Mem
   pub history : IsDataHistoryOn group (behind old past bay promises)
   pub acked : KeepsAcked old.past past
 
--- A history begins: the founding configuration alone was issued, and is acknowledged, and nothing is lost. The disk of each of the first slots, so many, is the one that its new copy names,
--- and is a current member of it. Nothing is promised of any array yet.
+-- A history begins: the founding configuration alone was issued, and is acknowledged, and nothing is lost. The disk of each of the first slots, so
+-- many, is the one that its new copy names, and is a current member of it. Nothing is promised of any array yet.
 pub record IsDataBegun (group : List ℕ) (count : ℕ) (copy : ℕ → DiskCopy) (bay : MemoryBay) : Type 0 where
   pub past : Past (groups group)
   pub floor : ℕ → ℕ

@@ -25,12 +25,12 @@ use Rattle.ddf_data_life.specs.Histories.{IsDataBegun, IsDataHistoryOn}
 abbrev pub AreAllPlugged : MemoryBay → Type 0
 AreAllPlugged bay = (slot : ℕ) → slot < length (disks_of bay).sizes → (disks_of bay).gone slot → ⊥
 
--- All slots of a bay are labelled, and an array is created and resynced. Blocks of it are written, and the write is acknowledged. Another write, of any of its blocks, is cut by a stop
--- anywhere, or behind it. Then a slot is unplugged, so that its disk is lost, and blocks of the array are read.
+-- All slots of a bay are labelled, and an array is created and resynced. Blocks of it are written, and the write is acknowledged. Another write, of
+-- any of its blocks, is cut by a stop anywhere, or behind it. Then a slot is unplugged, so that its disk is lost, and blocks of the array are read.
 --
--- It rests on this: no slot is unplugged before the loss, and there is one that isn't the lost one. All commands name the group, and the array that was created, and no call is listed to fail. The bay
--- still tells what a stop may leave behind the stop and behind the read, and behind the second write by the image that was left: a command on blocks makes as many calls as they need, so
--- that no bound of its calls tells so.
+-- It rests on this: no slot is unplugged before the loss, and there is one that isn't the lost one. All commands name the group, and the array that
+-- was created, and no call is listed to fail. The bay still tells what a stop may leave behind the stop and behind the read, and behind the second
+-- write by the image that was left: a command on blocks makes as many calls as they need, so that no bound of its calls tells so.
 pub record IsLife (revision : Revision) (stamp : Stamp) (guid : List ℕ) (kept lost : ℕ) : Type 0 where
   -- the label
   pub blank : MemoryBay
@@ -84,9 +84,10 @@ module _ {revision : Revision} {stamp : Stamp} {guid : List ℕ} {kept lost : �
   abbrev pub in_the_end : Allowed
   in_the_end = while_written acknowledged life.second.start life.second.sectors
 
-  -- The read printed, of each block that it printed, bytes that it may have in the end; of each block of the array something is acknowledged. So the history came there from the label on: each command that was done issued and acknowledged its changes, one behind the
-  -- other, and the second write those of a front. It stands on the bay without the lost disk, which counts as not lost until a call goes on without it, and may go on from there: of the array
-  -- that is promised which was acknowledged, or, where the second write was begun, that and its new bytes.
+  -- The read printed, of each block that it printed, bytes that it may have in the end; of each block of the array something is acknowledged. So the
+  -- history came there from the label on: each command that was done issued and acknowledged its changes, one behind the other, and the second write
+  -- those of a front. It stands on the bay without the lost disk, which counts as not lost until a call goes on without it, and may go on from there:
+  -- of the array that is promised which was acknowledged, or, where the second write was begun, that and its new bytes.
   pub record Outlives : Type 0 where
     pub printed : MayBe in_the_end life.read.start (blocks_printed life.read.outcome)
     pub each : (block : ℕ) → block < capacity life.resync.plan.volume → is_some (acknowledged block) ≡ true

@@ -32,6 +32,7 @@ pub fn label<B: Bay, K: Sink>(
     sink: &mut K,
     stamp: &Stamp,
 ) -> Status
+    // promise:labelled, promise:costs
     ensures done { IsLabelled (work_of B.tells (B.disks bay.old) (B.disks bay.new)) (revision_of style) stamp.now named.now (answer_of K.tells (K.output sink.old) (K.output sink.new) (code_of result)) }
     ensures ends { Ends (traits_of (Command.Label style named.now)) (work_of B.tells (B.disks bay.old) (B.disks bay.new)) (answer_of K.tells (K.output sink.old) (K.output sink.new) (code_of result)) }
 {

@@ -1,5 +1,8 @@
 //! The edge between the program and the system: images as files that are claimed, words that name them, help and what is wrong with words, the standard streams,
 //! and the moment and the random numbers for new names.
+//!
+//! argued: that each image is opened, claimed and closed as its command asks, and that help and what standard error says are so, for each function is
+//! a few lines around one call of the system or one text.
 #![tactic(auto)]
 
 mod care;

@@ -25,6 +25,8 @@ enum Takes {
 }
 
 /// Puts the number that a command takes for each size with a unit, and says on standard error what that is.
+// argued: that a size with a unit becomes the number of blocks, or the code, that it stands for, for it is digits times one of four powers of two, and
+// what is promised of a call speaks of its arguments after that.
 pub fn number_sizes<R: Eprint + AllocGlobal>(
     rt: &R,
     words: &mut Vec<String>,

@@ -6,6 +6,8 @@ use std::ops::Range;
 
 /// Puts the number of its slot for each path of an image that stands where a command takes one slot, or in an element of a new
 /// array. A word of digits is a number already.
+// argued: that an image where a slot is wanted becomes the number of its slot, for a word is replaced only where it is the text of a path among the
+// images, and what is promised of a call speaks of its arguments after that.
 pub fn number_slots<R: Eprint + AllocGlobal>(
     rt: &R,
     words: &mut Vec<String>,

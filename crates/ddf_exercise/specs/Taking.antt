@@ -31,8 +31,8 @@ given bytes = record { left = bytes; faults = 0 }
 
 -- ---- calls
 
--- A command of the program was done over the group that the exercise labels, or it told why not: with these bytes to take, on these disks, to this output. It made nothing of the disks
--- but by their own calls, and where it may not write only read them.
+-- A command of the program was done over the group that the exercise labels, or it told why not: with these bytes to take, on these disks, to this
+-- output. It made nothing of the disks but by their own calls, and where it may not write only read them.
 pub record IsCall (stamp : Stamp) (command : Command) (bytes : List ℕ) (old new : MemoryBay) (before after : SinkState) (status : ℕ) : Type 0 where
   pub left : SourceState
   pub done : IsCommandDone (work_of (Unit {0}) (disks_of old) (disks_of new)) (input_of (Unit {0}) (given bytes) left) stamp (Some (name_of stamp)) command (answer_of (Unit {0}) before after status)

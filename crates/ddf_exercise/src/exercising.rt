@@ -33,10 +33,11 @@ pub struct Found {
     pub sum: u64,
 }
 
-/// Exercises the program's commands on new disks in memory: all are labelled, an array of three is created and resynced, and the other two are its spares. So many writes follow, by
-/// numbers that come from the seed; then a disk is lost and the array rebuilt, twice, with so many writes behind each; it is scrubbed, and all of its blocks are read. Each command has
-/// to be done and to tell what it should, and the blocks have to be those that were written: then it tells how many there were, the sum of their bytes, and the sequence number of
-/// the group. Else its status is that of the command that wasn't done, or 3 where one told something else; for want of memory it is 5, and where the output fails 6, and no other comes.
+/// Exercises the program's commands on new disks in memory: all are labelled, an array of three is created and resynced, and the other two are its
+/// spares. So many writes follow, by numbers that come from the seed; then a disk is lost and the array rebuilt, twice, with so many writes behind
+/// each; it is scrubbed, and all of its blocks are read. Each command has to be done and to tell what it should, and the blocks have to be those that
+/// were written: then it tells how many there were, the sum of their bytes, and the sequence number of the group. Else its status is that of the
+/// command that wasn't done, or 3 where one told something else; for want of memory it is 5, and where the output fails 6, and no other comes.
 pub fn exercise<K: Sink>(
     alloc: Global,
     bay: &mut MemoryBay,

@@ -26,8 +26,9 @@ lists_all former leader = list_all (lists former) leader.disks
 abbrev pub has_lost : (leader former : View) → Bool
 has_lost leader former = list_any (λ disk. lists_missing former disk.guid disk.reference && lists_current leader disk.guid disk.reference) former.disks
 
--- The former group has joined this one: its members are listed here, beside disks that it doesn't know, and none that it has lost is one. A join lists them so from its first disk on, whichever disks it
--- was stopped between and whichever are away. Two living groups don't: each has a member that the other one doesn't know.
+-- The former group has joined this one: its members are listed here, beside disks that it doesn't know, and none that it has lost is one. A join
+-- lists them so from its first disk on, whichever disks it was stopped between and whichever are away. Two living groups don't: each has a member
+-- that the other one doesn't know.
 abbrev pub has_joined : (leader former : View) → Bool
 has_joined leader former = lists_members leader former && not (lists_all former leader) && not (has_lost leader former)
 

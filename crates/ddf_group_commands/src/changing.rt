@@ -33,6 +33,7 @@ pub fn change<B: Bay, K: Sink>(
     stamp: &Stamp,
 ) -> Status
     requires { FitsWish wish.now }
+    // promise:unread, promise:raised, promise:extents, promise:unmarked
     ensures done { IsChangeDone (work_of B.tells (B.disks bay.old) (B.disks bay.new)) named (timestamp_of stamp.now) (request_for (length (B.disks bay.old).sizes) stamp.now wish.now) (answer_of K.tells (K.output sink.old) (K.output sink.new) (code_of result)) }
     ensures ends { Ends (traits_of (Command.Change wish.now)) (work_of B.tells (B.disks bay.old) (B.disks bay.new)) (answer_of K.tells (K.output sink.old) (K.output sink.new) (code_of result)) }
 {

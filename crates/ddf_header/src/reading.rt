@@ -37,8 +37,10 @@ pub struct Header {
 
 /// The header of this kind that stands in a sector, or else the first fault.
 pub fn decode(sector: &Sector, kind: HeaderKind) -> Result<Header, HeaderFault>
+    // promise:header
     ensures exact { result ≡ decoded kind sector.now }
     // The header is the value of the sector, and the only one.
+    // promise:header
     ensures ok { (header : Header) → (result ≡ Ok header) ↔ IsHeaderOf kind header sector.now }
     ensures writable { IfOk result (IsWritable kind) }
     ensures sound { IfOk result (λ header. IsSound header.geometry) }

@@ -21,6 +21,7 @@ pub fn encode(header: &Header) -> Sector
     ensures exact { result ≡ record_bytes header_signature (header_fields header.now) header.now.rest }
 
     // What was decoded is given back.
+    // promise:unread
     ensures back { (kind : HeaderKind) (sector : List ℕ)
         → IsHeaderOf kind header.now sector → result ≡ sector }
 

@@ -58,6 +58,7 @@ pub fn a_command_tells_what_is_promised()
 /// From the label on, through a command that a stop cuts anywhere, a disk that is lost, commands that are done without it, and its return: all that was
 /// acknowledged is there, and what is assembled in the end is the configuration behind the last acknowledged change, or names two records that
 /// contradict each other.
+// promise:acknowledged
 pub fn what_was_acknowledged_outlives_stops_and_a_lost_disk()
     ensures { (revision : Revision) (stamp : Stamp) (kept lost : ℕ) (life : IsLife revision stamp kept lost) → Outlives revision stamp kept lost life }
 {}

@@ -160,7 +160,8 @@ abbrev pub most_calls : (slots : ℕ) → ℕ
 most_calls slots = 82 * slots
 
 -- A call came to this: what it made of the groups that two looks at the disks found, each by its own. Where the first found none there was no
--- second. A slot that neither left out was read without a failure, and where all was done no write or sync failed of it, nor of one that has a sector; one of which every call fails is left out by the first, but where memory ran out.
+-- second. A slot that neither left out was read without a failure, and where all was done no write or sync failed of it, nor of one that has a
+-- sector; one of which every call fails is left out by the first, but where memory ran out.
 pub record HasImported {D : Type 0} (work : Work D) (named : Option (List ℕ)) (other : List ℕ) (timestamp : ℕ) (outcome : Result ℕ Failure) : Type 0 where
   pub first : IsLook work
   pub second : IsLook work

@@ -34,6 +34,7 @@ pub fn a_blank_slot_is_seen_as_a_new_disk<B: Bay + Drop>()
 
 /// A copy that is seen in both places of such a slot is sealed in Linux's kind below: each of its records in both places, and the anchor. So it is
 /// of whatever a stop may leave.
+// promise:linux
 pub fn a_founded_disk_is_sealed_for_linux<B: Bay + Drop>()
     ensures { (layout : NewLayout) (bay : Turned B) (image : Image) → IsLeft (disks_of B.disks bay).may_hold image → (slot : ℕ) (copy : DiskCopy)
         → least_sectors layout ≤ size_of (B.disks (inner_of bay)) slot → kind_of bay slot ≡ SlotKind.Turned (new_places layout (size_of (B.disks (inner_of bay)) slot))
@@ -44,6 +45,7 @@ pub fn a_founded_disk_is_sealed_for_linux<B: Bay + Drop>()
 
 /// What a stop leaves of a founding, a bay that is made anew sees blank, or with its copy in both places and turned at the places of a new disk, but
 /// for a slot that is as it might have been left before.
+// promise:linux
 pub fn a_founding_cut_short_is_seen_blank_or_whole<B: Bay + Drop>()
     ensures { (layout : NewLayout) (bay : Turned B) (slots : List ℕ) (copy : ℕ → DiskCopy) (image : Image) → IsLeftFoundingAll (disks_of B.disks bay) slots copy image
         → (place slot : ℕ) → slice_get slots place ≡ Some slot

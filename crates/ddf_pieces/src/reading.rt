@@ -32,6 +32,7 @@ pub fn read_pieces<B: Bay, K: Sink>(
 ) -> Result<(), PieceFault>
     requires fits { Fits (B.disks bay.old).sizes view.now }
     requires room { 0 < length work.old }
+    // promise:pieces
     ensures done { (gone : ℕ) × ArePiecesRead B.tells (B.disks bay.old) (B.disks bay.new) view.now start count (length work.old) K.tells (K.output sink.old) (K.output sink.new) gone result }
     ensures reads { OnlyReads (B.disks bay.old) (B.disks bay.new) }
     ensures never_falls { SinkNeverFalls (K.output sink.old) (K.output sink.new) }

@@ -40,6 +40,7 @@ pub fn write_pieces<B: Bay, S: Source>(
     requires fits { Fits (B.disks bay.old).sizes view.now }
     requires marked { keeps_parity_anywhere view.now ≡ true → trusts_parity view.now ≡ false }
     requires room { 512 ≤ length work.old }
+    // promise:cut
     ensures done { ArePiecesWritten B.tells (B.disks bay.old) (B.disks bay.new) view.now start count (length work.old / 512) S.tells (S.input source.old) (S.input source.new)
         (take (512 * piece_of (length work.old / 512) count) work.old) result }
     ensures goes { GoesBetween (B.disks bay.old) (B.disks bay.new) }

@@ -15,6 +15,7 @@ ghost use Rattle.ddf_plan.specs.declared.change.Change.{Change};
 ghost use Rattle.ddf_plan.specs.declared.change.Change.TheVariants.{Create};
 
 /// A change raises the sequence number, and not past the greatest.
+// promise:raised
 pub fn a_change_raises_the_sequence()
     ensures raised { (config next : Configuration) (change : Change) (seats : List Seat)
         → after config change seats ≡ Ok next → config.sequence < next.sequence }
@@ -23,12 +24,14 @@ pub fn a_change_raises_the_sequence()
 {}
 
 /// A change keeps the members in their order: none joins, and none leaves the table.
+// promise:raised
 pub fn a_change_keeps_the_members()
     ensures { (config next : Configuration) (change : Change) (seats : List Seat)
         → after config change seats ≡ Ok next → keys_of next.members ≡ keys_of config.members }
 {}
 
 /// No change makes a missing member current.
+// promise:raised
 pub fn no_change_makes_a_member_current()
     ensures { (config next : Configuration) (change : Change) (seats : List Seat) (reference : ℕ)
         → after config change seats ≡ Ok next → is_current next.members reference ≡ true
@@ -37,6 +40,7 @@ pub fn no_change_makes_a_member_current()
 
 /// Every extent of a new array ends within its disk's configured size and has no sector of an extent that was
 /// there; and the array has no other extent on its disk.
+// promise:extents
 pub fn a_new_extent_meets_no_other()
     ensures clear { (config next : Configuration) (guid : List ℕ) (array made : Array) (seats : List Seat)
         → after config (Create guid array) seats ≡ Ok next → lookup (same_guid guid) next.arrays ≡ Some made

@@ -5,12 +5,14 @@ ghost use Rattle.ddf_primary.specs.Levels.{IsShape};
 ghost use Rattle.ddf_primary.specs.Cells.{Holds, depth_of, parity_member};
 
 /// Two blocks never share a cell.
+// promise:cells
 pub fn two_blocks_never_share_a_cell()
     ensures { (shape : Placement) (member sector a b : ℕ) → IsShape shape
         → Holds shape member sector a → Holds shape member sector b → a ≡ b }
 {}
 
 /// No block lies in a cell that holds parity.
+// promise:cells
 pub fn no_block_lies_in_a_parity_cell()
     ensures { (shape : Placement) (member sector block : ℕ) → IsShape shape
         → Holds shape member sector block

@@ -9,6 +9,7 @@ ghost use Rattle.ddf_read.specs.Given.{AreGiven, AreValues};
 ghost use Rattle.ddf_read.specs.Reading.{FirstHasSlot, IsGivenBy, IsOn};
 
 /// The bytes of a read are those of a source of the block.
+// promise:sources
 pub fn a_read_gives_a_source()
     ensures { (old new : ℕ → ℕ) (image : Image) (all : List Source) (bytes : List ℕ)
         → IsGivenBy (λ slot. Rose (old slot) (new slot)) image all bytes
@@ -17,6 +18,7 @@ pub fn a_read_gives_a_source()
 
 /// Where no read failed on a slot of the first source, they are those of that source, and so the block's value. So where
 /// no read failed on a slot of the array's available places, each block is read as its value.
+// promise:sources
 pub fn a_good_read_gives_the_first()
     ensures first { (old new : ℕ → ℕ) (image : Image) (all : List Source) (bytes : List ℕ)
         → (FirstHasSlot (λ slot. Rose (old slot) (new slot)) all → ⊥)

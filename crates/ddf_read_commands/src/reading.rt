@@ -22,6 +22,7 @@ use ddf_read::{View, read_refusal};
 use std::alloc::Global;
 
 /// Prints the bytes of blocks of an array, and nothing else. They come from those disks of the group alone that recovery may write over.
+// argued: that a read reads all that it prints, for its contract says that the bytes are those that the disks hold, and the body gets them by reads.
 pub fn read<B: Bay, K: Sink>(
     alloc: Global,
     named: Option<Guid>,
@@ -31,6 +32,7 @@ pub fn read<B: Bay, K: Sink>(
     bay: &mut B,
     sink: &mut K,
 ) -> Status
+    // promise:sources
     ensures done { IsReadDone (work_of B.tells (B.disks bay.old) (B.disks bay.new)) named name.now start count (answer_of K.tells (K.output sink.old) (K.output sink.new) (code_of result)) }
     ensures ends { Ends (traits_of (Command.Read name.now start count)) (work_of B.tells (B.disks bay.old) (B.disks bay.new)) (answer_of K.tells (K.output sink.old) (K.output sink.new) (code_of result)) }
 {

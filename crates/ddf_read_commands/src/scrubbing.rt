@@ -41,6 +41,7 @@ impl fmt::Display for ScrubText {
 
 /// Tells whether the copies and the parity of an array agree, and else the first row that doesn't: on those disks of the group alone that recovery may
 /// write over.
+// argued: that a scrub reads all that it tells of, for its contract says that this is so of what the disks hold, and the body learns that by reads.
 pub fn scrub_disks<B: Bay, K: Sink>(
     alloc: Global,
     named: Option<Guid>,
@@ -48,6 +49,7 @@ pub fn scrub_disks<B: Bay, K: Sink>(
     bay: &mut B,
     sink: &mut K,
 ) -> Status
+    // promise:scrubbed
     ensures done { IsScrubDone (work_of B.tells (B.disks bay.old) (B.disks bay.new)) named name.now (answer_of K.tells (K.output sink.old) (K.output sink.new) (code_of result)) }
     ensures ends { Ends (traits_of (Command.Scrub name.now)) (work_of B.tells (B.disks bay.old) (B.disks bay.new)) (answer_of K.tells (K.output sink.old) (K.output sink.new) (code_of result)) }
 {

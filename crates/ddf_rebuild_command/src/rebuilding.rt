@@ -33,6 +33,7 @@ pub fn rebuild<B: Bay, K: Sink>(
     sink: &mut K,
     stamp: &Stamp,
 ) -> Status
+    // promise:chosen
     ensures done { IsRebuildDone (work_of B.tells (B.disks bay.old) (B.disks bay.new)) named (timestamp_of stamp.now) name.now (answer_of K.tells (K.output sink.old) (K.output sink.new) (code_of result)) }
     ensures ends { Ends (traits_of (Command.Rebuild name.now)) (work_of B.tells (B.disks bay.old) (B.disks bay.new)) (answer_of K.tells (K.output sink.old) (K.output sink.new) (code_of result)) }
 {

@@ -8,6 +8,7 @@ use ddf_plan::Change;
 
 /// The change that clears the mark of an array. None exactly where the array isn't there or isn't marked.
 pub fn accept(config: &Config, array: &Guid) -> Option<Change>
+    // promise:unmarked
     ensures { result ≡ accepted config.now array.now }
 {
     match config.arrays.get(array) {

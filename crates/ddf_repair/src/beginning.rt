@@ -199,6 +199,7 @@ pub fn begin(
     seats: &[Seat],
 ) -> Result<Begun, RebuildFault>
     requires { (found : arrays.Array) → lookup (same_guid array.now) config.now.arrays ≡ Some found → length found.elements ≤ 2 ^ 8 }
+    // promise:chosen
     ensures { IsBegun (begun config.now array.now seats.now) result }
 {
     match config.arrays.get(array) {

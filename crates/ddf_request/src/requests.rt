@@ -19,9 +19,9 @@ use std::alloc::Global;
 /// # Errors
 /// `Refused` with the first of these. `NoSlot` with the first slot that isn't there, in the order of the words. `NotMember` with the
 /// first slot whose disk is no current member. To delete: `NoArray` where the word names no array. For a spare: `NoArray` where a word
-/// names no array, or one of which the disks tell no element. To accept: `NoArray`, or what the array can't be used for. To create, where the word for the secondary level doesn't fit the count
-/// of elements: what the plan refuses such an array for, where that comes before `Shape`, and `Shape` otherwise. What the change itself
-/// is refused for comes behind. `Memory` where memory ran out.
+/// names no array, or one of which the disks tell no element. To accept: `NoArray`, or what the array can't be used for. To create, where the word
+/// for the secondary level doesn't fit the count of elements: what the plan refuses such an array for, where that comes before `Shape`, and `Shape`
+/// otherwise. What the change itself is refused for comes behind. `Memory` where memory ran out.
 pub fn request(
     alloc: Global,
     slots: usize,

@@ -46,6 +46,7 @@ pub fn a_stop_in_a_resync_has_an_image_before<B: Bay>(bay: &B)
 
 /// At its end each available cell of a block has bytes that one of the block's available cells held before; those of the
 /// first, where no read failed on the slot of that one.
+// promise:copied
 pub fn a_resync_takes_the_first_copy<B: Bay>(old: &B, new: &B)
     ensures held { (volume : Volume) (block i : ℕ) (before after : Image) (one : Site) → HasResynced (Failed (B.disks old.now) (B.disks new.now)) volume before after
         → slice_get (copies volume block) i ≡ Some one → IsHeld volume before block (bytes_at after one) }

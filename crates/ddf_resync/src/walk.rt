@@ -153,6 +153,7 @@ fn scrub_all<B: Bay>(bay: &mut B, view: &View) -> Result<Scrub, usize>
 /// a mirrored array that gives a cell which isn't available.
 pub fn scrub<B: Bay>(bay: &mut B, view: &View) -> Result<Scrub, VolumeFault>
     requires { Fits (B.disks bay.old).sizes view.now }
+    // promise:scrubbed
     ensures found { B.tells → AreSectors (B.disks bay.old).held → IfOk result (IsScrubbed view.now (B.disks bay.old).held) }
     ensures agrees { B.tells → IfOk result (AgreesOrNot view.now (B.disks bay.old).held) }
     ensures ok { IfOk result (λ scrub. is_within view.now ≡ true) }

@@ -7,6 +7,7 @@ use crate::crc_tables::{TABLES, Tables};
 
 /// The CRC-32 of the bytes.
 pub fn crc32(bytes: &[u8]) -> u32
+    // promise:sums
     ensures { result ≡ crc_of bytes.now }
 {
     after_bytes(u32::MAX, bytes) ^ u32::MAX

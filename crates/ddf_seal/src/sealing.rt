@@ -29,6 +29,7 @@ pub enum SealFault {
 /// Seals a record: writes the signature and the CRC, and nothing else (SNIA DDF 2.0).
 pub fn seal(bytes: &mut [u8], signature: u32)
     requires { 8 ≤ length bytes.old }
+    // promise:sums
     ensures exact { bytes.new ≡ sealed signature bytes.old }
     ensures sealed { IsSealed signature bytes.new }
     ensures kept { drop 8 bytes.new ≡ drop 8 bytes.old }

@@ -1,5 +1,7 @@
 //! Sizes, and what may be written for short: a group by the first digits of its GUID, `100%` and units in the words of a command, the numbers
 //! of `create` and of arrays told in units on standard error, and how long a command will go on.
+//!
+//! argued: that the sizes, the numbers and the lengths that standard error tells are so, for each is a few lines over the group as it was assembled.
 #![tactic(auto)]
 
 mod founded;

@@ -25,6 +25,8 @@ pub fn is_short(words: &[String]) -> bool {
 }
 
 /// Puts what the disks show in the place of each short word, and says on standard error what that is.
+// argued: that `100%` and the first digits of a GUID become what they stand for, for a word is replaced only by what the disks show, which standard error
+// says, and what is promised of a call speaks of its arguments after that.
 pub fn complete<R, B: Bay>(rt: &R, bay: &mut B, words: &mut Vec<String>) -> Result<(), NoMemory>
 where
     R: Eprint + AllocGlobal,

@@ -18,7 +18,8 @@ use Rattle.ddf_assembly.specs.Steps.{Step, config_after}
 use Rattle.ddf_uncut_group.specs.Plain.{ArePlain, HasRoom, HavePlain}
 use Rattle.ddf_uncut_group.specs.Settled.{AreMembers, IsToldByAll, group_behind}
 
--- A change alters a configuration to this one, and nothing of it refuses that over these seats, which stay those of members: small new disks have room for it, and for the members of its elements.
+-- A change alters a configuration to this one, and nothing of it refuses that over these seats, which stay those of members: small new disks have
+-- room for it, and for the members of its elements.
 pub record IsNext (config : Configuration) (seats : List Seat) (change : Change) (next : Configuration) : Type 0 where
   pub can_be_asked : CanBeAsked change
   pub no_cause : causes (Some (members_of Small)) config change seats ≡ None

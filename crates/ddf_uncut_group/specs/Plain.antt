@@ -30,7 +30,8 @@ ArePlain sizes disks = AllByRecursion (λ disk. IsPlain (slice_index sizes disk.
 abbrev pub HavePlain : (sizes : List ℕ) → List (Option Newest) → Type 0
 HavePlain sizes newest = (slot : ℕ) (one : Newest) (copy : DiskCopy) → slice_get newest slot ≡ Some (Some one) → standing_copy one ≡ Some copy → IsPlain (slice_index sizes slot) copy
 
--- A configuration that such copies have room for: members and arrays in their tables, and elements beside the notes and a spare record. No member is a spare for some of the arrays alone.
+-- A configuration that such copies have room for: members and arrays in their tables, and elements beside the notes and a spare record. No member is
+-- a spare for some of the arrays alone.
 pub record HasRoom (config : Configuration) : Type 0 where
   pub members : length config.members ≤ rows_of Small
   pub arrays : length config.arrays ≤ rows_of Small

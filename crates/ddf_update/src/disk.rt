@@ -26,6 +26,7 @@ pub fn write_disk<B: Bay>(bay: &mut B, slot: usize, prepared: &Prepared) -> Resu
     requires on_slot { LiesOn (slice_index (B.disks bay.old).sizes slot) prepared.now }
 
     // From entry to exit a stop leaves the copy that the slot showed, or the new one.
+    // promise:whole
     ensures change { B.tells → (anchor : Header) (last : Which) (old copy : DiskCopy) → IsPrepared copy last Mode.Change prepared.now
         → MayChange (B.disks bay.old) slot anchor last old copy
         → StopsLeave (B.disks bay.old) (B.disks bay.new) (IsOldOrNew (B.disks bay.old) slot prepared.now anchor last old copy) }

@@ -56,6 +56,7 @@ pub fn a_stop_in_a_write_has_an_image_before<B: Bay>(bay: &B)
 
 /// On the way each available cell of a block that is written has its old or its new bytes, and that of another block its old
 /// ones.
+// promise:cells
 pub fn a_write_leaves_old_or_new()
     ensures written { (volume : Volume) (start k i : ℕ) (sectors : List (List ℕ)) (before after : Image) (one : Site) → IsVolume volume → IsApart volume
         → IsLeftByWrite volume start sectors before after → slice_get (copies volume (start + k)) i ≡ Some one

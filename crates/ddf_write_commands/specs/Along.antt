@@ -26,8 +26,8 @@ pub data Stage : Type 0 where
 
 module _ (group : List ℕ) {D : Type 0} (doing : Doing) (work : Work D) (past : Past (groups group)) (left : List Bool) (found : GroupValue) {timestamp : ℕ} {word : List ℕ} {request : Request}
     (plan : IsPlanned found timestamp word request) where
-  -- How far the changes of the call have come by then: some of those before the blocks are issued; all of them are acknowledged, and none behind the blocks is issued, before these are
-  -- done; the last one is issued, or acknowledged too.
+  -- How far the changes of the call have come by then: some of those before the blocks are issued; all of them are acknowledged, and none behind the
+  -- blocks is issued, before these are done; the last one is issued, or acknowledged too.
   abbrev pub HasCome : Stage → Past (groups group) → Type 0
   HasCome Opening now = Goes group past (is_read left) found (changes_in found plan.first) now
   HasCome Working now = IsOver group past (is_read left) found (changes_in found plan.first) now

@@ -83,8 +83,8 @@ writing start sectors = record {
 
 -- ---- what came of it
 
--- What came of a write: these sectors were given to be written, and this came of the work; these, one at least, were written, and then a read of the input failed; the input ended within the
--- first piece; a read of it failed there; or nothing was taken from it, for this reason.
+-- What came of a write: these sectors were given to be written, and this came of the work; these, one at least, were written, and then a read of the
+-- input failed; the input ended within the first piece; a read of it failed there; or nothing was taken from it, for this reason.
 pub data Outcome : Type 0 where
   Taken : (sectors : List (List ℕ)) → (worked : Result ℕ Failure) → Outcome
   Broken : (sectors : List (List ℕ)) → Outcome

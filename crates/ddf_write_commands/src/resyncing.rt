@@ -48,6 +48,7 @@ pub fn resync_disks<B: Bay, K: Sink>(
     sink: &mut K,
     stamp: &Stamp,
 ) -> Status
+    // promise:copied
     ensures done { IsResyncDone (work_of B.tells (B.disks bay.old) (B.disks bay.new)) named (timestamp_of stamp.now) name.now (answer_of K.tells (K.output sink.old) (K.output sink.new) (code_of result)) }
     ensures ends { Ends (traits_of (Command.Resync name.now)) (work_of B.tells (B.disks bay.old) (B.disks bay.new)) (answer_of K.tells (K.output sink.old) (K.output sink.new) (code_of result)) }
 {
@@ -77,6 +78,7 @@ fn resynced<B: Bay>(
 }
 
 /// Resyncs an array between the steps of its group that are ready, where what that needs can be read. It takes no memory.
+// argued: that an array that isn't marked is read before it is marked, for the body looks first: `done` allows a read to end it behind the mark too.
 fn resync_array<B: Bay>(
     group: &mut Group,
     ready: &mut Ready,
