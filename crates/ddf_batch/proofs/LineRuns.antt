@@ -57,7 +57,7 @@ module _ {D : Type 0} (traits : Traits) (work : Work D) (answer : Answer) (rose 
   uncut none (inr (inr (inr (inr seven)))) = absurd (false≢true (sym none ∙ seven.1))
 
 -- a line's command takes no input
-takes_none : (command : Command) → is_for_lines command ≡ true → (traits_of command).takes_input ≡ false
+pub takes_none : (command : Command) → is_for_lines command ≡ true → (traits_of command).takes_input ≡ false
 takes_none Examine is = refl
 takes_none (Label style slots) is = refl
 takes_none Assemble is = refl
@@ -69,6 +69,10 @@ takes_none (Rebuild name) is = refl
 takes_none (Write name start count) is = absurd (cc)
 takes_none (Import group) is = refl
 takes_none (Change wish) is = refl
+
+-- so where a stream of one failed its output did
+pub untaken : (command : Command) → is_for_lines command ≡ true → {sink input : Type 0} → sink ⊎ (((traits_of command).takes_input ≡ true) × input) → sink
+untaken command is rose = ⊎_elim (λ failed. failed) (λ taken. absurd (false≢true (sym (takes_none command is) ∙ taken.0))) rose
 
 module _ {B : Type 0} (tells : Type 0) (disks : B → BayState B) (told : Type 0) (stamp : Stamp) (group : Option (List ℕ)) (words : List Word) where
   pub command_run : (from to : Point B) (code : ℕ) (command : Command) → AsksFor words command → ((other : Command) → AsksFor words other → other ≡ command)

@@ -10,10 +10,9 @@ use Rattle.ddf_text.specs.Refusal.{refusal_line}
 use Rattle.ddf_words.specs.Traits.{traits_of}
 use Rattle.ddf_words.specs.Words.{Word, GoWrongAt}
 use Rattle.ddf_words.specs.declared.command.Command.{Command}
-use Rattle.ddf_answer.specs.Call.{answer_of, work_of}
+use Rattle.ddf_answer.specs.Call.{Input, answer_of, input_of, work_of}
 use Rattle.ddf_answer.specs.Ends.{SomeSlotRose, is_unwritten}
 use Rattle.ddf_answer.specs.Tells.{EndsWith}
-use Rattle.ddf_write_commands.specs.Payload.{Input, input_of}
 use Rattle.ddf_command.specs.Run.{IsCommandDone}
 use Rattle.ddf_words.specs.Lines.{AsksFor, IsLine}
 

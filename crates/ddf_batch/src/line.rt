@@ -34,7 +34,7 @@ pub(crate) fn run_text<B: Bay, K: Sink>(
                 group: *group,
                 command,
             };
-            run_line(alloc, &asked, bay, sink, stamp)
+            run_line(alloc, asked, bay, sink, stamp)
         }
         Err(WordFault::Place(place)) => refuse_words(alloc, place, sink),
         Err(WordFault::Memory) => Status::Memory.code(),

@@ -21,7 +21,7 @@ use Rattle.ddf_words.specs.declared.traits.Traits.{Traits}
 use Rattle.ddf_words.specs.declared.words.WordFault.{WordFault}
 use Rattle.ddf_words.specs.declared.words.WordFault.TheVariants as words
 use Rattle.ddf_words.specs.Words.{Word, GoWrongAt}
-use Rattle.ddf_answer.specs.Call.{Answer, Work, answer_of, work_of}
+use Rattle.ddf_answer.specs.Call.{Answer, Work, answer_of, input_of, work_of}
 use Rattle.ddf_answer.specs.Ends.{EndsBy, HasCause, SomeSlotRose}
 use Rattle.ddf_answer.specs.declared.failure.Failure.TheVariants.{Memory}
 use Rattle.ddf_disk_commands.specs.Examine.{IsExamined}
@@ -42,7 +42,6 @@ use Rattle.ddf_read_commands.proofs.ReadBlocks.{memory_in}
 use Rattle.ddf_read_commands.proofs.Scrubbed.{scrubbed_nothing}
 use Rattle.ddf_read_commands.specs.Read.{NotRead}
 use Rattle.ddf_write_commands.specs.Doing.{Doing}
-use Rattle.ddf_write_commands.specs.Payload.{input_of}
 use Rattle.ddf_write_commands.specs.Resync.{IsResyncDone, resync_request, resyncing}
 use Rattle.ddf_write_commands.specs.Worked.{IsWorkedIn}
 use Rattle.ddf_write_commands.proofs.Costs.{unwritten_costs}

@@ -11,7 +11,7 @@ use Rattle.ddf_words.specs.declared.command.Command.TheVariants.{Assemble, Chang
 use Rattle.ddf_words.specs.declared.traits.Traits.{Traits}
 use Rattle.ddf_words.specs.Traits.{traits_of}
 use Rattle.ddf_words.specs.Words.{Word, IsAsked}
-use Rattle.ddf_answer.specs.Call.{Answer, Work}
+use Rattle.ddf_answer.specs.Call.{Answer, Input, Work}
 use Rattle.ddf_disk_commands.specs.Examine.{IsExamined}
 use Rattle.ddf_disk_commands.specs.Label.{IsLabelled, revision_of}
 use Rattle.ddf_group_commands.specs.Assemble.{IsAssembleDone}
@@ -21,7 +21,6 @@ use Rattle.ddf_group_commands.specs.Show.{IsShown}
 use Rattle.ddf_import_command.specs.Import.{IsImportDone}
 use Rattle.ddf_read_commands.specs.Read.{IsReadDone}
 use Rattle.ddf_read_commands.specs.Scrub.{IsScrubDone}
-use Rattle.ddf_write_commands.specs.Payload.{Input}
 use Rattle.ddf_write_commands.specs.Resync.{IsResyncDone}
 use Rattle.ddf_write_commands.specs.Write.{IsWriteDone}
 use Rattle.ddf_rebuild_command.specs.Rebuilt.{IsRebuildDone}

@@ -7,14 +7,13 @@ ghost use Rattle.ddf_words.specs.declared.command.Asked.{Asked};
 ghost use Rattle.ddf_text.specs.Refusal.{refusal_line};
 ghost use Rattle.ddf_bytes.specs.Counts.{Rose};
 ghost use Rattle.ddf_bytes.specs.Streams.{SinkRose};
-ghost use Rattle.ddf_answer.specs.Call.{answer_of, work_of};
+ghost use Rattle.ddf_answer.specs.Call.{answer_of, input_of, work_of};
 ghost use Rattle.ddf_answer.specs.Ends.{EndsBy, SomeSlotRose, StreamRose, is_unwritten};
 ghost use Rattle.ddf_answer.specs.Status.{code_of};
 ghost use Rattle.ddf_answer.specs.Tells.{EndsWith};
 ghost use Rattle.ddf_words.specs.Commands.{FitsCommand};
 ghost use Rattle.ddf_words.specs.Traits.{traits_of};
 ghost use Rattle.ddf_words.specs.Words.{words_of, slot_count, GoWrongAt, IsAccepted, IsAsked};
-ghost use Rattle.ddf_write_commands.specs.Payload.{input_of};
 ghost use Rattle.ddf_command.specs.Run.{AsksForNoWrite, IsCommandDone, IsDone, TakesInput, TakesNoInput, is_status};
 
 use crate::refusing::refuse_words;
@@ -85,8 +84,8 @@ pub fn run<B: Bay, S: Source, K: Sink>(
     }
 }
 
-/// Does a command, over the named group or the only one.
-fn obey<B: Bay, S: Source, K: Sink>(
+/// Does a command, over the named group or the only one, and answers its status. The lines of a batch are done by it too.
+pub fn obey<B: Bay, S: Source, K: Sink>(
     alloc: Global,
     group: Option<Guid>,
     command: Command,

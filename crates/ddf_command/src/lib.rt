@@ -10,7 +10,7 @@ pub use ddf_words::{
     Asked, Command, Creation, DiskStyle, MOST_IMAGES, Traits, Wish, WordFault, asked, image_paths,
     slot_paths,
 };
-pub use dispatch::run;
+pub use dispatch::{obey, run};
 pub use laws::{
     a_call_behind_an_import_is_admitted, a_call_is_an_event_of_its_history,
     a_call_that_was_done_leaves_current_members, a_call_without_a_write_leaves_all_as_it_was,

@@ -24,11 +24,10 @@ use Rattle.ddf_history_steps.specs.Going.{Ends, Goes, changes_in}
 use Rattle.ddf_history_steps.specs.Kept.{AreAllKept, is_read}
 use Rattle.ddf_data_history.specs.Carried.{IsAllData, Stays}
 use Rattle.ddf_data_history.specs.Promised.{KeepsData}
-use Rattle.ddf_answer.specs.Call.{Work, work_of}
+use Rattle.ddf_answer.specs.Call.{Input, Work, work_of}
 use Rattle.ddf_group_commands.specs.Change.{is_done}
 use Rattle.ddf_read_commands.specs.declared.using.Access.TheVariants.{Writes}
 use Rattle.ddf_read_commands.specs.Use.{array_refusals}
-use Rattle.ddf_write_commands.specs.Payload.{Input}
 use Rattle.ddf_write_commands.specs.Planned.{Entry, IsPlanned, lacks_position}
 use Rattle.ddf_write_commands.specs.Write.{GoesAlongWriting, HasWrittenArray, Outcome, is_written, write_behind, write_refusals, write_request, writing}
 use Rattle.ddf_write_commands.specs.Write.Outcome.{Broken, NotRead, Short, Taken, Unfit}

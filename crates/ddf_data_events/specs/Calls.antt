@@ -20,9 +20,8 @@ use Rattle.ddf_history_steps.specs.Kept.{is_read, is_slot}
 use Rattle.ddf_data_history.specs.Carried.{Stays}
 use Rattle.ddf_data_history.specs.Promised.{with_promise}
 use Rattle.ddf_answer.specs.declared.failure.Failure.{Failure}
-use Rattle.ddf_answer.specs.Call.{work_of}
+use Rattle.ddf_answer.specs.Call.{input_of, work_of}
 use Rattle.ddf_group_commands.specs.Change.{HasChanged, Request, is_done, steps_of}
-use Rattle.ddf_write_commands.specs.Payload.{input_of}
 use Rattle.ddf_write_commands.specs.Planned.{IsPlanned}
 use Rattle.ddf_write_commands.specs.Resync.{HasResyncedArray, resync_request}
 use Rattle.ddf_write_commands.specs.Write.{HasWrittenArray, Outcome, is_written, write_request}

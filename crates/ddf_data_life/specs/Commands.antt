@@ -10,10 +10,9 @@ use Rattle.ddf_assembly.specs.Recovery.{config_recovered}
 use Rattle.ddf_assembly.specs.Steps.{Step}
 use Rattle.ddf_request.specs.Named.{named_array}
 use Rattle.ddf_answer.specs.declared.failure.Failure.{Failure}
-use Rattle.ddf_answer.specs.Call.{Work, work_of}
+use Rattle.ddf_answer.specs.Call.{Work, input_of, work_of}
 use Rattle.ddf_group_commands.specs.Change.{HasChanged, Request, TakesGroup, steps_of}
 use Rattle.ddf_read_commands.specs.Read.{HasRead, Outcome as ReadOutcome}
-use Rattle.ddf_write_commands.specs.Payload.{input_of}
 use Rattle.ddf_write_commands.specs.Planned.{IsPlanned}
 use Rattle.ddf_write_commands.specs.Resync.{HasResyncedArray, resync_request}
 use Rattle.ddf_write_commands.specs.Write.{HasWrittenArray, Outcome, write_request}

@@ -14,8 +14,7 @@ use Rattle.ddf_words.specs.declared.command.SpareWord.TheVariants.{Global}
 use Rattle.ddf_words.specs.declared.command.Wish.TheVariants as wishes
 use Rattle.ddf_text.specs.Done.{sequence_line}
 use Rattle.ddf_words.specs.Traits.{traits_of}
-use Rattle.ddf_write_commands.specs.Payload.{input_of}
-use Rattle.ddf_answer.specs.Call.{answer_of, work_of}
+use Rattle.ddf_answer.specs.Call.{answer_of, input_of, work_of}
 use Rattle.ddf_command.specs.Run.{IsCommandDone}
 pub use Rattle.ddf_exercise_config.specs.Words.{creation as array_asked, word as array_name}
 pub use Rattle.ddf_exercise_disks.specs.Ending.{unused}

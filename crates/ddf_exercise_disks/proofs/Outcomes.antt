@@ -20,7 +20,7 @@ use Rattle.ddf_text.specs.Done.{sequence_line}
 use Rattle.ddf_answer.specs.declared.failure.Failure.{Failure}
 use Rattle.ddf_answer.specs.declared.failure.Failure.TheVariants.{Conflict, Disk, Memory, Refused, Split}
 use Rattle.ddf_answer.specs.Answers.{IsToldFailure}
-use Rattle.ddf_answer.specs.Call.{Answer, Work}
+use Rattle.ddf_answer.specs.Call.{Answer, Input, Work}
 use Rattle.ddf_answer.specs.Tells.{ClosesWith, EndsWith}
 use Rattle.ddf_exercise_disks.specs.Ending.{EndsWell}
 use Rattle.ddf_disk_commands.specs.Label.{IsLabelled, IsToldLabel, IsTried, label_copy, label_slots}
@@ -29,7 +29,7 @@ use Rattle.ddf_group_commands.specs.Change.{IsChangeDone, IsChanged, IsChangedIn
 use Rattle.ddf_write_commands.specs.Doing.{Doing}
 use Rattle.ddf_write_commands.specs.Resync.{IsResyncDone, resync_request, resyncing}
 use Rattle.ddf_write_commands.specs.Worked.{IsArrayDone, IsArrayStopped, IsWorkedIn, IsWorkedOf}
-use Rattle.ddf_write_commands.specs.Payload.{Input, IsAllTaken, IsPayload, IsShort, first_piece}
+use Rattle.ddf_write_commands.specs.Payload.{IsAllTaken, IsPayload, IsShort, first_piece}
 use Rattle.ddf_pieces.specs.Pieces.{piece_blocks, room_for}
 use Rattle.ddf_write_commands.specs.Write.{IsSequenceTold, IsWriteDone, IsWriteIn, IsWriteTold, write_request, writing}
 use Rattle.ddf_write_commands.specs.Write.{Outcome as WriteOutcome}

@@ -31,14 +31,13 @@ use Rattle.ddf_history_steps.specs.BlockFloors.{floor_in}
 use Rattle.ddf_request.specs.Named.{named_array}
 use Rattle.ddf_text.specs.Done.{sequence_line}
 use Rattle.ddf_answer.specs.declared.failure.Failure.TheVariants.{Conflict, Disk, Memory, Refused, Split}
-use Rattle.ddf_answer.specs.Call.{Answer, Work, answer_of, work_of}
+use Rattle.ddf_answer.specs.Call.{Answer, Input, Work, answer_of, input_of, work_of}
 use Rattle.ddf_answer.specs.Costs.{WritesAtMost}
 use Rattle.ddf_group_commands.specs.Change.{Request, last_sequence, steps_of}
 use Rattle.ddf_group_commands.specs.Costs.{steps_sectors}
 use Rattle.ddf_group_commands.specs.Written.{AreWritten}
 use Rattle.ddf_write_commands.specs.Around.{config_behind, marking}
 use Rattle.ddf_write_commands.specs.Costs.{CostsOfDoing}
-use Rattle.ddf_write_commands.specs.Payload.{Input, input_of}
 use Rattle.ddf_write_commands.specs.Planned.{Entry, IsPlanned}
 use Rattle.ddf_write_commands.specs.Worked.{AreBlocksDone}
 use Rattle.ddf_write_commands.specs.Write.{CostsOfWriting, IsWriteDone, IsWriteIn, IsWriteTold, Outcome, write_request, writing}

@@ -3,7 +3,8 @@ use Rattle.std.proofs.Common.{◌≡◌, ◌∙◌, ◌*◌, ◌≤◌, ℕ, Lis
 use Rattle.std.proofs.lemmas.List.{length-drop, take-append-drop, take_all, take_at}
 use Rattle.ddf_bytes.specs.Streams.{Gives, SourceState}
 use Rattle.ddf_pieces.specs.Pieces.{room_for}
-use Rattle.ddf_write_commands.specs.Payload.{IsFirstPiece, first_piece, input_of}
+use Rattle.ddf_answer.specs.Call.{input_of}
+use Rattle.ddf_write_commands.specs.Payload.{IsFirstPiece, first_piece}
 
 module _ (tells : Type 0) (old new : SourceState) (count size : ℕ) (items into : List ℕ) (room : length items ≡ 512 * room_for count) (is : size ≡ 512 * first_piece count) (long : length into ≡ size) where
   abbrev rest : List ℕ

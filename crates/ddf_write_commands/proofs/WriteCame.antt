@@ -12,7 +12,7 @@ use Rattle.ddf_assembly.specs.Steps.{Step}
 use Rattle.ddf_answer.specs.declared.failure.Failure.{Failure}
 use Rattle.ddf_answer.specs.declared.failure.Failure.TheVariants.{Memory, Refused}
 use Rattle.ddf_answer.specs.Answers.{IsToldFailure}
-use Rattle.ddf_answer.specs.Call.{Answer, Work}
+use Rattle.ddf_answer.specs.Call.{Answer, Input, Work}
 use Rattle.ddf_answer.specs.Ends.{EndsBy, HasCause, is_unwritten}
 use Rattle.ddf_answer.proofs.Causes.{closes_wrote, done_told, refused_told, stream_cause, wrote}
 use Rattle.ddf_answer.proofs.Costs.{none_written}
@@ -26,7 +26,7 @@ use Rattle.ddf_write_commands.specs.declared.payload.PayloadFault.TheVariants as
 use Rattle.ddf_write_commands.specs.declared.writing.Done.{Done}
 use Rattle.ddf_write_commands.specs.declared.writing.WriteFault.{WriteFault}
 use Rattle.ddf_write_commands.specs.declared.writing.WriteFault.TheVariants as faults
-use Rattle.ddf_write_commands.specs.Payload.{Input, InputRose, IsNoPayload, IsShort, IsUntaken}
+use Rattle.ddf_write_commands.specs.Payload.{InputRose, IsNoPayload, IsShort, IsUntaken}
 use Rattle.ddf_write_commands.specs.Write.{HasWrittenArray, IsDoneTold, IsSequenceTold, IsWriteTold, IsWriteIn, IsWrittenAs, Outcome, answered, fault_of_payload, write_request, writing}
 use Rattle.ddf_write_commands.specs.Write.Outcome.{Broken, NotRead, Short, Taken, Unfit}
 use Rattle.ddf_write_commands.proofs.Ended.{failure_cause, failure_unwritten}

@@ -14,7 +14,7 @@ use Rattle.ddf_assembly.specs.Ready.{readied}
 use Rattle.ddf_assembly.specs.Recovery.{config_recovered}
 use Rattle.ddf_assembly.specs.Steps.{Step}
 use Rattle.ddf_answer.specs.declared.failure.Failure.{Failure}
-use Rattle.ddf_answer.specs.Call.{work_of}
+use Rattle.ddf_answer.specs.Call.{Input, input_of, work_of}
 use Rattle.ddf_group_commands.specs.Change.{Request}
 use Rattle.ddf_group_commands.specs.GroupRead.{IsGroupRead}
 use Rattle.ddf_group_commands.proofs.Outcomes.{asked_of}
@@ -22,7 +22,7 @@ use Rattle.ddf_write_commands.specs.declared.planning.Plan.{Plan}
 use Rattle.ddf_write_commands.specs.declared.writing.Done.{Done}
 use Rattle.ddf_write_commands.specs.declared.writing.WriteFault.{WriteFault}
 use Rattle.ddf_write_commands.specs.declared.writing.WriteFault.TheVariants as faults
-use Rattle.ddf_write_commands.specs.Payload.{Input, IsFirstPiece, IsPayload, first_piece, input_of}
+use Rattle.ddf_write_commands.specs.Payload.{IsFirstPiece, IsPayload, first_piece}
 use Rattle.ddf_write_commands.specs.Plans.{IsPlanOf}
 use Rattle.ddf_write_commands.specs.Worked.{IsLeftIn, IsWorkedIn}
 use Rattle.ddf_write_commands.specs.Write.{AreGiven, HasWrittenBlocks, IsAccepted, IsWrittenAs, is_all_done, write_behind, write_refusals, write_request, writing}

@@ -1,24 +1,13 @@
 -- The bytes of blocks, as the input gives them.
 use Rattle.std.specs.Prelude.{◌≡◌, ◌⊎◌, ℕ, ◌-◌, ◌*◌, ◌<◌, List, [], ◌++◌, length, take, Result, Ok, Err}
 use Rattle.ddf_bytes.specs.Counts.{Rose}
-use Rattle.ddf_bytes.specs.Streams.{GivesFront, SourceState}
+use Rattle.ddf_bytes.specs.Streams.{GivesFront}
 use Rattle.ddf_pieces.specs.Coming.{AreSectorsOf512}
 use Rattle.ddf_pieces.specs.Pieces.{AreWholePieces, bytes_of, piece_of, room_for}
+use Rattle.ddf_answer.specs.Call.{Input}
 use Rattle.ddf_answer.specs.declared.failure.Failure.{Failure}
 use Rattle.ddf_write_commands.specs.declared.payload.PayloadFault.{PayloadFault}
 use Rattle.ddf_write_commands.specs.declared.payload.PayloadFault.TheVariants.{Failed, Memory, Short}
-
--- what a call took from its input
-pub record Input : Type 1 where
-  -- the input tells the bytes that are left
-  pub tells : Type 0
-  -- at entry
-  pub old : SourceState
-  -- and at the exit
-  pub new : SourceState
-
-abbrev pub input_of : Type 0 → (old new : SourceState) → Input
-input_of tells old new = record { tells = tells; old = old; new = new }
 
 -- nothing was taken, and no read failed
 abbrev pub IsUntaken : Input → Type 0

@@ -28,7 +28,7 @@ use Rattle.ddf_assembly.specs.Steps.{Step}
 use Rattle.ddf_answer.specs.declared.failure.Failure.{Failure}
 use Rattle.ddf_answer.specs.declared.failure.Failure.TheVariants.{Memory, Refused}
 use Rattle.ddf_answer.specs.Answers.{IsToldFailure}
-use Rattle.ddf_answer.specs.Call.{Answer, Work, work_of}
+use Rattle.ddf_answer.specs.Call.{Answer, Input, Work, work_of}
 use Rattle.ddf_answer.specs.Costs.{WritesAtMost}
 use Rattle.ddf_answer.specs.Tells.{ClosesWith}
 use Rattle.ddf_group_commands.specs.Change.{KeepsHistories, Request, TakesGroup, is_done, steps_of}
@@ -46,7 +46,7 @@ use Rattle.ddf_write_commands.specs.declared.planning.Plan.{Plan}
 use Rattle.ddf_write_commands.specs.declared.writing.Done.{Done}
 use Rattle.ddf_write_commands.specs.declared.writing.WriteFault.{WriteFault}
 use Rattle.ddf_write_commands.specs.declared.writing.WriteFault.TheVariants as faults
-use Rattle.ddf_write_commands.specs.Payload.{Input, InputRose, IsPayload, IsShort, IsTakenBy, IsUntaken}
+use Rattle.ddf_write_commands.specs.Payload.{InputRose, IsPayload, IsShort, IsTakenBy, IsUntaken}
 use Rattle.ddf_write_commands.specs.Planned.{Entry, Refusing, lacks_position, request_around}
 use Rattle.ddf_write_commands.specs.Plans.{IsPlanOf}
 use Rattle.ddf_write_commands.specs.Worked.{IsArrayDone, IsArrayLeft, IsLeftDoing, IsLeftIn, IsWorkedIn, IsWorkedOf, LeavesDoing}

@@ -1,7 +1,8 @@
 //! The bytes of blocks, as the input gives them.
 ghost use Rattle.std.specs.Prelude.{◌≡◌, ◌≤◌, ◌*◌, ℕ, length, IfOk, IfErr, OnOk};
 ghost use Rattle.ddf_pieces.specs.Pieces.{piece_of, room_for};
-ghost use Rattle.ddf_write_commands.specs.Payload.{IsFirstPiece, IsNoPayload, input_of};
+ghost use Rattle.ddf_answer.specs.Call.{input_of};
+ghost use Rattle.ddf_write_commands.specs.Payload.{IsFirstPiece, IsNoPayload};
 
 use ddf_bytes::{NoMemory, Source, fill_from};
 use ddf_pieces::room_for;

@@ -9,14 +9,14 @@ ghost use Rattle.ddf_assembly.specs.Committed.{WasReadied};
 ghost use Rattle.ddf_assembly.specs.Recovery.{config_recovered};
 ghost use Rattle.ddf_assembly.specs.Seated.{seated};
 ghost use Rattle.ddf_history_steps.specs.BlockFloors.{AreFloored};
-ghost use Rattle.ddf_answer.specs.Call.{answer_of, work_of};
+ghost use Rattle.ddf_answer.specs.Call.{answer_of, input_of, work_of};
 ghost use Rattle.ddf_answer.specs.Ends.{EndsBy};
 ghost use Rattle.ddf_answer.specs.Status.{code_of};
 ghost use Rattle.ddf_words.specs.declared.command.Command.{Command};
 ghost use Rattle.ddf_words.specs.Traits.{traits_of};
 ghost use Rattle.ddf_group_commands.specs.GroupRead.{IsReadFrom};
 ghost use Rattle.ddf_write_commands.specs.Opened.{AreMembers};
-ghost use Rattle.ddf_write_commands.specs.Payload.{InputRose, first_piece, input_of};
+ghost use Rattle.ddf_write_commands.specs.Payload.{InputRose, first_piece};
 ghost use Rattle.ddf_write_commands.specs.Plans.{IsPlanOf};
 ghost use Rattle.ddf_write_commands.specs.Write.{HasWrittenBlocks, IsDoneTold, IsWriteDone, IsWrittenAs, write_behind, write_refusals};
 

@@ -3,10 +3,9 @@ use Rattle.ddf_words.specs.declared.command.Asked.{Asked}
 use Rattle.ddf_words.specs.Words.{words_of, IsAccepted}
 use Rattle.ddf_config.specs.declared.refusal.Refusal.TheVariants.{Words}
 use Rattle.ddf_text.specs.Refusal.{refusal_line}
-use Rattle.ddf_answer.specs.Call.{answer_of, work_of}
+use Rattle.ddf_answer.specs.Call.{answer_of, input_of, work_of}
 use Rattle.ddf_answer.specs.Tells.{EndsWith}
 use Rattle.ddf_command.specs.Run.{IsDone}
-use Rattle.ddf_write_commands.specs.Payload.{input_of}
 use Rattle.ddf_command.proofs.Endings.{done_nothing, good_words, no_fault, one_place, same_asked, slot_rose, status_of, stream_rose}
 use Rattle.ddf_command.proofs.dispatch.run.Goals as goal
 

@@ -2,8 +2,7 @@ use Rattle.std.specs.Prelude.{◌++◌}
 use Rattle.ddf_history_steps.specs.Going.{Ends, Goes, changes_in}
 use Rattle.ddf_history_steps.specs.Kept.{is_read}
 use Rattle.ddf_assembly.specs.Group.{group_of}
-use Rattle.ddf_answer.specs.Call.{work_of}
-use Rattle.ddf_write_commands.specs.Payload.{input_of}
+use Rattle.ddf_answer.specs.Call.{input_of, work_of}
 use Rattle.ddf_write_commands.specs.Write.{is_written}
 use Rattle.ddf_data_calls.specs.Promised.{IsWrittenOf, MayBeWritten}
 use Rattle.ddf_data_calls.proofs.Carries.{carries_data}

@@ -1,4 +1,4 @@
-use Rattle.ddf_write_commands.specs.Payload.{input_of}
+use Rattle.ddf_answer.specs.Call.{input_of}
 use Rattle.ddf_data_calls.proofs.Taken.{untaken}
 use Rattle.ddf_data_calls.proofs.block_laws.a_write_without_its_bytes_only_reads.Goals as goal
 

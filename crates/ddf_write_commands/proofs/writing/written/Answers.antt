@@ -3,9 +3,8 @@ use Rattle.std.proofs.lemmas.Result.{err_from_is_err_and}
 use Rattle.ddf_bytes.specs.Stamps.{timestamp_of}
 use Rattle.ddf_assembly.specs.Ready.{readied}
 use Rattle.ddf_history_steps.proofs.Floored.{group_floored}
-use Rattle.ddf_answer.specs.Call.{work_of}
+use Rattle.ddf_answer.specs.Call.{input_of, work_of}
 use Rattle.ddf_group_commands.proofs.Outcomes.{group_read, read_still}
-use Rattle.ddf_write_commands.specs.Payload.{input_of}
 use Rattle.ddf_write_commands.specs.Write.{write_behind, write_refusals, write_request, writing}
 use Rattle.ddf_write_commands.proofs.PlanKept.{planned, steps_are}
 use Rattle.ddf_write_commands.proofs.PlanWritten.{few_behind}
