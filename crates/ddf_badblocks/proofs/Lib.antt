@@ -3,3 +3,8 @@ mod Cuts
 mod Pieced
 mod Given
 mod Again
+mod Counted
+mod InRow
+mod Apart
+mod Straight
+mod LogFits

@@ -8,7 +8,7 @@ ghost use Rattle.ddf_badblocks.specs.State.{place, seen_image};
 ghost use Rattle.ddf_badblocks.specs.Seen.{left_below, left_seen, place_twice, since_again};
 
 use crate::pieces::{read_pieces, write_pieces};
-use crate::place::{ranges_at, swap};
+use crate::place::swap_at;
 use crate::remapped::Remapped;
 use ddf_bay::counts::next;
 use ddf_bay::{Bay, BayFailed};
@@ -23,8 +23,7 @@ impl<B: Bay + Drop> Remapped<B> {
         ensures small { result < slice_index (B.disks self.now.inner).sizes slot }
     {
         let size = self.inner.size(slot);
-        let ranges = ranges_at(self.logs.as_slice(), slot);
-        swap(ranges, size, lba)
+        swap_at(self.logs.as_slice(), slot, size, lba)
     }
 }
 

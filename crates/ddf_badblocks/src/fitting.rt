@@ -1,10 +1,15 @@
 //! Whether a bad block log can be honoured.
-ghost use Rattle.std.specs.Prelude.{◌≡◌, ◌+◌, ◌<◌, ◌^◌};
+ghost use Rattle.std.specs.Prelude.{◌≡◌, ◌+◌, ◌<◌, ◌^◌, ◌&&◌, ℕ, Some, true, false, slice_get, IfOk, MatchOption};
 ghost use Rattle.std.specs.List.{list_all};
-ghost use Rattle.ddf_badblocks.specs.Fits.{all_lone, are_lone, area_fits, entry_fits, fits, has_spare, meets_any, range_of};
+ghost use Rattle.ddf_tables.specs.declared.bad_blocks.BadBlock.{BadBlock};
+ghost use Rattle.ddf_badblocks.specs.Ranges.{are_exchangeable};
+ghost use Rattle.ddf_badblocks.specs.Fits.{area_fits, entry_fits, fits, has_spare, meets_any, range_of, ranges_of};
 
+use crate::exchange::Exchange;
 use crate::range::{Range, share};
+use ddf_bytes::NoMemory;
 use ddf_tables::{BadBlock, BadBlockLog};
+use std::alloc::Global;
 
 /// Sectors that follow one another.
 #[derive(Clone, Copy, PartialEq, Eq)]
@@ -15,25 +20,65 @@ pub struct Stretch {
     pub length: u64,
 }
 
-/// The most entries of a log that is honoured (profile).
-pub const MOST_ENTRIES: usize = 1024;
-
 /// What marks bad sectors without spare ones (profile).
 const NO_SPARE: u32 = u32::MAX;
 
 /// Whether a disk's log can be honoured, by the sectors that the disk gives to arrays, those that are kept for its records, and its last
 /// sector. One without entries can. Otherwise each entry has a spare range, its bad sectors lie among those of arrays, and the spare area
 /// lies behind these and before the last sector. None of them is kept for records, and no two bad ranges and no two spare ones meet.
-#[tactic(auto, unfolding(crate::specs::Fits::fits))]
-pub fn fits(log: &BadBlockLog, size: u64, kept: &[Stretch], last: u64) -> bool
-    ensures { result ≡ fits log.now size kept.now last }
+pub fn fits(
+    alloc: Global,
+    log: &BadBlockLog,
+    size: u64,
+    kept: &[Stretch],
+    last: u64,
+) -> Result<bool, NoMemory>
+    ensures { IfOk result (λ is. is ≡ fits log.now size kept.now last) }
 {
-    let entries = log.entries();
-    entries.is_empty()
-        || (entries.len() <= MOST_ENTRIES
-            && area_fits(log, size, kept, last)
-            && all_fit(log, size, kept)
-            && all_lone(entries))
+    let found = exchange_of(alloc, log, size, kept, last)?;
+    Ok(found.is_some())
+}
+
+/// The exchange of a log that can be honoured, and none of one that can't.
+pub fn exchange_of(
+    alloc: Global,
+    log: &BadBlockLog,
+    size: u64,
+    kept: &[Stretch],
+    last: u64,
+) -> Result<Option<Exchange>, NoMemory>
+    ensures { IfOk result (λ found. MatchOption found (fits log.now size kept.now last ≡ false) (λ exchange. (exchange ≡ ranges_of log.now) × (fits log.now size kept.now last ≡ true))) }
+{
+    if log.entries().is_empty() {
+        return Ok(Some(Exchange::none(alloc)));
+    }
+    if !all_fit(log, size, kept, last) {
+        return Ok(None);
+    }
+    let ranges = ranges_of(alloc, log)?;
+    exchange_on(alloc, ranges, last)
+}
+
+/// The exchange of ranges where they can be exchanged on a slot of so many sectors, and else none.
+fn exchange_on(alloc: Global, ranges: Vec<Range>, size: u64) -> Result<Option<Exchange>, NoMemory>
+    ensures { IfOk result (λ found. MatchOption found (are_exchangeable size ranges.items ≡ false) (λ exchange. (exchange ≡ ranges.items) × (are_exchangeable size ranges.items ≡ true))) }
+{
+    match Exchange::new(alloc, ranges)? {
+        Some(exchange) if exchange.is_on(size) => Ok(Some(exchange)),
+        _ => Ok(None),
+    }
+}
+
+/// The ranges of the entries.
+fn ranges_of(alloc: Global, log: &BadBlockLog) -> Result<Vec<Range>, NoMemory>
+    requires { (k : ℕ) (block : BadBlock) → slice_get log.now.entries k ≡ Some block → log.now.first_spare + block.spare < 2 ^ 64 }
+    ensures { IfOk result (λ ranges. ranges.items ≡ ranges_of log.now) }
+{
+    let mut ranges = Vec::new(alloc);
+    for block in log.entries() {
+        ranges.push(range_of(log.first_spare(), block))?;
+    }
+    Ok(ranges)
 }
 
 /// Whether the spare area lies where it may.
@@ -47,7 +92,14 @@ fn area_fits(log: &BadBlockLog, size: u64, kept: &[Stretch], last: u64) -> bool
         && !meets_any(kept, first, many)
 }
 
-fn all_fit(log: &BadBlockLog, size: u64, kept: &[Stretch]) -> bool
+/// Whether the spare area lies where it may, and the sectors of each entry do.
+fn all_fit(log: &BadBlockLog, size: u64, kept: &[Stretch], last: u64) -> bool
+    ensures { result ≡ (area_fits log.now size kept.now last && list_all (entry_fits size log.now.spare_count kept.now) log.now.entries) }
+{
+    area_fits(log, size, kept, last) && entries_fit(log, size, kept)
+}
+
+fn entries_fit(log: &BadBlockLog, size: u64, kept: &[Stretch]) -> bool
     ensures { result ≡ list_all (entry_fits size log.now.spare_count kept.now) log.now.entries }
 {
     log.entries()
@@ -79,42 +131,8 @@ fn meets_any(kept: &[Stretch], first: u64, many: u64) -> bool
     kept.iter().any(|stretch| share(first, many, stretch.start, stretch.length))
 }
 
-/// Whether neither the bad sectors of two entries meet nor their spare ones.
-fn are_lone(one: &BadBlock, other: &BadBlock) -> bool
-    ensures { result ≡ are_lone one.now other.now }
-{
-    !share(
-        one.start,
-        u64::from(one.count),
-        other.start,
-        u64::from(other.count),
-    ) && !share(
-        u64::from(one.spare),
-        u64::from(one.count),
-        u64::from(other.spare),
-        u64::from(other.count),
-    )
-}
-
-fn is_lone(block: &BadBlock, others: &[BadBlock]) -> bool
-    ensures { result ≡ list_all (are_lone block.now) others.now }
-{
-    others.iter().all(|other| are_lone(block, other))
-}
-
-fn all_lone(blocks: &[BadBlock]) -> bool
-    ensures { result ≡ all_lone blocks.now }
-{
-    for (place, block) in blocks.iter().enumerate() {
-        if !is_lone(block, &blocks[place + 1..]) {
-            return false;
-        }
-    }
-    true
-}
-
 /// The range of an entry, by the LBA of the first spare block.
-pub fn range_of(first: u64, block: &BadBlock) -> Range
+fn range_of(first: u64, block: &BadBlock) -> Range
     requires { first + block.now.spare < 2 ^ 64 }
     ensures { result ≡ range_of first block.now }
 {

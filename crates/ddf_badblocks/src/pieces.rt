@@ -7,14 +7,14 @@ ghost use Rattle.ddf_badblocks.specs.declared.range.Range.{Range};
 ghost use Rattle.ddf_badblocks.specs.Pieces.{begins_at, pieces_below};
 ghost use Rattle.ddf_badblocks.specs.State.{place, seen_state};
 
-use crate::place::{follow, ranges_at, swap};
-use crate::range::Range;
+use crate::exchange::Exchange;
+use crate::place::{follow_at, swap_at};
 use ddf_bay::{Bay, BayFailed};
-use ddf_bytes::{Sector, Seq};
+use ddf_bytes::Sector;
 
 /// Reads sectors at the front of a run, one at least, and answers how many.
 fn read_front<B: Bay>(
-    logs: &[Seq<Range>],
+    logs: &[Exchange],
     bay: &mut B,
     slot: usize,
     lba: u64,
@@ -37,9 +37,8 @@ fn read_front<B: Bay>(
     ensures spends { SpendsReads (B.disks bay.old) (B.disks bay.new) slot 1 }
 {
     let size = bay.size(slot);
-    let ranges = ranges_at(logs, slot);
-    let count = follow(ranges, size, lba, into.len());
-    let at = swap(ranges, size, lba);
+    let count = follow_at(logs, slot, size, lba, into.len());
+    let at = swap_at(logs, slot, size, lba);
     let front = &mut into[..count];
     bay.read_run(slot, at, front)?;
     Ok(count)
@@ -47,7 +46,7 @@ fn read_front<B: Bay>(
 
 /// Reads a run, each sector where it is seen.
 pub(crate) fn read_pieces<B: Bay>(
-    logs: &[Seq<Range>],
+    logs: &[Exchange],
     bay: &mut B,
     slot: usize,
     lba: u64,
@@ -75,7 +74,7 @@ pub(crate) fn read_pieces<B: Bay>(
 
 /// Writes sectors from the front of a run, one at least, and answers how many.
 fn write_front<B: Bay>(
-    logs: &[Seq<Range>],
+    logs: &[Exchange],
     bay: &mut B,
     slot: usize,
     lba: u64,
@@ -103,16 +102,15 @@ fn write_front<B: Bay>(
     ensures spends_failed { OnErr result (SpendsWrites (B.disks bay.old) (B.disks bay.new) slot (length from.now) 1) }
 {
     let size = bay.size(slot);
-    let ranges = ranges_at(logs, slot);
-    let count = follow(ranges, size, lba, from.len());
-    let at = swap(ranges, size, lba);
+    let count = follow_at(logs, slot, size, lba, from.len());
+    let at = swap_at(logs, slot, size, lba);
     bay.write_run(slot, at, &from[..count])?;
     Ok(count)
 }
 
 /// Writes a run, each sector where it is seen.
 pub(crate) fn write_pieces<B: Bay>(
-    logs: &[Seq<Range>],
+    logs: &[Exchange],
     bay: &mut B,
     slot: usize,
     lba: u64,

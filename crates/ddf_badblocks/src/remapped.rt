@@ -3,15 +3,13 @@ ghost use Rattle.std.specs.Prelude.{◌≡◌, ◌<◌, ℕ, [], List, true, fal
 ghost use Rattle.ddf_badblocks.specs.Ranges.{are_exchangeable};
 ghost use Rattle.ddf_badblocks.specs.Bad.{FirstBad};
 
-use crate::place::ranges_at;
-use crate::range::{Range, are_exchangeable};
+use crate::exchange::Exchange;
 use ddf_bay::Bay;
-use ddf_bytes::Seq;
 
 /// Why sectors can't be exchanged.
 #[derive(Clone, Copy, Debug, PartialEq, Eq)]
 pub enum RemapFault {
-    /// Ranges of this slot meet, or one is empty or passes the slot's end.
+    /// A range of this slot passes its end.
     BadBlocks(usize),
 }
 
@@ -21,7 +19,7 @@ pub enum RemapFault {
 #[derive(Drop)]
 pub struct Remapped<B: Bay + Drop> {
     pub(crate) inner: B,
-    pub(crate) logs: Vec<Seq<Range>>,
+    pub(crate) logs: Vec<Exchange>,
     pub(crate) made: u64,
 }
 
@@ -32,15 +30,15 @@ impl<B: Bay + Drop> Remapped<B> {
     /// Exchanges the sectors of these ranges, slot by slot. A slot past the list has none.
     ///
     /// # Errors
-    /// `BadBlocks` with the first slot of which ranges meet, or one is empty or passes the slot's end.
-    pub fn new(inner: B, logs: Vec<Seq<Range>>) -> Result<Remapped<B>, RemapFault>
+    /// `BadBlocks` with the first slot of which a range passes the end.
+    pub fn new(inner: B, logs: Vec<Exchange>) -> Result<Remapped<B>, RemapFault>
         ensures made { MatchResult result
             (λ bay. (inner_of bay ≡ inner) × (logs_of bay ≡ logs.items) × ((disks_of B.disks bay).calls ≡ 0)
             × ((slot : ℕ) → slot < length (B.disks inner).sizes → are_exchangeable (slice_index (B.disks inner).sizes slot) (ranges_of bay slot) ≡ true))
             (λ fault. FirstBad (B.disks inner).sizes logs.items fault) }
     {
         for slot in 0..inner.slots() {
-            if !are_exchangeable(inner.size(slot), ranges_at(logs.as_slice(), slot)) {
+            if !can_at(logs.as_slice(), slot, inner.size(slot)) {
                 return Err(RemapFault::BadBlocks(slot));
             }
         }
@@ -60,5 +58,15 @@ impl<B: Bay + Drop> Remapped<B> {
         ensures back { (s l : ℕ) → (B.disks result).held s l ≡ (disks_of B.disks self).held s (place (B.disks result).sizes (logs_of self) s l) }
     {
         self.inner
+    }
+}
+
+/// Whether the ranges of a slot of so many sectors lie on it.
+fn can_at(exchanges: &[Exchange], slot: usize, size: u64) -> bool
+    ensures { result ≡ are_exchangeable size (slice_index_or exchanges.now slot []) }
+{
+    match exchanges.get(slot) {
+        Some(exchange) => exchange.is_on(size),
+        None => true,
     }
 }

@@ -1,6 +1,5 @@
-use Rattle.std.proofs.Common.{◌≡◌, ◌+◌, ◌-◌, ◌≤◌, ◌<◌, ℕ, [], length, get_or, take, drop, ap, ◌∙◌, arith}
+use Rattle.std.proofs.Common.{◌≡◌, ◌+◌, ◌-◌, ◌≤◌, ◌<◌, [], length, get_or, take, drop, ◌∙◌, arith}
 use Rattle.std.specs.Prelude.{slice_index}
-use Rattle.std.proofs.lemmas.List.{length-drop}
 use Rattle.ddf_bay.proofs.Steps.{keeps_then, spends_then, stops_then}
 use Rattle.ddf_badblocks.specs.Pieces.{pieces_below}
 use Rattle.ddf_badblocks.specs.State.{place}
