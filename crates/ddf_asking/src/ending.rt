@@ -7,6 +7,7 @@ use ddf_config::{Array, Config, array_capacity, slot_of};
 use ddf_edge::OneLine;
 use ddf_name::NameText;
 use ddf_plan::{Change, PlanFault, apply};
+use ddf_recovery::loss;
 use ddf_request::named_array;
 
 /// Names on standard error the disk that `fail` takes out of use, and what becomes of the arrays on it. Whether it does.
@@ -84,7 +85,7 @@ where
         Err(Assembly::Memory) => return Err(NoMemory),
         Err(_) => return Ok(None),
     };
-    let config = match group.loss(rt.alloc())? {
+    let config = match loss(rt.alloc(), &group)? {
         Some(config) => config,
         None => group.config().duplicate(rt.alloc())?,
     };

@@ -5,6 +5,7 @@ use ddf_assembly::{Assembly, Group, assemble};
 use ddf_bay::Bay;
 use ddf_bytes::{Guid, Hex32, NoMemory};
 use ddf_edge::OneLine;
+use ddf_recovery::loss;
 
 /// Names on standard error each absent member of the group that a command is over, which the command would lose; each slot that
 /// shows no group, and may be such a member's; and each array that is degraded or fails by the loss. Whether there is any.
@@ -23,7 +24,7 @@ where
         Err(_) => return Ok(false),
     };
     let silent = silent_slots(rt, bay, paths, &group)?;
-    let Some(after) = group.loss(rt.alloc())? else {
+    let Some(after) = loss(rt.alloc(), &group)? else {
         name_dropped(rt, paths, &silent);
         return Ok(false);
     };

@@ -5,6 +5,7 @@ use ddf_bytes::{Guid, NoMemory};
 use ddf_config::Seat;
 use ddf_copy::{anchor_of, newest};
 use ddf_edge::OneLine;
+use ddf_recovery::trusted_seats;
 
 /// Names on standard error each disk of a group that recovery must not write over, and why.
 pub fn name_strays<R, B: Bay>(
@@ -21,7 +22,7 @@ where
         Err(Assembly::Memory) => return Err(NoMemory),
         Err(_) => return Ok(()),
     };
-    let trusted = group.trusted_seats(rt.alloc())?;
+    let trusted = trusted_seats(rt.alloc(), &group)?;
     for seat in group.seats() {
         if !has_slot(trusted.as_slice(), seat.slot) {
             let why = reason_of(rt, bay, &group, seat.slot);

@@ -16,7 +16,7 @@ use Rattle.ddf_copy.specs.Gate.{header_bytes}
 use Rattle.ddf_copy.specs.Headers.{IsUnder, closed_header}
 use Rattle.ddf_copy.specs.Which.{other_of, place_of}
 use Rattle.ddf_copy.proofs.Gates.{gate_from, headers_in_room}
-use Rattle.ddf_assembly.specs.Group.{floor_of, seat_at, seat_of, seats_of}
+use Rattle.ddf_seats.specs.Group.{floor_of, seat_at, seat_of, seats_of}
 use Rattle.ddf_assembly.specs.Reading.{HasAnchor, HaveAnchors}
 
 -- ---- one slot more

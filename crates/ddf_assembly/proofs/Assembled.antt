@@ -32,20 +32,20 @@ use Rattle.ddf_group.specs.Slots.{claimed, claims, claims_by, leaders, leading_v
 use Rattle.ddf_rewrite.proofs.Lists.{all_at, all_by_get, all_mapped, some_same}
 use Rattle.ddf_rewrite.proofs.NamesCan.{own_references}
 use Rattle.ddf_rewrite.proofs.ReadCan.{same_names}
-use Rattle.ddf_assembly.specs.declared.seated.Seated.{Seated}
+use Rattle.ddf_seats.specs.declared.seated.Seated.{Seated}
 use Rattle.ddf_assembly.specs.Assembled.{HasOneNewest, IsAsGroup, IsAssembledGroup, IsNoLater}
-use Rattle.ddf_assembly.specs.Group.{GroupValue, group_as, seat_at, seats_of}
+use Rattle.ddf_seats.specs.Group.{GroupValue, seat_at, seats_of}
+use Rattle.ddf_assembly.specs.Group.{group_as}
 use Rattle.ddf_assembly.specs.Reading.{AreNewest}
-use Rattle.ddf_assembly.specs.Recovery.{lags, leading_disks, leading_views, leads, some}
-use Rattle.ddf_assembly.specs.Seated.{seated, seated_at, seats_in, views_in}
+use Rattle.ddf_seats.specs.Leading.{lags, leading_disks, leading_views, leads, some}
+use Rattle.ddf_seats.specs.Seated.{seated, seated_at, seats_in, views_in}
 use Rattle.ddf_assembly.proofs.AssembledLists.{all_three, among_kept, first_of_reference, same_test, some_mapped}
 use Rattle.ddf_assembly.proofs.ClaimedDisks.{HasDisk, disk_at, disks_have, found_twice, has_disk, own_disk, own_is, own_view, seats_are, seats_rise, view_at}
 use Rattle.ddf_assembly.proofs.ClaimedLeaders.{HasFirst, alone, IsSeen, claimed_view, has_first, lead_alike, leader_parts, leader_view, none_above, seen_alike, shows_by}
-use Rattle.ddf_assembly.proofs.Leaders.{filter_pass}
+use Rattle.ddf_seats.proofs.Lists.{filter_pass, filter_get}
 use Rattle.ddf_assembly.proofs.LeftBefore.{shown_at}
 use Rattle.ddf_assembly.proofs.LeftMembers.{IsCurrentIn, lists_from, read_current}
 use Rattle.ddf_assembly.proofs.Named.{shown_named}
-use Rattle.ddf_assembly.proofs.CommittedReadied.{filter_get}
 use Rattle.ddf_assembly.proofs.SettledLeaders.{leaders_claimed, lowest_leads, named_at as slot_named, none_claimed}
 use Rattle.ddf_assembly.proofs.SettledLists.{none_kept}
 use Rattle.ddf_assembly.proofs.SettledSeats.{Rise, filter_rises, level_on, same_group, same_sequence}

@@ -7,7 +7,7 @@ use Rattle.std.specs.Map.{lookup}
 use Rattle.ddf_config.specs.declared.member.Member.{Member}
 use Rattle.ddf_view.proofs.Finds.{when_true}
 use Rattle.ddf_rewrite.proofs.Lists.{all_at, get_map, or_true}
-use Rattle.ddf_assembly.specs.Recovery.{some}
+use Rattle.ddf_seats.specs.Leading.{some}
 
 -- ---- tests
 

@@ -19,11 +19,11 @@ use Rattle.ddf_group.specs.Shown.{shown_of}
 use Rattle.ddf_group.specs.Slots.{slot_at, view_in}
 use Rattle.ddf_rewrite.proofs.Lists.{all_at}
 use Rattle.ddf_update.specs.declared.prepared.Mode.TheVariants.{Change}
-use Rattle.ddf_assembly.specs.declared.seated.Seated.{Seated}
-use Rattle.ddf_assembly.specs.Group.{seat_at, seat_of, seats_of}
+use Rattle.ddf_seats.specs.declared.seated.Seated.{Seated}
+use Rattle.ddf_seats.specs.Group.{seat_at, seat_of, seats_of}
 use Rattle.ddf_assembly.specs.Reading.{AreNewest}
-use Rattle.ddf_assembly.specs.Seated.{seated_at, seated_by, seats_in}
-use Rattle.ddf_assembly.specs.Trying.{SlotsRise}
+use Rattle.ddf_seats.specs.Seated.{seated_at, seated_by, seats_in}
+use Rattle.ddf_seats.specs.Changing.{SlotsRise}
 use Rattle.ddf_assembly.proofs.SettledSeats.{Rise}
 
 -- ---- lists

@@ -1,8 +1,7 @@
 -- What the leaders of an assembled group record, and what copies can hold of it.
-use Rattle.std.proofs.Common.{◌≡◌, ℕ, ◌≤◌, Bool, true, false, eqb, cond, List, [], ◌∷◌, length, map, refl, ap, sym, ◌∙◌, subst, arith}
+use Rattle.std.proofs.Common.{◌≡◌, ℕ, ◌≤◌, true, eqb, List, [], ◌∷◌, length, map, refl, ap, sym, ◌∙◌, subst, arith}
 use Rattle.std.proofs.lemmas.Bool.{eqb-true}
 use Rattle.std.proofs.lemmas.List.{length-map}
-use Rattle.std.specs.Prelude.{filter}
 use Rattle.std.specs.List.{AllByRecursion}
 use Rattle.std.specs.Str.{bytes_eq}
 use Rattle.ddf_header.specs.declared.geometry.Geometry.{Geometry}
@@ -17,32 +16,14 @@ use Rattle.ddf_rewrite.specs.Before.{before}
 use Rattle.ddf_rewrite.specs.Hold.{AreDisks, AreHeld, IsHoldable}
 use Rattle.ddf_rewrite.proofs.Leaders.{leader_disks}
 use Rattle.ddf_rewrite.proofs.Whole.{read_is_holdable}
-use Rattle.ddf_assembly.specs.declared.seated.Seated.{Seated}
+use Rattle.ddf_seats.specs.declared.seated.Seated.{Seated}
 use Rattle.ddf_assembly.specs.Assembled.{IsAssembledGroup}
-use Rattle.ddf_assembly.specs.Full.{record_length}
-use Rattle.ddf_assembly.specs.Group.{GroupValue}
-use Rattle.ddf_assembly.specs.Recovery.{leading, leading_disks, leading_views, leads, some}
-use Rattle.ddf_assembly.specs.Seated.{seated, views_in}
-use Rattle.ddf_assembly.specs.Trying.{AreCopies, CanBeHeldOn, CanBeLed, HaveLength}
-use Rattle.ddf_assembly.proofs.OneLength.{held_under, leaders_all, sound_of, views_are}
-
--- What all have is had by those that a test keeps.
-pub filter_have : {X : Type 0} (P : X → Type 0) (test : X → Bool) (xs : List X) → AllByRecursion P xs → AllByRecursion P (filter test xs)
-filter_have P test [] all = tt
-filter_have {X = X} P test (x ∷ xs) all = by (test x) (filter_have P test xs all.1)
-  where
-    by : (b : Bool) → AllByRecursion P (filter test xs) → AllByRecursion P (cond b (x ∷ filter test xs) (filter test xs))
-    by true rest = (all.0, rest)
-    by false rest = rest
-
--- What passes a test is what was kept.
-pub filter_pass : {X : Type 0} (test : X → Bool) (xs : List X) → AllByRecursion (λ x. test x ≡ true) (filter test xs)
-filter_pass test [] = tt
-filter_pass {X = X} test (x ∷ xs) = by (test x) refl (filter_pass test xs)
-  where
-    by : (b : Bool) → test x ≡ b → AllByRecursion (λ y. test y ≡ true) (filter test xs) → AllByRecursion (λ y. test y ≡ true) (cond b (x ∷ filter test xs) (filter test xs))
-    by true e rest = (e, rest)
-    by false e rest = rest
+use Rattle.ddf_seats.specs.Changing.{record_length, AreCopies, CanBeHeldOn, CanBeLed, HaveLength}
+use Rattle.ddf_seats.specs.Group.{GroupValue}
+use Rattle.ddf_seats.specs.Leading.{leading, leading_disks, leading_views, leads, some}
+use Rattle.ddf_seats.specs.Seated.{seated, views_in}
+use Rattle.ddf_seats.proofs.RecordsHeld.{held_under, leaders_all, sound_of, views_are}
+use Rattle.ddf_seats.proofs.Lists.{filter_have, filter_pass}
 
 -- A leader is of the group and of its sequence number, and lists its own disk.
 pub record IsLeading (config : Configuration) (disk : Seated) : Type 0 where

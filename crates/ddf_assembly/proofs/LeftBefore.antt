@@ -25,10 +25,11 @@ use Rattle.ddf_group.specs.Conflicts.{contradiction, sequence_of}
 use Rattle.ddf_group.specs.Shown.{shown_of}
 use Rattle.ddf_group.specs.Slots.{claimed, claims, claims_by, group_shown, leaders, lists_disk_of, leading_view, leads, none_later, numbers, sequence_in, shows_group, slot_at, view_in}
 use Rattle.ddf_rewrite.proofs.Lists.{all_at, found_place, get_range, list_all_get, map_get}
-use Rattle.ddf_assembly.specs.declared.seated.Seated.{Seated}
-use Rattle.ddf_assembly.specs.Group.{GroupValue, group_as, group_or_fault, seat_of}
+use Rattle.ddf_seats.specs.declared.seated.Seated.{Seated}
+use Rattle.ddf_seats.specs.Group.{GroupValue, seat_of}
+use Rattle.ddf_assembly.specs.Group.{group_as, group_or_fault}
 use Rattle.ddf_assembly.specs.Reading.{AreNewest}
-use Rattle.ddf_assembly.specs.Seated.{seated, seated_at, slots_in}
+use Rattle.ddf_seats.specs.Seated.{seated, seated_at, slots_in}
 use Rattle.ddf_assembly.specs.Settled.{IsSettledGroup}
 use Rattle.ddf_assembly.proofs.LeftMembers.{AreApart, IsCurrentIn, current_from, lists_from}
 use Rattle.ddf_assembly.proofs.Named.{shown_named}

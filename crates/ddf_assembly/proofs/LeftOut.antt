@@ -7,7 +7,7 @@ use Rattle.ddf_bay.specs.State.{BayState}
 use Rattle.ddf_copy.specs.declared.newest_copy.Newest.{Newest}
 use Rattle.ddf_copy.specs.Copies.{standing_copy}
 use Rattle.ddf_config.specs.declared.seat.Seat.{Seat}
-use Rattle.ddf_assembly.specs.Group.{is_kept}
+use Rattle.ddf_seats.specs.Group.{is_kept}
 use Rattle.ddf_assembly.specs.Slots.{LeaveNone, first_left_out, newest_from, newest_or}
 
 -- ---- the first that is left out

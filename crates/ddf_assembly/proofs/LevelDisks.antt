@@ -9,9 +9,9 @@ use Rattle.ddf_copy.specs.declared.which.Which.TheVariants.{Secondary}
 use Rattle.ddf_copy.specs.Copies.{standing_copy}
 use Rattle.ddf_config.specs.declared.seat.Seat.{Seat}
 use Rattle.ddf_update.specs.declared.prepared.Mode.TheVariants.{Change}
-use Rattle.ddf_assembly.specs.declared.seated.Seated.{Seated}
-use Rattle.ddf_assembly.specs.Group.{GroupValue, seat_at, seat_of, seats_of}
-use Rattle.ddf_assembly.specs.Seated.{seated_at, seated_by, seats_in}
+use Rattle.ddf_seats.specs.declared.seated.Seated.{Seated}
+use Rattle.ddf_seats.specs.Group.{GroupValue, seat_at, seat_of, seats_of}
+use Rattle.ddf_seats.specs.Seated.{seated_at, seated_by, seats_in}
 use Rattle.ddf_assembly.proofs.SettledSeats.{IsLevelOn}
 
 -- The disk of a slot with two level copies.

@@ -4,13 +4,13 @@ use Rattle.std.specs.Prelude.{slice_get}
 use Rattle.std.specs.List.{AllByRecursion, list_any}
 use Rattle.ddf_copy.specs.declared.newest_copy.Newest.TheVariants.{Level}
 use Rattle.ddf_view.proofs.Tests.{all_map}
-use Rattle.ddf_assembly.specs.declared.seated.Seated.{Seated}
+use Rattle.ddf_seats.specs.declared.seated.Seated.{Seated}
 use Rattle.ddf_assembly.specs.Assembled.{IsAsGroup, IsAssembledGroup}
-use Rattle.ddf_assembly.specs.Group.{GroupValue}
-use Rattle.ddf_assembly.specs.Recovery.{lags}
-use Rattle.ddf_assembly.specs.Seated.{seated}
+use Rattle.ddf_seats.specs.Group.{GroupValue}
+use Rattle.ddf_seats.specs.Leading.{lags}
+use Rattle.ddf_seats.specs.Seated.{seated}
 use Rattle.ddf_assembly.specs.Settled.{IsLevelIn, IsSettledGroup}
-use Rattle.ddf_assembly.specs.Trying.{AreCopies, IsOfGroup}
+use Rattle.ddf_seats.specs.Changing.{AreCopies, IsOfGroup}
 use Rattle.ddf_assembly.proofs.Leaders.{held_on}
 use Rattle.ddf_assembly.proofs.SettledSeats.{same_group, same_sequence}
 

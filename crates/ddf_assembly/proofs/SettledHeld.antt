@@ -11,7 +11,8 @@ use Rattle.ddf_group.specs.declared.answer.Assembled.{Assembled}
 use Rattle.ddf_group.specs.declared.answer.Assembly.{Assembly}
 use Rattle.ddf_group.specs.Assembled.{assembled}
 use Rattle.ddf_group.specs.Shown.{shown_of}
-use Rattle.ddf_assembly.specs.Group.{GroupValue, group_as, group_of, group_or_fault}
+use Rattle.ddf_seats.specs.Group.{GroupValue}
+use Rattle.ddf_assembly.specs.Group.{group_as, group_of, group_or_fault}
 use Rattle.ddf_assembly.specs.Held.{IsHeldOn}
 use Rattle.ddf_assembly.specs.Slots.{IsAssembled, newest_from, newest_or}
 

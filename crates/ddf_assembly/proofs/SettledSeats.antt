@@ -21,7 +21,7 @@ use Rattle.ddf_group.specs.Assembled.{has_config}
 use Rattle.ddf_group.specs.Shown.{shown_of}
 use Rattle.ddf_group.specs.Slots.{slot_at}
 use Rattle.ddf_rewrite.proofs.Lists.{all_at}
-use Rattle.ddf_assembly.specs.Group.{GroupValue}
+use Rattle.ddf_seats.specs.Group.{GroupValue}
 use Rattle.ddf_assembly.specs.Reading.{AreNewest}
 
 -- ---- slots that rise

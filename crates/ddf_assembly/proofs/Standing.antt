@@ -4,7 +4,7 @@ use Rattle.std.specs.Prelude.{IfSome}
 use Rattle.ddf_bay.specs.State.{BayState}
 use Rattle.ddf_copy.specs.declared.newest_copy.Newest.{Newest}
 use Rattle.ddf_assembly.specs.Held.{StandUnder, StandsUnder}
-use Rattle.ddf_assembly.proofs.Lists.{get_more}
+use Rattle.ddf_seats.proofs.Lists.{get_more}
 
 -- what a slot's newest copy stands under at a later read is so at the first one
 pub stands_on : {D : Type 0} (old now : BayState D) (slot : ℕ) (one : Option Newest) → now.sizes ≡ old.sizes → now.held ≡ old.held → IfSome one (StandsUnder now slot) → IfSome one (StandsUnder old slot)

@@ -7,11 +7,11 @@ use Rattle.ddf_config.specs.Members.{is_current}
 use Rattle.ddf_view.specs.Reading.{read}
 use Rattle.ddf_view.specs.Shows.{shows}
 use Rattle.ddf_view.specs.View.{lists_itself, view_of}
-use Rattle.ddf_assembly.specs.declared.seated.Seated.{Seated}
-use Rattle.ddf_assembly.specs.Group.{GroupValue}
-use Rattle.ddf_assembly.specs.Recovery.{lags, leading_disks, leading_views, some}
-use Rattle.ddf_assembly.specs.Seated.{seated, seats_in}
-use Rattle.ddf_assembly.specs.Trying.{AreCopies, SlotsRise}
+use Rattle.ddf_seats.specs.declared.seated.Seated.{Seated}
+use Rattle.ddf_seats.specs.Group.{GroupValue}
+use Rattle.ddf_seats.specs.Leading.{lags, leading_disks, leading_views, some}
+use Rattle.ddf_seats.specs.Seated.{seated, seats_in}
+use Rattle.ddf_seats.specs.Changing.{AreCopies, SlotsRise}
 
 -- The slot of a disk has its copy in both places, level, and this shows the configuration that the group is at.
 pub record IsAsGroup (group : GroupValue) (disk : Seated) : Type 0 where

@@ -4,10 +4,10 @@ use Rattle.std.specs.List.{AllByRecursion}
 use Rattle.ddf_copy.specs.declared.newest_copy.Newest.TheVariants.{Level}
 use Rattle.ddf_view.specs.Shows.{shows}
 use Rattle.ddf_view.specs.View.{view_of}
-use Rattle.ddf_assembly.specs.declared.seated.Seated.{Seated}
-use Rattle.ddf_assembly.specs.Group.{GroupValue}
-use Rattle.ddf_assembly.specs.Seated.{seated, seats_in}
-use Rattle.ddf_assembly.specs.Trying.{CanBeChanged, SlotsRise}
+use Rattle.ddf_seats.specs.declared.seated.Seated.{Seated}
+use Rattle.ddf_seats.specs.Group.{GroupValue}
+use Rattle.ddf_seats.specs.Seated.{seated, seats_in}
+use Rattle.ddf_seats.specs.Changing.{CanBeChanged, SlotsRise}
 
 -- The slot of a disk has its copy in both places, level, and this shows the configuration that the group is at, so it is of its sequence number.
 pub record IsLevelIn (group : GroupValue) (disk : Seated) : Type 0 where

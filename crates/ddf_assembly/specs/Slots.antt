@@ -10,7 +10,8 @@ use Rattle.ddf_group.specs.declared.answer.Assembly.{Assembly}
 use Rattle.ddf_group.specs.declared.answer.Assembly.TheVariants.{Memory}
 use Rattle.ddf_assembly.specs.declared.assembling.AssembledGroup.{AssembledGroup}
 use Rattle.ddf_assembly.specs.declared.reading.SlotRead.{SlotRead}
-use Rattle.ddf_assembly.specs.Group.{GroupValue, UpToMemory, group_of}
+use Rattle.ddf_seats.specs.Group.{GroupValue}
+use Rattle.ddf_assembly.specs.Group.{UpToMemory, group_of}
 
 -- the newest copy of a slot, and none where it is left out
 abbrev pub newest_or : {D : Type 0} → BayState D → (slot : ℕ) → (out : Bool) → Option Newest

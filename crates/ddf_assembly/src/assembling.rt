@@ -11,18 +11,18 @@ ghost use Rattle.ddf_assembly.specs.Settled.{IsSettledGroup};
 ghost use Rattle.ddf_assembly.specs.Slots.{IsAssembled, IsAssembledLeavingOut, LeaveNone, first_left_out};
 ghost use Rattle.ddf_assembly.specs.Held.{StandUnder};
 
-use crate::Group;
+use crate::group::Group;
 use crate::reading::read_slots;
-use crate::seats::seats_of;
 use ddf_bay::Bay;
 use ddf_bytes::{Guid, NoMemory, Seq};
 use ddf_config::Seat;
 use ddf_copy::Newest;
 use ddf_group::{Assembled, Assembly, Shown, assembled, shown_of};
+use ddf_seats::seats_of;
 use std::alloc::Global;
 
 /// What slots with these newest copies show.
-pub(crate) fn shown(alloc: Global, newest: &[Option<Newest>]) -> Result<Vec<Shown<'_>>, NoMemory>
+pub fn shown(alloc: Global, newest: &[Option<Newest>]) -> Result<Vec<Shown<'_>>, NoMemory>
     ensures { IfOk result (λ shown. shown.items ≡ map shown_of newest.now) }
 {
     let mut all = Vec::with_capacity(alloc, newest.len())?;

@@ -29,5 +29,14 @@ pub fn run_line<B: Bay, K: Sink>(
     ensures ends { Ends (traits_of asked.command) (work_of B.tells (B.disks bay.old) (B.disks bay.new)) (answer_of K.tells (K.output sink.old) (K.output sink.new) result) }
 {
     let mut source = MemorySource::new(Vec::new(alloc), Vec::new(alloc));
-    obey(alloc, asked.group, asked.command, bay, &mut source, sink, stamp).code()
+    obey(
+        alloc,
+        asked.group,
+        asked.command,
+        bay,
+        &mut source,
+        sink,
+        stamp,
+    )
+    .code()
 }

@@ -11,8 +11,9 @@ use Rattle.ddf_bay.proofs.Looks.{failed_padded, none_failed, reads_start}
 use Rattle.ddf_bay.proofs.Steps.{stops_start}
 use Rattle.ddf_update.specs.Group.{IsLeftFoundingAll}
 use Rattle.ddf_group.specs.declared.answer.Assembly.{Assembly}
-use Rattle.ddf_assembly.specs.Committed.{slots_of}
-use Rattle.ddf_assembly.specs.Group.{GroupValue, group_of}
+use Rattle.ddf_steps.specs.Committed.{slots_of}
+use Rattle.ddf_seats.specs.Group.{GroupValue}
+use Rattle.ddf_assembly.specs.Group.{group_of}
 use Rattle.ddf_assembly.specs.Slots.{IsLooked, newest_from}
 use Rattle.ddf_words.specs.declared.command.Asked.{Asked}
 use Rattle.ddf_words.specs.declared.command.Command.{Command}

@@ -5,7 +5,7 @@ use Rattle.ddf_bay.specs.State.{BayState}
 use Rattle.ddf_bay.specs.Sectors.{Image, IsLeft}
 use Rattle.ddf_config.specs.Configuration.{Configuration}
 use Rattle.ddf_view.specs.View.{View}
-use Rattle.ddf_assembly.specs.Group.{GroupValue}
+use Rattle.ddf_seats.specs.Group.{GroupValue}
 use Rattle.ddf_history.specs.Reading.{Each, Scene}
 use Rattle.ddf_history.specs.Issued.{Past}
 use Rattle.ddf_history.specs.Groups.{groups}

@@ -2,7 +2,7 @@
 use Rattle.std.proofs.Common.{◌≡◌, ℕ, ◌<◌, ◌≤◌, Bool, true, false, List, length, refl, sym, ap, ◌∙◌, arith}
 use Rattle.ddf_bay.specs.State.{BayState}
 use Rattle.ddf_bay.specs.Sectors.{IsLeft}
-use Rattle.ddf_assembly.specs.Group.{GroupValue}
+use Rattle.ddf_seats.specs.Group.{GroupValue}
 use Rattle.ddf_history.specs.Groups.{groups, has_current}
 use Rattle.ddf_history.specs.History.{Moment}
 use Rattle.ddf_history.specs.Scenes.{scene_of}

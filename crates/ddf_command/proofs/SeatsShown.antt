@@ -15,11 +15,12 @@ use Rattle.ddf_history.specs.Reading.{Shown, IsCopyOf}
 use Rattle.ddf_history.specs.Reading.Shown.{Nothing}
 use Rattle.ddf_history.specs.Scenes.{scene_of, told_of}
 use Rattle.ddf_history.proofs.Since.{some_is}
-use Rattle.ddf_assembly.specs.declared.seated.Seated.{Seated}
-use Rattle.ddf_assembly.specs.Group.{GroupValue, group_of}
-use Rattle.ddf_assembly.specs.Seated.{seated}
+use Rattle.ddf_seats.specs.declared.seated.Seated.{Seated}
+use Rattle.ddf_seats.specs.Group.{GroupValue}
+use Rattle.ddf_assembly.specs.Group.{group_of}
+use Rattle.ddf_seats.specs.Seated.{seated}
 use Rattle.ddf_assembly.specs.Slots.{newest_from}
-use Rattle.ddf_assembly.proofs.CommittedSeats.{seated_is}
+use Rattle.ddf_seats.proofs.CommittedSeats.{seated_is}
 use Rattle.ddf_history_steps.specs.Kept.{is_read}
 use Rattle.ddf_history_steps.proofs.Begun.{found_of}
 use Rattle.ddf_history_steps.proofs.Told.{scene_told}

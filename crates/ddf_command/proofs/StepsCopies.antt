@@ -11,14 +11,15 @@ use Rattle.ddf_rewrite.specs.Before.{Before, before}
 use Rattle.ddf_rewrite.specs.Copies.{changed_copy, recovered_copy}
 use Rattle.ddf_rewrite.proofs.Lists.{map_get}
 use Rattle.ddf_history.specs.Groups.{disk_of}
-use Rattle.ddf_assembly.specs.declared.seated.Seated.{Seated}
-use Rattle.ddf_assembly.specs.Group.{GroupValue}
-use Rattle.ddf_assembly.specs.Ready.{readied}
-use Rattle.ddf_assembly.specs.Recovery.{config_lost, config_recovered, disks_recovered, lags, leading, lost_step, mended, mended_copy, mended_or_kept, mending_step, recovery_of, some}
-use Rattle.ddf_assembly.specs.Seated.{seated, views_in}
-use Rattle.ddf_assembly.specs.Steps.{Step, config_after, disks_after, levelled, rewritten, stays_in, step_of}
-use Rattle.ddf_assembly.proofs.CommittedReadied.{filter_get}
-use Rattle.ddf_assembly.proofs.Rewritten.{closed_view}
+use Rattle.ddf_seats.specs.declared.seated.Seated.{Seated}
+use Rattle.ddf_seats.specs.Group.{GroupValue}
+use Rattle.ddf_recovery.specs.Ready.{readied}
+use Rattle.ddf_recovery.specs.Recovery.{config_lost, config_recovered, disks_recovered, lost_step, mended, mended_copy, mended_or_kept, mending_step, recovery_of}
+use Rattle.ddf_seats.specs.Leading.{lags, leading, some}
+use Rattle.ddf_seats.specs.Seated.{seated, views_in, levelled}
+use Rattle.ddf_steps.specs.Steps.{Step, config_after, disks_after, rewritten, stays_in, step_of}
+use Rattle.ddf_seats.proofs.Lists.{filter_get}
+use Rattle.ddf_steps.proofs.Rewritten.{closed_view}
 use Rattle.ddf_history_steps.proofs.StepMembers.{mended_names, rewritten_names}
 use Rattle.ddf_group_commands.specs.Writing.{IsWrittenOn}
 use Rattle.ddf_history_steps.proofs.AllSteps.{AllSteps, readied_all}

@@ -4,13 +4,14 @@ use Rattle.ddf_config.specs.Configuration.{Configuration}
 use Rattle.ddf_plan.specs.declared.change.Change.{Change}
 use Rattle.ddf_rewrite.specs.Before.{before}
 use Rattle.ddf_rewrite.proofs.Lists.{map_get}
-use Rattle.ddf_assembly.specs.declared.seated.Seated.{Seated}
-use Rattle.ddf_assembly.specs.Group.{GroupValue}
-use Rattle.ddf_assembly.specs.Ready.{readied}
-use Rattle.ddf_assembly.specs.Recovery.{config_lost, config_recovered, disks_recovered, lags, leading, loss, lost_step, mended, mended_or_kept, mending_step, recovery_of, some}
-use Rattle.ddf_assembly.specs.Seated.{seated, views_in}
-use Rattle.ddf_assembly.specs.Steps.{Step, levelled}
-use Rattle.ddf_assembly.proofs.CommittedReadied.{filter_get}
+use Rattle.ddf_seats.specs.declared.seated.Seated.{Seated}
+use Rattle.ddf_seats.specs.Group.{GroupValue}
+use Rattle.ddf_recovery.specs.Ready.{readied}
+use Rattle.ddf_recovery.specs.Recovery.{config_lost, config_recovered, disks_recovered, loss, lost_step, mended, mended_or_kept, mending_step, recovery_of}
+use Rattle.ddf_seats.specs.Leading.{lags, leading, some}
+use Rattle.ddf_seats.specs.Seated.{seated, views_in, levelled}
+use Rattle.ddf_steps.specs.Steps.{Step}
+use Rattle.ddf_seats.proofs.Lists.{filter_get}
 use Rattle.ddf_history_steps.specs.AtEnd.{IsMember}
 use Rattle.ddf_history_steps.proofs.StepMembers.{AreMembers, after_members, levelled_member, mended_member}
 use Rattle.ddf_history_steps.proofs.AllSteps.{AllSteps, readied_all}

@@ -9,7 +9,8 @@ use Rattle.ddf_config.specs.Configuration.{Configuration}
 use Rattle.ddf_update.specs.Group.{IsLeftFoundingAll}
 use Rattle.ddf_update.specs.NewCopies.{group_of}
 use Rattle.ddf_history.specs.Scenes.{scene_of}
-use Rattle.ddf_assembly.specs.Group.{GroupValue, group_of as group_in}
+use Rattle.ddf_seats.specs.Group.{GroupValue}
+use Rattle.ddf_assembly.specs.Group.{group_of as group_in}
 use Rattle.ddf_assembly.specs.Slots.{newest_from}
 use Rattle.ddf_history_steps.specs.Founding.{AreFounded, AreNamesNew}
 use Rattle.ddf_disk_commands.specs.Label.{label_copy, label_slots}

@@ -5,9 +5,10 @@ use Rattle.ddf_bay.specs.State.{BayState}
 use Rattle.ddf_bay.specs.Sectors.{Image, IsLeft}
 use Rattle.ddf_config.specs.Configuration.{Configuration}
 use Rattle.ddf_view.specs.View.{View}
-use Rattle.ddf_assembly.specs.Group.{GroupValue, group_of}
-use Rattle.ddf_assembly.specs.Joining.{Joining}
-use Rattle.ddf_assembly.specs.Steps.{Step}
+use Rattle.ddf_seats.specs.Group.{GroupValue}
+use Rattle.ddf_assembly.specs.Group.{group_of}
+use Rattle.ddf_joining.specs.Joining.{Joining}
+use Rattle.ddf_steps.specs.Steps.{Step}
 use Rattle.ddf_history.specs.Reading.{Scene}
 use Rattle.ddf_history.specs.Issued.{Past}
 use Rattle.ddf_history.specs.Calls.{IsAside}
@@ -17,7 +18,7 @@ use Rattle.ddf_history.specs.Scenes.{scene_of}
 use Rattle.ddf_history.specs.History.{Moment}
 use Rattle.ddf_history_steps.specs.Kept.{AreAllKept, is_read, is_slot}
 use Rattle.ddf_history_steps.specs.Going.{Goes, IsAdmitted, KeepsHistory, changes_in}
-use Rattle.ddf_history_steps.specs.Joins.{AdmitsCall}
+use Rattle.ddf_history_joins.specs.Joins.{AdmitsCall}
 use Rattle.ddf_history_steps.specs.Steps.{recovery_changes}
 use Rattle.ddf_answer.specs.Call.{work_of}
 use Rattle.ddf_answer.specs.declared.failure.Failure.{Failure}

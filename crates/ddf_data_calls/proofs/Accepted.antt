@@ -29,10 +29,10 @@ use Rattle.ddf_read.specs.declared.fault.VolumeFault.TheVariants as volumes
 use Rattle.ddf_cells.specs.Degraded.{is_degraded}
 use Rattle.ddf_resync.specs.Resyncing.{resync_refusal}
 use Rattle.ddf_data_array.specs.Changing.{IsWritable}
-use Rattle.ddf_assembly.specs.Group.{GroupValue}
-use Rattle.ddf_assembly.specs.Ready.{readied}
-use Rattle.ddf_assembly.specs.Recovery.{config_recovered}
-use Rattle.ddf_assembly.specs.Steps.{Step}
+use Rattle.ddf_seats.specs.Group.{GroupValue}
+use Rattle.ddf_recovery.specs.Ready.{readied}
+use Rattle.ddf_recovery.specs.Recovery.{config_recovered}
+use Rattle.ddf_steps.specs.Steps.{Step}
 use Rattle.ddf_answer.specs.declared.failure.Failure.{Failure}
 use Rattle.ddf_group_commands.specs.Change.{steps_asked}
 use Rattle.ddf_group_commands.proofs.Outcomes.{asked_of as readied_of}

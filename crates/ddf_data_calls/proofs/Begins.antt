@@ -20,10 +20,10 @@ use Rattle.ddf_data_group.proofs.Entries.{current_same}
 use Rattle.ddf_data_group.proofs.Firsts.{first_again, first_begun, first_fresh}
 use Rattle.ddf_data_group.proofs.Vacant.{asks_for}
 use Rattle.ddf_history.specs.Groups.{Disk, has_current}
-use Rattle.ddf_assembly.specs.Group.{GroupValue}
-use Rattle.ddf_assembly.specs.Ready.{readied}
-use Rattle.ddf_assembly.specs.Recovery.{config_recovered}
-use Rattle.ddf_assembly.specs.Steps.{config_after}
+use Rattle.ddf_seats.specs.Group.{GroupValue}
+use Rattle.ddf_recovery.specs.Ready.{readied}
+use Rattle.ddf_recovery.specs.Recovery.{config_recovered}
+use Rattle.ddf_steps.specs.Steps.{config_after}
 use Rattle.ddf_data_calls.specs.Calls.{MayAsk}
 use Rattle.ddf_read_commands.proofs.ArrayUse.{named_is}
 use Rattle.ddf_rebuild_command.specs.Asked.{changes_behind}

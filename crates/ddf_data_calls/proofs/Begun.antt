@@ -27,14 +27,15 @@ use Rattle.ddf_rewrite.proofs.Lists.{some_same}
 use Rattle.ddf_history.specs.Groups.{groups}
 use Rattle.ddf_history.specs.Issued.{IsSince, Past}
 use Rattle.ddf_history.proofs.Lists.{get_within}
-use Rattle.ddf_assembly.specs.declared.seated.Seated.{Seated}
-use Rattle.ddf_assembly.specs.Group.{GroupValue}
-use Rattle.ddf_assembly.specs.Ready.{readied}
-use Rattle.ddf_assembly.specs.Recovery.{config_lost, config_recovered, disks_recovered, some}
-use Rattle.ddf_assembly.specs.Refusing.{most_members, room_if_step, step_refusal}
-use Rattle.ddf_assembly.specs.Seated.{seats_in as disk_seats}
-use Rattle.ddf_assembly.specs.Steps.{Step, config_after, raised}
-use Rattle.ddf_assembly.proofs.ReadiedSteps.{are_tried, behind}
+use Rattle.ddf_seats.specs.declared.seated.Seated.{Seated}
+use Rattle.ddf_seats.specs.Group.{GroupValue}
+use Rattle.ddf_recovery.specs.Ready.{readied}
+use Rattle.ddf_recovery.specs.Recovery.{config_lost, config_recovered, disks_recovered}
+use Rattle.ddf_seats.specs.Leading.{some}
+use Rattle.ddf_steps.specs.Refusing.{most_members, room_if_step, step_refusal}
+use Rattle.ddf_seats.specs.Seated.{seats_in as disk_seats}
+use Rattle.ddf_steps.specs.Steps.{Step, config_after, raised}
+use Rattle.ddf_recovery.proofs.ReadiedSteps.{are_tried, behind}
 use Rattle.ddf_history_steps.specs.Going.{IsOver as IsDone, changes_in}
 use Rattle.ddf_history_steps.proofs.LastIssued.{over_last, over_length}
 use Rattle.ddf_data_history.specs.Promised.{KeepsData, seats_in, with_promise}

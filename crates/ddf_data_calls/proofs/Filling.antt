@@ -33,12 +33,12 @@ use Rattle.ddf_data_group.proofs.Firsts.{first_over}
 use Rattle.ddf_data_group.proofs.Readied.{none_absent}
 use Rattle.ddf_history.specs.Groups.{Disk, groups, has_current}
 use Rattle.ddf_history.specs.Issued.{IsSince, Past, acknowledge, issue}
-use Rattle.ddf_assembly.specs.declared.seated.Seated.{Seated}
-use Rattle.ddf_assembly.specs.Committed.{slots_of}
-use Rattle.ddf_assembly.specs.Group.{GroupValue}
-use Rattle.ddf_assembly.specs.Recovery.{config_recovered}
-use Rattle.ddf_assembly.specs.Seated.{seated}
-use Rattle.ddf_assembly.specs.Steps.{Step}
+use Rattle.ddf_seats.specs.declared.seated.Seated.{Seated}
+use Rattle.ddf_steps.specs.Committed.{slots_of}
+use Rattle.ddf_seats.specs.Group.{GroupValue}
+use Rattle.ddf_recovery.specs.Recovery.{config_recovered}
+use Rattle.ddf_seats.specs.Seated.{seated}
+use Rattle.ddf_steps.specs.Steps.{Step}
 use Rattle.ddf_history_steps.specs.Going.{Goes, IsOver, begun, changes_in, issue_all}
 use Rattle.ddf_history_steps.specs.Kept.{is_read, is_slot}
 use Rattle.ddf_data_history.specs.Promised.{IsAlone, KeepsData, seats_in}

@@ -6,11 +6,12 @@ use Rattle.ddf_config.specs.Configuration.{Configuration}
 use Rattle.ddf_plan.specs.declared.change.Change.{Change}
 use Rattle.ddf_history.specs.Groups.{groups}
 use Rattle.ddf_history.specs.Issued.{Past, acknowledge, issue}
-use Rattle.ddf_assembly.specs.Group.{GroupValue}
-use Rattle.ddf_assembly.specs.Ready.{readied}
-use Rattle.ddf_assembly.specs.Recovery.{config_lost, some}
-use Rattle.ddf_assembly.specs.Steps.{Step}
-use Rattle.ddf_assembly.proofs.ReadiedSteps.{behind}
+use Rattle.ddf_seats.specs.Group.{GroupValue}
+use Rattle.ddf_recovery.specs.Ready.{readied}
+use Rattle.ddf_recovery.specs.Recovery.{config_lost}
+use Rattle.ddf_seats.specs.Leading.{some}
+use Rattle.ddf_steps.specs.Steps.{Step}
+use Rattle.ddf_recovery.proofs.ReadiedSteps.{behind}
 use Rattle.ddf_history_steps.specs.Going.{Goes, IsOver, begun, changes_in, issue_all}
 use Rattle.ddf_data_calls.proofs.Steps.{configs, issued_are}
 

@@ -14,8 +14,8 @@ use Rattle.ddf_history.specs.Issued.{IsSince, Past, acknowledge, issue, leave_ou
 use Rattle.ddf_history.proofs.Following.{changes_follow}
 use Rattle.ddf_history.proofs.Lists.{get_more, get_taken, taken_get}
 use Rattle.ddf_history.proofs.Sound.{groups_are_sound}
-use Rattle.ddf_assembly.specs.Group.{GroupValue}
-use Rattle.ddf_assembly.specs.Recovery.{some}
+use Rattle.ddf_seats.specs.Group.{GroupValue}
+use Rattle.ddf_seats.specs.Leading.{some}
 use Rattle.ddf_history_steps.specs.Going.{Ends, begun, issue_all}
 use Rattle.ddf_data_history.specs.Promised.{AreAlone, KeepsData, is_seat, seats_in}
 use Rattle.ddf_data_history.proofs.Seats.{are_fewer}

@@ -27,8 +27,10 @@ use Rattle.ddf_data_group.proofs.Lost.{is_less}
 use Rattle.ddf_data_group.proofs.Named.{marked_less}
 use Rattle.ddf_history.specs.Groups.{groups}
 use Rattle.ddf_history.specs.Issued.{Past}
-use Rattle.ddf_assembly.specs.Group.{GroupValue, group_of}
-use Rattle.ddf_assembly.specs.Recovery.{config_lost, config_recovered, some}
+use Rattle.ddf_seats.specs.Group.{GroupValue}
+use Rattle.ddf_assembly.specs.Group.{group_of}
+use Rattle.ddf_recovery.specs.Recovery.{config_lost, config_recovered}
+use Rattle.ddf_seats.specs.Leading.{some}
 use Rattle.ddf_assembly.specs.Slots.{newest_from}
 use Rattle.ddf_history_steps.specs.Going.{IsAdmitted}
 use Rattle.ddf_history_steps.specs.Kept.{is_read}

@@ -6,10 +6,11 @@ use Rattle.ddf_config.specs.Configuration.{Configuration}
 use Rattle.ddf_plan.specs.declared.change.Change.TheVariants.{Finish, Progress}
 use Rattle.ddf_history.specs.Groups.{Disk, has_current}
 use Rattle.ddf_repair.specs.declared.first.Target.{Target}
-use Rattle.ddf_assembly.specs.declared.seated.Seated.{Seated}
-use Rattle.ddf_assembly.specs.Group.{GroupValue}
-use Rattle.ddf_assembly.specs.Ready.{steps_from}
-use Rattle.ddf_assembly.specs.Steps.{Step, levelled, raised, step_of}
+use Rattle.ddf_seats.specs.declared.seated.Seated.{Seated}
+use Rattle.ddf_seats.specs.Group.{GroupValue}
+use Rattle.ddf_steps.specs.Ready.{steps_from}
+use Rattle.ddf_steps.specs.Steps.{Step, raised, step_of}
+use Rattle.ddf_seats.specs.Seated.{levelled}
 use Rattle.ddf_history_steps.specs.Going.{changes_in}
 use Rattle.ddf_data_calls.proofs.Steps.{configs}
 use Rattle.ddf_rebuild_command.specs.Filled.{RiseTo}

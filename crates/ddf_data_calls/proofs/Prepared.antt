@@ -26,10 +26,11 @@ use Rattle.ddf_data_group.proofs.Clearly.{IsUsed, used}
 use Rattle.ddf_data_group.proofs.Marked.{no_rows_left, none_were}
 use Rattle.ddf_history.specs.Groups.{groups}
 use Rattle.ddf_history.specs.Issued.{Past, acknowledge}
-use Rattle.ddf_assembly.specs.Group.{GroupValue}
-use Rattle.ddf_assembly.specs.Ready.{readied}
-use Rattle.ddf_assembly.specs.Recovery.{config_lost, config_recovered, loss, some}
-use Rattle.ddf_assembly.specs.Steps.{config_after, raised}
+use Rattle.ddf_seats.specs.Group.{GroupValue}
+use Rattle.ddf_recovery.specs.Ready.{readied}
+use Rattle.ddf_recovery.specs.Recovery.{config_lost, config_recovered, loss}
+use Rattle.ddf_seats.specs.Leading.{some}
+use Rattle.ddf_steps.specs.Steps.{config_after, raised}
 use Rattle.ddf_history_steps.specs.Going.{IsOver, begun, issue_all}
 use Rattle.ddf_history_steps.specs.Kept.{is_read}
 use Rattle.ddf_data_history.specs.Promised.{seats_in}

@@ -22,9 +22,10 @@ use Rattle.ddf_data_group.proofs.Entries.{guid_is}
 use Rattle.ddf_rewrite.proofs.Lists.{map_get}
 use Rattle.ddf_history.specs.Groups.{groups}
 use Rattle.ddf_history.specs.Issued.{Past}
-use Rattle.ddf_assembly.specs.Committed.{AreSettled, slots_of}
-use Rattle.ddf_assembly.specs.Group.{GroupValue, group_of}
-use Rattle.ddf_assembly.specs.Recovery.{config_recovered}
+use Rattle.ddf_steps.specs.Committed.{AreSettled, slots_of}
+use Rattle.ddf_seats.specs.Group.{GroupValue}
+use Rattle.ddf_assembly.specs.Group.{group_of}
+use Rattle.ddf_recovery.specs.Recovery.{config_recovered}
 use Rattle.ddf_history_steps.specs.Going.{Ends, Goes, changes_in}
 use Rattle.ddf_history_steps.specs.Kept.{is_read}
 use Rattle.ddf_history_steps.proofs.Slots.{slot_placed}
@@ -53,7 +54,7 @@ use Rattle.ddf_data_calls.proofs.Staged as staged
 use Rattle.ddf_data_calls.proofs.Staged.{IsCarried}
 use Rattle.ddf_read_commands.proofs.ArrayUse.{named_is}
 use Rattle.ddf_bay.specs.Moments.{StopsLeave}
-use Rattle.ddf_assembly.specs.Ready.{readied}
+use Rattle.ddf_recovery.specs.Ready.{readied}
 use Rattle.ddf_data_calls.specs.Floors.{AllHaveFloors, HaveFloorsIn}
 use Rattle.ddf_data_calls.proofs.Floored.{floors_along}
 

@@ -26,12 +26,13 @@ use Rattle.ddf_history.proofs.AnsweredLists.{map_some}
 use Rattle.ddf_history.proofs.Calls.{seen_copy, seen_read}
 use Rattle.ddf_history.proofs.Since.{first_is_copy}
 use Rattle.ddf_history.proofs.Sound.{groups_are_sound}
-use Rattle.ddf_assembly.specs.declared.seated.Seated.{Seated}
-use Rattle.ddf_assembly.specs.Group.{GroupValue, copy_at, floor_of as copy_floor, group_as, group_of, seat_at, seat_of}
-use Rattle.ddf_assembly.specs.Recovery.{trusted_seats}
-use Rattle.ddf_assembly.specs.Seated.{seated}
-use Rattle.ddf_assembly.proofs.CommittedSeats.{seated_is}
-use Rattle.ddf_assembly.proofs.Trusted.{trusted_there}
+use Rattle.ddf_seats.specs.declared.seated.Seated.{Seated}
+use Rattle.ddf_seats.specs.Group.{GroupValue, copy_at, floor_of as copy_floor, seat_at, seat_of}
+use Rattle.ddf_assembly.specs.Group.{group_as, group_of}
+use Rattle.ddf_recovery.specs.Recovery.{trusted_seats}
+use Rattle.ddf_seats.specs.Seated.{seated}
+use Rattle.ddf_seats.proofs.CommittedSeats.{seated_is}
+use Rattle.ddf_recovery.proofs.Trusted.{trusted_there}
 use Rattle.ddf_assembly.specs.Slots.{newest_from, newest_or}
 use Rattle.ddf_history_steps.specs.Kept.{is_read}
 use Rattle.ddf_history_steps.proofs.Begun.{IsMadeOf, assembled_since}

@@ -11,13 +11,16 @@ use Rattle.ddf_plan.specs.Same.{is_step}
 use Rattle.ddf_data_group.specs.Grouped.{Promises}
 use Rattle.ddf_history.specs.Groups.{groups}
 use Rattle.ddf_history.specs.Issued.{IsSince, Past}
-use Rattle.ddf_assembly.specs.declared.seated.Seated.{Seated}
-use Rattle.ddf_assembly.specs.Group.{GroupValue}
-use Rattle.ddf_assembly.specs.Ready.{readied, steps_from, with_step}
-use Rattle.ddf_assembly.specs.Recovery.{config_lost, config_recovered, disks_recovered, lost_step, mending_step, recovery_of, some}
-use Rattle.ddf_assembly.specs.Refusing.{step_refusal}
-use Rattle.ddf_assembly.specs.Steps.{Step, config_after, levelled, step_of}
-use Rattle.ddf_assembly.proofs.ReadiedSteps.{are_tried, behind, steps_are}
+use Rattle.ddf_seats.specs.declared.seated.Seated.{Seated}
+use Rattle.ddf_seats.specs.Group.{GroupValue}
+use Rattle.ddf_recovery.specs.Ready.{readied}
+use Rattle.ddf_steps.specs.Ready.{steps_from, with_step}
+use Rattle.ddf_recovery.specs.Recovery.{config_lost, config_recovered, disks_recovered, lost_step, mending_step, recovery_of}
+use Rattle.ddf_seats.specs.Leading.{some}
+use Rattle.ddf_steps.specs.Refusing.{step_refusal}
+use Rattle.ddf_steps.specs.Steps.{Step, config_after, step_of}
+use Rattle.ddf_seats.specs.Seated.{levelled}
+use Rattle.ddf_recovery.proofs.ReadiedSteps.{are_tried, behind, steps_are}
 use Rattle.ddf_history_steps.specs.Going.{IsOver, changes_in}
 use Rattle.ddf_history_steps.proofs.LastIssued.{over_last}
 use Rattle.ddf_write_commands.specs.Around.{config_behind}

@@ -20,8 +20,10 @@ use Rattle.ddf_data_group.proofs.Entries.{current_same}
 use Rattle.ddf_history.specs.Groups.{Disk, groups, has_current}
 use Rattle.ddf_history.specs.Issued.{IsSince, Past, issue, leave_out, take_off}
 use Rattle.ddf_history.proofs.Following.{changes_follow}
-use Rattle.ddf_assembly.specs.Group.{GroupValue, group_of}
-use Rattle.ddf_assembly.specs.Recovery.{config_lost, config_recovered, some}
+use Rattle.ddf_seats.specs.Group.{GroupValue}
+use Rattle.ddf_assembly.specs.Group.{group_of}
+use Rattle.ddf_recovery.specs.Recovery.{config_lost, config_recovered}
+use Rattle.ddf_seats.specs.Leading.{some}
 use Rattle.ddf_assembly.specs.Slots.{newest_from}
 use Rattle.ddf_history_steps.specs.Going.{IsAdmitted, IsOver, begun, issue_all}
 use Rattle.ddf_history_steps.specs.Kept.{is_read}

@@ -19,16 +19,18 @@ use Rattle.ddf_view.specs.View.{view_of}
 use Rattle.ddf_rewrite.specs.Before.{Before, before}
 use Rattle.ddf_rewrite.specs.Copies.{changed_copy, recovered_copy}
 use Rattle.ddf_rewrite.proofs.Lists.{map_get}
-use Rattle.ddf_assembly.specs.declared.seated.Seated.{Seated}
-use Rattle.ddf_assembly.specs.Group.{GroupValue, floor_of}
-use Rattle.ddf_assembly.specs.Ready.{AreNumbered, readied, steps_from, with_step}
-use Rattle.ddf_assembly.specs.Recovery.{config_lost, config_recovered, disks_recovered, lags, leading, loss, lost_step, mended, mended_copy, mended_or_kept, mending_step, recovery_of, some}
-use Rattle.ddf_assembly.specs.Refusing.{step_refusal}
-use Rattle.ddf_assembly.specs.Seated.{seated, views_in}
-use Rattle.ddf_assembly.specs.Steps.{Step, config_after, disks_after, levelled, raised, rewritten, stays_in, step_of}
-use Rattle.ddf_assembly.proofs.CommittedReadied.{filter_get}
-use Rattle.ddf_assembly.proofs.Numbered.{steps_numbered}
-use Rattle.ddf_assembly.proofs.ReadiedSteps.{are_tried, behind, loss_rises, none_spent, steps_are}
+use Rattle.ddf_seats.specs.declared.seated.Seated.{Seated}
+use Rattle.ddf_seats.specs.Group.{GroupValue, floor_of}
+use Rattle.ddf_steps.specs.Ready.{AreNumbered, steps_from, with_step}
+use Rattle.ddf_recovery.specs.Ready.{readied}
+use Rattle.ddf_recovery.specs.Recovery.{config_lost, config_recovered, disks_recovered, loss, lost_step, mended, mended_copy, mended_or_kept, mending_step, recovery_of}
+use Rattle.ddf_seats.specs.Leading.{lags, leading, some}
+use Rattle.ddf_steps.specs.Refusing.{step_refusal}
+use Rattle.ddf_seats.specs.Seated.{seated, views_in, levelled}
+use Rattle.ddf_steps.specs.Steps.{Step, config_after, disks_after, raised, rewritten, stays_in, step_of}
+use Rattle.ddf_seats.proofs.Lists.{filter_get}
+use Rattle.ddf_recovery.proofs.Numbered.{steps_numbered}
+use Rattle.ddf_recovery.proofs.ReadiedSteps.{are_tried, behind, loss_rises, none_spent, steps_are}
 use Rattle.ddf_history_steps.specs.Going.{changes_in}
 use Rattle.ddf_data_calls.specs.Calls.{AreMade, MayAsk}
 

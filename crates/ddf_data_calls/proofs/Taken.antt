@@ -18,8 +18,9 @@ use Rattle.ddf_history.specs.Issued.{Past}
 use Rattle.ddf_history.specs.Promise.{IsKept}
 use Rattle.ddf_history.specs.Scenes.{scene_of}
 use Rattle.ddf_group.specs.declared.answer.Assembly.{Assembly}
-use Rattle.ddf_assembly.specs.Group.{GroupValue, group_of}
-use Rattle.ddf_assembly.specs.Recovery.{config_recovered}
+use Rattle.ddf_seats.specs.Group.{GroupValue}
+use Rattle.ddf_assembly.specs.Group.{group_of}
+use Rattle.ddf_recovery.specs.Recovery.{config_recovered}
 use Rattle.ddf_history_steps.specs.Going.{Ends, Goes, changes_in}
 use Rattle.ddf_history_steps.specs.Kept.{AreAllKept, is_read}
 use Rattle.ddf_data_history.specs.Carried.{IsAllData, Stays}
@@ -46,7 +47,7 @@ use Rattle.ddf_data_calls.proofs.Staged.{IsCarried}
 use Rattle.ddf_data_calls.proofs.WriteSound.{behind_redundant}
 use Rattle.ddf_read_commands.proofs.ArrayUse.{named_is}
 use Rattle.ddf_bay.specs.Moments.{StopsLeave}
-use Rattle.ddf_assembly.specs.Ready.{readied}
+use Rattle.ddf_recovery.specs.Ready.{readied}
 use Rattle.ddf_data_calls.specs.Floors.{AllHaveFloors, HaveFloorsIn}
 use Rattle.ddf_data_calls.proofs.Floored.{floors_along}
 

@@ -15,15 +15,17 @@ use Rattle.ddf_update.specs.Update.{IsWritten as IsUpdateSector}
 use Rattle.ddf_rewrite.specs.Before.{before}
 use Rattle.ddf_history.specs.Groups.{groups}
 use Rattle.ddf_history.specs.Issued.{Past}
-use Rattle.ddf_assembly.specs.declared.seated.Seated.{Seated}
-use Rattle.ddf_assembly.specs.Group.{GroupValue, floor_of, group_of}
-use Rattle.ddf_assembly.specs.Ready.{readied, steps_from, with_step}
-use Rattle.ddf_assembly.specs.Recovery.{config_recovered, disks_recovered, recovery_of}
-use Rattle.ddf_assembly.specs.Refusing.{step_refusal}
-use Rattle.ddf_assembly.specs.Seated.{seated, views_in}
+use Rattle.ddf_seats.specs.declared.seated.Seated.{Seated}
+use Rattle.ddf_seats.specs.Group.{GroupValue, floor_of}
+use Rattle.ddf_assembly.specs.Group.{group_of}
+use Rattle.ddf_recovery.specs.Ready.{readied}
+use Rattle.ddf_steps.specs.Ready.{steps_from, with_step}
+use Rattle.ddf_recovery.specs.Recovery.{config_recovered, disks_recovered, recovery_of}
+use Rattle.ddf_steps.specs.Refusing.{step_refusal}
+use Rattle.ddf_seats.specs.Seated.{seated, views_in, levelled}
 use Rattle.ddf_assembly.specs.Slots.{newest_from}
-use Rattle.ddf_assembly.specs.Steps.{Step, config_after, levelled, step_of}
-use Rattle.ddf_assembly.proofs.ReadiedSteps.{are_tried, behind, steps_are}
+use Rattle.ddf_steps.specs.Steps.{Step, config_after, step_of}
+use Rattle.ddf_recovery.proofs.ReadiedSteps.{are_tried, behind, steps_are}
 use Rattle.ddf_history_steps.specs.Going.{IsAdmitted}
 use Rattle.ddf_data_disks.proofs.Records.{written_past}
 use Rattle.ddf_group_commands.specs.Writing.{IsStepsSector, IsWrittenOn}

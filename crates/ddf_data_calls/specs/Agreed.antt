@@ -5,8 +5,8 @@ use Rattle.ddf_array.specs.Viewing.{view_of}
 use Rattle.ddf_array.specs.Volume.{Volume}
 use Rattle.ddf_data_array.specs.Changing.{IsConsistentNow, with_mark}
 use Rattle.ddf_data_array.specs.Rows.{AreRowsKept}
-use Rattle.ddf_assembly.specs.Group.{GroupValue}
-use Rattle.ddf_assembly.specs.Recovery.{config_recovered}
+use Rattle.ddf_seats.specs.Group.{GroupValue}
+use Rattle.ddf_recovery.specs.Recovery.{config_recovered}
 
 -- The array of a group that a call found is consistent in what the disks hold, whichever disks are only not read, and any rows that count as rebuilt hold what they should.
 pub record DoDisksAgree (found : GroupValue) (guid : List ℕ) (held : Image) : Type 0 where

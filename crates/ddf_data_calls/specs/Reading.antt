@@ -15,7 +15,8 @@ use Rattle.ddf_history.specs.Scenes.{scene_of}
 use Rattle.ddf_history_steps.specs.Kept.{is_read}
 use Rattle.ddf_data_history.specs.Promised.{KeepsData}
 use Rattle.ddf_config.specs.declared.array.Array.{Array}
-use Rattle.ddf_assembly.specs.Group.{GroupValue, group_of}
+use Rattle.ddf_seats.specs.Group.{GroupValue}
+use Rattle.ddf_assembly.specs.Group.{group_of}
 use Rattle.ddf_request.specs.Named.{named_array}
 use Rattle.ddf_answer.specs.Call.{Answer}
 use Rattle.ddf_answer.specs.Tells.{EndedWith}

@@ -26,7 +26,7 @@ use Rattle.ddf_data_array.specs.Allowed.{Allowed, once_consistent, once_written,
 use Rattle.ddf_data_array.specs.Changing.{IsWritable}
 use Rattle.ddf_data_array.specs.Rows.{GoesOnBehind}
 use Rattle.ddf_data_array.proofs.Consistent.{whole_consistent}
-use Rattle.ddf_assembly.specs.Group.{GroupValue}
+use Rattle.ddf_seats.specs.Group.{GroupValue}
 use Rattle.ddf_history.specs.Groups.{groups}
 use Rattle.ddf_history.specs.Issued.{Past}
 use Rattle.ddf_history_steps.specs.AtEnd.{IsAtEnd}

@@ -14,10 +14,10 @@ use Rattle.ddf_view.specs.View.{view_of}
 use Rattle.ddf_rewrite.proofs.Lists.{all_at, map_get}
 use Rattle.ddf_array.specs.Apart.{AreSeats}
 use Rattle.ddf_array.proofs.Bools.{and_first, and_second}
-use Rattle.ddf_assembly.specs.declared.seated.Seated.{Seated}
-use Rattle.ddf_assembly.specs.Committed.{slots_of}
-use Rattle.ddf_assembly.specs.Group.{GroupValue}
-use Rattle.ddf_assembly.specs.Seated.{seated}
+use Rattle.ddf_seats.specs.declared.seated.Seated.{Seated}
+use Rattle.ddf_steps.specs.Committed.{slots_of}
+use Rattle.ddf_seats.specs.Group.{GroupValue}
+use Rattle.ddf_seats.specs.Seated.{seated}
 use Rattle.ddf_assembly.specs.Settled.{IsLevelIn}
 use Rattle.ddf_history.specs.Groups.{Disk, disk_of, groups, has_current}
 use Rattle.ddf_history.specs.Issued.{Past, IsSince}

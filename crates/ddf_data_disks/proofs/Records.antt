@@ -17,8 +17,8 @@ use Rattle.ddf_update.specs.Changes.{IsGetting, IsLeftChangingAll, MayChangeAll,
 use Rattle.ddf_update.specs.Prepared.{IsPrepared, writes_anchor, written_first}
 use Rattle.ddf_update.specs.Update.{IsWritten}
 use Rattle.ddf_array.specs.Sound.{AreSectors}
-use Rattle.ddf_assembly.specs.Committed.{synced}
-use Rattle.ddf_assembly.specs.Group.{floor_of}
+use Rattle.ddf_steps.specs.Committed.{synced}
+use Rattle.ddf_seats.specs.Group.{floor_of}
 use Rattle.ddf_history.specs.Groups.{groups}
 use Rattle.ddf_history.specs.Issued.{Past}
 use Rattle.ddf_history_steps.specs.Kept.{is_slot, unwritten}

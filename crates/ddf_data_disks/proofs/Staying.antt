@@ -11,8 +11,8 @@ use Rattle.ddf_copy.specs.Copies.{copy_of, newest_of}
 use Rattle.ddf_copy.specs.Whole.{IsNewestUnder}
 use Rattle.ddf_array.specs.Viewing.{view_of}
 use Rattle.ddf_array.specs.Volume.{Volume, IsVolume}
-use Rattle.ddf_assembly.specs.Committed.{HoldsGroup}
-use Rattle.ddf_assembly.specs.Group.{GroupValue}
+use Rattle.ddf_recovery.specs.Committed.{HoldsGroup}
+use Rattle.ddf_seats.specs.Group.{GroupValue}
 use Rattle.ddf_assembly.specs.Held.{IsHeldOn, StandsUnder}
 use Rattle.ddf_assembly.specs.Reading.{HaveAnchors}
 use Rattle.ddf_history.specs.Groups.{groups}

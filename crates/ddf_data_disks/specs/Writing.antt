@@ -3,7 +3,7 @@ use Rattle.std.specs.Prelude.{◌≡◌, ◌-◌, ◌≤◌, ℕ, List, Some, le
 use Rattle.ddf_bay.specs.State.{BayState, size_of}
 use Rattle.ddf_update.specs.declared.prepared.Prepared.{Prepared}
 use Rattle.ddf_update.specs.Changes.{SlotChange}
-use Rattle.ddf_assembly.specs.Group.{floor_of}
+use Rattle.ddf_seats.specs.Group.{floor_of}
 
 -- Each slot has its update, and its floor lies at or below the places and the workspace of its new copy, and at or below the last sector.
 pub record LieAtFloors {D : Type 0} (disks : BayState D) (floor : ℕ → ℕ) (slots : List ℕ) (seat : ℕ → SlotChange) (updates : List Prepared) : Type 0 where

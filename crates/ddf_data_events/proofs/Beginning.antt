@@ -27,7 +27,7 @@ use Rattle.ddf_history.specs.Issued.{Changes, IsSince, Past}
 use Rattle.ddf_history.specs.Promise.{IsKept, IsRight}
 use Rattle.ddf_history.specs.Reading.{IsCopyOf, Reading, Shown}
 use Rattle.ddf_history.specs.Scenes.{scene_of, told_of}
-use Rattle.ddf_assembly.specs.Group.{GroupValue, floor_of}
+use Rattle.ddf_seats.specs.Group.{GroupValue, floor_of}
 use Rattle.ddf_history_steps.specs.Floors.{HasFloor}
 use Rattle.ddf_history_steps.specs.Founding.{AreFounded, IsNewGroup, founding_config}
 use Rattle.ddf_history_steps.specs.Kept.{AreAllKept, is_slot}

@@ -29,7 +29,7 @@ use Rattle.ddf_data_events.specs.Moments.{KeepsAll, Moment}
 use Rattle.ddf_data_events.proofs.Bays.{AreBays, held_sectors, sectors}
 use Rattle.std.specs.Prelude.{option_to_list}
 use Rattle.ddf_bay.specs.Moments.{StopsLeave}
-use Rattle.ddf_assembly.specs.Ready.{readied}
+use Rattle.ddf_recovery.specs.Ready.{readied}
 use Rattle.ddf_write_commands.specs.Resync.{resync_behind}
 use Rattle.ddf_assembly.specs.Group.{group_of}
 use Rattle.ddf_write_commands.specs.Along.{GoesAlong}

@@ -9,9 +9,9 @@ use Rattle.ddf_bay.specs.State.{BayState}
 use Rattle.ddf_plan.specs.declared.change.Change.{Change}
 use Rattle.ddf_history.specs.Groups.{Disk, groups, has_current}
 use Rattle.ddf_history.specs.Issued.{Past}
-use Rattle.ddf_assembly.specs.Group.{GroupValue}
-use Rattle.ddf_assembly.specs.Ready.{readied}
-use Rattle.ddf_assembly.specs.Steps.{Step}
+use Rattle.ddf_seats.specs.Group.{GroupValue}
+use Rattle.ddf_recovery.specs.Ready.{readied}
+use Rattle.ddf_steps.specs.Steps.{Step}
 use Rattle.ddf_history_steps.specs.Floors.{HasFloor}
 use Rattle.ddf_history_steps.specs.Going.{Ends, changes_in}
 use Rattle.ddf_history_steps.proofs.SlotsKept.{ends_slots}

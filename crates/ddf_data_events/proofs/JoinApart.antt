@@ -23,8 +23,10 @@ use Rattle.ddf_history.specs.Scenes.{scene_of}
 use Rattle.ddf_history.proofs.Assembling.{read_as}
 use Rattle.ddf_history.proofs.Since.{same_number}
 use Rattle.ddf_history.proofs.Sound.{groups_are_sound}
-use Rattle.ddf_assembly.specs.Group.{GroupValue, group_of}
-use Rattle.ddf_assembly.specs.Recovery.{config_lost, config_recovered, loss, some}
+use Rattle.ddf_seats.specs.Group.{GroupValue}
+use Rattle.ddf_assembly.specs.Group.{group_of}
+use Rattle.ddf_recovery.specs.Recovery.{config_lost, config_recovered, loss}
+use Rattle.ddf_seats.specs.Leading.{some}
 use Rattle.ddf_assembly.specs.Slots.{newest_from}
 use Rattle.ddf_history_steps.specs.Kept.{is_read}
 use Rattle.ddf_history_steps.proofs.Begun.{assembled_kept}

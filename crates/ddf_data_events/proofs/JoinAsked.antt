@@ -8,14 +8,15 @@ use Rattle.ddf_config.specs.Refusals.{first_refusal, refuse_if}
 use Rattle.ddf_config.proofs.Firsts.{all_pass}
 use Rattle.ddf_plan.specs.Refusals.{greatest_sequence}
 use Rattle.ddf_import.specs.Clash.{join_cause}
-use Rattle.ddf_assembly.specs.declared.fault.GroupFault.{GroupFault}
-use Rattle.ddf_assembly.specs.Group.{GroupValue}
-use Rattle.ddf_assembly.specs.Importing.{first_causes}
+use Rattle.ddf_seats.specs.declared.fault.GroupFault.{GroupFault}
+use Rattle.ddf_seats.specs.Group.{GroupValue}
+use Rattle.ddf_joining.specs.Importing.{first_causes}
 use Rattle.ddf_assembly.specs.Slots.{first_left_out}
-use Rattle.ddf_assembly.specs.Joining.{Joining, bad_refusal, config_joining, full_of_join, has_no_seats, has_strays, join_config, join_refusal, join_spent, joining, joining_of, joining_unless, numbers_differ}
-use Rattle.ddf_assembly.specs.Recovery.{config_lost, config_recovered, disks_recovered, full_of_recovery, loss_spent, some}
-use Rattle.ddf_assembly.specs.Seated.{seated}
-use Rattle.ddf_assembly.proofs.CommittedReadied.{raised_more}
+use Rattle.ddf_joining.specs.Joining.{Joining, bad_refusal, config_joining, full_of_join, has_no_seats, has_strays, join_config, join_refusal, join_spent, joining, joining_of, joining_unless, numbers_differ}
+use Rattle.ddf_recovery.specs.Recovery.{config_lost, config_recovered, disks_recovered, full_of_recovery, loss_spent}
+use Rattle.ddf_seats.specs.Leading.{some}
+use Rattle.ddf_seats.specs.Seated.{seated}
+use Rattle.ddf_recovery.proofs.CommittedReadied.{raised_more}
 use Rattle.ddf_import_command.specs.Import.{import_asked, joining_unless as asked_unless, keeps_disks}
 
 pub record IsUnrefused (timestamp : ℕ) (native other : GroupValue) (made : Joining) : Type 0 where

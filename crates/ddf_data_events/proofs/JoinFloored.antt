@@ -12,16 +12,17 @@ use Rattle.ddf_data_array.proofs.Ranges.{to_back}
 use Rattle.ddf_rewrite.proofs.Lists.{all_at, all_by_get, get_map}
 use Rattle.ddf_history.specs.Groups.{groups}
 use Rattle.ddf_history.specs.Issued.{Past}
-use Rattle.ddf_assembly.specs.declared.seated.Seated.{Seated}
-use Rattle.ddf_assembly.specs.Committed.{slots_of}
-use Rattle.ddf_assembly.specs.Group.{GroupValue, group_of}
-use Rattle.ddf_assembly.specs.Joining.{join_config, join_disks, join_leaders, join_step, joining_of}
-use Rattle.ddf_assembly.specs.Recovery.{disks_recovered, recovery_of}
-use Rattle.ddf_assembly.specs.Seated.{seated}
+use Rattle.ddf_seats.specs.declared.seated.Seated.{Seated}
+use Rattle.ddf_steps.specs.Committed.{slots_of}
+use Rattle.ddf_seats.specs.Group.{GroupValue}
+use Rattle.ddf_assembly.specs.Group.{group_of}
+use Rattle.ddf_joining.specs.Joining.{join_config, join_disks, join_leaders, join_step, joining_of}
+use Rattle.ddf_recovery.specs.Recovery.{disks_recovered, recovery_of}
+use Rattle.ddf_seats.specs.Seated.{seated}
 use Rattle.ddf_assembly.specs.Slots.{newest_from}
-use Rattle.ddf_assembly.specs.Steps.{Step}
-use Rattle.ddf_assembly.proofs.BothSides.{both_have}
-use Rattle.ddf_assembly.proofs.CommittedSeats.{seated_is}
+use Rattle.ddf_steps.specs.Steps.{Step}
+use Rattle.ddf_joining.proofs.BothSides.{both_have}
+use Rattle.ddf_seats.proofs.CommittedSeats.{seated_is}
 use Rattle.ddf_assembly.proofs.SettledHeld.{newest_kept}
 use Rattle.ddf_history_steps.proofs.Slots.{slot_is}
 use Rattle.ddf_import_command.specs.Import.{import_steps}

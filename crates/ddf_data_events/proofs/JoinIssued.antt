@@ -11,9 +11,10 @@ use Rattle.ddf_data_group.specs.Grouped.{Promises}
 use Rattle.ddf_history.specs.Groups.{Disk, groups, has_current}
 use Rattle.ddf_history.specs.Issued.{IsSince, Past, acknowledge, issue, leave_out, take_off}
 use Rattle.ddf_history.proofs.Lists.{get_last, get_more, get_taken, get_within, taken_get}
-use Rattle.ddf_assembly.specs.Group.{GroupValue}
-use Rattle.ddf_assembly.specs.Recovery.{config_lost, config_recovered, loss, lost_step, mending_step, recovery_of, some}
-use Rattle.ddf_assembly.specs.Steps.{Step, raised}
+use Rattle.ddf_seats.specs.Group.{GroupValue}
+use Rattle.ddf_recovery.specs.Recovery.{config_lost, config_recovered, loss, lost_step, mending_step, recovery_of}
+use Rattle.ddf_seats.specs.Leading.{some}
+use Rattle.ddf_steps.specs.Steps.{Step, raised}
 use Rattle.ddf_plan.specs.Causes.{steps_of as change_steps}
 use Rattle.ddf_history_steps.specs.Going.{Ends, begun, changes_in, issue_all}
 use Rattle.ddf_history_steps.specs.Steps.{recovery_changes}

@@ -12,17 +12,18 @@ use Rattle.ddf_data_group.specs.Grouped.{Promises}
 use Rattle.ddf_history.specs.Groups.{Disk, groups, has_current}
 use Rattle.ddf_history.specs.Issued.{IsSince, Past}
 use Rattle.ddf_history.proofs.Lists.{get_more, get_taken}
-use Rattle.ddf_assembly.specs.declared.seated.Seated.{Seated}
-use Rattle.ddf_assembly.specs.Group.{GroupValue, group_of}
-use Rattle.ddf_assembly.specs.Joining.{Joining, config_joining, join_config, join_step}
-use Rattle.ddf_assembly.specs.Recovery.{config_recovered}
-use Rattle.ddf_assembly.specs.Seated.{seated}
+use Rattle.ddf_seats.specs.declared.seated.Seated.{Seated}
+use Rattle.ddf_seats.specs.Group.{GroupValue}
+use Rattle.ddf_assembly.specs.Group.{group_of}
+use Rattle.ddf_joining.specs.Joining.{Joining, config_joining, join_config, join_step}
+use Rattle.ddf_recovery.specs.Recovery.{config_recovered}
+use Rattle.ddf_seats.specs.Seated.{seated}
 use Rattle.ddf_assembly.specs.Slots.{newest_from}
 use Rattle.ddf_history_steps.specs.Floors.{HasFloor}
 use Rattle.ddf_history_steps.specs.Going.{Ends, Goes, IsAdmitted, KeepsHistory, begun, issue_all}
 use Rattle.ddf_history_steps.specs.Kept.{AreAllKept, is_read}
 use Rattle.ddf_history_steps.specs.Steps.{recovery_changes}
-use Rattle.ddf_history_steps.proofs.JoinMembers.{of_either}
+use Rattle.ddf_history_joins.proofs.JoinMembers.{of_either}
 use Rattle.ddf_history_steps.proofs.SlotsKept.{ends_slots}
 use Rattle.ddf_data_history.specs.Carried.{IsAllData, Stays}
 use Rattle.ddf_data_history.specs.Promised.{KeepsData, SameBelow, seats_in}

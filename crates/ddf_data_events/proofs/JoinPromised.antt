@@ -22,11 +22,11 @@ use Rattle.ddf_history.proofs.Lists.{get_within}
 use Rattle.ddf_data_history.specs.Carried.{IsAllData}
 use Rattle.ddf_data_history.specs.Promised.{KeepsData, is_seat, seats_in}
 use Rattle.ddf_data_history.proofs.Steps.{below_floors}
-use Rattle.ddf_assembly.specs.Joining.{config_joining, join_config}
-use Rattle.ddf_assembly.specs.Recovery.{config_recovered}
+use Rattle.ddf_joining.specs.Joining.{config_joining, join_config}
+use Rattle.ddf_recovery.specs.Recovery.{config_recovered}
 use Rattle.ddf_assembly.specs.Slots.{first_left_out}
 use Rattle.ddf_history_steps.specs.Going.{IsOver, KeepsSlots}
-use Rattle.ddf_history_steps.specs.Joins.{AdmitsBoth}
+use Rattle.ddf_history_joins.specs.Joins.{AdmitsBoth}
 use Rattle.ddf_history_steps.specs.Kept.{is_read}
 use Rattle.ddf_history_steps.specs.Steps.{recovery_changes}
 use Rattle.ddf_history_steps.proofs.LastIssued.{last_more, over_last, over_length}

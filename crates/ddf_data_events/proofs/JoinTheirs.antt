@@ -16,13 +16,14 @@ use Rattle.ddf_history.specs.Reading.{IsCopyOf}
 use Rattle.ddf_history.specs.Scenes.{scene_of}
 use Rattle.ddf_history.proofs.Calls.{seen_copy, seen_read}
 use Rattle.ddf_history.proofs.Since.{first_is_copy}
-use Rattle.ddf_assembly.specs.Committed.{slots_of}
-use Rattle.ddf_assembly.specs.Group.{GroupValue, group_of}
-use Rattle.ddf_assembly.specs.Joining.{config_joining}
+use Rattle.ddf_steps.specs.Committed.{slots_of}
+use Rattle.ddf_seats.specs.Group.{GroupValue}
+use Rattle.ddf_assembly.specs.Group.{group_of}
+use Rattle.ddf_joining.specs.Joining.{config_joining}
 use Rattle.ddf_assembly.specs.Slots.{first_left_out, newest_from}
 use Rattle.ddf_assembly.proofs.LeftOut.{none_left_out}
 use Rattle.ddf_history_steps.specs.Going.{IsAdmitted}
-use Rattle.ddf_history_steps.specs.Joins.{AdmitsBoth}
+use Rattle.ddf_history_joins.specs.Joins.{AdmitsBoth}
 use Rattle.ddf_history_steps.specs.Kept.{is_read, is_slot}
 use Rattle.ddf_history_steps.proofs.Begun.{assembled_since}
 use Rattle.ddf_history_steps.proofs.Claimed as claims

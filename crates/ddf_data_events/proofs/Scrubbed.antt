@@ -24,8 +24,10 @@ use Rattle.ddf_data_group.proofs.Clearly.{IsUsed, used}
 use Rattle.ddf_rewrite.proofs.Lists.{some_same}
 use Rattle.ddf_history.specs.Groups.{groups}
 use Rattle.ddf_history.specs.Issued.{Past, leave_out}
-use Rattle.ddf_assembly.specs.Group.{GroupValue, group_of}
-use Rattle.ddf_assembly.specs.Recovery.{config_lost, config_recovered, some, trusted_seats}
+use Rattle.ddf_seats.specs.Group.{GroupValue}
+use Rattle.ddf_assembly.specs.Group.{group_of}
+use Rattle.ddf_recovery.specs.Recovery.{config_lost, config_recovered, trusted_seats}
+use Rattle.ddf_seats.specs.Leading.{some}
 use Rattle.ddf_assembly.specs.Slots.{newest_from}
 use Rattle.ddf_history_steps.specs.Going.{IsAdmitted}
 use Rattle.ddf_history_steps.specs.Kept.{is_read}

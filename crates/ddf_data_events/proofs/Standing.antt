@@ -25,7 +25,7 @@ use Rattle.ddf_copy.proofs.Gates.{IsFound, found_is, headers_in_room}
 use Rattle.ddf_copy.proofs.LastCopies.{header_is}
 use Rattle.ddf_copy.proofs.Places.{standing_whole}
 use Rattle.ddf_copy.proofs.Shared.{bytes_same, same_at, shared_middle}
-use Rattle.ddf_assembly.specs.Group.{floor_of}
+use Rattle.ddf_seats.specs.Group.{floor_of}
 use Rattle.ddf_history_steps.specs.Floors.{HasFloor}
 
 some_same : {X : Type 0} (one other : X) → Some one ≡ Some other → one ≡ other

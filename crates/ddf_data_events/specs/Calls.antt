@@ -12,9 +12,10 @@ use Rattle.ddf_data_array.specs.Allowed.{any_bytes}
 use Rattle.ddf_data_group.specs.Grouped.{Promises}
 use Rattle.ddf_history.specs.Groups.{groups, has_current}
 use Rattle.ddf_history.specs.Issued.{IsSince, Past}
-use Rattle.ddf_assembly.specs.Group.{GroupValue, group_of}
-use Rattle.ddf_assembly.specs.Recovery.{config_recovered}
-use Rattle.ddf_assembly.specs.Steps.{Step}
+use Rattle.ddf_seats.specs.Group.{GroupValue}
+use Rattle.ddf_assembly.specs.Group.{group_of}
+use Rattle.ddf_recovery.specs.Recovery.{config_recovered}
+use Rattle.ddf_steps.specs.Steps.{Step}
 use Rattle.ddf_history_steps.specs.Going.{Ends, Goes, IsAdmitted, changes_in}
 use Rattle.ddf_history_steps.specs.Kept.{is_read, is_slot}
 use Rattle.ddf_data_history.specs.Carried.{Stays}
@@ -30,7 +31,7 @@ use Rattle.ddf_rebuild_command.specs.Rebuilt.{HasRebuiltArray}
 use Rattle.ddf_data_calls.specs.Calls.{MayAsk}
 use Rattle.ddf_data_calls.specs.Agreed.{DoDisksAgree}
 use Rattle.ddf_data_calls.specs.Promised.{HasGiven, IsWrittenOf, MayBeWritten, counted}
-use Rattle.ddf_assembly.specs.Joining.{config_joining}
+use Rattle.ddf_joining.specs.Joining.{config_joining}
 use Rattle.ddf_command.specs.History.{JoinCall as GroupsJoin, OtherCall as CallBeside, joins_of}
 use Rattle.ddf_data_events.specs.Joins.{HaveJoiningFloors, IsNonePromised}
 use Rattle.ddf_data_events.specs.Moments.{Moment}

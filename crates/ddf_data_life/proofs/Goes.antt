@@ -17,7 +17,7 @@ use Rattle.ddf_history.specs.Reading.{Scene}
 use Rattle.ddf_history.specs.Scenes.{scene_of}
 use Rattle.ddf_history.proofs.Members.{own_member}
 use Rattle.ddf_history.proofs.Sound.{groups_are_sound}
-use Rattle.ddf_assembly.specs.Group.{GroupValue}
+use Rattle.ddf_seats.specs.Group.{GroupValue}
 use Rattle.ddf_history_steps.specs.Going.{IsAdmitted, KeepsSlots}
 use Rattle.ddf_history_steps.specs.Kept.{AreAllKept, is_read}
 use Rattle.ddf_history_memory.specs.Histories.{AreRead, GoesWell, HasMemberOn, IsCutAt, IsHistoryOn}

@@ -21,9 +21,10 @@ use Rattle.ddf_data_array.specs.Allowed.{Allowed, IsOneOf, May, any_bytes, is_in
 use Rattle.ddf_data_group.specs.Grouped.{Promises}
 use Rattle.ddf_history.specs.Groups.{Disk, groups, has_current}
 use Rattle.ddf_history.specs.Issued.{IsSince, Past}
-use Rattle.ddf_assembly.specs.Recovery.{config_recovered}
-use Rattle.ddf_assembly.specs.Steps.{Step}
-use Rattle.ddf_assembly.specs.Group.{GroupValue, group_of}
+use Rattle.ddf_recovery.specs.Recovery.{config_recovered}
+use Rattle.ddf_steps.specs.Steps.{Step}
+use Rattle.ddf_seats.specs.Group.{GroupValue}
+use Rattle.ddf_assembly.specs.Group.{group_of}
 use Rattle.ddf_assembly.specs.Slots.{newest_from}
 use Rattle.ddf_history_steps.specs.Going.{Ends, Goes, IsOver, changes_in}
 use Rattle.ddf_history_steps.specs.Kept.{is_read}

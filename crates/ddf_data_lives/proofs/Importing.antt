@@ -18,12 +18,13 @@ use Rattle.ddf_history.specs.Scenes.{scene_of}
 use Rattle.ddf_history.proofs.Calls.{seen_copy, seen_read}
 use Rattle.ddf_history.proofs.Since.{first_is_copy}
 use Rattle.ddf_history.proofs.Sound.{groups_are_sound}
-use Rattle.ddf_assembly.specs.Committed.{slots_of}
-use Rattle.ddf_assembly.specs.Group.{GroupValue, group_of}
-use Rattle.ddf_assembly.specs.Joining.{config_joining, join_config}
+use Rattle.ddf_steps.specs.Committed.{slots_of}
+use Rattle.ddf_seats.specs.Group.{GroupValue}
+use Rattle.ddf_assembly.specs.Group.{group_of}
+use Rattle.ddf_joining.specs.Joining.{config_joining, join_config}
 use Rattle.ddf_assembly.specs.Slots.{newest_from}
 use Rattle.ddf_history_steps.specs.Going.{IsAdmitted}
-use Rattle.ddf_history_steps.specs.Joins.{AdmitsBoth, AdmitsCall}
+use Rattle.ddf_history_joins.specs.Joins.{AdmitsBoth, AdmitsCall}
 use Rattle.ddf_history_steps.specs.Kept.{AreAllKept, is_read, is_slot}
 use Rattle.ddf_history_steps.proofs.Begun.{assembled_since}
 use Rattle.ddf_history_steps.proofs.Claimed as claims
@@ -55,9 +56,10 @@ module _ (group former : List ℕ) {D : Type 0} (state : BayState D) (left : Lis
       let first : IsCopyOf (seen (is_read left) (scene_of state.sizes state.held) seat.0.slot) (view_of copy.0) = first_is_copy (seen (is_read left) (scene_of state.sizes state.held) seat.0.slot) (view_of copy.0) claimed.is_first in
       let shown = seen_copy (is_read left seat.0.slot) (scene_of state.sizes state.held seat.0.slot) (view_of copy.0) first in
       let since = their_since in
-      let named = admitted.is_kept.named seat.0.slot (view_of copy.0) shown (inr (since.0, other.config, since.1, current)) in
-      (subst (λ (n : ℕ). has_current other.config (theirs.disk n) ≡ true) seat.2 (sym (ap (has_current other.config) named) ∙ current),
-      subst (λ (n : ℕ). is_read left n ≡ true) seat.2 (seen_read (is_read left seat.0.slot) (scene_of state.sizes state.held seat.0.slot) (view_of copy.0) first))
+      let named = admitted.is_kept.named seat.0.slot (view_of copy.0) shown (inr (since.0, other.config, since.1, current)) in (
+        subst (λ (n : ℕ). has_current other.config (theirs.disk n) ≡ true) seat.2 (sym (ap (has_current other.config) named) ∙ current),
+        subst (λ (n : ℕ). is_read left n ≡ true) seat.2 (seen_read (is_read left seat.0.slot) (scene_of state.sizes state.held seat.0.slot) (view_of copy.0) first),
+      )
 
   neither : (a b : Bool) → a ≡ false → b ≡ false → (a || b) ≡ false
   neither true b is other_is = absurd cc

@@ -16,7 +16,8 @@ use Rattle.ddf_data_group.specs.Grouped.{Promises}
 use Rattle.ddf_history.specs.Groups.{Disk, groups, has_current}
 use Rattle.ddf_history.specs.History.{KeepsAcked}
 use Rattle.ddf_history.specs.Issued.{IsSince, Past, give_back}
-use Rattle.ddf_assembly.specs.Group.{GroupValue, group_of}
+use Rattle.ddf_seats.specs.Group.{GroupValue}
+use Rattle.ddf_assembly.specs.Group.{group_of}
 use Rattle.ddf_assembly.specs.Slots.{AreOut, newest_from}
 use Rattle.ddf_history_steps.specs.Going.{Ends, changes_in}
 use Rattle.ddf_history_steps.specs.Kept.{is_read}
@@ -192,11 +193,15 @@ module _ (revision : Revision) (stamp : Stamp) (old new : MemoryBay) (kept : ℕ
     (plugged : (disks_of new).gone kept → ⊥) where
   pub label_stands : (moment : Moment (name_of stamp) MemoryBay) × Stands (name_of stamp) kept (labelled_disk revision stamp (disks_of old).sizes kept) moment × (moment.bay ≡ new) × (moment.promises ≡ none_promised)
   label_stands =
-      let from = label_begins revision stamp old new tried same_sizes told told_new in
-      (first_moment from.past new from.floor from.small, record {
-        data_history = from.history;
-        same_disk = from.names kept there;
-        current = λ number config since. sym (ap (has_current config) (from.names kept there)) ∙ from.members kept there number config (record { late = since.late; is_there = since.is_there });
-        plugged = plugged;
-        there = subst (λ (all : List ℕ). kept < length all) (sym same_sizes) there;
-      }, refl, refl)
+      let from = label_begins revision stamp old new tried same_sizes told told_new in (
+        first_moment from.past new from.floor from.small,
+        record {
+          data_history = from.history;
+          same_disk = from.names kept there;
+          current = λ number config since. sym (ap (has_current config) (from.names kept there)) ∙ from.members kept there number config (record { late = since.late; is_there = since.is_there });
+          plugged = plugged;
+          there = subst (λ (all : List ℕ). kept < length all) (sym same_sizes) there;
+        },
+        refl,
+        refl,
+      )

@@ -21,9 +21,10 @@ use Rattle.ddf_plan.specs.Changes.{changed_at}
 use Rattle.ddf_plan.specs.Refusals.{greatest_sequence}
 use Rattle.ddf_plan.specs.Same.{same_array, same_member}
 use Rattle.ddf_exercise_config.specs.Disks.{AreApart, Disks}
-use Rattle.ddf_assembly.specs.Group.{GroupValue}
-use Rattle.ddf_assembly.specs.Recovery.{config_recovered, some}
-use Rattle.ddf_assembly.specs.Steps.{config_after, raised}
+use Rattle.ddf_seats.specs.Group.{GroupValue}
+use Rattle.ddf_recovery.specs.Recovery.{config_recovered}
+use Rattle.ddf_seats.specs.Leading.{some}
+use Rattle.ddf_steps.specs.Steps.{config_after, raised}
 use Rattle.ddf_exercise_config.specs.Makes.{Makes}
 use Rattle.ddf_exercise_config.specs.Stages.{array, begun, created, founded, group_with, lost, members, position, positions_at, positions_begun, positions_lost, lost_disk, lost_position, spare_disk, resynced, seats_at, whole, with_spare, written_on}
 use Rattle.ddf_exercise_config.specs.Turns.{Loss, Turn, turn_before, turn_behind}

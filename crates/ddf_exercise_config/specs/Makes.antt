@@ -8,7 +8,7 @@ use Rattle.ddf_plan.specs.declared.change.Change.{Change}
 use Rattle.ddf_plan.specs.Causes.{causes}
 use Rattle.ddf_plan.specs.Floors.{extents_refusal}
 use Rattle.ddf_plan.specs.Same.{is_step}
-use Rattle.ddf_assembly.specs.Steps.{config_after}
+use Rattle.ddf_steps.specs.Steps.{config_after}
 
 -- Nothing refuses the change on these seats, where each record of an element has room for the members of a small new disk's. It is a step, and this is the configuration behind it.
 pub record Makes (seats : List Seat) (config : Configuration) (change : Change) (next : Configuration) : Type 0 where

@@ -5,9 +5,9 @@ use Rattle.std.specs.List.{AllByRecursion}
 use Rattle.std.proofs.lemmas.Bool.{cases_eq}
 use Rattle.ddf_bay.specs.Sectors.{Image}
 use Rattle.ddf_config.specs.declared.seat.Seat.{Seat}
-use Rattle.ddf_assembly.specs.declared.seated.Seated.{Seated}
-use Rattle.ddf_assembly.specs.Seated.{seats_in}
-use Rattle.ddf_assembly.specs.Steps.{Step}
+use Rattle.ddf_seats.specs.declared.seated.Seated.{Seated}
+use Rattle.ddf_seats.specs.Seated.{seats_in}
+use Rattle.ddf_steps.specs.Steps.{Step}
 use Rattle.ddf_data_disks.proofs.Records.{written_past}
 use Rattle.ddf_group_commands.specs.Written.{AreWritten, HasCopy, IsWritten}
 use Rattle.ddf_uncut_group.specs.Plain.{ArePlain, IsPlain}

@@ -29,9 +29,9 @@ use Rattle.ddf_resync.specs.declared.outcome.Scrub.{Scrub}
 use Rattle.ddf_resync.specs.declared.outcome.Scrub.TheVariants.{Clean}
 use Rattle.ddf_pieces.specs.Pieces.{bytes_of}
 use Rattle.ddf_group.specs.declared.answer.Assembly.{Assembly}
-use Rattle.ddf_assembly.specs.Committed.{slots_of}
-use Rattle.ddf_assembly.specs.Group.{GroupValue}
-use Rattle.ddf_assembly.specs.Recovery.{trusted_seats}
+use Rattle.ddf_steps.specs.Committed.{slots_of}
+use Rattle.ddf_seats.specs.Group.{GroupValue}
+use Rattle.ddf_recovery.specs.Recovery.{trusted_seats}
 use Rattle.ddf_request.specs.Named.{named_array}
 use Rattle.ddf_answer.specs.declared.failure.Failure.{Failure}
 use Rattle.ddf_answer.specs.declared.failure.Failure.TheVariants.{Conflict, Disk, Memory, Refused, Split}
@@ -40,7 +40,7 @@ use Rattle.ddf_answer.specs.Call.{Answer, Work, answer_of, work_of}
 use Rattle.ddf_read_commands.specs.Read.{IsReadDone, IsReadIn, IsReadOf, IsReadTold, IsReadable, IsWithoutSource, Outcome, read_refusal}
 use Rattle.ddf_read_commands.specs.Read.Outcome.{CutShort, NotRead, Stopped, Whole}
 use Rattle.ddf_read_commands.specs.Scrub.{IsScrubDone, IsScrubIn, IsScrubOf, IsScrubTold, scrub_refusal, scrub_text}
-use Rattle.ddf_assembly.proofs.Trusted.{trusted_all}
+use Rattle.ddf_recovery.proofs.Trusted.{trusted_all}
 use Rattle.ddf_uncut_group.specs.Settled.{AreSettledAs}
 use Rattle.ddf_uncut_group.proofs.SettledStray.{not_stray}
 use Rattle.ddf_uncut_data.specs.Blocks.{HoldsBlocks}

@@ -19,7 +19,7 @@ use Rattle.ddf_words.specs.declared.command.Wish.{Wish}
 use Rattle.ddf_words.specs.declared.command.Wish.TheVariants as wishes
 use Rattle.ddf_update.specs.NewCopies.{group_of, reference_at}
 use Rattle.ddf_rewrite.specs.Wanted.{all_wanted}
-use Rattle.ddf_assembly.specs.Asked.{CanBeAsked, IsNewArray, IsNewPlan}
+use Rattle.ddf_steps.specs.Asked.{CanBeAsked, IsNewArray, IsNewPlan}
 use Rattle.ddf_text.specs.Done.{sequence_line}
 use Rattle.ddf_answer.specs.Call.{answer_of, work_of}
 use Rattle.ddf_request.specs.NewArray.{new_array_guid}

@@ -14,7 +14,7 @@ use Rattle.ddf_header.specs.declared.kind.Revision.TheVariants.{R200}
 use Rattle.ddf_parity.specs.Xor.{zeros}
 use Rattle.ddf_update.specs.Group.{HaveFirstCopies, IsOneOf, slot_sizes}
 use Rattle.ddf_update.specs.NewCopies.{group_of}
-use Rattle.ddf_assembly.specs.Committed.{slots_of}
+use Rattle.ddf_steps.specs.Committed.{slots_of}
 use Rattle.ddf_answer.specs.Call.{answer_of, work_of}
 use Rattle.ddf_disk_commands.specs.Label.{IsLabelled, label_copy, label_slots}
 use Rattle.ddf_disk_commands.specs.LabelRefusal.{label_refusal}

@@ -4,7 +4,7 @@ use Rattle.ddf_config.specs.declared.seat.Seat.{Seat}
 use Rattle.ddf_config.specs.Configuration.{Configuration}
 use Rattle.ddf_plan.specs.declared.change.Change.{Change}
 use Rattle.ddf_plan.specs.Refusals.{greatest_sequence}
-use Rattle.ddf_assembly.specs.Asked.{CanBeAsked}
+use Rattle.ddf_steps.specs.Asked.{CanBeAsked}
 use Rattle.ddf_uncut_group.specs.Asking.{AreNext}
 use Rattle.ddf_uncut_group.specs.Plain.{HasRoom}
 use Rattle.ddf_uncut_group.specs.Settled.{AreMembers}

@@ -12,10 +12,11 @@ use Rattle.ddf_read.proofs.SourceSlots.{first_on}
 use Rattle.ddf_resync.specs.declared.outcome.Scrub.{Scrub}
 use Rattle.ddf_resync.specs.Compared.{FailedOn}
 use Rattle.ddf_group.specs.declared.answer.Assembly.{Assembly}
-use Rattle.ddf_assembly.specs.Committed.{slots_of}
-use Rattle.ddf_assembly.specs.Group.{GroupValue, group_of}
-use Rattle.ddf_assembly.specs.Recovery.{trusted_seats}
-use Rattle.ddf_assembly.specs.Steps.{Step}
+use Rattle.ddf_steps.specs.Committed.{slots_of}
+use Rattle.ddf_seats.specs.Group.{GroupValue}
+use Rattle.ddf_assembly.specs.Group.{group_of}
+use Rattle.ddf_recovery.specs.Recovery.{trusted_seats}
+use Rattle.ddf_steps.specs.Steps.{Step}
 use Rattle.ddf_text.specs.Done.{sequence_line}
 use Rattle.ddf_answer.specs.declared.failure.Failure.{Failure}
 use Rattle.ddf_answer.specs.declared.failure.Failure.TheVariants.{Conflict, Disk, Memory, Refused, Split}

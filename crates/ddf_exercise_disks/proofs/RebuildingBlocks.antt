@@ -20,7 +20,7 @@ use Rattle.ddf_data_array.specs.Changing.{in_sync}
 use Rattle.ddf_data_array.specs.Rows.{GoesOnBehind, IsFirstOut}
 use Rattle.ddf_data_array.proofs.RowsKept.{alike_cells}
 use Rattle.ddf_update.specs.Group.{IsOneOf}
-use Rattle.ddf_assembly.specs.Committed.{slots_of}
+use Rattle.ddf_steps.specs.Committed.{slots_of}
 use Rattle.ddf_answer.specs.Call.{answer_of}
 use Rattle.ddf_text.specs.Done.{sequence_line}
 use Rattle.ddf_rebuild_command.specs.Planned.{IsPlanned}

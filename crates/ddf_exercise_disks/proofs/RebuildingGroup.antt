@@ -20,10 +20,11 @@ use Rattle.ddf_rebuild.specs.Target.{IsTargetCell}
 use Rattle.ddf_repair.specs.declared.first.Target.{Target}
 use Rattle.ddf_read.specs.Reading.{Failed}
 use Rattle.ddf_update.specs.Group.{IsOneOf}
-use Rattle.ddf_assembly.specs.Committed.{slots_of}
-use Rattle.ddf_assembly.specs.Group.{GroupValue, group_of}
+use Rattle.ddf_steps.specs.Committed.{slots_of}
+use Rattle.ddf_seats.specs.Group.{GroupValue}
+use Rattle.ddf_assembly.specs.Group.{group_of}
 use Rattle.ddf_assembly.specs.Slots.{AreOut, newest_from}
-use Rattle.ddf_assembly.specs.Steps.{Step}
+use Rattle.ddf_steps.specs.Steps.{Step}
 use Rattle.ddf_history_steps.specs.BlockFloors.{floor_in}
 use Rattle.ddf_answer.specs.declared.failure.Failure.{Failure}
 use Rattle.ddf_answer.specs.Call.{Answer, Work, answer_of, work_of}

@@ -10,11 +10,13 @@ use Rattle.ddf_rewrite.specs.Wanted.{all_wanted}
 use Rattle.ddf_plan.specs.declared.change.Change.{Change}
 use Rattle.ddf_plan.specs.declared.change.Change.TheVariants.{Begin, Finish, Lose}
 use Rattle.ddf_plan.specs.Refusals.{greatest_sequence}
-use Rattle.ddf_assembly.specs.Group.{GroupValue}
-use Rattle.ddf_assembly.specs.Ready.{group_after, readied, with_recovery}
-use Rattle.ddf_assembly.specs.Recovery.{config_lost, config_recovered, full_of_recovery, leading, loss_spent, lost_step}
-use Rattle.ddf_assembly.specs.Seated.{seated, seats_in}
-use Rattle.ddf_assembly.specs.Steps.{Step, config_after}
+use Rattle.ddf_seats.specs.Group.{GroupValue}
+use Rattle.ddf_steps.specs.Ready.{group_after}
+use Rattle.ddf_recovery.specs.Ready.{readied, with_recovery}
+use Rattle.ddf_recovery.specs.Recovery.{config_lost, config_recovered, full_of_recovery, loss_spent, lost_step}
+use Rattle.ddf_seats.specs.Leading.{leading}
+use Rattle.ddf_seats.specs.Seated.{seated, seats_in}
+use Rattle.ddf_steps.specs.Steps.{Step, config_after}
 use Rattle.ddf_group_commands.specs.Change.{last_sequence, steps_asked, steps_of, steps_or}
 use Rattle.ddf_array.specs.Viewing.{view_of}
 use Rattle.ddf_array.specs.declared.part.Part.{Part}

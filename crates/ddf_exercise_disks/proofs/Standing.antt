@@ -16,14 +16,16 @@ use Rattle.ddf_config.specs.declared.seat.Seat.{Seat}
 use Rattle.ddf_config.specs.Configuration.{Configuration}
 use Rattle.ddf_plan.specs.declared.change.Change.{Change}
 use Rattle.ddf_update.specs.Group.{IsOneOf}
-use Rattle.ddf_assembly.specs.Committed.{slots_of}
-use Rattle.ddf_assembly.specs.Group.{GroupValue, group_of}
-use Rattle.ddf_assembly.specs.Ready.{group_after, readied}
-use Rattle.ddf_assembly.specs.Recovery.{config_recovered}
-use Rattle.ddf_assembly.specs.Seated.{seats_in}
+use Rattle.ddf_steps.specs.Committed.{slots_of}
+use Rattle.ddf_seats.specs.Group.{GroupValue}
+use Rattle.ddf_assembly.specs.Group.{group_of}
+use Rattle.ddf_steps.specs.Ready.{group_after}
+use Rattle.ddf_recovery.specs.Ready.{readied}
+use Rattle.ddf_recovery.specs.Recovery.{config_recovered}
+use Rattle.ddf_seats.specs.Seated.{seats_in}
 use Rattle.ddf_assembly.specs.Slots.{AreOut, newest_from}
-use Rattle.ddf_assembly.specs.Steps.{Step}
-use Rattle.ddf_assembly.specs.declared.seated.Seated.{Seated}
+use Rattle.ddf_steps.specs.Steps.{Step}
+use Rattle.ddf_seats.specs.declared.seated.Seated.{Seated}
 use Rattle.ddf_text.specs.Done.{sequence_line}
 use Rattle.ddf_answer.specs.declared.failure.Failure.{Failure}
 use Rattle.ddf_answer.specs.declared.failure.Failure.TheVariants.{Conflict, Disk, Memory, Refused, Split}

@@ -22,11 +22,12 @@ use Rattle.ddf_write.specs.Writing.{HasWritten, IsLeftByWrite}
 use Rattle.ddf_data_group.specs.Clear.{ChangesItsCells, IsItsCell}
 use Rattle.ddf_data_group.proofs.Clearly.{write_changes}
 use Rattle.ddf_group.specs.declared.answer.Assembly.{Assembly}
-use Rattle.ddf_assembly.specs.Committed.{slots_of}
-use Rattle.ddf_assembly.specs.Group.{GroupValue, group_of}
-use Rattle.ddf_assembly.specs.Ready.{readied}
-use Rattle.ddf_assembly.specs.Recovery.{config_recovered}
-use Rattle.ddf_assembly.specs.Steps.{Step}
+use Rattle.ddf_steps.specs.Committed.{slots_of}
+use Rattle.ddf_seats.specs.Group.{GroupValue}
+use Rattle.ddf_assembly.specs.Group.{group_of}
+use Rattle.ddf_recovery.specs.Ready.{readied}
+use Rattle.ddf_recovery.specs.Recovery.{config_recovered}
+use Rattle.ddf_steps.specs.Steps.{Step}
 use Rattle.ddf_history_steps.specs.BlockFloors.{floor_in}
 use Rattle.ddf_request.specs.Named.{named_array}
 use Rattle.ddf_text.specs.Done.{sequence_line}

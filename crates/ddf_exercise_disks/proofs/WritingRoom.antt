@@ -16,11 +16,11 @@ use Rattle.ddf_array.specs.Places.{is_available}
 use Rattle.ddf_cells.specs.Apart.{LiesAt}
 use Rattle.ddf_rewrite.specs.Spares.{arrays_of_spare}
 use Rattle.ddf_rewrite.specs.Wanted.{all_wanted}
-use Rattle.ddf_assembly.specs.Asked.{CanBeAsked}
-use Rattle.ddf_assembly.specs.Committed.{slots_of}
-use Rattle.ddf_assembly.specs.Group.{GroupValue}
-use Rattle.ddf_assembly.specs.Ready.{group_after}
-use Rattle.ddf_assembly.specs.Steps.{Step}
+use Rattle.ddf_steps.specs.Asked.{CanBeAsked}
+use Rattle.ddf_steps.specs.Committed.{slots_of}
+use Rattle.ddf_seats.specs.Group.{GroupValue}
+use Rattle.ddf_steps.specs.Ready.{group_after}
+use Rattle.ddf_steps.specs.Steps.{Step}
 use Rattle.ddf_read.specs.Reading.{IsOn}
 use Rattle.ddf_history_steps.specs.BlockFloors.{floor_in}
 use Rattle.ddf_group_commands.specs.Change.{last_sequence}

@@ -5,8 +5,8 @@ use Rattle.ddf_bay.specs.declared.memory.MemoryBay.{MemoryBay}
 use Rattle.ddf_config.specs.declared.seat.Seat.{Seat}
 use Rattle.ddf_config.specs.Configuration.{Configuration}
 use Rattle.ddf_update.specs.Group.{IsOneOf}
-use Rattle.ddf_assembly.specs.Committed.{slots_of}
-use Rattle.ddf_assembly.specs.Group.{GroupValue}
+use Rattle.ddf_steps.specs.Committed.{slots_of}
+use Rattle.ddf_seats.specs.Group.{GroupValue}
 use Rattle.ddf_uncut_group.specs.Plain.{HavePlain}
 use Rattle.ddf_uncut_group.specs.Settled.{AreSettledAs}
 use Rattle.ddf_exercise_disks.specs.Well.{IsWell, sizes_made}

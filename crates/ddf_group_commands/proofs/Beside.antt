@@ -9,10 +9,11 @@ use Rattle.ddf_bay.proofs.Steps.{stops_then, stops_weaken}
 use Rattle.ddf_plan.specs.declared.change.Change.{Change}
 use Rattle.ddf_update.specs.Changes.{AreChanged, IsLeftChangingAll, SlotChange}
 use Rattle.ddf_update.specs.Group.{IsOneOf}
-use Rattle.ddf_assembly.specs.Committed.{MayRecover, WasReadied, next_slots, next_updates, recovery_slots, recovery_updates, slots_of, synced}
-use Rattle.ddf_assembly.specs.Group.{GroupValue}
-use Rattle.ddf_assembly.specs.Ready.{ReadyValue}
-use Rattle.ddf_assembly.proofs.RecoveryWritten.{recovery_on_seats}
+use Rattle.ddf_recovery.specs.Committed.{MayRecover, WasReadied, next_slots, next_updates, recovery_slots, recovery_updates}
+use Rattle.ddf_steps.specs.Committed.{slots_of, synced}
+use Rattle.ddf_seats.specs.Group.{GroupValue}
+use Rattle.ddf_recovery.specs.Ready.{ReadyValue}
+use Rattle.ddf_recovery.proofs.RecoveryWritten.{recovery_on_seats}
 use Rattle.ddf_history_steps.specs.Kept.{is_slot}
 use Rattle.ddf_history_steps.proofs.Slots.{slot_is}
 use Rattle.ddf_group_commands.specs.GroupRead.{IsReadFrom}

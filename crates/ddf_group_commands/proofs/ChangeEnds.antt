@@ -8,7 +8,8 @@ use Rattle.ddf_bay.specs.Moments.{GoesOn}
 use Rattle.ddf_bytes.specs.Streams.{SinkRose, SinkState}
 use Rattle.ddf_words.specs.declared.traits.Traits.{Traits}
 use Rattle.ddf_group.specs.declared.answer.Assembly.{Assembly}
-use Rattle.ddf_assembly.specs.Group.{GroupValue, group_of}
+use Rattle.ddf_seats.specs.Group.{GroupValue}
+use Rattle.ddf_assembly.specs.Group.{group_of}
 use Rattle.ddf_assembly.specs.Slots.{IsLooked, newest_from}
 use Rattle.ddf_answer.specs.declared.failure.Failure.{Failure}
 use Rattle.ddf_answer.specs.declared.failure.Failure.TheVariants.{Conflict, Disk, Memory, Refused, Split}
@@ -17,7 +18,7 @@ use Rattle.ddf_group_commands.specs.Assemble.{IsAssembleDone, IsTold, no_change}
 use Rattle.ddf_answer.specs.Call.{Answer, Work, answer_of, work_of}
 use Rattle.ddf_group_commands.specs.Change.{HasChanged, IsChangeDone, IsChangedIn, IsToldChange, Request}
 use Rattle.ddf_answer.specs.Ends.{Ends, HasCause, is_unwritten}
-use Rattle.ddf_assembly.specs.Committed.{slots_of}
+use Rattle.ddf_steps.specs.Committed.{slots_of}
 use Rattle.ddf_group_commands.proofs.Beside.{reads_beside}
 use Rattle.ddf_group_commands.proofs.Costs.{none_cost}
 use Rattle.ddf_group_commands.proofs.Keeping.{reads_keep}

@@ -12,15 +12,16 @@ use Rattle.ddf_plan.specs.declared.change.Change.{Change}
 use Rattle.ddf_update.specs.declared.prepared.Prepared.{Prepared}
 use Rattle.ddf_update.specs.Prepared.{IsPrepared, all_sectors, most_sectors}
 use Rattle.ddf_group.specs.declared.answer.Assembly.{Assembly}
-use Rattle.ddf_assembly.specs.declared.fault.GroupFault.{GroupFault}
-use Rattle.ddf_assembly.specs.declared.seated.Seated.{Seated}
-use Rattle.ddf_assembly.specs.Committed.{WasReadied, next_updates, recovery_updates, updates_written}
-use Rattle.ddf_assembly.specs.Group.{GroupValue}
-use Rattle.ddf_assembly.specs.Ready.{ReadyStep, ReadyValue, all_ready, readied}
-use Rattle.ddf_assembly.specs.Recovery.{disks_recovered}
-use Rattle.ddf_assembly.specs.Seated.{seated}
-use Rattle.ddf_assembly.specs.Steps.{Step, in_order, is_adopted, levelled}
-use Rattle.ddf_assembly.specs.Trying.{AreFollowing, ArePrepared, Follows}
+use Rattle.ddf_seats.specs.declared.fault.GroupFault.{GroupFault}
+use Rattle.ddf_seats.specs.declared.seated.Seated.{Seated}
+use Rattle.ddf_recovery.specs.Committed.{WasReadied, next_updates, recovery_updates, updates_written}
+use Rattle.ddf_seats.specs.Group.{GroupValue}
+use Rattle.ddf_steps.specs.Ready.{ReadyStep}
+use Rattle.ddf_recovery.specs.Ready.{ReadyValue, all_ready, readied}
+use Rattle.ddf_recovery.specs.Recovery.{disks_recovered}
+use Rattle.ddf_seats.specs.Seated.{seated, is_adopted, levelled}
+use Rattle.ddf_steps.specs.Steps.{Step, in_order}
+use Rattle.ddf_steps.specs.Trying.{AreFollowing, ArePrepared, Follows}
 use Rattle.ddf_answer.specs.declared.failure.Failure.{Failure}
 use Rattle.ddf_answer.specs.Call.{Work, work_of}
 use Rattle.ddf_answer.specs.Costs.{WritesAtMost, disk_sectors}

@@ -19,15 +19,17 @@ use Rattle.ddf_plan.specs.declared.change.Change.{Change}
 use Rattle.ddf_update.specs.declared.prepared.Prepared.{Prepared}
 use Rattle.ddf_update.specs.Group.{AreSlots}
 use Rattle.ddf_update.specs.Prepared.{all_calls, all_sectors, most_calls}
-use Rattle.ddf_assembly.specs.declared.seated.Seated.{Seated}
-use Rattle.ddf_assembly.specs.Committed.{WasReadied, next_slots, next_updates, recovery_slots, recovery_updates, updates_written}
-use Rattle.ddf_assembly.specs.Group.{GroupValue}
-use Rattle.ddf_assembly.specs.Ready.{ReadyStep, ReadyValue}
-use Rattle.ddf_assembly.specs.Recovery.{disks_recovered}
-use Rattle.ddf_assembly.specs.Seated.{seated}
-use Rattle.ddf_assembly.specs.Steps.{in_order}
-use Rattle.ddf_assembly.specs.Trying.{AreFollowing, ArePrepared, Follows, SlotsRise}
-use Rattle.ddf_assembly.proofs.CommittedSeats.{get_there}
+use Rattle.ddf_seats.specs.declared.seated.Seated.{Seated}
+use Rattle.ddf_recovery.specs.Committed.{WasReadied, next_slots, next_updates, recovery_slots, recovery_updates, updates_written}
+use Rattle.ddf_seats.specs.Group.{GroupValue}
+use Rattle.ddf_steps.specs.Ready.{ReadyStep}
+use Rattle.ddf_recovery.specs.Ready.{ReadyValue}
+use Rattle.ddf_recovery.specs.Recovery.{disks_recovered}
+use Rattle.ddf_seats.specs.Seated.{seated}
+use Rattle.ddf_steps.specs.Steps.{in_order}
+use Rattle.ddf_steps.specs.Trying.{AreFollowing, ArePrepared, Follows}
+use Rattle.ddf_seats.specs.Changing.{SlotsRise}
+use Rattle.ddf_seats.proofs.CommittedSeats.{get_there}
 use Rattle.ddf_group_commands.specs.GroupRead.{IsReadFrom}
 use Rattle.ddf_group_commands.proofs.Recovering.{first_lies, rest_lies, slots_there}
 

@@ -9,15 +9,16 @@ use Rattle.ddf_plan.specs.declared.change.Change.{Change}
 use Rattle.ddf_update.specs.Changes.{AreChanged, IsLeftChangingAll, MayChangeAll, SlotChange}
 use Rattle.ddf_history.specs.Groups.{groups}
 use Rattle.ddf_history.specs.Issued.{Past}
-use Rattle.ddf_assembly.specs.declared.fault.GroupFault.{GroupFault}
-use Rattle.ddf_assembly.specs.Asked.{CanBeAsked}
-use Rattle.ddf_assembly.specs.Committed.{LeavesSynced, MayRecover, MayWriteNext, WasReadied, group_recovered, next_slots, next_updates, recovery_slots, recovery_updates, slots_of, synced}
-use Rattle.ddf_assembly.specs.Group.{GroupValue}
-use Rattle.ddf_assembly.specs.Ready.{ReadyValue, all_ready, readied}
-use Rattle.ddf_assembly.specs.Steps.{Step}
-use Rattle.ddf_assembly.proofs.Committed.{may_write_next}
-use Rattle.ddf_assembly.proofs.RecoveredGroup.{recovered_ready}
-use Rattle.ddf_assembly.proofs.RecoveryWritten.{may_recover, recovered_held}
+use Rattle.ddf_seats.specs.declared.fault.GroupFault.{GroupFault}
+use Rattle.ddf_steps.specs.Asked.{CanBeAsked}
+use Rattle.ddf_steps.specs.Committed.{LeavesSynced, slots_of, synced}
+use Rattle.ddf_recovery.specs.Committed.{MayRecover, MayWriteNext, WasReadied, group_recovered, next_slots, next_updates, recovery_slots, recovery_updates}
+use Rattle.ddf_seats.specs.Group.{GroupValue}
+use Rattle.ddf_recovery.specs.Ready.{ReadyValue, all_ready, readied}
+use Rattle.ddf_steps.specs.Steps.{Step}
+use Rattle.ddf_recovery.proofs.Committed.{may_write_next}
+use Rattle.ddf_recovery.proofs.RecoveredGroup.{recovered_ready}
+use Rattle.ddf_recovery.proofs.RecoveryWritten.{may_recover, recovered_held}
 use Rattle.ddf_history_steps.specs.Going.{IsAdmitted, KeepsHistory, changes_in}
 use Rattle.ddf_history_steps.specs.Kept.{AreAllKept, ReadsTrue}
 use Rattle.ddf_history_steps.proofs.Calling as calling

@@ -19,18 +19,20 @@ use Rattle.ddf_history.specs.Reading.Shown.{One}
 use Rattle.ddf_history.specs.Scenes.{scene_of}
 use Rattle.ddf_history.specs.Steps.{IsPart}
 use Rattle.ddf_history.proofs.Since.{which}
-use Rattle.ddf_assembly.specs.declared.fault.GroupFault.{GroupFault}
-use Rattle.ddf_assembly.specs.declared.seated.Seated.{Seated}
-use Rattle.ddf_assembly.specs.Committed.{MayRecover, MayWriteNext, WasReadied, next_slots, next_updates, slots_of, slots_written, synced, updates_written}
-use Rattle.ddf_assembly.specs.Group.{GroupValue}
-use Rattle.ddf_assembly.specs.Ready.{ReadyStep, ReadyValue, all_ready, readied}
-use Rattle.ddf_assembly.specs.Recovery.{disks_recovered}
-use Rattle.ddf_assembly.specs.Seated.{slots_in}
-use Rattle.ddf_assembly.specs.Steps.{Step, in_order}
-use Rattle.ddf_assembly.specs.Trying.{AreFollowing, ArePrepared}
-use Rattle.ddf_assembly.proofs.Ordered.{order_from}
-use Rattle.ddf_assembly.proofs.RecoveredGroup.{recovery_follows}
-use Rattle.ddf_assembly.proofs.RecoveryWritten.{may_recover, recovery_lies}
+use Rattle.ddf_seats.specs.declared.fault.GroupFault.{GroupFault}
+use Rattle.ddf_seats.specs.declared.seated.Seated.{Seated}
+use Rattle.ddf_recovery.specs.Committed.{MayRecover, MayWriteNext, WasReadied, next_slots, next_updates, slots_written, updates_written}
+use Rattle.ddf_steps.specs.Committed.{slots_of, synced}
+use Rattle.ddf_seats.specs.Group.{GroupValue, floor_of}
+use Rattle.ddf_steps.specs.Ready.{ReadyStep}
+use Rattle.ddf_recovery.specs.Ready.{ReadyValue, all_ready, readied}
+use Rattle.ddf_recovery.specs.Recovery.{disks_recovered}
+use Rattle.ddf_seats.specs.Seated.{slots_in}
+use Rattle.ddf_steps.specs.Steps.{Step, in_order}
+use Rattle.ddf_steps.specs.Trying.{AreFollowing, ArePrepared}
+use Rattle.ddf_steps.proofs.Ordered.{order_from}
+use Rattle.ddf_recovery.proofs.RecoveredGroup.{recovery_follows}
+use Rattle.ddf_recovery.proofs.RecoveryWritten.{may_recover, recovery_lies}
 use Rattle.ddf_history_steps.specs.Kept.{ReadsTrue, SaysOne, is_slot, unwritten}
 use Rattle.ddf_history_steps.proofs.Again.{bytes_say_one}
 use Rattle.ddf_history_steps.proofs.Slots.{slot_placed}
@@ -40,7 +42,6 @@ use Rattle.ddf_group_commands.specs.Writing.{IsLeftWriting, IsStepsSector, IsWri
 use Rattle.ddf_group_commands.proofs.Keeping.{MayLeave, Moments, Tells}
 use Rattle.ddf_group_commands.proofs.Recovering.{rest_lies}
 use Rattle.ddf_group_commands.proofs.StepsWritten.{steps_in}
-use Rattle.ddf_assembly.specs.Group.{floor_of}
 use Rattle.ddf_history_steps.specs.Floors.{HasFloor}
 use Rattle.ddf_history_steps.proofs.Placed.{each_floor}
 

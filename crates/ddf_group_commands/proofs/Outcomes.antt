@@ -14,15 +14,16 @@ use Rattle.ddf_plan.specs.declared.change.Change.{Change}
 use Rattle.ddf_plan.specs.declared.fault.PlanFault.{PlanFault}
 use Rattle.ddf_plan.specs.declared.fault.PlanFault.TheVariants as plans
 use Rattle.ddf_request.specs.Request.{IsRequested}
-use Rattle.ddf_assembly.specs.Committed.{slots_of}
-use Rattle.ddf_assembly.specs.Group.{GroupValue, UpToMemory as FoundUpToMemory, group_of}
+use Rattle.ddf_steps.specs.Committed.{slots_of}
+use Rattle.ddf_seats.specs.Group.{GroupValue}
+use Rattle.ddf_assembly.specs.Group.{UpToMemory as FoundUpToMemory, group_of}
 use Rattle.ddf_assembly.specs.Held.{IsHeldOn, StandsUnder}
-use Rattle.ddf_assembly.specs.Ready.{IsReadied, readied}
-use Rattle.ddf_assembly.specs.Recovery.{config_recovered}
+use Rattle.ddf_recovery.specs.Ready.{IsReadied, readied}
+use Rattle.ddf_recovery.specs.Recovery.{config_recovered}
 use Rattle.ddf_assembly.specs.Slots.{newest_from}
-use Rattle.ddf_assembly.specs.Steps.{Step}
-use Rattle.ddf_assembly.specs.declared.fault.GroupFault.{GroupFault}
-use Rattle.ddf_assembly.specs.declared.fault.GroupFault.TheVariants as groups
+use Rattle.ddf_steps.specs.Steps.{Step}
+use Rattle.ddf_seats.specs.declared.fault.GroupFault.{GroupFault}
+use Rattle.ddf_seats.specs.declared.fault.GroupFault.TheVariants as groups
 use Rattle.ddf_answer.specs.declared.failure.Failure.{Failure}
 use Rattle.ddf_answer.specs.declared.failure.Failure.TheVariants.{Conflict, Disk, Memory, Refused, Split}
 use Rattle.ddf_answer.specs.Answers.{failure_of, failure_of_plan}

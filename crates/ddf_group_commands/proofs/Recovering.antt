@@ -8,21 +8,24 @@ use Rattle.ddf_plan.specs.declared.change.Change.{Change}
 use Rattle.ddf_rewrite.proofs.Lists.{all_at, get_map, map_get}
 use Rattle.ddf_update.specs.Changes.{AreChanged, MayChangeAll, SlotChange}
 use Rattle.ddf_update.specs.Group.{IsOneOf, LieOnSlots}
-use Rattle.ddf_assembly.specs.declared.seated.Seated.{Seated}
+use Rattle.ddf_seats.specs.declared.seated.Seated.{Seated}
 use Rattle.ddf_assembly.specs.Assembled.{IsAssembledGroup}
-use Rattle.ddf_assembly.specs.Committed.{AreRewriting, AreSettled, HaveSlots, IsReadyFor, IsRewritten, MayRecover, MayWriteNext, WasReadied, group_next, group_recovered, next_slots, next_updates, recovery_slots, recovery_updates, slots_of, slots_written, synced}
-use Rattle.ddf_assembly.specs.Group.{GroupValue}
-use Rattle.ddf_assembly.specs.Ready.{ReadyStep, ReadyValue, all_ready, readied}
-use Rattle.ddf_assembly.specs.Recovery.{config_recovered, disks_recovered, recovery_of, some}
-use Rattle.ddf_assembly.specs.Seated.{seated, seats_in, slots_in}
-use Rattle.ddf_assembly.specs.Steps.{Step, in_order}
-use Rattle.ddf_assembly.proofs.Ordered.{order_at, order_from}
-use Rattle.ddf_assembly.specs.Trying.{AreFollowing, Follows}
-use Rattle.ddf_assembly.proofs.Committed.{may_write_next, next_lies, seats_on_slots}
-use Rattle.ddf_assembly.proofs.CommittedSeats.{seated_is}
-use Rattle.ddf_assembly.proofs.ReadiedParts.{are_tried}
-use Rattle.ddf_assembly.proofs.RecoveredGroup.{recovered_ready}
-use Rattle.ddf_assembly.proofs.RecoveryWritten.{may_recover, recovered_anchored, recovered_held, recovery_lies, recovery_on_seats}
+use Rattle.ddf_steps.specs.Committed.{AreRewriting, AreSettled, HaveSlots, IsRewritten, slots_of, synced}
+use Rattle.ddf_recovery.specs.Committed.{IsReadyFor, MayRecover, MayWriteNext, WasReadied, group_next, group_recovered, next_slots, next_updates, recovery_slots, recovery_updates, slots_written}
+use Rattle.ddf_seats.specs.Group.{GroupValue}
+use Rattle.ddf_steps.specs.Ready.{ReadyStep}
+use Rattle.ddf_recovery.specs.Ready.{ReadyValue, all_ready, readied}
+use Rattle.ddf_recovery.specs.Recovery.{config_recovered, disks_recovered, recovery_of}
+use Rattle.ddf_seats.specs.Leading.{some}
+use Rattle.ddf_seats.specs.Seated.{seated, seats_in, slots_in}
+use Rattle.ddf_steps.specs.Steps.{Step, in_order}
+use Rattle.ddf_steps.proofs.Ordered.{order_at, order_from}
+use Rattle.ddf_steps.specs.Trying.{AreFollowing, Follows}
+use Rattle.ddf_recovery.proofs.Committed.{may_write_next, next_lies, seats_on_slots}
+use Rattle.ddf_seats.proofs.CommittedSeats.{seated_is}
+use Rattle.ddf_recovery.proofs.ReadiedParts.{are_tried}
+use Rattle.ddf_recovery.proofs.RecoveredGroup.{recovered_ready}
+use Rattle.ddf_recovery.proofs.RecoveryWritten.{may_recover, recovered_anchored, recovered_held, recovery_lies, recovery_on_seats}
 use Rattle.ddf_answer.specs.Call.{work_of}
 use Rattle.ddf_group_commands.specs.Change.{IsDoneTo, IsFaultOn, steps_or}
 use Rattle.ddf_group_commands.specs.GroupRead.{IsReadFrom}
@@ -63,7 +66,7 @@ next_on_seat group (one ∷ others) rewrites slot is =
 
 -- ---- what was readied
 
--- What `ready` answered was readied.
+-- What `make_ready` answered was readied.
 pub was_readied : (group : GroupValue) (changes : List Change) (timestamp : ℕ) (ready : ReadyValue) → IsAssembledGroup group → timestamp < 2 ^ 32
     → readied group changes timestamp ≡ Ok (steps_in (all_ready ready)) → option_map (λ one. one.step) ready.recovery ≡ recovery_of timestamp group → IfSome ready.recovery (Follows (seated group))
     → AreFollowing (disks_recovered timestamp group) ready.steps → WasReadied group changes timestamp ready

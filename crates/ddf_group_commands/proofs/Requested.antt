@@ -34,7 +34,7 @@ use Rattle.ddf_request.specs.Spare.{served_guid, served_guids, use_of, with_guid
 use Rattle.ddf_request.specs.Slots.{is_on, reference_on, slot_refusals}
 use Rattle.ddf_request.proofs.Numbers.{least_fits}
 use Rattle.ddf_group_commands.specs.Requests.{HasByteCodes, HasLevelCodes}
-use Rattle.ddf_assembly.specs.Asked.{CanBeAsked, IsNewArray, IsNewPlan, IsNewPosition, IsNewUse}
+use Rattle.ddf_steps.specs.Asked.{CanBeAsked, IsNewArray, IsNewPlan, IsNewPosition, IsNewUse}
 
 -- The words for a new array keep within what words say, its codes are bytes, and the references of the disks have 32 bits.
 pub record HasBounds (seats : List Seat) (creation : Creation) : Type 0 where

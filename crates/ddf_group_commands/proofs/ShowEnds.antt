@@ -6,7 +6,8 @@ use Rattle.ddf_bytes.specs.Streams.{SinkRose, SinkState}
 use Rattle.ddf_words.specs.Traits.{traits_of}
 use Rattle.ddf_words.specs.declared.command.Command.TheVariants.{Show}
 use Rattle.ddf_group.specs.declared.answer.Assembly.{Assembly}
-use Rattle.ddf_assembly.specs.Group.{GroupValue, group_of}
+use Rattle.ddf_seats.specs.Group.{GroupValue}
+use Rattle.ddf_assembly.specs.Group.{group_of}
 use Rattle.ddf_assembly.specs.Slots.{IsLooked, newest_from}
 use Rattle.ddf_answer.specs.declared.failure.Failure.{Failure}
 use Rattle.ddf_answer.specs.declared.failure.Failure.TheVariants.{Conflict, Disk, Memory, Refused, Split}

@@ -15,17 +15,18 @@ use Rattle.ddf_rewrite.proofs.Lists.{get_map, map_get}
 use Rattle.ddf_update.specs.Changes.{AreChanged, MayChangeAll, SlotChange, anchor_after}
 use Rattle.ddf_update.specs.Prepared.{all_sectors}
 use Rattle.ddf_update.specs.Update.{AreBoth}
-use Rattle.ddf_assembly.specs.declared.seated.Seated.{Seated}
-use Rattle.ddf_assembly.specs.Committed.{MayRecover, MayWriteNext, group_next, group_recovered, next_slots, next_updates, slots_of, slots_written, synced, updates_written}
-use Rattle.ddf_assembly.specs.Group.{GroupValue, floor_of}
-use Rattle.ddf_assembly.specs.Ready.{ReadyStep, steps_from}
-use Rattle.ddf_assembly.specs.Refusing.{step_refusal}
-use Rattle.ddf_assembly.specs.Seated.{slots_in}
-use Rattle.ddf_assembly.specs.Steps.{Step, in_order, step_of}
-use Rattle.ddf_assembly.specs.Trying.{AreFollowing, Follows}
-use Rattle.ddf_assembly.proofs.CommittedLevels.{slot_or_none}
-use Rattle.ddf_assembly.proofs.CommittedSeats.{get_there}
-use Rattle.ddf_assembly.proofs.Ordered.{order_at, order_from}
+use Rattle.ddf_seats.specs.declared.seated.Seated.{Seated}
+use Rattle.ddf_recovery.specs.Committed.{MayRecover, MayWriteNext, group_next, group_recovered, next_slots, next_updates, slots_written, updates_written}
+use Rattle.ddf_steps.specs.Committed.{slots_of, synced}
+use Rattle.ddf_seats.specs.Group.{GroupValue, floor_of}
+use Rattle.ddf_steps.specs.Ready.{ReadyStep, steps_from}
+use Rattle.ddf_steps.specs.Refusing.{step_refusal}
+use Rattle.ddf_seats.specs.Seated.{slots_in}
+use Rattle.ddf_steps.specs.Steps.{Step, in_order, step_of}
+use Rattle.ddf_steps.specs.Trying.{AreFollowing, Follows}
+use Rattle.ddf_steps.proofs.CommittedLevels.{slot_or_none}
+use Rattle.ddf_seats.proofs.CommittedSeats.{get_there}
+use Rattle.ddf_steps.proofs.Ordered.{order_at, order_from}
 use Rattle.ddf_group_commands.specs.Change.{last_sequence}
 use Rattle.ddf_group_commands.specs.Written.{AreWritten, HasCopy, IsWritten}
 use Rattle.ddf_history_steps.proofs.Placed.{got_floor}

@@ -7,7 +7,8 @@ use Rattle.ddf_config.specs.Seats.{SeatsFit}
 use Rattle.ddf_group.specs.declared.answer.Assembly.{Assembly}
 use Rattle.ddf_assembly.specs.declared.assembling.AssembledGroup.{AssembledGroup}
 use Rattle.ddf_assembly.specs.Assembled.{IsAssembledGroup}
-use Rattle.ddf_assembly.specs.Group.{GroupValue, group_of}
+use Rattle.ddf_seats.specs.Group.{GroupValue}
+use Rattle.ddf_assembly.specs.Group.{group_of}
 use Rattle.ddf_assembly.specs.Held.{AreHeldOn, StandUnder}
 use Rattle.ddf_assembly.specs.Reading.{HaveAnchors}
 use Rattle.ddf_assembly.specs.Slots.{AreOut, newest_from}

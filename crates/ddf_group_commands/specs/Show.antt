@@ -1,6 +1,6 @@
 -- What `show` tells, and how it ends.
 use Rattle.std.specs.Prelude.{◌⊎◌, ℕ, List, Option, Result, Ok, Err}
-use Rattle.ddf_assembly.specs.Group.{GroupValue}
+use Rattle.ddf_seats.specs.Group.{GroupValue}
 use Rattle.ddf_text.specs.GroupText.{shown_text}
 use Rattle.ddf_answer.specs.declared.failure.Failure.{Failure}
 use Rattle.ddf_answer.specs.declared.failure.Failure.TheVariants.{Memory}

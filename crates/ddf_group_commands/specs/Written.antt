@@ -5,9 +5,9 @@ use Rattle.ddf_header.specs.declared.reading.Header.{Header}
 use Rattle.ddf_update.specs.declared.prepared.Prepared.{Prepared}
 use Rattle.ddf_update.specs.Prepared.{IsPrepared}
 use Rattle.ddf_update.specs.Update.{AreBoth, IsWritten as IsUpdateSector}
-use Rattle.ddf_assembly.specs.declared.seated.Seated.{Seated}
-use Rattle.ddf_assembly.specs.Steps.{Step}
-use Rattle.ddf_assembly.specs.Group.{floor_of}
+use Rattle.ddf_seats.specs.declared.seated.Seated.{Seated}
+use Rattle.ddf_steps.specs.Steps.{Step}
+use Rattle.ddf_seats.specs.Group.{floor_of}
 use Rattle.ddf_history_steps.specs.Floors.{HasFloor}
 
 -- A disk has its copy in both places, and all outside what it writes is as it was. It has the floor that it had, where that is the copy's.

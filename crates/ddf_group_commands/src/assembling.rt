@@ -13,6 +13,7 @@ use crate::writing::{read_group, recovered, write_changes};
 use ddf_answer::{Failure, Status, tell, tell_failure};
 use ddf_bay::Bay;
 use ddf_bytes::{Guid, Sink, Stamp};
+use ddf_recovery::loss;
 use ddf_text::group_text;
 use std::alloc::Global;
 
@@ -45,7 +46,7 @@ fn assembled<B: Bay>(
     ensures same_sizes { (B.disks bay.new).sizes ≡ (B.disks bay.old).sizes }
 {
     let mut group = read_group(alloc, named, bay)?;
-    let loss = group.loss(alloc)?;
+    let loss = loss(alloc, &group)?;
     let text = group_text(alloc, recovered(&group, &loss), group.seats())?;
     write_changes(alloc, &mut group, &[], stamp.timestamp(), bay)?;
     Ok(text)

@@ -17,6 +17,7 @@ use ddf_answer::{Failure, Status, tell, tell_failure};
 use ddf_bay::Bay;
 use ddf_bytes::{Guid, Sink, Stamp};
 use ddf_plan::Change;
+use ddf_recovery::loss;
 use ddf_request::request;
 use ddf_text::sequence_line;
 use ddf_words::Wish;
@@ -58,7 +59,7 @@ fn changed<B: Bay>(
 {
     have_byte_codes(wish);
     let mut group = read_group(alloc, named, bay)?;
-    let loss = group.loss(alloc)?;
+    let loss = loss(alloc, &group)?;
     let change = request(
         alloc,
         bay.slots(),

@@ -3,12 +3,12 @@ ghost use Rattle.std.specs.Prelude.{◌≡◌, ◌+◌, ◌*◌, ◌≤◌, ℕ,
 ghost use Rattle.std.specs.List.{AllByRecursion};
 ghost use Rattle.ddf_bay.specs.Moments.{GoesOn, StopsLeave};
 ghost use Rattle.ddf_bay.specs.ReadsOnly.{ReadsOnly};
-ghost use Rattle.ddf_assembly.specs.Asked.{CanBeAsked};
-ghost use Rattle.ddf_assembly.specs.Committed.{slots_of};
-ghost use Rattle.ddf_assembly.specs.Ready.{readied};
-ghost use Rattle.ddf_assembly.specs.Recovery.{config_recovered, loss_of};
+ghost use Rattle.ddf_steps.specs.Asked.{CanBeAsked};
+ghost use Rattle.ddf_steps.specs.Committed.{slots_of};
+ghost use Rattle.ddf_recovery.specs.Ready.{readied};
+ghost use Rattle.ddf_recovery.specs.Recovery.{config_recovered, loss_of};
 ghost use Rattle.ddf_assembly.specs.Slots.{LeaveNone};
-ghost use Rattle.ddf_assembly.specs.Steps.{Step};
+ghost use Rattle.ddf_steps.specs.Steps.{Step};
 ghost use Rattle.ddf_answer.specs.Call.{work_of};
 ghost use Rattle.ddf_group_commands.specs.Change.{IsChanged, KeepsHistories, failure_of_group, is_done, steps_or};
 ghost use Rattle.ddf_group_commands.specs.Costs.{CostsOfAsked};
@@ -17,11 +17,13 @@ ghost use Rattle.ddf_group_commands.specs.Others.{LeavesOthers};
 ghost use Rattle.ddf_group_commands.specs.Writing.{IsLeftWriting};
 
 use ddf_answer::Failure;
-use ddf_assembly::{AssembledGroup, Group, GroupFault, assemble_with_left_out};
+use ddf_assembly::{AssembledGroup, Group, assemble_with_left_out};
 use ddf_bay::Bay;
 use ddf_bytes::Guid;
 use ddf_config::{Config, Refusal};
 use ddf_plan::Change;
+use ddf_recovery::{commit, make_ready, recover};
+use ddf_seats::GroupFault;
 use std::alloc::Global;
 
 /// The group that the disks are.
@@ -109,11 +111,11 @@ pub(crate) fn write_changes<B: Bay>(
     ensures calls { (B.disks bay.new).calls ≤ (B.disks bay.old).calls + 51 * length (B.disks bay.old).sizes }
     ensures costs { CostsOfAsked (work_of B.tells (B.disks bay.old) (B.disks bay.new)) (steps_or (readied group.old changes.now timestamp)) }
 {
-    let mut ready = match group.ready(alloc, changes, timestamp) {
+    let mut ready = match make_ready(alloc, group, changes, timestamp) {
         Ok(ready) => ready,
         Err(fault) => return Err(failure_of(fault)),
     };
-    group.recover(bay, &mut ready)?;
-    group.commit(bay, &mut ready)?;
+    recover(group, bay, &mut ready)?;
+    commit(group, bay, &mut ready)?;
     Ok(group.config().sequence)
 }

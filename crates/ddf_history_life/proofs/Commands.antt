@@ -10,8 +10,9 @@ use Rattle.ddf_history.specs.Answer.{IsPromised}
 use Rattle.ddf_history.specs.Groups.{groups}
 use Rattle.ddf_history.specs.History.{KeepsAcked}
 use Rattle.ddf_history.specs.Issued.{Past}
-use Rattle.ddf_assembly.specs.Group.{GroupValue, group_of}
-use Rattle.ddf_assembly.specs.Recovery.{config_recovered}
+use Rattle.ddf_seats.specs.Group.{GroupValue}
+use Rattle.ddf_assembly.specs.Group.{group_of}
+use Rattle.ddf_recovery.specs.Recovery.{config_recovered}
 use Rattle.ddf_history_steps.specs.Going.{changes_in}
 use Rattle.ddf_history_steps.specs.Kept.{is_read, told_answer}
 use Rattle.ddf_history_steps.proofs.SlotsKept.{ends_slots}

@@ -10,7 +10,7 @@ use Rattle.ddf_config.specs.Configuration.{Configuration}
 use Rattle.ddf_update.specs.NewCopies.{group_of as name_of}
 use Rattle.ddf_history.specs.Groups.{Disk, groups, has_current, has_missing}
 use Rattle.ddf_history.specs.Issued.{IsSince, Past, give_back, lose}
-use Rattle.ddf_assembly.specs.Group.{GroupValue}
+use Rattle.ddf_seats.specs.Group.{GroupValue}
 use Rattle.ddf_history_steps.specs.Going.{Ends, IsOver, KeepsSlots, changes_in}
 use Rattle.ddf_history_steps.specs.Kept.{is_read}
 use Rattle.ddf_history_steps.proofs.LastIssued.{over_last, over_length}

@@ -12,8 +12,9 @@ use Rattle.ddf_history.specs.Answer.{IsPromised}
 use Rattle.ddf_history.specs.Groups.{Disk, disk_of, groups, has_current}
 use Rattle.ddf_history.specs.History.{KeepsAcked}
 use Rattle.ddf_history.specs.Issued.{IsSince, Past}
-use Rattle.ddf_assembly.specs.Group.{GroupValue, group_of}
-use Rattle.ddf_assembly.specs.Steps.{Step}
+use Rattle.ddf_seats.specs.Group.{GroupValue}
+use Rattle.ddf_assembly.specs.Group.{group_of}
+use Rattle.ddf_steps.specs.Steps.{Step}
 use Rattle.ddf_history_steps.specs.Founding.{founding_config}
 use Rattle.ddf_history_steps.specs.Kept.{is_read, told_answer}
 use Rattle.ddf_answer.specs.declared.failure.Failure.{Failure}

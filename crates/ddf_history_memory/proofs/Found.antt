@@ -40,14 +40,15 @@ use Rattle.ddf_history.proofs.Listed.{value_there}
 use Rattle.ddf_history.proofs.Since.{first_is_copy, first_there}
 use Rattle.ddf_history.proofs.Sound.{groups_are_sound}
 use Rattle.ddf_history.proofs.Starting.{found_kept}
-use Rattle.ddf_assembly.specs.Group.{GroupValue, group_as, group_of}
+use Rattle.ddf_seats.specs.Group.{GroupValue}
+use Rattle.ddf_assembly.specs.Group.{group_as, group_of}
 use Rattle.ddf_assembly.specs.Reading.{AreNewest}
 use Rattle.ddf_assembly.specs.Settled.{IsSettledGroup}
 use Rattle.ddf_assembly.specs.Slots.{newest_from}
 use Rattle.ddf_assembly.proofs.LeftBefore as groups_left
 use Rattle.ddf_assembly.proofs.LeftBefore.{IsClaimedDisk, IsFoundAs, claimed_disk, disks_claimed, found_by, kept_at, leader_claimed, level_at, none_gone}
 use Rattle.ddf_assembly.proofs.Settled.{settled}
-use Rattle.ddf_assembly.specs.Seated.{seated}
+use Rattle.ddf_seats.specs.Seated.{seated}
 use Rattle.ddf_history_steps.specs.Kept.{is_read}
 use Rattle.ddf_history_steps.proofs.Begun.{IsMadeOf, found_named}
 use Rattle.ddf_history_steps.proofs.Claimed.{entry_there, has_its_reference}

@@ -13,10 +13,10 @@ use Rattle.ddf_history.specs.Issued.{IsSince, Past}
 use Rattle.ddf_history.specs.Promise.{IsKept}
 use Rattle.ddf_history.specs.Scenes.{scene_of}
 use Rattle.ddf_history.proofs.Lists.{get_within}
-use Rattle.ddf_assembly.specs.Group.{GroupValue}
-use Rattle.ddf_assembly.specs.Ready.{readied}
+use Rattle.ddf_seats.specs.Group.{GroupValue}
+use Rattle.ddf_recovery.specs.Ready.{readied}
 use Rattle.ddf_assembly.specs.Slots.{newest_from}
-use Rattle.ddf_assembly.specs.Steps.{Step}
+use Rattle.ddf_steps.specs.Steps.{Step}
 use Rattle.ddf_history_steps.specs.Going.{Ends, IsOver, changes_in}
 use Rattle.ddf_history_steps.specs.Kept.{is_read}
 use Rattle.ddf_history_steps.specs.Members.{KeepsMembers}

@@ -12,7 +12,8 @@ use Rattle.ddf_history.specs.History.{KeepsAcked}
 use Rattle.ddf_history.specs.Reading.{IsCopyOf, Scene, ShowsGroup, stands}
 use Rattle.ddf_history.specs.Scenes.{scene_of}
 use Rattle.ddf_assembly.specs.Assembled.{IsAssembledGroup}
-use Rattle.ddf_assembly.specs.Group.{GroupValue, group_of}
+use Rattle.ddf_seats.specs.Group.{GroupValue}
+use Rattle.ddf_assembly.specs.Group.{group_of}
 use Rattle.ddf_assembly.specs.Reading.{HaveAnchors}
 use Rattle.ddf_assembly.specs.Slots.{newest_from}
 use Rattle.ddf_history_steps.specs.Going.{Ends}

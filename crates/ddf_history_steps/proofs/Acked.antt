@@ -5,8 +5,8 @@ use Rattle.ddf_history.specs.Groups.{groups}
 use Rattle.ddf_history.specs.History.{KeepsAcked}
 use Rattle.ddf_history.specs.Issued.{Past, issue, leave_out, take_off}
 use Rattle.ddf_history.proofs.Lists.{get_kept, taken_get}
-use Rattle.ddf_assembly.specs.Group.{GroupValue}
-use Rattle.ddf_assembly.specs.Recovery.{some}
+use Rattle.ddf_seats.specs.Group.{GroupValue}
+use Rattle.ddf_seats.specs.Leading.{some}
 use Rattle.ddf_history_steps.specs.Going.{Ends, Goes, IsOver, IsUnderway, begun, issue_all}
 
 module _ (group : List ℕ) where

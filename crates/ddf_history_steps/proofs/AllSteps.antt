@@ -5,13 +5,15 @@ use Rattle.ddf_config.specs.declared.refusal.Refusal.{Refusal}
 use Rattle.ddf_config.specs.Configuration.{Configuration}
 use Rattle.ddf_plan.specs.declared.change.Change.{Change}
 use Rattle.ddf_plan.specs.Same.{is_step}
-use Rattle.ddf_assembly.specs.declared.seated.Seated.{Seated}
-use Rattle.ddf_assembly.specs.Group.{GroupValue}
-use Rattle.ddf_assembly.specs.Ready.{readied, steps_from, with_step}
-use Rattle.ddf_assembly.specs.Recovery.{config_recovered, disks_recovered, has_stray, recovery_of}
-use Rattle.ddf_assembly.specs.Refusing.{step_refusal}
-use Rattle.ddf_assembly.specs.Steps.{Step, levelled, step_of}
-use Rattle.ddf_assembly.proofs.ReadiedSteps.{are_tried, behind, none_stray, steps_are}
+use Rattle.ddf_seats.specs.declared.seated.Seated.{Seated}
+use Rattle.ddf_seats.specs.Group.{GroupValue}
+use Rattle.ddf_recovery.specs.Ready.{readied}
+use Rattle.ddf_steps.specs.Ready.{steps_from, with_step}
+use Rattle.ddf_recovery.specs.Recovery.{config_recovered, disks_recovered, has_stray, recovery_of}
+use Rattle.ddf_steps.specs.Refusing.{step_refusal}
+use Rattle.ddf_steps.specs.Steps.{Step, step_of}
+use Rattle.ddf_seats.specs.Seated.{levelled}
+use Rattle.ddf_recovery.proofs.ReadiedSteps.{are_tried, behind, none_stray, steps_are}
 
 -- each step has it
 abbrev pub AllSteps : (Step → Type 0) → List Step → Type 0

@@ -24,7 +24,8 @@ use Rattle.ddf_history.specs.Scenes.{scene_of}
 use Rattle.ddf_history.proofs.AnsweredLists.{found_passes, missed_below}
 use Rattle.ddf_history.proofs.AnsweredSlots.{nothing_past, slot_shows}
 use Rattle.ddf_history.proofs.Since.{some_is}
-use Rattle.ddf_assembly.specs.Group.{GroupValue, group_of, group_or_fault}
+use Rattle.ddf_seats.specs.Group.{GroupValue}
+use Rattle.ddf_assembly.specs.Group.{group_of, group_or_fault}
 use Rattle.ddf_assembly.specs.Slots.{newest_from}
 use Rattle.ddf_history_steps.specs.Kept.{is_read, told_answer}
 use Rattle.ddf_history_steps.proofs.Begun.{group_answered}

@@ -20,7 +20,8 @@ use Rattle.ddf_history.specs.Groups.{groups}
 use Rattle.ddf_history.specs.Scenes.{answer_of, scene_of}
 use Rattle.ddf_history.proofs.Assembling.{promised}
 use Rattle.ddf_history.proofs.Sound.{groups_are_sound}
-use Rattle.ddf_assembly.specs.Group.{GroupValue, group_as, group_of, group_or_fault}
+use Rattle.ddf_seats.specs.Group.{GroupValue}
+use Rattle.ddf_assembly.specs.Group.{group_as, group_of, group_or_fault}
 use Rattle.ddf_assembly.specs.Slots.{newest_from}
 use Rattle.ddf_history_steps.specs.Kept.{is_read, told_answer}
 use Rattle.ddf_history_steps.proofs.Told.{assembled_told, named_same}

@@ -18,8 +18,8 @@ use Rattle.ddf_history.specs.Groups.{groups}
 use Rattle.ddf_history.specs.Issued.{Past}
 use Rattle.ddf_history.specs.Promise.{IsKept}
 use Rattle.ddf_history.specs.Scenes.{scene_of, told_of}
-use Rattle.ddf_assembly.specs.Committed.{AreSettled}
-use Rattle.ddf_assembly.specs.Group.{GroupValue}
+use Rattle.ddf_steps.specs.Committed.{AreSettled}
+use Rattle.ddf_seats.specs.Group.{GroupValue}
 use Rattle.ddf_assembly.specs.Held.{IsHeldOn, StandsUnder}
 use Rattle.ddf_assembly.specs.Reading.{HaveAnchors}
 use Rattle.ddf_history_steps.specs.AtEnd.{IsAtEnd}

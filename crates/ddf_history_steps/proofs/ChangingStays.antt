@@ -11,7 +11,7 @@ use Rattle.ddf_plan.specs.declared.change.Change.{Change}
 use Rattle.ddf_plan.specs.Members.{members_after}
 use Rattle.ddf_plan.specs.Changes.{changed_at}
 use Rattle.ddf_history.specs.Groups.{Disk, has_current}
-use Rattle.ddf_assembly.proofs.MembersAfter.{are_after}
+use Rattle.ddf_steps.proofs.MembersAfter.{are_after}
 
 -- Numbers that differ one way do so the other.
 turned : (one other : ℕ) (test : Bool) → nat_eq other one ≡ test → eqb one other ≡ false → nat_eq other one ≡ false

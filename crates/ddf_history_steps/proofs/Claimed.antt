@@ -34,12 +34,13 @@ use Rattle.ddf_history.proofs.Calls.{seen_copy, seen_read}
 use Rattle.ddf_history.proofs.Listed.{value_there}
 use Rattle.ddf_history.proofs.Since.{first_is_copy, on_shows, same_number, some_is, which}
 use Rattle.ddf_history.proofs.Sound.{groups_are_sound}
-use Rattle.ddf_assembly.specs.declared.seated.Seated.{Seated}
-use Rattle.ddf_assembly.specs.Committed.{slots_of}
-use Rattle.ddf_assembly.specs.Group.{GroupValue, copy_at, group_as, group_of, seat_at, seat_of}
-use Rattle.ddf_assembly.specs.Seated.{seated}
+use Rattle.ddf_seats.specs.declared.seated.Seated.{Seated}
+use Rattle.ddf_steps.specs.Committed.{slots_of}
+use Rattle.ddf_seats.specs.Group.{GroupValue, copy_at, seat_at, seat_of}
+use Rattle.ddf_assembly.specs.Group.{group_as, group_of}
+use Rattle.ddf_seats.specs.Seated.{seated}
 use Rattle.ddf_assembly.specs.Slots.{newest_from}
-use Rattle.ddf_assembly.proofs.CommittedSeats.{seated_is}
+use Rattle.ddf_seats.proofs.CommittedSeats.{seated_is}
 use Rattle.ddf_assembly.proofs.LeftBefore.{kept_at}
 use Rattle.ddf_rewrite.proofs.AllWanted.{filter_map_get}
 use Rattle.ddf_rewrite.proofs.Lists.{get_map, get_range}
@@ -348,3 +349,15 @@ module _ (group : List ℕ) {D : Type 0} (state : BayState D) (left : List Bool)
   current_seated none slot current =
       let found = none_absent none (past.disk slot) current in
       subst (λ (s : ℕ). is_slot (slots_of g.seats) s ≡ true) (sym (same_slot slot current found.0 found.1 found.2 found.3)) (claimed_seated found.0 found.1 found.2)
+
+-- ---- numbers
+
+-- Numbers are equal either way.
+pub either_way : (one other : ℕ) → nat_eq one other ≡ eqb other one
+either_way one other = go (nat_eq one other) refl (eqb other one) refl
+  where
+    go : (here : Bool) → nat_eq one other ≡ here → (there : Bool) → eqb other one ≡ there → nat_eq one other ≡ eqb other one
+    go true h true t = h ∙ sym t
+    go false h false t = h ∙ sym t
+    go true h false t = absurd (false≢true (sym t ∙ eq-eqb other one (sym (eqb-true one other h))))
+    go false h true t = absurd (false≢true (sym h ∙ eq-eqb one other (sym (eqb-true other one t))))

@@ -17,18 +17,19 @@ use Rattle.ddf_history.specs.Groups.{groups}
 use Rattle.ddf_history.specs.Issued.{Past, acknowledge, issue}
 use Rattle.ddf_history.specs.Promise.{IsKept}
 use Rattle.ddf_history.specs.Scenes.{scene_of}
-use Rattle.ddf_assembly.specs.declared.seated.Seated.{Seated}
-use Rattle.ddf_assembly.specs.Asked.{CanBeAsked}
-use Rattle.ddf_assembly.specs.Committed.{IsReadyFor, MayWriteNext, group_next, next_slots, next_updates}
-use Rattle.ddf_assembly.specs.Group.{GroupValue}
+use Rattle.ddf_seats.specs.declared.seated.Seated.{Seated}
+use Rattle.ddf_steps.specs.Asked.{CanBeAsked}
+use Rattle.ddf_recovery.specs.Committed.{IsReadyFor, MayWriteNext, group_next, next_slots, next_updates}
+use Rattle.ddf_seats.specs.Group.{GroupValue}
 use Rattle.ddf_assembly.specs.Reading.{HaveAnchors}
-use Rattle.ddf_assembly.specs.Ready.{ReadyStep, ReadyValue, group_after}
-use Rattle.ddf_assembly.specs.Refusing.{step_refusal}
-use Rattle.ddf_assembly.specs.Seated.{seated, slots_in, views_in}
-use Rattle.ddf_assembly.specs.Steps.{Step, config_after, in_order, levelled, step_of}
-use Rattle.ddf_assembly.specs.Trying.{SlotsRise}
-use Rattle.ddf_assembly.proofs.Committed.{next_lies}
-use Rattle.ddf_assembly.proofs.CommittedAfter.{after_is, committed_anchored, committed_holds, left_ready}
+use Rattle.ddf_steps.specs.Ready.{ReadyStep, group_after}
+use Rattle.ddf_recovery.specs.Ready.{ReadyValue}
+use Rattle.ddf_steps.specs.Refusing.{step_refusal}
+use Rattle.ddf_seats.specs.Seated.{seated, slots_in, views_in, levelled}
+use Rattle.ddf_steps.specs.Steps.{Step, config_after, in_order, step_of}
+use Rattle.ddf_seats.specs.Changing.{SlotsRise}
+use Rattle.ddf_recovery.proofs.Committed.{next_lies}
+use Rattle.ddf_recovery.proofs.CommittedAfter.{after_is, committed_anchored, committed_holds, left_ready}
 use Rattle.ddf_history_steps.specs.Kept.{is_slot}
 use Rattle.ddf_history_steps.specs.AtEnd.{IsAtEnd, IsMember}
 use Rattle.ddf_history_steps.proofs.Changing.{acknowledged_last, follows}

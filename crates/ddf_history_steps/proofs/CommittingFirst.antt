@@ -6,17 +6,18 @@ use Rattle.ddf_config.specs.declared.refusal.Refusal.{Refusal}
 use Rattle.ddf_config.specs.Configuration.{Configuration}
 use Rattle.ddf_plan.specs.declared.change.Change.{Change}
 use Rattle.ddf_plan.specs.Same.{is_step}
-use Rattle.ddf_assembly.specs.declared.seated.Seated.{Seated}
-use Rattle.ddf_assembly.specs.Committed.{WasReadied, group_recovered}
-use Rattle.ddf_assembly.specs.Group.{GroupValue}
-use Rattle.ddf_assembly.specs.Ready.{ReadyStep, ReadyValue, is_spent, steps_from, with_step}
-use Rattle.ddf_assembly.specs.Recovery.{config_recovered}
-use Rattle.ddf_assembly.specs.Refusing.{step_refusal}
-use Rattle.ddf_assembly.specs.Seated.{seated}
-use Rattle.ddf_assembly.specs.Steps.{Step, step_of}
-use Rattle.ddf_assembly.proofs.CommittedReadied.{NoneSpent}
-use Rattle.ddf_assembly.proofs.ReadiedParts.{are_tried, none_spent}
-use Rattle.ddf_assembly.proofs.RecoveredGroup.{is_recovered}
+use Rattle.ddf_seats.specs.declared.seated.Seated.{Seated}
+use Rattle.ddf_recovery.specs.Committed.{WasReadied, group_recovered}
+use Rattle.ddf_seats.specs.Group.{GroupValue}
+use Rattle.ddf_steps.specs.Ready.{ReadyStep, is_spent, steps_from, with_step}
+use Rattle.ddf_recovery.specs.Ready.{ReadyValue}
+use Rattle.ddf_recovery.specs.Recovery.{config_recovered}
+use Rattle.ddf_steps.specs.Refusing.{step_refusal}
+use Rattle.ddf_seats.specs.Seated.{seated}
+use Rattle.ddf_steps.specs.Steps.{Step, step_of}
+use Rattle.ddf_recovery.proofs.CommittedReadied.{NoneSpent}
+use Rattle.ddf_recovery.proofs.ReadiedParts.{are_tried, none_spent}
+use Rattle.ddf_recovery.proofs.RecoveredGroup.{is_recovered}
 
 -- The only step of what was readied is that of the change, which nothing refuses.
 pub record IsFirstStep (timestamp : ℕ) (group : GroupValue) (change : Change) (one : ReadyStep) (others : List ReadyStep) : Type 0 where

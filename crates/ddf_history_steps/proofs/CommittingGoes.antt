@@ -10,13 +10,16 @@ use Rattle.ddf_plan.specs.declared.change.Change.{Change}
 use Rattle.ddf_view.proofs.Finds.{place_within}
 use Rattle.ddf_history.specs.Groups.{groups}
 use Rattle.ddf_history.specs.Issued.{Past, IsSince, acknowledge, issue, leave_out, take_off}
-use Rattle.ddf_assembly.specs.Committed.{DoRise, WasReadied, group_recovered}
-use Rattle.ddf_assembly.specs.Group.{GroupValue}
-use Rattle.ddf_assembly.specs.Ready.{ReadyStep, ReadyValue, all_ready}
-use Rattle.ddf_assembly.specs.Recovery.{config_lost, config_recovered, recovery_of, some}
-use Rattle.ddf_assembly.specs.Steps.{Step}
-use Rattle.ddf_assembly.proofs.ReadiedParts.{loss_rises}
-use Rattle.ddf_assembly.proofs.RecoveredGroup.{is_recovered, none_left, recovered_ready}
+use Rattle.ddf_steps.specs.Committed.{DoRise}
+use Rattle.ddf_recovery.specs.Committed.{WasReadied, group_recovered}
+use Rattle.ddf_seats.specs.Group.{GroupValue}
+use Rattle.ddf_steps.specs.Ready.{ReadyStep}
+use Rattle.ddf_recovery.specs.Ready.{ReadyValue, all_ready}
+use Rattle.ddf_recovery.specs.Recovery.{config_lost, config_recovered, recovery_of}
+use Rattle.ddf_seats.specs.Leading.{some}
+use Rattle.ddf_steps.specs.Steps.{Step}
+use Rattle.ddf_recovery.proofs.ReadiedParts.{loss_rises}
+use Rattle.ddf_recovery.proofs.RecoveredGroup.{is_recovered, none_left, recovered_ready}
 use Rattle.ddf_history_steps.specs.Going.{IsOver, IsUnderway, begun, changes_in, issue_all}
 
 -- ---- issued changes

@@ -11,14 +11,15 @@ use Rattle.ddf_history.specs.Groups.{groups}
 use Rattle.ddf_history.specs.Issued.{Past}
 use Rattle.ddf_history.specs.Promise.{IsKept}
 use Rattle.ddf_history.specs.Scenes.{scene_of}
-use Rattle.ddf_assembly.specs.Committed.{MayWriteNext, group_next, left_behind, next_slots, next_updates}
-use Rattle.ddf_assembly.specs.Group.{GroupValue}
+use Rattle.ddf_recovery.specs.Committed.{MayWriteNext, group_next, left_behind, next_slots, next_updates}
+use Rattle.ddf_seats.specs.Group.{GroupValue}
 use Rattle.ddf_assembly.specs.Reading.{HaveAnchors}
-use Rattle.ddf_assembly.specs.Ready.{ReadyStep, ReadyValue, steps_from}
-use Rattle.ddf_assembly.specs.Seated.{seated}
-use Rattle.ddf_assembly.specs.Trying.{SlotsRise}
-use Rattle.ddf_assembly.proofs.Committed.{may_write_next}
-use Rattle.ddf_assembly.proofs.CommittedAfter.{after_is, committed_holds, left_ready}
+use Rattle.ddf_steps.specs.Ready.{ReadyStep, steps_from}
+use Rattle.ddf_recovery.specs.Ready.{ReadyValue}
+use Rattle.ddf_seats.specs.Seated.{seated}
+use Rattle.ddf_seats.specs.Changing.{SlotsRise}
+use Rattle.ddf_recovery.proofs.Committed.{may_write_next}
+use Rattle.ddf_recovery.proofs.CommittedAfter.{after_is, committed_holds, left_ready}
 use Rattle.ddf_history_steps.specs.AtEnd.{IsAtEnd}
 use Rattle.ddf_history_steps.specs.Kept.{SaysOne}
 use Rattle.ddf_history_steps.specs.Steps.{IsCommit, KeepsStep, StandsReady, behind_next, with_next}

@@ -18,11 +18,11 @@ use Rattle.ddf_history.specs.Scenes.{scene_of}
 use Rattle.ddf_history.specs.Steps.{AreWritten}
 use Rattle.ddf_history.proofs.Since.{which}
 use Rattle.ddf_rewrite.proofs.Lists.{all_at}
-use Rattle.ddf_assembly.specs.declared.seated.Seated.{Seated}
-use Rattle.ddf_assembly.specs.Committed.{HoldsGroup}
-use Rattle.ddf_assembly.specs.Group.{GroupValue}
+use Rattle.ddf_seats.specs.declared.seated.Seated.{Seated}
+use Rattle.ddf_recovery.specs.Committed.{HoldsGroup}
+use Rattle.ddf_seats.specs.Group.{GroupValue}
 use Rattle.ddf_assembly.specs.Reading.{HaveAnchors}
-use Rattle.ddf_assembly.specs.Seated.{seated}
+use Rattle.ddf_seats.specs.Seated.{seated}
 use Rattle.ddf_assembly.specs.Settled.{IsLevelIn, IsSettledGroup}
 use Rattle.ddf_history_steps.specs.Kept.{SaysOne, is_slot, unwritten}
 use Rattle.ddf_history_steps.proofs.ShownCopies.{shows_newest, told}

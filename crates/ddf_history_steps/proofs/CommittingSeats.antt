@@ -16,21 +16,22 @@ use Rattle.ddf_rewrite.proofs.Lists.{all_at, get_map, map_get}
 use Rattle.ddf_rewrite.proofs.Roomy.{change_can, roomy_change_can}
 use Rattle.ddf_update.specs.declared.new_layout.NewLayout.TheVariants.{Small}
 use Rattle.ddf_update.specs.NewCopies.{new_copy}
-use Rattle.ddf_assembly.specs.declared.seated.Seated.{Seated}
-use Rattle.ddf_assembly.specs.Asked.{CanBeAsked}
-use Rattle.ddf_assembly.specs.Full.{full_where_written}
-use Rattle.ddf_assembly.specs.Group.{GroupValue, copy_at}
-use Rattle.ddf_assembly.specs.Refusing.{step_refusal}
-use Rattle.ddf_assembly.specs.Seated.{seated, slots_in, views_in}
+use Rattle.ddf_seats.specs.declared.seated.Seated.{Seated}
+use Rattle.ddf_steps.specs.Asked.{CanBeAsked}
+use Rattle.ddf_steps.specs.Full.{full_where_written}
+use Rattle.ddf_seats.specs.Group.{GroupValue, copy_at}
+use Rattle.ddf_steps.specs.Refusing.{step_refusal}
+use Rattle.ddf_seats.specs.Seated.{seated, slots_in, views_in}
 use Rattle.ddf_assembly.specs.Settled.{IsLevelIn, IsSettledGroup}
-use Rattle.ddf_assembly.specs.Steps.{config_after, disks_after, rewritten, stays_in}
-use Rattle.ddf_assembly.specs.Trying.{AreCopies, CanBeHeldOn, CanTry}
-use Rattle.ddf_assembly.proofs.Following.{copies_are, next_held, room_for}
+use Rattle.ddf_steps.specs.Steps.{config_after, disks_after, rewritten, stays_in}
+use Rattle.ddf_seats.specs.Changing.{AreCopies, CanBeHeldOn}
+use Rattle.ddf_steps.specs.Trying.{CanTry}
+use Rattle.ddf_steps.proofs.Following.{copies_are, next_held, room_for}
 use Rattle.ddf_assembly.proofs.LeftBefore.{all_pass, kept_at}
-use Rattle.ddf_assembly.proofs.LeftStep.{from_kept}
-use Rattle.ddf_assembly.proofs.OneLength.{HasRoom, can_try_all, led_by_all, room_on}
-use Rattle.ddf_assembly.proofs.Rewritten.{capacities}
-use Rattle.ddf_assembly.proofs.StepConfig.{has_room, no_cause}
+use Rattle.ddf_recovery.proofs.LeftStep.{from_kept}
+use Rattle.ddf_steps.proofs.OneLength.{HasRoom, can_try_all, led_by_all, room_on}
+use Rattle.ddf_steps.proofs.Rewritten.{capacities}
+use Rattle.ddf_steps.proofs.StepConfig.{has_room, no_cause}
 use Rattle.ddf_history_steps.specs.Kept.{is_slot}
 use Rattle.ddf_history_steps.proofs.Slots.{slot_is, slot_placed}
 

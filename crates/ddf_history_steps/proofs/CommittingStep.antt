@@ -30,26 +30,26 @@ use Rattle.ddf_history.specs.Promise.{IsKept}
 use Rattle.ddf_history.specs.Scenes.{scene_of}
 use Rattle.ddf_history.specs.Steps.{AreWritten, JoinLast, MayFollow}
 use Rattle.ddf_history.proofs.Listed.{value_there}
-use Rattle.ddf_assembly.specs.declared.seated.Seated.{Seated}
-use Rattle.ddf_assembly.specs.Asked.{CanBeAsked}
-use Rattle.ddf_assembly.specs.Committed.{slots_of}
-use Rattle.ddf_assembly.specs.Group.{GroupValue}
-use Rattle.ddf_assembly.specs.Refusing.{step_refusal}
-use Rattle.ddf_assembly.specs.Seated.{seated, seats_in, slots_in, views_in}
-use Rattle.ddf_assembly.specs.Steps.{config_after, disks_after, in_order, is_adopted, stays_in}
-use Rattle.ddf_assembly.specs.Trying.{IsOfGroup}
-use Rattle.ddf_assembly.proofs.LeftStep.{same_view}
-use Rattle.ddf_assembly.proofs.Ordered.{order_own}
+use Rattle.ddf_seats.specs.declared.seated.Seated.{Seated}
+use Rattle.ddf_steps.specs.Asked.{CanBeAsked}
+use Rattle.ddf_steps.specs.Committed.{slots_of}
+use Rattle.ddf_seats.specs.Group.{GroupValue}
+use Rattle.ddf_steps.specs.Refusing.{step_refusal}
+use Rattle.ddf_seats.specs.Seated.{seated, seats_in, slots_in, views_in, is_adopted}
+use Rattle.ddf_steps.specs.Steps.{config_after, disks_after, in_order, stays_in}
+use Rattle.ddf_seats.specs.Changing.{IsOfGroup}
+use Rattle.ddf_recovery.proofs.LeftStep.{same_view}
+use Rattle.ddf_steps.proofs.Ordered.{order_own}
 use Rattle.ddf_history_steps.specs.Kept.{is_slot, unwritten}
 use Rattle.ddf_history_steps.specs.AtEnd.{IsAtEnd}
 use Rattle.ddf_history_steps.proofs.Changing.{change_acknowledged, change_joins_last, change_kept, follows, issued_kept}
 use Rattle.ddf_history_steps.proofs.ChangingCopies.{changed_views}
 use Rattle.ddf_history_steps.proofs.CommittingScenes.{seat_shows}
 use Rattle.ddf_history_steps.proofs.CommittingSeats.{IsWritten, can_change, copy_in, copy_is, is_written, new_is_copy, renewed, stays_written}
-use Rattle.ddf_history_steps.proofs.JoinMembers.{either_way}
 use Rattle.ddf_history_steps.proofs.Slots.{slot_placed}
 use Rattle.ddf_history_steps.proofs.StepMembers.{AreMembers, after_members, stays_member}
 use Rattle.ddf_history_steps.proofs.Stops.{unwritten_here}
+use Rattle.ddf_history_steps.proofs.Claimed.{either_way}
 
 -- ---- lists
 

@@ -13,13 +13,16 @@ use Rattle.ddf_history.specs.Groups.{groups}
 use Rattle.ddf_history.specs.Issued.{Past, acknowledge, issue}
 use Rattle.ddf_history.specs.Promise.{IsKept}
 use Rattle.ddf_history.specs.Scenes.{scene_of}
-use Rattle.ddf_assembly.specs.Committed.{DoRise, WasReadied, group_next, left_behind}
-use Rattle.ddf_assembly.specs.Group.{GroupValue}
-use Rattle.ddf_assembly.specs.Ready.{ReadyStep, ReadyValue}
-use Rattle.ddf_assembly.specs.Recovery.{config_lost, lost_step, mending_step, recovery_of, some}
-use Rattle.ddf_assembly.specs.Steps.{Step}
-use Rattle.ddf_assembly.proofs.ReadiedParts.{loss_rises}
-use Rattle.ddf_assembly.proofs.RecoveredGroup.{is_recovered, recovered_ready}
+use Rattle.ddf_steps.specs.Committed.{DoRise}
+use Rattle.ddf_recovery.specs.Committed.{WasReadied, group_next, left_behind}
+use Rattle.ddf_seats.specs.Group.{GroupValue}
+use Rattle.ddf_steps.specs.Ready.{ReadyStep}
+use Rattle.ddf_recovery.specs.Ready.{ReadyValue}
+use Rattle.ddf_recovery.specs.Recovery.{config_lost, lost_step, mending_step, recovery_of}
+use Rattle.ddf_seats.specs.Leading.{some}
+use Rattle.ddf_steps.specs.Steps.{Step}
+use Rattle.ddf_recovery.proofs.ReadiedParts.{loss_rises}
+use Rattle.ddf_recovery.proofs.RecoveredGroup.{is_recovered, recovered_ready}
 use Rattle.ddf_history_steps.specs.Going.{Goes, IsOver, IsUnderway, KeepsHistory, begun, changes_in, issue_all}
 use Rattle.ddf_history_steps.specs.AtEnd.{IsAtEnd}
 use Rattle.ddf_history_steps.specs.Kept.{AreAllKept, ReadsTrue, is_read}

@@ -27,18 +27,22 @@ use Rattle.ddf_rewrite.specs.Copies.{changed_copy, recovered_copy}
 use Rattle.ddf_rewrite.proofs.Lists.{all_at, all_by_get, all_mapped, found_place, map_get, some_same}
 use Rattle.ddf_history.specs.Groups.{groups}
 use Rattle.ddf_history.specs.Issued.{Past}
-use Rattle.ddf_assembly.specs.declared.seated.Seated.{Seated}
-use Rattle.ddf_assembly.specs.Committed.{IsReadyFor, IsRewritten, WasReadied, group_next, group_recovered}
-use Rattle.ddf_assembly.specs.Group.{GroupValue, copy_at, floor_of, group_as, group_of, group_or_fault, seat_at, seat_of, seats_of}
-use Rattle.ddf_assembly.specs.Ready.{ReadyStep, ReadyValue}
-use Rattle.ddf_assembly.specs.Recovery.{config_lost, disks_recovered, lags, leading, lost_step, mended, mended_copy, mended_or_kept, some}
-use Rattle.ddf_assembly.specs.Seated.{seated}
+use Rattle.ddf_seats.specs.declared.seated.Seated.{Seated}
+use Rattle.ddf_recovery.specs.Committed.{IsReadyFor, WasReadied, group_next, group_recovered}
+use Rattle.ddf_steps.specs.Committed.{IsRewritten}
+use Rattle.ddf_seats.specs.Group.{GroupValue, copy_at, floor_of, seat_at, seat_of, seats_of}
+use Rattle.ddf_assembly.specs.Group.{group_as, group_of, group_or_fault}
+use Rattle.ddf_steps.specs.Ready.{ReadyStep}
+use Rattle.ddf_recovery.specs.Ready.{ReadyValue}
+use Rattle.ddf_recovery.specs.Recovery.{config_lost, disks_recovered, lost_step, mended, mended_copy, mended_or_kept}
+use Rattle.ddf_seats.specs.Leading.{lags, leading, some}
+use Rattle.ddf_seats.specs.Seated.{seated, levelled}
 use Rattle.ddf_assembly.specs.Settled.{IsLevelIn}
-use Rattle.ddf_assembly.specs.Steps.{disks_after, levelled, rewritten, stays_in}
-use Rattle.ddf_assembly.specs.Trying.{SlotsRise}
-use Rattle.ddf_assembly.proofs.CommittedAfter.{after_is}
-use Rattle.ddf_assembly.proofs.CommittedSeats.{seated_is}
-use Rattle.ddf_assembly.proofs.RecoveredGroup.{is_recovered}
+use Rattle.ddf_steps.specs.Steps.{disks_after, rewritten, stays_in}
+use Rattle.ddf_seats.specs.Changing.{SlotsRise}
+use Rattle.ddf_recovery.proofs.CommittedAfter.{after_is}
+use Rattle.ddf_seats.proofs.CommittedSeats.{seated_is}
+use Rattle.ddf_recovery.proofs.RecoveredGroup.{is_recovered}
 use Rattle.ddf_history_steps.specs.AtEnd.{IsAtEnd}
 use Rattle.ddf_history_steps.specs.BlockFloors.{AreFloored, HasFloor, HaveFloors, IsFloored, floor_in}
 

@@ -30,7 +30,8 @@ use Rattle.ddf_history.specs.Promise.{IsKept}
 use Rattle.ddf_history.specs.Scenes.{scene_of, told_of}
 use Rattle.ddf_history.proofs.Since.{which}
 use Rattle.ddf_history_steps.specs.Founding.{AreFounded, AreNamesNew, IsNewGroup, founding_config}
-use Rattle.ddf_assembly.specs.Group.{GroupValue, group_of as group_in}
+use Rattle.ddf_seats.specs.Group.{GroupValue}
+use Rattle.ddf_assembly.specs.Group.{group_of as group_in}
 use Rattle.ddf_assembly.specs.Slots.{newest_from}
 use Rattle.ddf_history_steps.specs.Kept.{is_read, is_slot}
 use Rattle.ddf_history_steps.proofs.Founding.{scene_kept, view_at, view_stands}

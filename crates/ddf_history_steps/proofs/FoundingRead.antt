@@ -26,7 +26,8 @@ use Rattle.ddf_history.specs.Reading.{IsCopyOf, Shown}
 use Rattle.ddf_history.specs.Reading.Shown.{One}
 use Rattle.ddf_history.specs.Scenes.{scene_of}
 use Rattle.ddf_history.proofs.Since.{some_is}
-use Rattle.ddf_assembly.specs.Group.{GroupValue, group_of as group_in}
+use Rattle.ddf_seats.specs.Group.{GroupValue}
+use Rattle.ddf_assembly.specs.Group.{group_of as group_in}
 use Rattle.ddf_assembly.specs.Slots.{newest_from}
 use Rattle.ddf_history_steps.specs.Founding.{IsNewGroup, founding_config}
 use Rattle.ddf_history_steps.specs.Kept.{is_read, is_slot, told_answer}

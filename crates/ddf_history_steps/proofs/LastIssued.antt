@@ -6,8 +6,8 @@ use Rattle.ddf_config.specs.Configuration.{Configuration}
 use Rattle.ddf_history.specs.Groups.{groups}
 use Rattle.ddf_history.specs.Issued.{Past, IsSince, issue, leave_out, take_off}
 use Rattle.ddf_history.proofs.Lists.{get_last, get_within, taken_get}
-use Rattle.ddf_assembly.specs.Group.{GroupValue}
-use Rattle.ddf_assembly.specs.Recovery.{some}
+use Rattle.ddf_seats.specs.Group.{GroupValue}
+use Rattle.ddf_seats.specs.Leading.{some}
 use Rattle.ddf_history_steps.specs.Going.{IsOver, begun, issue_all}
 
 -- The last of some changes and one more is that one.

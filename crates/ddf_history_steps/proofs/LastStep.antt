@@ -7,12 +7,14 @@ use Rattle.std.specs.List.{AllByRecursion}
 use Rattle.ddf_config.specs.Configuration.{Configuration}
 use Rattle.ddf_plan.specs.declared.change.Change.{Change}
 use Rattle.ddf_rewrite.proofs.Lists.{get_map}
-use Rattle.ddf_assembly.specs.Group.{GroupValue}
-use Rattle.ddf_assembly.specs.Ready.{AreNumbered, readied}
-use Rattle.ddf_assembly.specs.Recovery.{config_lost, config_recovered, disks_recovered, lost_step, mending_step, recovery_of, some}
-use Rattle.ddf_assembly.specs.Steps.{Step}
-use Rattle.ddf_assembly.proofs.Numbered.{steps_numbered}
-use Rattle.ddf_assembly.proofs.ReadiedSteps.{are_tried, behind, loss_rises, none_spent, steps_are}
+use Rattle.ddf_seats.specs.Group.{GroupValue}
+use Rattle.ddf_steps.specs.Ready.{AreNumbered}
+use Rattle.ddf_recovery.specs.Ready.{readied}
+use Rattle.ddf_recovery.specs.Recovery.{config_lost, config_recovered, disks_recovered, lost_step, mending_step, recovery_of}
+use Rattle.ddf_seats.specs.Leading.{some}
+use Rattle.ddf_steps.specs.Steps.{Step}
+use Rattle.ddf_recovery.proofs.Numbered.{steps_numbered}
+use Rattle.ddf_recovery.proofs.ReadiedSteps.{are_tried, behind, loss_rises, none_spent, steps_are}
 use Rattle.ddf_history_steps.specs.Going.{changes_in}
 
 -- The sequence number of each of these steps is greater.

@@ -8,12 +8,13 @@ use Rattle.ddf_plan.specs.declared.change.Change.{Change}
 use Rattle.ddf_rewrite.proofs.Lists.{some_same}
 use Rattle.ddf_history.specs.Groups.{Disk, has_current, has_missing}
 use Rattle.ddf_history.proofs.Following.{lost_missing}
-use Rattle.ddf_assembly.specs.Group.{GroupValue}
-use Rattle.ddf_assembly.specs.Ready.{readied}
-use Rattle.ddf_assembly.specs.Recovery.{config_lost, config_recovered, lost_step, recovery_of, some}
-use Rattle.ddf_assembly.specs.Steps.{Step}
-use Rattle.ddf_assembly.proofs.CommittedSeats.{get_there}
-use Rattle.ddf_assembly.proofs.ReadiedSteps.{behind}
+use Rattle.ddf_seats.specs.Group.{GroupValue}
+use Rattle.ddf_recovery.specs.Ready.{readied}
+use Rattle.ddf_recovery.specs.Recovery.{config_lost, config_recovered, lost_step, recovery_of}
+use Rattle.ddf_seats.specs.Leading.{some}
+use Rattle.ddf_steps.specs.Steps.{Step}
+use Rattle.ddf_seats.proofs.CommittedSeats.{get_there}
+use Rattle.ddf_recovery.proofs.ReadiedSteps.{behind}
 use Rattle.ddf_history_steps.proofs.AllSteps.{AllSteps, readied_all}
 use Rattle.ddf_history_steps.proofs.LastStep.{lost_first, lost_is}
 use Rattle.ddf_history_steps.proofs.MembersKept.{change_from}

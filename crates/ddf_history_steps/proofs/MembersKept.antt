@@ -8,11 +8,12 @@ use Rattle.ddf_history.specs.Groups.{Disk, groups, has_current, has_missing}
 use Rattle.ddf_history.specs.Issued.{IsSince, Past, issue, leave_out, take_off}
 use Rattle.ddf_history.proofs.Following.{changes_follow}
 use Rattle.ddf_history.proofs.Lists.{get_more, get_taken}
-use Rattle.ddf_assembly.specs.Group.{GroupValue}
-use Rattle.ddf_assembly.specs.Ready.{readied}
-use Rattle.ddf_assembly.specs.Recovery.{config_lost, config_recovered, loss, lost_step, mending_step, recovery_of, some}
-use Rattle.ddf_assembly.specs.Steps.{Step, config_after}
-use Rattle.ddf_assembly.proofs.CommittedReadied.{filter_get}
+use Rattle.ddf_seats.specs.Group.{GroupValue}
+use Rattle.ddf_recovery.specs.Ready.{readied}
+use Rattle.ddf_recovery.specs.Recovery.{config_lost, config_recovered, loss, lost_step, mending_step, recovery_of}
+use Rattle.ddf_seats.specs.Leading.{some}
+use Rattle.ddf_steps.specs.Steps.{Step, config_after}
+use Rattle.ddf_seats.proofs.Lists.{filter_get}
 use Rattle.ddf_history_steps.specs.Members.{KeepsMembers}
 use Rattle.ddf_history_steps.proofs.AllSteps.{AllSteps, readied_all}
 use Rattle.ddf_history_steps.proofs.SlotsKept.{ends_slots}

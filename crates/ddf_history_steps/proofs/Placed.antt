@@ -25,7 +25,7 @@ use Rattle.ddf_update.specs.Changes.{IsGetting, IsLeftChangingAll, MayChangeAll,
 use Rattle.ddf_update.specs.Prepared.{writes_anchor}
 use Rattle.ddf_update.specs.Update.{AreBoth, IsAdopting, IsChanging, IsMoving, IsReadAdopting, MayAdopt, MayChange}
 use Rattle.ddf_view.proofs.Finds.{place_there, place_within}
-use Rattle.ddf_assembly.specs.Group.{floor_of}
+use Rattle.ddf_seats.specs.Group.{floor_of}
 use Rattle.ddf_history_steps.specs.Floors.{HasFloor}
 
 some_same : {X : Type 0} (one other : X) → Some one ≡ Some other → one ≡ other

@@ -14,16 +14,19 @@ use Rattle.ddf_history.specs.Issued.{Past, IsSince, acknowledge, issue, leave_ou
 use Rattle.ddf_history.specs.Groups.{groups}
 use Rattle.ddf_history.specs.Promise.{IsKept}
 use Rattle.ddf_history.specs.Scenes.{scene_of}
-use Rattle.ddf_assembly.specs.Committed.{AreSettled, MayRecover, WasReadied, group_recovered, recovery_slots, recovery_updates, slots_of, synced}
-use Rattle.ddf_assembly.specs.Group.{GroupValue, group_of}
+use Rattle.ddf_steps.specs.Committed.{AreSettled, slots_of, synced}
+use Rattle.ddf_recovery.specs.Committed.{MayRecover, WasReadied, group_recovered, recovery_slots, recovery_updates}
+use Rattle.ddf_seats.specs.Group.{GroupValue}
+use Rattle.ddf_assembly.specs.Group.{group_of}
 use Rattle.ddf_assembly.specs.Held.{AreHeldOn, StandUnder}
 use Rattle.ddf_assembly.specs.Reading.{HaveAnchors}
-use Rattle.ddf_assembly.specs.Ready.{ReadyValue}
-use Rattle.ddf_assembly.specs.Recovery.{config_lost, lost_step, mending_step, recovery_of, some}
+use Rattle.ddf_recovery.specs.Ready.{ReadyValue}
+use Rattle.ddf_recovery.specs.Recovery.{config_lost, lost_step, mending_step, recovery_of}
+use Rattle.ddf_seats.specs.Leading.{some}
 use Rattle.ddf_assembly.specs.Slots.{newest_from}
-use Rattle.ddf_assembly.specs.Steps.{Step}
-use Rattle.ddf_assembly.proofs.RecoveredGroup.{is_recovered}
-use Rattle.ddf_assembly.proofs.RecoveryWritten.{recovered_anchored, recovered_held}
+use Rattle.ddf_steps.specs.Steps.{Step}
+use Rattle.ddf_recovery.proofs.RecoveredGroup.{is_recovered}
+use Rattle.ddf_recovery.proofs.RecoveryWritten.{recovered_anchored, recovered_held}
 use Rattle.ddf_history_steps.specs.Going.{IsAdmitted, IsOver, IsUnderway, begun, changes_in, issue_all}
 use Rattle.ddf_history_steps.specs.Kept.{AreAllKept, ReadsTrue, is_read}
 use Rattle.ddf_history_steps.specs.AtEnd.{IsAtEnd}

@@ -21,16 +21,17 @@ use Rattle.ddf_history.specs.Scenes.{scene_of}
 use Rattle.ddf_history.proofs.Assembling.{read_as}
 use Rattle.ddf_history.proofs.Calls.{claims as members_claimed}
 use Rattle.ddf_history.proofs.Sound.{groups_are_sound}
-use Rattle.ddf_assembly.specs.declared.seated.Seated.{Seated}
+use Rattle.ddf_seats.specs.declared.seated.Seated.{Seated}
 use Rattle.ddf_assembly.specs.Assembled.{IsAssembledGroup}
-use Rattle.ddf_assembly.specs.Committed.{slots_of, synced}
-use Rattle.ddf_assembly.specs.Group.{GroupValue, copy_at, group_of}
+use Rattle.ddf_steps.specs.Committed.{slots_of, synced}
+use Rattle.ddf_seats.specs.Group.{GroupValue, copy_at}
+use Rattle.ddf_assembly.specs.Group.{group_of}
 use Rattle.ddf_assembly.specs.Held.{AreHeldOn, StandUnder}
 use Rattle.ddf_assembly.specs.Reading.{HaveAnchors}
-use Rattle.ddf_assembly.specs.Seated.{seated, seats_in}
+use Rattle.ddf_seats.specs.Seated.{seated, seats_in}
 use Rattle.ddf_assembly.specs.Slots.{newest_from}
-use Rattle.ddf_assembly.proofs.Committed.{no_change}
-use Rattle.ddf_assembly.proofs.CommittedSeats.{seated_is}
+use Rattle.ddf_recovery.proofs.Committed.{no_change}
+use Rattle.ddf_seats.proofs.CommittedSeats.{seated_is}
 use Rattle.ddf_history_steps.specs.AtEnd.{IsMember}
 use Rattle.ddf_history_steps.specs.Going.{IsAdmitted}
 use Rattle.ddf_history_steps.specs.Kept.{AreAllKept, HoldsBytes, is_read, is_slot}

@@ -17,13 +17,15 @@ use Rattle.ddf_history.specs.Groups.{groups}
 use Rattle.ddf_history.specs.Issued.{Past, acknowledge}
 use Rattle.ddf_history.specs.Promise.{IsKept}
 use Rattle.ddf_history.specs.Scenes.{scene_of}
-use Rattle.ddf_assembly.specs.Committed.{AreSettled, LeavesSynced, MayRecover, group_recovered, recovery_slots, recovery_updates, slots_of, synced}
-use Rattle.ddf_assembly.specs.Group.{GroupValue, group_of}
+use Rattle.ddf_steps.specs.Committed.{AreSettled, LeavesSynced, slots_of, synced}
+use Rattle.ddf_recovery.specs.Committed.{MayRecover, group_recovered, recovery_slots, recovery_updates}
+use Rattle.ddf_seats.specs.Group.{GroupValue}
+use Rattle.ddf_assembly.specs.Group.{group_of}
 use Rattle.ddf_assembly.specs.Held.{AreHeldOn, IsHeldOn}
-use Rattle.ddf_assembly.specs.Ready.{ReadyValue}
+use Rattle.ddf_recovery.specs.Ready.{ReadyValue}
 use Rattle.ddf_assembly.specs.Slots.{newest_from, newest_or}
-use Rattle.ddf_assembly.proofs.RecoveredGroup.{recovered_ready}
-use Rattle.ddf_assembly.proofs.RecoveryWritten.{may_recover}
+use Rattle.ddf_recovery.proofs.RecoveredGroup.{recovered_ready}
+use Rattle.ddf_recovery.proofs.RecoveryWritten.{may_recover}
 use Rattle.ddf_assembly.proofs.SettledHeld.{newest_kept}
 use Rattle.ddf_history_steps.specs.AtEnd.{IsAtEnd}
 use Rattle.ddf_history_steps.specs.Going.{Goes, IsAdmitted, IsOver, IsUnderway, KeepsHistory}

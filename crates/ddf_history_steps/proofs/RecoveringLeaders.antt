@@ -28,15 +28,15 @@ use Rattle.ddf_history.proofs.AnsweredSlots.{claimed_claims, copy_within, view_i
 use Rattle.ddf_history.proofs.Leading.{none_leading}
 use Rattle.ddf_history.proofs.Since.{first_is_copy}
 use Rattle.ddf_history.proofs.Sound.{groups_are_sound}
-use Rattle.ddf_assembly.specs.declared.seated.Seated.{Seated}
-use Rattle.ddf_assembly.specs.Committed.{slots_of}
-use Rattle.ddf_assembly.specs.Group.{GroupValue, seat_at, seats_of}
-use Rattle.ddf_assembly.specs.Recovery.{leading_disks, leading_views, leads}
-use Rattle.ddf_assembly.specs.Seated.{seated, seated_at, views_in}
+use Rattle.ddf_seats.specs.declared.seated.Seated.{Seated}
+use Rattle.ddf_steps.specs.Committed.{slots_of}
+use Rattle.ddf_seats.specs.Group.{GroupValue, seat_at, seats_of}
+use Rattle.ddf_seats.specs.Leading.{leading_disks, leading_views, leads}
+use Rattle.ddf_seats.specs.Seated.{seated, seated_at, views_in}
 use Rattle.ddf_assembly.specs.Slots.{newest_from}
 use Rattle.ddf_assembly.proofs.ClaimedDisks.{HasDisk, disk_at, found_twice, own_disk, own_is}
 use Rattle.ddf_assembly.proofs.ClaimedLeaders.{claimed_view}
-use Rattle.ddf_assembly.proofs.CommittedSeats.{seated_is}
+use Rattle.ddf_seats.proofs.CommittedSeats.{seated_is}
 use Rattle.ddf_assembly.proofs.Leaders.{leads_is}
 use Rattle.ddf_history_steps.specs.Kept.{is_read}
 use Rattle.ddf_history_steps.proofs.MendingLeaders.{IsShowing, leads_showing}

@@ -37,20 +37,23 @@ use Rattle.ddf_history.proofs.Calls.{seated_where_left_out}
 use Rattle.ddf_history.proofs.AnsweredLists.{map_some}
 use Rattle.ddf_history.proofs.Since.{first_is_copy}
 use Rattle.ddf_history.proofs.Sound.{groups_are_sound}
-use Rattle.ddf_assembly.specs.declared.seated.Seated.{Seated}
-use Rattle.ddf_assembly.specs.Committed.{MayRecover, WasReadied, disks_written, recovery_slots, slots_of}
-use Rattle.ddf_assembly.specs.Full.{full_of, full_where_written}
-use Rattle.ddf_assembly.specs.Group.{GroupValue}
-use Rattle.ddf_assembly.specs.Ready.{ReadyStep, ReadyValue}
-use Rattle.ddf_assembly.specs.Recovery.{config_lost, full_of_mending, full_of_recovery, leading, lost_step, mending_step, recovery_of, some}
-use Rattle.ddf_assembly.specs.Seated.{seated}
-use Rattle.ddf_assembly.specs.Steps.{Step, disks_after, in_order, is_adopted, rewritten, stays_in}
-use Rattle.ddf_assembly.specs.Trying.{CanTry}
+use Rattle.ddf_seats.specs.declared.seated.Seated.{Seated}
+use Rattle.ddf_recovery.specs.Committed.{MayRecover, WasReadied, disks_written, recovery_slots}
+use Rattle.ddf_steps.specs.Committed.{slots_of}
+use Rattle.ddf_steps.specs.Full.{full_of, full_where_written}
+use Rattle.ddf_seats.specs.Group.{GroupValue}
+use Rattle.ddf_steps.specs.Ready.{ReadyStep}
+use Rattle.ddf_recovery.specs.Ready.{ReadyValue}
+use Rattle.ddf_recovery.specs.Recovery.{config_lost, full_of_mending, full_of_recovery, lost_step, mending_step, recovery_of}
+use Rattle.ddf_seats.specs.Leading.{leading, some}
+use Rattle.ddf_seats.specs.Seated.{seated, is_adopted}
+use Rattle.ddf_steps.specs.Steps.{Step, disks_after, in_order, rewritten, stays_in}
+use Rattle.ddf_steps.specs.Trying.{CanTry}
 use Rattle.ddf_assembly.proofs.Leaders.{led_on}
-use Rattle.ddf_assembly.proofs.Lost.{lost_held}
-use Rattle.ddf_assembly.proofs.OneLength.{HasRoom, can_try_all, has_room as room_in, room_on}
-use Rattle.ddf_assembly.proofs.ReadiedParts.{has_room, loss_rises}
-use Rattle.ddf_assembly.proofs.Rewritten.{capacities, closed_view}
+use Rattle.ddf_recovery.proofs.Lost.{lost_held}
+use Rattle.ddf_steps.proofs.OneLength.{HasRoom, can_try_all, has_room as room_in, room_on}
+use Rattle.ddf_recovery.proofs.ReadiedParts.{has_room, loss_rises}
+use Rattle.ddf_steps.proofs.Rewritten.{capacities, closed_view}
 use Rattle.ddf_history_steps.specs.Kept.{is_read, is_slot}
 use Rattle.ddf_history_steps.proofs.ChangingCopies.{changed_views}
 use Rattle.ddf_history_steps.proofs.ChangingLoss.{loss_acknowledged, loss_acknowledged_last, loss_issued, loss_kept, loss_may_write, loss_number, loss_turned_last}

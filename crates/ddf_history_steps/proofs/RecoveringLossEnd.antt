@@ -19,15 +19,18 @@ use Rattle.ddf_history.specs.Steps.{IsLast}
 use Rattle.ddf_history.proofs.Calls.{seated_where_left_out}
 use Rattle.ddf_history.proofs.Since.{first_is_copy}
 use Rattle.ddf_history.proofs.Sound.{groups_are_sound}
-use Rattle.ddf_assembly.specs.declared.seated.Seated.{Seated}
-use Rattle.ddf_assembly.specs.Committed.{MayRecover, WasReadied, group_recovered, recovery_slots, slots_of, slots_written}
-use Rattle.ddf_assembly.specs.Group.{GroupValue}
-use Rattle.ddf_assembly.specs.Ready.{ReadyStep, ReadyValue}
-use Rattle.ddf_assembly.specs.Recovery.{config_lost, config_recovered, disks_recovered, leading, lost_step, mended_or_kept, some}
-use Rattle.ddf_assembly.specs.Seated.{seated, seats_in, slots_in}
-use Rattle.ddf_assembly.specs.Steps.{disks_after, in_order, levelled, rewritten, stays_in}
-use Rattle.ddf_assembly.proofs.Ordered.{order_from}
-use Rattle.ddf_assembly.proofs.RecoveredGroup.{is_recovered}
+use Rattle.ddf_seats.specs.declared.seated.Seated.{Seated}
+use Rattle.ddf_recovery.specs.Committed.{MayRecover, WasReadied, group_recovered, recovery_slots, slots_written}
+use Rattle.ddf_steps.specs.Committed.{slots_of}
+use Rattle.ddf_seats.specs.Group.{GroupValue}
+use Rattle.ddf_steps.specs.Ready.{ReadyStep}
+use Rattle.ddf_recovery.specs.Ready.{ReadyValue}
+use Rattle.ddf_recovery.specs.Recovery.{config_lost, config_recovered, disks_recovered, lost_step, mended_or_kept}
+use Rattle.ddf_seats.specs.Leading.{leading, some}
+use Rattle.ddf_seats.specs.Seated.{seated, seats_in, slots_in, levelled}
+use Rattle.ddf_steps.specs.Steps.{disks_after, in_order, rewritten, stays_in}
+use Rattle.ddf_steps.proofs.Ordered.{order_from}
+use Rattle.ddf_recovery.proofs.RecoveredGroup.{is_recovered}
 use Rattle.ddf_history_steps.specs.Kept.{is_read, is_slot}
 use Rattle.ddf_history_steps.specs.AtEnd.{IsMember}
 use Rattle.ddf_history_steps.proofs.Changing.{follows}

@@ -34,21 +34,23 @@ use Rattle.ddf_history.specs.Steps.{AreWritten, MayWrite}
 use Rattle.ddf_history.proofs.Since.{first_is_copy}
 use Rattle.ddf_history.proofs.Sound.{groups_are_sound}
 use Rattle.ddf_history.proofs.AnsweredLists.{map_some}
-use Rattle.ddf_assembly.specs.declared.seated.Seated.{Seated}
+use Rattle.ddf_seats.specs.declared.seated.Seated.{Seated}
 use Rattle.ddf_assembly.specs.Assembled.{IsAsGroup}
-use Rattle.ddf_assembly.specs.Committed.{MayRecover, WasReadied, disks_written, recovery_slots}
-use Rattle.ddf_assembly.specs.Full.{full_of}
-use Rattle.ddf_assembly.specs.Group.{GroupValue}
-use Rattle.ddf_assembly.specs.Mending.{CanMend}
-use Rattle.ddf_assembly.specs.Ready.{ReadyStep, ReadyValue}
-use Rattle.ddf_assembly.specs.Recovery.{config_lost, full_mended, full_of_mending, full_of_recovery, lags, leading, leading_disks, leading_views, leads, lost_step, mended, mended_copy as mended_by, mending_step, recovery_of, some}
-use Rattle.ddf_assembly.specs.Seated.{seated}
-use Rattle.ddf_assembly.specs.Steps.{Step, in_order, is_adopted}
-use Rattle.ddf_assembly.proofs.Leaders.{filter_have}
-use Rattle.ddf_assembly.proofs.Mended.{HasMendingRoom, can_mend_all, mending_room, recovers, where_kept}
-use Rattle.ddf_assembly.proofs.OneLength.{views_are}
-use Rattle.ddf_assembly.proofs.ReadiedParts.{has_room}
-use Rattle.ddf_assembly.proofs.Rewritten.{closed_view}
+use Rattle.ddf_recovery.specs.Committed.{MayRecover, WasReadied, disks_written, recovery_slots}
+use Rattle.ddf_steps.specs.Full.{full_of}
+use Rattle.ddf_seats.specs.Group.{GroupValue}
+use Rattle.ddf_recovery.specs.Mending.{CanMend}
+use Rattle.ddf_steps.specs.Ready.{ReadyStep}
+use Rattle.ddf_recovery.specs.Ready.{ReadyValue}
+use Rattle.ddf_recovery.specs.Recovery.{config_lost, full_mended, full_of_mending, full_of_recovery, lost_step, mended, mended_copy as mended_by, mending_step, recovery_of}
+use Rattle.ddf_seats.specs.Leading.{lags, leading, leading_disks, leading_views, leads, some}
+use Rattle.ddf_seats.specs.Seated.{seated, is_adopted}
+use Rattle.ddf_steps.specs.Steps.{Step, in_order}
+use Rattle.ddf_seats.proofs.Lists.{filter_have}
+use Rattle.ddf_recovery.proofs.Mended.{HasMendingRoom, can_mend_all, mending_room, recovers, where_kept}
+use Rattle.ddf_seats.proofs.RecordsHeld.{views_are}
+use Rattle.ddf_recovery.proofs.ReadiedParts.{has_room}
+use Rattle.ddf_steps.proofs.Rewritten.{closed_view}
 use Rattle.ddf_assembly.proofs.SettledLists.{none_kept}
 use Rattle.ddf_history_steps.specs.Kept.{is_read, is_slot}
 use Rattle.ddf_history_steps.proofs.Mending.{begun_kept, mending_acknowledged, mending_kept, mending_may_write}

@@ -13,15 +13,16 @@ use Rattle.ddf_history.specs.Issued.{Past}
 use Rattle.ddf_history.specs.Steps.{OthersLast}
 use Rattle.ddf_history.proofs.Since.{which}
 use Rattle.ddf_history.specs.Groups.{groups}
-use Rattle.ddf_assembly.specs.declared.seated.Seated.{Seated}
-use Rattle.ddf_assembly.specs.Committed.{MayRecover, disks_written, recovery_slots, slots_of, slots_written}
-use Rattle.ddf_assembly.specs.Group.{GroupValue}
-use Rattle.ddf_assembly.specs.Ready.{ReadyStep, ReadyValue}
-use Rattle.ddf_assembly.specs.Seated.{seated, slots_in}
-use Rattle.ddf_assembly.proofs.CommittedReadied.{filter_get}
-use Rattle.ddf_assembly.specs.Steps.{in_order, is_adopted}
-use Rattle.ddf_assembly.proofs.Leaders.{filter_pass}
-use Rattle.ddf_assembly.proofs.Ordered.{adopted_last, order_at, order_from}
+use Rattle.ddf_seats.specs.declared.seated.Seated.{Seated}
+use Rattle.ddf_recovery.specs.Committed.{MayRecover, disks_written, recovery_slots, slots_written}
+use Rattle.ddf_steps.specs.Committed.{slots_of}
+use Rattle.ddf_seats.specs.Group.{GroupValue}
+use Rattle.ddf_steps.specs.Ready.{ReadyStep}
+use Rattle.ddf_recovery.specs.Ready.{ReadyValue}
+use Rattle.ddf_seats.specs.Seated.{seated, slots_in, is_adopted}
+use Rattle.ddf_seats.proofs.Lists.{filter_get, filter_pass}
+use Rattle.ddf_steps.specs.Steps.{in_order}
+use Rattle.ddf_steps.proofs.Ordered.{adopted_last, order_at, order_from}
 use Rattle.ddf_history_steps.specs.Kept.{is_slot}
 use Rattle.ddf_history_steps.proofs.Filtered.{passes_kept}
 use Rattle.ddf_history_steps.proofs.RecoveringEntry.{IsTaken, disk_seated, old, old_is}

@@ -11,11 +11,12 @@ use Rattle.ddf_history.specs.Groups.{groups, has_current}
 use Rattle.ddf_history.specs.Promise.{IsKept}
 use Rattle.ddf_history.specs.Scenes.{scene_of}
 use Rattle.ddf_history.specs.Steps.{AreWritten, IsLast}
-use Rattle.ddf_assembly.specs.declared.seated.Seated.{Seated}
-use Rattle.ddf_assembly.specs.Committed.{MayRecover, group_recovered, recovery_slots, slots_of, synced}
-use Rattle.ddf_assembly.specs.Group.{GroupValue}
-use Rattle.ddf_assembly.specs.Ready.{ReadyValue}
-use Rattle.ddf_assembly.specs.Seated.{seated}
+use Rattle.ddf_seats.specs.declared.seated.Seated.{Seated}
+use Rattle.ddf_recovery.specs.Committed.{MayRecover, group_recovered, recovery_slots}
+use Rattle.ddf_steps.specs.Committed.{slots_of, synced}
+use Rattle.ddf_seats.specs.Group.{GroupValue}
+use Rattle.ddf_recovery.specs.Ready.{ReadyValue}
+use Rattle.ddf_seats.specs.Seated.{seated}
 use Rattle.ddf_history_steps.specs.Kept.{is_slot}
 use Rattle.ddf_history_steps.specs.AtEnd.{IsMember}
 use Rattle.ddf_history_steps.proofs.Stops.{AreInTurn}

@@ -14,10 +14,10 @@ use Rattle.ddf_history.specs.Groups.{groups}
 use Rattle.ddf_history.specs.Scenes.{scene_of}
 use Rattle.ddf_history.specs.Steps.{AreWritten}
 use Rattle.ddf_history.proofs.Since.{which}
-use Rattle.ddf_assembly.specs.Committed.{MayRecover, WasReadied, recovery_slots, recovery_updates}
-use Rattle.ddf_assembly.specs.Group.{GroupValue}
-use Rattle.ddf_assembly.specs.Ready.{ReadyValue}
-use Rattle.ddf_assembly.proofs.RecoveryWritten.{recovery_lies}
+use Rattle.ddf_recovery.specs.Committed.{MayRecover, WasReadied, recovery_slots, recovery_updates}
+use Rattle.ddf_seats.specs.Group.{GroupValue}
+use Rattle.ddf_recovery.specs.Ready.{ReadyValue}
+use Rattle.ddf_recovery.proofs.RecoveryWritten.{recovery_lies}
 use Rattle.ddf_history_steps.specs.Kept.{SaysOne, is_slot, unwritten}
 use Rattle.ddf_history_steps.proofs.Again.{bytes_say_one}
 use Rattle.ddf_history_steps.proofs.RecoveringEntry.{IsTaken, sure_state}

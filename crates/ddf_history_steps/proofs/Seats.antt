@@ -21,8 +21,9 @@ use Rattle.ddf_group.specs.Shown.{shown_of}
 use Rattle.ddf_group.specs.Slots.{claimed, claims, numbers, slot_at, view_in}
 use Rattle.ddf_rewrite.proofs.AllWanted.{get_filter_map}
 use Rattle.ddf_rewrite.proofs.Lists.{get_map, get_range}
-use Rattle.ddf_assembly.specs.Committed.{slots_of}
-use Rattle.ddf_assembly.specs.Group.{GroupValue, copy_at, group_as, seat_at, seat_of, seats_of}
+use Rattle.ddf_steps.specs.Committed.{slots_of}
+use Rattle.ddf_seats.specs.Group.{GroupValue, copy_at, seat_at, seat_of, seats_of}
+use Rattle.ddf_assembly.specs.Group.{group_as}
 use Rattle.ddf_history_steps.proofs.Begun.{IsMadeOf}
 use Rattle.ddf_history_steps.proofs.Filtered.{made_of, passes_kept}
 

@@ -4,8 +4,8 @@ use Rattle.std.proofs.lemmas.Bool.{and_parts, not-true, or_cases}
 use Rattle.ddf_config.specs.Configuration.{Configuration}
 use Rattle.ddf_history.specs.Groups.{groups, has_current}
 use Rattle.ddf_history.specs.Issued.{Past, acknowledge, issue, leave_out, take_off}
-use Rattle.ddf_assembly.specs.Group.{GroupValue}
-use Rattle.ddf_assembly.specs.Recovery.{some}
+use Rattle.ddf_seats.specs.Group.{GroupValue}
+use Rattle.ddf_seats.specs.Leading.{some}
 use Rattle.ddf_history_steps.specs.Going.{Ends, KeepsSlots, begun, issue_all}
 
 or_false : (b : Bool) → (b || false) ≡ b

@@ -12,11 +12,12 @@ use Rattle.ddf_rewrite.specs.Before.{Before}
 use Rattle.ddf_rewrite.specs.Copies.{recovered_copy}
 use Rattle.ddf_history.specs.Groups.{Disk, disk_of, has_current}
 use Rattle.ddf_history.proofs.Copies.{changed_names}
-use Rattle.ddf_assembly.specs.declared.seated.Seated.{Seated}
-use Rattle.ddf_assembly.specs.Recovery.{mended, mended_copy}
-use Rattle.ddf_assembly.specs.Steps.{config_after, disks_after, levelled, rewritten, stays_in}
-use Rattle.ddf_assembly.proofs.LeftStep.{same_view}
-use Rattle.ddf_assembly.proofs.Rewritten.{closed_view}
+use Rattle.ddf_seats.specs.declared.seated.Seated.{Seated}
+use Rattle.ddf_recovery.specs.Recovery.{mended, mended_copy}
+use Rattle.ddf_steps.specs.Steps.{config_after, disks_after, rewritten, stays_in}
+use Rattle.ddf_seats.specs.Seated.{levelled}
+use Rattle.ddf_recovery.proofs.LeftStep.{same_view}
+use Rattle.ddf_steps.proofs.Rewritten.{closed_view}
 use Rattle.ddf_history_steps.specs.AtEnd.{IsMember}
 use Rattle.ddf_history_steps.proofs.ChangingStays.{stays_current}
 use Rattle.ddf_history_steps.proofs.CommittingSeats.{renewed}

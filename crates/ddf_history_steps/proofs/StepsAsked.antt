@@ -5,11 +5,12 @@ use Rattle.ddf_config.specs.declared.refusal.Refusal.{Refusal}
 use Rattle.ddf_config.specs.Configuration.{Configuration}
 use Rattle.ddf_plan.specs.declared.change.Change.{Change}
 use Rattle.ddf_plan.specs.Same.{is_step}
-use Rattle.ddf_assembly.specs.declared.seated.Seated.{Seated}
-use Rattle.ddf_assembly.specs.Asked.{CanBeAsked}
-use Rattle.ddf_assembly.specs.Ready.{ReadyStep, steps_from, with_step}
-use Rattle.ddf_assembly.specs.Refusing.{step_refusal}
-use Rattle.ddf_assembly.specs.Steps.{Step, levelled, step_of}
+use Rattle.ddf_seats.specs.declared.seated.Seated.{Seated}
+use Rattle.ddf_steps.specs.Asked.{CanBeAsked}
+use Rattle.ddf_steps.specs.Ready.{ReadyStep, steps_from, with_step}
+use Rattle.ddf_steps.specs.Refusing.{step_refusal}
+use Rattle.ddf_steps.specs.Steps.{Step, step_of}
+use Rattle.ddf_seats.specs.Seated.{levelled}
 
 -- the steps of what is ready
 abbrev steps_in : List ReadyStep → List Step

@@ -31,7 +31,8 @@ use Rattle.ddf_history.proofs.Answered.{assembled_told as group_told}
 use Rattle.ddf_history.proofs.AnsweredLists.{none_below}
 use Rattle.ddf_history.proofs.AnsweredRead.{read_of_one_group}
 use Rattle.ddf_history.proofs.AnsweredSlots.{nothing_past}
-use Rattle.ddf_assembly.specs.Group.{GroupValue, group_as, group_of, group_or_fault}
+use Rattle.ddf_seats.specs.Group.{GroupValue}
+use Rattle.ddf_assembly.specs.Group.{group_as, group_of, group_or_fault}
 use Rattle.ddf_assembly.specs.Slots.{newest_from, newest_or}
 use Rattle.ddf_history_steps.specs.Kept.{is_read}
 use Rattle.ddf_history_steps.proofs.Stops.{scene_at}

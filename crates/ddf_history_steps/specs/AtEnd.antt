@@ -7,11 +7,12 @@ use Rattle.ddf_view.specs.View.{view_of}
 use Rattle.ddf_history.specs.Issued.{Past, is_away}
 use Rattle.ddf_history.specs.Steps.{IsLast}
 use Rattle.ddf_history.specs.Groups.{groups, disk_of, has_current}
-use Rattle.ddf_assembly.specs.declared.seated.Seated.{Seated}
-use Rattle.ddf_assembly.specs.Committed.{HoldsGroup, slots_of}
-use Rattle.ddf_assembly.specs.Group.{GroupValue}
+use Rattle.ddf_seats.specs.declared.seated.Seated.{Seated}
+use Rattle.ddf_recovery.specs.Committed.{HoldsGroup}
+use Rattle.ddf_steps.specs.Committed.{slots_of}
+use Rattle.ddf_seats.specs.Group.{GroupValue}
 use Rattle.ddf_assembly.specs.Reading.{HaveAnchors}
-use Rattle.ddf_assembly.specs.Seated.{seated}
+use Rattle.ddf_seats.specs.Seated.{seated}
 use Rattle.ddf_assembly.specs.Settled.{IsSettledGroup}
 use Rattle.ddf_history_steps.specs.Kept.{AreAllKept, SaysOne, is_slot}
 

@@ -4,8 +4,8 @@ use Rattle.ddf_header.specs.declared.reading.Header.{Header}
 use Rattle.ddf_bay.specs.Moments.{IsSettled, StopsLeave}
 use Rattle.ddf_bay.specs.State.{BayState, size_of}
 use Rattle.ddf_copy.specs.Anchor.{anchor_at}
-use Rattle.ddf_assembly.specs.declared.seated.Seated.{Seated}
-use Rattle.ddf_assembly.specs.Group.{floor_of}
+use Rattle.ddf_seats.specs.declared.seated.Seated.{Seated}
+use Rattle.ddf_seats.specs.Group.{floor_of}
 use Rattle.std.specs.List.{AllByRecursion}
 use Rattle.ddf_config.specs.declared.seat.Seat.{Seat}
 

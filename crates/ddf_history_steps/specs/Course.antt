@@ -7,9 +7,9 @@ use Rattle.ddf_history.specs.Groups.{groups}
 use Rattle.ddf_history.specs.Issued.{Past}
 use Rattle.ddf_history.specs.Promise.{IsKept}
 use Rattle.ddf_history.specs.Scenes.{scene_of}
-use Rattle.ddf_assembly.specs.Group.{GroupValue}
-use Rattle.ddf_assembly.specs.Ready.{ReadyValue, all_ready}
-use Rattle.ddf_assembly.specs.Recovery.{some}
+use Rattle.ddf_seats.specs.Group.{GroupValue}
+use Rattle.ddf_recovery.specs.Ready.{ReadyValue, all_ready}
+use Rattle.ddf_seats.specs.Leading.{some}
 use Rattle.ddf_history_steps.specs.Going.{Goes, IsOver, changes_in}
 use Rattle.ddf_history_steps.specs.Kept.{is_read}
 use Rattle.ddf_history_steps.specs.Steps.{StandsReady}

@@ -7,7 +7,7 @@ use Rattle.ddf_copy.specs.declared.which.Which.{Which}
 use Rattle.ddf_copy.specs.Anchor.{anchor_at}
 use Rattle.ddf_copy.specs.Copies.{newest_at, standing_copy}
 use Rattle.ddf_copy.specs.Which.{place_of}
-use Rattle.ddf_assembly.specs.Group.{floor_of}
+use Rattle.ddf_seats.specs.Group.{floor_of}
 
 -- The copy that stands for a disk, by its size and the bytes of its sectors, has this floor. By the disk's anchor its copies stand there or behind it, and it
 -- lies on the disk.

@@ -18,7 +18,7 @@ use Rattle.ddf_history.specs.Answer.{Answer}
 use Rattle.ddf_history.specs.Answer.Answer.{Is}
 use Rattle.ddf_history.specs.Groups.{groups}
 use Rattle.ddf_history.specs.Scenes.{answer_of, scene_of}
-use Rattle.ddf_assembly.specs.Group.{GroupValue}
+use Rattle.ddf_seats.specs.Group.{GroupValue}
 
 -- Whatever a stop leaves of these disks shows what it should.
 abbrev pub AreAllKept : {D : Type 0} → (group : List ℕ) → Past (groups group) → BayState D → Type 0

@@ -5,6 +5,5 @@ pub mod Steps
 pub mod Founding
 pub mod Floors
 pub mod Members
-pub mod Joins
 pub mod BlockFloors
 pub mod Course

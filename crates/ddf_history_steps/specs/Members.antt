@@ -6,7 +6,7 @@ use Rattle.ddf_history.specs.Calls.{IsAside}
 use Rattle.ddf_history.specs.Groups.{Disk, groups, has_current, has_missing}
 use Rattle.ddf_history.specs.Issued.{IsSince, Past}
 use Rattle.ddf_history.specs.Reading.{Shown}
-use Rattle.ddf_assembly.specs.Steps.{Step}
+use Rattle.ddf_steps.specs.Steps.{Step}
 
 -- By the configurations since the last acknowledged one, at the call's entry and then. A disk that was no current member is none; one that was
 -- is one, where each of the call's steps has it so; one that was missing is missing. A slot that was aside of the history is so, while it shows

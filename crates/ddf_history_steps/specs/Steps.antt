@@ -13,14 +13,17 @@ use Rattle.ddf_history.specs.Groups.{groups}
 use Rattle.ddf_history.specs.Issued.{Past, acknowledge, issue}
 use Rattle.ddf_history.specs.Promise.{IsKept}
 use Rattle.ddf_history.specs.Scenes.{scene_of}
-use Rattle.ddf_assembly.specs.Asked.{CanBeAsked}
-use Rattle.ddf_assembly.specs.Committed.{AreSettled, IsReadyFor, LeavesSynced, WasReadied, next_slots, next_updates, recovery_slots, recovery_updates, slots_of, synced}
-use Rattle.ddf_assembly.specs.Group.{GroupValue, group_of}
+use Rattle.ddf_steps.specs.Asked.{CanBeAsked}
+use Rattle.ddf_steps.specs.Committed.{AreSettled, LeavesSynced, slots_of, synced}
+use Rattle.ddf_recovery.specs.Committed.{IsReadyFor, WasReadied, next_slots, next_updates, recovery_slots, recovery_updates}
+use Rattle.ddf_seats.specs.Group.{GroupValue}
+use Rattle.ddf_assembly.specs.Group.{group_of}
 use Rattle.ddf_assembly.specs.Held.{StandUnder}
 use Rattle.ddf_assembly.specs.Reading.{HaveAnchors}
-use Rattle.ddf_assembly.specs.Ready.{ReadyValue, steps_from}
-use Rattle.ddf_assembly.specs.Recovery.{recovery_of}
-use Rattle.ddf_assembly.specs.Seated.{seated}
+use Rattle.ddf_recovery.specs.Ready.{ReadyValue}
+use Rattle.ddf_steps.specs.Ready.{steps_from}
+use Rattle.ddf_recovery.specs.Recovery.{recovery_of}
+use Rattle.ddf_seats.specs.Seated.{seated}
 use Rattle.ddf_assembly.specs.Slots.{newest_from}
 use Rattle.ddf_history_steps.specs.AtEnd.{IsAtEnd}
 use Rattle.ddf_history_steps.specs.Going.{changes_in}
@@ -29,7 +32,7 @@ use Rattle.ddf_history_steps.specs.Kept.{AreAllKept}
 -- ---- what the calls before them answered
 
 -- The newest copies of the slots of these disks that aren't left out give the group, as `assemble` answers it, and this was readied for changes
--- of it, as `ready` answers.
+-- of it, as `make_ready` answers.
 pub record WasTaken {D : Type 0} (disks : BayState D) (left : List Bool) (named : Option (List ℕ)) (found : GroupValue) (asked : List Change) (timestamp : ℕ) (ready : ReadyValue) : Type 0 where
   pub every_slot : length left ≡ length disks.sizes
   pub is_found : group_of (newest_from disks 0 left) named ≡ Ok found

@@ -4,9 +4,10 @@ ghost use Rattle.ddf_bay.specs.Moments.{StopsLeave};
 ghost use Rattle.ddf_config.specs.Configuration.{Configuration};
 ghost use Rattle.ddf_copy.specs.declared.newest_copy.Newest.{Newest};
 ghost use Rattle.ddf_plan.specs.declared.change.Change.{Change};
-ghost use Rattle.ddf_assembly.specs.Committed.{IsReadyFor, WasReadied, group_next, group_recovered, left_behind};
-ghost use Rattle.ddf_assembly.specs.Group.{GroupValue, group_of};
-ghost use Rattle.ddf_assembly.specs.Ready.{ReadyValue};
+ghost use Rattle.ddf_recovery.specs.Committed.{IsReadyFor, WasReadied, group_next, group_recovered, left_behind};
+ghost use Rattle.ddf_seats.specs.Group.{GroupValue};
+ghost use Rattle.ddf_assembly.specs.Group.{group_of};
+ghost use Rattle.ddf_recovery.specs.Ready.{ReadyValue};
 ghost use Rattle.ddf_history.specs.Groups.{groups};
 ghost use Rattle.ddf_history.specs.Issued.{Past};
 ghost use Rattle.ddf_history.specs.Promise.{IsKept};
@@ -17,7 +18,7 @@ ghost use Rattle.ddf_history_steps.specs.Kept.{AreAllKept};
 ghost use Rattle.ddf_history_steps.specs.Steps.{IsCommit, IsRecovery, WasTaken, behind_recovery};
 ghost use Rattle.ddf_history_steps.specs.Course.{IsUnderWay, changes_ready};
 ghost use Rattle.ddf_history_steps.specs.BlockFloors.{AreFloored, HaveFloors, StaySettled, WritesBelow, floor_in};
-ghost use Rattle.ddf_assembly.specs.Seated.{seated};
+ghost use Rattle.ddf_seats.specs.Seated.{seated};
 
 use ddf_bay::Bay;
 
@@ -48,7 +49,7 @@ pub fn floors_lie_before_records<B: Bay>()
 {}
 
 /// A call that recovers a group, and then writes its steps one after another and blocks between them, keeps each history that admits it: by what
-/// `Group::recover`, `Group::commit` and calls on blocks promise, each in turn.
+/// `recover`, `commit` and calls on blocks promise, each in turn.
 pub fn a_call_of_several_steps_keeps_its_history<B: Bay>()
     ensures recovers { (group : List ℕ) (past : Past (groups group)) (old new : B) (left : List Bool) (named : Option (List ℕ)) (found : GroupValue) (asked : List Change)
         (timestamp : ℕ) (ready : ReadyValue) → WasTaken (B.disks old) left named found asked timestamp ready → found.config.group ≡ group → AreAllKept group past (B.disks old)

@@ -10,7 +10,5 @@ pub use blocks::{
 pub use laws::{
     a_call_is_answered_as_its_history_promises, a_call_keeps_the_slots,
     a_call_that_was_done_ends_with_its_last_change, a_commit_keeps_its_history,
-    a_disk_that_joins_shows_its_former_group_or_has_left_it, a_group_stands_to_be_joined,
     a_named_group_is_the_one_that_is_found, a_recovery_keeps_its_history,
-    an_import_is_a_call_of_its_history, an_import_keeps_its_history,
 };

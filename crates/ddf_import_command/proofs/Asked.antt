@@ -7,16 +7,16 @@ use Rattle.ddf_config.specs.declared.refusal.Refusal.TheVariants.{NoGroup}
 use Rattle.ddf_config.specs.declared.seat.Seat.{Seat}
 use Rattle.ddf_config.specs.Refusals.{first_refusal}
 use Rattle.ddf_rewrite.proofs.Lists.{map_get}
-use Rattle.ddf_assembly.specs.declared.fault.GroupFault.{GroupFault}
-use Rattle.ddf_assembly.specs.declared.fault.GroupFault.TheVariants as faults
-use Rattle.ddf_assembly.specs.declared.seated.Seated.{Seated}
+use Rattle.ddf_seats.specs.declared.fault.GroupFault.{GroupFault}
+use Rattle.ddf_seats.specs.declared.fault.GroupFault.TheVariants as faults
+use Rattle.ddf_seats.specs.declared.seated.Seated.{Seated}
 use Rattle.ddf_assembly.specs.Assembled.{IsAssembledGroup}
-use Rattle.ddf_assembly.specs.Group.{GroupValue}
-use Rattle.ddf_assembly.specs.Importing.{IsImportReadied, first_causes}
-use Rattle.ddf_assembly.specs.Joining.{Joining, joining}
-use Rattle.ddf_assembly.specs.Seated.{seated}
+use Rattle.ddf_seats.specs.Group.{GroupValue}
+use Rattle.ddf_joining.specs.Importing.{IsImportReadied, first_causes}
+use Rattle.ddf_joining.specs.Joining.{Joining, joining}
+use Rattle.ddf_seats.specs.Seated.{seated}
 use Rattle.ddf_assembly.specs.Slots.{LeaveNone, first_left_out}
-use Rattle.ddf_assembly.proofs.CommittedSeats.{seated_is}
+use Rattle.ddf_seats.proofs.CommittedSeats.{seated_is}
 use Rattle.ddf_assembly.proofs.LeftOut.{left_out_seat}
 use Rattle.ddf_answer.specs.declared.failure.Failure.{Failure}
 use Rattle.ddf_answer.specs.declared.failure.Failure.TheVariants.{Conflict, Disk, Memory, Refused, Split}

@@ -6,8 +6,9 @@ use Rattle.ddf_bay.specs.ReadsOnly.{LookFailed, ReadsOnly}
 use Rattle.ddf_bay.specs.State.{BayState}
 use Rattle.ddf_bay.proofs.Looks.{reads_then}
 use Rattle.ddf_group.specs.declared.answer.Assembly.{Assembly}
-use Rattle.ddf_assembly.specs.Group.{GroupValue, group_of}
-use Rattle.ddf_assembly.specs.Joining.{Joining}
+use Rattle.ddf_seats.specs.Group.{GroupValue}
+use Rattle.ddf_assembly.specs.Group.{group_of}
+use Rattle.ddf_joining.specs.Joining.{Joining}
 use Rattle.ddf_answer.specs.Answers.{failure_of}
 use Rattle.ddf_answer.specs.Call.{work_of}
 use Rattle.ddf_answer.specs.declared.failure.Failure.{Failure}

@@ -4,12 +4,12 @@ use Rattle.ddf_bay.specs.Moments.{Costs}
 use Rattle.ddf_bay.specs.State.{BayState}
 use Rattle.ddf_config.specs.declared.seat.Seat.{Seat}
 use Rattle.ddf_update.specs.Prepared.{all_calls, all_sectors}
-use Rattle.ddf_assembly.specs.Committed.{recovery_updates}
-use Rattle.ddf_assembly.specs.Group.{GroupValue}
-use Rattle.ddf_assembly.specs.Importing.{join_slots, join_updates}
-use Rattle.ddf_assembly.specs.JoinValue.{JoinValue}
-use Rattle.ddf_assembly.specs.Ready.{ReadyValue}
-use Rattle.ddf_assembly.specs.Steps.{in_order}
+use Rattle.ddf_recovery.specs.Committed.{recovery_updates}
+use Rattle.ddf_seats.specs.Group.{GroupValue}
+use Rattle.ddf_joining.specs.Importing.{join_slots, join_updates}
+use Rattle.ddf_joining.specs.JoinValue.{JoinValue}
+use Rattle.ddf_recovery.specs.Ready.{ReadyValue}
+use Rattle.ddf_steps.specs.Steps.{in_order}
 use Rattle.ddf_group_commands.specs.GroupRead.{IsReadFrom}
 use Rattle.ddf_group_commands.proofs.FewCalls.{prepared_few, recovery_few, rise_few, seats_few, slots_few}
 use Rattle.ddf_import_command.specs.Import.{IsImportReady}

@@ -4,18 +4,18 @@ use Rattle.ddf_bay.specs.ReadsOnly.{ReadsOnly}
 use Rattle.ddf_bay.specs.Sectors.{Image, IsLeft}
 use Rattle.ddf_bay.specs.State.{BayState}
 use Rattle.ddf_history.specs.Scenes.{scene_of}
-use Rattle.ddf_assembly.specs.Group.{GroupValue}
-use Rattle.ddf_assembly.specs.Importing.{was_readied}
-use Rattle.ddf_assembly.specs.Joining.{Joining}
-use Rattle.ddf_assembly.specs.JoinValue.{JoinValue}
-use Rattle.ddf_assembly.specs.Ready.{ReadyValue}
+use Rattle.ddf_seats.specs.Group.{GroupValue}
+use Rattle.ddf_joining.specs.Importing.{was_readied}
+use Rattle.ddf_joining.specs.Joining.{Joining}
+use Rattle.ddf_joining.specs.JoinValue.{JoinValue}
+use Rattle.ddf_recovery.specs.Ready.{ReadyValue}
 use Rattle.ddf_bay.proofs.Steps.{left_keeps}
-use Rattle.ddf_history_steps.specs.Joins.{AdmitsBoth, IsImport, WereBothTaken}
+use Rattle.ddf_history_joins.specs.Joins.{AdmitsBoth, IsImport, WereBothTaken}
 use Rattle.ddf_history_steps.specs.Kept.{ReadsTrue}
 use Rattle.ddf_history_steps.specs.Steps.{IsRecovery, recovery_changes}
 use Rattle.ddf_history_steps.proofs.Calling.{only_reads}
 use Rattle.ddf_history_steps.proofs.Entering.{keeps_since_entry, keeps_where_told}
-use Rattle.ddf_history_steps.proofs.JoinCalling.{import_call, import_fails, may}
+use Rattle.ddf_history_joins.proofs.JoinCalling.{import_call, import_fails, may}
 use Rattle.ddf_answer.specs.declared.failure.Failure.{Failure}
 use Rattle.ddf_group_commands.specs.GroupRead.{IsFoundBy, IsReadFrom}
 use Rattle.ddf_import_command.specs.Import.{IsImportReady, KeepsJoins, import_asked}

@@ -7,12 +7,13 @@ use Rattle.ddf_config.specs.Refusals.{first_refusal, refuse_if}
 use Rattle.ddf_config.proofs.Firsts.{all_pass}
 use Rattle.ddf_copy.specs.declared.newest_copy.Newest.{Newest}
 use Rattle.ddf_import.specs.Clash.{join_cause}
-use Rattle.ddf_assembly.specs.Group.{GroupValue, group_of, is_kept}
-use Rattle.ddf_assembly.specs.Importing.{first_causes, has_own}
-use Rattle.ddf_assembly.specs.Joining.{config_joining, has_no_seats, has_strays}
-use Rattle.ddf_assembly.specs.Recovery.{config_recovered}
+use Rattle.ddf_seats.specs.Group.{GroupValue, is_kept}
+use Rattle.ddf_assembly.specs.Group.{group_of}
+use Rattle.ddf_joining.specs.Importing.{first_causes, has_own}
+use Rattle.ddf_joining.specs.Joining.{config_joining, has_no_seats, has_strays}
+use Rattle.ddf_recovery.specs.Recovery.{config_recovered}
 use Rattle.ddf_assembly.specs.Slots.{first_left_out}
-use Rattle.ddf_assembly.proofs.SeatClash.{knows_disks}
+use Rattle.ddf_joining.proofs.SeatClash.{knows_disks}
 use Rattle.ddf_answer.specs.declared.failure.Failure.{Failure}
 use Rattle.ddf_answer.specs.Call.{Work}
 use Rattle.ddf_import_command.specs.Import.{HasImported, keeps_disks}

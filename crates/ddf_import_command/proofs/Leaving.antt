@@ -7,14 +7,16 @@ use Rattle.ddf_bay.specs.Sectors.{Image, IsLeft}
 use Rattle.ddf_bay.specs.State.{BayState}
 use Rattle.ddf_update.specs.Changes.{AreChanged, IsLeftChangingAll, MayChangeAll, SlotChange}
 use Rattle.ddf_update.specs.Group.{LieOnSlots}
-use Rattle.ddf_assembly.specs.Committed.{MayRecover, recovery_slots, recovery_updates, slots_of, slots_written, synced, updates_written}
-use Rattle.ddf_assembly.specs.Group.{GroupValue}
-use Rattle.ddf_assembly.specs.Importing.{MayJoinDisks, join_slots, join_updates, was_readied}
-use Rattle.ddf_assembly.specs.Joining.{Joining}
-use Rattle.ddf_assembly.specs.JoinValue.{JoinValue}
-use Rattle.ddf_assembly.specs.Ready.{ReadyStep, ReadyValue}
-use Rattle.ddf_assembly.specs.Steps.{Step}
-use Rattle.ddf_assembly.proofs.RecoveredGroup.{recovery_follows}
+use Rattle.ddf_recovery.specs.Committed.{MayRecover, recovery_slots, recovery_updates, slots_written, updates_written}
+use Rattle.ddf_steps.specs.Committed.{slots_of, synced}
+use Rattle.ddf_seats.specs.Group.{GroupValue}
+use Rattle.ddf_joining.specs.Importing.{MayJoinDisks, join_slots, join_updates, was_readied}
+use Rattle.ddf_joining.specs.Joining.{Joining}
+use Rattle.ddf_joining.specs.JoinValue.{JoinValue}
+use Rattle.ddf_steps.specs.Ready.{ReadyStep}
+use Rattle.ddf_recovery.specs.Ready.{ReadyValue}
+use Rattle.ddf_steps.specs.Steps.{Step}
+use Rattle.ddf_recovery.proofs.RecoveredGroup.{recovery_follows}
 use Rattle.ddf_history_steps.specs.Kept.{ReadsTrue}
 use Rattle.ddf_group_commands.specs.GroupRead.{IsReadFrom}
 use Rattle.ddf_group_commands.specs.Writing.{IsLeftWriting}

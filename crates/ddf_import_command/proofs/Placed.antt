@@ -11,30 +11,32 @@ use Rattle.ddf_rewrite.proofs.Lists.{all_at, all_by_get, get_map, list_all_get, 
 use Rattle.ddf_update.specs.Group.{IsOneOf, LieOnSlots}
 use Rattle.ddf_update.specs.Prepared.{LiesOn}
 use Rattle.ddf_update.proofs.Lies.{lies_on}
-use Rattle.ddf_assembly.specs.declared.seated.Seated.{Seated}
-use Rattle.ddf_assembly.specs.Committed.{HaveSlots, IsRewritten, WasReadied, recovery_slots, recovery_updates, slots_of}
-use Rattle.ddf_assembly.specs.Group.{GroupValue, is_kept}
-use Rattle.ddf_assembly.specs.Importing.{AreApart, join_slots, join_updates, was_readied}
-use Rattle.ddf_assembly.specs.Joining.{join_config, join_disks, join_leaders}
-use Rattle.ddf_assembly.specs.JoinValue.{JoinValue}
+use Rattle.ddf_seats.specs.declared.seated.Seated.{Seated}
+use Rattle.ddf_steps.specs.Committed.{HaveSlots, IsRewritten, slots_of}
+use Rattle.ddf_recovery.specs.Committed.{WasReadied, recovery_slots, recovery_updates}
+use Rattle.ddf_seats.specs.Group.{GroupValue, is_kept}
+use Rattle.ddf_joining.specs.Importing.{AreApart, join_slots, join_updates, was_readied}
+use Rattle.ddf_joining.specs.Joining.{join_config, join_disks, join_leaders}
+use Rattle.ddf_joining.specs.JoinValue.{JoinValue}
 use Rattle.ddf_assembly.specs.Reading.{HaveAnchors}
-use Rattle.ddf_assembly.specs.Ready.{ReadyValue}
-use Rattle.ddf_assembly.specs.Recovery.{disks_recovered}
-use Rattle.ddf_assembly.specs.Seated.{seated, seats_in}
-use Rattle.ddf_assembly.specs.Steps.{Step, disks_after, in_order}
-use Rattle.ddf_assembly.specs.Trying.{HasPlace, SlotsRise}
-use Rattle.ddf_assembly.proofs.BothOrder.{both_rise}
-use Rattle.ddf_assembly.proofs.BothSides.{both_have}
-use Rattle.ddf_assembly.proofs.Committed.{seats_on_slots}
-use Rattle.ddf_assembly.proofs.CommittedCopies.{standing_under}
-use Rattle.ddf_assembly.proofs.CommittedReadied.{disks_rewritten}
-use Rattle.ddf_assembly.proofs.CommittedSeats.{seated_is}
-use Rattle.ddf_assembly.proofs.JoinReadied.{was}
-use Rattle.ddf_assembly.proofs.Ordered.{order_all, order_differ, order_from}
-use Rattle.ddf_assembly.proofs.RecoveredGroup.{is_recovered}
-use Rattle.ddf_assembly.proofs.RecoveryWritten.{recovered_anchored, recovery_lies, recovery_on_seats}
-use Rattle.ddf_history_steps.proofs.JoinTaken.{recovered_on}
-use Rattle.ddf_history_steps.proofs.JoinTries.{joining_is, step_is}
+use Rattle.ddf_recovery.specs.Ready.{ReadyValue}
+use Rattle.ddf_recovery.specs.Recovery.{disks_recovered}
+use Rattle.ddf_seats.specs.Seated.{seated, seats_in}
+use Rattle.ddf_steps.specs.Steps.{Step, disks_after, in_order}
+use Rattle.ddf_steps.specs.Trying.{HasPlace}
+use Rattle.ddf_seats.specs.Changing.{SlotsRise}
+use Rattle.ddf_joining.proofs.BothOrder.{both_rise}
+use Rattle.ddf_joining.proofs.BothSides.{both_have}
+use Rattle.ddf_recovery.proofs.Committed.{seats_on_slots}
+use Rattle.ddf_recovery.proofs.CommittedCopies.{standing_under}
+use Rattle.ddf_recovery.proofs.CommittedReadied.{disks_rewritten}
+use Rattle.ddf_seats.proofs.CommittedSeats.{seated_is}
+use Rattle.ddf_joining.proofs.JoinReadied.{was}
+use Rattle.ddf_steps.proofs.Ordered.{order_all, order_differ, order_from}
+use Rattle.ddf_recovery.proofs.RecoveredGroup.{is_recovered}
+use Rattle.ddf_recovery.proofs.RecoveryWritten.{recovered_anchored, recovery_lies, recovery_on_seats}
+use Rattle.ddf_history_joins.proofs.JoinTaken.{recovered_on}
+use Rattle.ddf_history_joins.proofs.JoinTries.{joining_is, step_is}
 use Rattle.ddf_answer.specs.Call.{work_of}
 use Rattle.ddf_group_commands.specs.GroupRead.{IsReadFrom}
 use Rattle.ddf_import_command.specs.Import.{IsImportReady, IsJoinFault, import_asked, is_own}

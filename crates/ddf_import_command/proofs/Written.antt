@@ -9,24 +9,26 @@ use Rattle.ddf_copy.specs.declared.newest_copy.Newest.{Newest}
 use Rattle.ddf_copy.specs.Copies.{newest_of}
 use Rattle.ddf_rewrite.proofs.Lists.{all_at, all_by_get}
 use Rattle.ddf_update.specs.Changes.{AreChanged, MayChangeAll, SlotChange}
-use Rattle.ddf_assembly.specs.declared.seated.Seated.{Seated}
-use Rattle.ddf_assembly.specs.Committed.{AreSettled, HoldsGroup, IsRewritten, MayRecover, group_recovered, recovery_slots, recovery_updates, slots_of, synced}
-use Rattle.ddf_assembly.specs.Group.{GroupValue}
+use Rattle.ddf_seats.specs.declared.seated.Seated.{Seated}
+use Rattle.ddf_steps.specs.Committed.{AreSettled, IsRewritten, slots_of, synced}
+use Rattle.ddf_recovery.specs.Committed.{HoldsGroup, MayRecover, group_recovered, recovery_slots, recovery_updates}
+use Rattle.ddf_seats.specs.Group.{GroupValue}
 use Rattle.ddf_assembly.specs.Held.{AreHeldOn}
-use Rattle.ddf_assembly.specs.Importing.{IsJoinOf, MayJoinDisks, join_slots, join_updates, was_readied}
-use Rattle.ddf_assembly.specs.Joining.{Joining, join_config, join_disks, join_leaders}
-use Rattle.ddf_assembly.specs.JoinValue.{JoinValue}
-use Rattle.ddf_assembly.specs.Ready.{ReadyStep, ReadyValue}
-use Rattle.ddf_assembly.specs.Seated.{seated}
-use Rattle.ddf_assembly.specs.Steps.{Step}
-use Rattle.ddf_assembly.proofs.CommittedLevels.{level_else}
-use Rattle.ddf_assembly.proofs.CommittedSeats.{seated_is}
-use Rattle.ddf_assembly.proofs.JoinReadied.{is_join}
-use Rattle.ddf_assembly.proofs.JoinWritten.{may_join}
+use Rattle.ddf_joining.specs.Importing.{IsJoinOf, MayJoinDisks, join_slots, join_updates, was_readied}
+use Rattle.ddf_joining.specs.Joining.{Joining, join_config, join_disks, join_leaders}
+use Rattle.ddf_joining.specs.JoinValue.{JoinValue}
+use Rattle.ddf_steps.specs.Ready.{ReadyStep}
+use Rattle.ddf_recovery.specs.Ready.{ReadyValue}
+use Rattle.ddf_seats.specs.Seated.{seated}
+use Rattle.ddf_steps.specs.Steps.{Step}
+use Rattle.ddf_steps.proofs.CommittedLevels.{level_else}
+use Rattle.ddf_seats.proofs.CommittedSeats.{seated_is}
+use Rattle.ddf_joining.proofs.JoinReadied.{is_join}
+use Rattle.ddf_joining.proofs.JoinWritten.{may_join}
 use Rattle.ddf_assembly.proofs.LeftOut.{kept_there}
-use Rattle.ddf_assembly.proofs.RecoveredGroup.{rewriting}
-use Rattle.ddf_assembly.proofs.RecoveryWritten.{may_recover, recovered_held}
-use Rattle.ddf_history_steps.proofs.JoinTaken.{one_held}
+use Rattle.ddf_recovery.proofs.RecoveredGroup.{rewriting}
+use Rattle.ddf_recovery.proofs.RecoveryWritten.{may_recover, recovered_held}
+use Rattle.ddf_history_joins.proofs.JoinTaken.{one_held}
 use Rattle.ddf_answer.specs.Call.{work_of}
 use Rattle.ddf_group_commands.specs.GroupRead.{IsReadFrom}
 use Rattle.ddf_group_commands.specs.Written.{AreWritten, IsWritten}

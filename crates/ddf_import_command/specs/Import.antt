@@ -12,22 +12,23 @@ use Rattle.ddf_config.specs.declared.seat.Seat.{Seat}
 use Rattle.ddf_config.specs.Refusals.{first_refusal}
 use Rattle.ddf_group.specs.declared.answer.Assembly.{Assembly}
 use Rattle.ddf_update.specs.Group.{IsOneOf}
-use Rattle.ddf_assembly.specs.declared.fault.GroupFault.{GroupFault}
-use Rattle.ddf_assembly.specs.declared.importing.ReadyImport.{ReadyImport}
-use Rattle.ddf_assembly.specs.Committed.{AreSettled, slots_of}
-use Rattle.ddf_assembly.specs.Group.{GroupValue, group_of, is_kept}
-use Rattle.ddf_assembly.specs.Importing.{IsOfAnother, first_causes, was_readied}
-use Rattle.ddf_assembly.specs.Joining.{Joining, join_config, join_disks, joining}
-use Rattle.ddf_assembly.specs.JoinValue.{JoinValue}
-use Rattle.ddf_assembly.specs.Ready.{ReadyValue}
-use Rattle.ddf_assembly.specs.Seated.{seated}
+use Rattle.ddf_seats.specs.declared.fault.GroupFault.{GroupFault}
+use Rattle.ddf_joining.specs.declared.importing.ReadyImport.{ReadyImport}
+use Rattle.ddf_steps.specs.Committed.{AreSettled, slots_of}
+use Rattle.ddf_seats.specs.Group.{GroupValue, is_kept}
+use Rattle.ddf_assembly.specs.Group.{group_of}
+use Rattle.ddf_joining.specs.Importing.{IsOfAnother, first_causes, was_readied}
+use Rattle.ddf_joining.specs.Joining.{Joining, join_config, join_disks, joining}
+use Rattle.ddf_joining.specs.JoinValue.{JoinValue}
+use Rattle.ddf_recovery.specs.Ready.{ReadyValue}
+use Rattle.ddf_seats.specs.Seated.{seated}
 use Rattle.ddf_assembly.specs.Slots.{AreOut, first_left_out, newest_from}
-use Rattle.ddf_assembly.specs.Steps.{Step}
-use Rattle.ddf_assembly.specs.Trying.{Follows}
+use Rattle.ddf_steps.specs.Steps.{Step}
+use Rattle.ddf_steps.specs.Trying.{Follows}
 use Rattle.ddf_history.specs.Groups.{groups}
 use Rattle.ddf_history.specs.Issued.{Past}
 use Rattle.ddf_history_steps.specs.Going.{IsAdmitted, KeepsHistory}
-use Rattle.ddf_history_steps.specs.Joins.{AdmitsCall}
+use Rattle.ddf_history_joins.specs.Joins.{AdmitsCall}
 use Rattle.ddf_history_steps.specs.Kept.{AreAllKept}
 use Rattle.ddf_history_steps.specs.Steps.{recovery_changes}
 use Rattle.ddf_answer.specs.declared.failure.Failure.{Failure}

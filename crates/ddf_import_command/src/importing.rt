@@ -6,7 +6,7 @@ ghost use Rattle.ddf_answer.specs.Call.{answer_of, work_of};
 ghost use Rattle.ddf_answer.specs.Ends.{Ends};
 ghost use Rattle.ddf_answer.specs.Status.{code_of};
 ghost use Rattle.ddf_assembly.specs.Assembled.{IsAssembledGroup};
-ghost use Rattle.ddf_assembly.specs.Joining.{Joining};
+ghost use Rattle.ddf_joining.specs.Joining.{Joining};
 ghost use Rattle.ddf_assembly.specs.Slots.{LeaveNone};
 ghost use Rattle.ddf_group_commands.specs.Change.{is_done};
 ghost use Rattle.ddf_group_commands.specs.GroupRead.{IsFoundBy, IsReadFrom};
@@ -16,11 +16,13 @@ ghost use Rattle.ddf_words.specs.declared.command.Command.{Command};
 ghost use Rattle.ddf_import_command.specs.Import.{HasImported, IsImportDone, IsImported, IsImportReadyOr, KeepsJoins, import_asked, import_steps, is_own, keeps_disks};
 
 use ddf_answer::{Failure, Status, tell, tell_failure};
-use ddf_assembly::{AssembledGroup, Group, ReadyImport, first_left_out};
+use ddf_assembly::{AssembledGroup, Group, first_left_out};
 use ddf_bay::Bay;
 use ddf_bytes::{Guid, Sink, Stamp};
 use ddf_config::{Refusal, Seat};
 use ddf_group_commands::{failure_of, read_with_left_out};
+use ddf_joining::{ReadyImport, ready_import, refuses_join, write_join};
+use ddf_recovery::recover;
 use ddf_text::sequence_line;
 use std::alloc::Global;
 
@@ -94,7 +96,7 @@ fn readied(
     requires also { IsAssembledGroup other.now }
     ensures readied { IsImportReadyOr timestamp left_out.now group.now other.now result }
 {
-    let refusal = group.refuses_join(alloc, other)?;
+    let refusal = refuses_join(alloc, group, other)?;
     if let Some(refusal) = refusal {
         return Err(Failure::Refused(refusal));
     }
@@ -104,7 +106,7 @@ fn readied(
     if !keeps_disks(group, other.seats()) {
         return Err(Failure::Refused(Refusal::NoGroup));
     }
-    match group.ready_import(alloc, other, timestamp) {
+    match ready_import(alloc, group, other, timestamp) {
         Ok(ready) => Ok(ready),
         Err(fault) => Err(failure_of(fault)),
     }
@@ -141,7 +143,7 @@ fn write_import<B: Bay>(
     let ready = readied(alloc, group, left_out, &joining.group, timestamp)?;
     let ReadyImport { recovery, join } = ready;
     let mut recovery = recovery;
-    group.recover(bay, &mut recovery)?;
-    group.import(bay, join)?;
+    recover(group, bay, &mut recovery)?;
+    write_join(group, bay, join)?;
     Ok(group.config().sequence)
 }

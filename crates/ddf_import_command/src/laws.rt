@@ -1,8 +1,9 @@
 //! What holds of every import.
 ghost use Rattle.std.specs.Prelude.{◌≡◌, ℕ, List, None, Ok, Option, Result, Some, true};
 ghost use Rattle.ddf_config.specs.Refusals.{first_refusal};
-ghost use Rattle.ddf_assembly.specs.Group.{GroupValue, group_of};
-ghost use Rattle.ddf_assembly.specs.Importing.{first_causes};
+ghost use Rattle.ddf_seats.specs.Group.{GroupValue};
+ghost use Rattle.ddf_assembly.specs.Group.{group_of};
+ghost use Rattle.ddf_joining.specs.Importing.{first_causes};
 ghost use Rattle.ddf_assembly.specs.Slots.{first_left_out};
 ghost use Rattle.ddf_answer.specs.Call.{work_of};
 ghost use Rattle.ddf_answer.specs.declared.failure.Failure.{Failure};

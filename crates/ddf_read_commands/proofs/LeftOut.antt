@@ -13,10 +13,11 @@ use Rattle.ddf_group.specs.declared.answer.Assembled.{Assembled}
 use Rattle.ddf_group.specs.declared.answer.Assembly.{Assembly}
 use Rattle.ddf_group.specs.Assembled.{assembled}
 use Rattle.ddf_group.specs.Shown.{shown_of}
-use Rattle.ddf_assembly.specs.Group.{GroupValue, copy_at, group_as, group_of, group_or_fault, seat_at, seat_of, seats_of}
-use Rattle.ddf_assembly.specs.Recovery.{trusted_seats}
+use Rattle.ddf_seats.specs.Group.{GroupValue, copy_at, seat_at, seat_of, seats_of}
+use Rattle.ddf_assembly.specs.Group.{group_as, group_of, group_or_fault}
+use Rattle.ddf_recovery.specs.Recovery.{trusted_seats}
 use Rattle.ddf_assembly.specs.Slots.{newest_from, newest_or}
-use Rattle.ddf_assembly.proofs.Trusted.{trusted_there}
+use Rattle.ddf_recovery.proofs.Trusted.{trusted_there}
 use Rattle.ddf_read_commands.specs.Read.{HasNoPlace}
 
 -- ---- the seats of a group

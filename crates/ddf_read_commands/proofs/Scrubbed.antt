@@ -24,8 +24,9 @@ use Rattle.ddf_resync.specs.Scrubbing.{IsScrubFault, IsScrubbed}
 use Rattle.ddf_resync.specs.declared.outcome.Scrub.{Scrub}
 use Rattle.ddf_group.specs.declared.answer.Assembly.{Assembly}
 use Rattle.ddf_group.specs.declared.answer.Assembly.TheVariants as assembly
-use Rattle.ddf_assembly.specs.Group.{GroupValue, UpToMemory, group_of}
-use Rattle.ddf_assembly.specs.Recovery.{trusted_seats}
+use Rattle.ddf_seats.specs.Group.{GroupValue}
+use Rattle.ddf_assembly.specs.Group.{UpToMemory, group_of}
+use Rattle.ddf_recovery.specs.Recovery.{trusted_seats}
 use Rattle.ddf_assembly.specs.Slots.{IsLooked, newest_from}
 use Rattle.ddf_request.specs.Named.{named_array}
 use Rattle.ddf_words.specs.Traits.{traits_of}

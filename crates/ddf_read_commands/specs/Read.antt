@@ -16,8 +16,9 @@ use Rattle.ddf_read.specs.Reading.{Failed, IsOn, NoneFailed}
 use Rattle.ddf_read.specs.Refused.{is_unsure}
 pub use Rattle.ddf_pieces.specs.Pieces.{bytes_of, piece_blocks}
 use Rattle.ddf_group.specs.declared.answer.Assembly.{Assembly}
-use Rattle.ddf_assembly.specs.Group.{GroupValue, group_of}
-use Rattle.ddf_assembly.specs.Recovery.{trusted_seats}
+use Rattle.ddf_seats.specs.Group.{GroupValue}
+use Rattle.ddf_assembly.specs.Group.{group_of}
+use Rattle.ddf_recovery.specs.Recovery.{trusted_seats}
 use Rattle.ddf_assembly.specs.Slots.{AreOut, newest_from}
 use Rattle.ddf_request.specs.Named.{named_array}
 use Rattle.ddf_answer.specs.declared.failure.Failure.{Failure}

@@ -17,8 +17,9 @@ use Rattle.ddf_resync.specs.Scrubbing.{IsScrubFault, IsScrubbed}
 use Rattle.ddf_resync.specs.declared.outcome.Scrub.{Scrub}
 use Rattle.ddf_resync.specs.declared.outcome.Scrub.TheVariants.{Clean, Differs}
 use Rattle.ddf_group.specs.declared.answer.Assembly.{Assembly}
-use Rattle.ddf_assembly.specs.Group.{GroupValue, group_of}
-use Rattle.ddf_assembly.specs.Recovery.{trusted_seats}
+use Rattle.ddf_seats.specs.Group.{GroupValue}
+use Rattle.ddf_assembly.specs.Group.{group_of}
+use Rattle.ddf_recovery.specs.Recovery.{trusted_seats}
 use Rattle.ddf_assembly.specs.Slots.{AreOut, newest_from}
 use Rattle.ddf_request.specs.Named.{named_array}
 use Rattle.ddf_answer.specs.declared.failure.Failure.{Failure}

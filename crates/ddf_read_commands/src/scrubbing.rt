@@ -3,7 +3,7 @@ ghost use Rattle.std.specs.Prelude.{◌≡◌};
 ghost use Rattle.ddf_bytes.specs.Streams.{SinkRose};
 ghost use Rattle.ddf_bay.specs.ReadsOnly.{ReadsOnly};
 ghost use Rattle.ddf_config.specs.Seats.{SeatsFit};
-ghost use Rattle.ddf_assembly.specs.Recovery.{trusted_seats};
+ghost use Rattle.ddf_recovery.specs.Recovery.{trusted_seats};
 ghost use Rattle.ddf_read.specs.Reading.{OnlyReads};
 ghost use Rattle.ddf_answer.specs.Call.{answer_of, work_of};
 ghost use Rattle.ddf_answer.specs.Ends.{Ends};

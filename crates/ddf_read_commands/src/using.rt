@@ -1,7 +1,7 @@
 //! The use of an array's blocks, and what it is refused for.
 ghost use Rattle.std.specs.Prelude.{◌≡◌, ℕ, List, Some, ◌+◌, nat_lt, IfOk};
 ghost use Rattle.ddf_array.specs.Viewing.{view_of};
-ghost use Rattle.ddf_assembly.specs.Recovery.{trusted_seats};
+ghost use Rattle.ddf_recovery.specs.Recovery.{trusted_seats};
 ghost use Rattle.ddf_config.specs.Refusals.{first_refusal};
 ghost use Rattle.ddf_config.specs.Shapes.{array_capacity};
 ghost use Rattle.ddf_request.specs.Named.{named_array};
@@ -13,6 +13,7 @@ use ddf_assembly::Group;
 use ddf_bytes::{Guid, NoMemory};
 use ddf_config::{Array, Config, Refusal, Seat, array_capacity, first_refusal, refuse_if};
 use ddf_read::{View, ViewFault, VolumeFault};
+use ddf_recovery::trusted_seats;
 use ddf_request::{bad_blocks, is_held, is_held_from_writes, named_array, useless};
 use std::alloc::Global;
 
@@ -59,7 +60,7 @@ pub(crate) fn readable_in(
 ) -> Result<(Guid, View), Failure>
     ensures may { MayUse Access.Reads group.now.config (trusted_seats group.now) name.now start count result }
 {
-    let seats = group.trusted_seats(alloc)?;
+    let seats = trusted_seats(alloc, group)?;
     usable(
         alloc,
         group.config(),

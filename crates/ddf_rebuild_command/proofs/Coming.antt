@@ -10,9 +10,9 @@ use Rattle.ddf_config.specs.Configuration.{Configuration}
 use Rattle.ddf_history.specs.Groups.{groups}
 use Rattle.ddf_view.proofs.Finds.{place_within}
 use Rattle.ddf_history.specs.Issued.{Past, acknowledge, issue, leave_out, take_off}
-use Rattle.ddf_assembly.specs.Group.{GroupValue}
-use Rattle.ddf_assembly.specs.Recovery.{some}
-use Rattle.ddf_assembly.specs.Steps.{Step}
+use Rattle.ddf_seats.specs.Group.{GroupValue}
+use Rattle.ddf_seats.specs.Leading.{some}
+use Rattle.ddf_steps.specs.Steps.{Step}
 use Rattle.ddf_history_steps.specs.Going.{Goes, IsOver, IsUnderway, begun, changes_in, issue_all}
 use Rattle.ddf_history_steps.proofs.CommittingGoes.{change_goes, change_over}
 use Rattle.ddf_rebuild_command.specs.Filled.{HasComeIn, behind_rounds, made}

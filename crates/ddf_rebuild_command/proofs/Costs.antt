@@ -12,9 +12,10 @@ use Rattle.ddf_cells.proofs.Writes.{asks_start, asks_then}
 use Rattle.ddf_rebuild.specs.Rebuilding.{sectors_of}
 use Rattle.ddf_update.specs.Prepared.{all_sectors}
 use Rattle.ddf_group.specs.declared.answer.Assembly.{Assembly}
-use Rattle.ddf_assembly.specs.Committed.{left_behind, next_updates, recovery_updates}
-use Rattle.ddf_assembly.specs.Group.{GroupValue}
-use Rattle.ddf_assembly.specs.Ready.{ReadyStep, ReadyValue, all_ready}
+use Rattle.ddf_recovery.specs.Committed.{left_behind, next_updates, recovery_updates}
+use Rattle.ddf_seats.specs.Group.{GroupValue}
+use Rattle.ddf_steps.specs.Ready.{ReadyStep}
+use Rattle.ddf_recovery.specs.Ready.{ReadyValue, all_ready}
 use Rattle.ddf_answer.specs.Call.{Work, work_of}
 use Rattle.ddf_answer.specs.Costs.{WritesAtMost}
 use Rattle.ddf_answer.proofs.Costs.{none_written}

@@ -2,8 +2,8 @@
 use Rattle.std.proofs.Common.{◌≡◌, ℕ, false, List, Option, None, Some, Result, Err, inl, inr, subst}
 use Rattle.ddf_bay.specs.State.{BayState}
 use Rattle.ddf_cells.specs.Touching.{GoesBetween}
-use Rattle.ddf_assembly.specs.Group.{GroupValue}
-use Rattle.ddf_assembly.specs.Ready.{ReadyValue}
+use Rattle.ddf_seats.specs.Group.{GroupValue}
+use Rattle.ddf_recovery.specs.Ready.{ReadyValue}
 use Rattle.ddf_answer.specs.declared.failure.Failure.{Failure}
 use Rattle.ddf_write_commands.proofs.Arrays.{goes_then}
 use Rattle.ddf_rebuild_command.specs.declared.planning.Filling.{Filling}

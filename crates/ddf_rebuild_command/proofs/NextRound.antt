@@ -5,9 +5,10 @@ use Rattle.ddf_array.specs.Volume.{Volume}
 use Rattle.ddf_rebuild.specs.Rebuilding.{IsRebuildFault}
 use Rattle.ddf_repair.specs.declared.first.Target.{Target}
 use Rattle.ddf_read.specs.declared.fault.VolumeFault.{VolumeFault}
-use Rattle.ddf_assembly.specs.Committed.{slots_of}
-use Rattle.ddf_assembly.specs.Group.{GroupValue}
-use Rattle.ddf_assembly.specs.Ready.{ReadyStep, ReadyValue}
+use Rattle.ddf_steps.specs.Committed.{slots_of}
+use Rattle.ddf_seats.specs.Group.{GroupValue}
+use Rattle.ddf_steps.specs.Ready.{ReadyStep}
+use Rattle.ddf_recovery.specs.Ready.{ReadyValue}
 use Rattle.ddf_answer.specs.declared.failure.Failure.{Failure}
 use Rattle.ddf_read_commands.specs.Use.{failure_of_volume}
 use Rattle.ddf_bay.specs.Told.{IsTold}

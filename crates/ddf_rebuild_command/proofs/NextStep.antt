@@ -13,14 +13,16 @@ use Rattle.ddf_update.specs.Group.{IsOneOf, LieOnSlots}
 use Rattle.ddf_update.specs.Prepared.{all_sectors}
 use Rattle.ddf_history.specs.Groups.{groups}
 use Rattle.ddf_history.specs.Issued.{Past}
-use Rattle.ddf_assembly.specs.Committed.{MayWriteNext, group_next, left_behind, next_slots, next_updates, slots_of}
-use Rattle.ddf_assembly.specs.Group.{GroupValue}
+use Rattle.ddf_recovery.specs.Committed.{MayWriteNext, group_next, left_behind, next_slots, next_updates}
+use Rattle.ddf_steps.specs.Committed.{slots_of}
+use Rattle.ddf_seats.specs.Group.{GroupValue}
 use Rattle.ddf_assembly.specs.Reading.{HaveAnchors}
-use Rattle.ddf_assembly.specs.Ready.{ReadyStep, ReadyValue}
-use Rattle.ddf_assembly.specs.Seated.{seated}
-use Rattle.ddf_assembly.specs.Trying.{AreFollowing}
-use Rattle.ddf_assembly.proofs.Committed.{may_write_next, next_lies}
-use Rattle.ddf_assembly.proofs.CommittedAfter.{committed_anchored, committed_holds, left_ready}
+use Rattle.ddf_steps.specs.Ready.{ReadyStep}
+use Rattle.ddf_recovery.specs.Ready.{ReadyValue}
+use Rattle.ddf_seats.specs.Seated.{seated}
+use Rattle.ddf_steps.specs.Trying.{AreFollowing}
+use Rattle.ddf_recovery.proofs.Committed.{may_write_next, next_lies}
+use Rattle.ddf_recovery.proofs.CommittedAfter.{committed_anchored, committed_holds, left_ready}
 use Rattle.ddf_history_steps.specs.Kept.{ReadsTrue, is_slot}
 use Rattle.ddf_history_steps.specs.Steps.{IsCommit, KeepsStep, StandsReady, behind_next}
 use Rattle.ddf_history_steps.proofs.CommittingKeeps as committing

@@ -20,11 +20,12 @@ use Rattle.ddf_history.specs.Groups.{groups}
 use Rattle.ddf_history.specs.Issued.{Past, issue}
 use Rattle.ddf_history.specs.Promise.{IsKept}
 use Rattle.ddf_history.specs.Scenes.{scene_of}
-use Rattle.ddf_assembly.specs.Committed.{slots_of}
-use Rattle.ddf_assembly.specs.Group.{GroupValue}
+use Rattle.ddf_steps.specs.Committed.{slots_of}
+use Rattle.ddf_seats.specs.Group.{GroupValue}
 use Rattle.ddf_assembly.specs.Reading.{HaveAnchors}
-use Rattle.ddf_assembly.specs.Ready.{ReadyStep, ReadyValue}
-use Rattle.ddf_assembly.specs.Trying.{SlotsRise}
+use Rattle.ddf_steps.specs.Ready.{ReadyStep}
+use Rattle.ddf_recovery.specs.Ready.{ReadyValue}
+use Rattle.ddf_seats.specs.Changing.{SlotsRise}
 use Rattle.ddf_history_steps.specs.Kept.{AreAllKept}
 use Rattle.ddf_history_steps.specs.Steps.{StandsReady, behind_next, with_next}
 use Rattle.ddf_history_steps.specs.BlockFloors.{HaveFloors, StaySettled, WritesBelow, floor_in}

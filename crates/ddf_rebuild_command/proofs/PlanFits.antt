@@ -5,9 +5,9 @@ use Rattle.ddf_array.specs.Apart.{IsApart}
 use Rattle.ddf_array.specs.Within.{is_within}
 use Rattle.ddf_array.specs.declared.part.Part.{Part}
 use Rattle.ddf_rebuild.specs.Target.{row_count}
-use Rattle.ddf_assembly.specs.Committed.{WasReadied}
-use Rattle.ddf_assembly.specs.Group.{GroupValue}
-use Rattle.ddf_assembly.specs.Ready.{ReadyValue}
+use Rattle.ddf_recovery.specs.Committed.{WasReadied}
+use Rattle.ddf_seats.specs.Group.{GroupValue}
+use Rattle.ddf_recovery.specs.Ready.{ReadyValue}
 use Rattle.ddf_write_commands.specs.Around.{rest}
 use Rattle.ddf_rebuild_command.specs.declared.planning.Filling.{Filling}
 use Rattle.ddf_rebuild_command.specs.Asked.{changes_behind, rows_in}

@@ -27,7 +27,7 @@ use Rattle.ddf_array.proofs.Apart.{view_apart}
 use Rattle.ddf_array.proofs.Told.{told_within}
 use Rattle.ddf_rebuild.specs.Target.{row_count}
 use Rattle.ddf_rewrite.proofs.Lists.{all_at}
-use Rattle.ddf_assembly.specs.Trying.{SlotsRise}
+use Rattle.ddf_seats.specs.Changing.{SlotsRise}
 use Rattle.ddf_read_commands.specs.declared.using.Access.TheVariants.{Reads}
 use Rattle.ddf_read_commands.specs.Use.{array_refusals}
 use Rattle.ddf_write_commands.specs.Opened.{AreMembers}

@@ -13,18 +13,20 @@ use Rattle.ddf_plan.specs.Same.{is_step}
 use Rattle.ddf_repair.specs.declared.first.Target.{Target}
 use Rattle.ddf_repair.specs.Begin.{begun}
 use Rattle.ddf_array.specs.Viewing.{view_of}
-use Rattle.ddf_assembly.specs.declared.fault.GroupFault.{GroupFault}
-use Rattle.ddf_assembly.specs.declared.fault.GroupFault.TheVariants as faults
-use Rattle.ddf_assembly.specs.declared.seated.Seated.{Seated}
-use Rattle.ddf_assembly.specs.Asked.{CanBeAsked}
-use Rattle.ddf_assembly.specs.Committed.{WasReadied, group_recovered}
-use Rattle.ddf_assembly.specs.Group.{GroupValue}
-use Rattle.ddf_assembly.specs.Ready.{ReadyStep, ReadyValue, all_ready, is_spent, readied, steps_from, unless_spent, with_recovery, with_step}
-use Rattle.ddf_assembly.specs.Recovery.{config_recovered, disks_recovered, full_of_recovery, has_stray, loss_spent, recovery_of}
-use Rattle.ddf_assembly.specs.Refusing.{step_refusal}
-use Rattle.ddf_assembly.specs.Steps.{Step, levelled, raised, step_of}
-use Rattle.ddf_assembly.proofs.ReadiedParts.{are_tried, has_room, none_spent, none_stray}
-use Rattle.ddf_assembly.proofs.RecoveredGroup.{is_recovered}
+use Rattle.ddf_seats.specs.declared.fault.GroupFault.{GroupFault}
+use Rattle.ddf_seats.specs.declared.fault.GroupFault.TheVariants as faults
+use Rattle.ddf_seats.specs.declared.seated.Seated.{Seated}
+use Rattle.ddf_steps.specs.Asked.{CanBeAsked}
+use Rattle.ddf_recovery.specs.Committed.{WasReadied, group_recovered}
+use Rattle.ddf_seats.specs.Group.{GroupValue}
+use Rattle.ddf_steps.specs.Ready.{ReadyStep, is_spent, steps_from, unless_spent, with_step}
+use Rattle.ddf_recovery.specs.Ready.{ReadyValue, all_ready, readied, with_recovery}
+use Rattle.ddf_recovery.specs.Recovery.{config_recovered, disks_recovered, full_of_recovery, has_stray, loss_spent, recovery_of}
+use Rattle.ddf_steps.specs.Refusing.{step_refusal}
+use Rattle.ddf_steps.specs.Steps.{Step, raised, step_of}
+use Rattle.ddf_seats.specs.Seated.{levelled}
+use Rattle.ddf_recovery.proofs.ReadiedParts.{are_tried, has_room, none_spent, none_stray}
+use Rattle.ddf_recovery.proofs.RecoveredGroup.{is_recovered}
 use Rattle.ddf_group_commands.specs.Change.{steps_asked, steps_of as steps_wanted, steps_or}
 use Rattle.ddf_group_commands.proofs.StepsWritten.{steps_in}
 use Rattle.ddf_write_commands.specs.Around.{config_behind, rest}

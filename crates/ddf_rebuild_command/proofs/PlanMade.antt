@@ -32,7 +32,7 @@ use Rattle.ddf_array.specs.Within.{is_within}
 use Rattle.ddf_array.proofs.Told.{told_within}
 use Rattle.ddf_array.proofs.Viewed.{from_view}
 use Rattle.ddf_rebuild.specs.Target.{row_count}
-use Rattle.ddf_assembly.specs.Asked.{CanBeAsked}
+use Rattle.ddf_steps.specs.Asked.{CanBeAsked}
 use Rattle.ddf_request.specs.Named.{named_array, with_array}
 use Rattle.ddf_answer.specs.declared.failure.Failure.{Failure}
 use Rattle.ddf_answer.specs.declared.failure.Failure.TheVariants.{Conflict, Disk, Memory, Refused, Split}

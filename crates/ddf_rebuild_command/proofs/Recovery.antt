@@ -13,15 +13,17 @@ use Rattle.ddf_update.specs.Group.{IsOneOf, LieOnSlots}
 use Rattle.ddf_update.specs.Prepared.{all_sectors}
 use Rattle.ddf_history.specs.Groups.{groups}
 use Rattle.ddf_history.specs.Issued.{Past}
-use Rattle.ddf_assembly.specs.Committed.{HaveSlots, MayRecover, group_recovered, recovery_slots, recovery_updates, slots_of, slots_written, synced, updates_written}
-use Rattle.ddf_assembly.specs.Group.{GroupValue}
+use Rattle.ddf_steps.specs.Committed.{HaveSlots, slots_of, synced}
+use Rattle.ddf_recovery.specs.Committed.{MayRecover, group_recovered, recovery_slots, recovery_updates, slots_written, updates_written}
+use Rattle.ddf_seats.specs.Group.{GroupValue}
 use Rattle.ddf_assembly.specs.Reading.{HaveAnchors}
-use Rattle.ddf_assembly.specs.Ready.{ReadyStep, ReadyValue}
-use Rattle.ddf_assembly.specs.Recovery.{some}
-use Rattle.ddf_assembly.specs.Seated.{seated}
-use Rattle.ddf_assembly.specs.Steps.{Step}
-use Rattle.ddf_assembly.proofs.RecoveredGroup.{is_recovered, recovered_ready, recovery_follows}
-use Rattle.ddf_assembly.proofs.RecoveryWritten.{may_recover, recovered_anchored, recovered_held, recovery_lies, recovery_on_seats}
+use Rattle.ddf_steps.specs.Ready.{ReadyStep}
+use Rattle.ddf_recovery.specs.Ready.{ReadyValue}
+use Rattle.ddf_seats.specs.Leading.{some}
+use Rattle.ddf_seats.specs.Seated.{seated}
+use Rattle.ddf_steps.specs.Steps.{Step}
+use Rattle.ddf_recovery.proofs.RecoveredGroup.{is_recovered, recovered_ready, recovery_follows}
+use Rattle.ddf_recovery.proofs.RecoveryWritten.{may_recover, recovered_anchored, recovered_held, recovery_lies, recovery_on_seats}
 use Rattle.ddf_history_steps.specs.Going.{Goes, IsAdmitted, IsOver, KeepsHistory, changes_in}
 use Rattle.ddf_history_steps.specs.Kept.{AreAllKept, ReadsTrue, is_read}
 use Rattle.ddf_history_steps.specs.Steps.{IsRecovery, StandsReady, WasTaken, recovery_changes}

@@ -15,8 +15,9 @@ use Rattle.ddf_rewrite.proofs.Lists.{map_get}
 use Rattle.ddf_read.proofs.Tries.{NotRead-wider}
 use Rattle.ddf_cells.specs.CellSources.{cell_sources}
 use Rattle.ddf_cells.proofs.GivenSteps.{wanted_wider}
-use Rattle.ddf_assembly.specs.Committed.{HoldsGroup, slots_of}
-use Rattle.ddf_assembly.specs.Group.{GroupValue}
+use Rattle.ddf_recovery.specs.Committed.{HoldsGroup}
+use Rattle.ddf_steps.specs.Committed.{slots_of}
+use Rattle.ddf_seats.specs.Group.{GroupValue}
 use Rattle.ddf_history_steps.specs.Kept.{is_slot}
 use Rattle.ddf_history_steps.proofs.Slots.{slot_placed}
 use Rattle.ddf_write_commands.specs.Holding.{holding}

@@ -15,17 +15,19 @@ use Rattle.ddf_plan.specs.Members.{lost_by, member_after, members_after}
 use Rattle.ddf_plan.specs.Same.{is_step}
 use Rattle.ddf_rewrite.specs.Before.{before}
 use Rattle.ddf_rewrite.proofs.Lists.{get_map}
-use Rattle.ddf_assembly.specs.declared.seated.Seated.{Seated}
-use Rattle.ddf_assembly.specs.Committed.{WasReadied, group_recovered}
-use Rattle.ddf_assembly.specs.Group.{GroupValue}
-use Rattle.ddf_assembly.specs.Ready.{ReadyStep, ReadyValue, steps_from, with_step}
-use Rattle.ddf_assembly.specs.Recovery.{config_lost, config_recovered, disks_recovered, leading, lost_step, mending_step, recovery_of, some}
-use Rattle.ddf_assembly.specs.Refusing.{step_refusal}
-use Rattle.ddf_assembly.specs.Seated.{seated, seats_in, views_in}
-use Rattle.ddf_assembly.specs.Steps.{Step, config_after, levelled, stays_in, step_of}
-use Rattle.ddf_assembly.proofs.CommittedLevels.{seats_levelled}
-use Rattle.ddf_assembly.proofs.ReadiedParts.{are_tried}
-use Rattle.ddf_assembly.proofs.RecoveredGroup.{is_recovered}
+use Rattle.ddf_seats.specs.declared.seated.Seated.{Seated}
+use Rattle.ddf_recovery.specs.Committed.{WasReadied, group_recovered}
+use Rattle.ddf_seats.specs.Group.{GroupValue}
+use Rattle.ddf_steps.specs.Ready.{ReadyStep, steps_from, with_step}
+use Rattle.ddf_recovery.specs.Ready.{ReadyValue}
+use Rattle.ddf_recovery.specs.Recovery.{config_lost, config_recovered, disks_recovered, lost_step, mending_step, recovery_of}
+use Rattle.ddf_seats.specs.Leading.{leading, some}
+use Rattle.ddf_steps.specs.Refusing.{step_refusal}
+use Rattle.ddf_seats.specs.Seated.{seated, seats_in, views_in, levelled}
+use Rattle.ddf_steps.specs.Steps.{Step, config_after, stays_in, step_of}
+use Rattle.ddf_steps.proofs.CommittedLevels.{seats_levelled}
+use Rattle.ddf_recovery.proofs.ReadiedParts.{are_tried}
+use Rattle.ddf_recovery.proofs.RecoveredGroup.{is_recovered}
 use Rattle.ddf_group_commands.proofs.StepsWritten.{steps_in}
 use Rattle.ddf_write_commands.specs.Opened.{AreMembers}
 use Rattle.ddf_write_commands.proofs.Staying.{seats_stay}

@@ -25,8 +25,10 @@ use Rattle.ddf_group.specs.Shown.{shown_of}
 use Rattle.ddf_group.specs.Slots.{claimed, claims, numbers, slot_at, view_in}
 use Rattle.ddf_rewrite.proofs.AllWanted.{get_filter_map}
 use Rattle.ddf_rewrite.proofs.Lists.{get_map, get_range}
-use Rattle.ddf_assembly.specs.Group.{GroupValue, copy_at, group_of, seat_at, seat_of}
-use Rattle.ddf_assembly.specs.Recovery.{config_lost, config_recovered, some}
+use Rattle.ddf_seats.specs.Group.{GroupValue, copy_at, seat_at, seat_of}
+use Rattle.ddf_assembly.specs.Group.{group_of}
+use Rattle.ddf_recovery.specs.Recovery.{config_lost, config_recovered}
+use Rattle.ddf_seats.specs.Leading.{some}
 use Rattle.ddf_assembly.proofs.LeftBefore.{kept_at}
 use Rattle.ddf_history_steps.proofs.Begun.{IsMadeOf, found_named}
 use Rattle.ddf_history_steps.proofs.Filtered.{any_kept, passes_kept}

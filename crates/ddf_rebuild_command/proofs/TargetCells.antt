@@ -12,8 +12,8 @@ use Rattle.ddf_rebuild.specs.Rebuilding.{NoneLeftInRows}
 use Rattle.ddf_rebuild.specs.Target.{IsTargetCell, IsTargetSlot}
 use Rattle.ddf_rewrite.proofs.Lists.{all_at}
 use Rattle.ddf_update.specs.Group.{IsOneOf}
-use Rattle.ddf_assembly.specs.Committed.{slots_of}
-use Rattle.ddf_assembly.specs.Trying.{SlotsRise}
+use Rattle.ddf_steps.specs.Committed.{slots_of}
+use Rattle.ddf_seats.specs.Changing.{SlotsRise}
 use Rattle.ddf_history_steps.specs.Kept.{is_slot}
 use Rattle.ddf_history_steps.specs.BlockFloors.{floor_in}
 use Rattle.ddf_write_commands.proofs.BelowFloors.{floor_slot}

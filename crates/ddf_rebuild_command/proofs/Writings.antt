@@ -7,13 +7,13 @@ use Rattle.ddf_bay.specs.State.{BayState, size_of}
 use Rattle.ddf_view.specs.View.{View, view_of}
 use Rattle.ddf_history.specs.Reading.{Shown}
 use Rattle.ddf_history.specs.Reading.Shown.{One}
-use Rattle.ddf_assembly.specs.Steps.{Step}
+use Rattle.ddf_steps.specs.Steps.{Step}
 use Rattle.ddf_group_commands.specs.Change.{last_sequence}
 use Rattle.ddf_group_commands.specs.Writing.{IsLeftWriting, IsStepsSector, IsWrittenOn}
 use Rattle.ddf_group_commands.specs.Written.{AreWritten}
 use Rattle.ddf_group_commands.proofs.LeftWriting.{ShowsFrom, writing_by}
-use Rattle.ddf_assembly.specs.Group.{floor_of}
-use Rattle.ddf_assembly.specs.declared.seated.Seated.{Seated}
+use Rattle.ddf_seats.specs.Group.{floor_of}
+use Rattle.ddf_seats.specs.declared.seated.Seated.{Seated}
 
 -- ---- lists
 

@@ -3,7 +3,7 @@ use Rattle.std.specs.Prelude.{◌⊎◌, ℕ, ◌+◌, ◌-◌, ◌*◌, List, �
 use Rattle.ddf_primary.specs.Cells.{depth_of}
 use Rattle.ddf_primary.specs.Placement.{Placement}
 use Rattle.ddf_group.specs.declared.answer.Assembly.{Assembly}
-use Rattle.ddf_assembly.specs.Group.{GroupValue}
+use Rattle.ddf_seats.specs.Group.{GroupValue}
 use Rattle.ddf_answer.specs.Call.{Work}
 use Rattle.ddf_answer.specs.Costs.{WritesAtMost}
 use Rattle.ddf_group_commands.specs.Change.{steps_of as steps_asked}

@@ -18,7 +18,7 @@ use Rattle.ddf_array.specs.Viewing.{view_of}
 use Rattle.ddf_array.specs.Volume.{IsVolume, Volume}
 use Rattle.ddf_rebuild.specs.Target.{IsOut}
 use Rattle.ddf_rewrite.specs.Hold.{FitsPosition}
-use Rattle.ddf_assembly.specs.Asked.{CanBeAsked}
+use Rattle.ddf_steps.specs.Asked.{CanBeAsked}
 use Rattle.ddf_request.specs.Named.{named_array}
 use Rattle.ddf_answer.specs.declared.failure.Failure.{Failure}
 use Rattle.ddf_answer.specs.declared.failure.Failure.TheVariants.{Conflict, Disk, Memory, Refused, Split}

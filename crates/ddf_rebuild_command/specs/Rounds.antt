@@ -9,7 +9,7 @@ use Rattle.ddf_cells.specs.Writing.{StaysBut}
 use Rattle.ddf_rebuild.specs.Rebuilding.{HasGiven, HasRebuilt}
 use Rattle.ddf_rebuild.specs.Target.{IsTargetCell}
 use Rattle.ddf_repair.specs.declared.first.Target.{Target}
-use Rattle.ddf_assembly.specs.Steps.{Step}
+use Rattle.ddf_steps.specs.Steps.{Step}
 use Rattle.ddf_group_commands.specs.Written.{AreWritten}
 
 -- Rows are filled up to this one, and then this step is written.

@@ -4,9 +4,10 @@ use Rattle.ddf_bay.specs.State.{BayState}
 use Rattle.ddf_array.specs.declared.part.Part.{Part}
 use Rattle.ddf_cells.specs.Writing.{AsksFor}
 use Rattle.ddf_update.specs.Prepared.{all_sectors}
-use Rattle.ddf_assembly.specs.Committed.{recovery_updates, slots_of}
-use Rattle.ddf_assembly.specs.Group.{GroupValue}
-use Rattle.ddf_assembly.specs.Ready.{ReadyValue, all_ready}
+use Rattle.ddf_recovery.specs.Committed.{recovery_updates}
+use Rattle.ddf_steps.specs.Committed.{slots_of}
+use Rattle.ddf_seats.specs.Group.{GroupValue}
+use Rattle.ddf_recovery.specs.Ready.{ReadyValue, all_ready}
 use Rattle.ddf_answer.specs.declared.failure.Failure.{Failure}
 use Rattle.ddf_group_commands.specs.Costs.{ready_sectors}
 use Rattle.ddf_write_commands.specs.Around.{rest}

@@ -4,8 +4,8 @@ use Rattle.ddf_bay.specs.Sectors.{Image}
 use Rattle.ddf_cells.specs.Writing.{IsLeftBut}
 use Rattle.ddf_rebuild.specs.Target.{IsTargetCell}
 use Rattle.ddf_read.specs.Reading.{Failed}
-use Rattle.ddf_assembly.specs.Committed.{slots_of}
-use Rattle.ddf_assembly.specs.Group.{GroupValue}
+use Rattle.ddf_steps.specs.Committed.{slots_of}
+use Rattle.ddf_seats.specs.Group.{GroupValue}
 use Rattle.ddf_answer.specs.Call.{Work}
 use Rattle.ddf_group_commands.specs.Writing.{IsLeftWriting}
 use Rattle.ddf_group_commands.specs.Written.{AreWritten}

@@ -4,7 +4,7 @@ ghost use Rattle.ddf_cells.specs.Writing.{AsksFor};
 ghost use Rattle.ddf_array.specs.declared.part.Part.{Part};
 ghost use Rattle.ddf_update.specs.Prepared.{all_sectors};
 ghost use Rattle.ddf_rebuild.specs.Rebuilding.{sectors_of};
-ghost use Rattle.ddf_assembly.specs.Committed.{left_behind, next_updates};
+ghost use Rattle.ddf_recovery.specs.Committed.{left_behind, next_updates};
 ghost use Rattle.ddf_group_commands.specs.Costs.{ready_sectors};
 ghost use Rattle.ddf_rebuild_command.specs.Costs.{sectors_from};
 ghost use Rattle.ddf_rebuild_command.specs.Filled.{AreFilled, CanFill, GoesFilling, IsFillFault, rounds_in};
@@ -13,10 +13,11 @@ ghost use Rattle.ddf_rebuild_command.specs.Standing.{Stands};
 use crate::planning::Filling;
 use crate::stepping::write_step;
 use ddf_answer::Failure;
-use ddf_assembly::{Group, Ready};
+use ddf_assembly::Group;
 use ddf_bay::Bay;
 use ddf_read_commands::failure_of;
 use ddf_rebuild::rebuild_rows;
+use ddf_recovery::Ready;
 
 /// Fills the rows of a position from one on up to another, and writes the step that tells of them.
 ///

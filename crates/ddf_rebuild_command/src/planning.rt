@@ -17,7 +17,7 @@ ghost use Rattle.ddf_plan.specs.Arrays.{HasNewGuid};
 ghost use Rattle.ddf_plan.specs.declared.change.Change.{Change};
 ghost use Rattle.ddf_repair.specs.Begin.{begun};
 ghost use Rattle.ddf_repair.specs.declared.beginning.Begun.{Begun};
-ghost use Rattle.ddf_assembly.specs.Recovery.{config_recovered};
+ghost use Rattle.ddf_recovery.specs.Recovery.{config_recovered};
 ghost use Rattle.ddf_read_commands.specs.Use.{IsViewed};
 ghost use Rattle.ddf_rebuild_command.specs.Asked.{bad_spare, rows_in};
 ghost use Rattle.ddf_rebuild_command.specs.Plans.{FitsBegin, HaveSeats, MayPlan, MayPlanFor, filled, notes_and_end, spare_view};
@@ -32,6 +32,7 @@ use ddf_plan::{Change, changed_at};
 use ddf_read::{View, ViewFault};
 use ddf_read_commands::{Access, usable};
 use ddf_rebuild::row_count;
+use ddf_recovery::loss;
 use ddf_repair::{Begun, RebuildFault, Target, begin, finish};
 use std::alloc::Global;
 
@@ -68,7 +69,7 @@ pub(crate) fn plan_rebuild(alloc: Global, group: &Group, name: &[u8]) -> Result<
     requires { HaveSeats (config_recovered group.now) group.now.seats }
     ensures { MayPlan (config_recovered group.now) group.now.seats name.now result }
 {
-    let loss = group.loss(alloc)?;
+    let loss = loss(alloc, group)?;
     rebuild_plan(alloc, recovered(group, &loss), group.seats(), name)
 }
 

@@ -16,10 +16,11 @@ use crate::filling::fill;
 use crate::planning::{Filling, Plan, plan_rebuild};
 use crate::stepping::{open_position, ready_rebuild, recover_group};
 use ddf_answer::{Failure, Status, tell, tell_failure};
-use ddf_assembly::{Group, Ready};
+use ddf_assembly::Group;
 use ddf_bay::Bay;
 use ddf_bytes::{Guid, Sink, Stamp};
 use ddf_group_commands::read_group;
+use ddf_recovery::Ready;
 use ddf_text::sequence_line;
 use std::alloc::Global;
 

@@ -3,10 +3,11 @@ ghost use Rattle.std.specs.Prelude.{◌≡◌, None, IfErr, IfOk, OnOk, is_ok};
 ghost use Rattle.std.specs.List.{AllByRecursion};
 ghost use Rattle.ddf_cells.specs.Writing.{AsksFor};
 ghost use Rattle.ddf_update.specs.Prepared.{all_sectors};
-ghost use Rattle.ddf_assembly.specs.Asked.{CanBeAsked};
+ghost use Rattle.ddf_steps.specs.Asked.{CanBeAsked};
 ghost use Rattle.ddf_assembly.specs.Assembled.{IsAssembledGroup};
-ghost use Rattle.ddf_assembly.specs.Committed.{WasReadied, next_updates, recovery_updates, slots_of};
-ghost use Rattle.ddf_assembly.specs.Ready.{readied};
+ghost use Rattle.ddf_recovery.specs.Committed.{WasReadied, next_updates, recovery_updates};
+ghost use Rattle.ddf_steps.specs.Committed.{slots_of};
+ghost use Rattle.ddf_recovery.specs.Ready.{readied};
 ghost use Rattle.ddf_write_commands.specs.Around.{rest};
 ghost use Rattle.ddf_write_commands.specs.Costs.{sectors_before};
 ghost use Rattle.ddf_write_commands.specs.Plans.{IsNotReadied};
@@ -15,9 +16,10 @@ ghost use Rattle.ddf_rebuild_command.specs.Standing.{GoesNext, IsNextWritten, Is
 
 use crate::planning::Plan;
 use ddf_answer::Failure;
-use ddf_assembly::{Group, Ready};
+use ddf_assembly::Group;
 use ddf_bay::Bay;
 use ddf_group_commands::failure_of;
+use ddf_recovery::{Ready, commit, make_ready, recover};
 use std::alloc::Global;
 
 /// All that the steps of a rebuild take: it is made before anything is written.
@@ -35,7 +37,7 @@ pub(crate) fn ready_rebuild(
     ensures was { IfOk result (WasReadied group.now plan.now.changes timestamp) }
     ensures refused { IfErr result (IsNotReadied (readied group.now plan.now.changes timestamp)) }
 {
-    match group.ready(alloc, plan.changes.items(), timestamp) {
+    match make_ready(alloc, group, plan.changes.items(), timestamp) {
         Ok(ready) => Ok(ready),
         Err(fault) => Err(failure_of(fault)),
     }
@@ -58,7 +60,7 @@ pub(crate) fn recover_group<B: Bay>(
     ensures unfailed { OnOk result ((B.disks bay.new).failed_writes ≡ (B.disks bay.old).failed_writes) }
     ensures asks { AsksFor (B.disks bay.old) (B.disks bay.new) (all_sectors (recovery_updates ready.old)) }
 {
-    group.recover(bay, ready)?;
+    recover(group, bay, ready)?;
     Ok(())
 }
 
@@ -78,7 +80,7 @@ pub(crate) fn write_step<B: Bay>(
     ensures unfailed { OnOk result ((B.disks bay.new).failed_writes ≡ (B.disks bay.old).failed_writes) }
     ensures asks { AsksFor (B.disks bay.old) (B.disks bay.new) (all_sectors (next_updates ready.old)) }
 {
-    group.commit(bay, ready)?;
+    commit(group, bay, ready)?;
     Ok(())
 }
 

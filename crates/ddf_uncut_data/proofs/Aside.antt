@@ -5,7 +5,7 @@ use Rattle.ddf_parity.specs.Xor.{zeros}
 use Rattle.ddf_array.specs.Volume.{Volume}
 use Rattle.ddf_data_group.specs.Clear.{IsItsCell}
 use Rattle.ddf_data_group.proofs.Clearly.{lies_of}
-use Rattle.ddf_assembly.specs.Steps.{Step}
+use Rattle.ddf_steps.specs.Steps.{Step}
 use Rattle.ddf_group_commands.specs.Written.{AreWritten}
 use Rattle.ddf_uncut_data.specs.Aside.{LieAside}
 use Rattle.ddf_uncut_data.specs.Blank.{IsBlank}

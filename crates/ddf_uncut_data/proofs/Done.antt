@@ -15,8 +15,8 @@ use Rattle.ddf_data_array.specs.Rows.{AreAlikeThroughout}
 use Rattle.ddf_data_array.proofs.RowsKept.{alike_cells}
 use Rattle.ddf_data_group.specs.Clear.{ChangesItsCells}
 use Rattle.ddf_data_group.proofs.Clearly.{write_changes}
-use Rattle.ddf_assembly.specs.Group.{GroupValue}
-use Rattle.ddf_assembly.specs.Steps.{Step}
+use Rattle.ddf_seats.specs.Group.{GroupValue}
+use Rattle.ddf_steps.specs.Steps.{Step}
 use Rattle.ddf_answer.specs.Call.{Work}
 use Rattle.ddf_write_commands.specs.Resync.{resyncing}
 use Rattle.ddf_write_commands.specs.Worked.{AreBlocksDone}

@@ -10,7 +10,7 @@ use Rattle.ddf_array.specs.Within.{is_mirrored, is_within}
 use Rattle.ddf_rebuild.specs.Target.{IsOut}
 use Rattle.ddf_data_array.specs.Changing.{in_sync}
 use Rattle.ddf_data_array.specs.Rows.{HasNoRows, IsFirstOut}
-use Rattle.ddf_assembly.specs.Group.{GroupValue}
+use Rattle.ddf_seats.specs.Group.{GroupValue}
 use Rattle.ddf_answer.specs.Call.{Work}
 use Rattle.ddf_rebuild_command.specs.Asked.{rows_in}
 use Rattle.ddf_rebuild_command.specs.Planned.{IsPlanned, first_row}

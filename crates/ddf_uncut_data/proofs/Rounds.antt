@@ -9,7 +9,7 @@ use Rattle.ddf_rebuild.specs.Target.{IsOut, row_count}
 use Rattle.ddf_repair.specs.declared.first.Target.{Target}
 use Rattle.ddf_data_array.specs.Changing.{in_sync}
 use Rattle.ddf_data_array.specs.Rows.{AreAlikeThroughout, GoesOnBehind, IsFirstOut}
-use Rattle.ddf_assembly.specs.Group.{GroupValue}
+use Rattle.ddf_seats.specs.Group.{GroupValue}
 use Rattle.ddf_answer.specs.Call.{Work}
 use Rattle.ddf_rebuild_command.specs.Asked.{rows_in}
 use Rattle.ddf_rebuild_command.specs.Notes.{notes}

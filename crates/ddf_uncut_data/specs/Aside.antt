@@ -2,7 +2,7 @@
 use Rattle.std.specs.Prelude.{ℕ, List}
 use Rattle.ddf_bay.specs.Sectors.{Image}
 use Rattle.ddf_array.specs.Volume.{Volume}
-use Rattle.ddf_assembly.specs.Steps.{Step}
+use Rattle.ddf_steps.specs.Steps.{Step}
 use Rattle.ddf_data_array.specs.Rows.{AreAlikeThroughout}
 use Rattle.ddf_group_commands.specs.Written.{AreWritten}
 

@@ -30,8 +30,8 @@ ghost use Rattle.ddf_data_array.specs.Changing.{IsWritable, in_sync, noted, with
 ghost use Rattle.ddf_data_array.specs.Fewer.{IsFewer, LeavesRows};
 ghost use Rattle.ddf_data_array.specs.Rows.{AreAlikeThroughout, GoesOnBehind, HasNoRows, IsFirstOut};
 ghost use Rattle.ddf_data_group.specs.Clear.{IsItsCell};
-ghost use Rattle.ddf_assembly.specs.Group.{GroupValue};
-ghost use Rattle.ddf_assembly.specs.Steps.{Step};
+ghost use Rattle.ddf_seats.specs.Group.{GroupValue};
+ghost use Rattle.ddf_steps.specs.Steps.{Step};
 ghost use Rattle.ddf_answer.specs.Call.{work_of};
 ghost use Rattle.ddf_group_commands.specs.Written.{AreWritten};
 ghost use Rattle.ddf_write_commands.specs.Resync.{resyncing};

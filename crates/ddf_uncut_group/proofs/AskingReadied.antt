@@ -8,14 +8,15 @@ use Rattle.ddf_plan.specs.declared.change.Change.{Change}
 use Rattle.ddf_plan.specs.Causes.{causes}
 use Rattle.ddf_plan.specs.Floors.{extents_refusal}
 use Rattle.ddf_plan.specs.Refusals.{greatest_sequence}
-use Rattle.ddf_assembly.specs.declared.seated.Seated.{Seated}
-use Rattle.ddf_assembly.specs.declared.fault.GroupFault.{GroupFault}
-use Rattle.ddf_assembly.specs.Asked.{CanBeAsked}
-use Rattle.ddf_assembly.specs.Group.{GroupValue}
-use Rattle.ddf_assembly.specs.Ready.{group_after, is_spent, readied, with_recovery}
-use Rattle.ddf_assembly.specs.Refusing.{step_refusal}
-use Rattle.ddf_assembly.specs.Seated.{seated, seats_in}
-use Rattle.ddf_assembly.specs.Steps.{Step, levelled, step_of}
+use Rattle.ddf_seats.specs.declared.seated.Seated.{Seated}
+use Rattle.ddf_seats.specs.declared.fault.GroupFault.{GroupFault}
+use Rattle.ddf_steps.specs.Asked.{CanBeAsked}
+use Rattle.ddf_seats.specs.Group.{GroupValue}
+use Rattle.ddf_steps.specs.Ready.{group_after, is_spent}
+use Rattle.ddf_recovery.specs.Ready.{readied, with_recovery}
+use Rattle.ddf_steps.specs.Refusing.{step_refusal}
+use Rattle.ddf_seats.specs.Seated.{seated, seats_in, levelled}
+use Rattle.ddf_steps.specs.Steps.{Step, step_of}
 use Rattle.ddf_uncut_group.specs.Asking.{AreBothReadied, AreNext, AreReadiedTo, IsNext, IsNothing}
 use Rattle.ddf_uncut_group.specs.Plain.{ArePlain, HasRoom, HavePlain}
 use Rattle.ddf_uncut_group.specs.Settled.{AreMembers, IsToldByAll}

@@ -13,8 +13,8 @@ use Rattle.ddf_copy.specs.Anchor.{anchor_at}
 use Rattle.ddf_copy.specs.Copies.{newest_at, newest_under}
 use Rattle.ddf_config.specs.declared.seat.Seat.{Seat}
 use Rattle.ddf_rewrite.proofs.Lists.{all_at, all_by_get, found_place}
-use Rattle.ddf_assembly.specs.Group.{GroupValue}
-use Rattle.ddf_assembly.specs.Trying.{SlotsRise}
+use Rattle.ddf_seats.specs.Group.{GroupValue}
+use Rattle.ddf_seats.specs.Changing.{SlotsRise}
 use Rattle.ddf_history_steps.specs.Floors.{HasFloor}
 use Rattle.ddf_history_steps.specs.BlockFloors.{floor_in}
 use Rattle.ddf_history_steps.proofs.Above.{AreSameFrom, anchor_same, floor_same, newest_at_same}

@@ -32,26 +32,28 @@ use Rattle.ddf_rewrite.specs.Copies.{changed_copy}
 use Rattle.ddf_rewrite.proofs.Agreeing.{copies_agree}
 use Rattle.ddf_rewrite.proofs.Lists.{all_at, all_by_get, all_mapped, get_map, map_get}
 use Rattle.ddf_rewrite.proofs.Roomy.{change_can, roomy_change_can}
-use Rattle.ddf_assembly.specs.declared.seated.Seated.{Seated}
+use Rattle.ddf_seats.specs.declared.seated.Seated.{Seated}
 use Rattle.ddf_assembly.specs.Assembled.{IsAssembledGroup}
-use Rattle.ddf_assembly.specs.Committed.{slots_of}
-use Rattle.ddf_assembly.specs.Full.{full_of, full_where_written}
-use Rattle.ddf_assembly.specs.Group.{GroupValue, group_of, seat_of}
+use Rattle.ddf_steps.specs.Committed.{slots_of}
+use Rattle.ddf_steps.specs.Full.{full_of, full_where_written}
+use Rattle.ddf_seats.specs.Group.{GroupValue, seat_of}
+use Rattle.ddf_assembly.specs.Group.{group_of}
 use Rattle.ddf_assembly.specs.Reading.{AreNewest}
-use Rattle.ddf_assembly.specs.Ready.{with_level}
-use Rattle.ddf_assembly.specs.Recovery.{config_lost, full_of_mending, full_of_recovery, leading, leading_disks, leads, lost_step, some}
-use Rattle.ddf_assembly.specs.Seated.{seated, seats_in, slots_in, views_in}
+use Rattle.ddf_seats.specs.Seated.{with_level, seated, seats_in, slots_in, views_in, levelled}
+use Rattle.ddf_recovery.specs.Recovery.{config_lost, full_of_mending, full_of_recovery, lost_step}
+use Rattle.ddf_seats.specs.Leading.{leading, leading_disks, leads, some}
 use Rattle.ddf_assembly.specs.Settled.{IsSettledGroup}
-use Rattle.ddf_assembly.specs.Steps.{disks_after, levelled, rewritten, stays_in}
-use Rattle.ddf_assembly.specs.Trying.{CanBeHeldOn, CanBeLed, CanTry, SlotsRise}
-use Rattle.ddf_assembly.proofs.CommittedLevels.{level_else, level_here, seated_after, slot_or_none}
+use Rattle.ddf_steps.specs.Steps.{disks_after, rewritten, stays_in}
+use Rattle.ddf_seats.specs.Changing.{CanBeHeldOn, CanBeLed, SlotsRise}
+use Rattle.ddf_steps.specs.Trying.{CanTry}
+use Rattle.ddf_steps.proofs.CommittedLevels.{level_else, level_here, seated_after, slot_or_none}
 use Rattle.ddf_assembly.proofs.LeftBefore.{level_at}
-use Rattle.ddf_assembly.proofs.LeftLists.{IsNoneOf, one_or_none}
+use Rattle.ddf_recovery.proofs.LeftLists.{IsNoneOf, one_or_none}
 use Rattle.ddf_assembly.proofs.LeftMembers.{AreApart, IsCurrentIn, lists_from, table_current}
-use Rattle.ddf_assembly.proofs.LeftStep.{own_reference, same_seat, same_view}
-use Rattle.ddf_assembly.proofs.Lost.{lost_held}
-use Rattle.ddf_assembly.proofs.OneLength.{HasRoom, can_try_all, has_room, led_by_all, room_on}
-use Rattle.ddf_assembly.proofs.Rewritten.{capacities, closed_can}
+use Rattle.ddf_recovery.proofs.LeftStep.{own_reference, same_seat, same_view}
+use Rattle.ddf_recovery.proofs.Lost.{lost_held}
+use Rattle.ddf_steps.proofs.OneLength.{HasRoom, can_try_all, has_room, led_by_all, room_on}
+use Rattle.ddf_steps.proofs.Rewritten.{capacities, closed_can}
 use Rattle.ddf_assembly.proofs.SettledSeats.{same_group, same_sequence}
 use Rattle.ddf_history_steps.specs.Kept.{is_slot}
 use Rattle.ddf_history_steps.proofs.Slots.{slot_is}

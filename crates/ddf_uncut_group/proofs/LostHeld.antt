@@ -7,14 +7,15 @@ use Rattle.ddf_copy.specs.declared.newest_copy.Newest.{Newest}
 use Rattle.ddf_copy.specs.Copies.{newest_at}
 use Rattle.ddf_config.specs.declared.seat.Seat.{Seat}
 use Rattle.ddf_plan.specs.declared.change.Change.{Change}
-use Rattle.ddf_assembly.specs.declared.fault.GroupFault.{GroupFault}
-use Rattle.ddf_assembly.specs.Group.{GroupValue}
-use Rattle.ddf_assembly.specs.Ready.{readied, with_recovery}
-use Rattle.ddf_assembly.specs.Recovery.{config_lost, full_of_recovery, leading, loss_spent, lost_step}
-use Rattle.ddf_assembly.specs.Seated.{seated}
-use Rattle.ddf_assembly.specs.Steps.{Step}
-use Rattle.ddf_assembly.proofs.CommittedReadied.{disks_rewritten}
-use Rattle.ddf_assembly.proofs.ReadiedSteps.{has_room}
+use Rattle.ddf_seats.specs.declared.fault.GroupFault.{GroupFault}
+use Rattle.ddf_seats.specs.Group.{GroupValue}
+use Rattle.ddf_recovery.specs.Ready.{readied, with_recovery}
+use Rattle.ddf_recovery.specs.Recovery.{config_lost, full_of_recovery, loss_spent, lost_step}
+use Rattle.ddf_seats.specs.Leading.{leading}
+use Rattle.ddf_seats.specs.Seated.{seated}
+use Rattle.ddf_steps.specs.Steps.{Step}
+use Rattle.ddf_recovery.proofs.CommittedReadied.{disks_rewritten}
+use Rattle.ddf_recovery.proofs.ReadiedSteps.{has_room}
 use Rattle.ddf_history_steps.specs.Floors.{HasFloor}
 use Rattle.ddf_group_commands.specs.Written.{IsWritten}
 use Rattle.ddf_history_steps.specs.BlockFloors.{AreFloored}
@@ -25,7 +26,7 @@ use Rattle.ddf_uncut_group.specs.Without.{group_lost, without_seat}
 use Rattle.ddf_uncut_group.proofs.LostGroup.{disks_lost, found_lost, rise, told_lost}
 use Rattle.ddf_uncut_group.proofs.LostSteps.{readied_lost}
 use Rattle.ddf_uncut_group.proofs.SettledWritten.{floors_behind, held_behind, levelled_floored}
-use Rattle.ddf_assembly.proofs.LeftStep.{from_kept}
+use Rattle.ddf_recovery.proofs.LeftStep.{from_kept}
 use Rattle.ddf_uncut_group.proofs.UnpluggedTold.{told_without}
 
 -- ---- newest copies without one

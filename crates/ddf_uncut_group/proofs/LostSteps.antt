@@ -11,16 +11,19 @@ use Rattle.ddf_view.specs.Shows.{shows}
 use Rattle.ddf_view.specs.View.{view_of}
 use Rattle.ddf_rewrite.proofs.Lists.{all_at, all_by_get}
 use Rattle.ddf_copy.specs.Written.{CanBeCopy}
-use Rattle.ddf_assembly.specs.declared.fault.GroupFault.{GroupFault}
-use Rattle.ddf_assembly.specs.declared.fault.GroupFault.TheVariants.{Refused}
-use Rattle.ddf_assembly.specs.declared.seated.Seated.{Seated}
-use Rattle.ddf_assembly.specs.Group.{GroupValue}
-use Rattle.ddf_assembly.specs.Ready.{readied, steps_from, unless_spent, with_recovery}
-use Rattle.ddf_assembly.specs.Recovery.{config_lost, config_recovered, disks_recovered, full_of_recovery, has_stray, leading_views, loss_spent, lost_step, mended_or_kept, mending_step, recovery_of, some}
-use Rattle.ddf_assembly.specs.Seated.{seated}
-use Rattle.ddf_assembly.specs.Steps.{Step, levelled}
-use Rattle.ddf_assembly.specs.Trying.{DoShow, IsOfGroup}
-use Rattle.ddf_assembly.proofs.Recovered.{none_stray, settled_readied}
+use Rattle.ddf_seats.specs.declared.fault.GroupFault.{GroupFault}
+use Rattle.ddf_seats.specs.declared.fault.GroupFault.TheVariants.{Refused}
+use Rattle.ddf_seats.specs.declared.seated.Seated.{Seated}
+use Rattle.ddf_seats.specs.Group.{GroupValue}
+use Rattle.ddf_recovery.specs.Ready.{readied, with_recovery}
+use Rattle.ddf_steps.specs.Ready.{steps_from, unless_spent}
+use Rattle.ddf_recovery.specs.Recovery.{config_lost, config_recovered, disks_recovered, full_of_recovery, has_stray, loss_spent, lost_step, mended_or_kept, mending_step, recovery_of}
+use Rattle.ddf_seats.specs.Leading.{leading_views, some}
+use Rattle.ddf_seats.specs.Seated.{seated, levelled}
+use Rattle.ddf_steps.specs.Steps.{Step}
+use Rattle.ddf_steps.specs.Trying.{DoShow}
+use Rattle.ddf_seats.specs.Changing.{IsOfGroup}
+use Rattle.ddf_recovery.proofs.Recovered.{none_stray, settled_readied}
 use Rattle.ddf_assembly.proofs.SettledSeats.{same_group}
 use Rattle.ddf_uncut_group.specs.Without.{group_lost}
 use Rattle.ddf_uncut_group.proofs.LostGroup.{IsToldWithout, assembled, disks_lost, told_lost}

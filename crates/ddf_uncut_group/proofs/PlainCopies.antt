@@ -34,12 +34,12 @@ use Rattle.ddf_rewrite.specs.Disks.{changed_disks, recovered_disks}
 use Rattle.ddf_rewrite.specs.Notes.{Holding, find_holding, notes_after}
 use Rattle.ddf_rewrite.specs.Placement.{is_others, item_at}
 use Rattle.ddf_rewrite.proofs.Lists.{all_replicate}
-use Rattle.ddf_assembly.specs.declared.seated.Seated.{Seated}
-use Rattle.ddf_assembly.specs.Group.{GroupValue, bad_count, floor_of, seat_of}
-use Rattle.ddf_assembly.specs.Recovery.{lost_step}
-use Rattle.ddf_assembly.specs.Seated.{seated}
-use Rattle.ddf_assembly.specs.Steps.{disks_after, levelled, rewritten, stays_in, step_of}
-use Rattle.ddf_assembly.proofs.Leaders.{filter_have}
+use Rattle.ddf_seats.specs.declared.seated.Seated.{Seated}
+use Rattle.ddf_seats.specs.Group.{GroupValue, bad_count, floor_of, seat_of}
+use Rattle.ddf_recovery.specs.Recovery.{lost_step}
+use Rattle.ddf_seats.specs.Seated.{seated, levelled}
+use Rattle.ddf_steps.specs.Steps.{disks_after, rewritten, stays_in, step_of}
+use Rattle.ddf_seats.proofs.Lists.{filter_have}
 use Rattle.ddf_uncut_group.specs.Plain.{ArePlain, IsPlain}
 
 -- ---- new copies

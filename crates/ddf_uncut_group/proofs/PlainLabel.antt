@@ -33,16 +33,17 @@ use Rattle.ddf_group.specs.Shown.{shown_of}
 use Rattle.ddf_history.specs.Groups.{ShowsFully}
 use Rattle.ddf_view.specs.View.{view_of}
 use Rattle.ddf_rewrite.proofs.Lists.{all_by_get, all_mapped, enumerated_get, get_enumerated, get_map}
-use Rattle.ddf_assembly.specs.declared.seated.Seated.{Seated}
+use Rattle.ddf_seats.specs.declared.seated.Seated.{Seated}
 use Rattle.ddf_assembly.specs.Assembled.{IsAssembledGroup}
-use Rattle.ddf_assembly.specs.Committed.{slots_of}
-use Rattle.ddf_assembly.specs.Group.{GroupValue, floor_of, group_as, group_of, group_or_fault, seats_of}
+use Rattle.ddf_steps.specs.Committed.{slots_of}
+use Rattle.ddf_seats.specs.Group.{GroupValue, floor_of, seats_of}
+use Rattle.ddf_assembly.specs.Group.{group_as, group_of, group_or_fault}
 use Rattle.ddf_assembly.specs.Reading.{AreNewest}
-use Rattle.ddf_assembly.specs.Seated.{seated, seated_at, seated_by}
+use Rattle.ddf_seats.specs.Seated.{seated, seated_at, seated_by}
 use Rattle.ddf_assembly.specs.Settled.{IsSettledGroup}
 use Rattle.ddf_assembly.proofs.Assembled.{answer_assembled}
-use Rattle.ddf_assembly.proofs.CommittedLevels.{filter_all}
-use Rattle.ddf_assembly.proofs.Rewritten.{closed_can}
+use Rattle.ddf_steps.proofs.CommittedLevels.{filter_all}
+use Rattle.ddf_steps.proofs.Rewritten.{closed_can}
 use Rattle.ddf_assembly.proofs.Settled.{settled}
 use Rattle.ddf_history_steps.specs.Floors.{HasFloor}
 use Rattle.ddf_history_steps.specs.Kept.{is_slot}

@@ -38,11 +38,12 @@ use Rattle.ddf_group.specs.Shown.{shown_of}
 use Rattle.ddf_group.specs.Slots.{claimed, claims, claims_by, leaders, leads, numbers, reference_at, sequence_in, shows_group, slot_at, view_in}
 use Rattle.ddf_rewrite.proofs.Lists.{get_map, map_get, enumerated_get}
 use Rattle.ddf_history.specs.Groups.{ShowsFully}
-use Rattle.ddf_assembly.specs.Group.{GroupValue, group_as, group_of, group_or_fault, seat_at, seat_of, seats_of}
+use Rattle.ddf_seats.specs.Group.{GroupValue, seat_at, seat_of, seats_of}
+use Rattle.ddf_assembly.specs.Group.{group_as, group_of, group_or_fault}
 use Rattle.ddf_assembly.proofs.LeftBefore.{level_at}
-use Rattle.ddf_assembly.proofs.LeftLists.{IsNoneOf}
-use Rattle.ddf_assembly.proofs.LeftSlots.{IsLeft, IsWritten, claimed_are, leaders_are, not_contradicted}
-use Rattle.ddf_assembly.proofs.Rewritten.{closed_view}
+use Rattle.ddf_recovery.proofs.LeftLists.{IsNoneOf}
+use Rattle.ddf_recovery.proofs.LeftSlots.{IsLeft, IsWritten, claimed_are, leaders_are, not_contradicted}
+use Rattle.ddf_steps.proofs.Rewritten.{closed_view}
 use Rattle.ddf_assembly.proofs.SettledLists.{find_kept}
 use Rattle.ddf_assembly.proofs.SettledSeats.{filter_rises}
 use Rattle.ddf_history_steps.specs.Founding.{founding_config}

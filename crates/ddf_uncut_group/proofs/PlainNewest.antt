@@ -17,11 +17,12 @@ use Rattle.ddf_update.specs.declared.new_layout.NewLayout.TheVariants.{Small}
 use Rattle.ddf_update.specs.NewCopies.{new_copy}
 use Rattle.ddf_plan.specs.declared.change.Change.{Change}
 use Rattle.ddf_rewrite.proofs.Lists.{map_get}
-use Rattle.ddf_assembly.specs.declared.seated.Seated.{Seated}
-use Rattle.ddf_assembly.specs.Group.{GroupValue}
-use Rattle.ddf_assembly.specs.Ready.{group_after, readied, with_level}
-use Rattle.ddf_assembly.specs.Seated.{seated, seated_at, seated_by}
-use Rattle.ddf_assembly.specs.Steps.{Step}
+use Rattle.ddf_seats.specs.declared.seated.Seated.{Seated}
+use Rattle.ddf_seats.specs.Group.{GroupValue}
+use Rattle.ddf_steps.specs.Ready.{group_after}
+use Rattle.ddf_recovery.specs.Ready.{readied}
+use Rattle.ddf_seats.specs.Seated.{with_level, seated, seated_at, seated_by}
+use Rattle.ddf_steps.specs.Steps.{Step}
 use Rattle.ddf_uncut_group.specs.Labelled.{labelled_copy, labelled_newest}
 use Rattle.ddf_uncut_group.specs.Plain.{ArePlain, HavePlain, IsPlain}
 use Rattle.ddf_uncut_group.proofs.PlainCopies.{new_plain, written_plain}

@@ -6,7 +6,7 @@ use Rattle.std.specs.List.{AllByRecursion, cons_option, enumerate_from, list_any
 use Rattle.std.specs.Option.{option_or}
 use Rattle.ddf_view.proofs.Finds.{when_false}
 use Rattle.ddf_group.specs.Pairs.{first_pair, first_with}
-use Rattle.ddf_assembly.proofs.LeftLists.{IsNoneOf, with_none}
+use Rattle.ddf_recovery.proofs.LeftLists.{IsNoneOf, with_none}
 use Rattle.ddf_assembly.proofs.SettledSeats.{Rise}
 use Rattle.ddf_rewrite.proofs.Lists.{all_at, get_range}
 

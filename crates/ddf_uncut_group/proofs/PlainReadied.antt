@@ -9,15 +9,17 @@ use Rattle.ddf_config.specs.Configuration.{Configuration}
 use Rattle.ddf_plan.specs.declared.change.Change.{Change}
 use Rattle.ddf_plan.specs.Same.{is_step}
 use Rattle.ddf_rewrite.specs.Before.{Before, before}
-use Rattle.ddf_assembly.specs.declared.fault.GroupFault.{GroupFault}
-use Rattle.ddf_assembly.specs.declared.fault.GroupFault.TheVariants.{Refused, SequenceSpent}
-use Rattle.ddf_assembly.specs.declared.seated.Seated.{Seated}
-use Rattle.ddf_assembly.specs.Group.{GroupValue}
-use Rattle.ddf_assembly.specs.Ready.{is_spent, readied, steps_from, unless_spent, with_recovery, with_step}
-use Rattle.ddf_assembly.specs.Recovery.{config_lost, config_recovered, disks_recovered, full_of_recovery, has_stray, leading, loss_spent, lost_step, mended_or_kept, mending_step, recovery_of, some}
-use Rattle.ddf_assembly.specs.Refusing.{step_refusal}
-use Rattle.ddf_assembly.specs.Seated.{seated, views_in}
-use Rattle.ddf_assembly.specs.Steps.{Step, config_after, disks_after, levelled, step_of}
+use Rattle.ddf_seats.specs.declared.fault.GroupFault.{GroupFault}
+use Rattle.ddf_seats.specs.declared.fault.GroupFault.TheVariants.{Refused, SequenceSpent}
+use Rattle.ddf_seats.specs.declared.seated.Seated.{Seated}
+use Rattle.ddf_seats.specs.Group.{GroupValue}
+use Rattle.ddf_steps.specs.Ready.{is_spent, steps_from, unless_spent, with_step}
+use Rattle.ddf_recovery.specs.Ready.{readied, with_recovery}
+use Rattle.ddf_recovery.specs.Recovery.{config_lost, config_recovered, disks_recovered, full_of_recovery, has_stray, loss_spent, lost_step, mended_or_kept, mending_step, recovery_of}
+use Rattle.ddf_seats.specs.Leading.{leading, some}
+use Rattle.ddf_steps.specs.Refusing.{step_refusal}
+use Rattle.ddf_seats.specs.Seated.{seated, views_in, levelled}
+use Rattle.ddf_steps.specs.Steps.{Step, config_after, disks_after, step_of}
 
 module _ (Q : List Seated → Type 0)
     (after : (timestamp : ℕ) (leaders : Before) (config : Configuration) (disks : List Seated) → Q disks → Q (disks_after timestamp leaders config disks))

@@ -20,13 +20,14 @@ use Rattle.ddf_rewrite.specs.Before.{before}
 use Rattle.ddf_rewrite.specs.Spares.{arrays_of_spare}
 use Rattle.ddf_rewrite.specs.Wanted.{all_wanted}
 use Rattle.ddf_rewrite.proofs.Lists.{all_by_get, all_mapped}
-use Rattle.ddf_assembly.specs.declared.seated.Seated.{Seated}
-use Rattle.ddf_assembly.specs.Full.{full_of}
-use Rattle.ddf_assembly.specs.Group.{GroupValue}
-use Rattle.ddf_assembly.specs.Recovery.{config_lost, full_of_mending, full_of_recovery, leading, some}
-use Rattle.ddf_assembly.specs.Refusing.{most_members, room_refusal, step_refusal}
-use Rattle.ddf_assembly.specs.Seated.{seated, seats_in, views_in}
-use Rattle.ddf_assembly.specs.Steps.{config_after}
+use Rattle.ddf_seats.specs.declared.seated.Seated.{Seated}
+use Rattle.ddf_steps.specs.Full.{full_of}
+use Rattle.ddf_seats.specs.Group.{GroupValue}
+use Rattle.ddf_recovery.specs.Recovery.{config_lost, full_of_mending, full_of_recovery}
+use Rattle.ddf_seats.specs.Leading.{leading, some}
+use Rattle.ddf_steps.specs.Refusing.{most_members, room_refusal, step_refusal}
+use Rattle.ddf_seats.specs.Seated.{seated, seats_in, views_in}
+use Rattle.ddf_steps.specs.Steps.{config_after}
 use Rattle.ddf_uncut_group.specs.Labelled.{labelled_config, labelled_member}
 use Rattle.ddf_uncut_group.specs.Plain.{ArePlain, HasRoom, IsPlain}
 use Rattle.ddf_uncut_group.proofs.PlainRoom.{plain_full}

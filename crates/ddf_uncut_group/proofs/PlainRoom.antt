@@ -32,9 +32,10 @@ use Rattle.ddf_rewrite.specs.Spares.{arrays_of_spare, spare_use}
 use Rattle.ddf_rewrite.specs.Wanted.{Wanted, all_wanted}
 use Rattle.ddf_update.specs.declared.new_layout.NewLayout.TheVariants.{Small}
 use Rattle.ddf_update.specs.NewCopies.{new_geometry}
-use Rattle.ddf_assembly.specs.declared.seated.Seated.{Seated}
-use Rattle.ddf_assembly.specs.Full.{full_of, full_on, full_where_written, least_full, lengths_differ, lesser, record_length}
-use Rattle.ddf_assembly.specs.Steps.{stays_in as stays}
+use Rattle.ddf_seats.specs.declared.seated.Seated.{Seated}
+use Rattle.ddf_steps.specs.Full.{full_of, full_on, full_where_written, least_full, lengths_differ, lesser}
+use Rattle.ddf_seats.specs.Changing.{record_length}
+use Rattle.ddf_steps.specs.Steps.{stays_in as stays}
 use Rattle.ddf_uncut_group.specs.Plain.{ArePlain, HasRoom, IsPlain}
 use Rattle.ddf_uncut_group.proofs.PlainFree.{failing, few_stand, free_places, is_taken, one_or_failing}
 

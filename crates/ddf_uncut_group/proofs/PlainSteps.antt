@@ -11,13 +11,14 @@ use Rattle.ddf_view.specs.Shows.{shows}
 use Rattle.ddf_view.specs.View.{view_of}
 use Rattle.ddf_rewrite.specs.Before.{Before}
 use Rattle.ddf_rewrite.specs.Copies.{recovered_copy}
-use Rattle.ddf_assembly.specs.declared.seated.Seated.{Seated}
-use Rattle.ddf_assembly.specs.Group.{GroupValue}
-use Rattle.ddf_assembly.specs.Ready.{readied}
-use Rattle.ddf_assembly.specs.Recovery.{lags, leading, mended, mended_copy, mended_or_kept, mending_step}
-use Rattle.ddf_assembly.specs.Seated.{seated, seated_at}
-use Rattle.ddf_assembly.specs.Steps.{Step, disks_after, levelled, rewritten, stays_in}
-use Rattle.ddf_assembly.proofs.Leaders.{filter_have}
+use Rattle.ddf_seats.specs.declared.seated.Seated.{Seated}
+use Rattle.ddf_seats.specs.Group.{GroupValue}
+use Rattle.ddf_recovery.specs.Ready.{readied}
+use Rattle.ddf_seats.specs.Leading.{lags, leading}
+use Rattle.ddf_recovery.specs.Recovery.{mended, mended_copy, mended_or_kept, mending_step}
+use Rattle.ddf_seats.specs.Seated.{seated, seated_at, levelled}
+use Rattle.ddf_steps.specs.Steps.{Step, disks_after, rewritten, stays_in}
+use Rattle.ddf_seats.proofs.Lists.{filter_have}
 use Rattle.ddf_uncut_group.specs.Plain.{ArePlain, IsPlain}
 use Rattle.ddf_uncut_group.proofs.PlainCopies.{after_plain, levelled_plain, plain_sectors, recovered_plain, written_plain}
 use Rattle.ddf_uncut_group.proofs.PlainReadied.{readied_have}

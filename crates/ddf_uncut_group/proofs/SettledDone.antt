@@ -9,15 +9,16 @@ use Rattle.ddf_config.specs.declared.refusal.Refusal.{Refusal}
 use Rattle.ddf_config.specs.declared.seat.Seat.{Seat}
 use Rattle.ddf_config.specs.Configuration.{Configuration}
 use Rattle.ddf_plan.specs.declared.change.Change.{Change}
-use Rattle.ddf_assembly.specs.declared.fault.GroupFault.{GroupFault}
-use Rattle.ddf_assembly.specs.Asked.{CanBeAsked}
-use Rattle.ddf_assembly.specs.Group.{GroupValue, group_of}
-use Rattle.ddf_assembly.specs.Ready.{readied}
-use Rattle.ddf_assembly.specs.Recovery.{config_lost, lost_step}
+use Rattle.ddf_seats.specs.declared.fault.GroupFault.{GroupFault}
+use Rattle.ddf_steps.specs.Asked.{CanBeAsked}
+use Rattle.ddf_seats.specs.Group.{GroupValue}
+use Rattle.ddf_assembly.specs.Group.{group_of}
+use Rattle.ddf_recovery.specs.Ready.{readied}
+use Rattle.ddf_recovery.specs.Recovery.{config_lost, lost_step}
 use Rattle.ddf_assembly.specs.Settled.{IsSettledGroup}
 use Rattle.ddf_assembly.specs.Slots.{newest_from, newest_or}
-use Rattle.ddf_assembly.specs.Steps.{Step}
-use Rattle.ddf_assembly.proofs.Recovered.{config_kept}
+use Rattle.ddf_steps.specs.Steps.{Step}
+use Rattle.ddf_recovery.proofs.Recovered.{config_kept}
 use Rattle.ddf_group_commands.specs.Change.{Request, steps_asked, steps_of, steps_or}
 use Rattle.ddf_group_commands.specs.Written.{AreWritten}
 use Rattle.ddf_uncut_group.specs.Settled.{AreMembers, AreSettledAs, group_behind, newest_held}

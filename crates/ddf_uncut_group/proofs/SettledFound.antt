@@ -8,11 +8,12 @@ use Rattle.ddf_group.specs.declared.answer.Assembly.{Assembly}
 use Rattle.ddf_group.specs.Assembled.{assembled}
 use Rattle.ddf_group.specs.Choice.{chosen}
 use Rattle.ddf_group.specs.Shown.{shown_of}
-use Rattle.ddf_assembly.specs.declared.seated.Seated.{Seated}
+use Rattle.ddf_seats.specs.declared.seated.Seated.{Seated}
 use Rattle.ddf_assembly.specs.Assembled.{IsAssembledGroup}
-use Rattle.ddf_assembly.specs.Group.{GroupValue, group_as, group_of, group_or_fault, seats_of}
+use Rattle.ddf_seats.specs.Group.{GroupValue, seats_of}
+use Rattle.ddf_assembly.specs.Group.{group_as, group_of, group_or_fault}
 use Rattle.ddf_assembly.specs.Reading.{AreNewest}
-use Rattle.ddf_assembly.specs.Seated.{seated}
+use Rattle.ddf_seats.specs.Seated.{seated}
 use Rattle.ddf_assembly.specs.Settled.{IsSettledGroup}
 use Rattle.ddf_assembly.proofs.Assembled.{answer_assembled}
 use Rattle.ddf_assembly.proofs.LeftBefore.{IsFoundAs, found_by, group_is}

@@ -17,20 +17,22 @@ use Rattle.ddf_rewrite.specs.Copies.{changed_copy}
 use Rattle.ddf_rewrite.proofs.Lists.{all_by_get, all_mapped, get_map}
 use Rattle.ddf_history.specs.Groups.{ShowsFully}
 use Rattle.ddf_history.proofs.Copies.{changed_is_full}
-use Rattle.ddf_assembly.specs.declared.seated.Seated.{Seated}
-use Rattle.ddf_assembly.specs.Asked.{CanBeAsked}
-use Rattle.ddf_assembly.specs.Committed.{slots_of}
-use Rattle.ddf_assembly.specs.Group.{GroupValue, group_of}
+use Rattle.ddf_seats.specs.declared.seated.Seated.{Seated}
+use Rattle.ddf_steps.specs.Asked.{CanBeAsked}
+use Rattle.ddf_steps.specs.Committed.{slots_of}
+use Rattle.ddf_seats.specs.Group.{GroupValue}
+use Rattle.ddf_assembly.specs.Group.{group_of}
 use Rattle.ddf_assembly.specs.Reading.{AreNewest}
-use Rattle.ddf_assembly.specs.Ready.{group_after, readied, with_level}
-use Rattle.ddf_assembly.specs.Seated.{seated, seats_in, views_in}
+use Rattle.ddf_steps.specs.Ready.{group_after}
+use Rattle.ddf_recovery.specs.Ready.{readied}
+use Rattle.ddf_seats.specs.Seated.{with_level, seated, seats_in, views_in, levelled}
 use Rattle.ddf_assembly.specs.Settled.{IsSettledGroup}
-use Rattle.ddf_assembly.specs.Steps.{Step, config_after, disks_after, levelled, rewritten, stays_in, step_of}
-use Rattle.ddf_assembly.proofs.CommittedLevels.{level_else, seated_after, slot_or_none}
-use Rattle.ddf_assembly.proofs.CommittedSeats.{seated_is}
-use Rattle.ddf_assembly.proofs.LeftGroup.{IsOneStep, assembled_by_guid, one_step}
-use Rattle.ddf_assembly.proofs.LeftStep.{same_view}
-use Rattle.ddf_assembly.proofs.Rewritten.{closed_can}
+use Rattle.ddf_steps.specs.Steps.{Step, config_after, disks_after, rewritten, stays_in, step_of}
+use Rattle.ddf_steps.proofs.CommittedLevels.{level_else, seated_after, slot_or_none}
+use Rattle.ddf_seats.proofs.CommittedSeats.{seated_is}
+use Rattle.ddf_recovery.proofs.LeftGroup.{IsOneStep, assembled_by_guid, one_step}
+use Rattle.ddf_recovery.proofs.LeftStep.{same_view}
+use Rattle.ddf_steps.proofs.Rewritten.{closed_can}
 use Rattle.ddf_history_steps.specs.Kept.{is_slot}
 use Rattle.ddf_history_steps.proofs.CommittingSeats.{can_change, new_is_copy, renewed}
 use Rattle.ddf_history_steps.proofs.Slots.{slot_is}

@@ -5,12 +5,13 @@ use Rattle.ddf_view.specs.Reading.{are_noted}
 use Rattle.ddf_view.specs.Shows.{shows}
 use Rattle.ddf_view.specs.View.{view_of}
 use Rattle.ddf_view.proofs.Tests.{all_map}
-use Rattle.ddf_assembly.specs.declared.seated.Seated.{Seated}
-use Rattle.ddf_assembly.specs.Group.{GroupValue}
-use Rattle.ddf_assembly.specs.Recovery.{has_stray, leading_views}
-use Rattle.ddf_assembly.specs.Seated.{seated}
+use Rattle.ddf_seats.specs.declared.seated.Seated.{Seated}
+use Rattle.ddf_seats.specs.Group.{GroupValue}
+use Rattle.ddf_recovery.specs.Recovery.{has_stray}
+use Rattle.ddf_seats.specs.Leading.{leading_views}
+use Rattle.ddf_seats.specs.Seated.{seated}
 use Rattle.ddf_assembly.specs.Settled.{IsLevelIn, IsSettledGroup}
-use Rattle.ddf_assembly.proofs.Recovered.{none_stray}
+use Rattle.ddf_recovery.proofs.Recovered.{none_stray}
 
 pub not_stray : (group : GroupValue) → IsSettledGroup group → has_stray group ≡ false
 not_stray group settled =

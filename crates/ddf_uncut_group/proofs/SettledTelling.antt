@@ -30,15 +30,16 @@ use Rattle.ddf_group.specs.Shown.{shown_of}
 use Rattle.ddf_group.specs.Slots.{claimed, claims, claims_by, leaders, leading_view, leads, numbers, reference_at, sequence_in, shows_group, slot_at, view_in}
 use Rattle.ddf_history.specs.Groups.{ShowsFully}
 use Rattle.ddf_rewrite.proofs.Lists.{all_by_get, all_mapped, get_range, map_get, or_true}
-use Rattle.ddf_assembly.specs.declared.seated.Seated.{Seated}
-use Rattle.ddf_assembly.specs.Group.{GroupValue, group_as, group_of, group_or_fault, seat_at, seat_of, seats_of}
-use Rattle.ddf_assembly.specs.Seated.{seats_in, slots_in, views_in}
-use Rattle.ddf_assembly.specs.Trying.{SlotsRise}
-use Rattle.ddf_assembly.proofs.CommittedLevels.{filter_all}
+use Rattle.ddf_seats.specs.declared.seated.Seated.{Seated}
+use Rattle.ddf_seats.specs.Group.{GroupValue, seat_at, seat_of, seats_of}
+use Rattle.ddf_assembly.specs.Group.{group_as, group_of, group_or_fault}
+use Rattle.ddf_seats.specs.Seated.{seats_in, slots_in, views_in}
+use Rattle.ddf_seats.specs.Changing.{SlotsRise}
+use Rattle.ddf_steps.proofs.CommittedLevels.{filter_all}
 use Rattle.ddf_assembly.proofs.LeftBefore.{level_at, shows_own, shows_within}
-use Rattle.ddf_assembly.proofs.LeftLists.{IsNoneOf, pair_kept}
+use Rattle.ddf_recovery.proofs.LeftLists.{IsNoneOf, pair_kept}
 use Rattle.ddf_assembly.proofs.LeftMembers.{AreApart, IsCurrentIn, lists_from}
-use Rattle.ddf_assembly.proofs.LeftSlots.{IsLeft, IsWritten, claimed_are, leaders_are, not_contradicted}
+use Rattle.ddf_recovery.proofs.LeftSlots.{IsLeft, IsWritten, claimed_are, leaders_are, not_contradicted}
 use Rattle.ddf_assembly.proofs.SettledLists.{find_kept}
 use Rattle.ddf_assembly.proofs.SettledSeats.{Rise}
 use Rattle.ddf_uncut_group.proofs.SettledLists.{some_below}

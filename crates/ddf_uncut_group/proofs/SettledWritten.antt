@@ -16,18 +16,19 @@ use Rattle.ddf_plan.specs.declared.change.Change.{Change}
 use Rattle.ddf_rewrite.specs.Before.{before}
 use Rattle.ddf_rewrite.proofs.Lists.{all_at, all_by_get, map_get, some_same}
 use Rattle.ddf_update.specs.Update.{AreBoth}
-use Rattle.ddf_assembly.specs.declared.seated.Seated.{Seated}
-use Rattle.ddf_assembly.specs.Asked.{CanBeAsked}
-use Rattle.ddf_assembly.specs.Committed.{IsRewritten}
-use Rattle.ddf_assembly.specs.Group.{GroupValue, floor_of}
-use Rattle.ddf_assembly.specs.Ready.{group_after, readied, with_level}
-use Rattle.ddf_assembly.specs.Seated.{seated, seats_in, views_in}
-use Rattle.ddf_assembly.specs.Steps.{Step, config_after, levelled}
-use Rattle.ddf_assembly.specs.Trying.{SlotsRise}
-use Rattle.ddf_assembly.proofs.CommittedLevels.{level_else, level_here, slot_or_none}
-use Rattle.ddf_assembly.proofs.CommittedReadied.{disks_rewritten}
-use Rattle.ddf_assembly.proofs.CommittedSeats.{seated_is}
-use Rattle.ddf_assembly.proofs.LeftGroup.{one_step}
+use Rattle.ddf_seats.specs.declared.seated.Seated.{Seated}
+use Rattle.ddf_steps.specs.Asked.{CanBeAsked}
+use Rattle.ddf_steps.specs.Committed.{IsRewritten}
+use Rattle.ddf_seats.specs.Group.{GroupValue, floor_of}
+use Rattle.ddf_steps.specs.Ready.{group_after}
+use Rattle.ddf_recovery.specs.Ready.{readied}
+use Rattle.ddf_seats.specs.Seated.{with_level, seated, seats_in, views_in, levelled}
+use Rattle.ddf_steps.specs.Steps.{Step, config_after}
+use Rattle.ddf_seats.specs.Changing.{SlotsRise}
+use Rattle.ddf_steps.proofs.CommittedLevels.{level_else, level_here, slot_or_none}
+use Rattle.ddf_recovery.proofs.CommittedReadied.{disks_rewritten}
+use Rattle.ddf_seats.proofs.CommittedSeats.{seated_is}
+use Rattle.ddf_recovery.proofs.LeftGroup.{one_step}
 use Rattle.ddf_history_steps.specs.Floors.{HasFloor}
 use Rattle.ddf_group_commands.specs.Written.{IsBeside, IsWritten}
 use Rattle.ddf_history_steps.specs.BlockFloors.{AreFloored, IsFloored}

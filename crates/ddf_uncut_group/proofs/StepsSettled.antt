@@ -5,13 +5,14 @@ use Rattle.std.specs.List.{AllByRecursion}
 use Rattle.ddf_bay.specs.Sectors.{Image}
 use Rattle.ddf_config.specs.declared.seat.Seat.{Seat}
 use Rattle.ddf_plan.specs.declared.change.Change.{Change}
-use Rattle.ddf_assembly.specs.declared.fault.GroupFault.{GroupFault}
-use Rattle.ddf_assembly.specs.Asked.{CanBeAsked}
-use Rattle.ddf_assembly.specs.Group.{GroupValue}
-use Rattle.ddf_assembly.specs.Ready.{group_after, readied, with_recovery}
+use Rattle.ddf_seats.specs.declared.fault.GroupFault.{GroupFault}
+use Rattle.ddf_steps.specs.Asked.{CanBeAsked}
+use Rattle.ddf_seats.specs.Group.{GroupValue}
+use Rattle.ddf_steps.specs.Ready.{group_after}
+use Rattle.ddf_recovery.specs.Ready.{readied, with_recovery}
 use Rattle.ddf_assembly.specs.Settled.{IsSettledGroup}
-use Rattle.ddf_assembly.specs.Steps.{Step}
-use Rattle.ddf_assembly.proofs.Recovered.{settled_readied}
+use Rattle.ddf_steps.specs.Steps.{Step}
+use Rattle.ddf_recovery.proofs.Recovered.{settled_readied}
 use Rattle.ddf_group_commands.specs.Written.{AreWritten}
 use Rattle.ddf_uncut_group.specs.Settled.{AreMembers, AreSettledAs, IsToldByAll, group_behind}
 use Rattle.ddf_uncut_group.proofs.SettledStep.{disk_there, disks_behind, seats_behind, settled_behind, told_behind}

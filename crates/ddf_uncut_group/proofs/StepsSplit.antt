@@ -4,17 +4,18 @@ use Rattle.std.specs.List.{list_any}
 use Rattle.ddf_config.specs.declared.refusal.Refusal.{Refusal}
 use Rattle.ddf_plan.specs.declared.change.Change.{Change}
 use Rattle.ddf_plan.specs.Same.{is_step}
-use Rattle.ddf_assembly.specs.declared.fault.GroupFault.{GroupFault}
-use Rattle.ddf_assembly.specs.declared.fault.GroupFault.TheVariants.{Refused, SequenceSpent}
-use Rattle.ddf_assembly.specs.declared.seated.Seated.{Seated}
-use Rattle.ddf_assembly.specs.Group.{GroupValue}
-use Rattle.ddf_assembly.specs.Ready.{group_after, is_spent, readied, steps_from, unless_spent, with_recovery, with_step}
-use Rattle.ddf_assembly.specs.Refusing.{step_refusal}
-use Rattle.ddf_assembly.specs.Seated.{seated}
+use Rattle.ddf_seats.specs.declared.fault.GroupFault.{GroupFault}
+use Rattle.ddf_seats.specs.declared.fault.GroupFault.TheVariants.{Refused, SequenceSpent}
+use Rattle.ddf_seats.specs.declared.seated.Seated.{Seated}
+use Rattle.ddf_seats.specs.Group.{GroupValue}
+use Rattle.ddf_steps.specs.Ready.{group_after, is_spent, steps_from, unless_spent, with_step}
+use Rattle.ddf_recovery.specs.Ready.{readied, with_recovery}
+use Rattle.ddf_steps.specs.Refusing.{step_refusal}
+use Rattle.ddf_seats.specs.Seated.{seated, levelled}
 use Rattle.ddf_assembly.specs.Settled.{IsSettledGroup}
-use Rattle.ddf_assembly.specs.Steps.{Step, levelled, step_of}
-use Rattle.ddf_assembly.proofs.LeftGroup.{one_step}
-use Rattle.ddf_assembly.proofs.Recovered.{settled_readied}
+use Rattle.ddf_steps.specs.Steps.{Step, step_of}
+use Rattle.ddf_recovery.proofs.LeftGroup.{one_step}
+use Rattle.ddf_recovery.proofs.Recovered.{settled_readied}
 
 abbrev Tried : Type 0
 Tried = Result (List Step) Refusal

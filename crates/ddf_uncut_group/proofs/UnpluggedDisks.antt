@@ -27,12 +27,12 @@ use Rattle.ddf_group.specs.Slots.{claims, leaders, leads, none_later, numbers, r
 use Rattle.ddf_history.specs.Groups.{ShowsFully}
 use Rattle.ddf_rewrite.proofs.Differences.{agrees, agrees_back, agrees_self, no_difference}
 use Rattle.ddf_rewrite.proofs.Lists.{all_at, get_map, one_place, or_true, some_same}
-use Rattle.ddf_assembly.specs.declared.seated.Seated.{Seated}
-use Rattle.ddf_assembly.specs.Group.{GroupValue}
-use Rattle.ddf_assembly.specs.Seated.{seated}
+use Rattle.ddf_seats.specs.declared.seated.Seated.{Seated}
+use Rattle.ddf_seats.specs.Group.{GroupValue}
+use Rattle.ddf_seats.specs.Seated.{seated}
 use Rattle.ddf_assembly.proofs.LeftBefore.{IsClaimedDisk, IsFoundAs, claimed_current, claims_within, disks_claimed, level_at, none_ahead, shows_own}
 use Rattle.ddf_assembly.proofs.LeftMembers.{AreApart, IsCurrentIn}
-use Rattle.ddf_assembly.proofs.LeftStep.{own_reference}
+use Rattle.ddf_recovery.proofs.LeftStep.{own_reference}
 use Rattle.ddf_uncut_group.specs.Settled.{IsToldByAll}
 use Rattle.ddf_uncut_group.proofs.SettledFound.{found_as, some_disk}
 use Rattle.ddf_uncut_group.proofs.SettledLists.{some_there}

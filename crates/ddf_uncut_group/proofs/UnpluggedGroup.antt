@@ -19,16 +19,17 @@ use Rattle.ddf_group.specs.Conflicts.{is_concerned, twins}
 use Rattle.ddf_group.specs.Shown.{shown_of}
 use Rattle.ddf_group.specs.Slots.{claimed, reference_at, slot_at, view_in}
 use Rattle.ddf_rewrite.proofs.Lists.{all_at, get_map, map_get}
-use Rattle.ddf_assembly.specs.declared.seated.Seated.{Seated}
-use Rattle.ddf_assembly.specs.Committed.{slots_of}
-use Rattle.ddf_assembly.specs.Group.{GroupValue, group_of}
-use Rattle.ddf_assembly.specs.Seated.{seated, seats_in, slots_in}
-use Rattle.ddf_assembly.specs.Trying.{SlotsRise}
-use Rattle.ddf_assembly.proofs.CommittedSeats.{rise_differ}
+use Rattle.ddf_seats.specs.declared.seated.Seated.{Seated}
+use Rattle.ddf_steps.specs.Committed.{slots_of}
+use Rattle.ddf_seats.specs.Group.{GroupValue}
+use Rattle.ddf_assembly.specs.Group.{group_of}
+use Rattle.ddf_seats.specs.Seated.{seated, seats_in, slots_in}
+use Rattle.ddf_seats.specs.Changing.{SlotsRise}
+use Rattle.ddf_seats.proofs.CommittedSeats.{rise_differ}
 use Rattle.ddf_assembly.proofs.LeftBefore.{all_pass, kept_at, level_at, none_gone, shown_at as shown_of_slot, slots_claimed}
-use Rattle.ddf_assembly.proofs.LeftLists.{IsNoneOf, one_or_none}
+use Rattle.ddf_recovery.proofs.LeftLists.{IsNoneOf, one_or_none}
 use Rattle.ddf_assembly.proofs.LeftMembers.{IsCurrentIn}
-use Rattle.ddf_assembly.proofs.LeftStep.{from_kept}
+use Rattle.ddf_recovery.proofs.LeftStep.{from_kept}
 use Rattle.ddf_assembly.proofs.SettledLists.{all_fail}
 use Rattle.ddf_history_steps.proofs.Slots.{slot_placed}
 use Rattle.ddf_uncut_group.specs.Settled.{IsToldByAll}

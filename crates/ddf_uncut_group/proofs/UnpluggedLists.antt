@@ -5,9 +5,9 @@ use Rattle.std.specs.Prelude.{slice_get, slice_set}
 use Rattle.std.specs.List.{AllByRecursion, list_any}
 use Rattle.ddf_view.proofs.Finds.{when_false, when_true}
 use Rattle.ddf_config.specs.declared.seat.Seat.{Seat}
-use Rattle.ddf_assembly.specs.declared.seated.Seated.{Seated}
-use Rattle.ddf_assembly.specs.Seated.{seats_in}
-use Rattle.ddf_assembly.specs.Trying.{SlotsRise}
+use Rattle.ddf_seats.specs.declared.seated.Seated.{Seated}
+use Rattle.ddf_seats.specs.Seated.{seats_in}
+use Rattle.ddf_seats.specs.Changing.{SlotsRise}
 
 -- ---- one item that is set
 

@@ -14,14 +14,14 @@ use Rattle.ddf_config.specs.declared.seat.Seat.{Seat}
 use Rattle.ddf_plan.specs.Lose.{is_among}
 use Rattle.ddf_view.specs.View.{view_of}
 use Rattle.ddf_history.specs.Groups.{ShowsFully}
-use Rattle.ddf_assembly.specs.declared.seated.Seated.{Seated}
-use Rattle.ddf_assembly.specs.Committed.{slots_of}
-use Rattle.ddf_assembly.specs.Group.{GroupValue}
+use Rattle.ddf_seats.specs.declared.seated.Seated.{Seated}
+use Rattle.ddf_steps.specs.Committed.{slots_of}
+use Rattle.ddf_seats.specs.Group.{GroupValue}
 use Rattle.ddf_assembly.specs.Reading.{AreNewest}
-use Rattle.ddf_assembly.specs.Seated.{seated, seated_at, seated_by, seats_in, slots_in}
-use Rattle.ddf_assembly.proofs.CommittedLevels.{filter_all}
-use Rattle.ddf_assembly.proofs.CommittedSeats.{seated_is}
-use Rattle.ddf_assembly.proofs.LeftLists.{one_or_none}
+use Rattle.ddf_seats.specs.Seated.{seated, seated_at, seated_by, seats_in, slots_in}
+use Rattle.ddf_steps.proofs.CommittedLevels.{filter_all}
+use Rattle.ddf_seats.proofs.CommittedSeats.{seated_is}
+use Rattle.ddf_recovery.proofs.LeftLists.{one_or_none}
 use Rattle.ddf_history_steps.specs.Kept.{is_slot}
 use Rattle.ddf_history_steps.proofs.Slots.{slot_is}
 use Rattle.ddf_uncut_group.specs.Settled.{IsToldByAll}

@@ -10,11 +10,11 @@ use Rattle.ddf_plan.specs.Causes.{causes}
 use Rattle.ddf_plan.specs.Floors.{extents_refusal}
 use Rattle.ddf_plan.specs.Refusals.{greatest_sequence}
 use Rattle.ddf_plan.specs.Same.{is_step}
-use Rattle.ddf_assembly.specs.Asked.{CanBeAsked}
-use Rattle.ddf_assembly.specs.Group.{GroupValue}
-use Rattle.ddf_assembly.specs.Ready.{readied}
-use Rattle.ddf_assembly.specs.Seated.{seats_in}
-use Rattle.ddf_assembly.specs.Steps.{Step, config_after}
+use Rattle.ddf_steps.specs.Asked.{CanBeAsked}
+use Rattle.ddf_seats.specs.Group.{GroupValue}
+use Rattle.ddf_recovery.specs.Ready.{readied}
+use Rattle.ddf_seats.specs.Seated.{seats_in}
+use Rattle.ddf_steps.specs.Steps.{Step, config_after}
 use Rattle.ddf_uncut_group.specs.Plain.{ArePlain, HasRoom, HavePlain}
 use Rattle.ddf_uncut_group.specs.Settled.{AreMembers, IsToldByAll, group_behind}
 

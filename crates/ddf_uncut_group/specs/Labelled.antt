@@ -15,7 +15,7 @@ use Rattle.ddf_copy.specs.Headers.{written_as}
 use Rattle.ddf_update.specs.declared.new_layout.NewLayout.TheVariants.{Small}
 use Rattle.ddf_update.specs.NewCopies.{disk_guid, group_of, new_copy, reference_at}
 use Rattle.ddf_update.specs.NewLayouts.{workspace_back}
-use Rattle.ddf_assembly.specs.Group.{GroupValue}
+use Rattle.ddf_seats.specs.Group.{GroupValue}
 
 -- the copy of the disk at a place, as its primary place has it
 abbrev pub labelled_copy : Revision → Stamp → List ℕ → (place : ℕ) → DiskCopy

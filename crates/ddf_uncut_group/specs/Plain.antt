@@ -11,7 +11,7 @@ use Rattle.ddf_copy.specs.Copies.{standing_copy}
 use Rattle.ddf_rewrite.specs.Placement.{is_others}
 use Rattle.ddf_rewrite.specs.Spares.{arrays_of_spare}
 use Rattle.ddf_rewrite.specs.Wanted.{all_wanted}
-use Rattle.ddf_assembly.specs.declared.seated.Seated.{Seated}
+use Rattle.ddf_seats.specs.declared.seated.Seated.{Seated}
 
 -- A copy is as a small new disk of so many sectors has it: its sections lie at the same places, its slots are as many of this engine's own records, and its bad block log is empty.
 pub record IsPlain (size : ℕ) (copy : DiskCopy) : Type 0 where

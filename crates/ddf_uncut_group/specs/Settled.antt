@@ -9,13 +9,14 @@ use Rattle.ddf_copy.specs.declared.newest_copy.Newest.{Newest}
 use Rattle.ddf_copy.specs.Copies.{newest_at}
 use Rattle.ddf_view.specs.View.{view_of}
 use Rattle.ddf_history.specs.Groups.{ShowsFully}
-use Rattle.ddf_assembly.specs.Committed.{slots_of}
-use Rattle.ddf_assembly.specs.Group.{GroupValue, group_of}
+use Rattle.ddf_steps.specs.Committed.{slots_of}
+use Rattle.ddf_seats.specs.Group.{GroupValue}
+use Rattle.ddf_assembly.specs.Group.{group_of}
 use Rattle.ddf_assembly.specs.Reading.{AreNewest}
-use Rattle.ddf_assembly.specs.Ready.{group_after}
-use Rattle.ddf_assembly.specs.Seated.{seated}
+use Rattle.ddf_steps.specs.Ready.{group_after}
+use Rattle.ddf_seats.specs.Seated.{seated}
 use Rattle.ddf_assembly.specs.Settled.{IsSettledGroup}
-use Rattle.ddf_assembly.specs.Steps.{Step}
+use Rattle.ddf_steps.specs.Steps.{Step}
 use Rattle.ddf_history_steps.specs.Floors.{HasFloor}
 use Rattle.ddf_history_steps.specs.Kept.{is_slot}
 

@@ -1,9 +1,9 @@
 -- A settled group of which one disk is left out, and the group once that is lost.
 use Rattle.std.specs.Prelude.{ℕ, ◌==◌, not, [], ◌∷◌, filter, slice_set, None}
 use Rattle.ddf_config.specs.declared.seat.Seat.{Seat}
-use Rattle.ddf_assembly.specs.Group.{GroupValue}
-use Rattle.ddf_assembly.specs.Ready.{group_after}
-use Rattle.ddf_assembly.specs.Recovery.{lost_step}
+use Rattle.ddf_seats.specs.Group.{GroupValue}
+use Rattle.ddf_steps.specs.Ready.{group_after}
+use Rattle.ddf_recovery.specs.Recovery.{lost_step}
 
 -- the group as it is found without the disk of a seat, which is absent
 abbrev pub without_seat : GroupValue → Seat → GroupValue

@@ -2,7 +2,7 @@
 ghost use Rattle.std.specs.Prelude.{◌<◌, ◌^◌, ℕ, List};
 ghost use Rattle.ddf_config.specs.Configuration.{Configuration};
 ghost use Rattle.ddf_plan.specs.declared.change.Change.{Change};
-ghost use Rattle.ddf_assembly.specs.Group.{GroupValue};
+ghost use Rattle.ddf_seats.specs.Group.{GroupValue};
 ghost use Rattle.ddf_uncut_group.specs.Asking.{AreBothReadied, AreNext, AreReadiedTo};
 ghost use Rattle.ddf_uncut_group.specs.Plain.{HavePlain};
 ghost use Rattle.ddf_uncut_group.specs.Settled.{IsToldByAll};

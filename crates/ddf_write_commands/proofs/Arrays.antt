@@ -6,12 +6,13 @@ use Rattle.ddf_bay.proofs.Steps.{stops_weaken}
 use Rattle.ddf_config.specs.Configuration.{Configuration}
 use Rattle.ddf_plan.specs.declared.change.Change.{Change}
 use Rattle.ddf_cells.specs.Touching.{GoesBetween}
-use Rattle.ddf_assembly.specs.Committed.{WasReadied, slots_of}
-use Rattle.ddf_assembly.specs.Group.{GroupValue}
-use Rattle.ddf_assembly.specs.Ready.{ReadyValue, readied}
-use Rattle.ddf_assembly.specs.Recovery.{config_recovered}
-use Rattle.ddf_assembly.specs.Seated.{seated}
-use Rattle.ddf_assembly.specs.Steps.{Step}
+use Rattle.ddf_recovery.specs.Committed.{WasReadied}
+use Rattle.ddf_steps.specs.Committed.{slots_of}
+use Rattle.ddf_seats.specs.Group.{GroupValue}
+use Rattle.ddf_recovery.specs.Ready.{ReadyValue, readied}
+use Rattle.ddf_recovery.specs.Recovery.{config_recovered}
+use Rattle.ddf_seats.specs.Seated.{seated}
+use Rattle.ddf_steps.specs.Steps.{Step}
 use Rattle.ddf_history_steps.specs.Going.{KeepsHistory, changes_in}
 use Rattle.ddf_history_steps.specs.Steps.{IsCommit}
 use Rattle.ddf_history_steps.specs.BlockFloors.{AreFloored, floor_in}

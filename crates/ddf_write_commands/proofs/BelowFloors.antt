@@ -23,8 +23,8 @@ use Rattle.ddf_cells.proofs.RunGiven.{cell_there}
 use Rattle.ddf_resync.specs.Resyncing.{MayResync}
 use Rattle.ddf_write.specs.Writing.{MayGive}
 use Rattle.ddf_rewrite.proofs.Lists.{all_at}
-use Rattle.ddf_assembly.specs.Committed.{slots_of}
-use Rattle.ddf_assembly.specs.Trying.{SlotsRise}
+use Rattle.ddf_steps.specs.Committed.{slots_of}
+use Rattle.ddf_seats.specs.Changing.{SlotsRise}
 use Rattle.ddf_history_steps.specs.Kept.{is_slot}
 use Rattle.ddf_history_steps.specs.BlockFloors.{floor_in}
 

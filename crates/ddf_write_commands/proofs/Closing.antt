@@ -13,10 +13,12 @@ use Rattle.ddf_update.specs.Group.{IsOneOf, LieOnSlots}
 use Rattle.ddf_update.specs.Prepared.{all_sectors}
 use Rattle.ddf_history.specs.Groups.{groups}
 use Rattle.ddf_history.specs.Issued.{Past}
-use Rattle.ddf_assembly.specs.Committed.{IsReadyFor, MayWriteNext, group_next, left_behind, next_slots, next_updates, slots_of}
-use Rattle.ddf_assembly.specs.Group.{GroupValue}
-use Rattle.ddf_assembly.specs.Ready.{ReadyStep, ReadyValue}
-use Rattle.ddf_assembly.proofs.Committed.{may_write_next, next_lies}
+use Rattle.ddf_recovery.specs.Committed.{IsReadyFor, MayWriteNext, group_next, left_behind, next_slots, next_updates}
+use Rattle.ddf_steps.specs.Committed.{slots_of}
+use Rattle.ddf_seats.specs.Group.{GroupValue}
+use Rattle.ddf_steps.specs.Ready.{ReadyStep}
+use Rattle.ddf_recovery.specs.Ready.{ReadyValue}
+use Rattle.ddf_recovery.proofs.Committed.{may_write_next, next_lies}
 use Rattle.ddf_history_steps.specs.Going.{KeepsHistory}
 use Rattle.ddf_history_steps.specs.Kept.{ReadsTrue, is_slot}
 use Rattle.ddf_history_steps.specs.Steps.{IsCommit}

@@ -7,12 +7,13 @@ use Rattle.ddf_array.specs.Volume.{Volume}
 use Rattle.ddf_plan.specs.declared.change.Change.{Change}
 use Rattle.ddf_update.specs.Prepared.{all_sectors}
 use Rattle.ddf_group.specs.declared.answer.Assembly.{Assembly}
-use Rattle.ddf_assembly.specs.declared.fault.GroupFault.{GroupFault}
-use Rattle.ddf_assembly.specs.Committed.{WasReadied, left_behind, next_updates, recovery_updates}
-use Rattle.ddf_assembly.specs.Group.{GroupValue}
-use Rattle.ddf_assembly.specs.Ready.{ReadyStep, ReadyValue, all_ready, readied}
-use Rattle.ddf_assembly.specs.Recovery.{config_recovered}
-use Rattle.ddf_assembly.specs.Steps.{Step}
+use Rattle.ddf_seats.specs.declared.fault.GroupFault.{GroupFault}
+use Rattle.ddf_recovery.specs.Committed.{WasReadied, left_behind, next_updates, recovery_updates}
+use Rattle.ddf_seats.specs.Group.{GroupValue}
+use Rattle.ddf_steps.specs.Ready.{ReadyStep}
+use Rattle.ddf_recovery.specs.Ready.{ReadyValue, all_ready, readied}
+use Rattle.ddf_recovery.specs.Recovery.{config_recovered}
+use Rattle.ddf_steps.specs.Steps.{Step}
 use Rattle.ddf_answer.specs.Call.{Work, work_of}
 use Rattle.ddf_answer.specs.Costs.{WritesAtMost}
 use Rattle.ddf_answer.proofs.Costs.{costs_writes, none_written, writes_most, writes_since, writes_then}

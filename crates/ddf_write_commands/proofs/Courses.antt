@@ -7,10 +7,10 @@ use Rattle.ddf_config.specs.Configuration.{Configuration}
 use Rattle.ddf_plan.specs.declared.change.Change.{Change}
 use Rattle.ddf_history.specs.Groups.{groups}
 use Rattle.ddf_history.specs.Issued.{Past}
-use Rattle.ddf_assembly.specs.Committed.{group_next, group_recovered, left_behind}
-use Rattle.ddf_assembly.specs.Group.{GroupValue}
-use Rattle.ddf_assembly.specs.Ready.{ReadyValue}
-use Rattle.ddf_assembly.specs.Seated.{seated}
+use Rattle.ddf_recovery.specs.Committed.{group_next, group_recovered, left_behind}
+use Rattle.ddf_seats.specs.Group.{GroupValue}
+use Rattle.ddf_recovery.specs.Ready.{ReadyValue}
+use Rattle.ddf_seats.specs.Seated.{seated}
 use Rattle.ddf_history_steps.specs.Going.{IsAdmitted, KeepsHistory}
 use Rattle.ddf_history_steps.specs.Kept.{AreAllKept}
 use Rattle.ddf_history_steps.specs.Steps.{IsCommit, IsRecovery, WasTaken, behind_recovery, recovery_changes}

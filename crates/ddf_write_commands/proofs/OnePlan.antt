@@ -2,9 +2,9 @@
 use Rattle.std.proofs.Common.{◌≡◌, ◌∙◌, ℕ, List, ◌++◌, Option, Some, Result, Ok, sym, ap}
 use Rattle.std.proofs.lemmas.List.{append_cancel_left}
 use Rattle.ddf_array.specs.Viewing.{view_of}
-use Rattle.ddf_assembly.specs.Group.{GroupValue}
-use Rattle.ddf_assembly.specs.Ready.{readied}
-use Rattle.ddf_assembly.specs.Steps.{Step}
+use Rattle.ddf_seats.specs.Group.{GroupValue}
+use Rattle.ddf_recovery.specs.Ready.{readied}
+use Rattle.ddf_steps.specs.Steps.{Step}
 use Rattle.ddf_group_commands.specs.Change.{Request}
 use Rattle.ddf_write_commands.specs.Around.{config_behind, marking}
 use Rattle.ddf_write_commands.specs.Planned.{Entry, IsPlanned}

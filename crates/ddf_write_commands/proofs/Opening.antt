@@ -15,18 +15,20 @@ use Rattle.ddf_update.specs.Group.{IsOneOf}
 use Rattle.ddf_update.specs.Prepared.{all_calls, all_sectors}
 use Rattle.ddf_history.specs.Groups.{groups}
 use Rattle.ddf_history.specs.Issued.{Past}
-use Rattle.ddf_assembly.specs.declared.fault.GroupFault.{GroupFault}
-use Rattle.ddf_assembly.specs.Asked.{CanBeAsked}
-use Rattle.ddf_assembly.specs.Committed.{HoldsGroup, IsReadyFor, MayRecover, MayWriteNext, WasReadied, group_next, group_recovered, left_behind, next_slots, next_updates, recovery_slots, recovery_updates, slots_of, synced}
-use Rattle.ddf_assembly.specs.Group.{GroupValue}
+use Rattle.ddf_seats.specs.declared.fault.GroupFault.{GroupFault}
+use Rattle.ddf_steps.specs.Asked.{CanBeAsked}
+use Rattle.ddf_recovery.specs.Committed.{HoldsGroup, IsReadyFor, MayRecover, MayWriteNext, WasReadied, group_next, group_recovered, left_behind, next_slots, next_updates, recovery_slots, recovery_updates}
+use Rattle.ddf_steps.specs.Committed.{slots_of, synced}
+use Rattle.ddf_seats.specs.Group.{GroupValue}
 use Rattle.ddf_assembly.specs.Reading.{HaveAnchors}
-use Rattle.ddf_assembly.specs.Ready.{ReadyStep, ReadyValue, all_ready, readied}
-use Rattle.ddf_assembly.specs.Recovery.{config_recovered}
-use Rattle.ddf_assembly.specs.Steps.{Step}
-use Rattle.ddf_assembly.proofs.Committed.{may_write_next}
-use Rattle.ddf_assembly.proofs.CommittedAfter.{committed_anchored, committed_holds, left_ready}
-use Rattle.ddf_assembly.proofs.RecoveredGroup.{recovered_ready}
-use Rattle.ddf_assembly.proofs.RecoveryWritten.{may_recover, recovered_anchored, recovered_held, recovery_on_seats}
+use Rattle.ddf_steps.specs.Ready.{ReadyStep}
+use Rattle.ddf_recovery.specs.Ready.{ReadyValue, all_ready, readied}
+use Rattle.ddf_recovery.specs.Recovery.{config_recovered}
+use Rattle.ddf_steps.specs.Steps.{Step}
+use Rattle.ddf_recovery.proofs.Committed.{may_write_next}
+use Rattle.ddf_recovery.proofs.CommittedAfter.{committed_anchored, committed_holds, left_ready}
+use Rattle.ddf_recovery.proofs.RecoveredGroup.{recovered_ready}
+use Rattle.ddf_recovery.proofs.RecoveryWritten.{may_recover, recovered_anchored, recovered_held, recovery_on_seats}
 use Rattle.ddf_history_steps.specs.Going.{IsAdmitted, KeepsHistory, changes_in}
 use Rattle.ddf_history_steps.specs.Kept.{AreAllKept, is_slot}
 use Rattle.ddf_history_steps.specs.Steps.{IsCommit, IsRecovery, WasTaken, recovery_changes}

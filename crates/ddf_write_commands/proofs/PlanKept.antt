@@ -24,16 +24,17 @@ use Rattle.ddf_array.proofs.Apart.{view_apart}
 use Rattle.ddf_array.proofs.Fits.{view_fits}
 use Rattle.ddf_array.proofs.Told.{told_redundant}
 use Rattle.ddf_rewrite.proofs.Lists.{all_at}
-use Rattle.ddf_assembly.specs.declared.seated.Seated.{Seated}
-use Rattle.ddf_assembly.specs.Asked.{CanBeAsked}
-use Rattle.ddf_assembly.specs.Committed.{WasReadied, group_next, group_recovered}
-use Rattle.ddf_assembly.specs.Group.{GroupValue}
-use Rattle.ddf_assembly.specs.Ready.{ReadyStep, ReadyValue, all_ready, readied, steps_from}
-use Rattle.ddf_assembly.specs.Recovery.{config_recovered, disks_recovered}
-use Rattle.ddf_assembly.specs.Refusing.{step_refusal}
-use Rattle.ddf_assembly.specs.Steps.{Step, step_of}
-use Rattle.ddf_assembly.specs.Trying.{SlotsRise}
-use Rattle.ddf_assembly.proofs.RecoveredGroup.{is_recovered}
+use Rattle.ddf_seats.specs.declared.seated.Seated.{Seated}
+use Rattle.ddf_steps.specs.Asked.{CanBeAsked}
+use Rattle.ddf_recovery.specs.Committed.{WasReadied, group_next, group_recovered}
+use Rattle.ddf_seats.specs.Group.{GroupValue}
+use Rattle.ddf_steps.specs.Ready.{ReadyStep, steps_from}
+use Rattle.ddf_recovery.specs.Ready.{ReadyValue, all_ready, readied}
+use Rattle.ddf_recovery.specs.Recovery.{config_recovered, disks_recovered}
+use Rattle.ddf_steps.specs.Refusing.{step_refusal}
+use Rattle.ddf_steps.specs.Steps.{Step, step_of}
+use Rattle.ddf_seats.specs.Changing.{SlotsRise}
+use Rattle.ddf_recovery.proofs.RecoveredGroup.{is_recovered}
 use Rattle.ddf_request.specs.Named.{with_array}
 use Rattle.ddf_group_commands.specs.Change.{Request, steps_asked, steps_of, steps_or}
 use Rattle.ddf_group_commands.proofs.StepsWritten.{steps_in}

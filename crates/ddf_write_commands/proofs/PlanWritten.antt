@@ -31,7 +31,7 @@ use Rattle.ddf_read.specs.declared.fault.VolumeFault.TheVariants as volumes
 use Rattle.ddf_resync.specs.Resyncing.{resync_refusal}
 use Rattle.ddf_write.specs.RowWrites.{keeps_parity_anywhere, keeps_parity_in}
 use Rattle.ddf_write.specs.WriteRefused.{write_refusal}
-use Rattle.ddf_assembly.specs.Asked.{CanBeAsked}
+use Rattle.ddf_steps.specs.Asked.{CanBeAsked}
 use Rattle.ddf_request.specs.Usable.{bad_blocks, useless}
 use Rattle.ddf_answer.specs.declared.failure.Failure.{Failure}
 use Rattle.ddf_answer.specs.declared.failure.Failure.TheVariants.{Refused}

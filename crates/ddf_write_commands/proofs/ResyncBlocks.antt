@@ -16,12 +16,13 @@ use Rattle.ddf_cells.specs.Touching.{GoesBetween}
 use Rattle.ddf_resync.specs.Compared.{HasDiffered}
 use Rattle.ddf_resync.specs.Resyncing.{AddsResynced, HasResynced, IsAmongResynced, IsLeftByResync, IsResyncFault}
 use Rattle.ddf_resync.specs.Several.{resync_sectors}
-use Rattle.ddf_assembly.specs.Committed.{WasReadied, next_updates, slots_of}
-use Rattle.ddf_assembly.specs.Group.{GroupValue}
-use Rattle.ddf_assembly.specs.Ready.{ReadyValue, readied}
-use Rattle.ddf_assembly.specs.Recovery.{config_recovered}
-use Rattle.ddf_assembly.specs.Seated.{seated}
-use Rattle.ddf_assembly.specs.Steps.{Step}
+use Rattle.ddf_recovery.specs.Committed.{WasReadied, next_updates}
+use Rattle.ddf_steps.specs.Committed.{slots_of}
+use Rattle.ddf_seats.specs.Group.{GroupValue}
+use Rattle.ddf_recovery.specs.Ready.{ReadyValue, readied}
+use Rattle.ddf_recovery.specs.Recovery.{config_recovered}
+use Rattle.ddf_seats.specs.Seated.{seated}
+use Rattle.ddf_steps.specs.Steps.{Step}
 use Rattle.ddf_history_steps.specs.BlockFloors.{AreFloored, StaySettled, floor_in}
 use Rattle.ddf_history_steps.specs.Steps.{IsCommit}
 use Rattle.ddf_answer.specs.declared.failure.Failure.{Failure}

@@ -16,7 +16,7 @@ use Rattle.ddf_cells.specs.Touching.{GoesBetween}
 use Rattle.ddf_resync.specs.Resyncing.{AddsResynced, HasResynced, IsAmongResynced, IsLeftByResync, IsStopped, IsUntouched, MayResync, NoneLeftOfBlock, NoneLeftOfRow}
 use Rattle.ddf_resync.specs.Several.{resync_sectors}
 use Rattle.ddf_update.specs.Group.{IsOneOf}
-use Rattle.ddf_assembly.specs.Committed.{slots_of}
+use Rattle.ddf_steps.specs.Committed.{slots_of}
 use Rattle.ddf_history_steps.specs.BlockFloors.{StaySettled}
 use Rattle.ddf_answer.specs.Call.{work_of}
 use Rattle.ddf_answer.specs.Costs.{WritesAtMost}

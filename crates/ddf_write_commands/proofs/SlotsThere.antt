@@ -23,8 +23,8 @@ use Rattle.ddf_cells.specs.Without.{own_sources}
 use Rattle.ddf_resync.specs.Resyncing.{IsSetOn, IsStopped}
 use Rattle.ddf_rewrite.proofs.Lists.{get_map}
 use Rattle.ddf_update.specs.Group.{IsOneOf}
-use Rattle.ddf_assembly.specs.Committed.{slots_of}
-use Rattle.ddf_assembly.specs.Trying.{SlotsRise}
+use Rattle.ddf_steps.specs.Committed.{slots_of}
+use Rattle.ddf_seats.specs.Changing.{SlotsRise}
 use Rattle.ddf_history_steps.proofs.Slots.{slot_placed}
 use Rattle.ddf_history_steps.specs.BlockFloors.{floor_in}
 use Rattle.ddf_write_commands.proofs.BelowFloors.{floor_slot, given_below}

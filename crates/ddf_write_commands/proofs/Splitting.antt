@@ -14,19 +14,21 @@ use Rattle.ddf_plan.specs.declared.change.Change.TheVariants.{Mark}
 use Rattle.ddf_plan.specs.Same.{is_step}
 use Rattle.ddf_rewrite.specs.Before.{before}
 use Rattle.ddf_rewrite.proofs.Lists.{get_map}
-use Rattle.ddf_assembly.specs.declared.fault.GroupFault.{GroupFault}
-use Rattle.ddf_assembly.specs.declared.fault.GroupFault.TheVariants as faults
-use Rattle.ddf_assembly.specs.declared.seated.Seated.{Seated}
-use Rattle.ddf_assembly.specs.Committed.{WasReadied, group_next, group_recovered}
-use Rattle.ddf_assembly.specs.Group.{GroupValue}
-use Rattle.ddf_assembly.specs.Ready.{ReadyStep, ReadyValue, all_ready, is_spent, readied, steps_from, unless_spent, with_recovery, with_step}
-use Rattle.ddf_assembly.specs.Recovery.{config_lost, config_recovered, disks_recovered, full_of_recovery, has_stray, leading, loss_spent, lost_step, mending_step, recovery_of, some}
-use Rattle.ddf_assembly.specs.Refusing.{step_refusal}
-use Rattle.ddf_assembly.specs.Seated.{seated, seats_in, views_in}
-use Rattle.ddf_assembly.specs.Steps.{Step, config_after, levelled, stays_in, step_of}
-use Rattle.ddf_assembly.specs.Trying.{AreFollowing}
-use Rattle.ddf_assembly.proofs.ReadiedParts.{are_tried, has_room, none_spent, none_stray}
-use Rattle.ddf_assembly.proofs.RecoveredGroup.{is_recovered}
+use Rattle.ddf_seats.specs.declared.fault.GroupFault.{GroupFault}
+use Rattle.ddf_seats.specs.declared.fault.GroupFault.TheVariants as faults
+use Rattle.ddf_seats.specs.declared.seated.Seated.{Seated}
+use Rattle.ddf_recovery.specs.Committed.{WasReadied, group_next, group_recovered}
+use Rattle.ddf_seats.specs.Group.{GroupValue}
+use Rattle.ddf_steps.specs.Ready.{ReadyStep, is_spent, steps_from, unless_spent, with_step}
+use Rattle.ddf_recovery.specs.Ready.{ReadyValue, all_ready, readied, with_recovery}
+use Rattle.ddf_recovery.specs.Recovery.{config_lost, config_recovered, disks_recovered, full_of_recovery, has_stray, loss_spent, lost_step, mending_step, recovery_of}
+use Rattle.ddf_seats.specs.Leading.{leading, some}
+use Rattle.ddf_steps.specs.Refusing.{step_refusal}
+use Rattle.ddf_seats.specs.Seated.{seated, seats_in, views_in, levelled}
+use Rattle.ddf_steps.specs.Steps.{Step, config_after, stays_in, step_of}
+use Rattle.ddf_steps.specs.Trying.{AreFollowing}
+use Rattle.ddf_recovery.proofs.ReadiedParts.{are_tried, has_room, none_spent, none_stray}
+use Rattle.ddf_recovery.proofs.RecoveredGroup.{is_recovered}
 use Rattle.ddf_group_commands.proofs.StepsWritten.{few_steps, steps_in}
 use Rattle.ddf_write_commands.specs.Around.{IsMark, config_behind, front, rest}
 use Rattle.ddf_write_commands.specs.Opened.{AreMembers}

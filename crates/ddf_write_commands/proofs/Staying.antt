@@ -30,15 +30,18 @@ use Rattle.ddf_rewrite.specs.Before.{Before}
 use Rattle.ddf_rewrite.proofs.AllWanted.{filter_map_get}
 use Rattle.ddf_rewrite.proofs.Lists.{all_at, get_range, map_get, or_true}
 use Rattle.ddf_rewrite.proofs.ReadCan.{same_names}
-use Rattle.ddf_assembly.specs.declared.seated.Seated.{Seated}
+use Rattle.ddf_seats.specs.declared.seated.Seated.{Seated}
 use Rattle.ddf_assembly.specs.Assembled.{IsAssembledGroup}
-use Rattle.ddf_assembly.specs.Group.{GroupValue, copy_at, group_of, seat_at, seat_of, seats_of}
-use Rattle.ddf_assembly.specs.Recovery.{config_lost, config_recovered, leading_views, some}
-use Rattle.ddf_assembly.specs.Seated.{seated, seats_in}
-use Rattle.ddf_assembly.specs.Steps.{disks_after, rewritten, stays_in}
+use Rattle.ddf_seats.specs.Group.{GroupValue, copy_at, seat_at, seat_of, seats_of}
+use Rattle.ddf_assembly.specs.Group.{group_of}
+use Rattle.ddf_recovery.specs.Recovery.{config_lost, config_recovered}
+use Rattle.ddf_seats.specs.Leading.{leading_views, some}
+use Rattle.ddf_seats.specs.Seated.{seated, seats_in}
+use Rattle.ddf_steps.specs.Steps.{disks_after, rewritten, stays_in}
 use Rattle.ddf_assembly.proofs.AssembledLists.{first_of_reference}
 use Rattle.ddf_assembly.proofs.LeftMembers.{IsCurrentIn, read_current}
-use Rattle.ddf_assembly.proofs.Leaders.{filter_pass, leading_fit}
+use Rattle.ddf_seats.proofs.Lists.{filter_pass}
+use Rattle.ddf_assembly.proofs.Leaders.{leading_fit}
 use Rattle.ddf_history_steps.proofs.Begun.{IsMadeOf, found_named}
 use Rattle.ddf_history_steps.proofs.Filtered.{passes_kept}
 use Rattle.ddf_history_steps.proofs.Seats.{absent_are, group_made, seat_claims, view_at}

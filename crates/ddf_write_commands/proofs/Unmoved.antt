@@ -15,11 +15,11 @@ use Rattle.ddf_copy.specs.Headers.{IsUnder}
 use Rattle.ddf_copy.proofs.Stands.{place_within}
 use Rattle.ddf_config.specs.declared.seat.Seat.{Seat}
 use Rattle.ddf_rewrite.proofs.Lists.{all_at, found_place, map_get}
-use Rattle.ddf_assembly.specs.declared.seated.Seated.{Seated}
-use Rattle.ddf_assembly.specs.Committed.{HoldsGroup}
-use Rattle.ddf_assembly.specs.Group.{GroupValue}
+use Rattle.ddf_seats.specs.declared.seated.Seated.{Seated}
+use Rattle.ddf_recovery.specs.Committed.{HoldsGroup}
+use Rattle.ddf_seats.specs.Group.{GroupValue}
 use Rattle.ddf_assembly.specs.Held.{IsHeldOn, StandsUnder}
-use Rattle.ddf_assembly.specs.Seated.{seated}
+use Rattle.ddf_seats.specs.Seated.{seated}
 use Rattle.ddf_assembly.specs.Settled.{IsLevelIn, IsSettledGroup}
 use Rattle.ddf_history_steps.specs.BlockFloors.{AreFloored, HasFloor, HaveFloors, IsFloored, StaySettled, floor_in}
 use Rattle.ddf_history_steps.proofs.Above.{AreSameFrom, anchor_same, newest_of_same}

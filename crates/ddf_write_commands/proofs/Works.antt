@@ -9,7 +9,7 @@ use Rattle.ddf_array.specs.Volume.{Volume}
 use Rattle.ddf_read.specs.Reading.{Failed}
 use Rattle.ddf_cells.specs.Touching.{GoesBetween}
 use Rattle.ddf_update.specs.Group.{IsOneOf}
-use Rattle.ddf_assembly.specs.Committed.{slots_of}
+use Rattle.ddf_steps.specs.Committed.{slots_of}
 use Rattle.ddf_history_steps.specs.BlockFloors.{StaySettled, WritesBelow}
 use Rattle.ddf_write_commands.specs.Doing.{Doing}
 

@@ -14,9 +14,9 @@ use Rattle.ddf_pieces.specs.Writing.{IsStoppedInPieces}
 use Rattle.ddf_pieces.proofs.WriteParts.{stopped_full}
 use Rattle.ddf_write.specs.WriteRefused.{write_refusal}
 use Rattle.ddf_write.specs.Writing.{IsWritten, MayGive}
-use Rattle.ddf_assembly.specs.Committed.{slots_of}
-use Rattle.ddf_assembly.specs.Group.{GroupValue}
-use Rattle.ddf_assembly.specs.Recovery.{config_recovered}
+use Rattle.ddf_steps.specs.Committed.{slots_of}
+use Rattle.ddf_seats.specs.Group.{GroupValue}
+use Rattle.ddf_recovery.specs.Recovery.{config_recovered}
 use Rattle.ddf_history_steps.proofs.Slots.{slot_placed}
 use Rattle.ddf_history_steps.specs.BlockFloors.{floor_in}
 use Rattle.ddf_group_commands.specs.GroupRead.{IsReadFrom}

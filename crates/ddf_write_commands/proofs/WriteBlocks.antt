@@ -14,12 +14,13 @@ use Rattle.ddf_pieces.specs.declared.fault.PieceFault.TheVariants as pieces
 use Rattle.ddf_pieces.specs.Pieces.{piece_of, room_for}
 use Rattle.ddf_pieces.specs.Writing.{ArePiecesWritten, AreWritten, IsStoppedInPieces, IsWrittenTo, LeaveWrites}
 use Rattle.ddf_write.specs.WriteRefused.{write_refusal}
-use Rattle.ddf_assembly.specs.Committed.{WasReadied, next_updates, slots_of}
-use Rattle.ddf_assembly.specs.Group.{GroupValue}
-use Rattle.ddf_assembly.specs.Ready.{ReadyValue, readied}
-use Rattle.ddf_assembly.specs.Recovery.{config_recovered}
-use Rattle.ddf_assembly.specs.Seated.{seated}
-use Rattle.ddf_assembly.specs.Steps.{Step}
+use Rattle.ddf_recovery.specs.Committed.{WasReadied, next_updates}
+use Rattle.ddf_steps.specs.Committed.{slots_of}
+use Rattle.ddf_seats.specs.Group.{GroupValue}
+use Rattle.ddf_recovery.specs.Ready.{ReadyValue, readied}
+use Rattle.ddf_recovery.specs.Recovery.{config_recovered}
+use Rattle.ddf_seats.specs.Seated.{seated}
+use Rattle.ddf_steps.specs.Steps.{Step}
 use Rattle.ddf_history_steps.specs.Steps.{IsCommit}
 use Rattle.ddf_history_steps.specs.BlockFloors.{AreFloored, floor_in}
 use Rattle.ddf_answer.specs.declared.failure.Failure.{Failure}

@@ -9,10 +9,11 @@ use Rattle.ddf_bay.specs.State.{BayState}
 use Rattle.ddf_cells.specs.Touching.{GoesBetween}
 use Rattle.ddf_pieces.specs.Pieces.{bytes_of}
 use Rattle.ddf_group.specs.declared.answer.Assembly.{Assembly}
-use Rattle.ddf_assembly.specs.Group.{GroupValue, group_of}
-use Rattle.ddf_assembly.specs.Ready.{readied}
-use Rattle.ddf_assembly.specs.Recovery.{config_recovered}
-use Rattle.ddf_assembly.specs.Steps.{Step}
+use Rattle.ddf_seats.specs.Group.{GroupValue}
+use Rattle.ddf_assembly.specs.Group.{group_of}
+use Rattle.ddf_recovery.specs.Ready.{readied}
+use Rattle.ddf_recovery.specs.Recovery.{config_recovered}
+use Rattle.ddf_steps.specs.Steps.{Step}
 use Rattle.ddf_answer.specs.declared.failure.Failure.{Failure}
 use Rattle.ddf_answer.specs.Call.{Input, input_of, work_of}
 use Rattle.ddf_group_commands.specs.Change.{Request}

@@ -15,7 +15,7 @@ use Rattle.ddf_write.proofs.RowReads.{sure_fewer}
 use Rattle.ddf_pieces.specs.Writing.{IsStoppedInPieces, NoneLeftOfPiece}
 use Rattle.ddf_pieces.proofs.WriteParts.{row_more}
 use Rattle.ddf_update.specs.Group.{IsOneOf}
-use Rattle.ddf_assembly.specs.Committed.{slots_of}
+use Rattle.ddf_steps.specs.Committed.{slots_of}
 use Rattle.ddf_history_steps.specs.BlockFloors.{StaySettled}
 use Rattle.ddf_write_commands.specs.Write.{writing}
 use Rattle.ddf_write_commands.proofs.Works.{HasStopped, HasWorked, IsSteady}

@@ -5,7 +5,7 @@ use Rattle.ddf_config.specs.Configuration.{Configuration}
 use Rattle.ddf_array.specs.Viewing.{is_array_redundant}
 use Rattle.ddf_plan.specs.declared.change.Change.{Change}
 use Rattle.ddf_plan.specs.declared.change.Change.TheVariants.{Mark}
-use Rattle.ddf_assembly.specs.Steps.{Step}
+use Rattle.ddf_steps.specs.Steps.{Step}
 
 -- An array, with its GUID, is marked before its blocks are written, where it keeps what it holds in more than one place.
 abbrev pub marking : (List ℕ × Array) → List Change

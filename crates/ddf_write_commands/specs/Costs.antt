@@ -2,9 +2,9 @@
 use Rattle.std.specs.Prelude.{◌⊎◌, ℕ, ◌+◌, Bool, true, false, List, ◌++◌, Result, Ok, Err}
 use Rattle.ddf_update.specs.Prepared.{all_sectors}
 use Rattle.ddf_group.specs.declared.answer.Assembly.{Assembly}
-use Rattle.ddf_assembly.specs.Committed.{next_updates, recovery_updates}
-use Rattle.ddf_assembly.specs.Group.{GroupValue}
-use Rattle.ddf_assembly.specs.Ready.{ReadyValue}
+use Rattle.ddf_recovery.specs.Committed.{next_updates, recovery_updates}
+use Rattle.ddf_seats.specs.Group.{GroupValue}
+use Rattle.ddf_recovery.specs.Ready.{ReadyValue}
 use Rattle.ddf_answer.specs.Call.{Work}
 use Rattle.ddf_answer.specs.Costs.{WritesAtMost}
 use Rattle.ddf_group_commands.specs.Change.{Request}

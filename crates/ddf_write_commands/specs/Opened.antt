@@ -7,12 +7,13 @@ use Rattle.ddf_config.specs.Members.{is_current}
 use Rattle.ddf_plan.specs.declared.change.Change.{Change}
 use Rattle.ddf_history.specs.Groups.{groups}
 use Rattle.ddf_history.specs.Issued.{Past}
-use Rattle.ddf_assembly.specs.Committed.{HoldsGroup, IsReadyFor, slots_of}
-use Rattle.ddf_assembly.specs.Group.{GroupValue}
+use Rattle.ddf_recovery.specs.Committed.{HoldsGroup, IsReadyFor}
+use Rattle.ddf_steps.specs.Committed.{slots_of}
+use Rattle.ddf_seats.specs.Group.{GroupValue}
 use Rattle.ddf_assembly.specs.Reading.{HaveAnchors}
-use Rattle.ddf_assembly.specs.Ready.{ReadyValue, readied}
-use Rattle.ddf_assembly.specs.Seated.{seated}
-use Rattle.ddf_assembly.specs.Steps.{Step}
+use Rattle.ddf_recovery.specs.Ready.{ReadyValue, readied}
+use Rattle.ddf_seats.specs.Seated.{seated}
+use Rattle.ddf_steps.specs.Steps.{Step}
 use Rattle.ddf_history_steps.specs.Going.{IsAdmitted, changes_in}
 use Rattle.ddf_history_steps.specs.Kept.{AreAllKept, is_slot}
 use Rattle.ddf_history_steps.specs.Course.{IsUnderWay}

@@ -10,10 +10,10 @@ use Rattle.ddf_plan.specs.declared.change.Change.{Change}
 use Rattle.ddf_array.specs.Viewing.{is_array_redundant, view_of}
 use Rattle.ddf_array.specs.Volume.{Volume}
 use Rattle.ddf_cells.specs.Degraded.{is_degraded}
-use Rattle.ddf_assembly.specs.Group.{GroupValue}
-use Rattle.ddf_assembly.specs.Ready.{readied}
-use Rattle.ddf_assembly.specs.Recovery.{config_recovered}
-use Rattle.ddf_assembly.specs.Steps.{Step}
+use Rattle.ddf_seats.specs.Group.{GroupValue}
+use Rattle.ddf_recovery.specs.Ready.{readied}
+use Rattle.ddf_recovery.specs.Recovery.{config_recovered}
+use Rattle.ddf_steps.specs.Steps.{Step}
 use Rattle.ddf_request.specs.Named.{named_array}
 use Rattle.ddf_group_commands.specs.Change.{Request, steps_of}
 use Rattle.ddf_write_commands.specs.Around.{config_behind, marking}

@@ -6,8 +6,8 @@ use Rattle.ddf_config.specs.Refusals.{first_refusal}
 use Rattle.ddf_plan.specs.declared.change.Change.{Change}
 use Rattle.ddf_array.specs.Viewing.{view_of}
 use Rattle.ddf_array.specs.Volume.{IsVolume, Volume}
-use Rattle.ddf_assembly.specs.declared.fault.GroupFault.{GroupFault}
-use Rattle.ddf_assembly.specs.Steps.{Step}
+use Rattle.ddf_seats.specs.declared.fault.GroupFault.{GroupFault}
+use Rattle.ddf_steps.specs.Steps.{Step}
 use Rattle.ddf_request.specs.Named.{named_array}
 use Rattle.ddf_answer.specs.declared.failure.Failure.{Failure}
 use Rattle.ddf_answer.specs.declared.failure.Failure.TheVariants.{Conflict, Disk, Memory, Refused, Split}

@@ -18,12 +18,13 @@ use Rattle.ddf_read.specs.Reading.{Failed}
 use Rattle.ddf_resync.specs.Compared.{HasDiffered}
 use Rattle.ddf_resync.specs.Resyncing.{HasResynced, IsAmongResynced, IsLeftByResync, IsUnread, NoneLeftOfBlock, NoneLeftOfRow}
 use Rattle.ddf_resync.specs.Several.{resync_sectors}
-use Rattle.ddf_assembly.specs.Committed.{slots_of}
-use Rattle.ddf_assembly.specs.Group.{GroupValue, group_of}
-use Rattle.ddf_assembly.specs.Ready.{readied}
-use Rattle.ddf_assembly.specs.Recovery.{config_recovered}
+use Rattle.ddf_steps.specs.Committed.{slots_of}
+use Rattle.ddf_seats.specs.Group.{GroupValue}
+use Rattle.ddf_assembly.specs.Group.{group_of}
+use Rattle.ddf_recovery.specs.Ready.{readied}
+use Rattle.ddf_recovery.specs.Recovery.{config_recovered}
 use Rattle.ddf_assembly.specs.Slots.{AreOut}
-use Rattle.ddf_assembly.specs.Steps.{Step}
+use Rattle.ddf_steps.specs.Steps.{Step}
 use Rattle.ddf_answer.specs.declared.failure.Failure.{Failure}
 use Rattle.ddf_answer.specs.declared.failure.Failure.TheVariants.{Disk, Memory}
 use Rattle.ddf_answer.specs.Call.{Answer, Work, work_of}

@@ -9,9 +9,9 @@ use Rattle.ddf_array.specs.Volume.{Volume}
 use Rattle.ddf_update.specs.Group.{IsOneOf}
 use Rattle.ddf_read.specs.Reading.{Failed}
 use Rattle.ddf_group.specs.declared.answer.Assembly.{Assembly}
-use Rattle.ddf_assembly.specs.Committed.{AreSettled, slots_of}
-use Rattle.ddf_assembly.specs.Group.{GroupValue}
-use Rattle.ddf_assembly.specs.Steps.{Step}
+use Rattle.ddf_steps.specs.Committed.{AreSettled, slots_of}
+use Rattle.ddf_seats.specs.Group.{GroupValue}
+use Rattle.ddf_steps.specs.Steps.{Step}
 use Rattle.ddf_answer.specs.declared.failure.Failure.{Failure}
 use Rattle.ddf_answer.specs.declared.failure.Failure.TheVariants.{Conflict, Disk, Memory, Refused, Split}
 use Rattle.ddf_answer.specs.Answers.{failure_of}

@@ -3,13 +3,14 @@ ghost use Rattle.std.specs.Prelude.{◌≡◌, ◌≤◌, ℕ, List, Bool, false
 ghost use Rattle.std.specs.List.{AllByRecursion, list_any};
 ghost use Rattle.ddf_bay.specs.Moments.{GoesOn, StopsLeave};
 ghost use Rattle.ddf_plan.specs.Same.{is_step};
-ghost use Rattle.ddf_assembly.specs.Asked.{CanBeAsked};
+ghost use Rattle.ddf_steps.specs.Asked.{CanBeAsked};
 ghost use Rattle.ddf_assembly.specs.Assembled.{IsAssembledGroup};
 ghost use Rattle.ddf_update.specs.Prepared.{all_sectors};
-ghost use Rattle.ddf_assembly.specs.Committed.{WasReadied, next_updates, slots_of};
-ghost use Rattle.ddf_assembly.specs.Ready.{readied};
-ghost use Rattle.ddf_assembly.specs.Recovery.{config_recovered};
-ghost use Rattle.ddf_assembly.specs.Steps.{Step};
+ghost use Rattle.ddf_recovery.specs.Committed.{WasReadied, next_updates};
+ghost use Rattle.ddf_steps.specs.Committed.{slots_of};
+ghost use Rattle.ddf_recovery.specs.Ready.{readied};
+ghost use Rattle.ddf_recovery.specs.Recovery.{config_recovered};
+ghost use Rattle.ddf_steps.specs.Steps.{Step};
 ghost use Rattle.ddf_history_steps.specs.Steps.{IsCommit};
 ghost use Rattle.ddf_answer.specs.Call.{work_of};
 ghost use Rattle.ddf_answer.specs.Costs.{WritesAtMost};
@@ -25,9 +26,10 @@ ghost use Rattle.ddf_write_commands.specs.Plans.{IsNotReadied};
 
 use crate::planning::Plan;
 use ddf_answer::Failure;
-use ddf_assembly::{Group, Ready};
+use ddf_assembly::Group;
 use ddf_bay::Bay;
 use ddf_group_commands::failure_of;
+use ddf_recovery::{Ready, commit, make_ready, recover};
 use std::alloc::Global;
 
 /// All that the changes around the blocks of an array take: it is made before anything is written.
@@ -45,7 +47,7 @@ pub(crate) fn ready_blocks(
     ensures was { IfOk result (WasReadied group.now plan.now.changes timestamp) }
     ensures refused { IfErr result (IsNotReadied (readied group.now plan.now.changes timestamp)) }
 {
-    match group.ready(alloc, plan.changes.items(), timestamp) {
+    match make_ready(alloc, group, plan.changes.items(), timestamp) {
         Ok(ready) => Ok(ready),
         Err(fault) => Err(failure_of(fault)),
     }
@@ -84,9 +86,9 @@ pub(crate) fn open_blocks<B: Bay>(
     ensures reads { (B.disks bay.new).failed_reads ≡ (B.disks bay.old).failed_reads }
     ensures writes_rise { (slot : ℕ) → (B.disks bay.old).failed_writes slot ≤ (B.disks bay.new).failed_writes slot }
 {
-    group.recover(bay, ready)?;
+    recover(group, bay, ready)?;
     if plan.marks {
-        group.commit(bay, ready)?;
+        commit(group, bay, ready)?;
     }
     Ok(())
 }
@@ -110,6 +112,6 @@ pub(crate) fn close_blocks<B: Bay>(
     ensures reads { (B.disks bay.new).failed_reads ≡ (B.disks bay.old).failed_reads }
     ensures writes_rise { (slot : ℕ) → (B.disks bay.old).failed_writes slot ≤ (B.disks bay.new).failed_writes slot }
 {
-    group.commit(bay, ready)?;
+    commit(group, bay, ready)?;
     Ok(group.config().sequence)
 }

@@ -10,7 +10,7 @@ ghost use Rattle.ddf_config.specs.declared.array.Array.{Array};
 ghost use Rattle.ddf_config.specs.declared.refusal.Refusal.{Refusal};
 ghost use Rattle.ddf_config.specs.Members.{same_guid};
 ghost use Rattle.ddf_plan.specs.declared.change.Change.{Change};
-ghost use Rattle.ddf_assembly.specs.Recovery.{config_recovered};
+ghost use Rattle.ddf_recovery.specs.Recovery.{config_recovered};
 ghost use Rattle.ddf_read_commands.specs.Use.{IsViewed};
 ghost use Rattle.ddf_write_commands.specs.Marking.{IsMarkedAs};
 ghost use Rattle.ddf_write_commands.specs.Planned.{Entry};
@@ -27,6 +27,7 @@ use ddf_group_commands::recovered;
 use ddf_plan::{Change, changed_at, same_tables};
 use ddf_read::{View, ViewFault};
 use ddf_read_commands::{Access, failure_of, usable};
+use ddf_recovery::loss;
 use ddf_resync::resync_refusal;
 use std::alloc::Global;
 
@@ -54,7 +55,7 @@ pub(crate) struct Plan {
 pub(crate) fn plan_resync(alloc: Global, group: &Group, name: &[u8]) -> Result<Plan, Failure>
     ensures { MayPlan resync_refusals resync_behind (config_recovered group.now) group.now.seats name.now result }
 {
-    let loss = group.loss(alloc)?;
+    let loss = loss(alloc, group)?;
     resync_plan(alloc, recovered(group, &loss), group.seats(), name)
 }
 
@@ -83,7 +84,7 @@ pub(crate) fn plan_write(
 ) -> Result<Plan, Failure>
     ensures { MayPlan (write_refusals start count) write_behind (config_recovered group.now) group.now.seats name.now result }
 {
-    let loss = group.loss(alloc)?;
+    let loss = loss(alloc, group)?;
     write_plan(
         alloc,
         recovered(group, &loss),

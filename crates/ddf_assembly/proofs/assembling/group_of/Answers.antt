@@ -1,5 +1,5 @@
 use Rattle.std.proofs.Common.{◌≡◌, refl, subst, sym}
-use Rattle.ddf_assembly.specs.Group.{seats_of}
+use Rattle.ddf_seats.specs.Group.{seats_of}
 use Rattle.ddf_config.specs.Seats.{SeatsFit}
 use Rattle.ddf_assembly.proofs.Anchored.{seats_fit}
 use Rattle.ddf_assembly.proofs.Settled.{settled}

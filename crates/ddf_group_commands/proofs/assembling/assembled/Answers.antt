@@ -1,6 +1,6 @@
 use Rattle.std.proofs.Common.{◌∙◌, ap, refl}
 use Rattle.std.proofs.lemmas.Result.{err_from_is_err_and}
-use Rattle.ddf_assembly.specs.Recovery.{config_recovered}
+use Rattle.ddf_recovery.specs.Recovery.{config_recovered}
 use Rattle.ddf_text.specs.GroupText.{group_text}
 use Rattle.ddf_group_commands.proofs.ToldGroup.{told_changed, told_not}
 use Rattle.ddf_group_commands.proofs.Outcomes.{has_changed, memory_spent, none_read, read_still}

@@ -1,7 +1,8 @@
 use Rattle.std.proofs.Common.{◌≡◌, ◌∙◌, Bool, true, false, Option, Some, None, refl, sym, if◌then◌else◌}
 use Rattle.ddf_config.specs.Configuration.{Configuration}
-use Rattle.ddf_assembly.specs.Group.{GroupValue}
-use Rattle.ddf_assembly.specs.Recovery.{config_lost, config_recovered, loss_of, some}
+use Rattle.ddf_seats.specs.Group.{GroupValue}
+use Rattle.ddf_recovery.specs.Recovery.{config_lost, config_recovered, loss_of}
+use Rattle.ddf_seats.specs.Leading.{some}
 use Rattle.ddf_group_commands.proofs.writing.recovered.Goals as goal
 
 -- where members are lost

@@ -5,17 +5,18 @@ use Rattle.ddf_bay.specs.Moments.{StopsLeave}
 use Rattle.ddf_bay.proofs.Looks.{reads_start}
 use Rattle.ddf_update.specs.Changes.{IsLeftChangingAll, MayChangeAll, SlotChange}
 use Rattle.ddf_update.specs.Group.{IsOneOf, LieOnSlots}
-use Rattle.ddf_assembly.specs.Committed.{group_next, group_recovered, next_slots, next_updates, slots_of}
-use Rattle.ddf_assembly.specs.Group.{GroupValue}
-use Rattle.ddf_assembly.specs.Ready.{ReadyValue, readied}
+use Rattle.ddf_recovery.specs.Committed.{group_next, group_recovered, next_slots, next_updates}
+use Rattle.ddf_steps.specs.Committed.{slots_of}
+use Rattle.ddf_seats.specs.Group.{GroupValue}
+use Rattle.ddf_recovery.specs.Ready.{ReadyValue, readied}
 use Rattle.ddf_answer.specs.Call.{work_of}
 use Rattle.ddf_answer.specs.declared.failure.Failure.{Failure}
 use Rattle.ddf_group_commands.specs.Change.{IsChanged, steps_or}
 use Rattle.ddf_group_commands.proofs.Outcomes.{not_readied}
 use Rattle.ddf_group_commands.proofs.Recovering.{Commits, commit_failed, done_to, first_lies, recover_failed, rest_lies, slots_there, was_readied}
-use Rattle.ddf_assembly.proofs.Committed.{may_write_next}
-use Rattle.ddf_assembly.proofs.RecoveredGroup.{recovered_ready}
-use Rattle.ddf_assembly.proofs.RecoveryWritten.{may_recover, recovered_held}
+use Rattle.ddf_recovery.proofs.Committed.{may_write_next}
+use Rattle.ddf_recovery.proofs.RecoveredGroup.{recovered_ready}
+use Rattle.ddf_recovery.proofs.RecoveryWritten.{may_recover, recovered_held}
 use Rattle.ddf_group_commands.proofs.Costs.{commit_costs, none_asked_cost, readied_costs, recovery_costs}
 use Rattle.ddf_group_commands.proofs.FewCalls.{committed_few, recovered_few}
 use Rattle.ddf_group_commands.proofs.Beside.{commit_beside, reads_beside, recovery_beside}

@@ -3,8 +3,8 @@ use Rattle.std.proofs.lemmas.Bool.{false≢true}
 use Rattle.std.proofs.lemmas.Result.{err_from_is_err_and}
 use Rattle.ddf_bay.proofs.Looks.{reads_start}
 use Rattle.ddf_config.specs.Configuration.{Configuration}
-use Rattle.ddf_assembly.specs.Group.{GroupValue}
-use Rattle.ddf_history_steps.specs.Joins.{IsImport}
+use Rattle.ddf_seats.specs.Group.{GroupValue}
+use Rattle.ddf_history_joins.specs.Joins.{IsImport}
 use Rattle.ddf_history_steps.specs.Steps.{IsRecovery}
 use Rattle.ddf_answer.specs.Call.{work_of}
 use Rattle.ddf_group_commands.proofs.Keeping.{Tells, reads_true}
@@ -75,39 +75,39 @@ returns-in_err-recover-clause-keeps g c = λ told left also_left named also_name
     c.requires.from c.requires.also c.ranges.timestamp.fits made told (reads_true old ((g.met.B.Bay.told c.args.bay.now).held) ((g.met.B.Bay.told c.args.bay.now).whole))
     left also_left named also_named found found_too joined asked new recovery ((g.met.B.Bay.told c.recover.new.bay).since) ((g.met.B.Bay.told c.recover.new.bay).held))
 
-pub import-requires-clause-slots : goal.import-requires-clause-slots
-import-requires-clause-slots g c =
+pub write_join-requires-clause-slots : goal.write_join-requires-clause-slots
+write_join-requires-clause-slots g c =
     let ready = c.in_ok-ready.ready in
     let made = c.in_ok-ready.ensures.readied in
     rw c.recover.ensures.spends.same_sizes
     (join_there g.B.Bay.tells (g.B.Bay.disks c.args.bay.now) c.args.group.now c.args.joining.now.group c.args.timestamp c.args.left_out.now ready.recovery ready.join
     c.requires.from c.requires.also c.ranges.timestamp.fits made)
 
-pub import-requires-clause-lies : goal.import-requires-clause-lies
-import-requires-clause-lies g c =
+pub write_join-requires-clause-lies : goal.write_join-requires-clause-lies
+write_join-requires-clause-lies g c =
     let ready = c.in_ok-ready.ready in
     let made = c.in_ok-ready.ensures.readied in
     rw c.recover.ensures.spends.same_sizes
     (join_lies g.B.Bay.tells (g.B.Bay.disks c.args.bay.now) c.args.group.now c.args.joining.now.group c.args.timestamp c.args.left_out.now ready.recovery ready.join
     c.requires.from c.requires.also c.ranges.timestamp.fits made)
 
-pub returns-in_err-import-clause-imported : goal.returns-in_err-import-clause-imported
-returns-in_err-import-clause-imported g c =
-    let failed = err_from_is_err_and c.from_residual-in_err-import.result c.from_residual-in_err-import.ensures.1 in
+pub returns-in_err-write_join-clause-imported : goal.returns-in_err-write_join-clause-imported
+returns-in_err-write_join-clause-imported g c =
+    let failed = err_from_is_err_and c.from_residual-in_err-write_join.result c.from_residual-in_err-write_join.ensures.1 in
     let ready = c.in_ok-ready.ready in
     let made = c.in_ok-ready.ensures.readied in
-    let fault = c.in_err-import.ensures.failed in
+    let fault = c.in_err-write_join.ensures.failed in
     rw (failed.1, failed.2)
     (inr (join_failed g.B.Bay.tells (g.B.Bay.disks c.args.bay.now) c.args.group.now c.args.joining.now.group c.args.timestamp c.args.left_out.now ready.recovery ready.join
-    c.requires.from c.requires.also c.ranges.timestamp.fits made (g.B.Bay.disks c.recover.new.bay) (g.B.Bay.disks c.import.new.bay) c.in_err-import.field-0.0.0
+    c.requires.from c.requires.also c.ranges.timestamp.fits made (g.B.Bay.disks c.recover.new.bay) (g.B.Bay.disks c.write_join.new.bay) c.in_err-write_join.field-0.0.0
     fault.0 c.in_ok-recover.ensures.ok fault.1))
 
-pub returns-in_err-import-clause-keeps : goal.returns-in_err-import-clause-keeps
-returns-in_err-import-clause-keeps g c = λ told left also_left named also_named found found_too joined asked.
-    let failed = err_from_is_err_and c.from_residual-in_err-import.result c.from_residual-in_err-import.ensures.1 in
+pub returns-in_err-write_join-clause-keeps : goal.returns-in_err-write_join-clause-keeps
+returns-in_err-write_join-clause-keeps g c = λ told left also_left named also_named found found_too joined asked.
+    let failed = err_from_is_err_and c.from_residual-in_err-write_join.result c.from_residual-in_err-write_join.ensures.1 in
     let old = g.B.Bay.disks c.args.bay.now in
     let middle = g.B.Bay.disks c.recover.new.bay in
-    let new = g.B.Bay.disks c.import.new.bay in
+    let new = g.B.Bay.disks c.write_join.new.bay in
     let ready = c.in_ok-ready.ready in
     let made = c.in_ok-ready.ensures.readied in
     let recovery : IsRecovery old middle c.args.group.now ready.recovery true = record {
@@ -118,50 +118,50 @@ returns-in_err-import-clause-keeps g c = λ told left also_left named also_named
       spends = c.recover.ensures.spends;
     } in
     let written : IsImport middle new ready.join false = record {
-      any_moment = c.import.ensures.any_moment told;
+      any_moment = c.write_join.ensures.any_moment told;
       changed = λ done. absurd (false≢true done);
       settled = λ done. absurd (false≢true done);
-      ends = λ done. c.in_err-import.ensures.ends told;
-      spends = c.import.ensures.spends;
+      ends = λ done. c.in_err-write_join.ensures.ends told;
+      spends = c.write_join.ensures.spends;
     } in
     rw failed.1
     (import_keeps g.B.Bay.tells old c.args.group.now c.args.joining.now.group c.args.timestamp c.args.left_out.now ready.recovery ready.join
     c.requires.from c.requires.also c.ranges.timestamp.fits made told (reads_true old ((g.met.B.Bay.told c.args.bay.now).held) ((g.met.B.Bay.told c.args.bay.now).whole))
-    left also_left named also_named found found_too joined asked middle new false recovery written ((g.met.B.Bay.told c.import.new.bay).since) ((g.met.B.Bay.told c.import.new.bay).held)
+    left also_left named also_named found found_too joined asked middle new false recovery written ((g.met.B.Bay.told c.write_join.new.bay).since) ((g.met.B.Bay.told c.write_join.new.bay).held)
     ((g.met.B.Bay.told c.recover.new.bay).held))
 
 pub returns-clause-imported : goal.returns-clause-imported
 returns-clause-imported g c =
     let old = g.B.Bay.disks c.args.bay.now in
     let middle = g.B.Bay.disks c.recover.new.bay in
-    let new = g.B.Bay.disks c.import.new.bay in
+    let new = g.B.Bay.disks c.write_join.new.bay in
     let ready = c.in_ok-ready.ready in
     let made = c.in_ok-ready.ensures.readied in
     let last : c.behind-group.inside.sequence ≡ ready.join.one.step.config.sequence =
     ap (λ (config : Configuration). config.sequence) (c.behind-group.view_is ∙ c.config.ensures)
-    ∙ ap (λ (one : GroupValue). one.config.sequence) c.in_ok-import.ensures.group in
+    ∙ ap (λ (one : GroupValue). one.config.sequence) c.in_ok-write_join.ensures.group in
     joined_to g.B.Bay.tells old c.args.group.now c.args.joining.now.group c.args.timestamp c.args.left_out.now ready.recovery ready.join
     c.requires.from c.requires.also c.ranges.timestamp.fits made new c.behind-group.inside.sequence last
     (λ told.
     all_written g.B.Bay.tells old c.args.group.now c.args.joining.now.group c.args.timestamp c.args.left_out.now ready.recovery ready.join
     c.requires.from c.requires.also c.ranges.timestamp.fits made told middle c.recover.ensures.spends.same_sizes
-    (c.in_ok-recover.ensures.changed told) new (c.in_ok-import.ensures.changed told))
+    (c.in_ok-recover.ensures.changed told) new (c.in_ok-write_join.ensures.changed told))
     (λ told.
     native_settled g.B.Bay.tells old c.args.group.now c.args.joining.now.group c.args.timestamp c.args.left_out.now ready.recovery ready.join
     c.requires.from c.requires.also c.ranges.timestamp.fits made told middle c.recover.ensures.spends.same_sizes
-    (c.in_ok-recover.ensures.changed told) new (c.in_ok-import.ensures.changed told)
+    (c.in_ok-recover.ensures.changed told) new (c.in_ok-write_join.ensures.changed told)
     (c.in_ok-recover.ensures.settled told))
     (λ told.
     joins_settled g.B.Bay.tells old c.args.group.now c.args.joining.now.group c.args.timestamp c.args.left_out.now ready.recovery ready.join
     c.requires.from c.requires.also c.ranges.timestamp.fits made told middle c.recover.ensures.spends.same_sizes
-    (c.in_ok-recover.ensures.changed told) new (c.in_ok-import.ensures.changed told)
-    (c.in_ok-import.ensures.settled told))
+    (c.in_ok-recover.ensures.changed told) new (c.in_ok-write_join.ensures.changed told)
+    (c.in_ok-write_join.ensures.settled told))
 
 pub returns-clause-keeps : goal.returns-clause-keeps
 returns-clause-keeps g c = λ told left also_left named also_named found found_too joined asked.
     let old = g.B.Bay.disks c.args.bay.now in
     let middle = g.B.Bay.disks c.recover.new.bay in
-    let new = g.B.Bay.disks c.import.new.bay in
+    let new = g.B.Bay.disks c.write_join.new.bay in
     let ready = c.in_ok-ready.ready in
     let made = c.in_ok-ready.ensures.readied in
     let recovery : IsRecovery old middle c.args.group.now ready.recovery true = record {
@@ -172,15 +172,15 @@ returns-clause-keeps g c = λ told left also_left named also_named found found_t
       spends = c.recover.ensures.spends;
     } in
     let written : IsImport middle new ready.join true = record {
-      any_moment = c.import.ensures.any_moment told;
-      changed = λ done. c.in_ok-import.ensures.changed told;
-      settled = λ done. c.in_ok-import.ensures.settled told;
+      any_moment = c.write_join.ensures.any_moment told;
+      changed = λ done. c.in_ok-write_join.ensures.changed told;
+      settled = λ done. c.in_ok-write_join.ensures.settled told;
       ends = λ done. absurd (false≢true (sym done));
-      spends = c.import.ensures.spends;
+      spends = c.write_join.ensures.spends;
     } in
     import_keeps g.B.Bay.tells old c.args.group.now c.args.joining.now.group c.args.timestamp c.args.left_out.now ready.recovery ready.join
     c.requires.from c.requires.also c.ranges.timestamp.fits made told (reads_true old ((g.met.B.Bay.told c.args.bay.now).held) ((g.met.B.Bay.told c.args.bay.now).whole))
-    left also_left named also_named found found_too joined asked middle new true recovery written ((g.met.B.Bay.told c.import.new.bay).since) ((g.met.B.Bay.told c.import.new.bay).held)
+    left also_left named also_named found found_too joined asked middle new true recovery written ((g.met.B.Bay.told c.write_join.new.bay).since) ((g.met.B.Bay.told c.write_join.new.bay).held)
     ((g.met.B.Bay.told c.recover.new.bay).held)
 
 pub returns-in_err-ready-clause-leaves : goal.returns-in_err-ready-clause-leaves
@@ -204,11 +204,11 @@ returns-in_err-recover-clause-leaves g c = λ told joined asked.
     c.requires.from c.requires.also c.ranges.timestamp.fits made told (reads_true old ((g.met.B.Bay.told c.args.bay.now).held) ((g.met.B.Bay.told c.args.bay.now).whole))
     ((g.met.B.Bay.told c.args.bay.now).only_now) joined asked middle c.recover.ensures.spends.same_sizes (c.recover.ensures.any_moment told) tell
 
-pub returns-in_err-import-clause-leaves : goal.returns-in_err-import-clause-leaves
-returns-in_err-import-clause-leaves g c = λ told joined asked.
+pub returns-in_err-write_join-clause-leaves : goal.returns-in_err-write_join-clause-leaves
+returns-in_err-write_join-clause-leaves g c = λ told joined asked.
     let old = g.B.Bay.disks c.args.bay.now in
     let middle = g.B.Bay.disks c.recover.new.bay in
-    let new = g.B.Bay.disks c.import.new.bay in
+    let new = g.B.Bay.disks c.write_join.new.bay in
     let ready = c.in_ok-ready.ready in
     let made = c.in_ok-ready.ensures.readied in
     let tell : Tells old middle = record {
@@ -218,21 +218,21 @@ returns-in_err-import-clause-leaves g c = λ told joined asked.
       held = (g.met.B.Bay.told c.recover.new.bay).held;
     } in
     let tell_new : Tells middle new = record {
-      told = (g.met.B.Bay.told c.import.new.bay).since;
-      counts = (g.met.B.Bay.told c.import.new.bay).counts;
-      back = c.import.ensures.spends.told;
-      held = (g.met.B.Bay.told c.import.new.bay).held;
+      told = (g.met.B.Bay.told c.write_join.new.bay).since;
+      counts = (g.met.B.Bay.told c.write_join.new.bay).counts;
+      back = c.write_join.ensures.spends.told;
+      held = (g.met.B.Bay.told c.write_join.new.bay).held;
     } in
     import_leaves g.B.Bay.tells old c.args.group.now c.args.joining.now.group c.args.timestamp c.args.left_out.now ready.recovery ready.join
     c.requires.from c.requires.also c.ranges.timestamp.fits made told (reads_true old ((g.met.B.Bay.told c.args.bay.now).held) ((g.met.B.Bay.told c.args.bay.now).whole))
     ((g.met.B.Bay.told c.args.bay.now).only_now) joined asked middle c.recover.ensures.spends.same_sizes (c.recover.ensures.any_moment told) tell
-    (c.in_ok-recover.ensures.changed told) (reads_true middle ((g.met.B.Bay.told c.recover.new.bay).held) ((g.met.B.Bay.told c.recover.new.bay).whole)) new (c.import.ensures.any_moment told) tell_new
+    (c.in_ok-recover.ensures.changed told) (reads_true middle ((g.met.B.Bay.told c.recover.new.bay).held) ((g.met.B.Bay.told c.recover.new.bay).whole)) new (c.write_join.ensures.any_moment told) tell_new
 
 pub returns-clause-leaves : goal.returns-clause-leaves
 returns-clause-leaves g c = λ told joined asked.
     let old = g.B.Bay.disks c.args.bay.now in
     let middle = g.B.Bay.disks c.recover.new.bay in
-    let new = g.B.Bay.disks c.import.new.bay in
+    let new = g.B.Bay.disks c.write_join.new.bay in
     let ready = c.in_ok-ready.ready in
     let made = c.in_ok-ready.ensures.readied in
     let tell : Tells old middle = record {
@@ -242,15 +242,15 @@ returns-clause-leaves g c = λ told joined asked.
       held = (g.met.B.Bay.told c.recover.new.bay).held;
     } in
     let tell_new : Tells middle new = record {
-      told = (g.met.B.Bay.told c.import.new.bay).since;
-      counts = (g.met.B.Bay.told c.import.new.bay).counts;
-      back = c.import.ensures.spends.told;
-      held = (g.met.B.Bay.told c.import.new.bay).held;
+      told = (g.met.B.Bay.told c.write_join.new.bay).since;
+      counts = (g.met.B.Bay.told c.write_join.new.bay).counts;
+      back = c.write_join.ensures.spends.told;
+      held = (g.met.B.Bay.told c.write_join.new.bay).held;
     } in
     import_leaves g.B.Bay.tells old c.args.group.now c.args.joining.now.group c.args.timestamp c.args.left_out.now ready.recovery ready.join
     c.requires.from c.requires.also c.ranges.timestamp.fits made told (reads_true old ((g.met.B.Bay.told c.args.bay.now).held) ((g.met.B.Bay.told c.args.bay.now).whole))
     ((g.met.B.Bay.told c.args.bay.now).only_now) joined asked middle c.recover.ensures.spends.same_sizes (c.recover.ensures.any_moment told) tell
-    (c.in_ok-recover.ensures.changed told) (reads_true middle ((g.met.B.Bay.told c.recover.new.bay).held) ((g.met.B.Bay.told c.recover.new.bay).whole)) new (c.import.ensures.any_moment told) tell_new
+    (c.in_ok-recover.ensures.changed told) (reads_true middle ((g.met.B.Bay.told c.recover.new.bay).held) ((g.met.B.Bay.told c.recover.new.bay).whole)) new (c.write_join.ensures.any_moment told) tell_new
 
 pub returns-in_err-recover-clause-calls : goal.returns-in_err-recover-clause-calls
 returns-in_err-recover-clause-calls g c =
@@ -259,13 +259,13 @@ returns-in_err-recover-clause-calls g c =
     recover_calls g.B.Bay.tells (g.B.Bay.disks c.args.bay.now) c.args.group.now c.args.joining.now.group c.args.timestamp c.args.left_out.now ready.recovery ready.join
     c.requires.from c.requires.also c.ranges.timestamp.fits made (g.B.Bay.disks c.recover.new.bay) c.recover.ensures.spends.costs
 
-pub returns-in_err-import-clause-calls : goal.returns-in_err-import-clause-calls
-returns-in_err-import-clause-calls g c =
+pub returns-in_err-write_join-clause-calls : goal.returns-in_err-write_join-clause-calls
+returns-in_err-write_join-clause-calls g c =
     let ready = c.in_ok-ready.ready in
     let made = c.in_ok-ready.ensures.readied in
     import_calls g.B.Bay.tells (g.B.Bay.disks c.args.bay.now) c.args.group.now c.args.joining.now.group c.args.timestamp c.args.left_out.now ready.recovery ready.join
     c.requires.from c.requires.also c.ranges.timestamp.fits made (g.B.Bay.disks c.recover.new.bay) c.recover.ensures.spends.costs
-    (g.B.Bay.disks c.import.new.bay) c.import.ensures.spends.costs
+    (g.B.Bay.disks c.write_join.new.bay) c.write_join.ensures.spends.costs
 
 pub returns-clause-calls : goal.returns-clause-calls
 returns-clause-calls g c =
@@ -273,4 +273,4 @@ returns-clause-calls g c =
     let made = c.in_ok-ready.ensures.readied in
     import_calls g.B.Bay.tells (g.B.Bay.disks c.args.bay.now) c.args.group.now c.args.joining.now.group c.args.timestamp c.args.left_out.now ready.recovery ready.join
     c.requires.from c.requires.also c.ranges.timestamp.fits made (g.B.Bay.disks c.recover.new.bay) c.recover.ensures.spends.costs
-    (g.B.Bay.disks c.import.new.bay) c.import.ensures.spends.costs
+    (g.B.Bay.disks c.write_join.new.bay) c.write_join.ensures.spends.costs

@@ -1,6 +1,6 @@
 use Rattle.ddf_array.proofs.Fits.{view_fits}
-use Rattle.ddf_assembly.specs.Recovery.{trusted_seats}
-use Rattle.ddf_assembly.proofs.Trusted.{trusted_fit}
+use Rattle.ddf_recovery.specs.Recovery.{trusted_seats}
+use Rattle.ddf_recovery.proofs.Trusted.{trusted_fit}
 use Rattle.ddf_answer.specs.Call.{work_of}
 use Rattle.ddf_read_commands.specs.Read.{NotRead}
 use Rattle.ddf_read_commands.proofs.ReadBlocks.{not_read, read_of}

@@ -2,7 +2,7 @@ use Rattle.std.proofs.Common.{ℕ, List, subst, sym}
 use Rattle.ddf_bay.proofs.Looks.{reads_then}
 use Rattle.ddf_config.specs.Seats.{SeatsFit}
 use Rattle.ddf_assembly.specs.Group.{group_of}
-use Rattle.ddf_assembly.specs.Recovery.{trusted_seats}
+use Rattle.ddf_recovery.specs.Recovery.{trusted_seats}
 use Rattle.ddf_answer.specs.Answers.{failure_of}
 use Rattle.ddf_answer.specs.Call.{work_of}
 use Rattle.ddf_read_commands.specs.Read.{NotRead}

@@ -1,8 +1,8 @@
 use Rattle.std.proofs.Common.{Err, sym, subst}
 use Rattle.std.proofs.lemmas.Result.{err_from_is_err_and}
 use Rattle.ddf_array.proofs.Fits.{view_fits}
-use Rattle.ddf_assembly.specs.Recovery.{trusted_seats}
-use Rattle.ddf_assembly.proofs.Trusted.{trusted_fit}
+use Rattle.ddf_recovery.specs.Recovery.{trusted_seats}
+use Rattle.ddf_recovery.proofs.Trusted.{trusted_fit}
 use Rattle.ddf_answer.specs.declared.failure.Failure.{Failure}
 use Rattle.ddf_answer.specs.Call.{work_of}
 use Rattle.ddf_read_commands.specs.Scrub.{IsScrubOf}

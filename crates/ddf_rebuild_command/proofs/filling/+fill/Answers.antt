@@ -2,8 +2,8 @@ use Rattle.std.proofs.Common.{◌≡◌, ◌∙◌, ◌<◌, ℕ, suc, false, Li
 use Rattle.std.proofs.lemmas.Result.{IfErr-weaker, err_from_is_err_and, on_ok_weaker}
 use Rattle.std.specs.Prelude.{is_ok}
 use Rattle.ddf_config.specs.declared.seat.Seat.{Seat}
-use Rattle.ddf_assembly.specs.Committed.{left_behind}
-use Rattle.ddf_assembly.specs.Ready.{ReadyValue}
+use Rattle.ddf_recovery.specs.Committed.{left_behind}
+use Rattle.ddf_recovery.specs.Ready.{ReadyValue}
 use Rattle.ddf_bay.specs.Told.{IsTold}
 use Rattle.ddf_rebuild_command.specs.Filled.{AreFilled, CanFill, GoesFilling, IsFillFault, rounds_in}
 use Rattle.ddf_rebuild_command.proofs.Costs.{first_asks, rounds_ask}

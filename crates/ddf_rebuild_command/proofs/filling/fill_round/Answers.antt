@@ -6,7 +6,8 @@ use Rattle.ddf_array.proofs.Fits.{view_fits}
 use Rattle.ddf_cells.proofs.Writes.{asks_then}
 use Rattle.ddf_rebuild.specs.Rebuilding.{sectors_of}
 use Rattle.ddf_update.specs.Prepared.{all_sectors}
-use Rattle.ddf_assembly.specs.Committed.{next_updates, slots_of}
+use Rattle.ddf_recovery.specs.Committed.{next_updates}
+use Rattle.ddf_steps.specs.Committed.{slots_of}
 use Rattle.ddf_answer.specs.declared.failure.Failure.{Failure}
 use Rattle.ddf_bay.specs.Told.{IsTold}
 use Rattle.ddf_rebuild_command.specs.Filled.{IsFillFault, rounds_in}

@@ -77,7 +77,7 @@ returns-clause-opened g c =
       ends = λ done. absurd cc;
       spends = c.recover.ensures.spends;
     } in
-    recovery_opened g.B.Bay.tells old c.args.group.now c.args.ready.now c.requires tells_old new tells_new is c.recover.ensures.spends.same_sizes _ c.recover.ensures.spends.costs c.recover.new.self c.in_ok-recover.ensures.group c.recover.new.ready
+    recovery_opened g.B.Bay.tells old c.args.group.now c.args.ready.now c.requires tells_old new tells_new is c.recover.ensures.spends.same_sizes _ c.recover.ensures.spends.costs c.recover.new.group c.in_ok-recover.ensures.group c.recover.new.ready
     c.recover.ensures.left
 
 pub returns-in_err-recover-clause-asks : goal.returns-in_err-recover-clause-asks

@@ -66,7 +66,7 @@ returns-clause-written g c =
       changed = λ done. c.in_ok-commit.ensures.changed told;
       spends = c.commit.ensures.spends;
     } in
-    is_written g.B.Bay.tells old c.args.group.now c.args.ready.now c.requires new tells_new is c.commit.ensures.spends.same_sizes c.commit.new.self c.in_ok-commit.ensures.group c.commit.new.ready
+    is_written g.B.Bay.tells old c.args.group.now c.args.ready.now c.requires new tells_new is c.commit.ensures.spends.same_sizes c.commit.new.group c.in_ok-commit.ensures.group c.commit.new.ready
     c.commit.ensures.left
 
 pub returns-in_err-commit-clause-asks : goal.returns-in_err-commit-clause-asks

@@ -1,7 +1,7 @@
 use Rattle.std.proofs.Common.{◌∙◌, ℕ, true, false, ap, subst, sym}
 use Rattle.std.proofs.lemmas.Result.{err_from_is_err_and}
 use Rattle.ddf_config.specs.Configuration.{Configuration}
-use Rattle.ddf_assembly.specs.Group.{GroupValue}
+use Rattle.ddf_seats.specs.Group.{GroupValue}
 use Rattle.ddf_history_steps.specs.Steps.{IsCommit}
 use Rattle.ddf_answer.proofs.Costs.{costs_writes}
 use Rattle.ddf_write_commands.specs.Closed.{IsLastWritten}

@@ -1,8 +1,8 @@
 use Rattle.std.proofs.Common.{◌∙◌, true, false, subst, sym}
 use Rattle.std.proofs.lemmas.Result.{err_from_is_err_and}
 use Rattle.ddf_update.specs.Group.{IsOneOf, LieOnSlots}
-use Rattle.ddf_assembly.specs.Committed.{next_slots, next_updates}
-use Rattle.ddf_assembly.specs.Ready.{ReadyValue}
+use Rattle.ddf_recovery.specs.Committed.{next_slots, next_updates}
+use Rattle.ddf_recovery.specs.Ready.{ReadyValue}
 use Rattle.ddf_history_steps.specs.Steps.{IsCommit, IsRecovery}
 use Rattle.ddf_group_commands.proofs.Recovering.{commit_failed, first_lies, recover_failed, rest_lies, slots_there}
 use Rattle.ddf_write_commands.proofs.Costs.{alone_costs, behind_costs, left_marked, left_unmarked}
@@ -189,10 +189,10 @@ returns-clause-opened g c =
           } in
           rw (w.group-is, w.bay-is, w.ready-is)
           (opened_marked g.B.Bay.tells old c.args.group.now c.args.plan.now.changes c.args.timestamp c.args.ready.now c.requires.from was c.args.plan.now.redundant c.args.plan.now.marks c.requires.steps c.requires.mark c.requires.few c.requires.asked tells_old middle tells_middle recovers c.recover.ensures.spends.same_sizes c.recover.new.ready c.recover.ensures.left w.if-plan.true c.requires.members c.recover.ensures.spends new tells_new commits w.commit.ensures.spends
-          c.recover.new.self c.in_ok-recover.ensures.group w.commit.new.self w.in_ok-commit.ensures.group w.commit.new.ready w.commit.ensures.left)
+          c.recover.new.group c.in_ok-recover.ensures.group w.commit.new.group w.in_ok-commit.ensures.group w.commit.new.ready w.commit.ensures.left)
       | else-plan w ↦
           rw (w.group-is, w.bay-is, w.ready-is)
-          (opened_unmarked g.B.Bay.tells old c.args.group.now c.args.plan.now.changes c.args.timestamp c.args.ready.now c.requires.from was c.args.plan.now.redundant c.args.plan.now.marks c.requires.steps c.requires.mark c.requires.few c.requires.asked tells_old middle tells_middle recovers c.recover.ensures.spends.same_sizes c.recover.new.ready c.recover.ensures.left w.if-plan.false c.requires.members c.recover.ensures.spends c.recover.new.self c.in_ok-recover.ensures.group)
+          (opened_unmarked g.B.Bay.tells old c.args.group.now c.args.plan.now.changes c.args.timestamp c.args.ready.now c.requires.from was c.args.plan.now.redundant c.args.plan.now.marks c.requires.steps c.requires.mark c.requires.few c.requires.asked tells_old middle tells_middle recovers c.recover.ensures.spends.same_sizes c.recover.new.ready c.recover.ensures.left w.if-plan.false c.requires.members c.recover.ensures.spends c.recover.new.group c.in_ok-recover.ensures.group)
     ]
 
 pub returns-clause-beside : goal.returns-clause-beside

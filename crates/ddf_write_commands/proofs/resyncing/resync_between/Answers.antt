@@ -2,7 +2,7 @@ use Rattle.std.proofs.Common.{◌∙◌, ℕ, List, subst, sym}
 use Rattle.std.proofs.lemmas.Result.{err_from_is_err_and, on_ok_weaker}
 use Rattle.ddf_bay.specs.Told.{IsTold}
 use Rattle.ddf_config.specs.Seats.{SeatsFit}
-use Rattle.ddf_assembly.specs.Recovery.{config_recovered}
+use Rattle.ddf_recovery.specs.Recovery.{config_recovered}
 use Rattle.ddf_read_commands.proofs.ArrayUse.{named_is}
 use Rattle.ddf_write_commands.specs.Resync.{resync_behind}
 use Rattle.ddf_write_commands.proofs.PlanKept.{apart_there, fits_there, none_trusted}

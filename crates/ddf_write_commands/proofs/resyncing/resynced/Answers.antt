@@ -1,8 +1,8 @@
 use Rattle.std.proofs.Common.{◌∙◌, ℕ, Err, refl, subst, sym, arith}
 use Rattle.std.proofs.lemmas.Result.{err_from_is_err_and}
 use Rattle.ddf_bytes.specs.Stamps.{timestamp_of}
-use Rattle.ddf_assembly.specs.Group.{GroupValue}
-use Rattle.ddf_assembly.specs.Ready.{readied}
+use Rattle.ddf_seats.specs.Group.{GroupValue}
+use Rattle.ddf_recovery.specs.Ready.{readied}
 use Rattle.ddf_history_steps.proofs.Floored.{group_floored}
 use Rattle.ddf_answer.specs.Call.{work_of}
 use Rattle.ddf_group_commands.proofs.Outcomes.{asked_of, group_read, read_still}

@@ -5,7 +5,7 @@ use Rattle.ddf_pieces.specs.declared.fault.PieceFault.{PieceFault}
 use Rattle.ddf_pieces.specs.declared.fault.PieceFault.TheVariants as pieces
 use Rattle.ddf_pieces.specs.Pieces.{piece_of, room_for}
 use Rattle.ddf_pieces.specs.Writing.{ArePiecesWritten}
-use Rattle.ddf_assembly.specs.Recovery.{config_recovered}
+use Rattle.ddf_recovery.specs.Recovery.{config_recovered}
 use Rattle.ddf_read_commands.proofs.ArrayUse.{named_is}
 use Rattle.ddf_write_commands.specs.Write.{write_behind}
 use Rattle.ddf_bay.specs.Told.{IsTold}

@@ -1,7 +1,7 @@
 use Rattle.std.proofs.Common.{[], ◌++◌, refl}
 use Rattle.std.proofs.lemmas.Result.{err_from_is_err_and}
 use Rattle.ddf_bytes.specs.Stamps.{timestamp_of}
-use Rattle.ddf_assembly.specs.Ready.{readied}
+use Rattle.ddf_recovery.specs.Ready.{readied}
 use Rattle.ddf_history_steps.proofs.Floored.{group_floored}
 use Rattle.ddf_answer.specs.Call.{input_of, work_of}
 use Rattle.ddf_group_commands.proofs.Outcomes.{group_read, read_still}

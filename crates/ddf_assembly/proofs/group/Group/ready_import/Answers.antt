@@ -1,8 +1,0 @@
-use Rattle.ddf_assembly.proofs.ImportAnswers.{refused_early}
-use Rattle.ddf_assembly.proofs.Refused.{fault_passed}
-use Rattle.ddf_assembly.proofs.group.Group.ready_import.Goals as goal
-
-pub returns-in_err-offered-clause-readied : goal.returns-in_err-offered-clause-readied
-returns-in_err-offered-clause-readied c =
-    refused_early c.args.timestamp c.args.self.now c.args.other.now c.in_err-offered.field-0.0 c.in_err-offered.ensures _
-    (fault_passed c.in_err-offered.field-0.0 c.from_residual-in_err-offered.result c.from_residual-in_err-offered.ensures.1)

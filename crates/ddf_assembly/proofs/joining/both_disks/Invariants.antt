@@ -1,6 +1,0 @@
-use Rattle.std.proofs.Common.{◌≡◌, fold, take}
-use Rattle.ddf_assembly.specs.Joining.{placed}
-use Rattle.ddf_assembly.proofs.joining.both_disks.Given as goal
-
-abbrev pub invariant-loop-disk : goal.invariant-loop-disk
-invariant-loop-disk l = l.all.items ≡ fold placed l.native (take l.disk-index l.joining)

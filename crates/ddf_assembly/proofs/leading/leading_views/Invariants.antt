@@ -1,7 +1,0 @@
-use Rattle.std.proofs.Common.{◌≡◌, filter, take}
-use Rattle.ddf_assembly.specs.Recovery.{leads}
-use Rattle.ddf_assembly.specs.Seated.{views_in}
-use Rattle.ddf_assembly.proofs.leading.leading_views.Given as goal
-
-abbrev pub invariant-loop-disk : goal.invariant-loop-disk
-invariant-loop-disk l = l.views.items ≡ views_in (filter (leads l.config) (take l.disk-index l.disks))

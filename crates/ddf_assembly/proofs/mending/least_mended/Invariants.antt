@@ -1,9 +1,0 @@
-use Rattle.std.proofs.Common.{◌≡◌, None, filter, fold, take}
-use Rattle.ddf_rewrite.specs.Before.{before}
-use Rattle.ddf_assembly.specs.Full.{lesser}
-use Rattle.ddf_assembly.specs.Recovery.{full_mended, lags}
-use Rattle.ddf_assembly.proofs.mending.least_mended.Given as goal
-
-abbrev pub invariant-loop-disk : goal.invariant-loop-disk
-invariant-loop-disk l =
-    l.least ≡ fold (λ one disk. lesser one (full_mended (before l.leaders) l.config disk)) None (filter (lags l.group) (take l.disk-index l.disks))

@@ -1,5 +1,0 @@
-use Rattle.ddf_assembly.proofs.Readied.{AreReached}
-use Rattle.ddf_assembly.proofs.ready.steps_of.Given as goal
-
-abbrev pub invariant-loop-change : goal.invariant-loop-change
-invariant-loop-change l = AreReached l.timestamp l.config l.disks l.changes l.change-index l.steps.items

@@ -1,6 +1,0 @@
-use Rattle.std.proofs.Common.{◌≡◌, map, take}
-use Rattle.ddf_assembly.specs.Tried.{behind_written}
-use Rattle.ddf_assembly.proofs.recovering.all_behind.Given as goal
-
-abbrev pub invariant-loop-disk : goal.invariant-loop-disk
-invariant-loop-disk l = l.behind.items ≡ map (behind_written l.written) (take l.disk-index l.disks)

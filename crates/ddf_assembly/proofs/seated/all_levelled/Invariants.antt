@@ -1,6 +1,0 @@
-use Rattle.std.proofs.Common.{◌≡◌, map, take}
-use Rattle.ddf_assembly.specs.Steps.{levelled}
-use Rattle.ddf_assembly.proofs.seated.all_levelled.Given as goal
-
-abbrev pub invariant-loop-disk : goal.invariant-loop-disk
-invariant-loop-disk l = l.all.items ≡ map levelled (take l.disk-index l.disks)

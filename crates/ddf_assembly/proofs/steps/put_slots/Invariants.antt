@@ -1,8 +1,0 @@
-use Rattle.std.proofs.Common.{◌≡◌, ◌++◌, filter, take}
-use Rattle.ddf_plan.specs.Same.{same_flag}
-use Rattle.ddf_assembly.specs.Seated.{slots_in}
-use Rattle.ddf_assembly.specs.Steps.{is_adopted}
-use Rattle.ddf_assembly.proofs.steps.put_slots.Given as goal
-
-abbrev pub invariant-loop-disk : goal.invariant-loop-disk
-invariant-loop-disk l = l.slots.items ≡ l.initial.slots.items ++ slots_in (filter (λ disk. same_flag l.adopted (is_adopted disk)) (take l.disk-index l.disks))

@@ -1,6 +1,0 @@
-use Rattle.std.proofs.Common.{◌≡◌, take}
-use Rattle.ddf_assembly.specs.Refusing.{most_members}
-use Rattle.ddf_assembly.proofs.trying.most_members.Given as goal
-
-abbrev pub invariant-loop-disk : goal.invariant-loop-disk
-invariant-loop-disk l = l.most ≡ most_members (take l.disk-index l.disks)

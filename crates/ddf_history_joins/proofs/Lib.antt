@@ -1,0 +1,12 @@
+pub mod JoinMembers
+pub mod TheoryJoin
+pub mod JoinTries
+pub mod JoinSeats
+pub mod JoinScenes
+pub mod JoinStep
+pub mod JoinKeeps
+pub mod JoinBrings
+pub mod JoinTaken
+pub mod JoinAdmits
+pub mod JoinCalling
+pub mod JoinForeign

@@ -1,0 +1,11 @@
+pub mod Joinings
+pub mod Telling
+pub mod JoinHoldable
+pub mod BothSides
+pub mod ImportSides
+pub mod ImportAnswers
+pub mod FirstCauses
+pub mod SeatClash
+pub mod BothOrder
+pub mod JoinWritten
+pub mod JoinReadied

@@ -1,0 +1,4 @@
+pub mod Joining
+pub mod Telling
+pub mod JoinValue
+pub mod Importing

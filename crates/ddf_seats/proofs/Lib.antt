@@ -1,0 +1,4 @@
+pub mod Lists
+pub mod CommittedSeats
+pub mod KeptSlots
+pub mod RecordsHeld

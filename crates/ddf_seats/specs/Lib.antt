@@ -1,0 +1,4 @@
+pub mod Group
+pub mod Seated
+pub mod Changing
+pub mod Leading

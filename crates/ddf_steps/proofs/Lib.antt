@@ -1,0 +1,17 @@
+pub mod OneLength
+pub mod Updates
+pub mod Rewritten
+pub mod HeldEntries
+pub mod ArraysAfter
+pub mod NamedArrays
+pub mod NewArray
+pub mod MembersAfter
+pub mod SparesAfter
+pub mod Holdable
+pub mod Following
+pub mod Refused
+pub mod Synced
+pub mod Ordered
+pub mod CommittedLevels
+pub mod Reached
+pub mod StepConfig
