@@ -1,16 +1,16 @@
 -- An array whose cells and rows agree is redundant, and the other way round.
-use Rattle.std.proofs.Common.{◌≡◌, ◌∙◌, ◌⊎◌, inl, inr, ⊎_elim, ℕ, zero, suc, ◌<◌, ◌≤◌, Bool, true, false, List, [], ◌∷◌, ◌++◌, Option, Some, None, refl, sym, ap, subst, arith, map, filter_map, length, slice_get, ◌&&◌}
+use Rattle.std.proofs.Common.{◌≡◌, ◌∙◌, ◌⊎◌, inl, inr, ⊎_elim, ℕ, zero, suc, ◌<◌, ◌≤◌, Bool, true, false, List, [], ◌∷◌, ◌++◌, Option, Some, None, refl, sym, ap, arith, map, filter_map, length, slice_get, ◌&&◌}
 use Rattle.std.specs.Prelude.{nat_le, option_map, option_and_then, if◌then◌else◌}
 use Rattle.std.specs.List.{range_with_len, flat_map, cons_option}
 use Rattle.std.proofs.lemmas.Bool.{le-leb}
 use Rattle.std.proofs.lemmas.Option.{slice_get_within}
 use Rattle.std.proofs.lemmas.List.{length-map}
 use Rattle.ddf_bay.specs.Sectors.{Image}
-use Rattle.ddf_primary.specs.declared.layout.Layout.{Layout}
-use Rattle.ddf_primary.specs.declared.layout.Layout.TheVariants.{Raid0, Raid1, Parity, Jbod, Concatenation}
 use Rattle.ddf_primary.specs.Placement.{Placement}
 use Rattle.ddf_primary.specs.Levels.{IsShape}
-use Rattle.ddf_primary.specs.Cells.{cells, depth_of}
+use Rattle.ddf_primary.specs.Cells.{depth_of}
+use Rattle.ddf_primary.proofs.Copies.{copy_is, few_copies, on_holds}
+use Rattle.ddf_primary.proofs.Needs.{parity_alone}
 use Rattle.ddf_primary.proofs.ShapeFacts.{cell_facts}
 use Rattle.ddf_secondary.specs.declared.spot.Spot.{Spot}
 use Rattle.ddf_secondary.specs.Spots.{spots}
@@ -18,9 +18,9 @@ use Rattle.ddf_array.specs.declared.part.Part.{Part}
 use Rattle.ddf_array.specs.declared.place.Place.{Place}
 use Rattle.ddf_array.specs.declared.site.Site.{Site}
 use Rattle.ddf_array.specs.Places.{site, site_at}
-use Rattle.ddf_array.specs.Levels.{is_on_every, keeps_parity}
+use Rattle.ddf_array.specs.Levels.{keeps_parity}
 use Rattle.ddf_array.specs.Volume.{Volume, IsVolume}
-use Rattle.ddf_array.specs.Cells.{cells_like, element_cells, is_in_every, elements_like, spots_like, block_spots}
+use Rattle.ddf_array.specs.Cells.{element_cells, is_in_every, elements_like, spots_like, block_spots}
 use Rattle.ddf_array.specs.Sources.{Source, copy, row, row_without, element_copies, element_rows, at_spot, copies, rows, every_source}
 use Rattle.ddf_array.specs.Values.{bytes_at, sum_at, given, value}
 use Rattle.ddf_array.specs.Within.{is_mirrored}
@@ -105,30 +105,10 @@ lone (y ∷ (z ∷ xs)) k x le at = absurd (omega arith)
 
 -- ---- cells and spots
 
-not_every : (layout : Layout) → keeps_parity layout ≡ true → is_on_every layout ≡ false
-not_every Raid0 e = refl
-not_every Raid1 e = absurd (cc)
-not_every (Parity parity) e = refl
-not_every Jbod e = refl
-not_every Concatenation e = refl
-
-few_cells : (shape : Placement) (block : ℕ) → is_on_every shape.layout ≡ false → length (element_cells shape block) ≤ 1
-few_cells shape block single = by_cell (slice_get (cells shape) block)
-  where
-    by_cell : (found : Option (ℕ × ℕ)) → length {A = ℕ × ℕ} (elim found [ None ↦ [] | Some cell ↦ cells_like shape.layout shape.members cell ]) ≤ 1
-    by_cell None = omega arith
-    by_cell (Some cell) =
-        subst (λ b. length {A = ℕ × ℕ} (map {B = ℕ × ℕ} (λ position. (position, cell.1)) (if b then range_with_len 0 shape.members else cell.0 ∷ [])) ≤ 1) (sym single) (omega arith)
-
 cell_depth : (shape : Placement) → IsShape shape → (block k : ℕ) (cell : ℕ × ℕ) → slice_get (element_cells shape block) k ≡ Some cell → cell.1 < depth_of shape
-cell_depth shape known block k cell at = by_cell (slice_get (cells shape) block) refl at
-  where
-    by_cell : (found : Option (ℕ × ℕ)) → slice_get (cells shape) block ≡ found → slice_get (elim found [ None ↦ [] | Some c ↦ cells_like shape.layout shape.members c ]) k ≡ Some cell → cell.1 < depth_of shape
-    by_cell None is e = absurd (cc)
-    by_cell (Some c) is e =
-        let from = in_map (λ position. (position, c.1)) _ k cell e in
-        let facts = cell_facts shape known in
-        subst (λ (n : ℕ). n < depth_of shape) (ap (λ (x : ℕ × ℕ). x.1) from.2) (facts.sector_within c.0 c.1 block (facts.named c.0 c.1 block is))
+cell_depth shape known block k cell at =
+    let facts = cell_facts shape known in
+    facts.sector_within cell.0 cell.1 block (on_holds shape known cell.0 cell.1 block (copy_is shape block k cell at).1)
 
 few_by : (count element : ℕ) (every two : Bool) → nat_le 2 count ≡ two → (every && two) ≡ false → length (if every then range_with_len 0 count else element ∷ []) ≤ 1
 few_by count element false two is alone = omega arith
@@ -190,7 +170,7 @@ module _ (v : Volume) (image : Image) (known : IsVolume v) (are : AreSectors ima
     without_own : is_mirrored v ≡ false → site_at part.places cell.0 cell.1 ≡ None → value v image block ≡ Some (sum_at image sites)
     without_own alone own_at =
         let spots_are = lone (block_spots v block) j spot (few_spots v block alone) spot_at in
-        let cells_are = lone (element_cells part.shape spot.block) k cell (few_cells part.shape spot.block (not_every part.shape.layout parity)) cell_at in
+        let cells_are = lone (element_cells part.shape spot.block) k cell (few_copies part.shape spot.block (parity_alone part.shape.layout parity)) cell_at in
         let no_copies : copies v block ≡ [] =
         ap (flat_map (at_spot v.parts element_copies)) spots_are ∙ ap (λ (l : List Site). l ++ []) (at_part v.parts element_copies spot part part_at)
         ∙ ap (λ (l : List (ℕ × ℕ)). filter_map (λ (c : ℕ × ℕ). site_at part.places c.0 c.1) l ++ []) cells_are

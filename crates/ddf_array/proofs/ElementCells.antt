@@ -1,15 +1,17 @@
 -- The sources of a block in one element.
 use Rattle.std.proofs.Common.{◌≡◌, ◌∙◌, ℕ, List, [], ◌∷◌, ◌++◌, true, false, Option, Some, None, refl, sym, ap, slice_get, length}
-use Rattle.std.specs.Prelude.{map, filter_map, option_to_list, if◌then◌else◌}
+use Rattle.std.specs.Prelude.{map, filter_map, option_to_list}
 use Rattle.std.specs.List.{range_with_len, flat_map, cons_option}
-use Rattle.ddf_primary.specs.declared.layout.Layout.{Layout}
+use Rattle.ddf_primary.specs.Levels.{IsShape}
 use Rattle.ddf_primary.specs.Cells.{cells}
+use Rattle.ddf_primary.proofs.Copies.{copies_every, copies_one}
+use Rattle.ddf_primary.proofs.ShapeFacts.{cell_facts}
 use Rattle.ddf_array.specs.declared.part.Part.{Part}
 use Rattle.ddf_array.specs.declared.place.Place.{Place}
 use Rattle.ddf_array.specs.declared.site.Site.{Site}
 use Rattle.ddf_array.specs.Places.{site_at}
-use Rattle.ddf_array.specs.Levels.{is_on_every}
-use Rattle.ddf_array.specs.Cells.{cells_like, element_cells}
+use Rattle.ddf_array.specs.Levels.{is_on_every, keeps_copies}
+use Rattle.ddf_array.specs.Cells.{element_cells}
 use Rattle.ddf_array.specs.Sources.{Source, copy, element_copies}
 use Rattle.ddf_array.proofs.Ranges.{append-nil}
 
@@ -27,29 +29,22 @@ filter_map-copies places sector (p ∷ positions) = by_case (site_at places p se
     by_case None e = e
     by_case (Some site) e = ap (λ l. copy site ∷ l) e
 
-like_every : (layout : Layout) (members : ℕ) (cell : ℕ × ℕ) → is_on_every layout ≡ true → cells_like layout members cell ≡ map (λ position. (position, cell.1)) (range_with_len 0 members)
-like_every layout members cell is = ap (λ b. map (λ position. (position, cell.1)) (if b then range_with_len 0 members else cell.0 ∷ [])) is
-
-like_one : (layout : Layout) (members : ℕ) (cell : ℕ × ℕ) → is_on_every layout ≡ false → cells_like layout members cell ≡ (cell.0, cell.1) ∷ []
-like_one layout members cell is = ap (λ b. map (λ position. (position, cell.1)) (if b then range_with_len 0 members else cell.0 ∷ [])) is
-
 module _ (part : Part) (block member sector : ℕ) (at : slice_get (cells part.shape) block ≡ Some (member, sector)) where
-  cells_are : element_cells part.shape block ≡ cells_like part.shape.layout part.shape.members (member, sector)
-  cells_are = ap (λ (found : Option (ℕ × ℕ)). elim found [ None ↦ [] | Some cell ↦ cells_like part.shape.layout part.shape.members cell ]) at
-
   pub cells_every : is_on_every part.shape.layout ≡ true → element_cells part.shape block ≡ map (λ position. (position, sector)) (range_with_len 0 part.shape.members)
-  cells_every is = cells_are ∙ like_every part.shape.layout part.shape.members (member, sector) is
+  cells_every is = copies_every part.shape block member sector at is
 
-  pub cells_one : is_on_every part.shape.layout ≡ false → element_cells part.shape block ≡ (member, sector) ∷ []
-  cells_one is = cells_are ∙ like_one part.shape.layout part.shape.members (member, sector) is
+  pub cells_one : IsShape part.shape → keeps_copies part.shape.layout ≡ false → element_cells part.shape block ≡ (member, sector) ∷ []
+  cells_one known is =
+      let facts = cell_facts part.shape known in
+      copies_one part.shape block member sector at is (facts.member_within member sector block (facts.named member sector block at))
 
   pub copies_on_every : is_on_every part.shape.layout ≡ true → length part.places ≡ part.shape.members
       → map copy (element_copies part block) ≡ flat_map (copies_on part.places sector) (range_with_len 0 (length part.places))
   copies_on_every is long =
-      ap (λ l. map copy (filter_map (λ (cell : ℕ × ℕ). site_at part.places cell.0 cell.1) l)) (cells_are ∙ like_every part.shape.layout part.shape.members (member, sector) is)
+      ap (λ l. map copy (filter_map (λ (cell : ℕ × ℕ). site_at part.places cell.0 cell.1) l)) (cells_every is)
       ∙ filter_map-copies part.places sector (range_with_len 0 part.shape.members) ∙ ap (λ n. flat_map (copies_on part.places sector) (range_with_len 0 n)) (sym long)
 
-  pub copies_on_one : is_on_every part.shape.layout ≡ false → map copy (element_copies part block) ≡ copies_on part.places sector member
-  copies_on_one is =
-      ap (λ l. map copy (filter_map (λ (cell : ℕ × ℕ). site_at part.places cell.0 cell.1) l)) (cells_are ∙ like_one part.shape.layout part.shape.members (member, sector) is)
+  pub copies_on_one : IsShape part.shape → keeps_copies part.shape.layout ≡ false → map copy (element_copies part block) ≡ copies_on part.places sector member
+  copies_on_one known is =
+      ap (λ l. map copy (filter_map (λ (cell : ℕ × ℕ). site_at part.places cell.0 cell.1) l)) (cells_one known is)
       ∙ filter_map-copies part.places sector (member ∷ []) ∙ append-nil (copies_on part.places sector member)

@@ -4,12 +4,8 @@ use Rattle.std.specs.Prelude.{map, slice_index_or, if◌then◌else◌}
 use Rattle.std.specs.List.{range_with_len, flat_map}
 use Rattle.std.proofs.lemmas.Option.{slice_get_within}
 use Rattle.std.proofs.lemmas.List.{map-append}
-use Rattle.ddf_primary.specs.declared.layout.Layout.{Layout}
-use Rattle.ddf_primary.specs.declared.layout.Layout.TheVariants.{Raid0, Raid1, Parity, Jbod, Concatenation}
-use Rattle.ddf_primary.specs.Placement.{Placement}
-use Rattle.ddf_primary.specs.Levels.{IsShape}
-use Rattle.ddf_primary.specs.Cells.{cells, unit_of, rows_of, rows_by}
-use Rattle.ddf_primary.proofs.ShapeFacts.{rows_is, rows_le, rows_le_concatenated}
+use Rattle.ddf_primary.specs.Cells.{cells, unit_of, rows_of}
+use Rattle.ddf_primary.proofs.ShapeFacts.{rows_fit}
 use Rattle.ddf_secondary.specs.declared.element.ElementSize.{ElementSize}
 use Rattle.ddf_secondary.specs.declared.level.SecondaryLevel.{SecondaryLevel}
 use Rattle.ddf_secondary.specs.declared.level.SecondaryLevel.TheVariants.{Striped, Mirrored, Concatenated, Spanned}
@@ -24,15 +20,6 @@ use Rattle.ddf_array.specs.Sources.{at_spot, at_element}
 use Rattle.ddf_array.proofs.Ranges.{append-nil}
 
 -- ---- a block of an element lies below its capacity
-
-rows_fit_by : (shape : Placement) (layout : Layout) → shape.layout ≡ layout → IsShape shape → unit_of shape * rows_of shape ≤ length (cells shape)
-rows_fit_by shape Raid0 is known = subst (λ (n : ℕ). unit_of shape * n ≤ length (cells shape)) (rows_is shape (λ e. cc)) (rows_le shape known (λ e. cc))
-rows_fit_by shape Raid1 is known = subst (λ (n : ℕ). unit_of shape * n ≤ length (cells shape)) (rows_is shape (λ e. cc)) (rows_le shape known (λ e. cc))
-rows_fit_by shape (Parity parity) is known = subst (λ (n : ℕ). unit_of shape * n ≤ length (cells shape)) (rows_is shape (λ e. cc)) (rows_le shape known (λ e. cc))
-rows_fit_by shape Jbod is known = subst (λ (n : ℕ). unit_of shape * n ≤ length (cells shape)) (rows_is shape (λ e. cc)) (rows_le shape known (λ e. cc))
-rows_fit_by shape Concatenation is known =
-    let e : shape.members * shape.blocks / shape.strip ≡ rows_of shape = ap (λ (l : Layout). rows_by l shape.members shape.strip shape.blocks) (sym is) in
-    subst (λ (n : ℕ). unit_of shape * n ≤ length (cells shape)) e (rows_le_concatenated shape is)
 
 size_at : (parts : List Part) (element : ℕ) (part : Part) (default : ElementSize) → slice_get parts element ≡ Some part → slice_index_or (map size_of parts) element default ≡ size_of part
 size_at [] element part default at = absurd (cc)
@@ -53,7 +40,7 @@ module _ (v : Volume) (known : IsVolume v) where
       let facts = spot_facts v.tiers known.array_is in
       let spot : Spot = record { element = element; block = inner } in
       let size = size_is element part at in
-      let rows : unit_of part.shape * rows_of part.shape ≤ length (cells part.shape) = rows_fit_by part.shape part.shape.layout refl (known.are_parts element part at).shape_is in
+      let rows : unit_of part.shape * rows_of part.shape ≤ length (cells part.shape) = rows_fit part.shape (known.are_parts element part at).shape_is in
       let fits = subst (λ (s : ElementSize). s.unit * s.rows ≤ s.capacity) (sym size) rows in
       let carried = carried_le v.tiers element known.array_is (facts.element_within spot block holds) fits in
       let most : (spots_of.size_of v.tiers.sizes element).capacity ≡ length (cells part.shape) = ap (λ (s : ElementSize). s.capacity) size in

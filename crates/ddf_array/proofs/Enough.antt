@@ -10,12 +10,12 @@ use Rattle.ddf_array.specs.declared.part.Part.{Part}
 use Rattle.ddf_array.specs.declared.site.Site.{Site}
 use Rattle.ddf_array.specs.Places.{is_available, site, site_at, site_on}
 use Rattle.ddf_array.specs.Sources.{Source, copy, row, all_of, row_without, other_at, element_copies, element_rows, at_element, copies, rows, every_source}
-use Rattle.ddf_array.specs.Levels.{level_of, is_on_every, keeps_parity}
-use Rattle.ddf_primary.specs.declared.layout.Layout.{Layout}
-use Rattle.ddf_primary.specs.declared.parity.ParityLayout.{ParityLayout}
-use Rattle.ddf_primary.specs.declared.parity.ParityLayout.TheVariants.{Raid4First, Raid4Last, Raid5ZeroRestart, Raid5LastRestart, Raid5LastContinuation}
-use Rattle.ddf_primary.specs.declared.layout.Layout.TheVariants.{Raid0, Raid1, Parity, Jbod, Concatenation}
+use Rattle.ddf_array.specs.Levels.{keeps_copies, keeps_parity}
+use Rattle.ddf_primary.specs.declared.need.Need.{Need}
+use Rattle.ddf_primary.specs.declared.need.Need.TheVariants.{All, One, AllButOne}
 use Rattle.ddf_primary.specs.Cells.{cells}
+use Rattle.ddf_primary.specs.Needs.{need_by}
+use Rattle.ddf_primary.proofs.Needs.{needs_all, needs_all_but_one, needs_one, parity_alone}
 use Rattle.ddf_primary.proofs.ShapeFacts.{cell_facts}
 use Rattle.ddf_secondary.specs.declared.spot.Spot.{Spot}
 use Rattle.ddf_secondary.specs.Spots.{spots}
@@ -24,7 +24,7 @@ use Rattle.std.proofs.lemmas.Bool.{cases_lt}
 use Rattle.ddf_array.specs.Volume.{Volume, IsVolume, IsPart}
 use Rattle.ddf_array.proofs.Elements.{every_below, spot_below, along_every, along_one, at_found, parts_count}
 use Rattle.ddf_array.specs.Cells.{is_in_every, element_cells}
-use Rattle.ddf_config.specs.Within.{has_enough, lacks_one}
+use Rattle.ddf_config.specs.Within.{has_enough}
 use Rattle.ddf_array.specs.Within.{is_part_within, is_mirrored, is_within}
 use Rattle.ddf_array.proofs.ElementCells.{copies_on, cells_one, copies_on_one, copies_on_every}
 use Rattle.ddf_array.proofs.Bools.{and_first, and_second}
@@ -155,20 +155,6 @@ row_there places position sector all = ap is_some (row_is places position sector
 
 -- ---- elements and arrays
 
-parity_kept : (parity : ParityLayout) → keeps_parity (Parity parity) ≡ true
-parity_kept Raid4First = refl
-parity_kept Raid4Last = refl
-parity_kept Raid5ZeroRestart = refl
-parity_kept Raid5LastRestart = refl
-parity_kept Raid5LastContinuation = refl
-
-parity_needs : (parity : ParityLayout) (places : List Place) → has_enough (level_of (Parity parity)) is_available places ≡ lacks_one is_available places
-parity_needs Raid4First places = refl
-parity_needs Raid4Last places = refl
-parity_needs Raid5ZeroRestart places = refl
-parity_needs Raid5LastRestart places = refl
-parity_needs Raid5LastContinuation places = refl
-
 module _ (part : Part) (known : IsPart part) (block : ℕ) (below : block < length (cells part.shape)) where
   -- a cell of the block: that of the placing list
   pub record At : Type 0 where
@@ -195,28 +181,28 @@ module _ (part : Part) (known : IsPart part) (block : ℕ) (below : block < leng
   some_left some = omega (arith, length-append (map copy (element_copies part block)) (map row (element_rows part block)))
 
   -- by its own position
-  from_own : is_on_every part.shape.layout ≡ false → is_available (the_cell).place ≡ true → 0 < length element_sources
+  from_own : keeps_copies part.shape.layout ≡ false → is_available (the_cell).place ≡ true → 0 < length element_sources
   from_own is available =
       let at = the_cell in
-      some_left (rw (copies_on_one part block at.member at.sector at.is_at is) (copy_there part.places at.member at.sector at.place at.has_place available))
+      some_left (rw (copies_on_one part block at.member at.sector at.is_at known.shape_is is) (copy_there part.places at.member at.sector at.place at.has_place available))
 
   -- by the row's other positions
-  rows_one : keeps_parity part.shape.layout ≡ true → is_on_every part.shape.layout ≡ false → element_rows part block ≡ cons_option (row_without part.places (the_cell).member (the_cell).sector) []
+  rows_one : keeps_parity part.shape.layout ≡ true → keeps_copies part.shape.layout ≡ false → element_rows part block ≡ cons_option (row_without part.places (the_cell).member (the_cell).sector) []
   rows_one parity is =
       let at = the_cell in
       ap (λ b. if b then filter_map (λ (cell : ℕ × ℕ). row_without part.places cell.0 cell.1) (element_cells part.shape block) else []) parity
-      ∙ ap (filter_map (λ (cell : ℕ × ℕ). row_without part.places cell.0 cell.1)) (cells_one part block at.member at.sector at.is_at is)
+      ∙ ap (filter_map (λ (cell : ℕ × ℕ). row_without part.places cell.0 cell.1)) (cells_one part block at.member at.sector at.is_at known.shape_is is)
 
   row_some : (found : Option (List Site)) → is_some found ≡ true → 0 < length (map row (cons_option found []))
   row_some None e = absurd (cc)
   row_some (Some sites) e = omega arith
 
-  from_row : keeps_parity part.shape.layout ≡ true → is_on_every part.shape.layout ≡ false → is_some (row_without part.places (the_cell).member (the_cell).sector) ≡ true → 0 < length element_sources
+  from_row : keeps_parity part.shape.layout ≡ true → keeps_copies part.shape.layout ≡ false → is_some (row_without part.places (the_cell).member (the_cell).sector) ≡ true → 0 < length element_sources
   from_row parity is there =
       let some : 0 < length (map row (element_rows part block)) = rw (rows_one parity is) (row_some _ there) in
       omega (arith, length-append (map copy (element_copies part block)) (map row (element_rows part block)))
 
-  parity_by : (b : Bool) → is_available (the_cell).place ≡ b → keeps_parity part.shape.layout ≡ true → is_on_every part.shape.layout ≡ false
+  parity_by : (b : Bool) → is_available (the_cell).place ≡ b → keeps_parity part.shape.layout ≡ true → keeps_copies part.shape.layout ≡ false
       → count_by (λ place. not (is_available place)) part.places ≤ 1 → 0 < length element_sources
   parity_by true e parity is le = from_own is e
   parity_by false e parity is le =
@@ -233,20 +219,21 @@ module _ (part : Part) (known : IsPart part) (block : ℕ) (below : block < leng
       apart : (a b : ℕ) → (a == b) ≡ false → a ≢ b
       apart a b e same = let yes = eq-eqb a b same in true_not_false (sym yes ∙ e)
 
-  enough_by : (layout : Layout) → part.shape.layout ≡ layout → has_enough (level_of layout) is_available part.places ≡ true → 0 < length element_sources
-  enough_by Raid0 is e = let at = the_cell in from_own (ap is_on_every is) (all_pass is_available part.places e at.member at.place at.has_place)
-  enough_by Raid1 is e =
+  enough_by : (need : Need) → need_by part.shape.layout ≡ need → has_enough need is_available part.places ≡ true → 0 < length element_sources
+  enough_by All is e =
+      let at = the_cell in
+      from_own (needs_all part.shape.layout is).0 (all_pass is_available part.places e at.member at.place at.has_place)
+  enough_by One is e =
       let at = the_cell in
       let found = any_found is_available part.places e in
-      some_left (rw (copies_on_every part block at.member at.sector at.is_at (ap is_on_every is) known.has_places)
+      some_left (rw (copies_on_every part block at.member at.sector at.is_at (needs_one part.shape.layout is) known.has_places)
       (in_pieces (copies_on part.places at.sector) (length part.places) found.at (slice_get_within part.places found.at found.item found.is_at) (copy_there part.places found.at at.sector found.item found.is_at found.passes)))
-  enough_by (Parity parity) is e = parity_by (is_available (the_cell).place) refl (ap keeps_parity is ∙ parity_kept parity) (ap is_on_every is)
-      (leb-true (count_by (λ (place : Place). not (is_available place)) part.places) 1 (sym (parity_needs parity part.places) ∙ e))
-  enough_by Jbod is e = let at = the_cell in from_own (ap is_on_every is) (all_pass is_available part.places e at.member at.place at.has_place)
-  enough_by Concatenation is e = let at = the_cell in from_own (ap is_on_every is) (all_pass is_available part.places e at.member at.place at.has_place)
+  enough_by AllButOne is e =
+      let keeps = needs_all_but_one part.shape.layout is in
+      parity_by (is_available (the_cell).place) refl keeps (parity_alone part.shape.layout keeps) (leb-true (count_by (λ (place : Place). not (is_available place)) part.places) 1 e)
 
   pub element_enough : is_part_within part ≡ true → 0 < length element_sources
-  element_enough e = enough_by part.shape.layout refl e
+  element_enough e = enough_by (need_by part.shape.layout) refl e
 
 module _ (v : Volume) (known : IsVolume v) (block : ℕ) (below : block < length (spots v.tiers)) where
   pub record In : Type 0 where

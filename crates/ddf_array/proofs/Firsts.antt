@@ -2,15 +2,16 @@
 use Rattle.std.proofs.Common.{◌≡◌, ◌∙◌, ℕ, ◌+◌, ◌-◌, ◌<◌, List, [], ◌∷◌, ◌++◌, true, false, Option, Some, None, refl, sym, ap, map, length, slice_get}
 use Rattle.std.specs.Prelude.{option_to_list, is_some, filter_map}
 use Rattle.std.specs.List.{range_with_len, flat_map, cons_option}
+use Rattle.ddf_primary.specs.Levels.{IsShape}
 use Rattle.ddf_primary.specs.Cells.{cells}
 use Rattle.ddf_array.specs.declared.part.Part.{Part}
 use Rattle.ddf_array.specs.declared.place.Place.{Place}
 use Rattle.ddf_array.specs.declared.site.Site.{Site}
 use Rattle.ddf_array.specs.Places.{site_at}
-use Rattle.ddf_array.specs.Levels.{is_on_every}
+use Rattle.ddf_array.specs.Levels.{is_on_every, keeps_copies}
 use Rattle.ddf_array.specs.Sources.{element_copies}
 use Rattle.ddf_array.proofs.Ranges.{flat-more, flat-around}
-use Rattle.ddf_array.proofs.ElementCells.{cells_every}
+use Rattle.ddf_array.proofs.ElementCells.{cells_every, cells_one}
 
 pub none_more : {X : Type 0} (each : ℕ → List X) (k : ℕ) → flat_map each (range_with_len 0 k) ≡ [] → slice_get (each k) 0 ≡ None → flat_map each (range_with_len 0 (k + 1)) ≡ []
 none_more each k none here = flat-more each k ∙ ap (λ l. l ++ each k) none ∙ nothing (each k) here
@@ -57,3 +58,12 @@ module _ (part : Part) (block member sector : ℕ) (at : slice_get (cells part.s
       ap (filter_map (λ (cell : ℕ × ℕ). site_at part.places cell.0 cell.1)) (cells_every part block member sector at is)
       ∙ filter_map-flat part.places sector (range_with_len 0 part.shape.members)
       ∙ ap (λ n. flat_map (λ position. option_to_list (site_at part.places position sector)) (range_with_len 0 n)) (sym long)
+
+  pub element_copies_one : IsShape part.shape → keeps_copies part.shape.layout ≡ false → site_at part.places member sector ≡ slice_get (element_copies part block) 0
+  element_copies_one known is =
+      sym (only_first (site_at part.places member sector))
+      ∙ ap (λ l. slice_get (filter_map (λ (cell : ℕ × ℕ). site_at part.places cell.0 cell.1) l) 0) (sym (cells_one part block member sector at known is))
+    where
+      only_first : {X : Type 0} (o : Option X) → slice_get (cons_option o []) 0 ≡ o
+      only_first None = refl
+      only_first (Some x) = refl

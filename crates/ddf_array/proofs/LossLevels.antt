@@ -1,16 +1,18 @@
 -- An array that is within its level after a loss was so before.
 use Rattle.std.proofs.Common.{◌≡◌, ◌∙◌, ⊎_elim, ℕ, ◌+◌, ◌≤◌, Bool, true, false, not, List, [], ◌∷◌, Option, Some, None, refl, sym, ap, arith, length, ◌&&◌, ◌||◌}
-use Rattle.std.specs.Prelude.{nat_le, is_some, count_by, ◌==◌, if◌then◌else◌}
+use Rattle.std.specs.Prelude.{nat_le, is_some, count_by, if◌then◌else◌}
 use Rattle.std.specs.List.{list_any, list_all}
 use Rattle.std.proofs.lemmas.Bool.{leb-true, le-leb}
 use Rattle.std.proofs.lemmas.List.Sums.{sum_by-cons}
+use Rattle.ddf_primary.specs.declared.need.Need.{Need}
+use Rattle.ddf_primary.specs.declared.need.Need.TheVariants.{All, One, AllButOne}
 use Rattle.ddf_primary.specs.Placement.{Placement}
+use Rattle.ddf_primary.specs.Needs.{need_by}
 use Rattle.ddf_secondary.specs.Arrangement.{Arrangement}
-use Rattle.ddf_config.specs.Within.{has_parity, lacks_one, has_enough}
+use Rattle.ddf_config.specs.Within.{has_enough}
 use Rattle.ddf_array.specs.declared.place.Place.{Place}
 use Rattle.ddf_array.specs.declared.part.Part.{Part}
 use Rattle.ddf_array.specs.Places.{is_available}
-use Rattle.ddf_array.specs.Levels.{level_of}
 use Rattle.ddf_array.specs.Cells.{is_in_every}
 use Rattle.ddf_array.specs.Volume.{Volume}
 use Rattle.ddf_array.specs.Within.{is_part_within, is_mirrored, is_within}
@@ -74,22 +76,19 @@ fewer_away (before ∷ befores) (after ∷ afters) lost =
     let one : weight before ≤ weight after = one_away (is_available before) (is_available after) (available_keeps before after lost.0) in
     omega (arith, old, new, one, fewer_away befores afters lost.1)
 
-enough_by : (x y : Bool) (befores afters : List Place) → AreLostPlaces befores afters
-    → (if x then list_any is_available afters else (if y then lacks_one is_available afters else list_all is_available afters)) ≡ true
-    → (if x then list_any is_available befores else (if y then lacks_one is_available befores else list_all is_available befores)) ≡ true
-enough_by true y befores afters lost e = any_keeps befores afters lost e
-enough_by false true befores afters lost e =
+enough_by : (need : Need) (befores afters : List Place) → AreLostPlaces befores afters → has_enough need is_available afters ≡ true → has_enough need is_available befores ≡ true
+enough_by All befores afters lost e = all_keeps befores afters lost e
+enough_by One befores afters lost e = any_keeps befores afters lost e
+enough_by AllButOne befores afters lost e =
     let few = leb-true (away afters) 1 e in
     le-leb (away befores) 1 (omega (arith, few, fewer_away befores afters lost))
-enough_by false false befores afters lost e = all_keeps befores afters lost e
 
 -- ---- elements
 
 part_keeps : (before after : Part) → after.shape ≡ before.shape → AreLostPlaces before.places after.places → is_part_within after ≡ true → is_part_within before ≡ true
 part_keeps before after same lost e =
-    let level = level_of before.shape.layout in
-    enough_by (level == 0x01) (has_parity level) before.places after.places lost
-    (ap (λ (s : Placement). has_enough (level_of s.layout) is_available after.places) (sym same) ∙ e)
+    enough_by (need_by before.shape.layout) before.places after.places lost
+    (ap (λ (s : Placement). has_enough (need_by s.layout) is_available after.places) (sym same) ∙ e)
 
 any_part : (befores afters : List Part) → AreLostParts befores afters → list_any is_part_within afters ≡ true → list_any is_part_within befores ≡ true
 any_part [] [] lost e = e

@@ -8,10 +8,10 @@ use Rattle.ddf_bay.specs.Sectors.{Image}
 use Rattle.ddf_parity.specs.Xor.{xor, xor_all, zeros}
 use Rattle.ddf_parity.specs.XorLaws.{xor_all_first, xor_all_taken_out}
 use Rattle.ddf_primary.specs.declared.layout.Layout.{Layout}
-use Rattle.ddf_primary.specs.declared.layout.Layout.TheVariants.{Raid0, Raid1, Parity, Jbod, Concatenation}
 use Rattle.ddf_primary.specs.declared.parity.ParityLayout.{ParityLayout}
 use Rattle.ddf_primary.specs.declared.parity.ParityLayout.TheVariants.{Raid4First, Raid4Last, Raid5ZeroRestart, Raid5LastRestart, Raid5LastContinuation}
-use Rattle.ddf_primary.specs.Cells.{after_parity, before_parity, data_around, depth_of, parity_by, parity_member, parity_on}
+use Rattle.ddf_primary.specs.Cells.{after_parity, before_parity, data_around, depth_of, parity_by, parity_member}
+use Rattle.ddf_primary.proofs.Needs.{parity_keeps, parity_row}
 use Rattle.ddf_secondary.specs.declared.spot.Spot.{Spot}
 use Rattle.ddf_array.specs.declared.part.Part.{Part}
 use Rattle.ddf_array.specs.declared.site.Site.{Site}
@@ -118,24 +118,9 @@ module _ (cell : ℕ → List ℕ) (members position : ℕ) where
   -- the data cells of a row are those before and after its parity
   pub around_by : (layout : Layout) (number : ℕ) → parity_by layout members number ≡ Some position
       → xor_all (map cell (data_by layout members number)) ≡ xor_all (map cell (before_parity position) ++ map cell (after_parity members position))
-  around_by Raid0 number e = absurd (cc)
-  around_by Raid1 number e = absurd (cc)
-  around_by (Parity parity) number e =
-      let same : parity_on parity members number ≡ position = cc in
-      ap (λ p. xor_all (map cell (data_around parity members p))) same ∙ around parity
-  around_by Jbod number e = absurd (cc)
-  around_by Concatenation number e = absurd (cc)
-
-has_parity_by : (layout : Layout) (members number position : ℕ) → parity_by layout members number ≡ Some position → keeps_parity layout ≡ true
-has_parity_by Raid0 members number position e = absurd (cc)
-has_parity_by Raid1 members number position e = absurd (cc)
-has_parity_by (Parity Raid4First) members number position e = refl
-has_parity_by (Parity Raid4Last) members number position e = refl
-has_parity_by (Parity Raid5ZeroRestart) members number position e = refl
-has_parity_by (Parity Raid5LastRestart) members number position e = refl
-has_parity_by (Parity Raid5LastContinuation) members number position e = refl
-has_parity_by Jbod members number position e = absurd (cc)
-has_parity_by Concatenation members number position e = absurd (cc)
+  around_by layout number e =
+      let row = parity_row layout members number position e in
+      ap (λ l. xor_all (map cell l)) row.data_are ∙ around row.kind
 
 -- ---- the cells of a row
 
@@ -182,7 +167,7 @@ parity_is_sum v image element sector position part sites own known are is part_a
     let back = all_at own (map at behind) split.back (ap (λ (o : Option Site). all_of (o ∷ map at behind)) (sym own_at) ∙ split.back_is) in
     let row_is : sites ≡ split.front ++ own ∷ back.0 = split.all_are ∙ ap (λ l. split.front ++ l) back.2 in
     let zero_sum : sum_at image (split.front ++ own ∷ back.0) ≡ zeros =
-    ap (sum_at image) (sym row_is) ∙ is.sum_to_zero element sector part sites part_at (has_parity_by part.shape.layout members (sector / part.shape.strip) position on) below whole in
+    ap (sum_at image) (sym row_is) ∙ is.sum_to_zero element sector part sites part_at (parity_keeps part.shape.layout members (sector / part.shape.strip) position on) below whole in
     let cell_is : (other : ℕ) (one : Site) → at other ≡ Some one → cell other ≡ bytes_at image one = λ other one there. cell_value_is v image is element part part_at other sector one there in
     let count : n - position - 1 ≡ members - 1 - position = omega (arith, n_is) in
     let before_is : map cell front ≡ map (bytes_at image) split.front = held image at cell cell_is front split.front split.front_is in

@@ -1,5 +1,5 @@
 -- What a view tells of the array that it is of.
-use Rattle.std.proofs.Common.{◌≡◌, ◌∙◌, ℕ, ◌+◌, Bool, true, false, not, List, [], ◌∷◌, Option, Some, None, Result, Ok, Err, refl, sym, ap, subst, arith, map, filter_map, length, suc, ◌&&◌, ◌||◌}
+use Rattle.std.proofs.Common.{◌≡◌, ◌∙◌, ℕ, ◌+◌, Bool, true, false, not, List, [], ◌∷◌, Option, Some, None, Ok, Err, refl, sym, ap, subst, arith, map, filter_map, length, suc, ◌&&◌, ◌||◌}
 use Rattle.std.specs.Prelude.{nat_le, nat_lt, is_some, option_map, count_by, ◌==◌, if◌then◌else◌}
 use Rattle.std.specs.Result.{result_ok}
 use Rattle.std.specs.Map.{lookup}
@@ -7,13 +7,11 @@ use Rattle.std.specs.List.{cons_option, list_any, list_all, flat_map}
 use Rattle.std.proofs.lemmas.Bool.{ltb-false, le-leb, eqb-true, leb-true}
 use Rattle.std.proofs.lemmas.List.Folds.{list_any-append}
 use Rattle.std.proofs.lemmas.List.Sums.{sum_by-cons}
-use Rattle.ddf_primary.specs.declared.layout.Layout.{Layout}
-use Rattle.ddf_primary.specs.declared.layout.Layout.TheVariants.{Raid0, Raid1, Parity, Jbod, Concatenation}
-use Rattle.ddf_primary.specs.declared.parity.ParityLayout.TheVariants.{Raid4First, Raid4Last, Raid5ZeroRestart, Raid5LastRestart, Raid5LastContinuation}
-use Rattle.ddf_primary.specs.declared.fault.ShapeFault.{ShapeFault}
-use Rattle.ddf_primary.specs.declared.fault.ShapeFault.TheVariants.{Level, Qualifier}
+use Rattle.ddf_primary.specs.declared.need.Need.{Need}
+use Rattle.ddf_primary.specs.declared.need.Need.TheVariants.{All, One, AllButOne}
 use Rattle.ddf_primary.specs.Placement.{Placement}
-use Rattle.ddf_primary.specs.Levels.{served_layout, raid_1, raid_4, raid_5}
+use Rattle.ddf_primary.specs.Needs.{need_of}
+use Rattle.ddf_primary.proofs.Served.{IsAsCoded, served}
 use Rattle.ddf_secondary.specs.declared.element.ElementSize.{ElementSize}
 use Rattle.ddf_secondary.specs.declared.level.SecondaryLevel.{SecondaryLevel}
 use Rattle.ddf_secondary.specs.declared.level.SecondaryLevel.TheVariants.{Striped, Mirrored, Concatenated, Spanned}
@@ -31,10 +29,9 @@ use Rattle.ddf_config.specs.Seats.{slot_of, floor_of}
 use Rattle.ddf_config.specs.Shapes.{element_shape, has_shape, secondary_level, sizes, array_capacity}
 use Rattle.ddf_config.specs.Unusable.{passes_floor}
 use Rattle.ddf_config.specs.Within as config
-use Rattle.ddf_config.specs.Within.{has_parity, lacks_one, has_enough, has_redundancy}
+use Rattle.ddf_config.specs.Within.{has_enough, has_redundancy}
 use Rattle.ddf_array.specs.declared.part.Part.{Part}
 use Rattle.ddf_array.specs.Places.{is_available}
-use Rattle.ddf_array.specs.Levels.{level_of, is_on_every}
 use Rattle.ddf_array.specs.Cells.{is_in_every}
 use Rattle.ddf_array.specs.Volume.{Volume, capacity}
 use Rattle.ddf_array.specs.Within.{is_part_within, is_mirrored, is_within, keeps_more, is_redundant}
@@ -61,69 +58,19 @@ count_map p (x ∷ xs) =
     sum_by-cons (λ y. if not (p y) then 1 else 0) x xs ∙ ap (λ (n : ℕ). (if not (p x) then 1 else 0) + n) (count_map p xs)
     ∙ sym (sum_by-cons (λ b. if not b then 1 else 0) (p x) (map p xs))
 
--- a level asks only which positions are available
-pub enough_map : {X : Type 0} (level : ℕ) (p : X → Bool) (xs : List X) → has_enough level p xs ≡ has_enough level (λ b. b) (map p xs)
-enough_map level p xs =
-    ap (λ b. if level == 0x01 then b else (if has_parity level then lacks_one p xs else list_all p xs)) (any_map p xs)
-    ∙ ap (λ n. if level == 0x01 then list_any (λ b. b) (map p xs) else (if has_parity level then nat_le n 1 else list_all p xs)) (count_map p xs)
-    ∙ ap (λ b. if level == 0x01 then list_any (λ b. b) (map p xs) else (if has_parity level then lacks_one (λ b. b) (map p xs) else b)) (all_map p xs)
+-- what an element needs asks only which positions are available
+pub enough_map : {X : Type 0} (need : Need) (p : X → Bool) (xs : List X) → has_enough need p xs ≡ has_enough need (λ b. b) (map p xs)
+enough_map All p xs = all_map p xs
+enough_map One p xs = any_map p xs
+enough_map AllButOne p xs = ap (λ n. nat_le n 1) (count_map p xs)
 
 -- ---- the level of an element
 
-level_kept : (level qualifier : ℕ) (layout : Layout) → served_layout level qualifier ≡ Ok layout → level_of layout ≡ level
-level_kept level qualifier layout e = by_0 (level == 0x00) refl e
-  where
-    raid_1_is : (a : Bool) → ◌≡◌ {A = Result Layout ShapeFault} (if a then Ok Raid1 else Err (Qualifier qualifier)) (Ok layout) → level_of layout ≡ 0x01
-    raid_1_is true e = let same : Raid1 ≡ layout = cc in ap level_of (sym same)
-    raid_1_is false e = absurd (cc)
-
-    raid_4_is : (a b : Bool) → ◌≡◌ {A = Result Layout ShapeFault} (if a then Ok (Parity Raid4First) else (if b then Ok (Parity Raid4Last) else Err (Qualifier qualifier))) (Ok layout) → level_of layout ≡ 0x04
-    raid_4_is true b e = let same : Parity Raid4First ≡ layout = cc in ap level_of (sym same)
-    raid_4_is false true e = let same : Parity Raid4Last ≡ layout = cc in ap level_of (sym same)
-    raid_4_is false false e = absurd (cc)
-
-    raid_5_is : (a b d : Bool) → ◌≡◌ {A = Result Layout ShapeFault} (if a then Ok (Parity Raid5ZeroRestart) else (if b then Ok (Parity Raid5LastRestart) else (if d then Ok (Parity Raid5LastContinuation) else Err (Qualifier qualifier)))) (Ok layout) → level_of layout ≡ 0x05
-    raid_5_is true b d e = let same : Parity Raid5ZeroRestart ≡ layout = cc in ap level_of (sym same)
-    raid_5_is false true d e = let same : Parity Raid5LastRestart ≡ layout = cc in ap level_of (sym same)
-    raid_5_is false false true e = let same : Parity Raid5LastContinuation ≡ layout = cc in ap level_of (sym same)
-    raid_5_is false false false e = absurd (cc)
-
-    by_1F : (a : Bool) → (level == 0x1F) ≡ a → ◌≡◌ {A = Result Layout ShapeFault} (if a then Ok Concatenation else Err (Level level)) (Ok layout) → level_of layout ≡ level
-    by_1F true is e = let same : Concatenation ≡ layout = cc in ap level_of (sym same) ∙ sym (eqb-true level 0x1F is)
-    by_1F false is e = absurd (cc)
-
-    by_0F : (a : Bool) → (level == 0x0F) ≡ a → ◌≡◌ {A = Result Layout ShapeFault} (if a then Ok Jbod else (if level == 0x1F then Ok Concatenation else Err (Level level))) (Ok layout) → level_of layout ≡ level
-    by_0F true is e = let same : Jbod ≡ layout = cc in ap level_of (sym same) ∙ sym (eqb-true level 0x0F is)
-    by_0F false is e = by_1F (level == 0x1F) refl e
-
-    by_5 : (a : Bool) → (level == 0x05) ≡ a
-        → ◌≡◌ {A = Result Layout ShapeFault} (if a then raid_5 qualifier else (if level == 0x0F then Ok Jbod else (if level == 0x1F then Ok Concatenation else Err (Level level)))) (Ok layout) → level_of layout ≡ level
-    by_5 true is e = raid_5_is (qualifier == 0) (qualifier == 2) (qualifier == 3) e ∙ sym (eqb-true level 0x05 is)
-    by_5 false is e = by_0F (level == 0x0F) refl e
-
-    by_4 : (a : Bool) → (level == 0x04) ≡ a
-        → ◌≡◌ {A = Result Layout ShapeFault} (if a then raid_4 qualifier else (if level == 0x05 then raid_5 qualifier else (if level == 0x0F then Ok Jbod else (if level == 0x1F then Ok Concatenation else Err (Level level))))) (Ok layout)
-        → level_of layout ≡ level
-    by_4 true is e = raid_4_is (qualifier == 0) (qualifier == 1) e ∙ sym (eqb-true level 0x04 is)
-    by_4 false is e = by_5 (level == 0x05) refl e
-
-    by_1 : (a : Bool) → (level == 0x01) ≡ a
-        → ◌≡◌ {A = Result Layout ShapeFault} (if a then raid_1 qualifier else (if level == 0x04 then raid_4 qualifier else (if level == 0x05 then raid_5 qualifier else (if level == 0x0F then Ok Jbod else (if level == 0x1F then Ok Concatenation else Err (Level level)))))) (Ok layout)
-        → level_of layout ≡ level
-    by_1 true is e = raid_1_is (nat_le qualifier 1) e ∙ sym (eqb-true level 0x01 is)
-    by_1 false is e = by_4 (level == 0x04) refl e
-
-    by_0 : (a : Bool) → (level == 0x00) ≡ a
-        → ◌≡◌ {A = Result Layout ShapeFault} (if a then Ok Raid0 else (if level == 0x01 then raid_1 qualifier else (if level == 0x04 then raid_4 qualifier else (if level == 0x05 then raid_5 qualifier else (if level == 0x0F then Ok Jbod else (if level == 0x1F then Ok Concatenation else Err (Level level))))))) (Ok layout)
-        → level_of layout ≡ level
-    by_0 true is e = let same : Raid0 ≡ layout = cc in ap level_of (sym same) ∙ sym (eqb-true level 0x00 is)
-    by_0 false is e = by_1 (level == 0x01) refl e
-
--- the level of an element's shape
-shape_level : (elements : ℕ) (element : ElementValue) (shape : Placement) → element_shape elements element ≡ Some shape → level_of shape.layout ≡ element.level
-shape_level elements element shape e =
+-- the properties of an element's shape are those of its level
+pub shape_coded : (elements : ℕ) (element : ElementValue) (shape : Placement) → element_shape elements element ≡ Some shape → IsAsCoded element.level shape.layout
+shape_coded elements element shape e =
     let m = made elements element shape e in
-    ap (λ (s : Placement). level_of s.layout) m.shape_is ∙ level_kept element.level element.qualifier m.layout m.layout_is
+    subst (λ (s : Placement). IsAsCoded element.level s.layout) (sym m.shape_is) (served element.level element.qualifier m.layout m.layout_is)
 
 -- ---- positions
 
@@ -148,17 +95,6 @@ module _ (seats : List Seat) (blocks : ℕ) where
 
 -- ---- elements
 
-more_by : (layout : Layout) → (is_on_every layout || has_parity (level_of layout)) ≡ (level_of layout == 0x01 || has_parity (level_of layout) || level_of layout == 0x11)
-more_by Raid0 = refl
-more_by Raid1 = refl
-more_by (Parity Raid4First) = refl
-more_by (Parity Raid4Last) = refl
-more_by (Parity Raid5ZeroRestart) = refl
-more_by (Parity Raid5LastRestart) = refl
-more_by (Parity Raid5LastContinuation) = refl
-more_by Jbod = refl
-more_by Concatenation = refl
-
 module _ (seats : List Seat) (elements : ℕ) where
   -- an element of an array that can be used, and that of its view
   pub record Same (element : ElementValue) (part : Part) : Type 0 where
@@ -169,13 +105,14 @@ module _ (seats : List Seat) (elements : ℕ) where
       → Same element (record { shape = shape; places = map (place_of seats element.blocks) element.positions })
   same_part element shape made below =
       let places = map (place_of seats element.blocks) element.positions in
-      let level = shape_level elements element shape made in
+      let need = need_of element.level in
+      let coded = shape_coded elements element shape made in
       record {
         within =
-            ap (λ (n : ℕ). has_enough n is_available places) level ∙ enough_map element.level is_available places
-            ∙ ap (has_enough element.level (λ b. b)) (answers_are seats element.blocks element.positions below)
-            ∙ sym (enough_map element.level (is_seated seats) element.positions);
-        more = more_by shape.layout ∙ ap (λ (n : ℕ). n == 0x01 || has_parity n || n == 0x11) level;
+            ap (λ (n : Need). has_enough n is_available places) coded.need ∙ enough_map need is_available places
+            ∙ ap (has_enough need (λ b. b)) (answers_are seats element.blocks element.positions below)
+            ∙ sym (enough_map need (is_seated seats) element.positions);
+        more = coded.more;
       }
 
   -- and of all of them

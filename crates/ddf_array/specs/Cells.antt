@@ -1,27 +1,17 @@
 -- The cells of a block: the sectors of positions that hold it, by element and position (SNIA DDF 2.0).
 use Rattle.std.specs.Prelude.{ℕ, Bool, true, false, List, [], ◌∷◌, map, Some, None, slice_get, length, if◌then◌else◌}
 use Rattle.std.specs.List.{range_with_len}
-use Rattle.ddf_primary.specs.declared.layout.Layout.{Layout}
 use Rattle.ddf_primary.specs.Placement.{Placement}
-use Rattle.ddf_primary.specs.Cells.{cells}
+use Rattle.ddf_primary.specs.Copies.{copies_of}
 use Rattle.ddf_secondary.specs.declared.level.SecondaryLevel.{SecondaryLevel}
 use Rattle.ddf_secondary.specs.declared.level.SecondaryLevel.TheVariants.{Striped, Mirrored, Concatenated, Spanned}
 use Rattle.ddf_secondary.specs.declared.spot.Spot.{Spot}
 use Rattle.ddf_secondary.specs.Spots.{spots}
-use Rattle.ddf_array.specs.Levels.{is_on_every}
 use Rattle.ddf_array.specs.Volume.{Volume}
-
--- the positions that hold what this one holds at a sector: for RAID 1 every one
-abbrev pub positions_like : Layout → ℕ → ℕ → List ℕ
-positions_like layout members position = if is_on_every layout then range_with_len 0 members else position ∷ []
-
-abbrev pub cells_like : Layout → ℕ → ℕ × ℕ → List (ℕ × ℕ)
-cells_like layout members cell = map (λ position. (position, cell.1)) (positions_like layout members cell.0)
 
 -- the cells (position, sector) of a block of an element
 abbrev pub element_cells : Placement → ℕ → List (ℕ × ℕ)
-element_cells shape block =
-    elim (slice_get (cells shape) block) [ None ↦ [] | Some cell ↦ cells_like shape.layout shape.members cell ]
+element_cells shape block = copies_of shape block
 
 -- the secondary level that holds each block in every element
 abbrev pub is_in_every : SecondaryLevel → Bool

@@ -4,9 +4,7 @@ use Rattle.std.specs.List.{range_with_len, list_any}
 use Rattle.ddf_bay.specs.Sectors.{Image}
 use Rattle.ddf_parity.specs.Xor.{xor_all, zeros}
 use Rattle.ddf_primary.specs.Placement.{Placement}
-use Rattle.ddf_primary.specs.declared.layout.Layout.{Layout}
-use Rattle.ddf_primary.specs.declared.layout.Layout.TheVariants.{Raid0, Raid1, Parity, Jbod, Concatenation}
-use Rattle.ddf_primary.specs.Cells.{members_around}
+pub use Rattle.ddf_primary.specs.Cells.{data_by}
 use Rattle.ddf_secondary.specs.declared.spot.Spot.{Spot}
 use Rattle.ddf_array.specs.declared.part.Part.{Part}
 use Rattle.ddf_array.specs.Places.{site_at}
@@ -51,13 +49,6 @@ cell_value volume image element part sector position =
     ]
 
 -- the data cells of a row of a parity element
-abbrev pub data_by : Layout → ℕ → ℕ → List ℕ
-data_by Raid0 members number = []
-data_by Raid1 members number = []
-data_by (Parity parity) members number = members_around parity members number
-data_by Jbod members number = []
-data_by Concatenation members number = []
-
 abbrev pub data_positions : Placement → ℕ → List ℕ
 data_positions shape sector = data_by shape.layout shape.members (sector / shape.strip)
 

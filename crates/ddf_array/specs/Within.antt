@@ -4,13 +4,14 @@ use Rattle.std.specs.List.{list_any}
 use Rattle.ddf_config.specs.Within.{has_enough, has_enough_parts}
 use Rattle.ddf_array.specs.declared.part.Part.{Part}
 use Rattle.ddf_array.specs.Places.{is_available}
-use Rattle.ddf_array.specs.Levels.{level_of, is_on_every, keeps_parity}
+use Rattle.ddf_primary.specs.Needs.{need_by}
+use Rattle.ddf_array.specs.Levels.{keeps_copies, keeps_parity}
 use Rattle.ddf_array.specs.Volume.{Volume}
 use Rattle.ddf_array.specs.Cells.{is_in_every}
 
--- that an element has enough available positions for its level
+-- that an element has enough available positions for what it needs
 abbrev pub is_part_within : Part → Bool
-is_part_within part = has_enough (level_of part.shape.layout) is_available part.places
+is_part_within part = has_enough (need_by part.shape.layout) is_available part.places
 
 -- that the elements are copies of each other
 abbrev pub is_mirrored : Volume → Bool
@@ -22,7 +23,7 @@ is_within volume = has_enough_parts (is_mirrored volume) is_part_within volume.p
 
 -- the levels that keep data in more than one place: RAID 1, 4 and 5
 abbrev pub keeps_more : Part → Bool
-keeps_more part = is_on_every part.shape.layout || keeps_parity part.shape.layout
+keeps_more part = keeps_copies part.shape.layout || keeps_parity part.shape.layout
 
 -- that the array keeps what it holds in more than one place
 abbrev pub is_redundant : Volume → Bool

@@ -1,4 +1,5 @@
-//! The first available cell of a block.
+//! The first available cell of a block: the one copy that all reads begin with, so that two reads of copies that differ give the same bytes.
+//! docs/STOPS.md#the-blocks-of-arrays
 ghost use Rattle.std.specs.Prelude.{◌≡◌, ◌<◌, ℕ, length, slice_get, option_to_list};
 ghost use Rattle.std.specs.List.{flat_map, range_with_len};
 ghost use Rattle.ddf_primary.specs.Cells.{cells};
@@ -7,7 +8,6 @@ ghost use Rattle.ddf_array.specs.Sources.{element_copies, at_element, first_copy
 ghost use Rattle.ddf_array.specs.Volume.{IsPart, HasBlock, capacity};
 
 use crate::{Part, Site, View};
-use ddf_primary::Layout;
 
 /// The sector of the first position that is available.
 fn first_position(part: &Part, sector: u64) -> Option<Site>
@@ -31,10 +31,10 @@ fn first_in(part: &Part, block: u64) -> Option<Site>
     ensures { result ≡ slice_get (element_copies part.now block) 0 }
 {
     let cell = part.shape.place(block);
-    match part.shape.layout() {
-        Layout::Raid1 => first_position(part, cell.sector),
-        _ => part.site_at(usize::from(cell.member), cell.sector),
+    if part.shape.layout().is_on_every() {
+        return first_position(part, cell.sector);
     }
+    part.site_at(usize::from(cell.member), cell.sector)
 }
 
 fn first_at(view: &View, element: usize, block: u64) -> Option<Site>

@@ -1,34 +1,13 @@
-//! Which disks an array can do without.
+//! Which disks an array can do without. Taken for more than it is, an array would be changed or written of which blocks are gone.
+//! docs/GROUPS.md#arrays
 ghost use Rattle.std.specs.Prelude.{◌≡◌};
 ghost use Rattle.std.specs.List.{list_any, list_all};
-ghost use Rattle.ddf_config.specs.Within.{has_parity, lacks_one, has_enough};
+ghost use Rattle.ddf_config.specs.Within.{lacks_one, has_enough};
 ghost use Rattle.ddf_array.specs.Places.{is_available};
-ghost use Rattle.ddf_array.specs.Levels.{level_of};
 ghost use Rattle.ddf_array.specs.Within.{is_part_within, is_mirrored, is_within, is_redundant, keeps_more};
 
 use crate::{Part, Place, View};
-use ddf_primary::{Layout, ParityLayout};
-
-/// The code of the primary level.
-fn level_of(layout: Layout) -> u8
-    ensures { result ≡ level_of layout }
-{
-    match layout {
-        Layout::Raid0 => 0x00,
-        Layout::Raid1 => 0x01,
-        Layout::Parity(ParityLayout::Raid4First | ParityLayout::Raid4Last) => 0x04,
-        Layout::Parity(_) => 0x05,
-        Layout::Jbod => 0x0F,
-        Layout::Concatenation => 0x1F,
-    }
-}
-
-/// RAID 4 and 5.
-fn has_parity(level: u8) -> bool
-    ensures { result ≡ has_parity level }
-{
-    level == 0x04 || level == 0x05
-}
+use ddf_primary::Need;
 
 fn has_available(places: &[Place]) -> bool
     ensures { result ≡ list_any is_available places.now }
@@ -50,29 +29,28 @@ fn lacks_one(places: &[Place]) -> bool
     away <= 1
 }
 
-/// Whether enough places are available for the level.
-fn has_enough(level: u8, places: &[Place]) -> bool
-    ensures { result ≡ has_enough level is_available places.now }
+/// Whether enough places are available for what an element needs.
+fn has_enough(need: Need, places: &[Place]) -> bool
+    ensures { result ≡ has_enough need is_available places.now }
 {
-    if level == 0x01 {
-        has_available(places)
-    } else if has_parity(level) {
-        lacks_one(places)
-    } else {
-        all_available(places)
+    match need {
+        Need::All => all_available(places),
+        Need::One => has_available(places),
+        Need::AllButOne => lacks_one(places),
     }
 }
 
 fn is_part_within(part: &Part) -> bool
     ensures { result ≡ is_part_within part.now }
 {
-    has_enough(level_of(part.shape.layout()), part.places.items())
+    has_enough(part.shape.layout().need(), part.places.items())
 }
 
 fn keeps_more(part: &Part) -> bool
     ensures { result ≡ keeps_more part.now }
 {
-    matches!(part.shape.layout(), Layout::Raid1 | Layout::Parity(_))
+    let layout = part.shape.layout();
+    layout.keeps_copies() || layout.keeps_parity()
 }
 
 fn has_part_within(parts: &[Part]) -> bool

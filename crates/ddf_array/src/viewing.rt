@@ -1,4 +1,4 @@
-//! The view of an array over seats.
+//! The view of an array over seats, or why there is none: what its records say is judged before a block of it is placed. docs/PLACING.md#numbers
 ghost use Rattle.std.specs.Prelude.{◌≡◌, ◌++◌, ◌+◌, ◌<◌, ◌^◌, option_to_list, map, filter_map, length, All, OnOk, IfOk, IfSome, Some};
 ghost use Rattle.ddf_config.specs.Extents.{extents};
 ghost use Rattle.ddf_config.specs.Unusable.{unusable};
@@ -9,8 +9,8 @@ ghost use Rattle.ddf_array.specs.Viewing.{seat_slot, place_of, part_of, known_pa
 use crate::{Part, Place, View, ViewFault};
 use ddf_bytes::{Guid, NoMemory, Seq};
 use ddf_config::{
-    Array, Config, ElementPlan, Extent, Position, Refusal, Seat, array_tiers, element_shape,
-    extents, floor_of, slot_of, unusable,
+    Array, Config, ElementPlan, Extent, ExtentsByDisk, Position, Refusal, Seat, array_tiers,
+    element_shape, floor_of, slot_of, unusable,
 };
 use std::alloc::Global;
 
@@ -139,8 +139,8 @@ pub fn use_refusal(
 ) -> Result<Option<Refusal>, NoMemory>
     ensures { IfOk result (λ refusal. refusal ≡ unusable config.now.members seats.now (extents config.now.arrays) array.now) }
 {
-    let all = extents(alloc, &config.arrays)?;
-    let refusal = unusable(alloc, &config.members, seats, all.as_slice(), array)?;
+    let all = ExtentsByDisk::new(alloc, &config.arrays)?;
+    let refusal = unusable(alloc, &config.members, seats, &all, array)?;
     Ok(refusal)
 }
 

@@ -1,13 +1,10 @@
 -- The cells of blocks that lie along a strip.
 use Rattle.std.proofs.Common.{◌≡◌, ◌∙◌, ⊎_elim, ℕ, ◌+◌, ◌-◌, ◌<◌, ◌≤◌, Bool, true, false, List, Option, Some, None, refl, sym, ap, arith, length, slice_get}
-use Rattle.std.specs.Prelude.{◌==◌, ◌||◌, option_map, if◌then◌else◌}
-use Rattle.std.specs.Prelude.{get_or}
+use Rattle.std.specs.Prelude.{◌==◌, ◌||◌, option_and_then, option_map, if◌then◌else◌}
 use Rattle.std.proofs.lemmas.Bool.{cases_lt, eq-eqb}
 use Rattle.std.proofs.lemmas.Option.{slice_get-get_or}
-use Rattle.ddf_primary.specs.declared.layout.Layout.{Layout}
-use Rattle.ddf_primary.specs.declared.layout.Layout.TheVariants.{Raid0, Raid1, Parity, Jbod, Concatenation}
-use Rattle.ddf_primary.specs.Cells as cells_of
-use Rattle.ddf_primary.specs.Cells.{cells}
+use Rattle.ddf_primary.specs.Copies.{sector_on}
+use Rattle.ddf_primary.proofs.Copies.{holds_on, on_holds}
 use Rattle.ddf_secondary.specs.declared.element.ElementSize.{ElementSize}
 use Rattle.ddf_secondary.specs.declared.level.SecondaryLevel.{SecondaryLevel}
 use Rattle.ddf_secondary.specs.declared.level.SecondaryLevel.TheVariants.{Striped, Mirrored, Concatenated, Spanned}
@@ -17,13 +14,12 @@ use Rattle.ddf_secondary.specs.Spots.{spots}
 use Rattle.ddf_array.specs.declared.part.Part.{Part}
 use Rattle.ddf_array.specs.declared.site.Site.{Site}
 use Rattle.ddf_array.specs.Cells.{is_in_every}
-use Rattle.ddf_array.specs.Levels.{is_on_every}
 use Rattle.ddf_array.specs.Places.{site_at, site_on}
 use Rattle.ddf_array.specs.Rows.{block_at}
 use Rattle.ddf_array.specs.Volume.{Volume, IsVolume, capacity}
 use Rattle.ddf_read.specs.Along.{CellsLieAlong, LieAlong, further}
 use Rattle.ddf_read.proofs.SourcesAlong.{site_further}
-use Rattle.ddf_cells.specs.CellsOn.{cell_by, cell_of, cell_on}
+use Rattle.ddf_cells.specs.CellsOn.{cell_of, cell_on}
 use Rattle.ddf_cells.proofs.CopiesOn.{block_at_sits, sits_block_at}
 use Rattle.ddf_cells.proofs.OnCells.{Sits, spot_of}
 
@@ -45,15 +41,6 @@ later_spot Mirrored sizes items element inner block k next holds = (holds.0, nex
 later_spot Concatenated sizes items element inner block k next holds = next element holds
 later_spot Spanned sizes items element inner block k next holds = next element holds
 
-later_cell : (layout : Layout) (members : ℕ) (items : List (ℕ × ℕ)) (position sector inner k : ℕ)
-    → ((m s : ℕ) → slice_get items inner ≡ Some (m, s) → slice_get items (inner + k) ≡ Some (m, s + k))
-    → cells_of.HoldsBy layout members items position sector inner → cells_of.HoldsBy layout members items position (sector + k) (inner + k)
-later_cell Raid0 members items position sector inner k next holds = next position sector holds
-later_cell Raid1 members items position sector inner k next holds = (holds.0, next 0 sector holds.1)
-later_cell (Parity parity) members items position sector inner k next holds = next position sector holds
-later_cell Jbod members items position sector inner k next holds = next position sector holds
-later_cell Concatenation members items position sector inner k next holds = next position sector holds
-
 module _ (v : Volume) (known : IsVolume v) (block count : ℕ) (along : LieAlong v block count) where
   sits_along : (element position sector : ℕ) → Sits v element position sector block → (k : ℕ) → k < count → Sits v element position (sector + k) (block + k)
   sits_along element position sector sits k below =
@@ -67,8 +54,9 @@ module _ (v : Volume) (known : IsVolume v) (block count : ℕ) (along : LieAlong
             later_spot v.tiers.level v.tiers.sizes (spots v.tiers) element sits.inner block k
             (λ other at. along.spots_are k (spot_of other sits.inner) below at) sits.in_element;
         on_position =
-            later_cell sits.part.shape.layout sits.part.shape.members (cells sits.part.shape) position sector sits.inner k
-            (λ m s at. lie.cells_lie k m s below at) sits.on_position;
+            let shape = (known.are_parts element sits.part sits.is_part).shape_is in
+            on_holds sits.part.shape shape position (sector + k) (sits.inner + k)
+            (lie.cells_lie k position below ∙ ap (option_map (λ x. x + k)) (holds_on sits.part.shape shape position sector sits.inner sits.on_position));
       }
 
   -- neighbours of one strip hold neighbouring blocks
@@ -79,30 +67,23 @@ module _ (v : Volume) (known : IsVolume v) (block count : ℕ) (along : LieAlong
 module _ (v : Volume) (block count : ℕ) (along : LieAlong v block count) where
   -- ---- the cells of blocks on a position
 
-  by_like : (part : Part) (position sector k : ℕ) (like : Bool) → (if like then site_at part.places position (sector + k) else None) ≡ option_map (further k) (if like then site_at part.places position sector else None)
-  by_like part position sector k true = site_further part.places position sector k
-  by_like part position sector k false = refl
+  by_sector : (part : Part) (position k : ℕ) (found : Option ℕ)
+      → option_and_then (site_at part.places position) (option_map (λ x. x + k) found) ≡ option_map (further k) (option_and_then (site_at part.places position) found)
+  by_sector part position k None = refl
+  by_sector part position k (Some x) = site_further part.places position x k
 
-  cell_at : (items : List (ℕ × ℕ)) (n : ℕ) → n < length items → (cell : ℕ × ℕ) × (slice_get items n ≡ Some cell)
-  cell_at items n below = let at = slice_get-get_or items n (0, 0) below in (get_or items n (0, 0), at)
-
-  of_part : (found : Option Part) (position inner k : ℕ) → k < count → ((part : Part) → found ≡ Some part → (CellsLieAlong part.shape inner count) × (inner + count ≤ length (cells part.shape)))
+  of_part : (found : Option Part) (position inner k : ℕ) → k < count → ((part : Part) → found ≡ Some part → CellsLieAlong part.shape inner count)
       → cell_of found position (inner + k) ≡ option_map (further k) (cell_of found position inner)
   of_part None position inner k below lie = refl
   of_part (Some part) position inner k below lie =
-      let is = lie part refl in
-      let here = cell_at (cells part.shape) inner (omega (arith, below, is.1)) in
-      let next : slice_get (cells part.shape) (inner + k) ≡ Some (here.0.0, here.0.1 + k) = is.0 k here.0.0 here.0.1 below here.1 in
-      ap (cell_by part position) next
-      ∙ by_like part position here.0.1 k (is_on_every part.shape.layout || here.0.0 == position)
-      ∙ ap (λ (o : Option (ℕ × ℕ)). option_map (further k) (cell_by part position o)) (sym here.1)
+      ap (option_and_then (site_at part.places position)) (lie part refl k position below) ∙ by_sector part position k (sector_on part.shape position inner)
 
   of_spot : (element position k : ℕ) → k < count → (spot : Spot) → slice_get (spots v.tiers) block ≡ Some spot → (like : Bool) → (is_in_every v.tiers.level || (spot.element == element)) ≡ like
       → (if like then cell_of (slice_get v.parts element) position (spot.block + k) else None) ≡ option_map (further k) (if like then cell_of (slice_get v.parts element) position spot.block else None)
   of_spot element position k below spot at false like = refl
   of_spot element position k below spot at true like =
       of_part (slice_get v.parts element) position spot.block k below
-      (λ part is. let lie = along.cells_are element spot at like part is in (lie.cells_lie, lie.in_element))
+      (λ part is. (along.cells_are element spot at like part is).cells_lie)
 
   abbrev by_spot : (element position : ℕ) → Option Spot → Option Site
   by_spot element position found = elim found [

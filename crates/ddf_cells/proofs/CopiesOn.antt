@@ -1,15 +1,12 @@
 -- The available cells of a block are those on its positions.
 use Rattle.std.proofs.Common.{◌≡◌, ◌∙◌, ℕ, zero, suc, ◌+◌, ◌<◌, Bool, true, false, List, [], ◌∷◌, Option, Some, None, refl, sym, ap, subst, arith, map, length, slice_get, ◌||◌, ◌&&◌}
-use Rattle.std.specs.Prelude.{◌==◌, if◌then◌else◌}
+use Rattle.std.specs.Prelude.{◌==◌, option_and_then, if◌then◌else◌}
 use Rattle.std.specs.List.{range_with_len, list_any}
 use Rattle.std.proofs.lemmas.Bool.{eqb-true, eq-eqb}
 use Rattle.std.proofs.lemmas.Option.{slice_get_within}
-use Rattle.std.proofs.lemmas.List.FromFn.{length-range_with_len}
-use Rattle.ddf_primary.specs.declared.layout.Layout.{Layout}
-use Rattle.ddf_primary.specs.declared.layout.Layout.TheVariants.{Raid0, Raid1, Parity, Jbod, Concatenation}
 use Rattle.ddf_primary.specs.Levels.{IsShape}
 use Rattle.ddf_primary.specs.Cells as cells_of
-use Rattle.ddf_primary.specs.Cells.{cells}
+use Rattle.ddf_primary.proofs.Copies.{copy_at, copy_is, holds_on, on_holds}
 use Rattle.ddf_primary.proofs.ShapeFacts.{cell_facts}
 use Rattle.ddf_primary.proofs.Lists.{slice_get-range}
 use Rattle.ddf_secondary.specs.declared.level.SecondaryLevel.{SecondaryLevel}
@@ -21,17 +18,16 @@ use Rattle.ddf_secondary.proofs.SpotFacts.{spot_facts}
 use Rattle.ddf_array.specs.declared.part.Part.{Part}
 use Rattle.ddf_array.specs.declared.site.Site.{Site}
 use Rattle.ddf_array.specs.Places.{site_at}
-use Rattle.ddf_array.specs.Levels.{is_on_every}
 use Rattle.ddf_array.specs.Volume.{Volume, IsVolume, capacity}
-use Rattle.ddf_array.specs.Cells.{cells_like, element_cells, elements_like, is_in_every, positions_like, spots_like, block_spots}
+use Rattle.ddf_array.specs.Cells.{element_cells, elements_like, is_in_every, spots_like, block_spots}
 use Rattle.ddf_array.specs.Sources.{at_spot, copies, element_copies}
 use Rattle.ddf_array.specs.Rows.{block_at, holds}
 use Rattle.ddf_array.proofs.Bools.{and_first, and_second}
 use Rattle.ddf_array.proofs.Consistent.{at_part, position_within, to_filter, to_flat}
 use Rattle.ddf_array.proofs.Elements.{parts_count}
-use Rattle.ddf_cells.specs.CellsOn.{cell_by, cell_in, cell_of, cell_on}
+use Rattle.ddf_cells.specs.CellsOn.{cell_in, cell_of, cell_on}
 use Rattle.ddf_cells.proofs.Items.{in_flat, in_map, in_filter, passing, any_at, found_passes, finds}
-use Rattle.ddf_cells.proofs.OnCells.{Sits, OnCell, on_cell, spot_of, in_every_holds, on_every_holds, one_block}
+use Rattle.ddf_cells.proofs.OnCells.{Sits, OnCell, on_cell, spot_of, in_every_holds, one_block}
 
 -- ---- the places that are alike
 
@@ -47,20 +43,6 @@ range_at n k below = let same : 0 + k ≡ k = omega arith in slice_get-range 0 n
 at_like : (every : Bool) (count one other : ℕ) → (every || (one == other)) ≡ true → other < count → (k : ℕ) × (slice_get (if every then range_with_len 0 count else one ∷ []) k ≡ Some other)
 at_like true count one other is below = (other, range_at count other below)
 at_like false count one other is below = (0, ap Some (eqb-true one other is))
-
-range_below : (n k other : ℕ) → slice_get (range_with_len 0 n) k ≡ Some other → other < n
-range_below n k other at =
-    let below : k < n = omega (arith, slice_get_within (range_with_len 0 n) k other at, length-range_with_len 0 n) in
-    let same : k ≡ other = some_is (sym (range_at n k below) ∙ at) in
-    omega (arith, below, same)
-  where
-    some_is : {X : Type 0} {a b : X} → Some a ≡ Some b → a ≡ b
-    some_is e = cc
-
-like_below : (every : Bool) (count one k other : ℕ) → one < count → slice_get (if every then range_with_len 0 count else one ∷ []) k ≡ Some other → other < count
-like_below true count one k other below at = range_below count k other at
-like_below false count one zero other below at = let same : one ≡ other = cc in subst (λ n. n < count) same below
-like_below false count one (suc k) other below at = absurd (cc)
 
 -- an item of a list found by a key
 some_of : {X Y : Type 0} (f : X → List Y) (found : Option X) (k : ℕ) (y : Y) → slice_get (elim found [ None ↦ [] | Some x ↦ f x ]) k ≡ Some y → (x : X) × (found ≡ Some x) × (slice_get (f x) k ≡ Some y)
@@ -128,58 +110,13 @@ module _ (v : Volume) (known : IsVolume v) (block : ℕ) where
 -- ---- cells of a block of an element
 
 module _ (part : Part) (inner : ℕ) where
-  pub record InCell (cell : ℕ × ℕ) : Type 0 where
-    pub first : ℕ × ℕ
-    pub is_first : slice_get (cells part.shape) inner ≡ Some first
-    pub same_sector : cell.1 ≡ first.1
-    pub is_like : (is_on_every part.shape.layout || (first.0 == cell.0)) ≡ true
-
-  pub in_cells : (k : ℕ) (cell : ℕ × ℕ) → slice_get (element_cells part.shape inner) k ≡ Some cell → InCell cell
-  in_cells k cell at =
-      let from = some_of (cells_like part.shape.layout part.shape.members) (slice_get (cells part.shape) inner) k cell at in
-      let like = in_map (λ (position : ℕ). (position, from.0.1)) (positions_like part.shape.layout part.shape.members from.0.0) k cell from.2 in
-      let position_is : like.0 ≡ cell.0 = ap (λ (c : ℕ × ℕ). c.0) like.2 in
-      record {
-        first = from.0;
-        is_first = from.1;
-        same_sector = sym (ap (λ (c : ℕ × ℕ). c.1) like.2);
-        is_like =
-            subst (λ p. (is_on_every part.shape.layout || (from.0.0 == p)) ≡ true) position_is
-            (like_position (is_on_every part.shape.layout) part.shape.members from.0.0 k like.0 like.1);
-      }
-
   pub cell_within : IsShape part.shape → (k : ℕ) (cell : ℕ × ℕ) → slice_get (element_cells part.shape inner) k ≡ Some cell → cell.0 < part.shape.members
-  cell_within shape k cell at =
-      let from = some_of (cells_like part.shape.layout part.shape.members) (slice_get (cells part.shape) inner) k cell at in
-      let like = in_map (λ (position : ℕ). (position, from.0.1)) (positions_like part.shape.layout part.shape.members from.0.0) k cell from.2 in
-      let position_is : like.0 ≡ cell.0 = ap (λ (c : ℕ × ℕ). c.0) like.2 in
-      let facts = cell_facts part.shape shape in
-      let own = facts.member_within from.0.0 from.0.1 inner (facts.named from.0.0 from.0.1 inner from.1) in
-      subst (λ n. n < part.shape.members) position_is (like_below (is_on_every part.shape.layout) part.shape.members from.0.0 k like.0 own like.1)
+  cell_within shape k cell at = (copy_is part.shape inner k cell at).0
 
   -- a member that holds a block is one of its cells
-  first_cell : (layout : Layout) (position sector : ℕ) → cells_of.HoldsBy layout part.shape.members (cells part.shape) position sector inner
-      → (first : ℕ × ℕ) × (slice_get (cells part.shape) inner ≡ Some first) × (first.1 ≡ sector) × ((is_on_every layout || (first.0 == position)) ≡ true)
-  first_cell Raid0 position sector holds = ((position, sector), holds, refl, eq-eqb position position refl)
-  first_cell Raid1 position sector holds = ((0, sector), holds.1, refl, refl)
-  first_cell (Parity parity) position sector holds = ((position, sector), holds, refl, eq-eqb position position refl)
-  first_cell Jbod position sector holds = ((position, sector), holds, refl, eq-eqb position position refl)
-  first_cell Concatenation position sector holds = ((position, sector), holds, refl, eq-eqb position position refl)
-
-  pub at_cells : (position sector : ℕ) → cells_of.Holds part.shape position sector inner → position < part.shape.members → (k : ℕ) × (slice_get (element_cells part.shape inner) k ≡ Some (position, sector))
-  at_cells position sector holds below =
-      let first = first_cell part.shape.layout position sector holds in
-      let like = at_like (is_on_every part.shape.layout) part.shape.members first.0.0 position first.3 below in
-      let here : slice_get (cells_like part.shape.layout part.shape.members first.0) like.0 ≡ Some (position, first.0.1) = map_at (λ (p : ℕ). (p, first.0.1)) (positions_like part.shape.layout part.shape.members first.0.0) like.0 position like.1 in (
-        like.0,
-        ap (λ (found : Option (ℕ × ℕ)). slice_get (elim found [ None ↦ [] | Some cell ↦ cells_like part.shape.layout part.shape.members cell ]) like.0) first.1
-            ∙ here ∙ ap (λ (x : ℕ). Some (position, x)) first.2,
-      )
-    where
-      map_at : {X Y : Type 0} (f : X → Y) (xs : List X) (k : ℕ) (x : X) → slice_get xs k ≡ Some x → slice_get (map f xs) k ≡ Some (f x)
-      map_at f [] k x e = absurd (cc)
-      map_at f (y ∷ xs) zero x e = let same : y ≡ x = cc in ap (λ z. Some (f z)) same
-      map_at f (y ∷ xs) (suc k) x e = map_at f xs k x e
+  pub at_cells : IsShape part.shape → (position sector : ℕ) → cells_of.Holds part.shape position sector inner → (k : ℕ) × (slice_get (element_cells part.shape inner) k ≡ Some (position, sector))
+  at_cells shape position sector holds =
+      copy_at part.shape inner position sector ((cell_facts part.shape shape).member_within position sector inner holds) (holds_on part.shape shape position sector inner holds)
 
 -- ---- an available cell is on a position, and the other way round
 
@@ -197,12 +134,9 @@ module _ (v : Volume) (known : IsVolume v) (block : ℕ) where
   found_at spot j k one None is at e = absurd (cc)
   found_at spot j k one (Some part) is at e =
       let from = in_filter (λ (cell : ℕ × ℕ). site_at part.places cell.0 cell.1) (element_cells part.shape spot.block) j one e in
-      let cell = in_cells part spot.block from.at from.item from.is_at in
+      let cell = copy_is part.shape spot.block from.at from.item from.is_at in
       let in_spot = in_spots v known block k spot at in
-      let inside : cell_in part from.item.0 spot.block ≡ Some one =
-      ap (cell_by part from.item.0) cell.is_first
-      ∙ ap (λ b. if b then site_at part.places from.item.0 cell.first.1 else None) cell.is_like
-      ∙ ap (site_at part.places from.item.0) (sym cell.same_sector) ∙ from.gives in
+      let inside : cell_in part from.item.0 spot.block ≡ Some one = ap (option_and_then (site_at part.places from.item.0)) cell.1 ∙ from.gives in
       let here : cell_of (slice_get v.parts spot.element) from.item.0 in_spot.first.block ≡ Some one =
       ap (λ p. cell_of p from.item.0 in_spot.first.block) is ∙ ap (cell_in part from.item.0) (sym in_spot.same_block) ∙ inside in
       record {
@@ -229,8 +163,7 @@ module _ (v : Volume) (known : IsVolume v) (block : ℕ) where
       let part = cell.sits.part in
       let inner = cell.sits.inner in
       let spot = at_spots v known block element inner cell.sits.in_element (slice_get_within v.parts element part cell.sits.is_part) in
-      let below : position < part.shape.members = (cell_facts part.shape (known.are_parts element part cell.sits.is_part).shape_is).member_within position cell.sector inner cell.sits.on_position in
-      let here = at_cells part inner position cell.sector cell.sits.on_position below in
+      let here = at_cells part inner (known.are_parts element part cell.sits.is_part).shape_is position cell.sector cell.sits.on_position in
       let inside = to_filter (λ (c : ℕ × ℕ). site_at part.places c.0 c.1) (element_cells part.shape inner) here.0 (position, cell.sector) one here.1 cell.is_there in
       to_flat (at_spot v.parts element_copies) (block_spots v block) spot.0 inside.0 (spot_of element inner) one spot.1
       (ap (λ (l : List Site). slice_get l inside.0) (at_part v.parts element_copies (spot_of element inner) part cell.sits.is_part) ∙ inside.1)
@@ -255,15 +188,6 @@ module _ (v : Volume) (known : IsVolume v) (element position sector : ℕ) where
   and_both true b e f = f
   and_both false b e f = e
 
-  cell_holds_by : (part : Part) (inner : ℕ) (first : ℕ × ℕ) (every : Bool) (p x : ℕ) → slice_get v.parts element ≡ Some part → is_on_every part.shape.layout ≡ every
-      → (every || (first.0 == p)) ≡ true → slice_get (cells part.shape) inner ≡ Some first → x ≡ first.1 → p < part.shape.members → cells_of.Holds part.shape p x inner
-  cell_holds_by part inner first true p x is every like at same below =
-      let holds = (cell_facts part.shape (known.are_parts element part is).shape_is).named first.0 first.1 inner at in
-      subst (λ n. cells_of.Holds part.shape p n inner) (sym same) (on_every_holds part.shape part.shape.layout p first.0 first.1 inner refl every holds below)
-  cell_holds_by part inner first false p x is every like at same below =
-      let holds = (cell_facts part.shape (known.are_parts element part is).shape_is).named first.0 first.1 inner at in
-      subst (λ n. cells_of.Holds part.shape p n inner) (sym same) (subst (λ m. cells_of.Holds part.shape m first.1 inner) (eqb-true first.0 p like) holds)
-
   sits_by : (block : ℕ) (spot : Spot) (k : ℕ) (found : Option Part) → slice_get v.parts element ≡ found → slice_get (block_spots v block) k ≡ Some spot → spot.element ≡ element
       → in_part spot found ≡ true → Sits v element position sector block
   sits_by block spot k None is at here inside = absurd (cc)
@@ -271,16 +195,14 @@ module _ (v : Volume) (known : IsVolume v) (element position sector : ℕ) where
       let cell = passing (λ (cell : ℕ × ℕ). cell.0 == position && cell.1 == sector) (element_cells part.shape spot.block) inside in
       let p_is : cell.item.0 ≡ position = eqb-true cell.item.0 position (and_first (cell.item.0 == position) (cell.item.1 == sector) cell.passes) in
       let x_is : cell.item.1 ≡ sector = eqb-true cell.item.1 sector (and_second (cell.item.0 == position) (cell.item.1 == sector) cell.passes) in
-      let first = in_cells part spot.block cell.at cell.item cell.is_at in
-      let members : position < part.shape.members = subst (λ n. n < part.shape.members) p_is (cell_within part spot.block (known.are_parts element part is).shape_is cell.at cell.item cell.is_at) in
-      let like : (is_on_every part.shape.layout || (first.first.0 == position)) ≡ true = subst (λ p. (is_on_every part.shape.layout || (first.first.0 == p)) ≡ true) p_is first.is_like in
+      let own = on_holds part.shape (known.are_parts element part is).shape_is cell.item.0 cell.item.1 spot.block (copy_is part.shape spot.block cell.at cell.item cell.is_at).1 in
       let holds = spot_holds v known block spot (in_spots v known block k spot at) (omega (arith, here, slice_get_within v.parts element part is)) in
       record {
         part = part;
         is_part = is;
         inner = spot.block;
         in_element = subst (λ e. spots_of.Holds v.tiers (spot_of e spot.block) block) here holds;
-        on_position = cell_holds_by part spot.block first.first (is_on_every part.shape.layout) position sector is refl like first.is_first (sym x_is ∙ first.same_sector) members;
+        on_position = subst (λ x. cells_of.Holds part.shape position x spot.block) x_is (subst (λ p. cells_of.Holds part.shape p cell.item.1 spot.block) p_is own);
       }
 
   pub holds_sits : (block : ℕ) → holds v element position sector block ≡ true → Sits v element position sector block
@@ -294,8 +216,7 @@ module _ (v : Volume) (known : IsVolume v) (element position sector : ℕ) where
       let part = sits.part in
       let inner = sits.inner in
       let spot = at_spots v known block element inner sits.in_element (slice_get_within v.parts element part sits.is_part) in
-      let below : position < part.shape.members = (cell_facts part.shape (known.are_parts element part sits.is_part).shape_is).member_within position sector inner sits.on_position in
-      let here = at_cells part inner position sector sits.on_position below in
+      let here = at_cells part inner (known.are_parts element part sits.is_part).shape_is position sector sits.on_position in
       let inside : list_any (λ (cell : ℕ × ℕ). cell.0 == position && cell.1 == sector) (element_cells part.shape inner) ≡ true =
       any_at (λ (cell : ℕ × ℕ). cell.0 == position && cell.1 == sector) (element_cells part.shape inner) here.0 (position, sector) here.1
       (and_both (position == position) (sector == sector) (eq-eqb position position refl) (eq-eqb sector sector refl)) in

@@ -4,15 +4,10 @@ use Rattle.std.specs.Prelude.{◌==◌, option_map, option_to_list, unwrap_or, i
 use Rattle.std.specs.List.{flat_map, range_with_len}
 use Rattle.std.specs.Simd.Lanes.{fold_l}
 use Rattle.std.proofs.lemmas.Bool.{eqb-true, eq-eqb}
-use Rattle.std.proofs.lemmas.List.{map-append}
 use Rattle.ddf_bay.specs.Sectors.{Image}
 use Rattle.ddf_parity.specs.Xor.{xor, xor_all, zeros}
-use Rattle.ddf_parity.specs.XorLaws.{xor_all_first, xor_all_taken_out}
-use Rattle.ddf_primary.specs.declared.layout.Layout.{Layout}
-use Rattle.ddf_primary.specs.declared.layout.Layout.TheVariants.{Raid0, Raid1, Parity, Jbod, Concatenation}
-use Rattle.ddf_primary.specs.declared.parity.ParityLayout.{ParityLayout}
-use Rattle.ddf_primary.specs.declared.parity.ParityLayout.TheVariants.{Raid4First, Raid4Last, Raid5ZeroRestart, Raid5LastRestart, Raid5LastContinuation}
-use Rattle.ddf_primary.specs.Cells.{after_parity, before_parity, data_around, parity_by, parity_member, parity_on}
+use Rattle.ddf_primary.specs.Cells.{after_parity, before_parity, parity_member}
+use Rattle.ddf_array.proofs.RowParity.{around_by}
 use Rattle.ddf_array.specs.declared.part.Part.{Part}
 use Rattle.ddf_array.specs.declared.site.Site.{Site}
 use Rattle.ddf_array.specs.Places.{site_at}
@@ -20,7 +15,7 @@ use Rattle.ddf_array.specs.Levels.{keeps_parity}
 use Rattle.ddf_array.specs.Volume.{Volume, IsVolume}
 use Rattle.ddf_array.specs.Sources.{Source, copy, row, copies, rows, row_without}
 use Rattle.ddf_array.specs.Values.{bytes_at, given, value}
-use Rattle.ddf_array.specs.Rows.{block_at, cell_value, data_by, row_sum, sources_without_block, value_without_block}
+use Rattle.ddf_array.specs.Rows.{block_at, cell_value, row_sum, sources_without_block, value_without_block}
 use Rattle.ddf_array.proofs.Ranges.{append-nil, flat-around, flat-more}
 use Rattle.ddf_array.specs.Apart.{IsApart}
 use Rattle.ddf_cells.proofs.CopiesOn.{block_at_sits, in_copies}
@@ -148,41 +143,6 @@ module _ (cell : ℕ → List ℕ) (parity : ℕ) where
       ap xor_all
       (flat-around each n parity below ∙ ap (λ l. l ++ (each parity ++ flat_map each behind)) first ∙ ap (λ l. map cell front ++ (l ++ flat_map each behind)) here ∙ ap (λ l. map cell front ++ l) last)
       ∙ ap (λ m. xor_all (map cell front ++ map cell (range_with_len (parity + 1) m))) count
-
-sum_turned : (xs ys : List (List ℕ)) → xor_all (xs ++ ys) ≡ xor_all (ys ++ xs)
-sum_turned [] ys = ap xor_all (sym (append-nil ys))
-sum_turned (x ∷ xs) ys = xor_all_first x (xs ++ ys) ∙ ap (xor x) (sum_turned xs ys) ∙ sym (xor_all_taken_out ys x xs)
-
-module _ (cell : ℕ → List ℕ) (members position : ℕ) where
-  around : (parity : ParityLayout) → xor_all (map cell (data_around parity members position)) ≡ xor_all (map cell (before_parity position) ++ map cell (after_parity members position))
-  around Raid4First = ap xor_all (map-append cell (before_parity position) (after_parity members position))
-  around Raid4Last = ap xor_all (map-append cell (before_parity position) (after_parity members position))
-  around Raid5ZeroRestart = ap xor_all (map-append cell (before_parity position) (after_parity members position))
-  around Raid5LastRestart = ap xor_all (map-append cell (before_parity position) (after_parity members position))
-  around Raid5LastContinuation =
-      ap xor_all (map-append cell (after_parity members position) (before_parity position))
-      ∙ sum_turned (map cell (after_parity members position)) (map cell (before_parity position))
-
-  around_by : (layout : Layout) (number : ℕ) → parity_by layout members number ≡ Some position
-      → xor_all (map cell (data_by layout members number)) ≡ xor_all (map cell (before_parity position) ++ map cell (after_parity members position))
-  around_by Raid0 number e = absurd (cc)
-  around_by Raid1 number e = absurd (cc)
-  around_by (Parity parity) number e =
-      let same : parity_on parity members number ≡ position = cc in
-      ap (λ p. xor_all (map cell (data_around parity members p))) same ∙ around parity
-  around_by Jbod number e = absurd (cc)
-  around_by Concatenation number e = absurd (cc)
-
-pub keeps : (layout : Layout) (members number position : ℕ) → parity_by layout members number ≡ Some position → keeps_parity layout ≡ true
-keeps Raid0 members number position e = absurd (cc)
-keeps Raid1 members number position e = absurd (cc)
-keeps (Parity Raid4First) members number position e = refl
-keeps (Parity Raid4Last) members number position e = refl
-keeps (Parity Raid5ZeroRestart) members number position e = refl
-keeps (Parity Raid5LastRestart) members number position e = refl
-keeps (Parity Raid5LastContinuation) members number position e = refl
-keeps Jbod members number position e = absurd (cc)
-keeps Concatenation members number position e = absurd (cc)
 
 -- ---- the sum of a row
 

@@ -7,13 +7,11 @@ use Rattle.std.proofs.lemmas.List.{map-append}
 use Rattle.ddf_bay.specs.Sectors.{Image}
 use Rattle.ddf_bay.specs.State.{BayState}
 use Rattle.ddf_parity.specs.Xor.{xor, xor_all}
-use Rattle.ddf_primary.specs.declared.layout.Layout.{Layout}
-use Rattle.ddf_primary.specs.declared.layout.Layout.TheVariants.{Raid0, Raid1, Parity, Jbod, Concatenation}
 use Rattle.ddf_primary.specs.Placement.{Placement}
 use Rattle.ddf_primary.specs.Levels.{IsShape}
-use Rattle.ddf_primary.specs.Cells.{parity_by, parity_member, parity_on}
-use Rattle.ddf_primary.proofs.Around.{around as placed_around, parity_on_within}
-use Rattle.ddf_primary.proofs.ShapeFacts.{parity_members}
+use Rattle.ddf_primary.specs.Cells.{parity_by, parity_member}
+use Rattle.ddf_primary.proofs.Around.{around as placed_around}
+use Rattle.ddf_primary.proofs.Needs.{parity_row}
 use Rattle.ddf_array.specs.declared.part.Part.{Part}
 use Rattle.ddf_array.specs.declared.site.Site.{Site}
 use Rattle.ddf_array.specs.Levels.{keeps_parity}
@@ -33,7 +31,7 @@ use Rattle.ddf_cells.specs.Without.{IsGivenWithout, own_sources}
 use Rattle.ddf_cells.proofs.Alike.{IsOfCells, cell_site, given_same, of_copy, of_row, row_cells, source_is_cells}
 use Rattle.ddf_cells.proofs.Lists.{in_both, some_not_none}
 use Rattle.ddf_cells.proofs.Piecewise.{piece_more}
-use Rattle.ddf_cells.proofs.SumSteps.{sum_more, sum_of_all}
+use Rattle.ddf_cells.proofs.SumSteps.{parity_within, sum_more, sum_of_all}
 use Rattle.ddf_cells.proofs.Surely.{in_every}
 use Rattle.ddf_cells.proofs.WithoutSteps.{given_wider}
 
@@ -225,17 +223,12 @@ module _ {D : Type 0} {a b c : BayState D} (so_far : OnlyReads a b) (next : Only
       }
 
 -- the data cells of a row are on other positions
-apart_by : (shape : Placement) (layout : Layout) (number parity place position : ℕ) → IsShape shape → shape.layout ≡ layout → parity_by layout shape.members number ≡ Some parity
-    → slice_get (data_by layout shape.members number) place ≡ Some position → (position ≡ parity → ⊥) × (position < shape.members)
-apart_by shape Raid0 number parity place position known is on at = absurd (some_not_none parity (sym on))
-apart_by shape Raid1 number parity place position known is on at = absurd (some_not_none parity (sym on))
-apart_by shape (Parity layout) number parity place position known is on at =
-    let same : parity_on layout shape.members number ≡ parity = cc in
-    let two = parity_members shape layout is known in
-    let there = placed_around layout shape.members (parity_on layout shape.members number) place position (parity_on_within layout shape.members number (omega (arith, two))) at in
-    (λ e. there.not_parity (e ∙ sym same), there.within)
-apart_by shape Jbod number parity place position known is on at = absurd (some_not_none parity (sym on))
-apart_by shape Concatenation number parity place position known is on at = absurd (some_not_none parity (sym on))
+apart_by : (shape : Placement) (number parity place position : ℕ) → IsShape shape → parity_by shape.layout shape.members number ≡ Some parity
+    → slice_get (data_by shape.layout shape.members number) place ≡ Some position → (position ≡ parity → ⊥) × (position < shape.members)
+apart_by shape number parity place position known on at =
+    let row = parity_row shape.layout shape.members number parity on in
+    let there = placed_around row.kind shape.members parity place position (parity_within shape number parity known on) (ap (λ l. slice_get l place) (sym row.data_are) ∙ at) in
+    (there.not_parity, there.within)
 
 module _ (failed : ℕ → Type 0) (v : Volume) (image : Image) (element : ℕ) (part : Part) (sector parity : ℕ) (bytes : List ℕ) where
   -- all positions are the data cells of the row
@@ -244,7 +237,7 @@ module _ (failed : ℕ → Type 0) (v : Volume) (image : Image) (element : ℕ) 
   sum_given_all known on is = record {
     cells = is.cells;
     are_given = λ number position at.
-        let there = apart_by part.shape part.shape.layout (sector / part.shape.strip) parity number position known refl on at in
+        let there = apart_by part.shape (sector / part.shape.strip) parity number position known on at in
         is.are_given position there.1 there.0;
     is_sum = is.is_sum ∙ sum_of_all part.shape is.cells sector parity known on;
   }

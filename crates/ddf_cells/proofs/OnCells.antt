@@ -1,15 +1,13 @@
 -- The cells of blocks on positions: what they are, and that no two blocks share one.
-use Rattle.std.proofs.Common.{◌≡◌, ◌∙◌, ℕ, ◌+◌, ◌/◌, ◌<◌, Bool, true, false, List, Option, Some, None, refl, sym, ap, subst, arith, length, slice_get, ◌||◌}
+use Rattle.std.proofs.Common.{◌≡◌, ◌∙◌, ℕ, zero, suc, ◌+◌, ◌/◌, ◌<◌, ◌≤◌, Bool, true, false, List, [], ◌∷◌, Option, Some, None, refl, sym, ap, subst, arith, length, slice_get, ◌||◌}
 use Rattle.std.specs.Prelude.{◌==◌, option_map, option_and_then, if◌then◌else◌}
 use Rattle.std.proofs.lemmas.Bool.{eqb-true}
 use Rattle.std.proofs.lemmas.Option.{slice_get_within}
-use Rattle.ddf_primary.specs.declared.layout.Layout.{Layout}
-use Rattle.ddf_primary.specs.declared.layout.Layout.TheVariants.{Raid0, Raid1, Parity, Jbod, Concatenation}
-use Rattle.ddf_primary.specs.Placement.{Placement}
 use Rattle.ddf_primary.specs.Cells as cells_of
-use Rattle.ddf_primary.specs.Cells.{cells, depth_of, parity_member}
+use Rattle.ddf_primary.specs.Cells.{depth_of, parity_member}
+use Rattle.ddf_primary.specs.Copies.{sector_on}
+use Rattle.ddf_primary.proofs.Copies.{on_holds}
 use Rattle.ddf_primary.proofs.ShapeFacts.{cell_facts, depth_le}
-use Rattle.ddf_primary.proofs.CellFacts.{Holds-from, Holds-read}
 use Rattle.ddf_secondary.specs.declared.element.ElementSize.{ElementSize}
 use Rattle.ddf_secondary.specs.declared.level.SecondaryLevel.{SecondaryLevel}
 use Rattle.ddf_secondary.specs.declared.level.SecondaryLevel.TheVariants.{Striped, Mirrored, Concatenated, Spanned}
@@ -21,12 +19,11 @@ use Rattle.ddf_array.specs.declared.part.Part.{Part}
 use Rattle.ddf_array.specs.declared.place.Place.{Place}
 use Rattle.ddf_array.specs.declared.site.Site.{Site}
 use Rattle.ddf_array.specs.Places.{site, site_at, site_on}
-use Rattle.ddf_array.specs.Levels.{is_on_every}
 use Rattle.ddf_array.specs.Volume.{Volume, IsVolume}
 use Rattle.ddf_array.specs.Cells.{is_in_every}
 use Rattle.ddf_array.proofs.Consistent.{position_within}
 use Rattle.ddf_array.proofs.Elements.{parts_count}
-use Rattle.ddf_cells.specs.CellsOn.{cell_by, cell_of, cell_on, places_at}
+use Rattle.ddf_cells.specs.CellsOn.{cell_in, cell_of, cell_on, places_at}
 use Rattle.ddf_array.specs.Apart.{IsApart}
 
 abbrev pub spot_of : ℕ → ℕ → Spot
@@ -55,50 +52,23 @@ in_every_holds Mirrored sizes items block element other inner is holds below = (
 in_every_holds Concatenated sizes items block element other inner is holds below = absurd (cc)
 in_every_holds Spanned sizes items block element other inner is holds below = absurd (cc)
 
--- on every position
-pub on_every_holds : (shape : Placement) (layout : Layout) (member other sector block : ℕ) → shape.layout ≡ layout → is_on_every layout ≡ true
-    → cells_of.Holds shape other sector block → member < shape.members → cells_of.Holds shape member sector block
-on_every_holds shape Raid0 member other sector block is every holds below = absurd (cc)
-on_every_holds shape Raid1 member other sector block is every holds below =
-    Holds-from shape Raid1 member sector block is (below, (Holds-read shape Raid1 other sector block is holds).1)
-on_every_holds shape (Parity parity) member other sector block is every holds below = absurd (cc)
-on_every_holds shape Jbod member other sector block is every holds below = absurd (cc)
-on_every_holds shape Concatenation member other sector block is every holds below = absurd (cc)
-
 -- ---- what a cell is
 
 module _ (v : Volume) (known : IsVolume v) (element position block : ℕ) (one : Site) where
   module _ (part : Part) (is_part : slice_get v.parts element ≡ Some part) (inner : ℕ) (in_element : spots_of.Holds v.tiers (spot_of element inner) block) where
-    found_on : (cell : ℕ × ℕ) (every same : Bool) → is_on_every part.shape.layout ≡ every → (cell.0 == position) ≡ same → slice_get (cells part.shape) inner ≡ Some cell
-        → (if every || same then site_at part.places position cell.1 else None) ≡ Some one → OnCell v element position block one
-    found_on cell true same is_every is at there =
-        let shape = (known.are_parts element part is_part) in
-        let below : position < part.shape.members = omega (arith, position_within part.places position cell.1 one there, shape.has_places) in
-        let holds = (cell_facts part.shape shape.shape_is).named cell.0 cell.1 inner at in
+    found_by : (found : Option ℕ) → sector_on part.shape position inner ≡ found → option_and_then (site_at part.places position) found ≡ Some one → OnCell v element position block one
+    found_by None on there = absurd (cc)
+    found_by (Some sector) on there =
         record {
-          sector = cell.1;
-          sits = record { part = part; is_part = is_part; inner = inner; in_element = in_element; on_position = on_every_holds part.shape part.shape.layout position cell.0 cell.1 inner refl is_every holds below };
+          sector = sector;
+          sits = record { part = part; is_part = is_part; inner = inner; in_element = in_element; on_position = on_holds part.shape (known.are_parts element part is_part).shape_is position sector inner on };
           is_there = there;
         }
-    found_on cell false true is_every is at there =
-        let shape = (known.are_parts element part is_part) in
-        let here : cell.0 ≡ position = eqb-true cell.0 position is in
-        let holds = (cell_facts part.shape shape.shape_is).named cell.0 cell.1 inner at in
-        record {
-          sector = cell.1;
-          sits = record { part = part; is_part = is_part; inner = inner; in_element = in_element; on_position = subst (λ m. cells_of.Holds part.shape m cell.1 inner) here holds };
-          is_there = there;
-        }
-    found_on cell false false is_every is at there = absurd (cc)
-
-    found_by : (found : Option (ℕ × ℕ)) → slice_get (cells part.shape) inner ≡ found → cell_by part position found ≡ Some one → OnCell v element position block one
-    found_by None at there = absurd (cc)
-    found_by (Some cell) at there = found_on cell (is_on_every part.shape.layout) (cell.0 == position) refl refl at there
 
   found_in : (found : Option Part) (inner : ℕ) → slice_get v.parts element ≡ found → (element < length v.parts → spots_of.Holds v.tiers (spot_of element inner) block)
       → cell_of found position inner ≡ Some one → OnCell v element position block one
   found_in None inner is holds there = absurd (cc)
-  found_in (Some part) inner is holds there = found_by part is inner (holds (slice_get_within v.parts element part is)) (slice_get (cells part.shape) inner) refl there
+  found_in (Some part) inner is holds there = found_by part is inner (holds (slice_get_within v.parts element part is)) (sector_on part.shape position inner) refl there
 
   found_at : (spot : Spot) (every same : Bool) → is_in_every v.tiers.level ≡ every → (spot.element == element) ≡ same → slice_get (spots v.tiers) block ≡ Some spot
       → (if every || same then cell_of (slice_get v.parts element) position spot.block else None) ≡ Some one → OnCell v element position block one
@@ -120,6 +90,19 @@ module _ (v : Volume) (known : IsVolume v) (element position block : ℕ) (one :
 
   pub on_cell : cell_on v element position block ≡ Some one → OnCell v element position block one
   on_cell there = found_spot (slice_get (spots v.tiers) block) refl there
+
+-- a position past the last has none
+no_site : (places : List Place) (position sector : ℕ) → length places ≤ position → site_at places position sector ≡ None
+no_site [] position sector past = refl
+no_site (place ∷ places) zero sector past = absurd (omega (arith, past))
+no_site (place ∷ places) (suc position) sector past = no_site places position sector (omega (arith, past))
+
+pub no_cell : (part : Part) (position block : ℕ) → length part.places ≤ position → cell_in part position block ≡ None
+no_cell part position block past = by (sector_on part.shape position block)
+  where
+    by : (found : Option ℕ) → option_and_then (site_at part.places position) found ≡ None
+    by None = refl
+    by (Some sector) = no_site part.places position sector past
 
 -- it is on one of the positions
 pub cell_places : (v : Volume) → IsVolume v → (element position block : ℕ) (one : Site) → cell_on v element position block ≡ Some one → (element < length v.parts) × (position < places_at v.parts element)

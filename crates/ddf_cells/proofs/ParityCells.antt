@@ -6,6 +6,7 @@ use Rattle.ddf_bay.specs.Moments.{Mixes}
 use Rattle.ddf_bay.proofs.Runs.{inside, put_mixes}
 use Rattle.ddf_primary.specs.Cells.{depth_of, parity_member}
 use Rattle.ddf_primary.proofs.ShapeFacts.{depth_le}
+use Rattle.ddf_primary.proofs.Needs.{parity_keeps}
 use Rattle.ddf_array.specs.declared.part.Part.{Part}
 use Rattle.ddf_array.specs.declared.site.Site.{Site}
 use Rattle.ddf_array.specs.Apart.{IsApart}
@@ -24,7 +25,7 @@ use Rattle.ddf_cells.specs.Degraded.{is_degraded}
 use Rattle.ddf_cells.specs.Parity.{IsOfRows, IsParityCell}
 use Rattle.ddf_cells.specs.RowSums.{HoldsParityAlong}
 use Rattle.ddf_cells.proofs.CopiesOn.{on_position}
-use Rattle.ddf_cells.proofs.DataCells.{IsReadFrom, keeps, read_from_one, row_is, same_sums}
+use Rattle.ddf_cells.proofs.DataCells.{IsReadFrom, read_from_one, row_is, same_sums}
 use Rattle.ddf_cells.proofs.OnCells.{no_parity, on_cell, one_place}
 use Rattle.ddf_cells.proofs.Whole.{whole_site}
 
@@ -66,7 +67,7 @@ module _ (v : Volume) (known : IsVolume v) (apart : IsApart v) where
     module _ (whole : is_degraded v ≡ false) (inside_is : parity < length part.places) (before after : Image) (only : (s l : ℕ) → (after s l ≡ before s l) ⊎ IsParityCell v s l) where
       value_stays : (position : ℕ) → position < length part.places → position ≢ parity → cell_value v after element part sector position ≡ cell_value v before element part sector position
       value_stays position under other =
-          let own = whole_site v whole element part is_part (keeps part.shape.layout part.shape.members (sector / part.shape.strip) parity is_parity) position sector under in
+          let own = whole_site v whole element part is_part (parity_keeps part.shape.layout part.shape.members (sector / part.shape.strip) parity is_parity) position sector under in
           let read = read_from_one v known apart element part is_part sector position own.0 own.1 in
           read.gives after ∙ ⊎_elim (λ same. same) (λ of. absurd (no_rep position own.0 other own.1 read of)) (only read.rep.slot read.rep.lba) ∙ sym (read.gives before)
 

@@ -1,15 +1,12 @@
 -- An array whose copies are equal, and whose parity is right, is redundant.
-use Rattle.std.proofs.Common.{◌≡◌, ◌∙◌, ⊎_elim, ℕ, zero, suc, ◌+◌, ◌-◌, ◌/◌, ◌<◌, true, false, List, [], ◌∷◌, ◌++◌, Option, Some, None, refl, sym, ap, subst, arith, map, length, slice_get}
-use Rattle.std.specs.Prelude.{option_map, IsTrue}
+use Rattle.std.proofs.Common.{◌≡◌, ◌∙◌, ⊎_elim, ℕ, ◌+◌, ◌-◌, ◌/◌, ◌<◌, true, false, List, [], ◌∷◌, ◌++◌, Option, Some, None, refl, sym, ap, arith, map, length, slice_get}
+use Rattle.std.specs.Prelude.{option_map}
 use Rattle.std.specs.List.{range_with_len}
 use Rattle.std.proofs.lemmas.List.{map-append}
 use Rattle.ddf_bay.specs.Sectors.{Image}
 use Rattle.ddf_parity.specs.Xor.{xor, xor_all, zeros}
 use Rattle.ddf_parity.specs.XorLaws.{xor_all_taken_out, xor_with_itself}
-use Rattle.ddf_primary.specs.declared.layout.Layout.{Layout}
-use Rattle.ddf_primary.specs.declared.layout.Layout.TheVariants.{Raid0, Raid1, Parity, Jbod, Concatenation}
-use Rattle.ddf_primary.specs.Levels.{takes_members}
-use Rattle.ddf_primary.specs.Cells.{depth_of, parity_by, parity_member, parity_on}
+use Rattle.ddf_primary.specs.Cells.{depth_of, parity_member}
 use Rattle.ddf_array.specs.declared.part.Part.{Part}
 use Rattle.ddf_array.specs.declared.site.Site.{Site}
 use Rattle.ddf_array.specs.Levels.{keeps_parity}
@@ -25,28 +22,11 @@ use Rattle.ddf_array.proofs.Ranges.{range-around}
 use Rattle.ddf_cells.specs.Degraded.{is_degraded}
 use Rattle.ddf_array.specs.Apart.{IsApart}
 use Rattle.ddf_cells.proofs.CopiesOn.{cell_within, in_copies}
-use Rattle.std.proofs.lemmas.Nat.{mod_below}
-use Rattle.ddf_primary.specs.declared.parity.ParityLayout.{ParityLayout}
-use Rattle.ddf_primary.specs.declared.parity.ParityLayout.TheVariants.{Raid4First, Raid4Last, Raid5ZeroRestart, Raid5LastRestart, Raid5LastContinuation}
+use Rattle.ddf_primary.proofs.Needs.{parity_below, some_members, some_parity}
 use Rattle.ddf_array.specs.declared.place.Place.{Place}
 use Rattle.ddf_cells.specs.CellSources.{HaveEqualCopies}
 use Rattle.ddf_cells.proofs.DataCells.{own_cell, read_from_one, row_is, same_sums, sum_all, sum_but}
 use Rattle.ddf_cells.proofs.Whole.{whole_site}
-
--- the parity of a row is on a position
-parity_on_below : (parity : ParityLayout) (members row : ℕ) → 0 < members → parity_on parity members row < members
-parity_on_below Raid4First members row some = some
-parity_on_below Raid4Last members row some = omega (arith, some)
-parity_on_below Raid5ZeroRestart members row some = mod_below row members some
-parity_on_below Raid5LastRestart members row some = omega (arith, some)
-parity_on_below Raid5LastContinuation members row some = omega (arith, some)
-
-pub parity_below : (layout : Layout) (members row parity : ℕ) → 0 < members → parity_by layout members row ≡ Some parity → parity < members
-parity_below Raid0 members row parity some is = absurd (cc)
-parity_below Raid1 members row parity some is = absurd (cc)
-parity_below (Parity kind) members row parity some is = let same : parity_on kind members row ≡ parity = cc in subst (λ n. n < members) same (parity_on_below kind members row some)
-parity_below Jbod members row parity some is = absurd (cc)
-parity_below Concatenation members row parity some is = absurd (cc)
 
 -- ---- a whole row
 
@@ -87,24 +67,6 @@ row_parts cell n parity below =
 
 -- ---- the parity of an element
 
-pub parity_is : (layout : Layout) (members row : ℕ) → keeps_parity layout ≡ true → (parity : ℕ) × (parity_by layout members row ≡ Some parity)
-parity_is Raid0 members row keep = absurd (cc)
-parity_is Raid1 members row keep = absurd (cc)
-parity_is (Parity kind) members row keep = (parity_on kind members row, refl)
-parity_is Jbod members row keep = absurd (cc)
-parity_is Concatenation members row keep = absurd (cc)
-
-no_two : false ≡ true → ⊥
-no_two e = cc
-
-pub two_members : (layout : Layout) (members : ℕ) → keeps_parity layout ≡ true → IsTrue (takes_members layout members) → 0 < members
-two_members Raid0 members keep taken = absurd (cc)
-two_members Raid1 members keep taken = absurd (cc)
-two_members (Parity kind) zero keep taken = absurd (no_two taken)
-two_members (Parity kind) (suc members) keep taken = omega arith
-two_members Jbod members keep taken = absurd (cc)
-two_members Concatenation members keep taken = absurd (cc)
-
 -- the bytes of a position
 abbrev pub own_bytes : List Place → (sector : ℕ) → Image → ℕ → List ℕ
 own_bytes places sector image position = at_option image (site_at places position sector)
@@ -144,8 +106,8 @@ module _ (v : Volume) (known : IsVolume v) (apart : IsApart v) (whole : is_degra
         → sum_at image sites ≡ zeros
     row_is_zero sites all right =
         let shape = known.are_parts element part is_part in
-        let parity = parity_is part.shape.layout part.shape.members (sector / part.shape.strip) keep in
-        let some = two_members part.shape.layout part.shape.members keep shape.shape_is.members_taken in
+        let parity = some_parity part.shape.layout part.shape.members (sector / part.shape.strip) keep in
+        let some = some_members part.shape.layout part.shape.members shape.shape_is.members_taken in
         let on : parity.0 < length part.places = omega (arith, parity_below part.shape.layout part.shape.members (sector / part.shape.strip) parity.0 some parity.1, shape.has_places) in
         let own = whole_site v whole element part is_part keep parity.0 sector on in
         let bytes : ℕ → List ℕ = own_bytes part.places sector image in

@@ -1,27 +1,20 @@
 -- The cells of blocks on one position of an element, and their stretches: neighbouring blocks whose cells there follow one
 -- another, as many as there are (profile). Each can be written in one call.
-use Rattle.std.specs.Prelude.{◌≡◌, ◌≢◌, ℕ, ◌+◌, ◌<◌, ◌≤◌, ◌==◌, ◌||◌, List, [], ◌∷◌, map, length, Option, Some, None, slice_get, slice_index_or, if◌then◌else◌}
+use Rattle.std.specs.Prelude.{◌≡◌, ◌≢◌, ℕ, ◌+◌, ◌<◌, ◌≤◌, ◌==◌, ◌||◌, List, [], ◌∷◌, map, length, Option, Some, None, option_and_then, slice_get, slice_index_or, if◌then◌else◌}
 use Rattle.std.specs.List.{range_with_len, sum_by}
-use Rattle.ddf_primary.specs.Cells.{cells}
+use Rattle.ddf_primary.specs.Copies.{sector_on}
 use Rattle.ddf_secondary.specs.Spots.{spots}
 use Rattle.ddf_array.specs.declared.part.Part.{Part}
 use Rattle.ddf_array.specs.declared.site.Site.{Site}
 use Rattle.ddf_array.specs.Places.{site_at, site_on}
-use Rattle.ddf_array.specs.Levels.{is_on_every}
 use Rattle.ddf_array.specs.Volume.{Volume}
 use Rattle.ddf_array.specs.Cells.{is_in_every}
 use Rattle.ddf_array.specs.Sources.{copies}
 use Rattle.ddf_read.specs.Stretches.{follows}
 
--- the available cell of a block of an element that its place gives, on a position
-abbrev pub cell_by : Part → (position : ℕ) → Option (ℕ × ℕ) → Option Site
-cell_by part position None = None
-cell_by part position (Some cell) =
-    if is_on_every part.shape.layout || cell.0 == position then site_at part.places position cell.1 else None
-
 -- the available cell of a block of an element on a position
 abbrev pub cell_in : Part → (position block : ℕ) → Option Site
-cell_in part position block = cell_by part position (slice_get (cells part.shape) block)
+cell_in part position block = option_and_then (site_at part.places position) (sector_on part.shape position block)
 
 abbrev pub cell_of : Option Part → (position block : ℕ) → Option Site
 cell_of None position block = None

@@ -6,7 +6,7 @@ ghost use Rattle.ddf_array.specs.Volume.{HasBlock, IsPart, capacity};
 ghost use Rattle.ddf_cells.specs.CellsOn.{cell_in, cell_of, cell_on, IsRunOn};
 
 use ddf_array::{Part, Site, View};
-use ddf_read::{is_on_every, left_in_strip, lies_behind};
+use ddf_read::{left_in_strip, lies_behind};
 
 /// The available cell of a block of an element on a position.
 fn cell_in(part: &Part, position: usize, block: u64) -> Option<Site>
@@ -14,11 +14,11 @@ fn cell_in(part: &Part, position: usize, block: u64) -> Option<Site>
     requires block { block < length (cells part.now.shape) }
     ensures { result ≡ cell_in part.now position block }
 {
-    let cell = part.shape.place(block);
-    if is_on_every(part.shape.layout()) || usize::from(cell.member) == position {
-        return part.site_at(position, cell.sector);
+    if position >= part.places.items().len() {
+        return None;
     }
-    None
+    let sector = part.shape.sector_on(position as u16, block)?;
+    part.site_at(position, sector)
 }
 
 /// The same, if the element is there.

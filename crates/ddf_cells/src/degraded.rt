@@ -1,4 +1,5 @@
-//! Elements that keep parity and lack a position.
+//! Elements that keep parity and lack a position. Such an array isn't written (25): a stop could lose blocks that were written long ago.
+//! docs/LIMITS.md#what-isnt-served
 ghost use Rattle.std.specs.Prelude.{◌≡◌};
 ghost use Rattle.std.specs.List.{list_all, list_any};
 ghost use Rattle.ddf_array.specs.Places.{is_available};

@@ -1,4 +1,4 @@
-//! The slots that calls wrote to, and their syncs.
+//! The slots that calls wrote to, and their syncs: each is made sure once, at the end, and no other is. docs/DECISIONS-COMMANDS.md#blocks-written
 ghost use Rattle.std.specs.Prelude.{◌≡◌, ◌<◌, ℕ, true, length, slice_set, OnOk, IfErr};
 ghost use Rattle.ddf_bytes.specs.Counts.{Rose};
 ghost use Rattle.ddf_bay.specs.Moments.{Keeps, IsSettled, SpendsOver, StopsLeave};

@@ -13,7 +13,6 @@ use crate::sums::read_sums;
 use ddf_array::{Part, View};
 use ddf_bay::Bay;
 use ddf_bytes::Sector;
-use ddf_primary::Layout;
 use ddf_read::{keeps_parity, strip_of};
 
 /// How many sectors of each position hold blocks or parity.
@@ -22,11 +21,7 @@ pub fn depth_of(part: &Part) -> u64
     ensures value { result ≡ depth_of part.now.shape }
     ensures within { result ≤ part.now.shape.blocks }
 {
-    match part.shape.layout() {
-        Layout::Raid0 | Layout::Parity(_) => part.shape.rows() * strip_of(part),
-        Layout::Raid1 | Layout::Jbod => part.shape.capacity(),
-        Layout::Concatenation => part.shape.capacity() / part.places.items().len() as u64,
-    }
+    part.shape.depth()
 }
 
 /// How many sectors of each position are read or written in one call.

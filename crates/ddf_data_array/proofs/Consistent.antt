@@ -3,6 +3,7 @@ use Rattle.std.proofs.Common.{◌≡◌, ◌∙◌, ℕ, ◌/◌, ◌<◌, Bool,
 use Rattle.std.specs.Prelude.{is_some, option_map, option_and_then, if◌then◌else◌}
 use Rattle.std.proofs.lemmas.Option.{slice_get_within}
 use Rattle.ddf_bay.specs.Sectors.{Image}
+use Rattle.ddf_primary.proofs.Needs.{parity_keeps}
 use Rattle.ddf_secondary.specs.declared.spot.Spot.{Spot}
 use Rattle.ddf_secondary.specs.Spots.{spots}
 use Rattle.ddf_array.specs.declared.site.Site.{Site}
@@ -16,7 +17,6 @@ use Rattle.ddf_array.specs.Redundant.{IsRedundant}
 use Rattle.ddf_array.specs.Sound.{AreSectors, HasParity, IsSound}
 use Rattle.ddf_array.proofs.Losses.{at_front, mapped_at}
 use Rattle.ddf_cells.specs.Degraded.{is_degraded}
-use Rattle.ddf_cells.proofs.DataCells.{keeps}
 use Rattle.ddf_cells.proofs.Whole.{whole_site}
 use Rattle.ddf_data_array.specs.Allowed.{Allowed, May, once_consistent}
 use Rattle.ddf_data_array.specs.Changing.{with_mark, HaveCells, IsConsistentNow, ValuesMay}
@@ -86,7 +86,7 @@ kept_unmarked is_absent v image allowed are is rows may = record {
 -- a redundant array of which no element with parity lacks a position
 whole_parity : (is_absent : ℕ → ℕ → Bool) (v : Volume) (image : Image) → is_degraded v ≡ false → HasParity is_absent v image
 whole_parity is_absent v image whole element sector position part site part_at lacks none parity below site_is has =
-    let keep = keeps part.shape.layout part.shape.members (sector / part.shape.strip) position parity in
+    let keep = parity_keeps part.shape.layout part.shape.members (sector / part.shape.strip) position parity in
     absurd (omega (
       arith,
       lacks,

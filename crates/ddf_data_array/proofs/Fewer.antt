@@ -1,19 +1,22 @@
 -- What an array with fewer available places can be read from, it could be read from before.
 use Rattle.std.proofs.Common.{◌≡◌, ◌∙◌, ⊎_elim, ℕ, zero, suc, ◌+◌, ◌≤◌, Bool, true, false, not, List, [], ◌∷◌, Option, Some, None, refl, sym, ap, subst, arith, map, length, slice_get, ◌&&◌, ◌||◌}
-use Rattle.std.specs.Prelude.{nat_le, is_some, count_by, option_map, option_and_then, ◌==◌, if◌then◌else◌}
+use Rattle.std.specs.Prelude.{nat_le, is_some, count_by, option_map, option_and_then, if◌then◌else◌}
 use Rattle.std.specs.List.{list_any, list_all}
 use Rattle.std.proofs.lemmas.Bool.{leb-true, le-leb}
 use Rattle.std.proofs.lemmas.List.Sums.{sum_by-cons}
 use Rattle.ddf_primary.specs.Placement.{Placement}
+use Rattle.ddf_primary.specs.declared.need.Need.{Need}
+use Rattle.ddf_primary.specs.declared.need.Need.TheVariants.{All, One, AllButOne}
+use Rattle.ddf_primary.specs.Needs.{need_by}
 use Rattle.ddf_secondary.specs.declared.spot.Spot.{Spot}
 use Rattle.ddf_secondary.specs.Arrangement.{Arrangement}
 use Rattle.ddf_secondary.specs.Spots.{spots}
-use Rattle.ddf_config.specs.Within.{has_parity, lacks_one, has_enough}
+use Rattle.ddf_config.specs.Within.{has_enough}
 use Rattle.ddf_array.specs.declared.place.Place.{Place}
 use Rattle.ddf_array.specs.declared.part.Part.{Part}
 use Rattle.ddf_array.specs.declared.site.Site.{Site}
 use Rattle.ddf_array.specs.Places.{is_available, site, site_at, site_on}
-use Rattle.ddf_array.specs.Levels.{level_of, keeps_parity}
+use Rattle.ddf_array.specs.Levels.{keeps_parity}
 use Rattle.ddf_array.specs.Volume.{Volume}
 use Rattle.ddf_array.specs.Cells.{element_cells, block_spots, spots_like, is_in_every}
 use Rattle.ddf_array.specs.Sources.{Source, copy, row, all_of, other_positions, row_without}
@@ -213,20 +216,17 @@ sites_alike (before ∷ befores) [] are position sector = absurd are
 sites_alike (before ∷ befores) (after ∷ afters) are zero sector = site_as before after sector are.0
 sites_alike (before ∷ befores) (after ∷ afters) are (suc position) sector = sites_alike befores afters are.1 position sector
 
-enough_by : (x y : Bool) (befores afters : List Place) → ArePlaces IsFewerPlace befores afters
-    → (if x then list_any is_available afters else (if y then lacks_one is_available afters else list_all is_available afters)) ≡ true
-    → (if x then list_any is_available befores else (if y then lacks_one is_available befores else list_all is_available befores)) ≡ true
-enough_by true y befores afters fewer e = any_keeps befores afters fewer e
-enough_by false true befores afters fewer e =
+enough_by : (need : Need) (befores afters : List Place) → ArePlaces IsFewerPlace befores afters → has_enough need is_available afters ≡ true → has_enough need is_available befores ≡ true
+enough_by All befores afters fewer e = all_keeps befores afters fewer e
+enough_by One befores afters fewer e = any_keeps befores afters fewer e
+enough_by AllButOne befores afters fewer e =
     let few = leb-true (away afters) 1 e in
     le-leb (away befores) 1 (omega (arith, few, fewer_away befores afters fewer))
-enough_by false false befores afters fewer e = all_keeps befores afters fewer e
 
 pub part_keeps : (before after : Part) → after.shape ≡ before.shape → ArePlaces IsFewerPlace before.places after.places → is_part_within after ≡ true → is_part_within before ≡ true
 part_keeps before after same fewer e =
-    let level = level_of before.shape.layout in
-    enough_by (level == 0x01) (has_parity level) before.places after.places fewer
-    (ap (λ (s : Placement). has_enough (level_of s.layout) is_available after.places) (sym same) ∙ e)
+    enough_by (need_by before.shape.layout) before.places after.places fewer
+    (ap (λ (s : Placement). has_enough (need_by s.layout) is_available after.places) (sym same) ∙ e)
 
 any_part : (befores afters : List Part) → AreFewerParts befores afters → list_any is_part_within afters ≡ true → list_any is_part_within befores ≡ true
 any_part [] [] fewer e = e

@@ -11,6 +11,7 @@ use Rattle.ddf_primary.specs.Placement.{Placement}
 use Rattle.ddf_primary.specs.Cells as primary
 use Rattle.ddf_primary.specs.Cells.{depth_of, parity_member}
 use Rattle.ddf_primary.proofs.ShapeFacts.{cell_facts}
+use Rattle.ddf_primary.proofs.Needs.{some_parity}
 use Rattle.ddf_secondary.specs.declared.spot.Spot.{Spot}
 use Rattle.ddf_array.specs.declared.part.Part.{Part}
 use Rattle.ddf_array.specs.declared.place.Place.{Place}
@@ -29,7 +30,6 @@ use Rattle.ddf_array.proofs.Enough.{has_source}
 use Rattle.ddf_cells.specs.CellSources.{wanted}
 use Rattle.ddf_cells.proofs.BlockOf.{cell_in}
 use Rattle.ddf_cells.proofs.Lists.{any_passes}
-use Rattle.ddf_cells.proofs.Redundance.{parity_is}
 use Rattle.ddf_rebuild.specs.Target.{IsOut}
 use Rattle.ddf_data_array.specs.Changing.{changed_item, place_in_sync, part_in_sync, in_sync}
 use Rattle.ddf_data_array.proofs.Ranges.{map_in}
@@ -180,7 +180,7 @@ module _ (v : Volume) (known : IsVolume v) (image : Image) (are : AreSectors ima
   at_row block sites from here new_is =
       let members = target.part.shape.members in
       let keeps : keeps_parity target.part.shape.layout ≡ true = ap (λ (y : Part). keeps_parity y.shape.layout) (sym new_is) ∙ from.gives.0 in
-      let par = parity_is target.part.shape.layout members (from.cell.1 / target.part.shape.strip) keeps in
+      let par = some_parity target.part.shape.layout members (from.cell.1 / target.part.shape.strip) keeps in
       let below : from.cell.0 < members = (cell_facts target.part.shape (known.are_parts e target.part target.is_target.is_part).shape_is).member_within from.cell.0 from.cell.1 from.spot.block (holds_own block (row sites) from here new_is) in
       let apart : from.cell.0 ≢ par.0 = λ same. no_parity block (row sites) from here new_is (par.1 ∙ ap Some (sym same)) in
       let at = data_at members par.0 from.cell.0 below apart target.part.shape.layout (from.cell.1 / target.part.shape.strip) par.1 in
@@ -233,7 +233,7 @@ module _ (v : Volume) (known : IsVolume v) (image : Image) (are : AreSectors ima
   whole_by : (sector : ℕ) (sites : List Site) → sector < depth_of target.part.shape → keeps_parity target.part.shape.layout ≡ true → whole_row new sector ≡ Some sites → sum_at image sites ≡ zeros
   whole_by sector sites deep_here keeps whole =
       let n = length new.places in
-      let par = parity_is target.part.shape.layout target.part.shape.members (sector / target.part.shape.strip) keeps in
+      let par = some_parity target.part.shape.layout target.part.shape.members (sector / target.part.shape.strip) keeps in
       whole_zero v known image are is within e p target sector deep_here par.0 par.1 (λ one. rebuilt sector one deep_here)
       (λ apart one at.
       let few : away target.part.places ≤ 1 =

@@ -6,7 +6,8 @@ use Rattle.std.proofs.lemmas.Bool.{cases_lt}
 use Rattle.std.proofs.lemmas.Nat.{div-add-mod', mod_below}
 use Rattle.ddf_bay.specs.Sectors.{Image}
 use Rattle.ddf_parity.specs.Xor.{xor_all, zeros}
-use Rattle.ddf_primary.specs.Cells.{depth_of}
+use Rattle.ddf_primary.specs.Cells.{depth_of, height_of}
+use Rattle.ddf_primary.proofs.ShapeFacts.{height_some}
 use Rattle.ddf_array.specs.declared.part.Part.{Part}
 use Rattle.ddf_array.specs.declared.place.Place.{Place}
 use Rattle.ddf_array.specs.declared.site.Site.{Site}
@@ -161,7 +162,7 @@ rebuilt_at v known image e p target all sector one deep lies =
     ∙ ap (λ (o : Option ℕ). option_map (λ slot. site_on slot (target.place.start + sector)) o) target.is_target.is_there in
     ap (bytes_at image) (some_is (sym lies ∙ there))
     ∙ all target.part target.is_target.is_part target.part target.place target.slot sector target.is_target
-    (record { from_is = omega arith; to_is = all_counted (depth_of target.part.shape) target.part.shape.strip sector shape_is.some_strip deep; below = deep })
+    (record { from_is = omega arith; to_is = all_counted (depth_of target.part.shape) (height_of target.part.shape) sector (height_some target.part.shape shape_is) deep; below = deep })
 
 pub kept_finished : (is_absent : ℕ → ℕ → Bool) (v : Volume) (image : Image) (allowed : Allowed) (e p : ℕ) → IsVolume v → v.marked ≡ false → is_within v ≡ true → (target : IsOut v e p)
     → ((other : ℕ) → is_absent e other ≡ false)

@@ -9,6 +9,7 @@ use Rattle.ddf_bay.specs.Sectors.{Image}
 use Rattle.ddf_parity.specs.Xor.{xor_all, zeros}
 use Rattle.ddf_primary.specs.Placement.{Placement}
 use Rattle.ddf_primary.specs.Cells.{depth_of, parity_member}
+use Rattle.ddf_primary.proofs.Needs.{parity_keeps, parity_below, some_members}
 use Rattle.ddf_secondary.specs.Spots.{spots}
 use Rattle.ddf_array.specs.declared.part.Part.{Part}
 use Rattle.ddf_array.specs.declared.place.Place.{Place}
@@ -27,8 +28,7 @@ use Rattle.ddf_array.proofs.Enough.{only_one, row_there}
 use Rattle.ddf_array.proofs.Losses.{some_value}
 use Rattle.ddf_array.proofs.RowParity.{cell_value_is}
 use Rattle.ddf_cells.specs.CellSources.{wanted}
-use Rattle.ddf_cells.proofs.DataCells.{keeps}
-use Rattle.ddf_cells.proofs.Redundance.{held, parity_below, two_members}
+use Rattle.ddf_cells.proofs.Redundance.{held}
 use Rattle.ddf_rebuild.specs.Target.{IsOut}
 use Rattle.ddf_data_array.specs.Changing.{changed_item, place_in_sync, part_in_sync, in_sync}
 use Rattle.ddf_data_array.proofs.From.{HasCell, made_of, source_to}
@@ -201,10 +201,10 @@ module _ (v : Volume) (known : IsVolume v) (image : Image) (are : AreSectors ima
 
     module _ (par : ℕ) (par_is : parity_member target.part.shape number ≡ Some par) where
       keeps_it : keeps_parity target.part.shape.layout ≡ true
-      keeps_it = keeps target.part.shape.layout target.part.shape.members number par par_is
+      keeps_it = parity_keeps target.part.shape.layout target.part.shape.members number par par_is
 
       members_some : 0 < target.part.shape.members
-      members_some = two_members target.part.shape.layout target.part.shape.members keeps_it (known.are_parts e target.part target.is_target.is_part).shape_is.members_taken
+      members_some = some_members target.part.shape.layout target.part.shape.members (known.are_parts e target.part target.is_target.is_part).shape_is.members_taken
 
       pub par_below : par < target.part.shape.members
       par_below = parity_below target.part.shape.layout target.part.shape.members number par members_some par_is

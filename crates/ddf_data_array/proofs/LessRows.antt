@@ -6,11 +6,12 @@ use Rattle.ddf_bay.specs.Sectors.{Image}
 use Rattle.ddf_config.specs.Within.{has_enough}
 use Rattle.ddf_primary.specs.Placement.{Placement}
 use Rattle.ddf_primary.specs.declared.layout.Layout.{Layout}
-use Rattle.ddf_primary.specs.declared.layout.Layout.TheVariants.{Raid0, Raid1, Parity, Jbod, Concatenation}
-use Rattle.ddf_primary.specs.declared.parity.ParityLayout.TheVariants.{Raid4First, Raid4Last, Raid5ZeroRestart, Raid5LastRestart, Raid5LastContinuation}
+use Rattle.ddf_primary.specs.declared.need.Need.{Need}
+use Rattle.ddf_primary.specs.Needs.{need_by}
+use Rattle.ddf_primary.proofs.Needs.{parity_needs}
 use Rattle.ddf_array.specs.declared.part.Part.{Part}
 use Rattle.ddf_array.specs.declared.place.Place.{Place}
-use Rattle.ddf_array.specs.Levels.{keeps_parity, level_of}
+use Rattle.ddf_array.specs.Levels.{keeps_parity}
 use Rattle.ddf_array.specs.Places.{is_available, site_at}
 use Rattle.ddf_array.specs.Volume.{Volume, IsVolume}
 use Rattle.ddf_array.specs.Within.{is_within}
@@ -49,27 +50,11 @@ synced_there true slot e = refl
 synced_there false slot e = absurd (cc)
 
 -- an element with parity is within its level where at most one place isn't available
-pub few_away : (layout : Layout) (places : List Place) → keeps_parity layout ≡ true → has_enough (level_of layout) is_available places ≡ true → away places ≤ 1
-few_away Raid0 places parity e = absurd (cc)
-few_away Raid1 places parity e = absurd (cc)
-few_away (Parity Raid4First) places parity e = leb-true (away places) 1 e
-few_away (Parity Raid4Last) places parity e = leb-true (away places) 1 e
-few_away (Parity Raid5ZeroRestart) places parity e = leb-true (away places) 1 e
-few_away (Parity Raid5LastRestart) places parity e = leb-true (away places) 1 e
-few_away (Parity Raid5LastContinuation) places parity e = leb-true (away places) 1 e
-few_away Jbod places parity e = absurd (cc)
-few_away Concatenation places parity e = absurd (cc)
+pub few_away : (layout : Layout) (places : List Place) → keeps_parity layout ≡ true → has_enough (need_by layout) is_available places ≡ true → away places ≤ 1
+few_away layout places parity e = leb-true (away places) 1 (ap (λ (n : Need). has_enough n is_available places) (sym (parity_needs layout parity)) ∙ e)
 
-enough : (layout : Layout) (places : List Place) → keeps_parity layout ≡ true → away places ≤ 1 → has_enough (level_of layout) is_available places ≡ true
-enough Raid0 places parity few = absurd (cc)
-enough Raid1 places parity few = absurd (cc)
-enough (Parity Raid4First) places parity few = le-leb (away places) 1 few
-enough (Parity Raid4Last) places parity few = le-leb (away places) 1 few
-enough (Parity Raid5ZeroRestart) places parity few = le-leb (away places) 1 few
-enough (Parity Raid5LastRestart) places parity few = le-leb (away places) 1 few
-enough (Parity Raid5LastContinuation) places parity few = le-leb (away places) 1 few
-enough Jbod places parity few = absurd (cc)
-enough Concatenation places parity few = absurd (cc)
+pub enough : (layout : Layout) (places : List Place) → keeps_parity layout ≡ true → away places ≤ 1 → has_enough (need_by layout) is_available places ≡ true
+enough layout places parity few = ap (λ (n : Need). has_enough n is_available places) (parity_needs layout parity) ∙ le-leb (away places) 1 few
 
 module _ (absent_before absent_after : ℕ → ℕ → Bool) (before after : Volume) (image : Image) (known : IsVolume after) (fewer : IsFewer before after)
     (leaves : LeavesParity absent_before absent_after before after) (leaves_rows : LeavesRows before after) (is : IsRedundant before image) (kept : AreRowsKept absent_before before image)

@@ -7,6 +7,7 @@ use Rattle.ddf_bay.specs.Sectors.{Image}
 use Rattle.ddf_parity.specs.Xor.{xor_all, zeros}
 use Rattle.ddf_primary.specs.Placement.{Placement}
 use Rattle.ddf_primary.specs.Cells.{depth_of, parity_member}
+use Rattle.ddf_primary.proofs.Needs.{parity_keeps}
 use Rattle.ddf_secondary.specs.declared.spot.Spot.{Spot}
 use Rattle.ddf_secondary.specs.Arrangement.{Arrangement}
 use Rattle.ddf_secondary.specs.Spots.{spots}
@@ -25,7 +26,6 @@ use Rattle.ddf_array.specs.Rows.{holds, block_at, cell_value, data_positions, ro
 use Rattle.ddf_array.specs.Sound.{HasParity, IsSound, has_block}
 use Rattle.ddf_array.proofs.Enough.{has_source}
 use Rattle.ddf_cells.specs.CellSources.{is_parity, wanted}
-use Rattle.ddf_cells.proofs.DataCells.{keeps}
 use Rattle.ddf_cells.proofs.Lists.{in_map}
 use Rattle.ddf_data_array.specs.Allowed.{Allowed}
 use Rattle.ddf_data_array.specs.Fewer.{IsAlikePlace, IsFewerPlace, ArePlaces, NoneLeft, IsFewer, LeavesParity}
@@ -73,7 +73,7 @@ wanted_cell v image element part sector position plain = by (parity_member part.
         → ◌≡◌ {A = List ℕ} (if elim o [ None ↦ false | Some member ↦ member == position ] then row_sum v image element part sector else cell_value v image element part sector position)
         (cell_value v image element part sector position)
     by None is = refl
-    by (Some member) is = absurd (both (keeps_parity part.shape.layout) (keeps part.shape.layout part.shape.members (sector / part.shape.strip) member is) plain)
+    by (Some member) is = absurd (both (keeps_parity part.shape.layout) (parity_keeps part.shape.layout part.shape.members (sector / part.shape.strip) member is) plain)
 
 module _ (before after : Volume) (fewer : IsFewer before after) where
   -- in a redundant array what a source gave, it gives
@@ -238,7 +238,7 @@ module _ (before after : Volume) (fewer : IsFewer before after) where
       (sym (sites_alike there.before.places part.places stays.0 position sector) ∙ site_is)
       (sym blocks ∙ block) ∙ sym same)
       (λ gone. absurd (none_site part.places gone position sector site site_is))
-      (leaves.stays unmarked within element there.before part there.is_part part_at (keeps part.shape.layout part.shape.members (sector / part.shape.strip) position parity) lacks none)
+      (leaves.stays unmarked within element there.before part there.is_part part_at (parity_keeps part.shape.layout part.shape.members (sector / part.shape.strip) position parity) lacks none)
 
 -- what is left to read from is what might be read, and it is sound
 module _ (absent_before absent_after : ℕ → ℕ → Bool) (before after : Volume) (image : Image) (allowed : Allowed) (known : IsVolume after) (fewer : IsFewer before after)

@@ -18,3 +18,6 @@ pub mod FinishedRows
 pub mod Noted
 pub mod Given
 pub mod Histories
+pub mod Mapped
+pub mod Moved
+pub mod MovedKept

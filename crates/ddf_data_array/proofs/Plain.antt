@@ -1,26 +1,25 @@
 -- An array that isn't redundant has one source of each block, and no parity.
-use Rattle.std.proofs.Common.{◌≡◌, ◌∙◌, ℕ, zero, suc, ◌/◌, ◌≤◌, Bool, true, false, List, [], ◌∷◌, Option, Some, None, refl, sym, ap, subst, arith, map, length, slice_get, ◌&&◌, ◌||◌}
+use Rattle.std.proofs.Common.{◌≡◌, ◌∙◌, ℕ, zero, suc, ◌/◌, ◌≤◌, Bool, true, false, List, [], ◌∷◌, Option, Some, None, refl, sym, ap, subst, arith, length, slice_get, ◌&&◌, ◌||◌}
 use Rattle.std.specs.Prelude.{nat_le, option_map, if◌then◌else◌}
 use Rattle.std.specs.List.{range_with_len, list_any}
 use Rattle.std.proofs.lemmas.Bool.{le-leb}
 use Rattle.std.proofs.lemmas.List.{length-map}
 use Rattle.ddf_bay.specs.Sectors.{Image}
-use Rattle.ddf_primary.specs.Placement.{Placement}
-use Rattle.ddf_primary.specs.Cells.{cells}
+use Rattle.ddf_primary.proofs.Needs.{parity_keeps}
+use Rattle.ddf_primary.proofs.Copies.{few_copies}
 use Rattle.ddf_secondary.specs.declared.spot.Spot.{Spot}
 use Rattle.ddf_secondary.specs.Spots.{spots}
 use Rattle.ddf_array.specs.declared.part.Part.{Part}
 use Rattle.ddf_array.specs.declared.site.Site.{Site}
 use Rattle.ddf_array.specs.Places.{site_at}
-use Rattle.ddf_array.specs.Levels.{is_on_every, keeps_parity}
+use Rattle.ddf_array.specs.Levels.{keeps_copies, keeps_parity}
 use Rattle.ddf_array.specs.Volume.{Volume}
-use Rattle.ddf_array.specs.Cells.{cells_like, element_cells, is_in_every, elements_like, spots_like, block_spots}
+use Rattle.ddf_array.specs.Cells.{element_cells, is_in_every, elements_like, spots_like, block_spots}
 use Rattle.ddf_array.specs.Sources.{Source, copy, row, every_source}
 use Rattle.ddf_array.specs.Values.{bytes_at, given}
 use Rattle.ddf_array.specs.Within.{is_mirrored, keeps_more, is_redundant}
 use Rattle.ddf_array.specs.Redundant.{IsRedundant}
 use Rattle.ddf_array.specs.Sound.{AreSectors, HasParity, IsSound}
-use Rattle.ddf_cells.proofs.DataCells.{keeps}
 use Rattle.ddf_data_array.proofs.From.{IsFrom, source_from}
 
 pub or_none : (a b : Bool) → (a || b) ≡ false → (a ≡ false) × (b ≡ false)
@@ -42,14 +41,6 @@ lone (z ∷ []) zero zero x y le a b = cc
 lone (z ∷ []) zero (suc k) x y le a b = absurd (cc)
 lone (z ∷ []) (suc j) k x y le a b = absurd (cc)
 lone (z ∷ (w ∷ xs)) j k x y le a b = absurd (omega arith)
-
-few_cells : (shape : Placement) (block : ℕ) → is_on_every shape.layout ≡ false → length (element_cells shape block) ≤ 1
-few_cells shape block single = by_cell (slice_get (cells shape) block)
-  where
-    by_cell : (found : Option (ℕ × ℕ)) → length {A = ℕ × ℕ} (elim found [ None ↦ [] | Some cell ↦ cells_like shape.layout shape.members cell ]) ≤ 1
-    by_cell None = omega arith
-    by_cell (Some cell) =
-        subst (λ b. length {A = ℕ × ℕ} (map {B = ℕ × ℕ} (λ position. (position, cell.1)) (if b then range_with_len 0 shape.members else cell.0 ∷ [])) ≤ 1) (sym single) (omega arith)
 
 few_by : (count element : ℕ) (every two : Bool) → nat_le 2 count ≡ two → (every && two) ≡ false → length (if every then range_with_len 0 count else element ∷ []) ≤ 1
 few_by count element false two is alone = omega arith
@@ -82,7 +73,7 @@ module _ (v : Volume) (plain : is_redundant v ≡ false) where
 
   pub no_rows : (element : ℕ) (part : Part) → slice_get v.parts element ≡ Some part → keeps_parity part.shape.layout ≡ true → ⊥
   no_rows element part at parity =
-      true_false (keeps_parity part.shape.layout) parity (or_none (is_on_every part.shape.layout) (keeps_parity part.shape.layout) (keeps_one element part at)).1
+      true_false (keeps_parity part.shape.layout) parity (or_none (keeps_copies part.shape.layout) (keeps_parity part.shape.layout) (keeps_one element part at)).1
 
   -- each source is a copy
   pub plain_copy : (block : ℕ) (source : Source) → IsFrom v block source → (one : Site) × (source ≡ copy one)
@@ -98,10 +89,10 @@ module _ (v : Volume) (plain : is_redundant v ≡ false) where
   one_copy block one other a b =
       let spot : a.spot ≡ b.spot = lone (block_spots v block) a.j b.j a.spot b.spot (few_spots v block alone) a.is_spot b.is_spot in
       let part : a.part ≡ b.part = same_part (slice_get v.parts b.spot.element) a.part b.part (ap (λ (s : Spot). slice_get v.parts s.element) (sym spot) ∙ a.is_part) b.is_part in
-      let single = (or_none (is_on_every b.part.shape.layout) (keeps_parity b.part.shape.layout) (keeps_one b.spot.element b.part b.is_part)).0 in
+      let single = (or_none (keeps_copies b.part.shape.layout) (keeps_parity b.part.shape.layout) (keeps_one b.spot.element b.part b.is_part)).0 in
       let cell_at : slice_get (element_cells b.part.shape b.spot.block) a.i ≡ Some a.cell =
       ap (λ (p : Part). slice_get (element_cells p.shape b.spot.block) a.i) (sym part) ∙ ap (λ (s : Spot). slice_get (element_cells a.part.shape s.block) a.i) (sym spot) ∙ a.is_cell in
-      let cell : a.cell ≡ b.cell = lone (element_cells b.part.shape b.spot.block) a.i b.i a.cell b.cell (few_cells b.part.shape b.spot.block single) cell_at b.is_cell in
+      let cell : a.cell ≡ b.cell = lone (element_cells b.part.shape b.spot.block) a.i b.i a.cell b.cell (few_copies b.part.shape b.spot.block single) cell_at b.is_cell in
       let there : site_at b.part.places b.cell.0 b.cell.1 ≡ Some one =
       ap (λ (c : ℕ × ℕ). site_at b.part.places c.0 c.1) (sym cell) ∙ ap (λ (p : Part). site_at p.places a.cell.0 a.cell.1) (sym part) ∙ a.gives in
       same_site (site_at b.part.places b.cell.0 b.cell.1) there b.gives
@@ -134,7 +125,7 @@ module _ (v : Volume) (plain : is_redundant v ≡ false) where
 
   pub plain_parity : (is_absent : ℕ → ℕ → Bool) (image : Image) → HasParity is_absent v image
   plain_parity is_absent image element sector position part site part_at lacks none parity below site_is has =
-      absurd (no_rows element part part_at (keeps part.shape.layout part.shape.members (sector / part.shape.strip) position parity))
+      absurd (no_rows element part part_at (parity_keeps part.shape.layout part.shape.members (sector / part.shape.strip) position parity))
 
   pub plain_sound : (is_absent : ℕ → ℕ → Bool) (image : Image) → AreSectors image → IsSound is_absent v image
   plain_sound is_absent image are = record {

@@ -1,18 +1,18 @@
 -- Rows that rebuilds have set hold what they should while the array's extents stay as they are, where a rebuild goes on behind them, and where there are none.
 use Rattle.std.proofs.Common.{◌≡◌, ◌∙◌, inl, ⊎_elim, ℕ, ◌+◌, ◌*◌, ◌<◌, ◌≤◌, Bool, true, false, Some, refl, sym, ap, subst, arith, slice_get, ◌&&◌}
-use Rattle.std.specs.Prelude.{is_some, ◌==◌, if◌then◌else◌}
+use Rattle.std.specs.Prelude.{is_some, if◌then◌else◌}
 use Rattle.std.specs.List.{list_all, list_any}
 use Rattle.std.proofs.Math.Nat.{mul-le-mul_right}
 use Rattle.std.proofs.lemmas.Bool.{cases_lt}
 use Rattle.ddf_bay.specs.Sectors.{Image}
-use Rattle.ddf_config.specs.Within.{has_parity, lacks_one}
-use Rattle.ddf_primary.specs.declared.layout.Layout.{Layout}
-use Rattle.ddf_primary.specs.declared.layout.Layout.TheVariants.{Raid0, Raid1, Parity, Jbod, Concatenation}
-use Rattle.ddf_primary.specs.declared.parity.ParityLayout.TheVariants.{Raid4First, Raid4Last, Raid5ZeroRestart, Raid5LastRestart, Raid5LastContinuation}
+use Rattle.ddf_primary.specs.declared.need.Need.{Need}
+use Rattle.ddf_primary.proofs.Needs.{lone_needs}
+use Rattle.ddf_primary.specs.Cells.{height_of}
+use Rattle.ddf_config.specs.Within.{has_enough}
 use Rattle.ddf_array.specs.Apart.{IsApart}
 use Rattle.ddf_array.specs.declared.part.Part.{Part}
 use Rattle.ddf_array.specs.declared.place.Place.{Place}
-use Rattle.ddf_array.specs.Levels.{is_on_every, keeps_parity, level_of}
+use Rattle.ddf_array.specs.Levels.{keeps_copies, keeps_parity}
 use Rattle.ddf_array.specs.Places.{is_available, site_on}
 use Rattle.ddf_array.specs.Volume.{Volume, IsVolume}
 use Rattle.ddf_array.specs.Within.{is_part_within, is_redundant, is_within}
@@ -41,7 +41,7 @@ some_is x y e = cc
 -- no sector is below no rows
 pub no_rows : {A : Type 0} (part : Part) (row sector : ℕ) → row ≡ 0 → IsInRows part.shape 0 row sector → A
 no_rows part row sector none rows =
-    let below : sector < 0 * part.shape.strip = subst (λ (n : ℕ). sector < n * part.shape.strip) none rows.to_is in
+    let below : sector < 0 * height_of part.shape = subst (λ (n : ℕ). sector < n * height_of part.shape) none rows.to_is in
     absurd (omega (arith, below))
 
 -- the target is looked up once
@@ -111,9 +111,9 @@ module _ (is_absent : ℕ → ℕ → Bool) (v : Volume) (known : IsVolume v) (a
       (ap (slice_get part.places) same.1 ∙ target.is_place) in
       let row_le : place.row ≤ from = subst (λ (x : Place). x.row ≤ from) looked.1 (behind cell.part cell.place slot cell.is_target) in
       let sector_is : sector ≡ cell.sector = let at : place.start + sector ≡ place.start + cell.sector = cell.lba_is ∙ ap (λ (x : Place). x.start + cell.sector) looked.1 in omega (arith, at) in
-      let up : from * part.shape.strip ≤ cell.sector = subst (λ (x : Part). from * x.shape.strip ≤ cell.sector) looked.0 cell.in_rows.from_is in
+      let up : from * height_of part.shape ≤ cell.sector = subst (λ (x : Part). from * height_of x.shape ≤ cell.sector) looked.0 cell.in_rows.from_is in
       let down = rows.to_is in
-      let grows : place.row * part.shape.strip ≤ from * part.shape.strip = mul-le-mul_right part.shape.strip row_le in
+      let grows : place.row * height_of part.shape ≤ from * height_of part.shape = mul-le-mul_right (height_of part.shape) row_le in
       omega (arith, up, down, grows, sector_is)
 
   pub rows_behind : AreRowsKept is_absent v before → AreRowsKept is_absent v image
@@ -125,22 +125,22 @@ module _ (is_absent : ℕ → ℕ → Bool) (v : Volume) (known : IsVolume v) (a
 
 module _ (v : Volume) (known : IsVolume v) (apart : IsApart v) (element position from to : ℕ) (before image : Image) (left : StaysBut (IsTargetCell v element position from to) before image) where
   -- an earlier row stays
-  stays_set : (part : Part) (place : Place) (slot sector : ℕ) → IsTarget v element position part place slot → sector < from * part.shape.strip → IsTargetCell v element position from to slot (place.start + sector) → ⊥
+  stays_set : (part : Part) (place : Place) (slot sector : ℕ) → IsTarget v element position part place slot → sector < from * height_of part.shape → IsTargetCell v element position from to slot (place.start + sector) → ⊥
   stays_set part place slot sector target earlier cell =
       let looked = same_target v element position cell.part part cell.place place cell.is_target.is_part target.is_part cell.is_target.is_place target.is_place in
       let sector_is : sector ≡ cell.sector = let at : place.start + sector ≡ place.start + cell.sector = cell.lba_is ∙ ap (λ (x : Place). x.start + cell.sector) looked.1 in omega (arith, at) in
-      let up : from * part.shape.strip ≤ cell.sector = subst (λ (x : Part). from * x.shape.strip ≤ cell.sector) looked.0 cell.in_rows.from_is in
+      let up : from * height_of part.shape ≤ cell.sector = subst (λ (x : Part). from * height_of x.shape ≤ cell.sector) looked.0 cell.in_rows.from_is in
       omega (arith, up, earlier, sector_is)
 
   pub rows_go_on : HasRebuilt v element position 0 from before before → HasRebuilt v element position from to before image → HasRebuilt v element position 0 to image image
   rows_go_on first second part place slot sector target rows =
       let same = wanted_same v known before image (alike_rebuilding v element position from to before image apart left) element part target.is_part sector position (depth_below v known part sector rows.below) in
       ⊎_elim
-      (λ (earlier : sector < from * part.shape.strip).
+      (λ (earlier : sector < from * height_of part.shape).
       ⊎_elim (λ stays. stays) (λ cell. absurd (stays_set part place slot sector target earlier cell)) (left slot (place.start + sector))
       ∙ first part place slot sector target (record { from_is = rows.from_is; to_is = earlier; below = rows.below }) ∙ same)
-      (λ (later : from * part.shape.strip ≤ sector). second part place slot sector target (record { from_is = later; to_is = rows.to_is; below = rows.below }) ∙ same)
-      (cases_lt sector (from * part.shape.strip))
+      (λ (later : from * height_of part.shape ≤ sector). second part place slot sector target (record { from_is = later; to_is = rows.to_is; below = rows.below }) ∙ same)
+      (cases_lt sector (from * height_of part.shape))
 
 -- ---- there are none
 
@@ -157,37 +157,19 @@ marked_rows is_absent v image marked = record {
   first = λ unmarked within element position part place slot target counts. absurd (true_false v.marked marked unmarked);
 }
 
-lone_level : (layout : Layout) → is_on_every layout ≡ false → (level_of layout == 0x01) ≡ false
-lone_level Raid0 e = refl
-lone_level Raid1 e = absurd (cc)
-lone_level (Parity Raid4First) e = refl
-lone_level (Parity Raid4Last) e = refl
-lone_level (Parity Raid5ZeroRestart) e = refl
-lone_level (Parity Raid5LastRestart) e = refl
-lone_level (Parity Raid5LastContinuation) e = refl
-lone_level Jbod e = refl
-lone_level Concatenation e = refl
-
 -- where each block is in one place alone, an array within its level has no position that is out of sync
 module _ (v : Volume) (plain : is_redundant v ≡ false) (within : is_within v ≡ true) (element position : ℕ) (part : Part) (place : Place) (slot : ℕ) (target : IsTarget v element position part place slot) where
   part_within : is_part_within part ≡ true
   part_within =
       all_pass is_part_within v.parts (ap (λ b. if b then list_any is_part_within v.parts else list_all is_part_within v.parts) (sym (alone v plain)) ∙ within) element part target.is_part
 
-  by_level : (one more : Bool) → (level_of part.shape.layout == 0x01) ≡ one → has_parity (level_of part.shape.layout) ≡ more → more ≡ false → one ≡ false
-      → (if one then list_any is_available part.places else (if more then lacks_one is_available part.places else list_all is_available part.places)) ≡ true → list_all is_available part.places ≡ true
-  by_level one more one_is more_is none lone e =
-      ap (λ b. if b then lacks_one is_available part.places else list_all is_available part.places) (sym none)
-      ∙ ap (λ b. if b then list_any is_available part.places else (if more then lacks_one is_available part.places else list_all is_available part.places)) (sym lone) ∙ e
-
   pub never_out : ⊥
   never_out =
-      let plain_part = or_none (is_on_every part.shape.layout) (keeps_parity part.shape.layout) (keeps_one v plain element part target.is_part) in
+      let plain_part = or_none (keeps_copies part.shape.layout) (keeps_parity part.shape.layout) (keeps_one v plain element part target.is_part) in
       true_false place.synced (all_synced (all_pass is_available part.places (all_available part_within plain_part.0 plain_part.1) position place target.is_place)) target.is_out
     where
-      all_available : is_part_within part ≡ true → is_on_every part.shape.layout ≡ false → keeps_parity part.shape.layout ≡ false → list_all is_available part.places ≡ true
-      all_available e lone none =
-          by_level (level_of part.shape.layout == 0x01) (has_parity (level_of part.shape.layout)) refl refl none (lone_level part.shape.layout lone) e
+      all_available : is_part_within part ≡ true → keeps_copies part.shape.layout ≡ false → keeps_parity part.shape.layout ≡ false → list_all is_available part.places ≡ true
+      all_available e lone none = ap (λ (n : Need). has_enough n is_available part.places) (sym (lone_needs part.shape.layout lone none)) ∙ e
 
       all_synced : (place.synced && is_some place.slot) ≡ true → place.synced ≡ true
       all_synced e = by place.synced e

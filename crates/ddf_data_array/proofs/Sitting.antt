@@ -47,9 +47,8 @@ pub held_from : (v : Volume) → IsVolume v → (element : ℕ) (part : Part) (p
 held_from v known element part position sector block part_at e =
     let sits = block_at_sits v known element position sector block e in
     let same : sits.part ≡ part = some_is (sym sits.is_part ∙ part_at) in
-    let below = (cell_facts sits.part.shape (known.are_parts element sits.part sits.is_part).shape_is).member_within position sector sits.inner sits.on_position in
     let spot = at_spots v known block element sits.inner sits.in_element (slice_get_within v.parts element part part_at) in
-    let here = at_cells sits.part sits.inner position sector sits.on_position below in
+    let here = at_cells sits.part sits.inner (known.are_parts element sits.part sits.is_part).shape_is position sector sits.on_position in
     record {
       has = record {
         j = spot.0;

@@ -9,10 +9,10 @@ use Rattle.std.proofs.lemmas.Simd.{length-zip2}
 use Rattle.ddf_parity.specs.Xor.{xor, xor_all, zeros}
 use Rattle.ddf_parity.specs.XorLaws.{xor_all_first, xor_all_taken_out, xor_with_itself, same_from_zero}
 use Rattle.ddf_primary.specs.declared.layout.Layout.{Layout}
-use Rattle.ddf_primary.specs.declared.layout.Layout.TheVariants.{Raid0, Raid1, Parity, Jbod, Concatenation}
 use Rattle.ddf_primary.specs.declared.parity.ParityLayout.{ParityLayout}
 use Rattle.ddf_primary.specs.declared.parity.ParityLayout.TheVariants.{Raid4First, Raid4Last, Raid5ZeroRestart, Raid5LastRestart, Raid5LastContinuation}
-use Rattle.ddf_primary.specs.Cells.{after_parity, before_parity, data_around, parity_by, parity_on}
+use Rattle.ddf_primary.specs.Cells.{after_parity, before_parity, data_around, parity_by}
+use Rattle.ddf_primary.proofs.Needs.{parity_row}
 use Rattle.ddf_array.specs.Rows.{data_by}
 use Rattle.ddf_array.specs.Sources.{other_positions}
 use Rattle.ddf_array.proofs.Ranges.{range-around}
@@ -181,14 +181,10 @@ module _ (members parity q : ℕ) (below : q < members) (other : q ≢ parity) w
       either (λ less. to_back (after_parity members parity) (before_parity parity) q q (in_front less)) (λ more. (q - parity - 1, at_front (after_parity members parity) (before_parity parity) (q - parity - 1) q (in_behind more)))
 
   pub data_at : (layout : Layout) (number : ℕ) → parity_by layout members number ≡ Some parity → (k : ℕ) × (slice_get (data_by layout members number) k ≡ Some q)
-  data_at Raid0 number e = absurd (cc)
-  data_at Raid1 number e = absurd (cc)
-  data_at (Parity layout) number e =
-      let same : parity_on layout members number ≡ parity = cc in
-      let there = data_item layout in
-      (there.0, ap (λ p. slice_get (data_around layout members p) there.0) same ∙ there.1)
-  data_at Jbod number e = absurd (cc)
-  data_at Concatenation number e = absurd (cc)
+  data_at layout number e =
+      let row = parity_row layout members number parity e in
+      let there = data_item row.kind in
+      (there.0, ap (λ l. slice_get l there.0) row.data_are ∙ there.1)
 
 -- and the data cells lie at other positions
 module _ (members parity : ℕ) (below : parity < members) where
@@ -213,10 +209,6 @@ module _ (members parity : ℕ) (below : parity < members) where
       ⊎_elim (λ front. behind_data front.0 x front.1) (λ back. front_data back.0 x back.1) (in_both (after_parity members parity) (before_parity parity) k x e)
 
   pub is_data : (layout : Layout) (number k x : ℕ) → parity_by layout members number ≡ Some parity → slice_get (data_by layout members number) k ≡ Some x → (x ≢ parity) × (x < members)
-  is_data Raid0 number k x is e = absurd (cc)
-  is_data Raid1 number k x is e = absurd (cc)
-  is_data (Parity layout) number k x is e =
-      let same : parity_on layout members number ≡ parity = cc in
-      is_data_around layout k x (ap (λ p. slice_get (data_around layout members p) k) (sym same) ∙ e)
-  is_data Jbod number k x is e = absurd (cc)
-  is_data Concatenation number k x is e = absurd (cc)
+  is_data layout number k x is e =
+      let row = parity_row layout members number parity is in
+      is_data_around row.kind k x (ap (λ l. slice_get l k) (sym row.data_are) ∙ e)

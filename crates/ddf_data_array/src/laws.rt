@@ -20,6 +20,7 @@ ghost use Rattle.ddf_data_array.specs.Changing.{HaveCells, IsConsistentNow, IsRe
 ghost use Rattle.ddf_data_array.specs.Fewer.{IsFewer, LeavesParity, LeavesRows};
 ghost use Rattle.ddf_data_array.specs.History.{Moment, Keeps, IsHistory};
 ghost use Rattle.ddf_data_array.specs.Kept.{IsKeptData};
+ghost use Rattle.ddf_data_array.specs.Moved.{HoldsTheSame, moved};
 ghost use Rattle.ddf_data_array.specs.Rows.{AreAlikeThroughout, AreRowsKept, GoesOnBehind, HasNoRows, IsFirstOut, NoneAbsent};
 
 /// What other sectors hold, as those of records, changes nothing of what an array keeps.
@@ -34,6 +35,13 @@ pub fn fewer_places_change_nothing()
     ensures { (absent_before absent_after : ℕ → ℕ → Bool) (before after : Volume) (image : Image) (allowed : Allowed) → IsVolume after
         → IsFewer before after → LeavesParity absent_before absent_after before after → LeavesRows before after
         → IsKeptData absent_before before image allowed → IsKeptData absent_after after image allowed }
+{}
+
+/// A position that lies elsewhere, where the same bytes stand, changes nothing of what an array keeps.
+pub fn a_place_that_moves_changes_nothing()
+    ensures { (is_absent : ℕ → ℕ → Bool) (volume : Volume) (image : Image) (allowed : Allowed) (element position slot start : ℕ) → IsVolume volume
+        → HoldsTheSame volume image element position slot start → IsKeptData is_absent volume image allowed
+        → IsKeptData is_absent (moved element position slot start volume) image allowed }
 {}
 
 /// The mark of an array may be cleared once it is consistent, each block's value is one that the block may have, and the rows that count as rebuilt

@@ -4,7 +4,8 @@
 mod laws;
 
 pub use laws::{
-    a_consistent_array_counts, a_consistent_array_needs_no_mark, a_plain_array_is_consistent,
+    a_consistent_array_counts, a_consistent_array_needs_no_mark,
+    a_place_that_moves_changes_nothing, a_plain_array_is_consistent,
     a_read_gives_what_a_block_may_have, a_rebuild_keeps_what_the_array_keeps,
     a_rebuilt_position_may_be_in_sync, a_resync_keeps_what_the_array_keeps,
     a_whole_array_is_consistent_once_redundant, a_write_keeps_what_the_array_keeps,

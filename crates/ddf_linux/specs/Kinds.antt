@@ -6,6 +6,7 @@ use Rattle.ddf_bytes.specs.Bytes.{number_at}
 use Rattle.ddf_bay.specs.State.{BayState, size_of}
 use Rattle.ddf_seal.specs.Seal.{seal_check}
 use Rattle.ddf_seal.specs.declared.sealing.SealFault.{SealFault}
+use Rattle.ddf_seal.specs.declared.sealing.TheConstants.{SIGNATURE_AT}
 use Rattle.ddf_header.specs.Header.{header_signature}
 use Rattle.ddf_update.specs.declared.new_layout.NewLayout.{NewLayout}
 use Rattle.ddf_update.specs.NewLayouts.{least_sectors}
@@ -58,7 +59,7 @@ pub record IsKindOf {D : Type 0} (disks : BayState D) (slot : ℕ) (kind : SlotK
 
 -- the number that a sector begins with
 abbrev pub signature_of : List ℕ → ℕ
-signature_of bytes = number_at w32 bytes 0
+signature_of bytes = number_at w32 bytes SIGNATURE_AT
 
 -- A disk of a layout may be founded on a slot: there is room for one, and its last sector begins as no anchor.
 abbrev pub may_be_founded : NewLayout → (size : ℕ) → (last : List ℕ) → Bool

@@ -1,11 +1,12 @@
-//! Records in the two kinds of seal: the standard's, and that of Linux's mdadm.
+//! Records in the two kinds of seal, the standard's and that of Linux's mdadm, which differ by a constant of their length.
+//! docs/LINUX-SEALS.md#one-constant
 ghost use Rattle.std.specs.Prelude.{◌≡◌, ◌↔◌, ◌≤◌, ℕ, length};
 ghost use Rattle.ddf_seal.specs.Seal.{IsSealed};
 ghost use Rattle.ddf_linux.specs.Crcs.{constant_of, linux_crc_of, IsLinuxSealed};
 ghost use Rattle.ddf_linux.specs.Turning.{turned};
 
 use crate::zeros::constant_of;
-use ddf_seal::crc32;
+use ddf_seal::{CRC_AT, crc32};
 
 /// The CRC of the bytes as Linux's mdadm counts it: the polynomial is the standard's, the register begins with 0, and no
 /// bits are turned in the end.
@@ -35,8 +36,8 @@ pub(crate) fn add(constant: u32, bytes: &mut [u8])
     ensures { bytes.new ≡ turned constant bytes.old }
 {
     let [first, second, third, fourth] = constant.to_be_bytes();
-    bytes[4] ^= first;
-    bytes[5] ^= second;
-    bytes[6] ^= third;
-    bytes[7] ^= fourth;
+    bytes[CRC_AT] ^= first;
+    bytes[CRC_AT + 1] ^= second;
+    bytes[CRC_AT + 2] ^= third;
+    bytes[CRC_AT + 3] ^= fourth;
 }

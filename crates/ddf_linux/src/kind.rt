@@ -1,4 +1,5 @@
-//! How a slot is seen, by its last sector, and its sectors turned.
+//! How a slot is seen, by its last sector. One that could not be read fails each call: it might else look blank, and be written to.
+//! docs/LINUX-SEALS.md#a-bay-over-a-bay
 ghost use Rattle.std.specs.Prelude.{◌≡◌, ◌↔◌, ◌<◌, ◌≤◌, ◌+◌, ◌-◌, ◌^◌, ℕ, [], IsTrue, true, false, List, length, slice_index_or};
 ghost use Rattle.ddf_header.specs.Header.{header_signature};
 ghost use Rattle.ddf_update.specs.NewLayouts.{least_sectors};

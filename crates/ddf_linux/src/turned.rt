@@ -1,4 +1,4 @@
-//! A bay over a bay, whose records are turned where Linux sealed them.
+//! A bay over a bay, whose records are turned where Linux sealed them, so that all else knows one kind of seal. docs/LINUX-SEALS.md#a-bay-over-a-bay
 ghost use Rattle.std.specs.Prelude.{◌≡◌, ◌≢◌, ◌<◌, ◌≤◌, ℕ, true, false, length, replicate};
 ghost use Rattle.ddf_bytes.specs.Counts.{Rose};
 ghost use Rattle.ddf_bay.specs.Moments.{Remembers, SpendsOver, SpendsReads};

@@ -1,6 +1,6 @@
 -- Bounds of the places that dividing gives.
-use Rattle.std.proofs.Common.{◌≡◌, ℕ, zero, suc, ◌+◌, ◌-◌, ◌*◌, ◌/◌, ◌%◌, ◌^◌, ◌<◌, ◌≤◌, arith}
-use Rattle.std.proofs.lemmas.Nat.{mul-add-lt, div-add-mod', mul-le, mod_below, div_below}
+use Rattle.std.proofs.Common.{◌≡◌, ◌∙◌, ℕ, zero, suc, ◌+◌, ◌-◌, ◌*◌, ◌/◌, ◌%◌, ◌^◌, ◌<◌, ◌≤◌, ap, arith}
+use Rattle.std.proofs.lemmas.Nat.{mul-add-lt, div-add-mod', div-mul-add, mul-le, mod_below, div_below}
 use Rattle.std.proofs.Math.Nat.{div-le_self}
 
 -- the sector of a block is no greater than the block
@@ -45,3 +45,18 @@ row_within block strip columns rows below =
     let some_strip : 0 < strip = factor_pos (rows * columns) strip block (omega arith) in
     let some_columns : 0 < columns = factor_pos (rows * strip) columns block (omega arith) in
     div_below (block / strip) columns rows some_columns (div_below block strip (rows * columns) some_strip (omega arith))
+
+-- the number as a row and a place in it
+pub spread : (n k width : ℕ) → n + k ≡ n / width * width + (n % width + k)
+spread n k width = omega (arith, div-add-mod' n width)
+
+-- a number that stays in its row when something is added
+pub same_row : (n k width : ℕ) → n % width + k < width → (n + k) / width ≡ n / width
+same_row n k width stays = ap (λ m. m / width) (spread n k width) ∙ div-mul-add (n / width) width (n % width + k) stays
+
+pub later_place : (n k width : ℕ) → n % width + k < width → (n + k) % width ≡ n % width + k
+later_place n k width stays =
+    let row = same_row n k width stays in
+    let whole = div-add-mod' (n + k) width in
+    let back : (n + k) / width * width ≡ n / width * width = ap (λ m. m * width) row in
+    omega (arith, whole, back, spread n k width)

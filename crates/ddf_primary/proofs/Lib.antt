@@ -1,8 +1,12 @@
 pub mod Lists
 pub mod Around
 pub mod Divide
+pub mod Needs
+pub mod Served
 pub mod Striped
 pub mod CellFacts
 pub mod RowLayouts
 pub mod WholeLayouts
 pub mod ShapeFacts
+pub mod Copies
+pub mod StripCells

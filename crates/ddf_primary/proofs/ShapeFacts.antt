@@ -8,7 +8,7 @@ use Rattle.ddf_primary.specs.declared.layout.Layout.TheVariants.{Raid0, Raid1, P
 use Rattle.ddf_primary.specs.declared.parity.ParityLayout.{ParityLayout}
 use Rattle.ddf_primary.specs.Placement.{Placement}
 use Rattle.ddf_primary.specs.Levels.{takes_members, IsShape}
-use Rattle.ddf_primary.specs.Cells.{cells, columns_by, depth_by, depth_of, members_around, parity_on, parity_by, rows_by, rows_of, unit_of, Holds}
+use Rattle.ddf_primary.specs.Cells.{cells, columns_by, depth_by, depth_of, members_around, parity_on, parity_by, rows_by, rows_of, unit_of, Holds, height_by, height_of}
 use Rattle.ddf_primary.proofs.CellFacts.{CellFacts}
 use Rattle.ddf_primary.proofs.RowLayouts.{raid_0_length, raid_0_block, raid_0_facts, parity_length, parity_block, parity_facts}
 use Rattle.ddf_primary.proofs.WholeLayouts.{raid_1_length, raid_1_facts, jbod_length, jbod_facts, concatenated_length, concatenated_facts}
@@ -136,3 +136,48 @@ pub parity_answer : (shape : Placement) (parity : ParityLayout) (member sector n
 parity_answer shape parity member sector number is sound there near block =
     subst (λ (l : Layout). (◌≡◌ {A = Option ℕ} (Some ((sector / shape.strip * columns_by l shape.members + number) * shape.strip + sector % shape.strip)) (Some block)) ↔ Holds shape member sector block) (sym is)
     (some_block _ block (parity_block shape parity is (parity_members shape parity is sound) member sector number block there near))
+
+-- the list has no more cells than the members have blocks
+cells_le_by : (layout : Layout) (shape : Placement) → shape.layout ≡ layout → IsShape shape → length (cells shape) ≤ shape.members * shape.blocks
+cells_le_by Raid0 shape is sound = omega (arith, capacity_is shape sound (λ e. let no : Raid0 ≡ Concatenation = sym is ∙ e in absurd cc), capacity_le shape sound)
+cells_le_by Raid1 shape is sound = omega (arith, capacity_is shape sound (λ e. let no : Raid1 ≡ Concatenation = sym is ∙ e in absurd cc), capacity_le shape sound)
+cells_le_by (Parity parity) shape is sound = omega (arith, capacity_is shape sound (λ e. let no : Parity parity ≡ Concatenation = sym is ∙ e in absurd cc), capacity_le shape sound)
+cells_le_by Jbod shape is sound = omega (arith, capacity_is shape sound (λ e. let no : Jbod ≡ Concatenation = sym is ∙ e in absurd cc), capacity_le shape sound)
+cells_le_by Concatenation shape is sound = omega (arith, concatenated_length shape is)
+
+pub cells_le : (shape : Placement) → IsShape shape → length (cells shape) ≤ shape.members * shape.blocks
+cells_le shape sound = cells_le_by shape.layout shape refl sound
+
+-- and the whole rows are among it
+rows_among : (shape : Placement) → IsShape shape → (shape.layout ≡ Concatenation → ⊥) → unit_of shape * rows_of shape ≤ length (cells shape)
+rows_among shape sound other = subst (λ (n : ℕ). unit_of shape * n ≤ length (cells shape)) (rows_is shape other) (rows_le shape sound other)
+
+rows_fit_by : (layout : Layout) (shape : Placement) → shape.layout ≡ layout → IsShape shape → unit_of shape * rows_of shape ≤ length (cells shape)
+rows_fit_by Raid0 shape is sound = rows_among shape sound (λ e. let no : Raid0 ≡ Concatenation = sym is ∙ e in absurd cc)
+rows_fit_by Raid1 shape is sound = rows_among shape sound (λ e. let no : Raid1 ≡ Concatenation = sym is ∙ e in absurd cc)
+rows_fit_by (Parity parity) shape is sound = rows_among shape sound (λ e. let no : Parity parity ≡ Concatenation = sym is ∙ e in absurd cc)
+rows_fit_by Jbod shape is sound = rows_among shape sound (λ e. let no : Jbod ≡ Concatenation = sym is ∙ e in absurd cc)
+rows_fit_by Concatenation shape is sound =
+    subst (λ (l : Layout). unit_of shape * rows_by l shape.members shape.strip shape.blocks ≤ length (cells shape)) (sym is) (rows_le_concatenated shape is)
+
+pub rows_fit : (shape : Placement) → IsShape shape → unit_of shape * rows_of shape ≤ length (cells shape)
+rows_fit shape sound = rows_fit_by shape.layout shape refl sound
+
+-- each data row has a strip
+pub columns_some : (layout : Layout) (members : ℕ) → IsTrue (takes_members layout members) → 0 < columns_by layout members
+columns_some Raid0 members taken = search (rules, tests)
+columns_some Raid1 members taken = omega arith
+columns_some (Parity parity) members taken = let two : 2 ≤ members = search (rules, tests) in omega arith
+columns_some Jbod members taken = omega arith
+columns_some Concatenation members taken = omega arith
+
+-- and some sectors of each member
+height_some_by : (layout : Layout) (strip : ℕ) → 0 < strip → 0 < height_by layout strip
+height_some_by Raid0 strip some = some
+height_some_by Raid1 strip some = some
+height_some_by (Parity parity) strip some = some
+height_some_by Jbod strip some = some
+height_some_by Concatenation strip some = some
+
+pub height_some : (shape : Placement) → IsShape shape → 0 < height_of shape
+height_some shape sound = height_some_by shape.layout shape.strip (omega (arith, sound.some_strip))

@@ -1,11 +1,12 @@
 -- The lists of cells: which member and sector holds each block, by the standard's tables of RAID
 -- levels.
-use Rattle.std.specs.Prelude.{◌≡◌, ℕ, ◌+◌, ◌-◌, ◌*◌, ◌/◌, ◌%◌, ◌<◌, List, ◌++◌, map, Option, Some, None, slice_get}
+use Rattle.std.specs.Prelude.{◌≡◌, ℕ, ◌+◌, ◌-◌, ◌*◌, ◌/◌, ◌%◌, ◌<◌, List, [], ◌++◌, map, Option, Some, None, option_map, slice_get}
 use Rattle.std.specs.List.{range_with_len, flat_map}
 use Rattle.ddf_primary.specs.declared.layout.Layout.{Layout}
 use Rattle.ddf_primary.specs.declared.layout.Layout.TheVariants.{Raid0, Raid1, Parity, Jbod, Concatenation}
 use Rattle.ddf_primary.specs.declared.parity.ParityLayout.{ParityLayout}
 use Rattle.ddf_primary.specs.declared.parity.ParityLayout.TheVariants.{Raid4First, Raid4Last, Raid5ZeroRestart, Raid5LastRestart, Raid5LastContinuation}
+use Rattle.ddf_primary.specs.Needs.{parity_of}
 use Rattle.ddf_primary.specs.Placement.{Placement}
 
 -- the member with the parity of a row
@@ -34,11 +35,7 @@ data_around Raid5LastContinuation members parity = after_parity members parity +
 
 -- the member that holds the parity of a row, for the levels that have one
 abbrev pub parity_by : Layout → ℕ → ℕ → Option ℕ
-parity_by Raid0 members row = None
-parity_by Raid1 members row = None
-parity_by (Parity parity) members row = Some (parity_on parity members row)
-parity_by Jbod members row = None
-parity_by Concatenation members row = None
+parity_by layout members row = option_map (λ parity. parity_on parity members row) (parity_of layout)
 
 abbrev pub parity_member : Placement → ℕ → Option ℕ
 parity_member shape row = parity_by shape.layout shape.members row
@@ -60,6 +57,10 @@ every_member members row = range_with_len 0 members
 
 abbrev pub members_around : ParityLayout → ℕ → ℕ → List ℕ
 members_around parity members row = data_around parity members (parity_on parity members row)
+
+-- those of a row that has parity
+abbrev pub data_by : Layout → ℕ → ℕ → List ℕ
+data_by layout members row = elim (parity_of layout) [ None ↦ [] | Some parity ↦ members_around parity members row ]
 
 -- row after row, in a row strip after strip, in a strip sector after sector
 abbrev pub row_cells : (ℕ → List ℕ) → ℕ → ℕ → List (ℕ × ℕ)
@@ -114,6 +115,17 @@ depth_of shape = depth_by shape.layout shape.strip shape.blocks
 -- the blocks of one data row
 abbrev pub unit_of : Placement → ℕ
 unit_of shape = columns_by shape.layout shape.members * shape.strip
+
+-- how many sectors of each member a data row takes
+abbrev pub height_by : Layout → ℕ → ℕ
+height_by Raid0 strip = strip
+height_by Raid1 strip = strip
+height_by (Parity _) strip = strip
+height_by Jbod strip = strip
+height_by Concatenation strip = strip
+
+abbrev pub height_of : Placement → ℕ
+height_of shape = height_by shape.layout shape.strip
 
 -- the whole rows: of each member, or of the members one after another
 abbrev pub rows_by : Layout → ℕ → ℕ → ℕ → ℕ

@@ -1,8 +1,11 @@
 //! Laws of every shape's cells: functions that do nothing, whose contracts are the laws.
-ghost use Rattle.std.specs.Prelude.{◌≡◌, ◌⊎◌, ℕ, ◌<◌, ◌/◌, Some};
+ghost use Rattle.std.specs.Prelude.{◌≡◌, ◌⊎◌, ℕ, ◌<◌, ◌/◌, ◌||◌, Some, Ok};
+ghost use Rattle.ddf_primary.specs.declared.layout.Layout.{Layout};
 ghost use Rattle.ddf_primary.specs.Placement.{Placement};
-ghost use Rattle.ddf_primary.specs.Levels.{IsShape};
+ghost use Rattle.ddf_primary.specs.Levels.{IsShape, served_layout};
+ghost use Rattle.ddf_primary.specs.Needs.{keeps_copies, keeps_more_of, keeps_parity, need_by, need_of};
 ghost use Rattle.ddf_primary.specs.Cells.{Holds, depth_of, parity_member};
+ghost use Rattle.ddf_primary.specs.Copies.{sector_on};
 
 /// Two blocks never share a cell.
 // promise:cells
@@ -33,4 +36,21 @@ pub fn each_cell_holds_a_block_or_parity()
         → member < shape.members → sector < depth_of shape
         → (parity_member shape (sector / shape.strip) ≡ Some member)
         ⊎ ((block : ℕ) × Holds shape member sector block) }
+{}
+
+/// A member has a block at a sector exactly where the block lies there.
+pub fn a_member_has_the_blocks_that_lie_on_it()
+    ensures lies { (shape : Placement) (member sector block : ℕ) → IsShape shape
+        → sector_on shape member block ≡ Some sector → Holds shape member sector block }
+    ensures has { (shape : Placement) (member sector block : ℕ) → IsShape shape
+        → Holds shape member sector block → sector_on shape member block ≡ Some sector }
+{}
+
+/// What an element of a served layout needs, and whether it keeps data in more than one place, is what the code of its level says.
+pub fn a_served_layout_needs_what_its_level_says()
+    ensures need { (level qualifier : ℕ) (layout : Layout)
+        → served_layout level qualifier ≡ Ok layout → need_by layout ≡ need_of level }
+    ensures more { (level qualifier : ℕ) (layout : Layout)
+        → served_layout level qualifier ≡ Ok layout
+        → (keeps_copies layout || keeps_parity layout) ≡ keeps_more_of level }
 {}

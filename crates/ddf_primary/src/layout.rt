@@ -2,8 +2,9 @@
 //! would be read at wrong places. docs/PLACING.md#primary-levels
 ghost use Rattle.std.specs.Prelude.{◌≡◌, IsTrue};
 ghost use Rattle.ddf_primary.specs.Levels.{served_layout, takes_members, takes_blocks};
+ghost use Rattle.ddf_primary.specs.Needs.{is_on_every, keeps_copies, keeps_parity, need_by};
 
-use crate::{ParityLayout, ShapeFault};
+use crate::{Need, ParityLayout, ShapeFault};
 
 /// How an element lays its blocks over its members: a primary level, with what its qualifier says.
 #[derive(Clone, Copy, PartialEq, Eq)]
@@ -40,6 +41,38 @@ impl Layout {
             (0x0F, _) => Ok(Layout::Jbod),
             (0x1F, _) => Ok(Layout::Concatenation),
             _ => Err(ShapeFault::Level(level)),
+        }
+    }
+
+    /// Whether each member holds each block, at the same sector.
+    pub fn is_on_every(self) -> bool
+        ensures { result ≡ is_on_every self }
+    {
+        matches!(self, Layout::Raid1)
+    }
+
+    /// Whether each block is on more than one member.
+    pub fn keeps_copies(self) -> bool
+        ensures { result ≡ keeps_copies self }
+    {
+        matches!(self, Layout::Raid1)
+    }
+
+    /// Whether each row has its parity.
+    pub fn keeps_parity(self) -> bool
+        ensures { result ≡ keeps_parity self }
+    {
+        matches!(self, Layout::Parity(_))
+    }
+
+    /// Which members an element needs.
+    pub fn need(self) -> Need
+        ensures { result ≡ need_by self }
+    {
+        match self {
+            Layout::Raid1 => Need::One,
+            Layout::Parity(_) => Need::AllButOne,
+            Layout::Raid0 | Layout::Jbod | Layout::Concatenation => Need::All,
         }
     }
 

@@ -1,7 +1,7 @@
 //! An element as numbers: from a block to its cell and back, for every level. That both ways agree is what keeps a write from going over
 //! another block. docs/PLACING.md#primary-levels
 ghost use Rattle.std.specs.Prelude.{◌≡◌, ◌↔◌, ℕ, ◌<◌, ◌≤◌, ◌+◌, ◌*◌, ◌/◌, ◌%◌, ◌^◌};
-ghost use Rattle.std.specs.Prelude.{length, slice_get, IfOk};
+ghost use Rattle.std.specs.Prelude.{length, slice_get, IfOk, IfSome};
 
 use crate::strip::{block_of_strip, strip_of_block};
 use crate::{Cell, Layout, ParityLayout, ShapeFault};
@@ -31,7 +31,8 @@ impl Model for Shape {
 
 impl Shape {
     ghost use Rattle.ddf_primary.specs.Levels.{shape_of, IsShape};
-    ghost use Rattle.ddf_primary.specs.Cells.{cells, columns_by, parity_member, Holds, depth_of, unit_of, rows_of};
+    ghost use Rattle.ddf_primary.specs.Copies.{sector_on};
+    ghost use Rattle.ddf_primary.specs.Cells.{cells, columns_by, parity_member, Holds, depth_of, height_of, unit_of, rows_of};
 
     /// The shape of an element: its primary level and qualifier, its number of members, the sectors
     /// of a strip, and the blocks per member.
@@ -72,6 +73,13 @@ impl Shape {
         self.layout
     }
 
+    /// The sectors of a strip.
+    pub fn strip(&self) -> u64
+        ensures { result ≡ self.now.strip }
+    {
+        self.strip
+    }
+
     /// The blocks that the element holds.
     pub fn capacity(&self) -> u64
         ensures value { result ≡ length (cells self.now) }
@@ -102,6 +110,32 @@ impl Shape {
         }
     }
 
+    /// The sectors of each member that hold blocks or parity.
+    pub fn depth(&self) -> u64
+        ensures value { result ≡ depth_of self.now }
+        ensures bound { result ≤ self.now.blocks }
+    {
+        match self.layout {
+            Layout::Raid0 | Layout::Parity(_) => self.blocks / self.strip * self.strip,
+            Layout::Raid1 | Layout::Jbod | Layout::Concatenation => self.blocks,
+        }
+    }
+
+    /// The sectors of each member that a data row takes.
+    pub fn height(&self) -> u64
+        ensures value { result ≡ height_of self.now }
+        ensures some { 0 < result }
+        ensures small { result ≤ 2 ^ 32 }
+    {
+        match self.layout {
+            Layout::Raid0
+            | Layout::Raid1
+            | Layout::Parity(_)
+            | Layout::Jbod
+            | Layout::Concatenation => self.strip,
+        }
+    }
+
     /// The cell of a block. For RAID 1 it is that of member 0, and every member holds the block at
     /// the same sector.
     pub fn place(&self, block: u64) -> Cell
@@ -118,6 +152,21 @@ impl Shape {
             sector,
             row: sector / self.strip,
         }
+    }
+
+    /// The sector at which a member holds a block, if it does.
+    pub fn sector_on(&self, member: u16, block: u64) -> Option<u64>
+        requires { block < length (cells self.now) }
+        ensures sector { result ≡ sector_on self.now member block }
+        ensures within { IfSome result (λ sector. sector < self.now.blocks) }
+    {
+        let (own, sector) = self.member_and_sector(block);
+        let holds = if self.layout.is_on_every() {
+            member < self.members
+        } else {
+            own == member
+        };
+        if holds { Some(sector) } else { None }
     }
 
     /// The block that a member holds at a sector. None where the cell holds parity, or lies past the
@@ -155,17 +204,6 @@ impl Shape {
             Layout::Raid0 => self.members,
             Layout::Parity(_) => self.members - 1,
             Layout::Raid1 | Layout::Jbod | Layout::Concatenation => 1,
-        }
-    }
-
-    /// The sectors of each member that hold blocks or parity.
-    fn depth(&self) -> u64
-        ensures value { result ≡ depth_of self.now }
-        ensures bound { result ≤ self.now.blocks }
-    {
-        match self.layout {
-            Layout::Raid0 | Layout::Parity(_) => self.blocks / self.strip * self.strip,
-            Layout::Raid1 | Layout::Jbod | Layout::Concatenation => self.blocks,
         }
     }
 

@@ -1,14 +1,14 @@
 -- Where the copies of blocks lie.
-use Rattle.std.proofs.Common.{◌≡◌, ℕ, ◌<◌, List, [], ◌∷◌, ◌++◌, Option, Some, None, refl, subst, arith, slice_get}
-use Rattle.std.specs.Prelude.{map, filter_map}
+use Rattle.std.proofs.Common.{◌≡◌, ℕ, suc, ◌<◌, List, [], ◌∷◌, ◌++◌, Option, Some, None, refl, subst, arith, slice_get}
+use Rattle.std.specs.Prelude.{filter_map}
 use Rattle.std.specs.List.{flat_map, cons_option}
-use Rattle.ddf_primary.specs.Cells.{cells}
+use Rattle.ddf_primary.proofs.Copies.{copy_is, on_holds}
 use Rattle.ddf_primary.proofs.ShapeFacts.{cell_facts, depth_le}
 use Rattle.ddf_secondary.specs.declared.spot.Spot.{Spot}
 use Rattle.ddf_array.specs.declared.part.Part.{Part}
 use Rattle.ddf_array.specs.declared.site.Site.{Site}
 use Rattle.ddf_array.specs.Places.{site_at}
-use Rattle.ddf_array.specs.Cells.{positions_like, cells_like, block_spots}
+use Rattle.ddf_array.specs.Cells.{element_cells, block_spots}
 use Rattle.ddf_array.specs.Sources.{element_copies, at_spot, copies, first_copy}
 use Rattle.ddf_array.specs.Volume.{Volume, IsVolume, IsPart, PartFits, Fits}
 use Rattle.ddf_read.proofs.Sites.{IsThere, site_at_there}
@@ -35,26 +35,28 @@ module _ (sizes : List ℕ) where
   there_first [] one there e = absurd (cc)
   there_first (site ∷ sites) one there e = let same : site ≡ one = cc in subst (λ s. IsThere sizes s 1) same there.0
 
-  -- the sector of any positions
-  at_positions : (part : Part) (sector : ℕ) → PartFits sizes part → sector < part.shape.blocks → (positions : List ℕ)
-      → AreThere sizes (filter_map (λ (cell : ℕ × ℕ). site_at part.places cell.0 cell.1) (map (λ position. (position, sector)) positions))
-  at_positions part sector fits below [] = tt
-  at_positions part sector fits below (p ∷ positions) =
-      there_option (site_at part.places p sector) _ (λ one e. site_at_there sizes part p sector 1 one fits (omega arith) e) (at_positions part sector fits below positions)
+  -- the sectors of any cells
+  at_cells : (part : Part) → PartFits sizes part → (all : List (ℕ × ℕ)) → ((k : ℕ) (cell : ℕ × ℕ) → slice_get all k ≡ Some cell → cell.1 < part.shape.blocks)
+      → AreThere sizes (filter_map (λ (cell : ℕ × ℕ). site_at part.places cell.0 cell.1) all)
+  at_cells part fits [] below = tt
+  at_cells part fits (cell ∷ all) below =
+      let deep : cell.1 < part.shape.blocks = below 0 cell refl in
+      there_option (site_at part.places cell.0 cell.1) _ (λ one e. site_at_there sizes part cell.0 cell.1 1 one fits (omega (arith, deep)) e) (at_cells part fits all (λ k other at. below (suc k) other at))
 
-  by_cell : (part : Part) → IsPart part → PartFits sizes part → (block : ℕ) (found : Option (ℕ × ℕ)) → slice_get (cells part.shape) block ≡ found
-      → AreThere sizes (filter_map (λ (cell : ℕ × ℕ). site_at part.places cell.0 cell.1) (elim found [ None ↦ [] | Some cell ↦ cells_like part.shape.layout part.shape.members cell ]))
-  by_cell part known fits block None e = tt
-  by_cell part known fits block (Some cell) e =
-      let facts = cell_facts part.shape known.shape_is in
-      let below : cell.1 < part.shape.blocks = omega (arith, facts.sector_within cell.0 cell.1 block (facts.named cell.0 cell.1 block e), depth_le part.shape.layout part.shape.strip part.shape.blocks) in
-      at_positions part cell.1 fits below (positions_like part.shape.layout part.shape.members cell.0)
+  of_block : (part : Part) → IsPart part → PartFits sizes part → (block : ℕ) → AreThere sizes (element_copies part block)
+  of_block part known fits block =
+      let shape = known.shape_is in
+      let facts = cell_facts part.shape shape in
+      at_cells part fits (element_cells part.shape block)
+      (λ k cell at.
+      let deep = facts.sector_within cell.0 cell.1 block (on_holds part.shape shape cell.0 cell.1 block (copy_is part.shape block k cell at).1) in
+      omega (arith, deep, depth_le part.shape.layout part.shape.strip part.shape.blocks))
 
   by_part : (v : Volume) → IsVolume v → Fits sizes v → (spot : Spot) (found : Option Part) → slice_get v.parts spot.element ≡ found
       → AreThere sizes (elim found [ None ↦ [] | Some part ↦ element_copies part spot.block ])
   by_part v known fits spot None e = tt
   by_part v known fits spot (Some part) e =
-      by_cell part (known.are_parts spot.element part e) (fits spot.element part e) spot.block (slice_get (cells part.shape) spot.block) refl
+      of_block part (known.are_parts spot.element part e) (fits spot.element part e) spot.block
 
   -- the first copy of a block is on its slot
   pub first_there : (v : Volume) → IsVolume v → Fits sizes v → (block : ℕ) (one : Site) → first_copy v block ≡ Some one → IsThere sizes one 1

@@ -1,23 +1,11 @@
 -- Numbers that stay in one row when something is added.
 use Rattle.std.proofs.Common.{◌≡◌, ◌∙◌, ℕ, ◌+◌, ◌-◌, ◌*◌, ◌/◌, ◌%◌, ◌<◌, ◌≤◌, sym, ap, arith}
-use Rattle.std.proofs.lemmas.Nat.{div-add-mod', div-mul-add, div_below, mod_below, mul-le}
+use Rattle.std.proofs.lemmas.Nat.{div-add-mod', div_below, mod_below, mul-le}
 use Rattle.std.proofs.Math.Nat.{mul-add-mod_self_right}
+use Rattle.ddf_primary.proofs.Divide.{spread}
+pub use Rattle.ddf_primary.proofs.Divide.{same_row, later_place}
 
--- the number as a row and a place in it
-spread : (n k width : ℕ) → n + k ≡ n / width * width + (n % width + k)
-spread n k width = omega (arith, div-add-mod' n width)
-
-pub same_row : (n k width : ℕ) → n % width + k < width → (n + k) / width ≡ n / width
-same_row n k width stays = ap (λ m. m / width) (spread n k width) ∙ div-mul-add (n / width) width (n % width + k) stays
-
-pub later_place : (n k width : ℕ) → n % width + k < width → (n + k) % width ≡ n % width + k
-later_place n k width stays =
-    let row = same_row n k width stays in
-    let whole = div-add-mod' (n + k) width in
-    let back : (n + k) / width * width ≡ n / width * width = ap (λ m. m * width) row in
-    omega (arith, whole, back, spread n k width)
-
--- and below the same rows
+-- a number that stays in its row is below the same rows
 pub stays_below : (n k width rows : ℕ) → n < rows * width → n % width + k < width → n + k < rows * width
 stays_below n k width rows below stays =
     let row : n / width < rows = div_below n width rows (omega arith) below in

@@ -1,9 +1,10 @@
 -- The sources of blocks that lie side by side.
 use Rattle.std.proofs.Common.{◌≡◌, ◌∙◌, ℕ, ◌+◌, List, [], ◌∷◌, ◌++◌, Bool, true, false, Option, Some, None, length, slice_get, map, refl, sym, ap, arith}
 use Rattle.std.specs.Prelude.{filter_map, option_map, option_and_then, if◌then◌else◌}
-use Rattle.std.specs.List.{flat_map, cons_option}
+use Rattle.std.specs.List.{flat_map, cons_option, range_with_len}
 use Rattle.std.proofs.lemmas.List.{map-append}
-use Rattle.ddf_primary.specs.Cells.{cells}
+use Rattle.ddf_primary.specs.Placement.{Placement}
+use Rattle.ddf_primary.specs.Copies.{copy_on, sector_on}
 use Rattle.ddf_secondary.specs.declared.spot.Spot.{Spot}
 use Rattle.ddf_secondary.specs.Spots.{spots}
 use Rattle.ddf_array.specs.declared.part.Part.{Part}
@@ -11,7 +12,7 @@ use Rattle.ddf_array.specs.declared.place.Place.{Place}
 use Rattle.ddf_array.specs.declared.site.Site.{Site}
 use Rattle.ddf_array.specs.Places.{site, site_at, site_on}
 use Rattle.ddf_array.specs.Levels.{keeps_parity}
-use Rattle.ddf_array.specs.Cells.{positions_like, cells_like, elements_like, spots_like, block_spots}
+use Rattle.ddf_array.specs.Cells.{element_cells, elements_like, spots_like, block_spots}
 use Rattle.ddf_array.specs.Sources.{all_of, other_positions, row_without, element_copies, element_rows, at_spot, at_element}
 use Rattle.ddf_array.specs.Volume.{Volume}
 use Rattle.ddf_read.specs.Along.{further}
@@ -53,41 +54,39 @@ row_further places position x k =
 
 -- ---- an element
 
-module _ {X : Type 0} (at : ℕ → ℕ → Option X) (g : X → X) (x k : ℕ) (moves : (position : ℕ) → at position (x + k) ≡ option_map g (at position x)) where
-  by_option : (o : Option X) (later now : List X) → later ≡ map g now → cons_option (option_map g o) later ≡ map g (cons_option o now)
-  by_option None later now e = e
-  by_option (Some one) later now e = ap (λ l. g one ∷ l) e
+module _ (shape : Placement) (block k : ℕ) (lie : (member : ℕ) → sector_on shape member (block + k) ≡ option_map (λ sector. sector + k) (sector_on shape member block)) where
+  module _ {X : Type 0} (at : ℕ → ℕ → Option X) (g : X → X) (moves : (position x : ℕ) → at position (x + k) ≡ option_map g (at position x)) where
+    by_option : (o : Option X) (later now : List X) → later ≡ map g now → cons_option (option_map g o) later ≡ map g (cons_option o now)
+    by_option None later now e = e
+    by_option (Some one) later now e = ap (λ l. g one ∷ l) e
 
-  picked : (positions : List ℕ) → filter_map (λ (cell : ℕ × ℕ). at cell.0 cell.1) (map (λ position. (position, x + k)) positions) ≡ map g (filter_map (λ (cell : ℕ × ℕ). at cell.0 cell.1) (map (λ position. (position, x)) positions))
-  picked [] = refl
-  picked (p ∷ positions) =
-      ap (λ o. cons_option o (filter_map (λ (cell : ℕ × ℕ). at cell.0 cell.1) (map (λ position. (position, x + k)) positions))) (moves p)
-      ∙ by_option (at p x) _ _ (picked positions)
+    abbrev given : List (ℕ × ℕ) → List X
+    given all = filter_map (λ (cell : ℕ × ℕ). at cell.0 cell.1) all
 
-module _ (part : Part) (block k member sector : ℕ) (here : slice_get (cells part.shape) block ≡ Some (member, sector)) (later : slice_get (cells part.shape) (block + k) ≡ Some (member, sector + k)) where
-  of_cells : {X : Type 0} (at : ℕ → ℕ → Option X) (cell : ℕ × ℕ) (n : ℕ) → slice_get (cells part.shape) n ≡ Some cell
-      → filter_map (λ (c : ℕ × ℕ). at c.0 c.1) (elim (slice_get (cells part.shape) n) [ None ↦ [] | Some c ↦ cells_like part.shape.layout part.shape.members c ])
-      ≡ filter_map (λ (c : ℕ × ℕ). at c.0 c.1) (map (λ position. (position, cell.1)) (positions_like part.shape.layout part.shape.members cell.0))
-  of_cells at cell n e =
-      ap (λ (found : Option (ℕ × ℕ)). filter_map (λ (c : ℕ × ℕ). at c.0 c.1) (elim found [ None ↦ [] | Some c ↦ cells_like part.shape.layout part.shape.members c ])) e
+    on_member : (member : ℕ) (now : Option ℕ) (laters nows : List (ℕ × ℕ)) → given laters ≡ map g (given nows)
+        → given (cons_option (option_map (λ sector. (member, sector)) (option_map (λ sector. sector + k) now)) laters) ≡ map g (given (cons_option (option_map (λ sector. (member, sector)) now) nows))
+    on_member member None laters nows e = e
+    on_member member (Some x) laters nows e = ap (λ o. cons_option o (given laters)) (moves member x) ∙ by_option (at member x) (given laters) (given nows) e
 
-  moved : {X : Type 0} (at : ℕ → ℕ → Option X) (g : X → X) → ((position x : ℕ) → at position (x + k) ≡ option_map g (at position x))
-      → filter_map (λ (c : ℕ × ℕ). at c.0 c.1) (elim (slice_get (cells part.shape) (block + k)) [ None ↦ [] | Some c ↦ cells_like part.shape.layout part.shape.members c ])
-      ≡ map g (filter_map (λ (c : ℕ × ℕ). at c.0 c.1) (elim (slice_get (cells part.shape) block) [ None ↦ [] | Some c ↦ cells_like part.shape.layout part.shape.members c ]))
-  moved at g moves =
-      of_cells at (member, sector + k) (block + k) later
-      ∙ picked at g sector k (λ position. moves position sector) (positions_like part.shape.layout part.shape.members member)
-      ∙ ap (map g) (sym (of_cells at (member, sector) block here))
+    picked : (members : List ℕ) → given (filter_map (copy_on shape (block + k)) members) ≡ map g (given (filter_map (copy_on shape block) members))
+    picked [] = refl
+    picked (m ∷ members) =
+        ap (λ o. given (cons_option (option_map (λ sector. (m, sector)) o) (filter_map (copy_on shape (block + k)) members))) (lie m)
+        ∙ on_member m (sector_on shape m block) (filter_map (copy_on shape (block + k)) members) (filter_map (copy_on shape block) members) (picked members)
 
+    pub cells_further : given (element_cells shape (block + k)) ≡ map g (given (element_cells shape block))
+    cells_further = picked (range_with_len 0 shape.members)
+
+module _ (part : Part) (block k : ℕ) (lie : (member : ℕ) → sector_on part.shape member (block + k) ≡ option_map (λ sector. sector + k) (sector_on part.shape member block)) where
   pub copies_further : element_copies part (block + k) ≡ map (further k) (element_copies part block)
-  copies_further = moved (site_at part.places) (further k) (λ position x. site_further part.places position x k)
+  copies_further = cells_further part.shape block k lie (site_at part.places) (further k) (λ position x. site_further part.places position x k)
 
   if_parity : (b : Bool) (later now : List (List Site)) → later ≡ map (map (further k)) now → (if b then later else []) ≡ map (map (further k)) (if b then now else [])
   if_parity true later now e = e
   if_parity false later now e = refl
 
   pub rows_further : element_rows part (block + k) ≡ map (map (further k)) (element_rows part block)
-  rows_further = if_parity (keeps_parity part.shape.layout) _ _ (moved (row_without part.places) (map (further k)) (λ position x. row_further part.places position x k))
+  rows_further = if_parity (keeps_parity part.shape.layout) _ _ (cells_further part.shape block k lie (row_without part.places) (map (further k)) (λ position x. row_further part.places position x k))
 
 -- ---- the array
 

@@ -4,8 +4,9 @@ use Rattle.std.specs.Prelude.{◌==◌, ◌||◌, if◌then◌else◌}
 use Rattle.std.specs.List.{range_with_len, flat_map}
 use Rattle.std.specs.Option.{option_map}
 use Rattle.std.proofs.lemmas.Bool.{eqb-true}
-use Rattle.std.proofs.lemmas.Option.{slice_get-get_or, slice_get-map, slice_get_cases, get_or_from_slice_get}
+use Rattle.std.proofs.lemmas.Option.{slice_get-map, slice_get_cases, get_or_from_slice_get}
 use Rattle.ddf_primary.specs.Cells.{cells, unit_of}
+use Rattle.ddf_primary.specs.Copies.{sector_on}
 use Rattle.ddf_secondary.specs.declared.element.ElementSize.{ElementSize}
 use Rattle.ddf_secondary.specs.declared.spot.Spot.{Spot}
 use Rattle.ddf_secondary.specs.Spots as secondary
@@ -23,7 +24,7 @@ use Rattle.ddf_read.proofs.SpotsAlong.{spot_on, spot_along}
 -- fewer blocks
 pub fewer_along : (part : Part) (block count fewer : ℕ) → fewer ≤ count → IsAlong part block count → IsAlong part block fewer
 fewer_along part block count fewer le along = record {
-  cells_lie = λ k member sector below. along.cells_lie k member sector (omega (arith, below, le));
+  cells_lie = λ k member below. along.cells_lie k member (omega (arith, below, le));
   in_unit = omega (arith, le, along.in_unit);
   in_element = omega (arith, le, along.in_element);
 }
@@ -33,10 +34,6 @@ part_at parts n below = item (slice_get_cases parts n).1
   where
     item : ((x : Part) × (n < length parts) × (slice_get parts n ≡ Some x) × (get_or parts n x ≡ x)) ⊎ ((length parts ≤ n) × (slice_get parts n ≡ None)) → (part : Part) × (slice_get parts n ≡ Some part)
     item cases = ⊎_elim (λ h. (h.0, h.2)) (λ h. absurd (omega (arith, h.0))) cases
-
--- a cell of a block
-cell_at : (items : List (ℕ × ℕ)) (n : ℕ) → n < length items → slice_get items n ≡ Some (get_or items n (0, 0))
-cell_at items n below = slice_get-get_or items n (0, 0) below
 
 module _ (v : Volume) (known : IsVolume v) (block : ℕ) (spot : Spot) (there : slice_get (spots v.tiers) block ≡ Some spot) (count : ℕ) (inside : block + count ≤ capacity v) where
   -- the element of the block
@@ -64,16 +61,14 @@ module _ (v : Volume) (known : IsVolume v) (block : ℕ) (spot : Spot) (there : 
 
   -- an element's blocks
   module _ {X : Type 0} (of_element : Part → ℕ → List X) (g : ℕ → X → X)
-      (moves : (part : Part) (inner k member sector : ℕ) → slice_get (cells part.shape) inner ≡ Some (member, sector) → slice_get (cells part.shape) (inner + k) ≡ Some (member, sector + k)
+      (moves : (part : Part) (inner k : ℕ) → ((member : ℕ) → sector_on part.shape member (inner + k) ≡ option_map (λ sector. sector + k) (sector_on part.shape member inner))
       → of_element part (inner + k) ≡ map (g k) (of_element part inner)) where
     by_found : (k : ℕ) → k < count → (element : ℕ) (found : Option Part) → slice_get v.parts element ≡ found → IsAlongAt v element spot.block count
         → elim found [ None ↦ [] | Some part ↦ of_element part (spot.block + k) ] ≡ map (g k) (elim found [ None ↦ [] | Some part ↦ of_element part spot.block ])
     by_found k below element None e along = refl
     by_found k below element (Some part) e along =
         let mine = along part e in
-        let cell = get_or (cells part.shape) spot.block (0, 0) in
-        let here = cell_at (cells part.shape) spot.block (omega (arith, mine.in_element, below)) in
-        moves part spot.block k cell.0 cell.1 here (mine.cells_lie k cell.0 cell.1 below here)
+        moves part spot.block k (λ member. mine.cells_lie k member below)
 
     every : (k : ℕ) → k < count → ((element : ℕ) → IsAlongAt v element spot.block count) → (elements : List ℕ) → AllMove v.parts of_element (g k) spot.block k elements
     every k below along [] = tt

@@ -1,7 +1,8 @@
 -- Blocks whose sources lie side by side: those of one strip (profile).
-use Rattle.std.specs.Prelude.{◌≡◌, ℕ, ◌+◌, ◌%◌, ◌<◌, ◌≤◌, true, ◌==◌, ◌||◌, map, Some, slice_get, length}
+use Rattle.std.specs.Prelude.{◌≡◌, ℕ, ◌+◌, ◌%◌, ◌<◌, ◌≤◌, true, ◌==◌, ◌||◌, map, Some, option_map, slice_get, length}
 use Rattle.ddf_primary.specs.Placement.{Placement}
 use Rattle.ddf_primary.specs.Cells.{cells, unit_of}
+use Rattle.ddf_primary.specs.Copies.{sector_on}
 use Rattle.ddf_secondary.specs.declared.spot.Spot.{Spot}
 use Rattle.ddf_secondary.specs.Spots.{spots}
 use Rattle.ddf_array.specs.declared.part.Part.{Part}
@@ -15,10 +16,10 @@ use Rattle.ddf_array.specs.Sources.{copies, rows}
 abbrev pub further : ℕ → Site → Site
 further k site = site_on site.slot (site.lba + k)
 
--- the cells of these blocks of an element are those of the first, so many sectors further
+-- the cells of these blocks of an element are those of the first, so many sectors further on each member
 abbrev pub CellsLieAlong : Placement → (block count : ℕ) → Type 0
 CellsLieAlong shape block count =
-    (k member sector : ℕ) → k < count → slice_get (cells shape) block ≡ Some (member, sector) → slice_get (cells shape) (block + k) ≡ Some (member, sector + k)
+    (k member : ℕ) → k < count → sector_on shape member (block + k) ≡ option_map (λ sector. sector + k) (sector_on shape member block)
 
 -- so many blocks of an element do, all of one of its units
 pub record IsAlong (part : Part) (block count : ℕ) : Type 0 where

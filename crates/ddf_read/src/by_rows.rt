@@ -1,4 +1,5 @@
-//! Reads of blocks that have no copy, by their rows.
+//! Reads of blocks that have no copy, by their rows. Only in an array that isn't marked: parity of one that is may give bytes that nobody wrote.
+//! docs/STOPS.md#the-blocks-of-arrays
 ghost use Rattle.std.specs.Prelude.{◌≡◌, ◌+◌, ◌<◌, ◌≤◌, ◌^◌, None, length, slice_get, OnOk, IfOk, IfErr};
 ghost use Rattle.ddf_array.specs.Sources.{first_copy, rows};
 ghost use Rattle.ddf_array.specs.Volume.{Fits, IsVolume, capacity};

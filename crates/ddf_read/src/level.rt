@@ -8,12 +8,12 @@ use ddf_primary::Layout;
 pub fn is_on_every(layout: Layout) -> bool
     ensures { result ≡ is_on_every layout }
 {
-    matches!(layout, Layout::Raid1)
+    layout.is_on_every()
 }
 
 /// The levels that keep parity of each row.
 pub fn keeps_parity(layout: Layout) -> bool
     ensures { result ≡ keeps_parity layout }
 {
-    matches!(layout, Layout::Parity(_))
+    layout.keeps_parity()
 }

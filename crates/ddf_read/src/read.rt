@@ -1,4 +1,4 @@
-//! Reads of blocks of an array.
+//! Reads of blocks of an array, each from its first source that can be read, and why they aren't read. docs/COMMANDS.md#read
 ghost use Rattle.std.specs.Prelude.{◌≡◌, ◌+◌, ◌-◌, ◌<◌, ◌≤◌, ◌^◌, None, length, OnOk, IfOk, IfErr};
 ghost use Rattle.std.specs.List.{list_any, range_with_len};
 ghost use Rattle.ddf_array.specs.Volume.{Fits, IsVolume, capacity};

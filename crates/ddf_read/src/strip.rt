@@ -1,41 +1,28 @@
 //! How far the sources of blocks lie side by side: to the end of a strip.
 ghost use Rattle.std.specs.Prelude.{◌≡◌, ◌+◌, ◌<◌, ◌≤◌, ℕ, Some, length, slice_get};
 ghost use Rattle.ddf_primary.specs.Cells.{cells};
-ghost use Rattle.ddf_primary.specs.declared.layout.Layout.TheVariants.{Concatenation};
 ghost use Rattle.ddf_array.specs.Volume.{IsPart, HasBlock, capacity};
 ghost use Rattle.ddf_read.specs.Along.{IsAlong, IsAlongAt, LieAlong};
 
 use ddf_array::{Part, View};
-use ddf_primary::Layout;
 
 /// The sectors of a strip.
 pub fn strip_of(part: &Part) -> u64
     requires { IsPart part.now }
     ensures { result ≡ part.now.shape.strip }
 {
-    let members = part.places.items().len() as u64;
-    match part.shape.layout() {
-        Layout::Raid0 => part.shape.unit() / members,
-        Layout::Parity(_) => part.shape.unit() / (members - 1),
-        Layout::Raid1 | Layout::Jbod | Layout::Concatenation => part.shape.unit(),
-    }
+    part.shape.strip()
 }
 
-/// What is left of the member of a block where members follow one another. Elsewhere any number.
+/// What is left of the member of a block.
 fn left_of_member(part: &Part, block: u64) -> u64
     requires part { IsPart part.now }
     requires block { block < length (cells part.now.shape) }
     ensures some { 0 < result }
-    ensures room { part.now.shape.layout ≡ Concatenation → (member sector : ℕ)
-        → slice_get (cells part.now.shape) block ≡ Some (member, sector) → sector + result ≤ part.now.shape.blocks }
+    ensures room { (member sector : ℕ) → slice_get (cells part.now.shape) block ≡ Some (member, sector)
+        → sector + result ≤ part.now.shape.blocks }
 {
-    match part.shape.layout() {
-        Layout::Concatenation => {
-            let members = part.places.items().len() as u64;
-            part.shape.capacity() / members - part.shape.place(block).sector
-        }
-        _ => u64::MAX,
-    }
+    part.shape.depth() - part.shape.place(block).sector
 }
 
 /// How many blocks of an element from one on are left of its strip.

@@ -1,5 +1,5 @@
--- The sectors that a rebuild aims at are none of the array's cells.
-use Rattle.std.proofs.Common.{◌≡◌, ◌∙◌, ⊎_elim, ℕ, ◌+◌, ◌-◌, ◌<◌, ◌≤◌, ◌^◌, List, Some, sym, ap, subst, arith, slice_get, length}
+-- The sectors that are filled are none of the array's cells.
+use Rattle.std.proofs.Common.{◌≡◌, ◌∙◌, ⊎_elim, ℕ, ◌+◌, ◌-◌, ◌<◌, ◌≤◌, ◌^◌, List, Some, refl, sym, ap, subst, arith, slice_get, length}
 use Rattle.std.specs.Prelude.{slice_index}
 use Rattle.ddf_bay.specs.Sectors.{Image}
 use Rattle.ddf_primary.specs.Cells.{depth_of}
@@ -16,7 +16,7 @@ use Rattle.ddf_cells.specs.Writing.{IsAmongSectors, StaysBut}
 use Rattle.ddf_cells.proofs.Lists.{true_not_false}
 use Rattle.ddf_cells.proofs.Surely.{of_place}
 use Rattle.ddf_rebuild.specs.declared.aim.Aim.{Aim}
-use Rattle.ddf_rebuild.specs.Target.{IsAim}
+use Rattle.ddf_rebuild.specs.Target.{IsAim, IsAside}
 
 some_is : {X : Type 0} (x y : X) → Some x ≡ Some y → x ≡ y
 some_is x y e = cc
@@ -32,6 +32,17 @@ pub same_target : (v : Volume) (element position : ℕ) (part part' : Part) (pla
 same_target v element position part part' place place' at at' in_part in_part' =
     let same : part ≡ part' = some_is part part' (sym at ∙ at') in
     (same, some_is place place' (sym in_part ∙ ap (λ (p : Part). slice_get p.places position) same ∙ in_part'))
+
+-- where the target lies
+pub aim_there : (sizes : List ℕ) (v : Volume) (aim : Aim) (aims : IsAim v aim) → Fits sizes v → (aim.slot < length sizes) × (aim.start + aims.part.shape.blocks ≤ slice_index sizes aim.slot)
+aim_there sizes v aim aims fits =
+    let lies = fits aim.element aims.part aims.is_target.is_part aim.position aims.place aims.is_target.is_place aim.slot aims.is_target.is_there in
+    (lies.0, omega (arith, lies.1, aims.start_is))
+
+pub aim_small : (v : Volume) (aim : Aim) (aims : IsAim v aim) → IsVolume v → aim.start + aims.part.shape.blocks < 2 ^ 64
+aim_small v aim aims known =
+    let ends = (known.are_parts aim.element aims.part aims.is_target.is_part).ends aim.position aims.place aims.is_target.is_place aim.slot aims.is_target.is_there in
+    omega (arith, ends, aims.start_is)
 
 module _ (v : Volume) (apart : IsApart v) (aim : Aim) (aims : IsAim v aim) where
   target_lies : (sector : ℕ) → sector < aims.part.shape.blocks → LiesAt v aim.element aim.position sector aim.slot (aim.start + sector)
@@ -57,21 +68,25 @@ module _ (v : Volume) (apart : IsApart v) (aim : Aim) (aims : IsAim v aim) where
       (ap (slice_get v.parts) same.0 ∙ is.is_part) aims.is_target.is_place (ap (slice_get is.part.places) same.1 ∙ of.is_place) in
       true_not_false (sym of.is_synced ∙ ap (λ (p : Place). p.synced) (sym looked.1) ∙ aims.is_target.is_out)
 
-  -- so images that differ there alone are the same to the array
-  pub alike_but : (known : IsVolume v) (from end : ℕ) → end ≤ depth_of aims.part.shape → (a b : Image) → StaysBut (IsAmongSectors aim.slot (aim.start + from) (end - from)) a b → AreAlike v a b
-  alike_but known from end deep a b stays slot lba is =
-      ⊎_elim (λ same. sym same)
-      (λ (among : IsAmongSectors aim.slot (aim.start + from) (end - from) slot lba).
-      absurd (never_cell slot lba (lba - aim.start) (omega (arith, among.from, among.below, deep, depth_le aims.part.shape.layout aims.part.shape.strip aims.part.shape.blocks)) among.on_slot (omega (arith, among.from)) is))
-      (stays slot lba)
+  -- so it lies aside
+  pub aside : (sizes : List ℕ) → Fits sizes v → IsVolume v → IsAside sizes v aim
+  aside sizes fits known = record {
+    part = aims.part;
+    is_part = aims.is_target.is_part;
+    on_slot = (aim_there sizes v aim aims fits).0;
+    within = (aim_there sizes v aim aims fits).1;
+    small = aim_small v aim aims known;
+    apart = λ sector below is. never_cell aim.slot (aim.start + sector) sector below refl refl is;
+  }
 
--- where the target lies
-pub aim_there : (sizes : List ℕ) (v : Volume) (aim : Aim) (aims : IsAim v aim) → Fits sizes v → (aim.slot < length sizes) × (aim.start + aims.part.shape.blocks ≤ slice_index sizes aim.slot)
-aim_there sizes v aim aims fits =
-    let lies = fits aim.element aims.part aims.is_target.is_part aim.position aims.place aims.is_target.is_place aim.slot aims.is_target.is_there in
-    (lies.0, omega (arith, lies.1, aims.start_is))
-
-pub aim_small : (v : Volume) (aim : Aim) (aims : IsAim v aim) → IsVolume v → aim.start + aims.part.shape.blocks < 2 ^ 64
-aim_small v aim aims known =
-    let ends = (known.are_parts aim.element aims.part aims.is_target.is_part).ends aim.position aims.place aims.is_target.is_place aim.slot aims.is_target.is_there in
-    omega (arith, ends, aims.start_is)
+-- images that differ alone where something is filled aside are the same to the array
+pub alike_but : (sizes : List ℕ) (v : Volume) (aim : Aim) (is_aside : IsAside sizes v aim) (from end : ℕ) → end ≤ depth_of is_aside.part.shape → (a b : Image)
+    → StaysBut (IsAmongSectors aim.slot (aim.start + from) (end - from)) a b → AreAlike v a b
+alike_but sizes v aim is_aside from end deep a b stays slot lba is =
+    ⊎_elim (λ same. sym same)
+    (λ (among : IsAmongSectors aim.slot (aim.start + from) (end - from) slot lba).
+    let shape = is_aside.part.shape in
+    let at : lba ≡ aim.start + (lba - aim.start) = omega (arith, among.from) in
+    absurd (is_aside.apart (lba - aim.start) (omega (arith, among.from, among.below, deep, depth_le shape.layout shape.strip shape.blocks))
+    (subst (λ (n : ℕ). IsCell v aim.slot n) at (subst (λ (n : ℕ). IsCell v n lba) among.on_slot is))))
+    (stays slot lba)

@@ -3,6 +3,7 @@ use Rattle.std.proofs.Common.{◌≡◌, ◌∙◌, ◌⊎◌, inl, inr, ⊎_eli
 use Rattle.std.proofs.lemmas.Bool.{cases_lt}
 use Rattle.ddf_bay.specs.Sectors.{Image, IsLeft, Outcomes}
 use Rattle.ddf_primary.proofs.ShapeFacts.{depth_le}
+use Rattle.ddf_primary.specs.Cells.{height_of}
 use Rattle.ddf_array.specs.Volume.{IsVolume, Volume}
 use Rattle.ddf_cells.specs.Alike.{AreAlike}
 use Rattle.ddf_array.specs.Apart.{IsApart}
@@ -54,9 +55,9 @@ module _ (v : Volume) (element position from to : ℕ) where
   -- rows behind others
   pub more_rows : (last : ℕ) (before image : Image) → HasRebuilt v element position from to before image → HasRebuilt v element position to last before image → HasRebuilt v element position from last before image
   more_rows last before image first second part place slot sector target rows =
-      ⊎_elim (λ (earlier : sector < to * part.shape.strip). first part place slot sector target (record { from_is = rows.from_is; to_is = earlier; below = rows.below }))
-      (λ (later : to * part.shape.strip ≤ sector). second part place slot sector target (record { from_is = later; to_is = rows.to_is; below = rows.below }))
-      (cases_lt sector (to * part.shape.strip))
+      ⊎_elim (λ (earlier : sector < to * height_of part.shape). first part place slot sector target (record { from_is = rows.from_is; to_is = earlier; below = rows.below }))
+      (λ (later : to * height_of part.shape ≤ sector). second part place slot sector target (record { from_is = later; to_is = rows.to_is; below = rows.below }))
+      (cases_lt sector (to * height_of part.shape))
 
   -- by an image that is the same to the array
   pub rebuilt_alike : (before other image : Image) → IsVolume v → AreAlike v before other → HasRebuilt v element position from to before image → HasRebuilt v element position from to other image

@@ -4,7 +4,7 @@ use Rattle.std.specs.Prelude.{min}
 use Rattle.ddf_bay.specs.State.{BayState}
 use Rattle.ddf_bay.specs.Moments.{StopsLeave}
 use Rattle.ddf_bay.specs.Sectors.{Image, Outcomes}
-use Rattle.ddf_primary.specs.Cells.{depth_of}
+use Rattle.ddf_primary.specs.Cells.{depth_of, height_of}
 use Rattle.ddf_array.specs.declared.part.Part.{Part}
 use Rattle.ddf_array.specs.declared.place.Place.{Place}
 use Rattle.ddf_array.specs.Volume.{Volume}
@@ -24,12 +24,12 @@ slots_are a b e = cc
 
 -- the rows of an element that is looked up
 module _ (v : Volume) (aim : Aim) (aims : IsAim v aim) (own : Part) (own_is : own ≡ aims.part) (element position from to first end : ℕ) (element_is : aim.element ≡ element) (position_is : aim.position ≡ position)
-    (end_own : end ≡ min (to * own.shape.strip) (depth_of own.shape)) (first_own : first ≡ min (from * own.shape.strip) end) where
-  end_is : end ≡ min (to * aims.part.shape.strip) (depth_of aims.part.shape)
-  end_is = end_own ∙ ap (λ (p : Part). min (to * p.shape.strip) (depth_of p.shape)) own_is
+    (end_own : end ≡ min (to * height_of own.shape) (depth_of own.shape)) (first_own : first ≡ min (from * height_of own.shape) end) where
+  end_is : end ≡ min (to * height_of aims.part.shape) (depth_of aims.part.shape)
+  end_is = end_own ∙ ap (λ (p : Part). min (to * height_of p.shape) (depth_of p.shape)) own_is
 
-  first_is : first ≡ min (from * aims.part.shape.strip) end
-  first_is = first_own ∙ ap (λ (p : Part). min (from * p.shape.strip) end) own_is
+  first_is : first ≡ min (from * height_of aims.part.shape) end
+  first_is = first_own ∙ ap (λ (p : Part). min (from * height_of p.shape) end) own_is
 
   target_is : IsTarget v element position aims.part aims.place aim.slot
   target_is = record {

@@ -5,7 +5,7 @@ use Rattle.ddf_bay.specs.Sectors.{Image}
 use Rattle.ddf_bay.specs.State.{BayState}
 use Rattle.ddf_bay.specs.ReadsOnly.{ReadsOnly}
 use Rattle.ddf_primary.specs.Placement.{Placement}
-use Rattle.ddf_primary.specs.Cells.{depth_of}
+use Rattle.ddf_primary.specs.Cells.{depth_of, height_of}
 use Rattle.ddf_array.specs.declared.part.Part.{Part}
 use Rattle.ddf_array.specs.declared.place.Place.{Place}
 use Rattle.ddf_array.specs.Volume.{Volume}
@@ -55,4 +55,4 @@ IsRebuildFault old new volume element position from to (Disk slot) =
 
 -- how many sectors these rows have
 abbrev pub sectors_of : Placement → (from to : ℕ) → ℕ
-sectors_of shape from to = min (to * shape.strip) (depth_of shape) - from * shape.strip
+sectors_of shape from to = min (to * height_of shape) (depth_of shape) - from * height_of shape

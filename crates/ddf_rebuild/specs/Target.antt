@@ -1,10 +1,11 @@
 -- The position that a rebuild writes, and its rows (SNIA DDF 2.0; how rows are counted is profile).
-use Rattle.std.specs.Prelude.{◌≡◌, ℕ, ◌+◌, ◌-◌, ◌*◌, ◌/◌, ◌<◌, ◌≤◌, false, Some, slice_get}
+use Rattle.std.specs.Prelude.{◌≡◌, ℕ, ◌+◌, ◌-◌, ◌*◌, ◌/◌, ◌^◌, ◌<◌, ◌≤◌, false, List, Some, length, slice_get, slice_index}
 use Rattle.ddf_primary.specs.Placement.{Placement}
-use Rattle.ddf_primary.specs.Cells.{depth_of}
+use Rattle.ddf_primary.specs.Cells.{depth_of, height_of}
 use Rattle.ddf_array.specs.declared.part.Part.{Part}
 use Rattle.ddf_array.specs.declared.place.Place.{Place}
 use Rattle.ddf_array.specs.Volume.{Volume}
+use Rattle.ddf_cells.specs.Alike.{IsCell}
 use Rattle.ddf_rebuild.specs.declared.aim.Aim.{Aim}
 
 -- a position that is out of sync, and whose disk is there
@@ -27,14 +28,14 @@ pub record IsTargetSlot (volume : Volume) (element position slot : ℕ) : Type 0
   pub place : Place
   pub is_target : IsTarget volume element position part place slot
 
--- the rows of an element, a last part strip a row of its own
+-- the data rows of an element, a last part of one a row of its own
 abbrev pub row_count : Placement → ℕ
-row_count shape = (depth_of shape + shape.strip - 1) / shape.strip
+row_count shape = (depth_of shape + height_of shape - 1) / height_of shape
 
 -- a sector of a position lies in these rows
 pub record IsInRows (shape : Placement) (from to sector : ℕ) : Type 0 where
-  pub from_is : from * shape.strip ≤ sector
-  pub to_is : sector < to * shape.strip
+  pub from_is : from * height_of shape ≤ sector
+  pub to_is : sector < to * height_of shape
   pub below : sector < depth_of shape
 
 -- a sector of the bay is the target's at one of these rows
@@ -45,6 +46,16 @@ pub record IsTargetCell (volume : Volume) (element position from to slot lba : �
   pub sector : ℕ
   pub in_rows : IsInRows part.shape from to sector
   pub lba_is : lba ≡ place.start + sector
+
+-- What is filled lies aside: it is an extent as long as those of its element, within a slot of these sizes, and no available position of the
+-- array has a sector of it.
+pub record IsAside (sizes : List ℕ) (volume : Volume) (aim : Aim) : Type 0 where
+  pub part : Part
+  pub is_part : slice_get volume.parts aim.element ≡ Some part
+  pub on_slot : aim.slot < length sizes
+  pub within : aim.start + part.shape.blocks ≤ slice_index sizes aim.slot
+  pub small : aim.start + part.shape.blocks < 2 ^ 64
+  pub apart : (sector : ℕ) → sector < part.shape.blocks → IsCell volume aim.slot (aim.start + sector) → ⊥
 
 -- what a rebuild aims at is a position that can be rebuilt, as it lies
 pub record IsAim (volume : Volume) (aim : Aim) : Type 0 where

@@ -1,4 +1,4 @@
-//! Neighbouring sectors of the target, in one call.
+//! Neighbouring sectors of what is filled, in one call.
 ghost use Rattle.std.specs.Prelude.{◌≡◌, ◌⊎◌, ◌+◌, ◌<◌, ◌≤◌, ℕ, Some, slice_get, OnOk, IfErr};
 ghost use Rattle.ddf_bytes.specs.Counts.{Rose};
 ghost use Rattle.ddf_bay.specs.Sectors.{IsLeft};
@@ -11,14 +11,14 @@ ghost use Rattle.ddf_read.specs.Reading.{Failed};
 ghost use Rattle.ddf_cells.specs.CellSources.{IsInOneRow, IsReadable, IsSure, NoneLeftFor, wanted};
 ghost use Rattle.ddf_cells.specs.GivenCells.{IsWantedGiven};
 ghost use Rattle.ddf_cells.specs.Writing.{AddsBut, AsksFor, IsAmongSectors, IsLeftBut, StaysBut};
-ghost use Rattle.ddf_rebuild.specs.Target.{IsAim};
+ghost use Rattle.ddf_rebuild.specs.Target.{IsAside};
 
 use crate::aim::Aim;
 use ddf_array::View;
 use ddf_bay::Bay;
 use ddf_cells::{SECTORS, read_wanted, write_from};
 
-/// Reads what the target should hold at neighbouring sectors, and writes it there. After a failure, the target's slot, if
+/// Reads what the aim should hold at neighbouring sectors, and writes it there. After a failure, the aim's slot, if
 /// the write failed, or one at which no source is left.
 pub(crate) fn rebuild_piece<B: Bay>(
     bay: &mut B,
@@ -32,7 +32,7 @@ pub(crate) fn rebuild_piece<B: Bay>(
     requires readable { IsReadable view.now }
     requires some { 0 < count }
     requires few { count ≤ 32 }
-    requires aim { IsAim view.now aim }
+    requires aside { IsAside (B.disks bay.old).sizes view.now aim }
     requires sectors { (part : Part) → slice_get view.now.parts aim.element ≡ Some part → sector + count ≤ depth_of part.shape }
     requires row { (part : Part) → slice_get view.now.parts aim.element ≡ Some part → IsInOneRow part sector count }
     ensures written { B.tells → OnOk result (IsSure view.now (B.disks bay.old) (B.disks bay.new) → (part : Part) → slice_get view.now.parts aim.element ≡ Some part → (k : ℕ) → k < count

@@ -1,9 +1,9 @@
-//! The rebuild of rows.
+//! The rebuild of rows: each gets what the others of its array give. docs/COMMANDS.md#rebuild
 ghost use Rattle.std.specs.Prelude.{◌≡◌, ◌⊎◌, ◌≢◌, ◌+◌, ◌-◌, ◌*◌, ◌<◌, ◌≤◌, ◌^◌, ℕ, true, false, min, Some, slice_get, OnOk, IfErr};
 ghost use Rattle.ddf_bytes.specs.Counts.{Rose};
 ghost use Rattle.ddf_bay.specs.Sectors.{Image, IsLeft};
 ghost use Rattle.ddf_bay.specs.Moments.{IsSettled, StopsLeave};
-ghost use Rattle.ddf_primary.specs.Cells.{depth_of};
+ghost use Rattle.ddf_primary.specs.Cells.{depth_of, height_of};
 ghost use Rattle.ddf_array.specs.declared.part.Part.{Part};
 ghost use Rattle.ddf_array.specs.declared.place.Place.{Place};
 ghost use Rattle.ddf_array.specs.Apart.{IsApart};
@@ -15,18 +15,18 @@ ghost use Rattle.ddf_cells.specs.CellSources.{IsReadable, IsSure, wanted};
 ghost use Rattle.ddf_cells.specs.Writing.{AddsBut, AsksFor, IsAmongSectors, IsLeftBut, StaysBut};
 ghost use Rattle.ddf_rebuild.specs.Rebuilding.{HasGiven, HasRebuilt, IsRebuildFault, sectors_of};
 ghost use Rattle.ddf_rebuild.specs.Sectors.{AreGiven, AreRebuilt, NoneLeftIn};
-ghost use Rattle.ddf_rebuild.specs.Target.{IsAim, IsOut, IsTarget, IsTargetCell, row_count};
+ghost use Rattle.ddf_rebuild.specs.Target.{IsAim, IsAside, IsOut, IsTarget, IsTargetCell, row_count};
 
 use crate::aim::Aim;
 use crate::piece::rebuild_piece;
 use ddf_array::{Part, View};
 use ddf_bay::Bay;
 use ddf_cells::{depth_of, piece_at};
-use ddf_read::{VolumeFault, strip_of};
+use ddf_read::VolumeFault;
 use ddf_repair::Target;
 
-/// Rebuilds the target's sectors from one on, up to an end. After a failure, the target's slot, if a write failed, or one at
-/// which no source is left.
+/// Fills the aim's sectors from one on, up to an end. After a failure, the aim's slot, if a write failed, or one at which no
+/// source is left.
 fn rebuild_sectors<B: Bay>(
     bay: &mut B,
     view: &View,
@@ -36,9 +36,8 @@ fn rebuild_sectors<B: Bay>(
 ) -> Result<(), usize>
     requires known { IsVolume view.now }
     requires fits { Fits (B.disks bay.old).sizes view.now }
-    requires apart { IsApart view.now }
     requires readable { IsReadable view.now }
-    requires aim { IsAim view.now aim }
+    requires aside { IsAside (B.disks bay.old).sizes view.now aim }
     requires order { from ≤ end }
     requires sectors { (part : Part) → slice_get view.now.parts aim.element ≡ Some part → end ≤ depth_of part.shape }
     ensures rebuilt { B.tells → OnOk result (IsSure view.now (B.disks bay.old) (B.disks bay.new)
@@ -62,8 +61,8 @@ fn rebuild_sectors<B: Bay>(
     Ok(())
 }
 
-/// Rebuilds the target's sectors from one on, up to an end, and makes them sure. After a failure, the target's slot, if a
-/// write or the sync failed, or one at which no source is left.
+/// Fills the aim's sectors from one on, up to an end, and makes them sure. After a failure, the aim's slot, if a write or the
+/// sync failed, or one at which no source is left.
 fn rebuild_surely<B: Bay>(
     bay: &mut B,
     view: &View,
@@ -73,9 +72,8 @@ fn rebuild_surely<B: Bay>(
 ) -> Result<(), usize>
     requires known { IsVolume view.now }
     requires fits { Fits (B.disks bay.old).sizes view.now }
-    requires apart { IsApart view.now }
     requires readable { IsReadable view.now }
-    requires aim { IsAim view.now aim }
+    requires aside { IsAside (B.disks bay.old).sizes view.now aim }
     requires order { from ≤ end }
     requires sectors { (part : Part) → slice_get view.now.parts aim.element ≡ Some part → end ≤ depth_of part.shape }
     ensures rebuilt { B.tells → OnOk result (IsSure view.now (B.disks bay.old) (B.disks bay.new)
@@ -124,8 +122,8 @@ pub fn row_count(part: &Part) -> u64
     requires { IsPart part.now }
     ensures { result ≡ row_count part.now.shape }
 {
-    let strip = strip_of(part);
-    (depth_of(part) + strip - 1) / strip
+    let height = part.shape.height();
+    (depth_of(part) + height - 1) / height
 }
 
 /// The first sector of these rows, and the end of the last.
@@ -133,12 +131,12 @@ fn sectors_between(part: &Part, from: u64, to: u64) -> (u64, u64)
     requires part { IsPart part.now }
     requires order { from ≤ to }
     requires rows { to ≤ row_count part.now.shape }
-    ensures end { result.1 ≡ min (to * part.now.shape.strip) (depth_of part.now.shape) }
-    ensures first { result.0 ≡ min (from * part.now.shape.strip) result.1 }
+    ensures end { result.1 ≡ min (to * height_of part.now.shape) (depth_of part.now.shape) }
+    ensures first { result.0 ≡ min (from * height_of part.now.shape) result.1 }
 {
-    let strip = strip_of(part);
-    let end = (to * strip).min(depth_of(part));
-    let first = (from * strip).min(end);
+    let height = part.shape.height();
+    let end = (to * height).min(depth_of(part));
+    let first = (from * height).min(end);
     (first, end)
 }
 

@@ -4,11 +4,10 @@ use Rattle.std.specs.Prelude.{◌==◌, if◌then◌else◌}
 use Rattle.std.specs.List.{range_with_len, sum_by}
 use Rattle.std.proofs.lemmas.Bool.{cases_lt, eqb-true, eq-eqb}
 use Rattle.std.proofs.lemmas.List.Sums.{sum_by-cons}
-use Rattle.ddf_primary.specs.Cells.{depth_of, parity_by, parity_member, parity_on}
+use Rattle.ddf_primary.specs.Cells.{depth_of, parity_member}
 use Rattle.ddf_primary.specs.Cells as cells_of
-use Rattle.ddf_primary.specs.declared.layout.Layout.{Layout}
-use Rattle.ddf_primary.specs.declared.layout.Layout.TheVariants.{Raid0, Raid1, Parity, Jbod, Concatenation}
 use Rattle.ddf_primary.proofs.ShapeFacts.{cell_facts, depth_le}
+use Rattle.ddf_primary.proofs.Needs.{parity_below, some_members, some_parity}
 use Rattle.ddf_array.specs.declared.part.Part.{Part}
 use Rattle.ddf_array.specs.declared.site.Site.{Site}
 use Rattle.ddf_array.specs.Levels.{keeps_parity}
@@ -17,7 +16,6 @@ use Rattle.ddf_array.specs.Volume.{Volume, IsVolume, capacity}
 use Rattle.ddf_cells.specs.CellsOn.{cell_on, how_many, over_element, places_at}
 use Rattle.ddf_cells.proofs.CopiesOn.{block_at_sits, sits_block_at}
 use Rattle.ddf_cells.proofs.OnCells.{on_cell, sector_below}
-use Rattle.ddf_cells.proofs.Redundance.{parity_below, two_members}
 use Rattle.ddf_resync.proofs.SeveralCells.{sum_of}
 use Rattle.ddf_resync.specs.Several.{copied_on, extent_sectors, extents_of, has_other, parity_of, resync_sectors}
 
@@ -192,13 +190,6 @@ module _ (v : Volume) (known : IsVolume v) (element : ℕ) (part : Part) (is_par
       omega (arith, all, each, swapped)
 
   -- where parity is kept, one position of each row holds no block
-  parity_there : (layout : Layout) → keeps_parity layout ≡ true → (members x : ℕ) → (position : ℕ) × (parity_by layout members x ≡ Some position)
-  parity_there Raid0 keep members x = absurd (cc)
-  parity_there Raid1 keep members x = absurd (cc)
-  parity_there (Parity parity) keep members x = (parity_on parity members x, refl)
-  parity_there Jbod keep members x = absurd (cc)
-  parity_there Concatenation keep members x = absurd (cc)
-
   no_block : (position x : ℕ) → parity_member part.shape (x / part.shape.strip) ≡ Some position → (o : Option ℕ) → block_at v element position x ≡ o → is_there o ≡ 0
   no_block position x parity None at = refl
   no_block position x parity (Some b) at =
@@ -215,8 +206,8 @@ module _ (v : Volume) (known : IsVolume v) (element : ℕ) (part : Part) (is_par
       let on_each : ℕ → ℕ = λ x. sum_by (λ position. is_there (block_at v element position x)) (range_with_len 0 n) in
       let each = le_range (λ x. on_each x + 1) (λ x. n) 0 d
       (λ x above below.
-      let parity = parity_there part.shape.layout keep part.shape.members (x / part.shape.strip) in
-      let inside = parity_below part.shape.layout part.shape.members (x / part.shape.strip) parity.0 (two_members part.shape.layout part.shape.members keep shape.shape_is.members_taken) parity.1 in
+      let parity = some_parity part.shape.layout part.shape.members (x / part.shape.strip) keep in
+      let inside = parity_below part.shape.layout part.shape.members (x / part.shape.strip) parity.0 (some_members part.shape.layout part.shape.members shape.shape_is.members_taken) parity.1 in
       less_one (λ position. is_there (block_at v element position x)) 0 n parity.0 (λ position. most_one (block_at v element position x)) (omega arith) (omega (arith, inside, shape.has_places))
       (no_block parity.0 x parity.1 (block_at v element parity.0 x) refl)) in
       let split = sum_of (λ x. on_each x + 1) on_each (λ x. 1) (range_with_len 0 d) (λ x. refl) in

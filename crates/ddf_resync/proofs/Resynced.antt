@@ -5,18 +5,18 @@ use Rattle.std.proofs.lemmas.Bool.{eqb-true, leb-false}
 use Rattle.std.specs.List.{list_any}
 use Rattle.std.proofs.lemmas.Option.{slice_get_within}
 use Rattle.ddf_bay.specs.Sectors.{Image}
-use Rattle.ddf_primary.specs.declared.layout.Layout.{Layout}
-use Rattle.ddf_primary.specs.declared.layout.Layout.TheVariants.{Raid0, Raid1, Parity, Jbod, Concatenation}
 use Rattle.ddf_primary.specs.Cells as cells_of
 use Rattle.ddf_primary.specs.Cells.{cells}
 use Rattle.ddf_primary.proofs.ShapeFacts.{depth_le}
+use Rattle.ddf_primary.proofs.Needs.{parity_keeps}
+use Rattle.ddf_primary.proofs.Copies.{own_copy}
 use Rattle.ddf_secondary.specs.declared.spot.Spot.{Spot}
 use Rattle.ddf_secondary.specs.Spots.{spots}
 use Rattle.ddf_secondary.proofs.SpotFacts.{spot_facts}
 use Rattle.ddf_array.specs.declared.part.Part.{Part}
 use Rattle.ddf_array.specs.declared.site.Site.{Site}
 use Rattle.ddf_array.specs.Apart.{IsApart}
-use Rattle.ddf_array.specs.Levels.{is_on_every, keeps_parity}
+use Rattle.ddf_array.specs.Levels.{keeps_copies, keeps_parity}
 use Rattle.ddf_array.specs.Cells.{is_in_every}
 use Rattle.ddf_array.specs.Places.{site_at, site_on}
 use Rattle.ddf_array.specs.Sources.{copies, copy}
@@ -34,7 +34,6 @@ use Rattle.ddf_cells.specs.Degraded.{is_degraded}
 use Rattle.ddf_cells.specs.Parity.{IsParityCell}
 use Rattle.ddf_cells.proofs.AlongStrips.{first_spot}
 use Rattle.ddf_cells.proofs.CopiesOn.{on_position, sits_below}
-use Rattle.ddf_cells.proofs.DataCells.{keeps}
 use Rattle.ddf_cells.proofs.Ends.{touched_by}
 use Rattle.ddf_cells.proofs.Items.{any_at}
 use Rattle.ddf_cells.proofs.OnCells.{on_cell, spot_of}
@@ -125,19 +124,12 @@ equal_kept v known apart tells {a = a} {b = b} writes tell equal block j k one o
 
 -- ---- a block with one cell
 
-lone_cell : (layout : Layout) (members : ℕ) (items : List (ℕ × ℕ)) (position sector inner : ℕ) → is_on_every layout ≡ false → cells_of.HoldsBy layout members items position sector inner → slice_get items inner ≡ Some (position, sector)
-lone_cell Raid0 members items position sector inner one holds = holds
-lone_cell Raid1 members items position sector inner one holds = absurd (cc)
-lone_cell (Parity parity) members items position sector inner one holds = holds
-lone_cell Jbod members items position sector inner one holds = holds
-lone_cell Concatenation members items position sector inner one holds = holds
-
 few_parts : (every : Bool) (n : ℕ) → every ≡ true → (every && nat_le 2 n) ≡ false → n < 2
 few_parts true n is not = leb-false 2 n not
 few_parts false n is not = absurd (cc)
 
 module _ (v : Volume) (known : IsVolume v) (one_element : is_mirrored v ≡ false) (block : ℕ) (spot : Spot) (at : slice_get (spots v.tiers) block ≡ Some spot) (part : Part) (is_part : slice_get v.parts spot.element ≡ Some part)
-    (lone : is_on_every part.shape.layout ≡ false) where
+    (lone : keeps_copies part.shape.layout ≡ false) where
   element_by : (every : Bool) (element first : ℕ) → is_in_every v.tiers.level ≡ every → (every || (first == element)) ≡ true → first ≡ spot.element → element < length v.parts → element ≡ spot.element
   element_by true element first is like same below =
       let few : length v.parts < 2 = few_parts (is_in_every v.tiers.level) (length v.parts) is one_element in
@@ -165,7 +157,7 @@ module _ (v : Volume) (known : IsVolume v) (one_element : is_mirrored v ≡ fals
       record {
         position = on.position;
         sector = cell.sector;
-        is_cell = lone_cell part.shape.layout part.shape.members (cells part.shape) on.position cell.sector spot.block lone holds;
+        is_cell = own_copy part.shape on.position cell.sector spot.block lone holds;
         is_site = ap (λ (q : Part). site_at q.places on.position cell.sector) (sym parts) ∙ cell.is_there;
       }
 
@@ -209,10 +201,10 @@ module _ (v : Volume) (known : IsVolume v) (plain : is_redundant v ≡ false) wh
       let facts = spot_facts v.tiers known.array_is in
       let within = facts.element_within spot block (facts.named spot block first.1) in
       let part = at_index v.parts first.0 (omega (arith, within, parts_count v known)) in
-      one_copy v known one_element block spot first.1 part.0 part.1 (or_first (is_on_every part.0.shape.layout) (keeps_parity part.0.shape.layout) (keeps_none first.0 part.0 part.1)) i j one other at_i at_j
+      one_copy v known one_element block spot first.1 part.0 part.1 (or_first (keeps_copies part.0.shape.layout) (keeps_parity part.0.shape.layout) (keeps_none first.0 part.0 part.1)) i j one other at_i at_j
 
   no_parity : (element : ℕ) (part : Part) → slice_get v.parts element ≡ Some part → keeps_parity part.shape.layout ≡ true → ⊥
-  no_parity element part is_part keep = differ (sym (or_second (is_on_every part.shape.layout) (keeps_parity part.shape.layout) (keeps_none element part is_part)) ∙ keep)
+  no_parity element part is_part keep = differ (sym (or_second (keeps_copies part.shape.layout) (keeps_parity part.shape.layout) (keeps_none element part is_part)) ∙ keep)
     where
       differ : false ≡ true → ⊥
       differ e = cc
@@ -228,7 +220,7 @@ module _ (v : Volume) (known : IsVolume v) (plain : is_redundant v ≡ false) wh
   pub plain_set : (slot : ℕ) → IsSetOn v slot → ⊥
   plain_set slot on = ⊎_elim
       (λ cell. differ (sym (not_several v cell.block (lone cell.block)) ∙ cell.several))
-      (λ of. no_parity of.element of.part of.is_part (keeps of.part.shape.layout of.part.shape.members (of.sector / of.part.shape.strip) of.position of.is_parity))
+      (λ of. no_parity of.element of.part of.is_part (parity_keeps of.part.shape.layout of.part.shape.members (of.sector / of.part.shape.strip) of.position of.is_parity))
       on.is_set
     where
       differ : false ≡ true → ⊥

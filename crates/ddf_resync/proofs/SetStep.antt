@@ -6,6 +6,7 @@ use Rattle.ddf_bay.specs.State.{BayState}
 use Rattle.ddf_bay.specs.Moments.{Adds, IsAmong, Mixes, SpendsWrites, StopsLeave}
 use Rattle.ddf_primary.specs.Cells.{depth_of, parity_member}
 use Rattle.ddf_primary.proofs.ShapeFacts.{depth_le}
+use Rattle.ddf_primary.proofs.Needs.{parity_below, some_members}
 use Rattle.ddf_array.specs.declared.part.Part.{Part}
 use Rattle.ddf_array.specs.declared.site.Site.{Site}
 use Rattle.ddf_array.specs.Apart.{IsApart}
@@ -22,7 +23,6 @@ use Rattle.ddf_cells.specs.Degraded.{is_degraded}
 use Rattle.ddf_cells.specs.RowSums.{HoldsParityAlong}
 use Rattle.ddf_cells.specs.Touching.{IsTouchedSlot, Writes}
 use Rattle.ddf_cells.proofs.ParityCells.{parity_holds, run_gives, run_keeps, run_set}
-use Rattle.ddf_cells.proofs.Redundance.{parity_below, two_members}
 use Rattle.ddf_cells.proofs.Whole.{whole_site}
 use Rattle.ddf_cells.proofs.WriteSteps.{touch_here, writes_read, writes_run, writes_then}
 use Rattle.ddf_resync.specs.Setting.{IsNotedAt, IsRightAt, KeepsRight, SetsParity}
@@ -39,7 +39,7 @@ module _ (v : Volume) (known : IsVolume v) (element : ℕ) (part : Part) (is_par
   pub parity_on : parity < length part.places
   parity_on =
       let shape = known.are_parts element part is_part in
-      omega (arith, parity_below part.shape.layout part.shape.members (sector / part.shape.strip) parity (two_members part.shape.layout part.shape.members keep shape.shape_is.members_taken) is_parity, shape.has_places)
+      omega (arith, parity_below part.shape.layout part.shape.members (sector / part.shape.strip) parity (some_members part.shape.layout part.shape.members shape.shape_is.members_taken) is_parity, shape.has_places)
 
   pub parity_along : HoldsParityAlong part parity sector count
   parity_along = parity_holds part sector count count parity keep row (omega arith) is_parity

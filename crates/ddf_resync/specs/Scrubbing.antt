@@ -2,7 +2,7 @@
 use Rattle.std.specs.Prelude.{◌≡◌, ℕ, ◌*◌, ◌+◌, ◌<◌, ◌≤◌, false, true, Option, Some, None, slice_get}
 use Rattle.ddf_bay.specs.Sectors.{Image}
 use Rattle.ddf_bay.specs.State.{BayState}
-use Rattle.ddf_primary.specs.Cells.{depth_of}
+use Rattle.ddf_primary.specs.Cells.{depth_of, height_of}
 use Rattle.ddf_array.specs.declared.part.Part.{Part}
 use Rattle.ddf_array.specs.Redundant.{IsRedundant}
 use Rattle.ddf_array.specs.Volume.{Volume}
@@ -29,11 +29,11 @@ pub record IsLeastDiffering (volume : Volume) (image : Image) (element row : ℕ
   pub part : Part
   pub is_part : slice_get volume.parts element ≡ Some part
   pub sector : ℕ
-  pub from : row * part.shape.strip ≤ sector
-  pub below : sector < row * part.shape.strip + part.shape.strip
+  pub from : row * height_of part.shape ≤ sector
+  pub below : sector < row * height_of part.shape + height_of part.shape
   pub deep : sector < depth_of part.shape
   pub differs : Agrees volume image element part sector → ⊥
-  pub rows_before : AgreesBefore volume image element (row * part.shape.strip)
+  pub rows_before : AgreesBefore volume image element (row * height_of part.shape)
   pub elements_before : AgreeBefore volume image element
 
 -- what an answer says of an image
@@ -62,11 +62,11 @@ IsScrubFault old new volume (Disk slot) = (is_within volume ≡ true) × FailedO
 -- a row is the first of an element that doesn't agree
 pub record DiffersFirst (volume : Volume) (image : Image) (element : ℕ) (part : Part) (row : ℕ) : Type 0 where
   pub sector : ℕ
-  pub from : row * part.shape.strip ≤ sector
-  pub below : sector < row * part.shape.strip + part.shape.strip
+  pub from : row * height_of part.shape ≤ sector
+  pub below : sector < row * height_of part.shape + height_of part.shape
   pub deep : sector < depth_of part.shape
   pub differs : Agrees volume image element part sector → ⊥
-  pub rows_before : (s : ℕ) → s < row * part.shape.strip → Agrees volume image element part s
+  pub rows_before : (s : ℕ) → s < row * height_of part.shape → Agrees volume image element part s
 
 -- what is found of an element: all its rows agree, or the first that doesn't
 abbrev pub IsElementScrubbed : Volume → Image → (element : ℕ) → Part → Option ℕ → Type 0

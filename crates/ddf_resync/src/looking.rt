@@ -1,4 +1,5 @@
-//! A look at what a resync needs, which writes nothing.
+//! A look at what a resync needs, which writes nothing: an array that it couldn't end with stays as it is.
+//! docs/FAULTS.md#a-resync-over-an-unreadable-sector
 ghost use Rattle.std.specs.Prelude.{◌≡◌, ◌+◌, ◌<◌, ◌≤◌, Some, None, true, false, slice_get, OnOk, IfOk, IfErr};
 ghost use Rattle.ddf_primary.specs.Cells.{depth_of};
 ghost use Rattle.ddf_array.specs.Levels.{keeps_parity};

@@ -1,4 +1,4 @@
-//! The resync of an array.
+//! The resync of an array: each copy gets the bytes of the first one, and each row its parity. docs/COMMANDS.md#resync
 ghost use Rattle.std.specs.Prelude.{◌≡◌, ◌⊎◌, ◌+◌, ◌≤◌, ℕ, None, true, false, OnOk, IfErr};
 ghost use Rattle.ddf_bay.specs.Moments.{IsSettled, StopsLeave};
 ghost use Rattle.ddf_array.specs.Apart.{IsApart};

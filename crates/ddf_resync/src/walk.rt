@@ -17,7 +17,7 @@ use crate::sums::sums_agree;
 use ddf_array::{Part, View};
 use ddf_bay::Bay;
 use ddf_cells::{SECTORS, depth_of};
-use ddf_read::{VolumeFault, strip_of};
+use ddf_read::VolumeFault;
 
 /// Whether neighbouring cells of a position agree with the others of their blocks. After a failure, the slot that failed.
 fn position_agrees<B: Bay>(
@@ -80,16 +80,16 @@ fn piece_agrees<B: Bay>(
     Ok(true)
 }
 
-/// How many of so many sectors from one on are taken together: those of one row of strips.
-fn piece_at(strip: u64, sector: u64, left: u64) -> usize
-    requires strip { 0 < strip }
+/// How many of so many sectors from one on are taken together: those of one data row.
+fn piece_at(height: u64, sector: u64, left: u64) -> usize
+    requires height { 0 < height }
     requires some { 0 < left }
     ensures some { 0 < result }
     ensures few { result ≤ 32 }
     ensures within { result ≤ left }
-    ensures row { sector % strip + result ≤ strip }
+    ensures row { sector % height + result ≤ height }
 {
-    let most = left.min(SECTORS as u64).min(strip - sector % strip);
+    let most = left.min(SECTORS as u64).min(height - sector % height);
     most as usize
 }
 
@@ -108,13 +108,13 @@ fn scrub_element<B: Bay>(
     ensures reads { OnlyReads (B.disks bay.old) (B.disks bay.new) }
 {
     let depth = depth_of(part);
-    let strip = strip_of(part);
+    let height = part.shape.height();
     let mut sector = 0;
     while sector < depth {
-        let count = piece_at(strip, sector, depth - sector);
+        let count = piece_at(height, sector, depth - sector);
         let agree = piece_agrees(bay, view, element, part, sector, count)?;
         if !agree {
-            return Ok(Some(sector / strip));
+            return Ok(Some(sector / height));
         }
         sector += count as u64;
     }

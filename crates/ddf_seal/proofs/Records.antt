@@ -4,6 +4,7 @@ use Rattle.std.specs.List.{AllByRecursion, list_all}
 use Rattle.std.specs.Int.{w32, to_be_bytes}
 use Rattle.std.proofs.lemmas.Bool.{leb-true}
 use Rattle.ddf_seal.specs.declared.unread.Span.{Span}
+use Rattle.ddf_seal.specs.declared.sealing.TheConstants.{SIGNATURE_AT, CRC_AT}
 use Rattle.ddf_seal.specs.Crc.{crc_of}
 use Rattle.ddf_seal.specs.Seal.{IsSealed, sealed, record_crc, seal_place}
 use Rattle.ddf_seal.specs.Unread.{Field, place_of, places, bytes_of, Stands, Fits, AreBytes, placed, written, cleared}
@@ -37,21 +38,21 @@ written-cleared fields bytes within fits stand =
     (SameAt-fewer (IsOutsideAll (places fields)) (λ i. IsOutsideAll (places fields) i × Unit {0}) unread bytes (λ i out. out.0) (cleared_outside (places fields) bytes within)))
 
 -- the CRC does not depend on its own four bytes
-pub record_crc_same : (a b : List ℕ) → 8 ≤ length b → SameAt (IsOutside (record { at = 4; length = 4 })) a b → record_crc a ≡ record_crc b
+pub record_crc_same : (a b : List ℕ) → 8 ≤ length b → SameAt (IsOutside (record { at = CRC_AT; length = 4 })) a b → record_crc a ≡ record_crc b
 unfolding placed
 record_crc_same a b long h =
-    let span : Span = record { at = 4; length = 4 } in
+    let span : Span = record { at = CRC_AT; length = 4 } in
     let all = placed_same (λ _. Unit {0}) a b span (replicate 4 255) refl long (SameAt-fewer (IsOutside span) (λ i. IsOutside span i × Unit {0}) a b (λ i out. out.0) h) in
-    ap crc_of (SameAt-all (placed a 4 (replicate 4 255)) (placed b 4 (replicate 4 255)) all)
+    ap crc_of (SameAt-all (placed a CRC_AT (replicate 4 255)) (placed b CRC_AT (replicate 4 255)) all)
 
 -- the seal that stands in the bytes, put before bytes that are the same from byte 8 on, makes the bytes
 pub sealed_same : (signature : ℕ) (a b : List ℕ) → 8 ≤ length b → IsSealed signature b → SameAt (IsOutside seal_place) a b → sealed signature a ≡ b
 unfolding placed
 sealed_same signature a b long is h =
-    let first : Span = record { at = 0; length = 4 } in
-    let second : Span = record { at = 4; length = 4 } in
+    let first : Span = record { at = SIGNATURE_AT; length = 4 } in
+    let second : Span = record { at = CRC_AT; length = 4 } in
     let mark = to_be_bytes w32 signature in
-    let signed = placed a 0 mark in
+    let signed = placed a SIGNATURE_AT mark in
     let apart = SameAt-fewer (IsOutside seal_place) (λ i. IsOutside first i × IsOutside second i) a b
     (λ i out. elim out.1 [ inl lt ↦ absurd (elim out.0 [ inl none ↦ omega arith | inr le ↦ omega arith ]) | inr le ↦ inr le ]) h in
     let one = placed_same (IsOutside second) a b first mark refl (omega arith) apart in
@@ -59,7 +60,7 @@ sealed_same signature a b long is h =
     let crc = record_crc_same signed b long signed_same in
     let number = to_be_bytes w32 (record_crc b) in
     let two = placed_same (λ _. Unit {0}) signed b second number refl (omega arith) (SameAt-fewer (IsOutside second) (λ i. IsOutside second i × Unit {0}) signed b (λ i out. out.0) signed_same) in
-    ap (λ n. placed signed 4 (to_be_bytes w32 n)) crc ∙ SameAt-all (placed signed 4 number) (placed b 4 number) two ∙ placed_again b second number is.crc_stands (omega arith)
+    ap (λ n. placed signed CRC_AT (to_be_bytes w32 n)) crc ∙ SameAt-all (placed signed CRC_AT number) (placed b CRC_AT number) two ∙ placed_again b second number is.crc_stands (omega arith)
 
 -- ---- from a value to the bytes and back
 
@@ -144,33 +145,33 @@ spelled_kept P a b (field ∷ fields) within inside h spelled =
 pub sealed_outside : (signature : ℕ) (bytes : List ℕ) → 8 ≤ length bytes → SameAt (IsOutside seal_place) (sealed signature bytes) bytes
 unfolding placed
 sealed_outside signature bytes long =
-    let first : Span = record { at = 0; length = 4 } in
-    let second : Span = record { at = 4; length = 4 } in
+    let first : Span = record { at = SIGNATURE_AT; length = 4 } in
+    let second : Span = record { at = CRC_AT; length = 4 } in
     let mark = to_be_bytes w32 signature in
-    let signed = placed bytes 0 mark in
+    let signed = placed bytes SIGNATURE_AT mark in
     let one = placed_outside bytes first mark refl (omega arith) in
     let number = to_be_bytes w32 (record_crc signed) in
     let long_now : 8 ≤ length signed = omega (arith, one.size) in
     let two = placed_outside signed second number refl long_now in
-    SameAt-then (IsOutside seal_place) (placed signed 4 number) signed bytes
-    (SameAt-fewer (IsOutside second) (IsOutside seal_place) (placed signed 4 number) signed (λ i out. elim out [ inl none ↦ inl (omega arith) | inr le ↦ inr le ]) two)
+    SameAt-then (IsOutside seal_place) (placed signed CRC_AT number) signed bytes
+    (SameAt-fewer (IsOutside second) (IsOutside seal_place) (placed signed CRC_AT number) signed (λ i out. elim out [ inl none ↦ inl (omega arith) | inr le ↦ inr le ]) two)
     (SameAt-fewer (IsOutside first) (IsOutside seal_place) signed bytes (λ i out. elim out [ inl none ↦ inl none | inr le ↦ inr (omega arith) ]) one)
 
 -- sealed bytes are sealed
 pub sealed_is : (signature : ℕ) (bytes : List ℕ) → 8 ≤ length bytes → IsSealed signature (sealed signature bytes)
 unfolding placed
 sealed_is signature bytes long =
-    let first : Span = record { at = 0; length = 4 } in
-    let second : Span = record { at = 4; length = 4 } in
+    let first : Span = record { at = SIGNATURE_AT; length = 4 } in
+    let second : Span = record { at = CRC_AT; length = 4 } in
     let mark = to_be_bytes w32 signature in
-    let signed = placed bytes 0 mark in
+    let signed = placed bytes SIGNATURE_AT mark in
     let one = placed_outside bytes first mark refl (omega arith) in
     let number = to_be_bytes w32 (record_crc signed) in
     let long_now : 8 ≤ length signed = omega (arith, one.size) in
     let two = placed_outside signed second number refl long_now in
     record {
-      signature_stands = bytes_at-same (IsOutside second) (placed signed 4 number) signed first (omega arith) (λ i low high. inl (omega arith)) two ∙ bytes_at-placed bytes first mark refl (omega arith);
-      crc_stands = bytes_at-placed signed second number refl long_now ∙ ap (to_be_bytes w32) (sym (record_crc_same (placed signed 4 number) signed long_now two));
+      signature_stands = bytes_at-same (IsOutside second) (placed signed CRC_AT number) signed first (omega arith) (λ i low high. inl (omega arith)) two ∙ bytes_at-placed bytes first mark refl (omega arith);
+      crc_stands = bytes_at-placed signed second number refl long_now ∙ ap (to_be_bytes w32) (sym (record_crc_same (placed signed CRC_AT number) signed long_now two));
     }
 
 -- ---- whole rows and records

@@ -6,6 +6,7 @@ use Rattle.std.proofs.lemmas.Nat.{from_be_bytes-to_be_bytes_4}
 use Rattle.ddf_bytes.specs.Bytes.{number_at}
 use Rattle.ddf_seal.specs.declared.sealing.SealFault.{SealFault}
 use Rattle.ddf_seal.specs.declared.sealing.SealFault.TheVariants.{Signature, Crc}
+use Rattle.ddf_seal.specs.declared.sealing.TheConstants.{SIGNATURE_AT, CRC_AT}
 use Rattle.ddf_seal.specs.Seal.{IsSealed, seal_check, record_crc}
 use Rattle.ddf_seal.specs.Unread.{AreBytes, u32_at, placed}
 use Rattle.ddf_seal.proofs.CrcSteps.{crc_fits}
@@ -42,22 +43,22 @@ AreBytes-placed bytes at new within fits fit i =
 -- a seal that passes the check stands
 pub sealed_from_check : (signature : ℕ) (bytes : List ℕ) → 8 ≤ length bytes → AreBytes bytes → seal_check signature bytes ≡ Ok tt → IsSealed signature bytes
 sealed_from_check signature bytes long fits h =
-    let first = chosen (number_at w32 bytes 0) signature (cond (eqb (number_at w32 bytes 4) (record_crc bytes)) (Ok tt) (Err (Crc (number_at w32 bytes 4) (record_crc bytes)))) (Signature (number_at w32 bytes 0)) h in
-    let second = chosen (number_at w32 bytes 4) (record_crc bytes) (Ok tt) (Crc (number_at w32 bytes 4) (record_crc bytes)) first.1 in
+    let first = chosen (number_at w32 bytes SIGNATURE_AT) signature (cond (eqb (number_at w32 bytes CRC_AT) (record_crc bytes)) (Ok tt) (Err (Crc (number_at w32 bytes CRC_AT) (record_crc bytes)))) (Signature (number_at w32 bytes SIGNATURE_AT)) h in
+    let second = chosen (number_at w32 bytes CRC_AT) (record_crc bytes) (Ok tt) (Crc (number_at w32 bytes CRC_AT) (record_crc bytes)) first.1 in
     record {
-      signature_stands = spelled_from_stands bytes (u32_at 0 signature) fits (omega arith) first.0;
-      crc_stands = spelled_from_stands bytes (u32_at 4 (record_crc bytes)) fits (omega arith) second.0;
+      signature_stands = spelled_from_stands bytes (u32_at SIGNATURE_AT signature) fits (omega arith) first.0;
+      crc_stands = spelled_from_stands bytes (u32_at CRC_AT (record_crc bytes)) fits (omega arith) second.0;
     }
 
 record_crc_fits : (bytes : List ℕ) → 8 ≤ length bytes → AreBytes bytes → record_crc bytes < 2 ^ 32
 unfolding placed
-record_crc_fits bytes long fits = crc_fits (placed bytes 4 (replicate 4 255)) (AreBytes-placed bytes 4 (replicate 4 255) long fits four)
+record_crc_fits bytes long fits = crc_fits (placed bytes CRC_AT (replicate 4 255)) (AreBytes-placed bytes CRC_AT (replicate 4 255) long fits four)
 
 -- a seal that stands passes the check
 pub check_from_sealed : (signature : ℕ) (bytes : List ℕ) → 8 ≤ length bytes → AreBytes bytes → signature < 2 ^ 32 → IsSealed signature bytes → seal_check signature bytes ≡ Ok tt
 check_from_sealed signature bytes long are fits is =
-    let signed : number_at w32 bytes 0 ≡ signature = ap (from_be_bytes w32) is.signature_stands ∙ from_be_bytes-to_be_bytes_4 signature fits in
-    let counted : number_at w32 bytes 4 ≡ record_crc bytes = ap (from_be_bytes w32) is.crc_stands ∙ from_be_bytes-to_be_bytes_4 (record_crc bytes) (record_crc_fits bytes long are) in
-    let first : eqb (number_at w32 bytes 0) signature ≡ true = eq-eqb (number_at w32 bytes 0) signature signed in
-    let second : eqb (number_at w32 bytes 4) (record_crc bytes) ≡ true = eq-eqb (number_at w32 bytes 4) (record_crc bytes) counted in
+    let signed : number_at w32 bytes SIGNATURE_AT ≡ signature = ap (from_be_bytes w32) is.signature_stands ∙ from_be_bytes-to_be_bytes_4 signature fits in
+    let counted : number_at w32 bytes CRC_AT ≡ record_crc bytes = ap (from_be_bytes w32) is.crc_stands ∙ from_be_bytes-to_be_bytes_4 (record_crc bytes) (record_crc_fits bytes long are) in
+    let first : eqb (number_at w32 bytes SIGNATURE_AT) signature ≡ true = eq-eqb (number_at w32 bytes SIGNATURE_AT) signature signed in
+    let second : eqb (number_at w32 bytes CRC_AT) (record_crc bytes) ≡ true = eq-eqb (number_at w32 bytes CRC_AT) (record_crc bytes) counted in
     rw (first, second) refl

@@ -9,5 +9,5 @@ mod unread;
 
 pub use crc::crc32;
 pub use plain_crc::plain_crc32;
-pub use sealing::{SEAL, SealFault, check, seal};
+pub use sealing::{CRC_AT, SEAL, SIGNATURE_AT, SealFault, check, seal};
 pub use unread::{Span, clear, guid_at, place};

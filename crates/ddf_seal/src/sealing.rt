@@ -7,8 +7,17 @@ use crate::unread::Span;
 use ddf_bytes::{be32, put32};
 use thiserror::Error;
 
+/// Offset of the signature in each record: four bytes.
+pub const SIGNATURE_AT: usize = 0;
+
+/// Offset of the CRC in each record: four bytes.
+pub const CRC_AT: usize = 4;
+
 /// The place of the seal in each record: four bytes of signature, and four of CRC.
-pub const SEAL: Span = Span { at: 0, length: 8 };
+pub const SEAL: Span = Span {
+    at: SIGNATURE_AT,
+    length: 8,
+};
 
 /// Why bytes don't have the seal that was asked for.
 #[derive(Clone, Copy, Debug, PartialEq, Eq, Error)]
@@ -34,9 +43,9 @@ pub fn seal(bytes: &mut [u8], signature: u32)
     ensures sealed { IsSealed signature bytes.new }
     ensures kept { drop 8 bytes.new ≡ drop 8 bytes.old }
 {
-    put32(bytes, 0, signature);
+    put32(bytes, SIGNATURE_AT, signature);
     let crc = crc_of_record(bytes);
-    put32(bytes, 4, crc);
+    put32(bytes, CRC_AT, crc);
 }
 
 /// Whether a record is sealed with this signature. The signature is looked at first.
@@ -45,11 +54,11 @@ pub fn check(bytes: &[u8], signature: u32) -> Result<(), SealFault>
     ensures exact { result ≡ seal_check signature bytes.now }
     ensures sealed { IsOk result ↔ IsSealed signature bytes.now }
 {
-    let found = be32(bytes, 0);
+    let found = be32(bytes, SIGNATURE_AT);
     if found != signature {
         return Err(SealFault::Signature(found));
     }
-    let stored = be32(bytes, 4);
+    let stored = be32(bytes, CRC_AT);
     let counted = crc_of_record(bytes);
     if stored != counted {
         return Err(SealFault::Crc { stored, counted });
@@ -62,7 +71,7 @@ fn crc_of_record(bytes: &[u8]) -> u32
     requires { 8 ≤ length bytes.now }
     ensures { result ≡ record_crc bytes.now }
 {
-    let signature = after_bytes(u32::MAX, &bytes[..4]);
+    let signature = after_bytes(u32::MAX, &bytes[..CRC_AT]);
     let own = after_bytes(signature, &[0xFF; 4]);
-    after_bytes(own, &bytes[8..]) ^ u32::MAX
+    after_bytes(own, &bytes[CRC_AT + 4..]) ^ u32::MAX
 }

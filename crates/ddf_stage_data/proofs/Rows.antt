@@ -7,6 +7,7 @@ use Rattle.ddf_bay.specs.Sectors.{Image}
 use Rattle.ddf_parity.specs.Xor.{xor_all, zeros}
 use Rattle.ddf_primary.specs.Cells.{parity_member}
 use Rattle.ddf_primary.proofs.ShapeFacts.{cell_facts}
+use Rattle.ddf_primary.proofs.Needs.{parity_below, some_members}
 use Rattle.ddf_array.specs.declared.part.Part.{Part}
 use Rattle.ddf_array.specs.declared.site.Site.{Site}
 use Rattle.ddf_array.specs.Apart.{IsApart}
@@ -20,9 +21,9 @@ use Rattle.ddf_array.specs.Volume.{Volume, IsVolume}
 use Rattle.ddf_array.proofs.Consistent.{position_within}
 use Rattle.ddf_array.proofs.RowParity.{cell_value_is}
 use Rattle.ddf_cells.proofs.CopiesOn.{block_at_sits, in_copies, on_position, sits_block_at}
-use Rattle.ddf_cells.proofs.DataCells.{keeps, own_cell}
+use Rattle.ddf_cells.proofs.DataCells.{own_cell}
 use Rattle.ddf_cells.proofs.OnCells.{block_below, moved, on_cell, one_place}
-use Rattle.ddf_cells.proofs.Redundance.{held, parity_below, two_members}
+use Rattle.ddf_cells.proofs.Redundance.{held}
 use Rattle.ddf_write.specs.Writing.{IsTouched}
 use Rattle.ddf_data_array.proofs.Totals.{from_others, total, with_sum}
 use Rattle.ddf_stage_data.specs.Staged.{IsStaged, cell_with, sum_with}
@@ -109,7 +110,7 @@ module _ (v : Volume) (known : IsVolume v) (apart : IsApart v) (block : ℕ) (by
       par_within : par < part.shape.members
       par_within =
           parity_below part.shape.layout part.shape.members (sector / part.shape.strip) par
-          (two_members part.shape.layout part.shape.members (keeps part.shape.layout part.shape.members (sector / part.shape.strip) par par_is) (known.are_parts e part is_part).shape_is.members_taken)
+          (some_members part.shape.layout part.shape.members (known.are_parts e part is_part).shape_is.members_taken)
           par_is
 
       holds_by : (q : ℕ) (one : Site) → site_at part.places q sector ≡ Some one → (b : Bool) → (par == q) ≡ b → (if b then sum_with block bytes v before e part sector else cell q) ≡ bytes_at image one

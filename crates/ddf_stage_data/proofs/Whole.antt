@@ -7,6 +7,7 @@ use Rattle.ddf_bay.specs.Sectors.{Image}
 use Rattle.ddf_parity.specs.Xor.{xor_all, zeros}
 use Rattle.ddf_primary.specs.Cells.{depth_of, parity_member}
 use Rattle.ddf_primary.proofs.ShapeFacts.{cell_facts, depth_le}
+use Rattle.ddf_primary.proofs.Needs.{parity_keeps, parity_below, some_parity, some_members}
 use Rattle.ddf_array.specs.declared.part.Part.{Part}
 use Rattle.ddf_array.specs.declared.site.Site.{Site}
 use Rattle.ddf_array.specs.Apart.{IsApart}
@@ -22,8 +23,6 @@ use Rattle.ddf_array.specs.Within.{is_within}
 use Rattle.ddf_array.proofs.Enough.{has_source}
 use Rattle.ddf_array.proofs.RowParity.{cell_value_is}
 use Rattle.ddf_cells.proofs.CopiesOn.{block_at_sits}
-use Rattle.ddf_cells.proofs.DataCells.{keeps}
-use Rattle.ddf_cells.proofs.Redundance.{parity_below, parity_is, two_members}
 use Rattle.ddf_write.specs.Writing.{IsTouched}
 use Rattle.ddf_write.proofs.RowsUntouched.{touched_or_not}
 use Rattle.ddf_write.proofs.WriteLeaves.{cell_stays}
@@ -101,7 +100,7 @@ module _ (v : Volume) (known : IsVolume v) (apart : IsApart v) (within : is_with
       let same : sits.part ≡ part = some_is (sym sits.is_part ∙ has.is_part) in
       let facts = cell_facts sits.part.shape (known.are_parts e sits.part sits.is_part).shape_is in
       let below : position < part.shape.members = subst (λ (q : Part). position < q.shape.members) same (facts.member_within position sector sits.inner sits.on_position) in
-      let par = parity_is part.shape.layout part.shape.members (sector / part.shape.strip) from.gives.0 in
+      let par = some_parity part.shape.layout part.shape.members (sector / part.shape.strip) from.gives.0 in
       let off : position ≢ par.0 = λ at. facts.no_parity position sector sits.inner sits.on_position
       (ap (λ (q : Part). parity_member q.shape (sector / q.shape.strip)) same ∙ par.1 ∙ ap Some (sym at)) in
       ⊎_elim
@@ -138,7 +137,7 @@ module _ (v : Volume) (known : IsVolume v) (apart : IsApart v) (within : is_with
     agree = λ other k source at. value_by other k source at ∙ ap Some (sym (source_gives other source (source_from v other k source at)));
     sum_to_zero = λ e sector part sites is_part parity deep all.
         let inside : sector < part.shape.blocks = omega (arith, deep, depth_le part.shape.layout part.shape.strip part.shape.blocks) in
-        let par = parity_is part.shape.layout part.shape.members (sector / part.shape.strip) parity in
+        let par = some_parity part.shape.layout part.shape.members (sector / part.shape.strip) parity in
         ⊎_elim
         (λ touched. whole_zero v known apart block bytes long before image are was staged e sector part is_part inside par.0 par.1 touched sites all)
         (λ not. same_sum v known apart block bytes long before image are was staged e sector part is_part inside not (range_with_len 0 (length part.places)) sites all ∙ was.sum_to_zero e sector part sites is_part parity deep all)
@@ -208,7 +207,7 @@ module _ (v : Volume) (known : IsVolume v) (apart : IsApart v) (within : is_with
     par_under : (k position : ℕ) → slice_get (data_positions part.shape sector) k ≡ Some position → (position ≢ par) × (position < part.shape.members)
     par_under k position at =
         is_data part.shape.members par
-        (parity_below part.shape.layout part.shape.members (sector / part.shape.strip) par (two_members part.shape.layout part.shape.members parity (known.are_parts e part is_part).shape_is.members_taken) par_is)
+        (parity_below part.shape.layout part.shape.members (sector / part.shape.strip) par (some_members part.shape.layout part.shape.members (known.are_parts e part is_part).shape_is.members_taken) par_is)
         part.shape.layout (sector / part.shape.strip) k position par_is at
 
     pub sum_now : row_sum v image e part sector ≡ sum_with block bytes v before e part sector
@@ -223,7 +222,7 @@ module _ (v : Volume) (known : IsVolume v) (apart : IsApart v) (within : is_with
 
   pub parity_now : (is_absent : ℕ → ℕ → Bool) → HasParity is_absent v before → HasParity is_absent v image
   parity_now is_absent had e sector position part site is_part lacks none parity deep at block_there =
-      let keep = keeps part.shape.layout part.shape.members (sector / part.shape.strip) position parity in
+      let keep = parity_keeps part.shape.layout part.shape.members (sector / part.shape.strip) position parity in
       let inside : sector < part.shape.blocks = omega (arith, deep, depth_le part.shape.layout part.shape.strip part.shape.blocks) in
       ⊎_elim
       (λ touched.

@@ -10,4 +10,4 @@ returns c =
     let inside = c.config.inside in
     subst (λ (config : Configuration). c.in_ok-refusal.refusal ≡ unusable config.members c.args.seats.now (extents config.arrays) c.args.array.now) c.config.view_is
     (c.in_ok-refusal.ensures
-    ∙ ap (λ (l : List Extent). unusable inside.members.entries c.args.seats.now l c.args.array.now) (c.as_slice.ensures.value ∙ c.in_ok-all.ensures))
+    ∙ ap (λ (l : List Extent). unusable inside.members.entries c.args.seats.now l c.args.array.now) c.in_ok-all.ensures)

@@ -1,6 +1,8 @@
-use Rattle.std.proofs.Common.{◌∙◌, sym, ap}
+use Rattle.std.proofs.Common.{◌∙◌, ℕ, sym, ap}
+use Rattle.ddf_primary.proofs.Needs.{alone}
 use Rattle.ddf_array.specs.Levels.{is_on_every}
-use Rattle.ddf_array.proofs.ElementCells.{copies_on_every}
+use Rattle.ddf_array.specs.Places.{site_at}
+use Rattle.ddf_array.proofs.ElementCells.{copies_on_every, copies_on_one}
 use Rattle.ddf_read.proofs.Sites.{site_at_within}
 use Rattle.ddf_read.proofs.element.read_copies.Goals as goal
 
@@ -11,3 +13,9 @@ returns-then-is_on_every-clause-tried g c =
 
 pub try_site-requires : goal.try_site-requires
 try_site-requires g c = rw c.site_at-site.ensures (site_at_within _ c.args.part.now _ c.place-cell.result.sector c.requires.fits c.place-cell.ensures.sector)
+
+pub returns-clause-tried : goal.returns-clause-tried
+returns-clause-tried g c =
+    let on_one = alone c.args.part.now.shape.layout (ap is_on_every (sym c.layout.ensures) ∙ sym c.is_on_every.ensures ∙ c.if-is_on_every.false) in
+    let site_is = c.site_at-site.ensures ∙ ap (λ (p : ℕ). site_at c.args.part.now.places p c.place-cell.result.sector) c.from.ensures in
+    rw (copies_on_one c.args.part.now c.args.block c.place-cell.result.member c.place-cell.result.sector c.place-cell.ensures.cell c.requires.part.shape_is on_one) (rw site_is at c.try_site.ensures.tried)

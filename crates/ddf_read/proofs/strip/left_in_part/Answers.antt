@@ -14,4 +14,4 @@ returns-clause-along c =
     part_along c.args.part.now c.args.block c.min.result c.requires.part.shape_is
     (omega (arith, left, in_strip, mod_below c.args.block strip c.requires.part.shape_is.some_strip))
     (omega (arith, left, c.min-left.ensures, c.capacity.ensures.value, c.requires.block))
-    (λ is number sector there. omega (arith, member, c.left_of_member.ensures.room is number sector there))
+    (λ number sector there. omega (arith, member, c.left_of_member.ensures.room number sector there))

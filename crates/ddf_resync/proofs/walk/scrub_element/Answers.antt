@@ -2,7 +2,7 @@ use Rattle.std.proofs.Common.{◌≡◌, ⊎_elim, ◌+◌, ◌-◌, ◌*◌, �
 use Rattle.std.proofs.lemmas.Bool.{cases_lt}
 use Rattle.std.proofs.lemmas.Nat.{div-add-mod'}
 use Rattle.ddf_bay.specs.Sectors.{Image}
-use Rattle.ddf_primary.specs.Cells.{depth_of}
+use Rattle.ddf_primary.specs.Cells.{depth_of, height_of}
 use Rattle.ddf_read.proofs.OnlyReading.{only_reads_then}
 use Rattle.ddf_resync.specs.Agreeing.{Agrees, AllOrNot}
 use Rattle.ddf_resync.proofs.Failing.{all_bad, all_good}
@@ -11,13 +11,9 @@ use Rattle.ddf_resync.proofs.walk.scrub_element.Goals as goal
 pub depth_of-depth-requires : goal.depth_of-depth-requires
 depth_of-depth-requires g c = c.requires.known.are_parts c.args.element c.args.part.now c.requires.part
 
-pub strip_of-strip-requires : goal.strip_of-strip-requires
-strip_of-strip-requires g c = c.requires.known.are_parts c.args.element c.args.part.now c.requires.part
-
-pub piece_at-count-requires-clause-strip : goal.piece_at-count-requires-clause-strip
-piece_at-count-requires-clause-strip g c =
-    let some = (c.requires.known.are_parts c.args.element c.args.part.now c.requires.part).shape_is.some_strip in
-    omega (arith, some, c.strip_of-strip.ensures)
+pub piece_at-count-requires-clause-height : goal.piece_at-count-requires-clause-height
+piece_at-count-requires-clause-height g c =
+    omega (arith, c.height-height.ensures.some)
 
 pub piece_agrees-requires-clause-fits : goal.piece_agrees-requires-clause-fits
 piece_agrees-requires-clause-fits g c = rw c.loop-sector.invariant.reads.reads.same_sizes c.requires.fits
@@ -31,11 +27,11 @@ returns-then-not-agree-clause-found g c = λ tells.
     let count = c.piece_at-count.result in
     let here = subst (λ (image : Image). AllOrNot c.in_ok-agree.agree count (λ k. Agrees v image c.args.element part (sector + k))) c.loop-sector.invariant.reads.reads.same_held (c.in_ok-agree.ensures.agree tells) in
     let bad = all_bad (λ k. Agrees v held c.args.element part (sector + k)) c.in_ok-agree.agree count c.if-not-agree.true here in
-    let strip_is : c.strip_of-strip.result ≡ part.shape.strip = c.strip_of-strip.ensures in
-    let row : sector / c.strip_of-strip.result ≡ sector / part.shape.strip = ap (λ n. sector / n) strip_is in
-    let whole : sector / part.shape.strip * part.shape.strip + sector % part.shape.strip ≡ sector = omega (arith, div-add-mod' sector part.shape.strip) in
-    let in_row : sector % part.shape.strip + count ≤ part.shape.strip = subst (λ n. sector % n + count ≤ n) strip_is c.piece_at-count.ensures.row in
-    let from : sector / c.strip_of-strip.result * part.shape.strip ≡ sector / part.shape.strip * part.shape.strip = ap (λ n. n * part.shape.strip) row in
+    let height_is : c.height-height.result ≡ height_of part.shape = c.height-height.ensures.value in
+    let row : sector / c.height-height.result ≡ sector / height_of part.shape = ap (λ n. sector / n) height_is in
+    let whole : sector / height_of part.shape * height_of part.shape + sector % height_of part.shape ≡ sector = omega (arith, div-add-mod' sector (height_of part.shape)) in
+    let in_row : sector % height_of part.shape + count ≤ height_of part.shape = subst (λ n. sector % n + count ≤ n) height_is c.piece_at-count.ensures.row in
+    let from : sector / c.height-height.result * height_of part.shape ≡ sector / height_of part.shape * height_of part.shape = ap (λ n. n * height_of part.shape) row in
     let deep : depth_of part.shape ≡ c.depth_of-depth.result = sym c.depth_of-depth.ensures.value in
     record {
       sector = sector + bad.0;

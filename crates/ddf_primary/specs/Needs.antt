@@ -1,0 +1,54 @@
+-- What each primary level does with a block, told once (the standard's tables of RAID levels): whether each member holds it, how the
+-- parity of its row lies, and which members an element can do without.
+use Rattle.std.specs.Prelude.{ℕ, Bool, true, false, ◌||◌, ◌==◌, Option, Some, None, is_some, if◌then◌else◌}
+use Rattle.ddf_primary.specs.declared.layout.Layout.{Layout}
+use Rattle.ddf_primary.specs.declared.layout.Layout.TheVariants.{Raid0, Raid1, Parity, Jbod, Concatenation}
+use Rattle.ddf_primary.specs.declared.need.Need.{Need}
+use Rattle.ddf_primary.specs.declared.need.Need.TheVariants.{All, One, AllButOne}
+use Rattle.ddf_primary.specs.declared.parity.ParityLayout.{ParityLayout}
+
+-- the level that holds each block on every member, at the same sector: RAID 1
+abbrev pub is_on_every : Layout → Bool
+is_on_every Raid0 = false
+is_on_every Raid1 = true
+is_on_every (Parity parity) = false
+is_on_every Jbod = false
+is_on_every Concatenation = false
+
+-- those that hold a block on more than one member
+abbrev pub keeps_copies : Layout → Bool
+keeps_copies Raid0 = false
+keeps_copies Raid1 = true
+keeps_copies (Parity parity) = false
+keeps_copies Jbod = false
+keeps_copies Concatenation = false
+
+-- where the parity of each row lies, for the levels that keep it: RAID 4 and 5
+abbrev pub parity_of : Layout → Option ParityLayout
+parity_of Raid0 = None
+parity_of Raid1 = None
+parity_of (Parity parity) = Some parity
+parity_of Jbod = None
+parity_of Concatenation = None
+
+abbrev pub keeps_parity : Layout → Bool
+keeps_parity layout = is_some (parity_of layout)
+
+-- which members an element of a layout needs
+abbrev pub need_by : Layout → Need
+need_by Raid0 = All
+need_by Raid1 = One
+need_by (Parity parity) = AllButOne
+need_by Jbod = All
+need_by Concatenation = All
+
+-- the same by the code of the level, whatever its qualifier; of one that isn't served, all
+abbrev pub need_of : ℕ → Need
+need_of level =
+    if level == 0x01 then One
+    else (if level == 0x04 || level == 0x05 then AllButOne
+    else All)
+
+-- the codes of the levels that keep data in more than one place: RAID 1, 4, 5 and 1E
+abbrev pub keeps_more_of : ℕ → Bool
+keeps_more_of level = level == 0x01 || (level == 0x04 || level == 0x05) || level == 0x11
