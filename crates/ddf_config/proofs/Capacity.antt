@@ -1,7 +1,6 @@
 -- How many blocks an array can hold.
-use Rattle.std.proofs.Common.{◌≡◌, ℕ, zero, suc, ◌+◌, ◌*◌, ◌^◌, ◌/◌, ◌<◌, ◌≤◌, Bool, true, false, not, ◌&&◌, ◌||◌, eqb, leb, IsTrue, List, [], ◌∷◌, length, get_or, map, filter_map, Option, Some, None, Result, Ok, Err, refl, sym, ap, subst, ◌∙◌, option_map, option_and_then, if◌then◌else◌, cond, nat_le, arith, rules, lit≤}
+use Rattle.std.proofs.Common.{◌≡◌, ℕ, ◌+◌, ◌*◌, ◌^◌, ◌/◌, ◌<◌, ◌≤◌, Bool, true, false, ◌&&◌, ◌||◌, eqb, List, [], ◌∷◌, length, get_or, filter_map, Option, Some, None, Result, Ok, Err, refl, ap, subst, ◌∙◌, option_map, option_and_then, if◌then◌else◌, nat_le, arith, rules, lit≤}
 use borrow.Author.Tests.{tests, leb-true}
-use Rattle.std.specs.Prelude.{slice_get}
 use Rattle.std.specs.List.{AllByRecursion, cons_option}
 use Rattle.std.specs.Result.{result_ok}
 use Rattle.std.proofs.lemmas.Bool.{and_parts}
@@ -9,14 +8,12 @@ use Rattle.std.proofs.lemmas.Nat.{mul-le, pow_pos}
 use Rattle.std.proofs.Math.Pow.{pow_mono}
 use Rattle.std.proofs.lemmas.List.Elements.{All-cons, All-nil}
 use Rattle.ddf_primary.specs.declared.layout.Layout.{Layout}
-use Rattle.ddf_primary.specs.declared.layout.Layout.TheVariants.{Raid0, Raid1, Parity, Jbod, Concatenation}
 use Rattle.ddf_primary.specs.declared.fault.ShapeFault.{ShapeFault}
 use Rattle.ddf_primary.specs.declared.fault.ShapeFault.TheVariants.{MemberCount, Blocks}
 use Rattle.ddf_primary.specs.Placement.{Placement, placement}
 use Rattle.ddf_primary.specs.Levels.{served_layout, takes_members, takes_blocks, least_blocks, sized_shape, shape_of, IsShape}
-use Rattle.ddf_primary.specs.Cells.{cells, unit_of, rows_of, rows_by}
-use Rattle.ddf_primary.proofs.ShapeFacts.{capacity_is, capacity_le, rows_is, rows_le, rows_le_concatenated}
-use Rattle.ddf_primary.proofs.WholeLayouts.{concatenated_length}
+use Rattle.ddf_primary.specs.Cells.{cells, unit_of, rows_of}
+use Rattle.ddf_primary.proofs.ShapeFacts.{cells_le, rows_fit}
 use Rattle.ddf_secondary.specs.declared.element.ElementSize.{ElementSize}
 use Rattle.ddf_secondary.specs.declared.level.SecondaryLevel.{SecondaryLevel}
 use Rattle.ddf_secondary.specs.declared.level.SecondaryLevel.TheVariants.{Striped, Mirrored, Concatenated, Spanned}
@@ -32,30 +29,11 @@ use Rattle.ddf_secondary.proofs.StripedSpots.{striped_small}
 use Rattle.ddf_secondary.proofs.SpannedSpots.{spanned_length, rows_are_small}
 use Rattle.ddf_secondary.proofs.ConcatenatedSpots.{capacities_are_small}
 use Rattle.ddf_secondary.proofs.TierFacts.{single_spots, level_spots}
-use Rattle.ddf_config.specs.declared.element.Position.{Position}
 use Rattle.ddf_config.specs.declared.array.Array.{Array}
 use Rattle.ddf_config.specs.ElementValue.{ElementValue}
-use Rattle.ddf_config.specs.Shapes.{strip_sectors, element_shape, shape_size, part_size, sizes, secondary_level, array_tiers, array_capacity, has_no_strips, IsSmall}
+use Rattle.ddf_config.specs.Shapes.{strip_sectors, element_shape, shape_size, part_size, sizes, secondary_level, array_capacity, has_no_strips, IsSmall}
 
 -- ---- an element
-
-cells_le : (layout : Layout) (shape : Placement) → shape.layout ≡ layout → IsShape shape → length (cells shape) ≤ shape.members * shape.blocks
-cells_le Raid0 shape is sound = omega (arith, capacity_is shape sound (λ e. let no : Raid0 ≡ Concatenation = sym is ∙ e in absurd cc), capacity_le shape sound)
-cells_le Raid1 shape is sound = omega (arith, capacity_is shape sound (λ e. let no : Raid1 ≡ Concatenation = sym is ∙ e in absurd cc), capacity_le shape sound)
-cells_le (Parity parity) shape is sound = omega (arith, capacity_is shape sound (λ e. let no : Parity parity ≡ Concatenation = sym is ∙ e in absurd cc), capacity_le shape sound)
-cells_le Jbod shape is sound = omega (arith, capacity_is shape sound (λ e. let no : Jbod ≡ Concatenation = sym is ∙ e in absurd cc), capacity_le shape sound)
-cells_le Concatenation shape is sound = omega (arith, concatenated_length shape is)
-
-rows_among : (shape : Placement) → IsShape shape → (shape.layout ≡ Concatenation → ⊥) → unit_of shape * rows_of shape ≤ length (cells shape)
-rows_among shape sound other = subst (λ (n : ℕ). unit_of shape * n ≤ length (cells shape)) (rows_is shape other) (rows_le shape sound other)
-
-rows_cells : (layout : Layout) (shape : Placement) → shape.layout ≡ layout → IsShape shape → unit_of shape * rows_of shape ≤ length (cells shape)
-rows_cells Raid0 shape is sound = rows_among shape sound (λ e. let no : Raid0 ≡ Concatenation = sym is ∙ e in absurd cc)
-rows_cells Raid1 shape is sound = rows_among shape sound (λ e. let no : Raid1 ≡ Concatenation = sym is ∙ e in absurd cc)
-rows_cells (Parity parity) shape is sound = rows_among shape sound (λ e. let no : Parity parity ≡ Concatenation = sym is ∙ e in absurd cc)
-rows_cells Jbod shape is sound = rows_among shape sound (λ e. let no : Jbod ≡ Concatenation = sym is ∙ e in absurd cc)
-rows_cells Concatenation shape is sound =
-    subst (λ (l : Layout). unit_of shape * rows_by l shape.members shape.strip shape.blocks ≤ length (cells shape)) (sym is) (rows_le_concatenated shape is)
 
 -- a shape that numbers name, of members that are few
 record IsOf (members : ℕ) (shape : Placement) : Type 0 where
@@ -86,8 +64,8 @@ shaped level qualifier members strip blocks shape few some small e = by (served_
 
 size_small : (members : ℕ) (shape : Placement) → members ≤ 64 → IsOf members shape → IsSmall (shape_size shape)
 size_small members shape few is =
-    let all : length (cells shape) ≤ shape.members * shape.blocks = cells_le shape.layout shape refl is.sound in
-    let rows : unit_of shape * rows_of shape ≤ length (cells shape) = rows_cells shape.layout shape refl is.sound in
+    let all : length (cells shape) ≤ shape.members * shape.blocks = cells_le shape is.sound in
+    let rows : unit_of shape * rows_of shape ≤ length (cells shape) = rows_fit shape is.sound in
     let most : shape.members * shape.blocks ≤ 64 * 2 ^ 48 = mul-le shape.members shape.blocks 64 (2 ^ 48) (omega (arith, is.members_are)) is.blocks_fit in
     let power : 64 * 2 ^ 48 ≤ 2 ^ 56 = lit≤ tt in
     (omega (arith, all, most, power), omega (arith, all, rows, most, power))

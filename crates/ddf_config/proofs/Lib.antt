@@ -4,3 +4,4 @@ pub mod Entries
 pub mod Finds
 pub mod Firsts
 pub mod Capacity
+pub mod ByDisk

@@ -1,6 +1,7 @@
 -- The extents of arrays: the sectors of a disk that each position has.
-use Rattle.std.specs.Prelude.{ℕ, List, [], Option, Some, None, map, filter, nat_eq}
+use Rattle.std.specs.Prelude.{◌≡◌, ℕ, List, [], Option, Some, None, map, filter, nat_eq}
 use Rattle.std.specs.List.{flat_map}
+use Rattle.std.specs.List.Sorted.{IsNonDecreasingBy}
 use Rattle.ddf_config.specs.declared.element.Position.{Position}
 use Rattle.ddf_config.specs.declared.array.Array.{Array}
 use Rattle.ddf_config.specs.declared.extent.Extent.{Extent}
@@ -28,3 +29,12 @@ extents_on reference all = filter (λ (one : Extent). nat_eq one.reference refer
 -- as pairs (first sector, number of sectors)
 abbrev pub ranges : List Extent → List (ℕ × ℕ)
 ranges all = map (λ (one : Extent). (one.start, one.blocks)) all
+
+-- those of one disk stand behind those of a disk of a lower reference
+abbrev pub RiseByDisk : List Extent → Type 0
+RiseByDisk all = IsNonDecreasingBy (λ (one : Extent). one.reference) all
+
+-- the same extents by their disks; those on one disk keep their order
+pub record AreByDisk (all sorted : List Extent) : Type 0 where
+  pub rising : RiseByDisk sorted
+  pub same : (reference : ℕ) → extents_on reference sorted ≡ extents_on reference all

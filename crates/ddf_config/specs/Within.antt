@@ -2,6 +2,9 @@
 -- the configuration alone answers it by its members, and whoever knows the disks by these.
 use Rattle.std.specs.Prelude.{ℕ, Bool, false, not, ◌&&◌, ◌||◌, ◌==◌, List, Option, Some, None, length, nat_le, count_by, is_some, if◌then◌else◌}
 use Rattle.std.specs.List.{list_any, list_all}
+use Rattle.ddf_primary.specs.declared.need.Need.{Need}
+use Rattle.ddf_primary.specs.declared.need.Need.TheVariants.{All, One, AllButOne}
+use Rattle.ddf_primary.specs.Needs.{keeps_more_of, need_of}
 use Rattle.ddf_config.specs.declared.member.Member.{Member}
 use Rattle.ddf_config.specs.declared.element.Position.{Position}
 use Rattle.ddf_config.specs.declared.array.Array.{Array}
@@ -12,26 +15,20 @@ use Rattle.ddf_config.specs.Members.{is_current}
 abbrev pub is_available : List (ℕ × Member) → Position → Bool
 is_available members position = position.synced && is_current members position.reference
 
--- the levels with parity: RAID 4 and 5
-abbrev pub has_parity : ℕ → Bool
-has_parity level = level == 0x04 || level == 0x05
-
 -- that at most one place isn't available
 abbrev pub lacks_one : {X : Type 0} → (X → Bool) → List X → Bool
 lacks_one available places = nat_le (count_by (λ place. not (available place)) places) 1
 
--- that enough places of an element are available for its level: one for RAID 1, all but at most one
--- for RAID 4 and 5, and all for any other level
-abbrev pub has_enough : {X : Type 0} → ℕ → (X → Bool) → List X → Bool
-has_enough level available places =
-    if level == 0x01 then list_any available places
-    else (if has_parity level then lacks_one available places
-    else list_all available places)
+-- that enough places of an element are available for what it needs: all, one, or all but at most one
+abbrev pub has_enough : {X : Type 0} → Need → (X → Bool) → List X → Bool
+has_enough All available places = list_all available places
+has_enough One available places = list_any available places
+has_enough AllButOne available places = lacks_one available places
 
 -- an element that no disk tells of is beyond its level
 abbrev pub is_part_within : (Position → Bool) → Option ElementValue → Bool
 is_part_within available part =
-    elim part [ None ↦ false | Some element ↦ has_enough element.level available element.positions ]
+    elim part [ None ↦ false | Some element ↦ has_enough (need_of element.level) available element.positions ]
 
 -- that the elements of an array are copies of each other
 abbrev pub is_mirrored : Array → Bool
@@ -52,7 +49,7 @@ is_complete array = list_all (λ (part : Option ElementValue). is_some part) arr
 -- the levels that keep data in more than one place: RAID 1, 4, 5 and 1E
 abbrev pub has_redundancy : Option ElementValue → Bool
 has_redundancy part =
-    elim part [ None ↦ false | Some element ↦ element.level == 0x01 || has_parity element.level || element.level == 0x11 ]
+    elim part [ None ↦ false | Some element ↦ keeps_more_of element.level ]
 
 -- that an array keeps data in more than one place
 abbrev pub is_redundant : Array → Bool

@@ -8,6 +8,7 @@ ghost use Rattle.ddf_config.specs.Shapes.{secondary_level};
 
 use crate::ElementPlan;
 use ddf_bytes::{NoMemory, Seq};
+use ddf_primary::keeps_more_of;
 use std::alloc::Global;
 
 /// An array of the group: a secondary level over elements.
@@ -122,7 +123,7 @@ fn has_redundancy(part: &Option<ElementPlan>) -> bool
     ensures { result ≡ has_redundancy part.now }
 {
     match part {
-        Some(element) => matches!(element.level, 0x01 | 0x04 | 0x05 | 0x11),
+        Some(element) => keeps_more_of(element.level),
         None => false,
     }
 }

@@ -2,6 +2,7 @@
 #![tactic(auto)]
 
 mod array;
+mod by_disk;
 mod config;
 mod element;
 mod extent;
@@ -19,6 +20,7 @@ mod usable;
 mod within;
 
 pub use array::Array;
+pub use by_disk::ExtentsByDisk;
 pub use config::Config;
 pub use element::{ElementPlan, Position};
 pub use extent::{Extent, array_extents, extents, ranges_on};

@@ -64,7 +64,11 @@ pub enum Refusal {
     Clash(Guid),
     /// 35: the state or the access bits of the array forbid it.
     Held,
-    /// 39: a disk of the group is absent or out of date, and nothing mends that so far.
+    /// 37: the slot's disk has no room for the stage of a write. No command gives it yet.
+    NoStage(usize),
+    /// 38: no disk stands in for one of the array's that it could give its place back to. No command gives it yet.
+    NoStandIn,
+    /// 39: a disk of the group must not be written over.
     Unsettled,
 }
 

@@ -1,4 +1,5 @@
-//! Where a new extent lies on a disk.
+//! Where a new extent lies on a disk: at the least multiple of its strip where it meets no other, so that the same words make the same array
+//! again. docs/GROUPS.md#changes
 ghost use Rattle.std.specs.Prelude.{◌≡◌, ℕ, ◌+◌, ◌*◌, ◌<◌, ◌≤◌, ◌^◌, true, false, MatchOption, IfOk};
 ghost use Rattle.std.specs.List.{list_any};
 ghost use Rattle.ddf_config.specs.Room.{meets, least_start_of, start_on};

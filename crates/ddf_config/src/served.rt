@@ -1,4 +1,4 @@
-//! Which arrays are served.
+//! Which arrays are served: those of which every number makes sense, and whose extents have their sectors alone. docs/GROUPS.md#arrays
 ghost use Rattle.std.specs.Prelude.{◌≡◌, IfOk, nat_le, count_by};
 ghost use Rattle.std.specs.List.{list_all};
 ghost use Rattle.ddf_config.specs.Served.{meets_extent, lies_well, is_served};
@@ -6,7 +6,7 @@ ghost use Rattle.ddf_config.specs.Served.{meets_extent, lies_well, is_served};
 use crate::extent::array_extents;
 use crate::room::do_meet;
 use crate::shape::{has_shapes, has_tiers};
-use crate::{Array, Extent, Member};
+use crate::{Array, Extent, ExtentsByDisk, Member};
 use ddf_bytes::NoMemory;
 use indexmap::IndexMap;
 use std::alloc::Global;
@@ -17,15 +17,24 @@ fn meets_extent(one: &Extent, other: &Extent) -> bool
     one.reference == other.reference && do_meet(one.start, one.blocks, (other.start, other.blocks))
 }
 
-/// Whether an extent meets at most one of these.
-fn meets_one(all: &[Extent], one: &Extent) -> bool
-    ensures { result ≡ nat_le (count_by (meets_extent one.now) all.now) 1 }
+fn meets_one_of(some: &[Extent], one: &Extent) -> bool
+    ensures { result ≡ nat_le (count_by (meets_extent one.now) some.now) 1 }
 {
-    let met = all.iter().filter(|other| meets_extent(one, *other)).count();
+    let met = some
+        .iter()
+        .filter(|other| meets_extent(one, *other))
+        .count();
     met <= 1
 }
 
-fn lies_well(members: &IndexMap<u32, Member>, all: &[Extent], one: &Extent) -> bool
+/// Whether an extent meets at most one of these. It meets none on another disk.
+fn meets_one(all: &ExtentsByDisk, one: &Extent) -> bool
+    ensures { result ≡ nat_le (count_by (meets_extent one.now) all.now) 1 }
+{
+    meets_one_of(all.on_disk(one.reference), one)
+}
+
+fn lies_well(members: &IndexMap<u32, Member>, all: &ExtentsByDisk, one: &Extent) -> bool
     ensures { result ≡ lies_well members.now.entries all.now one.now }
 {
     match members.get(&one.reference) {
@@ -37,7 +46,7 @@ fn lies_well(members: &IndexMap<u32, Member>, all: &[Extent], one: &Extent) -> b
     }
 }
 
-fn all_lie_well(members: &IndexMap<u32, Member>, all: &[Extent], own: &[Extent]) -> bool
+fn all_lie_well(members: &IndexMap<u32, Member>, all: &ExtentsByDisk, own: &[Extent]) -> bool
     ensures { result ≡ list_all (lies_well members.now.entries all.now) own.now }
 {
     own.iter().all(|one| lies_well(members, all, one))
@@ -52,7 +61,7 @@ fn all_lie_well(members: &IndexMap<u32, Member>, all: &[Extent], own: &[Extent])
 pub fn is_served(
     alloc: Global,
     members: &IndexMap<u32, Member>,
-    all: &[Extent],
+    all: &ExtentsByDisk,
     array: &Array,
 ) -> Result<bool, NoMemory>
     ensures { IfOk result (λ served. served ≡ is_served members.now.entries all.now array.now) }

@@ -1,13 +1,12 @@
-//! The low states of arrays.
+//! The low states of arrays, by the configuration alone. docs/GROUPS.md#state
 ghost use Rattle.std.specs.Prelude.{◌≡◌, ◌<◌, IfOk};
 ghost use Rattle.std.specs.List.{list_any};
-ghost use Rattle.ddf_config.specs.States.{is_out, has_position_out, low_state, takes_low_state, state_with_low, with_low_states};
+ghost use Rattle.ddf_config.specs.States.{is_out, has_position_out, low_state, takes_low_state, state_with_low, all_with_low, with_low_states};
 
-use crate::extent::extents;
 use crate::served::is_served;
 use crate::table::put_last;
 use crate::within::is_within;
-use crate::{Array, ElementPlan, Extent, Member, Position};
+use crate::{Array, ElementPlan, ExtentsByDisk, Member, Position};
 use ddf_bytes::{Guid, NoMemory};
 use indexmap::IndexMap;
 use std::alloc::Global;
@@ -64,7 +63,7 @@ pub fn low_state(members: &IndexMap<u32, Member>, array: &Array) -> u8
 fn takes_low_state(
     alloc: Global,
     members: &IndexMap<u32, Member>,
-    all: &[Extent],
+    all: &ExtentsByDisk,
     array: &Array,
 ) -> Result<bool, NoMemory>
     ensures { IfOk result (λ takes. takes ≡ takes_low_state members.now.entries all.now array.now) }
@@ -76,7 +75,7 @@ fn takes_low_state(
 fn state_with_low(
     alloc: Global,
     members: &IndexMap<u32, Member>,
-    all: &[Extent],
+    all: &ExtentsByDisk,
     array: &Array,
 ) -> Result<u8, NoMemory>
     ensures { IfOk result (λ state. state ≡ state_with_low members.now.entries all.now array.now) }
@@ -87,6 +86,23 @@ fn state_with_low(
     } else {
         Ok(array.state)
     }
+}
+
+/// The arrays with their low states among the extents of all arrays.
+fn all_with_low(
+    alloc: Global,
+    members: &IndexMap<u32, Member>,
+    all: &ExtentsByDisk,
+    arrays: IndexMap<Guid, Array>,
+) -> Result<IndexMap<Guid, Array>, NoMemory>
+    ensures { IfOk result (λ after. after.entries ≡ all_with_low members.now.entries all.now arrays.entries) }
+{
+    let mut after = IndexMap::new(alloc);
+    for (guid, array) in arrays {
+        let state = state_with_low(alloc, members, all, &array)?;
+        put_last(&mut after, guid, Array { state, ..array })?;
+    }
+    Ok(after)
 }
 
 /// The arrays with their low states: each that is complete, served and not deleted gets its low state by the
@@ -101,11 +117,6 @@ pub fn with_low_states(
 ) -> Result<IndexMap<Guid, Array>, NoMemory>
     ensures { IfOk result (λ all. all.entries ≡ with_low_states members.now.entries arrays.entries) }
 {
-    let all = extents(alloc, &arrays)?;
-    let mut after = IndexMap::new(alloc);
-    for (guid, array) in arrays {
-        let state = state_with_low(alloc, members, all.as_slice(), &array)?;
-        put_last(&mut after, guid, Array { state, ..array })?;
-    }
-    Ok(after)
+    let all = ExtentsByDisk::new(alloc, &arrays)?;
+    all_with_low(alloc, members, &all, arrays)
 }

@@ -1,4 +1,4 @@
-//! Why an array can't be used.
+//! Why an array can't be used: read by numbers that make none it would give other blocks. docs/REFUSALS.md#19-shape
 ghost use Rattle.std.specs.Prelude.{◌≡◌, IfOk};
 ghost use Rattle.std.specs.List.{list_any};
 ghost use Rattle.ddf_config.specs.Unusable.{passes_floor, is_served_on, unusable};
@@ -8,7 +8,7 @@ use crate::level::unserved_level;
 use crate::refusal::{first_refusal, refuse_if};
 use crate::seat::floor_of;
 use crate::served::is_served;
-use crate::{Array, Extent, Member, Refusal, Seat};
+use crate::{Array, Extent, ExtentsByDisk, Member, Refusal, Seat};
 use ddf_bytes::NoMemory;
 use indexmap::IndexMap;
 use std::alloc::Global;
@@ -35,7 +35,7 @@ fn is_served_on(
     alloc: Global,
     members: &IndexMap<u32, Member>,
     seats: &[Seat],
-    all: &[Extent],
+    all: &ExtentsByDisk,
     array: &Array,
 ) -> Result<bool, NoMemory>
     ensures { IfOk result (λ served. served ≡ is_served_on members.now.entries seats.now all.now array.now) }
@@ -56,7 +56,7 @@ pub fn unusable(
     alloc: Global,
     members: &IndexMap<u32, Member>,
     seats: &[Seat],
-    all: &[Extent],
+    all: &ExtentsByDisk,
     array: &Array,
 ) -> Result<Option<Refusal>, NoMemory>
     ensures { IfOk result (λ refusal. refusal ≡ unusable members.now.entries seats.now all.now array.now) }

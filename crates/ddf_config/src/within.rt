@@ -1,10 +1,11 @@
-//! Which disks an array can do without, as far as the configuration alone tells.
+//! Which disks an array can do without, as far as the configuration alone tells. docs/GROUPS.md#arrays
 ghost use Rattle.std.specs.Prelude.{◌≡◌};
 ghost use Rattle.std.specs.List.{list_any, list_all};
-ghost use Rattle.ddf_config.specs.Within.{is_available, lacks_one, has_parity, has_enough, is_part_within, is_within};
+ghost use Rattle.ddf_config.specs.Within.{is_available, lacks_one, has_enough, is_part_within, is_within};
 
 use crate::lookup::is_current;
 use crate::{Array, ElementPlan, Member, Position};
+use ddf_primary::Need;
 use indexmap::IndexMap;
 
 /// Whether a position is in sync and its member current.
@@ -12,13 +13,6 @@ fn is_available(members: &IndexMap<u32, Member>, position: &Position) -> bool
     ensures { result ≡ is_available members.now.entries position.now }
 {
     position.synced && is_current(members, position.reference)
-}
-
-/// RAID 4 and 5.
-fn has_parity(level: u8) -> bool
-    ensures { result ≡ has_parity level }
-{
-    level == 0x04 || level == 0x05
 }
 
 fn has_available(members: &IndexMap<u32, Member>, positions: &[Position]) -> bool
@@ -48,16 +42,14 @@ fn lacks_one(members: &IndexMap<u32, Member>, positions: &[Position]) -> bool
     away <= 1
 }
 
-/// Whether enough positions are available for the level.
-fn has_enough(members: &IndexMap<u32, Member>, level: u8, positions: &[Position]) -> bool
-    ensures { result ≡ has_enough level (is_available members.now.entries) positions.now }
+/// Whether enough positions are available for what an element needs.
+fn has_enough(members: &IndexMap<u32, Member>, need: Need, positions: &[Position]) -> bool
+    ensures { result ≡ has_enough need (is_available members.now.entries) positions.now }
 {
-    if level == 0x01 {
-        has_available(members, positions)
-    } else if has_parity(level) {
-        lacks_one(members, positions)
-    } else {
-        all_available(members, positions)
+    match need {
+        Need::All => all_available(members, positions),
+        Need::One => has_available(members, positions),
+        Need::AllButOne => lacks_one(members, positions),
     }
 }
 
@@ -68,7 +60,10 @@ pub fn is_part_within(members: &IndexMap<u32, Member>, part: &Option<ElementPlan
     ensures { result ≡ is_part_within (is_available members.now.entries) part.now }
 {
     match part {
-        Some(element) => has_enough(members, element.level, element.positions.as_slice()),
+        Some(element) => {
+            let need = Need::of_level(element.level);
+            has_enough(members, need, element.positions.as_slice())
+        }
         None => false,
     }
 }

@@ -11,11 +11,11 @@ use Rattle.ddf_config.specs.Extents.{extents}
 use Rattle.ddf_config.specs.Members.{is_current, same_guid}
 use Rattle.ddf_config.specs.States.{array_with_low}
 use Rattle.ddf_plan.specs.declared.change.Change.{Change}
-use Rattle.ddf_plan.specs.declared.change.Change.TheVariants.{Lose, Create, Delete, Spare, Fail, Mark, Unmark, Begin, Progress, Finish}
+use Rattle.ddf_plan.specs.declared.change.Change.TheVariants.{Lose, Create, Delete, Spare, Fail, Mark, Unmark, Rewind, Begin, Progress, Finish}
 use Rattle.ddf_plan.specs.Arrays.{arrays_added, kept_and_added, kept_array, rebuilding}
 use Rattle.ddf_plan.specs.Changes.{changed_at}
 use Rattle.ddf_plan.specs.Lose.{lost_array}
-use Rattle.ddf_plan.specs.Mark.{marked, unmarked}
+use Rattle.ddf_plan.specs.Mark.{marked, rewound, unmarked}
 use Rattle.ddf_plan.specs.Members.{member_after, members_after}
 use Rattle.ddf_array.specs.Losing.{AreFewer}
 use Rattle.ddf_data_array.specs.Allowed.{Allowed}
@@ -25,7 +25,7 @@ use Rattle.ddf_data_group.specs.Grouped.{KeepsArrays, MayChange, Promises}
 use Rattle.ddf_data_group.proofs.Cleared.{cleared, same_marked}
 use Rattle.ddf_data_group.proofs.Entries.{before, current_same, found_in, guid_is, never_drops, same_mark}
 use Rattle.ddf_data_group.proofs.Keeping.{kept_as, kept_lost, kept_marked, kept_staying}
-use Rattle.ddf_data_group.proofs.Named.{begun_less, begun_stays, finished_synced, marked_is, marked_less, progressed_noted, unmarked_is, unmarked_same}
+use Rattle.ddf_data_group.proofs.Named.{begun_less, begun_stays, finished_synced, marked_is, marked_less, progressed_noted, rewound_less, rewound_stays, unmarked_is, unmarked_same}
 use Rattle.ddf_data_group.proofs.Synced.{finished, noted_rows}
 
 no_some : {X : Type 0} (o : Option X) (x : X) → o ≡ None → o ≡ Some x → ⊥
@@ -118,6 +118,13 @@ module _ (config : Configuration) (seats fewer : List Seat) (image : Image) (pro
       kept_as config.members (members_after config (Unmark named init)) seats fewer (unmarked init array) image allowed current are few
       (cleared config.members seats array (unmarked init array) image allowed (unmarked_same init array) (unmarked_is init array) (may guid allowed array promised was here) (kept guid allowed array promised was)))
 
+  by_rewind : (named : List ℕ) → Keeps (Rewind named)
+  by_rewind named =
+      let current = current_is (Rewind named) (λ k m. refl) in
+      by_named (members_after config (Rewind named)) current named rewound (λ guid allowed array promised was here.
+      kept_staying config.members (members_after config (Rewind named)) seats fewer array (rewound array) image allowed current are few
+      (rewound_less array) (rewound_stays (is_current config.members) array) (kept guid allowed array promised was))
+
   by_begin : (named : List ℕ) (element position reference start : ℕ) → MayChange config seats image promises (Begin named element position reference start) → Keeps (Begin named element position reference start)
   by_begin named element position reference start may =
       let change = Begin named element position reference start in
@@ -151,6 +158,7 @@ module _ (config : Configuration) (seats fewer : List Seat) (image : Image) (pro
   by_change (Fail failed) after_are may = by_fail failed after_are
   by_change (Mark named) after_are may = by_mark named
   by_change (Unmark named init) after_are may = by_unmark named init may
+  by_change (Rewind named) after_are may = by_rewind named
   by_change (Begin named element position reference start) after_are may = by_begin named element position reference start may
   by_change (Progress named element position row) after_are may = by_progress named element position row may
   by_change (Finish named element position) after_are may = by_finish named element position may
@@ -171,6 +179,7 @@ module _ (config : Configuration) (seats fewer : List Seat) (image : Image) (pro
   none_added (Fail failed) may guid allowed array promised found = cc
   none_added (Mark named) may guid allowed array promised found = cc
   none_added (Unmark named init) may guid allowed array promised found = cc
+  none_added (Rewind named) may guid allowed array promised found = cc
   none_added (Begin named element position reference start) may guid allowed array promised found = cc
   none_added (Progress named element position row) may guid allowed array promised found = cc
   none_added (Finish named element position) may guid allowed array promised found = cc

@@ -4,10 +4,8 @@ use Rattle.std.specs.Prelude.{is_some, nat_le, option_map, ◌==◌, if◌then�
 use Rattle.std.specs.List.{cons_option, list_all, list_any}
 use Rattle.std.specs.Map.{lookup}
 use Rattle.std.proofs.lemmas.List.{length-map}
-use Rattle.ddf_primary.specs.declared.layout.Layout.{Layout}
-use Rattle.ddf_primary.specs.declared.layout.Layout.TheVariants.{Raid0, Raid1, Parity, Jbod, Concatenation}
-use Rattle.ddf_primary.specs.declared.parity.ParityLayout.TheVariants.{Raid4First, Raid4Last, Raid5ZeroRestart, Raid5LastRestart, Raid5LastContinuation}
 use Rattle.ddf_primary.specs.Placement.{Placement}
+use Rattle.ddf_array.proofs.Told.{shape_coded}
 use Rattle.ddf_config.specs.declared.array.Array.{Array}
 use Rattle.ddf_config.specs.declared.extent.Extent.{Extent}
 use Rattle.ddf_config.specs.declared.member.Member.{Member}
@@ -20,14 +18,13 @@ use Rattle.ddf_config.specs.Members.{same_guid}
 use Rattle.ddf_config.specs.Shapes.{element_shape, has_shape}
 use Rattle.ddf_config.specs.States.{array_with_low, is_marked}
 use Rattle.ddf_config.specs.Within as config
-use Rattle.ddf_config.specs.Within.{has_parity, has_redundancy}
+use Rattle.ddf_config.specs.Within.{has_redundancy}
 use Rattle.ddf_config.proofs.Entries.{absent_changed}
 use Rattle.ddf_plan.specs.declared.change.Change.TheVariants.{Create}
 use Rattle.ddf_plan.specs.Arrays.{kept_and_added, kept_array}
 use Rattle.ddf_plan.specs.Changes.{changed_at}
 use Rattle.ddf_plan.specs.Members.{members_after}
 use Rattle.ddf_plan.specs.Create.{created, laid_element, laid_parts}
-use Rattle.ddf_array.specs.Levels.{is_on_every, level_of}
 use Rattle.ddf_array.specs.Viewing.{known_part, place_of}
 use Rattle.ddf_array.specs.Volume.{Volume}
 use Rattle.ddf_array.specs.Within.{is_redundant, keeps_more}
@@ -35,19 +32,7 @@ use Rattle.ddf_array.proofs.Bools.{and_first, and_second}
 use Rattle.ddf_data_array.specs.Changing.{IsWritable}
 use Rattle.ddf_data_group.specs.Over.{IsOver}
 use Rattle.ddf_data_group.proofs.Entries.{before, found_in, never_drops, same_mark}
-use Rattle.ddf_data_group.proofs.Levels.{shape_level}
 use Rattle.ddf_data_group.proofs.Parts.{mirrored_is}
-
-more_by : (layout : Layout) → (is_on_every layout || has_parity (level_of layout)) ≡ (level_of layout == 0x01 || has_parity (level_of layout) || level_of layout == 0x11)
-more_by Raid0 = refl
-more_by Raid1 = refl
-more_by (Parity Raid4First) = refl
-more_by (Parity Raid4Last) = refl
-more_by (Parity Raid5ZeroRestart) = refl
-more_by (Parity Raid5LastRestart) = refl
-more_by (Parity Raid5LastContinuation) = refl
-more_by Jbod = refl
-more_by Concatenation = refl
 
 module _ (seats : List Seat) (elements : ℕ) where
   more_one : (element : ElementValue) (known : List (Option ElementValue)) (found : Option Placement) → element_shape elements element ≡ found → is_some found ≡ true
@@ -56,8 +41,7 @@ module _ (seats : List Seat) (elements : ℕ) where
       ≡ list_any has_redundancy (Some element ∷ known)
   more_one element known None made there rest = absurd (cc)
   more_one element known (Some shape) made there rest =
-      let level = shape_level elements element shape made in
-      ap (λ b. b || list_any keeps_more (filter_map (known_part seats elements) known)) (more_by shape.layout ∙ ap (λ (n : ℕ). n == 0x01 || has_parity n || n == 0x11) level)
+      ap (λ b. b || list_any keeps_more (filter_map (known_part seats elements) known)) (shape_coded elements element shape made).more
       ∙ ap (λ b. has_redundancy (Some element) || b) rest
 
   more_all : (known : List (Option ElementValue)) → list_all (λ (part : Option ElementValue). is_some part) known ≡ true → list_all (has_shape elements) known ≡ true

@@ -3,17 +3,21 @@ use Rattle.std.proofs.Common.{◌≡◌, ◌∙◌, inl, inr, ℕ, zero, suc, �
 use Rattle.std.specs.Prelude.{◌==◌, nat_le, count_by, option_map, if◌then◌else◌}
 use Rattle.std.specs.List.{list_all, list_any}
 use Rattle.std.proofs.lemmas.Bool.{leb-true}
+use Rattle.ddf_primary.specs.declared.need.Need.{Need}
+use Rattle.ddf_primary.specs.Needs.{need_by, need_of}
+use Rattle.ddf_primary.proofs.Needs.{parity_needs}
+use Rattle.ddf_array.proofs.Told.{shape_coded}
+use Rattle.ddf_config.specs.Within.{has_enough}
 use Rattle.ddf_config.specs.declared.array.Array.{Array}
 use Rattle.ddf_config.specs.declared.element.Position.{Position}
 use Rattle.ddf_config.specs.declared.member.Member.{Member}
 use Rattle.ddf_config.specs.declared.seat.Seat.{Seat}
 use Rattle.ddf_config.specs.ElementValue.{ElementValue}
 use Rattle.ddf_config.specs.Within as config
-use Rattle.ddf_config.specs.Within.{has_parity}
 use Rattle.ddf_plan.specs.Lose.{is_among, lost_position, lost_element, lost_parts, wholly_out, out_of_sync, out_beyond, has_part_within, lost_array}
 use Rattle.ddf_array.specs.declared.place.Place.{Place}
 use Rattle.ddf_array.specs.declared.part.Part.{Part}
-use Rattle.ddf_array.specs.Levels.{keeps_parity, level_of}
+use Rattle.ddf_array.specs.Levels.{keeps_parity}
 use Rattle.ddf_array.specs.Places.{is_available}
 use Rattle.ddf_array.specs.Viewing.{place_of}
 use Rattle.ddf_array.specs.Volume.{Volume}
@@ -23,8 +27,7 @@ use Rattle.ddf_data_array.specs.Fewer.{NoneLeft, LeavesParity}
 use Rattle.ddf_data_group.specs.Over.{AreCurrentSeats, IsOver, absent_in}
 use Rattle.ddf_data_group.specs.Lessening.{IsLessPosition, AreLessPositions, IsLessElement, IsLessPart, AreLessParts, IsLessArray}
 use Rattle.ddf_data_group.proofs.Lessened.{parts_count}
-use Rattle.ddf_data_group.proofs.Levels.{shape_level}
-use Rattle.ddf_data_group.proofs.Parts.{IsPartOf, absent_is, any_within, by_seats, count_down, enough_parity, mirrored_is, of_part}
+use Rattle.ddf_data_group.proofs.Parts.{IsPartOf, absent_is, any_within, by_seats, count_down, mirrored_is, of_part}
 
 true_false : (b : Bool) → b ≡ true → b ≡ false → ⊥
 true_false b a c = cc
@@ -107,7 +110,7 @@ module _ (members : List (ℕ × Member)) (seats : List Seat) (are : AreCurrentS
   from = of_part seats (lost_array members references array) v over k part part_at
 
   module _ (element : ElementValue) (is_element : slice_get (lost_array members references array).elements k ≡ Some (Some element))
-      (level_is : level_of part.shape.layout ≡ element.level) (places_are : part.places ≡ map (place_of seats element.blocks) element.positions) where
+      (need_is : need_by part.shape.layout ≡ need_of element.level) (places_are : part.places ≡ map (place_of seats element.blocks) element.positions) where
     -- by the members the element lacks no fewer
     no_fewer : 2 ≤ count_by (λ position. not (config.is_available members position)) element.positions
     no_fewer =
@@ -120,20 +123,20 @@ module _ (members : List (ℕ × Member)) (seats : List Seat) (are : AreCurrentS
     not_within : config.is_part_within (config.is_available members) (Some element) ≡ true → ⊥
     not_within e =
         let few = leb-true (count_by (λ position. not (config.is_available members position)) element.positions) 1
-        (sym (enough_parity element.level (config.is_available members) element.positions (ap has_parity (sym level_is) ∙ parity)) ∙ e) in
+        (ap (λ (n : Need). has_enough n (config.is_available members) element.positions) (sym (parity_needs part.shape.layout parity) ∙ need_is) ∙ e) in
         omega (arith, few, no_fewer)
 
   not_within_seats : is_part_within part ≡ true → ⊥
   not_within_seats e =
-      let few = leb-true (count_by (λ place. not (is_available place)) part.places) 1 (sym (enough_parity (level_of part.shape.layout) is_available part.places parity) ∙ e) in
+      let few = leb-true (count_by (λ place. not (is_available place)) part.places) 1 (ap (λ (n : Need). has_enough n is_available part.places) (sym (parity_needs part.shape.layout parity)) ∙ e) in
       omega (arith, few, lacks)
 
-  level_of_part : level_of part.shape.layout ≡ (from).element.level
-  level_of_part = shape_level (length (lost_array members references array).elements) (from).element part.shape (from).shape_is
+  need_of_part : need_by part.shape.layout ≡ need_of (from).element.level
+  need_of_part = (shape_coded (length (lost_array members references array).elements) (from).element part.shape (from).shape_is).need
 
   gone_by : (found : Option ElementValue) (b : Bool) → config.is_part_within (config.is_available members) found ≡ b → (if b then found else option_map wholly_out found) ≡ Some (from).element → NoneLeft part.places
   gone_by found true is e =
-      absurd (not_within (from).element (from).is_element level_of_part (from).places_are (ap (config.is_part_within (config.is_available members)) (sym e) ∙ is))
+      absurd (not_within (from).element (from).is_element need_of_part (from).places_are (ap (config.is_part_within (config.is_available members)) (sym e) ∙ is))
   gone_by None false is e = absurd (cc)
   gone_by (Some one) false is e =
       let same : wholly_out one ≡ (from).element = cc in

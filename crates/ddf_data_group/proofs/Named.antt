@@ -10,7 +10,7 @@ use Rattle.ddf_config.specs.States.{is_marked}
 use Rattle.ddf_plan.specs.declared.change.Change.{Change}
 use Rattle.ddf_plan.specs.declared.change.Change.TheVariants.{Begin, Progress, Finish}
 use Rattle.ddf_plan.specs.Arrays.{element_after, part_after, position_after, rebuilding}
-use Rattle.ddf_plan.specs.Mark.{mark, marked, unmarked, without_row, without_rows}
+use Rattle.ddf_plan.specs.Mark.{mark, marked, rewound, unmarked, without_row, without_rows}
 use Rattle.ddf_plan.specs.Rebuild.{new_position, progressed}
 use Rattle.ddf_data_array.specs.Changing.{changed_item}
 use Rattle.ddf_data_group.specs.Clearing.{IsInSync, IsNotedArray, IsSameButMark, element_in_sync, element_noted, position_in_sync, position_noted}
@@ -57,6 +57,26 @@ parts_without (Some element ∷ known) =
 
 pub marked_less : (array : Array) → IsLessArray array (marked array)
 marked_less array = record { same_secondary = refl; mark_is = inl (marked_is array); less = parts_without array.elements }
+
+pub rewound_less : (array : Array) → IsLessArray array (rewound array)
+rewound_less array = record { same_secondary = refl; mark_is = inr refl; less = parts_without array.elements }
+
+positions_stay : (current : ℕ → Bool) (positions : List Position) → AreStaying current positions (map without_row positions)
+positions_stay current [] = tt
+positions_stay current (position ∷ positions) = (inr (refl, refl, refl), positions_stay current positions)
+
+rewound_at : (known : List (Option ElementValue)) (element : ℕ) (before after : ElementValue) → slice_get known element ≡ Some (Some before) → slice_get (map (option_map without_rows) known) element ≡ Some (Some after) → without_rows before ≡ after
+rewound_at [] element before after at there = absurd (cc)
+rewound_at (None ∷ known) zero before after at there = absurd (cc)
+rewound_at (Some one ∷ known) zero before after at there =
+    let same : one ≡ before = cc in
+    let next : without_rows one ≡ after = cc in
+    ap without_rows (sym same) ∙ next
+rewound_at (part ∷ known) (suc element) before after at there = rewound_at known element before after at there
+
+pub rewound_stays : (current : ℕ → Bool) (array : Array) → AllStay current array.elements (rewound array).elements
+rewound_stays current array element before after at there =
+    subst (λ (x : ElementValue). AreStaying current before.positions x.positions) (rewound_at array.elements element before after at there) (positions_stay current before.positions)
 
 -- ---- a position by its number
 

@@ -1,10 +1,14 @@
 -- The elements of an array and the parts that they are over seats.
 use Rattle.std.proofs.Common.{◌≡◌, ◌∙◌, ℕ, zero, suc, ◌+◌, ◌≤◌, Bool, true, false, not, List, [], ◌∷◌, Option, Some, None, refl, sym, ap, subst, arith, map, filter_map, length, slice_get, ◌&&◌, ◌||◌}
-use Rattle.std.specs.Prelude.{is_none, is_some, nat_le, option_map, count_by, ◌==◌, if◌then◌else◌}
+use Rattle.std.specs.Prelude.{is_none, is_some, nat_le, option_map, count_by, if◌then◌else◌}
 use Rattle.std.specs.List.{cons_option, list_all, list_any}
-use Rattle.std.proofs.lemmas.Bool.{eqb-true, leb-true, le-leb}
+use Rattle.std.proofs.lemmas.Bool.{leb-true, le-leb}
 use Rattle.std.proofs.lemmas.List.Sums.{sum_by-cons}
 use Rattle.ddf_primary.specs.Placement.{Placement}
+use Rattle.ddf_primary.specs.declared.need.Need.{Need}
+use Rattle.ddf_primary.specs.declared.need.Need.TheVariants.{All, One, AllButOne}
+use Rattle.ddf_primary.specs.Needs.{need_of}
+use Rattle.ddf_array.proofs.Told.{shape_coded}
 use Rattle.ddf_config.specs.declared.array.Array.{Array}
 use Rattle.ddf_config.specs.declared.element.Position.{Position}
 use Rattle.ddf_config.specs.declared.member.Member.{Member}
@@ -14,7 +18,7 @@ use Rattle.ddf_config.specs.Extents.{extent}
 use Rattle.ddf_config.specs.Members.{is_current}
 use Rattle.ddf_config.specs.Shapes.{element_shape, has_shape, secondary_level, sizes}
 use Rattle.ddf_config.specs.Within as config
-use Rattle.ddf_config.specs.Within.{has_enough, has_parity, lacks_one}
+use Rattle.ddf_config.specs.Within.{has_enough}
 use Rattle.ddf_array.specs.declared.part.Part.{Part}
 use Rattle.ddf_array.specs.declared.place.Place.{Place}
 use Rattle.ddf_array.specs.Cells.{is_in_every}
@@ -26,7 +30,7 @@ use Rattle.ddf_array.proofs.Bools.{and_first, and_second}
 use Rattle.ddf_secondary.specs.Arrangement.{served_level, takes_count, takes_units}
 use Rattle.ddf_data_group.specs.Over.{AreCurrentSeats, IsOver, absent_in, lacks_disk, part_lacks}
 use Rattle.ddf_data_group.proofs.Lessened.{slot_ends}
-use Rattle.ddf_data_group.proofs.Levels.{every_by, several, shape_level, tiers_level}
+use Rattle.ddf_data_group.proofs.Levels.{every_by, several, tiers_level}
 
 -- ---- the element of a part
 
@@ -94,17 +98,8 @@ mirrored_is seats array v over =
     ∙ ap (λ b. b && nat_le 2 n) (every_by code v.tiers.level level)
     ∙ several n array.secondary (nat_le 2 n) refl
 
--- ---- levels with parity
-
 true_false : (b : Bool) → b ≡ true → b ≡ false → ⊥
 true_false b a c = cc
-
-pub enough_parity : {X : Type 0} (level : ℕ) (p : X → Bool) (xs : List X) → has_parity level ≡ true → has_enough level p xs ≡ lacks_one p xs
-enough_parity level p xs parity = by (level == 0x01) refl
-  where
-    by : (b : Bool) → (level == 0x01) ≡ b → (if b then list_any p xs else (if has_parity level then lacks_one p xs else list_all p xs)) ≡ lacks_one p xs
-    by true is = absurd (true_false (has_parity level) parity (ap has_parity (eqb-true level 0x01 is)))
-    by false is = ap (λ b. if b then lacks_one p xs else list_all p xs) parity
 
 -- ---- available by the seats, and by the members alone
 
@@ -146,14 +141,12 @@ module _ {X Y : Type 0} (f : X → Y) (p : Y → Bool) (q : X → Bool) where
       let new : count_by (λ y. not (p y)) (f x ∷ map f xs) ≡ (if not (p (f x)) then 1 else 0) + count_by (λ y. not (p y)) (map f xs) = sum_by-cons (λ y. if not (p y) then 1 else 0) (f x) (map f xs) in
       omega (arith, old, new, weight (p (f x)) (q x) (down 0 x refl), count_down xs (λ k y at. down (suc k) y at))
 
-  pub enough_up : ((x : X) → p (f x) ≡ true → q x ≡ true) → (level : ℕ) (xs : List X) → has_enough level p (map f xs) ≡ true → has_enough level q xs ≡ true
-  enough_up up level xs e = by (level == 0x01) (has_parity level) e
-    where
-      by : (a b : Bool) → (if a then list_any p (map f xs) else (if b then lacks_one p (map f xs) else list_all p (map f xs))) ≡ true
-          → (if a then list_any q xs else (if b then lacks_one q xs else list_all q xs)) ≡ true
-      by true b e = any_up up xs e
-      by false true e = let few = leb-true (count_by (λ y. not (p y)) (map f xs)) 1 e in le-leb (count_by (λ x. not (q x)) xs) 1 (omega (arith, few, count_up up xs))
-      by false false e = all_up up xs e
+  pub enough_up : ((x : X) → p (f x) ≡ true → q x ≡ true) → (need : Need) (xs : List X) → has_enough need p (map f xs) ≡ true → has_enough need q xs ≡ true
+  enough_up up All xs e = all_up up xs e
+  enough_up up One xs e = any_up up xs e
+  enough_up up AllButOne xs e =
+      let few = leb-true (count_by (λ y. not (p y)) (map f xs)) 1 e in
+      le-leb (count_by (λ x. not (q x)) xs) 1 (omega (arith, few, count_up up xs))
 
 slot_there : (synced : Bool) (slot : Option ℕ) → (synced && is_some slot) ≡ true → (synced ≡ true) × ((s : ℕ) × (slot ≡ Some s))
 slot_there true (Some s) e = (refl, (s, refl))
@@ -190,8 +183,8 @@ module _ (members : List (ℕ × Member)) (seats : List Seat) (are : AreCurrentS
   element_within : (element : ElementValue) (shape : Placement) → element_shape elements element ≡ Some shape
       → is_part_within (record { shape = shape; places = map (place_of seats element.blocks) element.positions }) ≡ true → config.is_part_within (config.is_available members) (Some element) ≡ true
   element_within element shape is e =
-      enough_up (place_of seats element.blocks) is_available (config.is_available members) (by_members members seats are element.blocks) element.level element.positions
-      (ap (λ (n : ℕ). has_enough n is_available (map (place_of seats element.blocks) element.positions)) (sym (shape_level elements element shape is)) ∙ e)
+      enough_up (place_of seats element.blocks) is_available (config.is_available members) (by_members members seats are element.blocks) (need_of element.level) element.positions
+      (ap (λ (n : Need). has_enough n is_available (map (place_of seats element.blocks) element.positions)) (sym (shape_coded elements element shape is).need) ∙ e)
 
   or_right : (a b : Bool) → b ≡ true → (a || b) ≡ true
   or_right true b e = refl

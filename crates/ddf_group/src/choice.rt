@@ -1,4 +1,5 @@
-//! Which group is meant: the named one, or the only one that no other absorbs.
+//! Which group is meant: the named one, or the only one that no other absorbs. Two that are there are never chosen between.
+//! docs/GROUPS.md#which-group-the-disks-are
 ghost use Rattle.std.specs.Prelude.{◌≡◌, ◌&&◌, ◌||◌, not, option_map};
 ghost use Rattle.std.specs.List.{list_all};
 ghost use Rattle.ddf_group.specs.Slots.{claims_by, numbers, shows_group, slot_at};

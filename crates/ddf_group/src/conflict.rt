@@ -1,4 +1,4 @@
-//! Newest records of one group that contradict each other.
+//! Newest records of one group that contradict each other: the first difference is told, and nothing is written. docs/REFUSALS.md#conflict
 ghost use Rattle.std.specs.Prelude.{◌≡◌, find, option_map, IfOk};
 ghost use Rattle.ddf_group.specs.Pairs.{first_pair};
 ghost use Rattle.ddf_group.specs.Slots.{claims_by, numbers, shows_group, slot_at, view_in};

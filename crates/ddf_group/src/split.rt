@@ -1,4 +1,4 @@
-//! Older records that list the disk of a newest one as missing.
+//! Older records that list the disk of a newest one as missing: the group went on without it, and it went on elsewhere. docs/REFUSALS.md#split
 ghost use Rattle.std.specs.Prelude.{◌≡◌, find, option_map};
 ghost use Rattle.ddf_group.specs.Pairs.{first_with};
 ghost use Rattle.ddf_group.specs.Slots.{numbers, slot_at};

@@ -1,4 +1,5 @@
-//! Disks of another group that this one takes over: those that have joined it.
+//! Disks of another group that this one takes over: those that have joined it, where an import was cut. Any other would be lost to its own
+//! group. docs/FAULTS.md#a-former-group-that-went-on-by-itself
 ghost use Rattle.std.specs.Prelude.{◌≡◌, ◌&&◌, ◌||◌, not, filter_map, option_map};
 ghost use Rattle.std.specs.List.{list_all, list_any};
 ghost use Rattle.ddf_view.specs.View.{disk_of, lists_current, lists_missing};

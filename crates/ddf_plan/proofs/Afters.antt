@@ -1,5 +1,5 @@
 -- The configuration after a change, by its refusal.
-use Rattle.std.proofs.Common.{◌≡◌, ℕ, ◌+◌, ◌<◌, ◌≤◌, lit<, List, [], ◌∷◌, ◌++◌, Option, Some, None, Ok, Err, ap, refl, is_some, length, arith}
+use Rattle.std.proofs.Common.{◌≡◌, ℕ, ◌+◌, ◌<◌, ◌≤◌, lit<, List, [], ◌∷◌, ◌++◌, Option, Some, None, Ok, Err, ap, refl, is_some, arith}
 use Rattle.std.specs.Map.{lookup}
 use Rattle.ddf_config.specs.declared.array.Array.{Array}
 use Rattle.ddf_config.specs.Entries.{changed_entries}
@@ -13,7 +13,7 @@ use Rattle.ddf_plan.specs.declared.change.Change.TheVariants.{Lose, Create}
 use Rattle.ddf_config.specs.Configuration.{Configuration}
 use Rattle.ddf_config.specs.Members.{same_guid}
 use Rattle.ddf_config.specs.Levels.{unserved_level}
-use Rattle.ddf_config.specs.Refusals.{first_refusal, refuse_if, part_refusal}
+use Rattle.ddf_config.specs.Refusals.{first_refusal, refuse_if}
 use Rattle.ddf_plan.specs.Refusals.{greatest_sequence, spent, not_current, refuse_first}
 use Rattle.ddf_plan.specs.CreateRefusal.{references, is_taken, is_no_shape, is_spare_disk}
 use Rattle.ddf_plan.specs.Arrays.{HasNewGuid}

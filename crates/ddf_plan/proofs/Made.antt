@@ -18,7 +18,7 @@ use Rattle.ddf_config.specs.Entries.{changed_entries}
 use Rattle.ddf_config.specs.Extents.{extent, part_extents, array_extents, extents}
 use Rattle.ddf_config.specs.Members.{same_guid}
 use Rattle.ddf_config.specs.Levels.{unserved_level}
-use Rattle.ddf_config.specs.Refusals.{refuse_if, part_refusal}
+use Rattle.ddf_config.specs.Refusals.{refuse_if}
 use Rattle.ddf_config.specs.Shapes.{has_shapes, has_tiers}
 use Rattle.ddf_config.specs.States.{array_with_low}
 use Rattle.ddf_config.proofs.Entries.{absent_changed}

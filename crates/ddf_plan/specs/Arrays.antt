@@ -12,10 +12,10 @@ use Rattle.ddf_config.specs.Extents.{extents}
 use Rattle.ddf_config.specs.Members.{same_guid}
 use Rattle.ddf_config.specs.States.{with_low_states}
 use Rattle.ddf_plan.specs.declared.change.Change.{Change}
-use Rattle.ddf_plan.specs.declared.change.Change.TheVariants.{Lose, Create, Delete, Fail, Mark, Unmark, Begin, Progress, Finish}
+use Rattle.ddf_plan.specs.declared.change.Change.TheVariants.{Lose, Create, Delete, Fail, Mark, Unmark, Rewind, Begin, Progress, Finish}
 use Rattle.ddf_plan.specs.Create.{created}
 use Rattle.ddf_plan.specs.Lose.{lost_array}
-use Rattle.ddf_plan.specs.Mark.{marked, unmarked}
+use Rattle.ddf_plan.specs.Mark.{marked, rewound, unmarked}
 use Rattle.ddf_plan.specs.Members.{members_after}
 use Rattle.ddf_plan.specs.Rebuild.{begun, progressed, finished}
 
@@ -45,6 +45,7 @@ rebuilding change named array = record array { elements = map (part_after change
 abbrev pub names : Change → List ℕ → Bool
 names (Mark named) guid = same_guid named guid
 names (Unmark named init) guid = same_guid named guid
+names (Rewind named) guid = same_guid named guid
 names (Begin named element position reference start) guid = same_guid named guid
 names (Progress named element position row) guid = same_guid named guid
 names (Finish named element position) guid = same_guid named guid
@@ -54,6 +55,7 @@ names other guid = false
 abbrev pub named_after : Change → Array → Array
 named_after (Mark guid) array = marked array
 named_after (Unmark guid init) array = unmarked init array
+named_after (Rewind guid) array = rewound array
 named_after (Begin guid element position reference start) array = rebuilding (Begin guid element position reference start) element array
 named_after (Progress guid element position row) array = rebuilding (Progress guid element position row) element array
 named_after (Finish guid element position) array = rebuilding (Finish guid element position) element array

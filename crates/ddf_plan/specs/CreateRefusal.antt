@@ -1,5 +1,5 @@
 -- Why an array can't be created.
-use Rattle.std.specs.Prelude.{ℕ, Bool, false, not, ◌||◌, List, [], ◌∷◌, Option, Some, None, map, find, length, is_some, nat_eq, nat_lt, option_map}
+use Rattle.std.specs.Prelude.{ℕ, Bool, false, not, ◌||◌, List, [], ◌∷◌, Option, Some, None, map, length, is_some, nat_eq, nat_lt, option_map}
 use Rattle.std.specs.Map.{lookup}
 use Rattle.std.specs.List.{list_any}
 use Rattle.ddf_config.specs.declared.element.Position.{Position}

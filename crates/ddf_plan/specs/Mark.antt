@@ -1,4 +1,5 @@
--- The mark of an array that isn't consistent: what setting and clearing it make of the array.
+-- The mark of an array that isn't consistent, and the rows that count as rebuilt: what setting and clearing the mark and forgetting the rows
+-- make of the array.
 use Rattle.std.specs.Prelude.{ℕ, ◌+◌, ◌-◌, ◌*◌, ◌/◌, ◌%◌, map, option_map, if◌then◌else◌}
 use Rattle.ddf_config.specs.declared.element.Position.{Position}
 use Rattle.ddf_config.specs.declared.array.Array.{Array}
@@ -29,6 +30,10 @@ without_rows element = with_positions element (map without_row element.positions
 -- a marked array, with no row rebuilt: what its disks hold may be at odds in any row
 abbrev pub marked : Array → Array
 marked array = record array { elements = map (option_map without_rows) array.elements; state = marked_state array }
+
+-- an array with no row rebuilt
+abbrev pub rewound : Array → Array
+rewound array = record array { elements = map (option_map without_rows) array.elements }
 
 -- how far the array was initialized is in the two low bits of its init byte; the others stay
 abbrev pub with_init : ℕ → ℕ → ℕ

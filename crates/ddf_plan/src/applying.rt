@@ -23,7 +23,7 @@ use std::alloc::Global;
 /// - `Delete`: `NoArray`, `SequenceSpent`
 /// - `Spare`: `NotMember`, `NoArray`, `InUse`, `SequenceSpent`
 /// - `Fail`: `NotMember`, `InUse`, `Lost`, `SequenceSpent`
-/// - `Mark`, `Unmark`: `NoArray`, `SequenceSpent`
+/// - `Mark`, `Unmark`, `Rewind`: `NoArray`, `SequenceSpent`
 /// - `Begin`, `Progress`, `Finish`: `NoArray`, `Shape`, `NotMember`, `SequenceSpent`
 ///
 /// `Memory` where memory ran out.

@@ -9,7 +9,7 @@ ghost use Rattle.ddf_plan.specs.Arrays.{names, named_after, array_after, is_drop
 use crate::Change;
 use crate::create::created;
 use crate::lose::lost_array;
-use crate::mark::{marked, unmarked};
+use crate::mark::{marked, rewound, unmarked};
 use crate::rebuild::rebuilding;
 use ddf_bytes::{Guid, NoMemory};
 use ddf_config::{Array, Config, Member, extents, put_last, put_some, with_low_states};
@@ -22,7 +22,7 @@ fn names(change: &Change, guid: Guid) -> bool
     ensures { result ≡ names change.now guid }
 {
     match change {
-        Change::Mark(named) | Change::Unmark(named, _) => *named == guid,
+        Change::Mark(named) | Change::Unmark(named, _) | Change::Rewind(named) => *named == guid,
         Change::Begin { array, .. }
         | Change::Progress { array, .. }
         | Change::Finish { array, .. } => *array == guid,
@@ -41,6 +41,7 @@ fn named_after(alloc: Global, change: &Change, array: &Array) -> Result<Array, N
     match change {
         Change::Mark(_) => marked(alloc, array),
         Change::Unmark(_, init) => unmarked(alloc, *init, array),
+        Change::Rewind(_) => rewound(alloc, array),
         Change::Begin { element, .. } => rebuilding(alloc, change, *element, array),
         Change::Progress { element, .. } => rebuilding(alloc, change, *element, array),
         Change::Finish { element, .. } => rebuilding(alloc, change, *element, array),
@@ -85,6 +86,7 @@ fn array_after(
         | Change::Spare(_, _)
         | Change::Mark(_)
         | Change::Unmark(_, _)
+        | Change::Rewind(_)
         | Change::Begin { .. }
         | Change::Progress { .. }
         | Change::Finish { .. } => named_or_same(alloc, change, guid, array),
@@ -103,6 +105,7 @@ fn is_dropped(change: &Change, guid: Guid) -> bool
         | Change::Fail(_)
         | Change::Mark(_)
         | Change::Unmark(_, _)
+        | Change::Rewind(_)
         | Change::Begin { .. }
         | Change::Progress { .. }
         | Change::Finish { .. } => false,
@@ -181,6 +184,7 @@ fn put_added(
         | Change::Fail(_)
         | Change::Mark(_)
         | Change::Unmark(_, _)
+        | Change::Rewind(_)
         | Change::Begin { .. }
         | Change::Progress { .. }
         | Change::Finish { .. } => Ok(()),

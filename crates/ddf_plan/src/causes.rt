@@ -1,4 +1,4 @@
-//! Why a change is refused.
+//! Why a change is refused: a row for each, in its order, of which the first that holds is told. docs/GROUPS.md#orders-of-refusal
 ghost use Rattle.std.specs.Prelude.{◌≡◌, [], ◌∷◌, ◌++◌, IfOk};
 ghost use Rattle.ddf_config.specs.Refusals.{first_refusal};
 ghost use Rattle.ddf_plan.specs.Refusals.{not_current, spent};
@@ -61,7 +61,7 @@ fn begin_cause(
 /// - `Delete`: `NoArray`
 /// - `Spare`: `NotMember`, `NoArray`, `InUse`
 /// - `Fail`: `NotMember`, `InUse`, `Lost`
-/// - `Mark`, `Unmark`: `NoArray`
+/// - `Mark`, `Unmark`, `Rewind`: `NoArray`
 /// - `Begin`, `Progress`, `Finish`: `NoArray`, `Shape`, `NotMember`
 ///
 /// `Shape` holds also where an element of a new array has more members than `most`, the greatest number that a record of
@@ -87,6 +87,7 @@ pub fn cause(
         Change::Fail(failed) => failing_cause(alloc, config, change, seats, *failed, most),
         Change::Mark(guid) => Ok(no_array(config, *guid)),
         Change::Unmark(guid, _) => Ok(no_array(config, *guid)),
+        Change::Rewind(guid) => Ok(no_array(config, *guid)),
         Change::Begin {
             array,
             element,
@@ -119,6 +120,7 @@ pub fn steps_of(change: &Change) -> u32
         | Change::Spare(_, _)
         | Change::Mark(_)
         | Change::Unmark(_, _)
+        | Change::Rewind(_)
         | Change::Begin { .. }
         | Change::Progress { .. }
         | Change::Finish { .. } => 1,

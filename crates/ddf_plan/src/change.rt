@@ -23,6 +23,8 @@ pub enum Change {
     Mark(Guid),
     /// The mark of the array is cleared. The low two bits tell how far it is initialized.
     Unmark(Guid, u8),
+    /// No row of a position of the array counts as rebuilt any more. No command makes this change yet.
+    Rewind(Guid),
     /// A position of the array gets another disk, from this start on, and is to be rebuilt.
     Begin {
         /// The GUID of the array.
@@ -83,6 +85,7 @@ impl Change {
             Change::Fail(reference) => Ok(Change::Fail(*reference)),
             Change::Mark(guid) => Ok(Change::Mark(*guid)),
             Change::Unmark(guid, init) => Ok(Change::Unmark(*guid, *init)),
+            Change::Rewind(guid) => Ok(Change::Rewind(*guid)),
             Change::Begin {
                 array,
                 element,

@@ -1,4 +1,5 @@
-//! A new array: where its extents lie, and its state.
+//! A new array: where its extents lie, and its state. One that keeps its data twice begins marked: nobody has made its copies agree.
+//! docs/GROUPS.md#changes
 ghost use Rattle.std.specs.Prelude.{◌≡◌, ◌≤◌, length, map, option_map, IfOk};
 ghost use Rattle.ddf_plan.specs.Create.{element_strip, laid_position, laid_element, laid_parts, created_state, created};
 

@@ -1,4 +1,4 @@
-//! Why a new array is refused.
+//! Why a new array is refused, in the order of `create`. docs/GROUPS.md#orders-of-refusal
 ghost use Rattle.std.specs.Prelude.{◌≡◌, ◌||◌, find, map, nat_eq, is_some, IfOk};
 ghost use Rattle.std.specs.Map.{lookup};
 ghost use Rattle.std.specs.List.{list_any};

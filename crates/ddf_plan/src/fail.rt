@@ -1,4 +1,5 @@
-//! A disk that counts as failed. What it makes of the configuration is what a loss makes of it.
+//! A disk that counts as failed, and what refuses that: an array that can't do without it. What it makes of the configuration is what a loss
+//! makes of it. docs/GROUPS.md#changes
 ghost use Rattle.std.specs.Prelude.{◌≡◌};
 ghost use Rattle.ddf_plan.specs.Fail.{is_last, would_be_lost, any_would_be_lost, fail_causes};
 ghost use Rattle.ddf_config.specs.Refusals.{first_refusal};

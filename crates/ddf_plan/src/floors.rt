@@ -164,6 +164,7 @@ pub fn extents_refusal(
         | Change::Fail(_)
         | Change::Mark(_)
         | Change::Unmark(_, _)
+        | Change::Rewind(_)
         | Change::Begin { .. }
         | Change::Progress { .. }
         | Change::Finish { .. } => Ok(None),

@@ -1,4 +1,5 @@
-//! What the loss of disks makes of arrays.
+//! What the loss of disks makes of arrays: their positions are out of sync, with no row rebuilt, since what is written from now on isn't there.
+//! docs/GROUPS.md#changes
 ghost use Rattle.std.specs.Prelude.{◌≡◌, ◌≤◌, length, map, option_map, IfOk};
 ghost use Rattle.ddf_plan.specs.Lose.{is_among, out_of_sync, lost_position, lost_element, lost_parts, wholly_out, out_beyond, mirrored_parts, lost_array};
 

@@ -1,6 +1,7 @@
-//! The mark of an array that isn't consistent: what setting and clearing it make of the array.
+//! The mark of an array that isn't consistent, and the rows that count as rebuilt: what setting and clearing the mark and forgetting the rows
+//! make of the array. Rows that a rebuild has filled are forgotten as an array is marked: they may be written. docs/GROUPS.md#changes
 ghost use Rattle.std.specs.Prelude.{◌≡◌, ◌≤◌, length, map, option_map, IfOk};
-ghost use Rattle.ddf_plan.specs.Mark.{marked_state, unmarked_state, without_row, without_rows, marked, with_init, unmarked};
+ghost use Rattle.ddf_plan.specs.Mark.{marked_state, unmarked_state, without_row, without_rows, marked, rewound, with_init, unmarked};
 
 use arrayvec::ArrayVec;
 use ddf_bytes::{NoMemory, Seq};
@@ -79,6 +80,21 @@ pub(crate) fn marked(alloc: Global, array: &Array) -> Result<Array, NoMemory>
         secondary: array.secondary,
         elements: Seq::new(parts),
         state: marked_state(array),
+        init: array.init,
+    })
+}
+
+/// The array with no row rebuilt.
+pub(crate) fn rewound(alloc: Global, array: &Array) -> Result<Array, NoMemory>
+    ensures { IfOk result (λ rewound_one. rewound_one ≡ rewound array.now) }
+{
+    let parts = parts_without_rows(alloc, array.elements.items())?;
+    Ok(Array {
+        name: array.name,
+        number: array.number,
+        secondary: array.secondary,
+        elements: Seq::new(parts),
+        state: array.state,
         init: array.init,
     })
 }

@@ -25,6 +25,7 @@ fn lost_by(change: &Change) -> &[u32]
         | Change::Spare(_, _)
         | Change::Mark(_)
         | Change::Unmark(_, _)
+        | Change::Rewind(_)
         | Change::Begin { .. }
         | Change::Progress { .. }
         | Change::Finish { .. } => &[],
@@ -65,6 +66,7 @@ fn use_after(
         | Change::Fail(_)
         | Change::Mark(_)
         | Change::Unmark(_, _)
+        | Change::Rewind(_)
         | Change::Progress { .. }
         | Change::Finish { .. } => use_as.duplicate(alloc),
     }

@@ -1,4 +1,4 @@
-//! The position that a rebuild is of: whether an array has it, and what the rebuild makes of it.
+//! The position that a rebuild is of: whether an array has it, and what the rebuild makes of it. docs/GROUPS.md#changes
 ghost use Rattle.std.specs.Prelude.{◌≡◌, ◌≤◌, length, map, IfOk};
 ghost use Rattle.std.specs.List.{enumerate_from};
 ghost use Rattle.ddf_config.specs.Refusals.{first_refusal};
@@ -173,7 +173,8 @@ fn position_after(change: &Change, number: usize, old: Position) -> Position
         | Change::Spare(_, _)
         | Change::Fail(_)
         | Change::Mark(_)
-        | Change::Unmark(_, _) => old,
+        | Change::Unmark(_, _)
+        | Change::Rewind(_) => old,
     }
 }
 

@@ -1,4 +1,5 @@
-//! Whether two configurations have the same members and arrays.
+//! Whether two configurations have the same members and arrays: a change that alters only the sequence number isn't made.
+//! docs/DECISIONS.md#configurations-and-their-changes
 ghost use Rattle.std.specs.Prelude.{◌≡◌, ◌==◌, ◌&&◌};
 ghost use Rattle.std.specs.Cmp.Lexicographic.{pointwise};
 ghost use Rattle.std.specs.List.{list_all, zip};

@@ -1,4 +1,4 @@
-//! The use of a disk as a spare.
+//! The use of a disk as a spare, and what refuses it: an array that lies on it. docs/GROUPS.md#changes
 ghost use Rattle.std.specs.Prelude.{◌≡◌, IfOk, filter, is_some};
 ghost use Rattle.std.specs.List.{list_any, list_all};
 ghost use Rattle.std.specs.Map.{keys_of};

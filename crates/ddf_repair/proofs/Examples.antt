@@ -10,7 +10,7 @@ use Rattle.ddf_config.specs.Configuration.{Configuration}
 use Rattle.ddf_config.specs.ElementValue.{ElementValue}
 use Rattle.ddf_config.specs.Room.{least_start_of}
 use Rattle.ddf_config.specs.declared.refusal.Refusal.TheVariants.{NotMember}
-use Rattle.ddf_plan.specs.declared.change.Change.TheVariants.{Begin, Finish, Progress, Mark}
+use Rattle.ddf_plan.specs.declared.change.Change.TheVariants.{Begin, Finish, Progress, Mark, Rewind}
 use Rattle.ddf_plan.specs.Changes.{after, changed}
 use Rattle.ddf_plan.specs.Causes.{causes}
 use Rattle.ddf_plan.specs.Floors.{extents_refusal}
@@ -90,6 +90,14 @@ row_begin = refl
 row_mark : (changed other (Mark (1 ∷ []))).arrays ≡ ((1 ∷ []), array (mirror 2 10 (at 7 0 true ∷ at 8 0 false ∷ [])) 17) ∷ second ∷ []
 unfolding other mirror array member at second
 row_mark = refl
+
+-- a rebuild has set three rows
+with_rows : Configuration
+with_rows = record other { arrays = ((1 ∷ []), array (mirror 2 10 (at 7 0 true ∷ record (at 8 0 false) { row = 3 } ∷ [])) 1) ∷ second ∷ [] }
+
+row_rewind : (changed with_rows (Rewind (1 ∷ []))).arrays ≡ ((1 ∷ []), array (mirror 2 10 (at 7 0 true ∷ at 8 0 false ∷ [])) 1) ∷ second ∷ []
+unfolding with_rows other mirror array member at second
+row_rewind = refl
 
 row_finish : (changed other (Finish (1 ∷ []) 0 1)).arrays ≡ ((1 ∷ []), array (mirror 2 10 (at 7 0 true ∷ at 8 0 true ∷ [])) 0) ∷ second ∷ []
 unfolding other mirror array member at second

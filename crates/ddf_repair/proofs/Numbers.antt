@@ -16,9 +16,9 @@ use Rattle.ddf_config.specs.Refusals.{first_refusal}
 use Rattle.ddf_config.specs.Shapes.{array_tiers, element_shape, has_shape, has_shapes, has_tiers, part_size, sizes, secondary_level, shape_size, strip_sectors}
 use Rattle.ddf_config.specs.Within.{is_complete}
 use Rattle.ddf_plan.specs.declared.change.Change.{Change}
-use Rattle.ddf_plan.specs.declared.change.Change.TheVariants.{Mark, Unmark, Begin, Progress, Finish}
+use Rattle.ddf_plan.specs.declared.change.Change.TheVariants.{Mark, Unmark, Rewind, Begin, Progress, Finish}
 use Rattle.ddf_plan.specs.Mark.{without_row, without_rows}
-use Rattle.ddf_plan.specs.Arrays.{element_after, named_after, names, part_after, position_after}
+use Rattle.ddf_plan.specs.Arrays.{element_after, named_after, part_after, position_after}
 
 -- ---- elements
 
@@ -179,6 +179,7 @@ same_array array = record { secondary = refl; elements = unchanged array.element
 pub named_same : (change : Change) (array : Array) → IsSameArray array (named_after change array)
 named_same (Mark guid) array = record { secondary = refl; elements = without_same array.elements }
 named_same (Unmark guid init) array = record { secondary = refl; elements = unchanged array.elements }
+named_same (Rewind guid) array = record { secondary = refl; elements = without_same array.elements }
 named_same (Begin guid element position reference start) array = record { secondary = refl; elements = rebuilding_same (Begin guid element position reference start) element 0 array.elements }
 named_same (Progress guid element position row) array = record { secondary = refl; elements = rebuilding_same (Progress guid element position row) element 0 array.elements }
 named_same (Finish guid element position) array = record { secondary = refl; elements = rebuilding_same (Finish guid element position) element 0 array.elements }

@@ -23,7 +23,7 @@ use Rattle.ddf_config.specs.States.{array_with_low}
 use Rattle.ddf_config.specs.Unusable.{is_served_on, passes_floor, unusable}
 use Rattle.ddf_config.specs.Within.{is_complete}
 use Rattle.ddf_plan.specs.declared.change.Change.{Change}
-use Rattle.ddf_plan.specs.declared.change.Change.TheVariants.{Mark, Unmark, Progress, Finish}
+use Rattle.ddf_plan.specs.declared.change.Change.TheVariants.{Mark, Unmark, Rewind, Progress, Finish}
 use Rattle.ddf_plan.specs.Mark.{without_row, without_rows}
 use Rattle.ddf_plan.specs.Rebuild.{finished, progressed}
 use Rattle.ddf_plan.specs.Members.{member_after, members_after}
@@ -121,6 +121,7 @@ progressed_stays position row = record { stays = λ number blocks one. refl }
 named_stays : (change : Change) → keeps_places change ≡ true → (array : Array) → array_extents (named_after change array) ≡ array_extents array
 named_stays (Mark guid) is array = marked_extents array.elements
 named_stays (Unmark guid init) is array = refl
+named_stays (Rewind guid) is array = marked_extents array.elements
 named_stays (Progress guid element position row) is array = parts_stay (Progress guid element position row) (progressed_stays position row) element 0 array.elements
 named_stays (Finish guid element position) is array = parts_stay (Finish guid element position) (finished_stays position) element 0 array.elements
 named_stays other is array = absurd (false≢true is)
@@ -155,6 +156,8 @@ table_is config (Mark guid) is =
     both_changed (λ g. array_with_low (members_after config (Mark guid)) (extents (kept_and_added config (Mark guid)))) (array_after (members_after config (Mark guid)) (Mark guid)) config.arrays
 table_is config (Unmark guid init) is =
     both_changed (λ g. array_with_low (members_after config (Unmark guid init)) (extents (kept_and_added config (Unmark guid init)))) (array_after (members_after config (Unmark guid init)) (Unmark guid init)) config.arrays
+table_is config (Rewind guid) is =
+    both_changed (λ g. array_with_low (members_after config (Rewind guid)) (extents (kept_and_added config (Rewind guid)))) (array_after (members_after config (Rewind guid)) (Rewind guid)) config.arrays
 table_is config (Progress guid element position row) is =
     both_changed (λ g. array_with_low (members_after config (Progress guid element position row)) (extents (kept_and_added config (Progress guid element position row))))
     (array_after (members_after config (Progress guid element position row)) (Progress guid element position row)) config.arrays

@@ -1,4 +1,5 @@
-//! The spares that may stand in for a disk of an array, and the room on them.
+//! The spares that may stand in for a disk of an array, the array's own before those for all, and the room on them. One on which the array has
+//! another position is passed over: both would be lost with one disk. docs/COMMANDS.md#rebuild
 ghost use Rattle.std.specs.Prelude.{◌≡◌, ◌≤◌, ◌++◌, IfOk, OnOk};
 ghost use Rattle.std.specs.List.{list_any};
 ghost use Rattle.ddf_config.specs.Members.{same_guid};

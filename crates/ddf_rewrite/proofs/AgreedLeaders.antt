@@ -2,7 +2,7 @@
 use Rattle.std.proofs.Common.{◌≡◌, ℕ, ◌+◌, inl, inr, Bool, true, false, not, eqb, List, [], ◌∷◌, map, Option, Some, None, refl, ap, sym, ◌∙◌, subst}
 use Rattle.std.proofs.lemmas.Bool.{and_from, and_parts, cases_order}
 use Rattle.std.proofs.lemmas.Simd.{map-map}
-use Rattle.std.specs.Prelude.{slice_get, find, option_map}
+use Rattle.std.specs.Prelude.{slice_get, option_map}
 use Rattle.std.specs.Option.{option_eq}
 use Rattle.std.specs.List.{AllByRecursion, enumerate_from}
 use Rattle.std.specs.Int.{w16}
@@ -27,7 +27,7 @@ use Rattle.ddf_view.proofs.Shown.{plan_same}
 use Rattle.ddf_rewrite.specs.Arrays.{array_on, arrays_after}
 use Rattle.ddf_rewrite.specs.Before.{before}
 use Rattle.ddf_rewrite.specs.Copies.{own_record, recovered_copy, recovered_holding}
-use Rattle.ddf_rewrite.specs.Disks.{disk_on, disks_for, recovered_disks}
+use Rattle.ddf_rewrite.specs.Disks.{disk_on, recovered_disks}
 use Rattle.ddf_rewrite.specs.Hold.{CanBeRecovered, DoAgree}
 use Rattle.ddf_rewrite.specs.Notes.{Holding}
 use Rattle.ddf_rewrite.specs.Readable.{OneRebuilt}

@@ -14,7 +14,7 @@ use Rattle.ddf_view.specs.View.{has_bit, view_of}
 use Rattle.ddf_rewrite.specs.Before.{Before}
 use Rattle.ddf_rewrite.specs.Changing.{CanChange}
 use Rattle.ddf_rewrite.specs.Copies.{changed_copy}
-use Rattle.ddf_rewrite.specs.Disks.{block_size_of, changed_disks, disk_on, disks_for, filled, is_behind, is_filled, is_linux, kind_after, kind_in, member_entry, state_after, state_in, with_flag}
+use Rattle.ddf_rewrite.specs.Disks.{block_size_of, changed_disks, disk_on, disks_for, filled, is_behind, is_filled, is_linux, member_entry, state_after, state_in, with_flag}
 use Rattle.ddf_rewrite.specs.Wanted.{all_wanted}
 use Rattle.ddf_rewrite.proofs.Changed.{disks_are}
 use Rattle.ddf_rewrite.proofs.Flags.{rebuilding_after}

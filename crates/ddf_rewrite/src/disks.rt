@@ -1,4 +1,5 @@
-//! The entries of the disks after a change or a recovery.
+//! The entries of the disks after a change or a recovery. On disks for Linux they tell which are being filled: Linux takes such a disk else for
+//! one with room. docs/FAULTS.md#with-linux-a-stopped-rebuild-of-a-raid-10
 ghost use Rattle.std.specs.Prelude.{◌≡◌, ◌==◌, ◌&&◌, not, map, filter_map, IfOk};
 ghost use Rattle.std.specs.Int.{w16};
 ghost use Rattle.std.specs.List.{list_any};

@@ -1,4 +1,4 @@
-//! The notes after a change.
+//! The notes after a change: which slots are copies, which positions are out of sync, how far a rebuild is. docs/FORMAT.md#notes-record
 ghost use Rattle.std.specs.Prelude.{◌≡◌, ◌==◌, ◌<◌, ◌^◌, Some, find, filter, map, not, length, IfOk, IfSome};
 ghost use Rattle.std.specs.List.{enumerate_from, range_with_len};
 ghost use Rattle.ddf_rewrite.specs.declared.item.Item.TheVariants as items;

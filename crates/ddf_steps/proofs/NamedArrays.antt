@@ -11,8 +11,8 @@ use Rattle.ddf_config.specs.declared.array.Array.{Array}
 use Rattle.ddf_config.specs.ElementValue.{ElementValue as ElementPlan, with_positions}
 use Rattle.ddf_config.specs.States.{is_marked}
 use Rattle.ddf_plan.specs.declared.change.Change.{Change}
-use Rattle.ddf_plan.specs.declared.change.Change.TheVariants.{Lose, Fail, Mark, Unmark, Begin, Progress, Finish}
-use Rattle.ddf_plan.specs.Mark.{mark, marked, marked_state, unmarked, unmarked_state, with_init, without_row, without_rows}
+use Rattle.ddf_plan.specs.declared.change.Change.TheVariants.{Lose, Fail, Mark, Unmark, Rewind, Begin, Progress, Finish}
+use Rattle.ddf_plan.specs.Mark.{mark, marked, marked_state, rewound, unmarked, unmarked_state, with_init, without_row, without_rows}
 use Rattle.ddf_plan.specs.Rebuild.{begun, finished, new_position, progressed}
 use Rattle.ddf_plan.specs.Arrays.{array_after, element_after, named_after, names, part_after, position_after, rebuilding}
 use Rattle.ddf_rewrite.specs.Hold.{FitsPosition}
@@ -189,6 +189,12 @@ marked_keeps = record {
   there = λ guid array index plan at. still_there (option_map without_rows) rows_plans array.elements index plan at;
 }
 
+rewound_keeps : KeepsArrays (λ guid. rewound)
+rewound_keeps = record {
+  held = λ most guid array is. entry_kept (option_map without_rows) rows_plans most guid array is;
+  there = λ guid array index plan at. still_there (option_map without_rows) rows_plans array.elements index plan at;
+}
+
 unmarked_keeps : (init : ℕ) → KeepsArrays (λ guid. unmarked init)
 unmarked_keeps init = record {
   held = λ most guid array is. with_bytes most guid array (unmarked_state array) (with_init array.init init) (unmarked_small array is.fits.state) (init_small array.init init is.fits.init) is;
@@ -218,6 +224,7 @@ array_after_keeps members (Lose references) asked = lost_array_keeps members ref
 array_after_keeps members (Fail failed) asked = lost_array_keeps members (failed ∷ [])
 array_after_keeps members (Mark guid) asked = named_keeps (Mark guid) marked_keeps
 array_after_keeps members (Unmark guid init) asked = named_keeps (Unmark guid init) (unmarked_keeps init)
+array_after_keeps members (Rewind guid) asked = named_keeps (Rewind guid) rewound_keeps
 array_after_keeps members (Begin guid element position reference start) asked =
     named_keeps (Begin guid element position reference start)
     (rebuilding_keeps (Begin guid element position reference start) (begun_keeps position reference start asked) element)

@@ -1,6 +1,6 @@
 -- A new array that nothing refuses can be held by copies.
 use Rattle.std.proofs.Common.{◌≡◌, ℕ, zero, suc, ◌+◌, ◌^◌, ◌<◌, ◌≤◌, Bool, true, false, not, ◌&&◌, ◌||◌, cond, eqb, ltb, List, [], ◌∷◌, length, map, find, filter_map, Option, Some, None, Result, Ok, Err, option_map, option_and_then, unwrap_or, is_some, nat_eq, nat_lt, nat_le, refl, sym, ap, subst, ◌∙◌, if◌then◌else◌, arith, rules, lit<}
-use borrow.Author.Tests.{tests, leb-true, eqb-true}
+use borrow.Author.Tests.{tests, leb-true}
 use Rattle.std.proofs.lemmas.Bool.{and_parts, false≢true, ltb-false}
 use Rattle.std.proofs.lemmas.List.{length-map}
 use Rattle.std.specs.Prelude.{slice_get}
@@ -8,11 +8,11 @@ use Rattle.std.specs.Map.{lookup}
 use Rattle.std.specs.List.{AllByRecursion, cons_option, enumerate_from, list_all, list_any}
 use Rattle.std.specs.Result.{result_ok}
 use Rattle.ddf_primary.specs.declared.layout.Layout.{Layout}
-use Rattle.ddf_primary.specs.declared.layout.Layout.TheVariants.{Raid0, Raid1, Parity, Jbod, Concatenation}
 use Rattle.ddf_primary.specs.declared.fault.ShapeFault.{ShapeFault}
 use Rattle.ddf_primary.specs.declared.fault.ShapeFault.TheVariants.{MemberCount, Blocks}
 use Rattle.ddf_primary.specs.Placement.{Placement, placement}
 use Rattle.ddf_primary.specs.Levels.{served_layout, takes_members, takes_blocks, sized_shape, shape_of}
+use Rattle.ddf_primary.proofs.Needs.{some_members}
 use Rattle.ddf_secondary.specs.declared.element.ElementSize.{ElementSize}
 use Rattle.ddf_secondary.specs.declared.level.SecondaryLevel.{SecondaryLevel}
 use Rattle.ddf_secondary.specs.declared.fault.TiersFault.{TiersFault}
@@ -65,13 +65,6 @@ strip_counts elements plan strip e = by (nat_le plan.strip 31) (eqb elements 1 &
         both_false true = refl
         both_false false = refl
     by false false low has e = absurd cc
-
-some_members : (layout : Layout) (members : ℕ) → takes_members layout members ≡ true → 0 < members
-some_members Raid0 members h = let least = leb-true 1 members h in omega arith
-some_members Raid1 members h = let least = leb-true 2 members h in omega arith
-some_members (Parity parity) members h = let least = leb-true 2 members h in omega arith
-some_members Jbod members h = let one = eqb-true members 1 h in omega arith
-some_members Concatenation members h = let least = leb-true 1 members h in omega arith
 
 -- An element with a shape: its strip counts, and it has members.
 record HasShape (elements : ℕ) (plan : ElementPlan) : Type 0 where

@@ -1,4 +1,5 @@
-//! Whether a change of a group is a step, or why it is refused.
+//! Whether a change of a group is a step, or why it is refused: asked of the copies of each disk before anything is written.
+//! docs/DECISIONS.md#recovery-and-the-steps-of-a-change
 ghost use Rattle.std.specs.Prelude.{◌≡◌, IfOk, IfSome};
 ghost use Rattle.ddf_seats.specs.Seated.{views_in};
 ghost use Rattle.ddf_steps.specs.Steps.{config_after};

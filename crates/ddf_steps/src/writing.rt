@@ -1,4 +1,4 @@
-//! A step, written to its disks one after another.
+//! A step, written to its disks one after another; disks that are taken over come last. docs/UPDATES.md#several-disks
 ghost use Rattle.std.specs.Prelude.{◌≡◌, ◌<◌, ℕ, [], length, OnOk, IfErr};
 ghost use Rattle.ddf_bytes.specs.Counts.{Rose};
 ghost use Rattle.ddf_bay.specs.Sectors.{IsLeft};

@@ -4,7 +4,7 @@ use Rattle.std.specs.Fmt.{decimal}
 use Rattle.ddf_config.specs.declared.refusal.FullTable.{FullTable}
 use Rattle.ddf_config.specs.declared.refusal.FullTable.TheVariants.{Disks, Arrays, Records, Notes, Spares}
 use Rattle.ddf_config.specs.declared.refusal.Refusal.{Refusal}
-use Rattle.ddf_config.specs.declared.refusal.Refusal.TheVariants.{BadBlocks, Clash, Degraded, Full, Geometry, Held, InUse, Level, Lost, Marked, NameTaken, NoArray, NoExtent, NoGroup, NoSlot, NoSpare, NotBlank, NotMember, Range, SequenceSpent, SeveralGroups, Shape, ShortPayload, Small, Unsettled, Unsure, Words}
+use Rattle.ddf_config.specs.declared.refusal.Refusal.TheVariants.{BadBlocks, Clash, Degraded, Full, Geometry, Held, InUse, Level, Lost, Marked, NameTaken, NoArray, NoExtent, NoGroup, NoSlot, NoSpare, NoStage, NoStandIn, NotBlank, NotMember, Range, SequenceSpent, SeveralGroups, Shape, ShortPayload, Small, Unsettled, Unsure, Words}
 use Rattle.ddf_text.specs.Hexes.{hex8}
 use Rattle.ddf_text.specs.Levels.{level_name}
 use Rattle.hex.specs.Hex.{encode_lower}
@@ -45,6 +45,8 @@ refusal_text (ShortPayload found) = codes "refused 32 short payload " ++ decimal
 refusal_text (InUse slot) = codes "refused 33 slot " ++ decimal slot ++ codes " in use"
 refusal_text (Clash guid) = codes "refused 34 clash " ++ encode_lower guid
 refusal_text Held = codes "refused 35 held"
+refusal_text (NoStage slot) = codes "refused 37 no stage on slot " ++ decimal slot
+refusal_text NoStandIn = codes "refused 38 no stand-in"
 refusal_text Unsettled = codes "refused 39 unsettled"
 
 abbrev pub refusal_line : Refusal → List ℕ

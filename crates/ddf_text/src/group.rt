@@ -8,7 +8,7 @@ use crate::listing::push;
 use crate::standing::{DEGRADED, FAILED, has_seat, state_on_seats};
 use ddf_bytes::{Guid, Hex32, NoMemory};
 use ddf_config::{
-    Array, Config, Extent, Member, Refusal, Seat, SpareUse, array_capacity, extents, low_state,
+    Array, Config, ExtentsByDisk, Member, Refusal, Seat, SpareUse, array_capacity, low_state,
     slot_of, unusable,
 };
 use ddf_name::NameText;
@@ -164,9 +164,25 @@ fn push_arrays(
     ensures { IfOk result (λ done. string_bytes text.new
         ≡ string_bytes text.old ++ array_lines basis members.now.entries seats.now (extents arrays.now.entries) arrays.now.entries) }
 {
-    let all = extents(alloc, arrays)?;
+    let all = ExtentsByDisk::new(alloc, arrays)?;
+    push_each(alloc, text, basis, seats, members, &all, arrays)
+}
+
+/// Adds the line of each array. `all` are the extents of all arrays.
+fn push_each(
+    alloc: Global,
+    text: &mut String,
+    basis: Basis,
+    seats: &[Seat],
+    members: &IndexMap<u32, Member>,
+    all: &ExtentsByDisk,
+    arrays: &IndexMap<Guid, Array>,
+) -> Result<(), NoMemory>
+    ensures { IfOk result (λ done. string_bytes text.new
+        ≡ string_bytes text.old ++ array_lines basis members.now.entries seats.now all.now arrays.now.entries) }
+{
     for (_guid, array) in arrays {
-        push_array(alloc, text, basis, seats, members, all.as_slice(), array)?;
+        push_array(alloc, text, basis, seats, members, all, array)?;
     }
     Ok(())
 }
@@ -178,7 +194,7 @@ fn push_array(
     basis: Basis,
     seats: &[Seat],
     members: &IndexMap<u32, Member>,
-    all: &[Extent],
+    all: &ExtentsByDisk,
     array: &Array,
 ) -> Result<(), NoMemory>
     ensures { IfOk result (λ done. string_bytes text.new ≡ string_bytes text.old ++ array_line basis members.now.entries seats.now all.now array.now) }

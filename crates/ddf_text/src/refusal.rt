@@ -51,6 +51,8 @@ impl fmt::Display for RefusalText {
             Refusal::InUse(slot) => write!(f, "refused 33 slot {slot} in use"),
             Refusal::Clash(guid) => write!(f, "refused 34 clash {guid}"),
             Refusal::Held => write!(f, "refused 35 held"),
+            Refusal::NoStage(slot) => write!(f, "refused 37 no stage on slot {slot}"),
+            Refusal::NoStandIn => write!(f, "refused 38 no stand-in"),
             Refusal::Unsettled => write!(f, "refused 39 unsettled"),
         }
     }

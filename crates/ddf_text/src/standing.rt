@@ -6,6 +6,7 @@ ghost use Rattle.ddf_config.specs.Within.{has_enough, is_part_within};
 ghost use Rattle.ddf_text.specs.Standing.{has_position_away, has_seat, state_on_seats};
 
 use ddf_config::{Array, ElementPlan, Position, Seat, floor_of};
+use ddf_primary::Need;
 
 /// The state of an array with a position that isn't available.
 pub(crate) const DEGRADED: u8 = 1;
@@ -38,17 +39,15 @@ fn count_away(seats: &[Seat], positions: &[Position]) -> usize
         .count()
 }
 
-/// Whether enough positions are available for the level: one for RAID 1, all but one for RAID 4 and 5, and all for any other.
-fn has_enough(seats: &[Seat], level: u8, positions: &[Position]) -> bool
-    ensures { result ≡ has_enough level (is_seated seats.now) positions.now }
+/// Whether enough positions are available for what an element needs.
+fn has_enough(seats: &[Seat], need: Need, positions: &[Position]) -> bool
+    ensures { result ≡ has_enough need (is_seated seats.now) positions.now }
 {
     let away = count_away(seats, positions);
-    if level == 0x01 {
-        away < positions.len()
-    } else if level == 0x04 || level == 0x05 {
-        away <= 1
-    } else {
-        away == 0
+    match need {
+        Need::All => away == 0,
+        Need::One => away < positions.len(),
+        Need::AllButOne => away <= 1,
     }
 }
 
@@ -57,7 +56,10 @@ fn is_part_within(seats: &[Seat], part: &Option<ElementPlan>) -> bool
     ensures { result ≡ is_part_within (is_seated seats.now) part.now }
 {
     match part {
-        Some(element) => has_enough(seats, element.level, element.positions.as_slice()),
+        Some(element) => {
+            let need = Need::of_level(element.level);
+            has_enough(seats, need, element.positions.as_slice())
+        }
         None => false,
     }
 }

@@ -1,5 +1,5 @@
 -- Tables each of whose rows is as the other's don't differ in a disk or in an array.
-use Rattle.std.proofs.Common.{◌≡◌, ℕ, ◌+◌, Bool, true, false, not, ◌&&◌, eqb, List, [], ◌∷◌, ◌++◌, map, Option, Some, None, refl, ap, sym, ◌∙◌}
+use Rattle.std.proofs.Common.{◌≡◌, ℕ, ◌+◌, Bool, true, false, not, ◌&&◌, eqb, List, [], ◌∷◌, ◌++◌, map, None, refl, ap, sym, ◌∙◌}
 use Rattle.std.proofs.lemmas.Bool.{and_from, and_parts, eq-eqb, eqb-true, false≢true}
 use Rattle.std.specs.Prelude.{filter, filter_map, find}
 use Rattle.std.specs.List.{enumerate_from}
@@ -14,7 +14,7 @@ use Rattle.ddf_tables.specs.declared.arrays.ArrayEntry.{ArrayEntry}
 use Rattle.ddf_tables.specs.declared.arrays.ArrayRow.{ArrayRow}
 use Rattle.ddf_tables.specs.declared.arrays.ArrayRow.TheVariants as array_rows
 use Rattle.ddf_view.specs.View.{array_of, disk_of}
-use Rattle.ddf_view.specs.Differ.{array_differs, differing_arrays, differing_disks, disk_differs, least, numbered_array, numbered_disk, same_array, same_array_row, same_disk, same_disk_row, told_kind}
+use Rattle.ddf_view.specs.Differ.{array_differs, differing_arrays, differing_disks, disk_differs, least, same_array, same_array_row, same_disk, same_disk_row, told_kind}
 use Rattle.ddf_view.proofs.Finds.{when_false}
 use Rattle.ddf_view.proofs.Tests.{and_five, same_bytes}
 

@@ -1,7 +1,7 @@
 -- The spares that are gathered by arrays give each disk the use that it has.
-use Rattle.std.proofs.Common.{◌≡◌, ℕ, Bool, true, false, not, ◌&&◌, ◌||◌, cond, eqb, List, [], ◌∷◌, ◌++◌, map, Option, Some, None, refl, ap, ◌∙◌}
+use Rattle.std.proofs.Common.{◌≡◌, ℕ, Bool, true, false, ◌&&◌, ◌||◌, cond, eqb, List, [], ◌∷◌, ◌++◌, map, Option, Some, None, refl, ap, ◌∙◌}
 use Rattle.std.proofs.lemmas.List.Folds.{list_any-append}
-use Rattle.std.specs.Prelude.{filter, filter_map, is_some}
+use Rattle.std.specs.Prelude.{filter, filter_map}
 use Rattle.std.specs.List.{cons_option, flat_map, list_any, range_with_len}
 use Rattle.ddf_tables.specs.declared.disks.DiskEntry.{DiskEntry}
 use Rattle.ddf_tables.specs.declared.arrays.ArrayEntry.{ArrayEntry}
@@ -10,7 +10,7 @@ use Rattle.ddf_config.specs.declared.member.SpareUse.{SpareUse}
 use Rattle.ddf_config.specs.declared.member.SpareUse.TheVariants as uses
 use Rattle.ddf_view.specs.View.{HeldRecord, View, find_held, has_bit}
 use Rattle.ddf_view.specs.Reading.{arrays_in, count_in, dedicated_or_not, elements_in, is_associated, is_dedicated, member_entry_in, names_array, spare_in}
-use Rattle.ddf_view.specs.Spares.{dedicated_among, dedicated_by, entry_with, held_spares, listed_in, member_entry_among, named_by, named_in, counts_own, spare_among, spare_names, spares_of}
+use Rattle.ddf_view.specs.Spares.{dedicated_among, entry_with, held_spares, listed_in, member_entry_among, named_by, named_in, counts_own, spare_among, spare_names, spares_of}
 
 -- ---- an array
 

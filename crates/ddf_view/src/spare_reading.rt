@@ -1,4 +1,5 @@
 //! What disks may stand in for. The spares of each array are gathered once, so that a disk is looked up by its reference.
+//! docs/FORMAT.md#spare-record
 ghost use Rattle.std.specs.Prelude.{◌≡◌, ◌==◌, ◌&&◌, ◌++◌, not, filter_map, is_some, map, option_map, IfOk, OnOk};
 ghost use Rattle.std.specs.Option.{option_to_list};
 ghost use Rattle.std.specs.List.{flat_map, list_any, range_with_len};
