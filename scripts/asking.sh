@@ -1,6 +1,6 @@
 #!/bin/sh
 # What the program asks, names and explains on standard error: questions at a terminal, --careful and --yes, disks that hold something, disks that can't be written
-# to, readers beside writers, help, and a line for each refusal. scripts/edge.sh has what else is around the program.
+# to, readers beside writers, help, a line for each refusal, and what a command left that a disk failed under. scripts/edge.sh has what else is around the program.
 #
 #   asking.sh [PROGRAM [OTHER]]     with another program than the one that is built here, where OTHER makes the groups that it is tried on
 set -eu
@@ -21,6 +21,7 @@ else
     cp "$top/crates/ddf/out/ddf" "$work/ddf"
 fi
 cd "$work"
+exec </dev/null
 chmod 755 . ddf
 maker=${2:-./ddf}
 missed=0
@@ -46,6 +47,11 @@ says() {
     case $(cat err) in *"$1"*) ;; *) fail "said $(cat err), not $1, of: ${2:-the last}" ;; esac
 }
 
+# says_in FILE TEXT: the file has the text in it.
+says_in() {
+    case $(cat "$1") in *"$2"*) ;; *) fail "$1 has $(cat "$1"), and not $2" ;; esac
+}
+
 # silent TEXT: standard error of the last run doesn't have the text in it.
 silent() {
     case $(cat err) in *"$1"*) fail "said $(cat err)" ;; esac
@@ -69,7 +75,7 @@ make_group() {
     truncate -s 17M "$1"0.img "$1"1.img "$1"2.img
     "$maker" "$1"0.img "$1"1.img "$1"2.img -- label >/dev/null 2>&1
     "$maker" "$1"0.img "$1"1.img "$1"2.img -- create v raid1 0 single 0,1@64 >/dev/null 2>&1
-    "$maker" "$1"0.img "$1"1.img "$1"2.img -- accept v >/dev/null 2>&1
+    "$maker" --yes "$1"0.img "$1"1.img "$1"2.img -- accept v >/dev/null 2>&1
 }
 make_group made
 
@@ -101,6 +107,7 @@ if command -v script >/dev/null; then
     make_group b
     other=$(./ddf b0.img -- examine 2>/dev/null | sed -n 's/^slot 0 .* group \([0-9a-f]*\) .*/\1/p')
     own=$(./ddf a0.img -- examine 2>/dev/null | sed -n 's/^slot 0 .* group \([0-9a-f]*\) .*/\1/p')
+    "$maker" a0.img a1.img a2.img -- create w raid1 0 single 1,2@64 >/dev/null 2>&1
     sum=$(cksum t.img a?.img b?.img)
     for answer in n "" no YES maybe yy "y n"; do
         typed "$answer$line" 3 "nothing was done" "./ddf t.img -- label"
@@ -112,28 +119,77 @@ if command -v script >/dev/null; then
         typed "$answer$line" 3 "nothing was done" "./ddf a0.img a2.img b0.img b1.img b2.img -- @$own import $other"
         typed "$answer$line" 3 "nothing was done" "./ddf a0.img a1.img a2.img -- fail 1"
         typed "$answer$line" 3 "nothing was done" "./ddf a0.img a1.img a2.img -- delete v"
+        typed "$answer$line" 3 "nothing was done" "./ddf a0.img a1.img a2.img -- accept w"
         typed "$answer$line" 3 "nothing was done" "echo fail 1 | ./ddf a0.img a1.img a2.img -- batch"
+        typed "$answer$line" 3 "line 2 (accept w) takes the mark of an array away, and compares nothing" "printf 'show\\naccept w\\n' | ./ddf a0.img a1.img a2.img -- batch"
         typed "$answer$line" 3 "nothing was done" "./ddf a0.img a2.img -- write v 0 1 <bytes"
     done
     same t.img a?.img b?.img
+    typed "y$line" 0 "array w is marked, and accept compares nothing: from then on nothing tells that its copies may differ" "./ddf a0.img a1.img a2.img -- accept w"
+    # Of an array that isn't marked nothing is lost.
+    typed "" 0 "ok sequence" "./ddf a0.img a1.img a2.img -- accept w"
+    case $(cat out) in *"go on?"*) fail "asked before an array is accepted that isn't marked" ;; esac
     typed "y$line" 0 "after that: array v blocks 64 degraded" "./ddf a0.img a1.img a2.img -- fail 1"
     typed "y$line" 0 "ok sequence" "./ddf a0.img a2.img -- write v 0 1 <bytes"
     typed "y$line" 0 "goes out of the records" "./ddf a0.img a1.img a2.img -- delete v"
     typed "" 0 "group" "./ddf --yes b0.img b2.img -- assemble"
     case $(cat out) in *"go on?"*) fail "asked, though --yes was given" ;; esac
     echo "asking: y, Y and yes are a yes, and nothing else is"
+
+    # Where one of the three standard streams is a terminal somebody is asked, at the terminal itself.
+    group a
+    sum=$(cksum a?.img)
+    for input in "" "</dev/null"; do
+        for output in "" ">printed"; do
+            for error in "" "2>said"; do
+                [ "$input$output$error" != "</dev/null>printed2>said" ] || continue
+                typed "n$line" 3 "go on? (y or n)" "./ddf a0.img a2.img -- assemble $input $output $error"
+                case $error:$(cat out) in
+                :*"is absent, and the group goes on without it for good"*"ddf: go on? (y or n)"*) ;;
+                2*"standard error, which isn't this terminal, says what would be lost; go on?"*) says_in said "is absent, and the group goes on without it for good" ;;
+                *) fail "the terminal shows $(cat out), of: assemble $input $output $error" ;;
+                esac
+                same a?.img
+            done
+        done
+    done
+    typed "n$line" 0 "go on?" "./ddf a0.img a2.img -- assemble 2>&1 | tee log"
+    says_in log "ddf: nothing was done"
+    typed "n$line" 3 "go on?" "./ddf a0.img a2.img -- write v 0 1 <bytes 2>said"
+    typed "" 3 "" "DDF_CAREFUL=1 ./ddf a0.img a2.img -- assemble 2>said"
+    says_in said "nothing was done, since --careful or DDF_CAREFUL was given"
+    same a?.img
+    typed "y$line" 0 "go on?" "./ddf a0.img a2.img -- assemble </dev/null 2>said"
+    group a
+    typed "" 0 "" "./ddf --yes a0.img a2.img -- assemble </dev/null 2>said"
+    case $(cat out) in *"go on?"*) fail "asked, though --yes was given" ;; esac
+    # Where none is one nobody is, and where there is no terminal to be opened.
+    group a
+    typed "" 0 "" "./ddf a0.img a2.img -- assemble </dev/null >printed 2>said"
+    case $(cat out printed said) in *"go on?"*) fail "asked, though no stream is a terminal" ;; esac
+    if command -v setsid >/dev/null; then
+        group a
+        typed "" 0 "sequence" "setsid -w ./ddf a0.img a2.img -- assemble </dev/null"
+        case $(cat out) in *"go on?"*) fail "asked, though there is no terminal to be opened" ;; esac
+    else
+        lacks "a program without a terminal of its own: no setsid"
+    fi
+    echo "asking: it asks where one of the three standard streams is a terminal"
 else
     lacks "questions at a terminal: no script"
 fi
 
 group a
+"$maker" a0.img a1.img a2.img -- create w raid1 0 single 1,2@64 >/dev/null 2>&1
 sum=$(cksum a?.img)
 for care in "./ddf --careful" "DDF_CAREFUL=1 ./ddf" "DDF_CAREFUL=yes ./ddf"; do
     ends 3 "" "nothing was done, since --careful or DDF_CAREFUL was given" "$care a0.img a2.img -- assemble"
     says "is absent, and the group goes on without it for good: no image of it was named"
-    for command in "fail 1" "delete v"; do
+    for command in "fail 1" "delete v" "accept w"; do
         ends 3 "" "nothing was done, since --careful" "$care a0.img a1.img a2.img -- $command"
     done
+    ends 0 "ok sequence" "" "$care a0.img a1.img a2.img -- accept v"
+    ends 3 "" "line 2 (accept w) takes the mark of an array away" "printf 'show\naccept w\n' | env $care a0.img a1.img a2.img -- batch"
     ends 3 "" "line 2 (delete v) takes an array out of the records" "printf 'show\ndelete v\n' | env $care a0.img a1.img a2.img -- batch"
     ends 0 "group" "" "$care a0.img a1.img a2.img -- show"
     ends 0 "group" "" "$care a0.img a1.img a2.img -- assemble"
@@ -141,6 +197,7 @@ done
 ends 3 "slot 0 fault" "--yes is no option and no file" "./ddf --careful --yes a0.img -- examine"
 same a?.img
 ends 0 "group" "" "DDF_CAREFUL=1 ./ddf --yes a0.img a2.img -- assemble"
+group a
 for value in 0 ""; do
     ends 0 "ok sequence" "" "DDF_CAREFUL=$value ./ddf a0.img a2.img -- fail 1"
     group a
@@ -157,7 +214,7 @@ holds() {
     printf "$3" | dd of=t.img bs=1 seek=$(($1 * 512 + $2)) conv=notrunc 2>/dev/null
     ends 0 "ok sequence 1" "slot 0 (t.img) isn't empty ($4): label makes it a disk of a new group" "./ddf t.img -- label"
 }
-holds 65279 0 '\336\021\336\021' "DDF records of a controller, 257 sectors before the end, which this program doesn't read"
+holds 65279 0 '\336\021\336\021' "DDF records of a controller, 257 sectors before the end"
 holds 65279 0 '\021\336\021\336' "DDF records of a controller, 257 sectors before the end, which this program doesn't read"
 holds 65535 0 '\021\336\021\336' "DDF records of a controller, in the other byte order, which this program doesn't read"
 holds 128 64 '_BHRfS_M' "btrfs"
@@ -177,13 +234,11 @@ truncate -s 32M t.img
 ends 0 "ok sequence 1" "" "./ddf t.img -- label"
 silent "isn't empty"
 group a
-for bytes in '\336\021\336\021' '\021\336\021\336'; do
-    rm -f t.img
-    truncate -s 32M t.img
-    printf "$bytes" | dd of=t.img bs=1 seek=$((65279 * 512)) conv=notrunc 2>/dev/null
-    ends 0 "slot 0 blank" "slot 0 (t.img) has DDF records of a controller, 257 sectors before the end" "./ddf t.img -- examine"
-    ends 0 "group" "slot 0 (t.img) has DDF records of a controller" "./ddf t.img a0.img a1.img a2.img -- show"
-done
+rm -f t.img
+truncate -s 32M t.img
+printf '\021\336\021\336' | dd of=t.img bs=1 seek=$((65279 * 512)) conv=notrunc 2>/dev/null
+ends 0 "slot 0 blank" "slot 0 (t.img) has DDF records of a controller, 257 sectors before the end, which this program doesn't read" "./ddf t.img -- examine"
+ends 0 "group" "slot 0 (t.img) has DDF records of a controller" "./ddf t.img a0.img a1.img a2.img -- show"
 cp a1.img cut.img
 truncate -s -10K cut.img
 cp a1.img grown.img
@@ -198,6 +253,46 @@ ends 0 "group" "" "./ddf a0.img a1.img a2.img -- show"
 [ ! -s err ] || fail "said $(cat err), of a group that is whole"
 echo "asking: what a disk holds is named before it is labelled, and what is odd about disks that are looked at"
 
+# ---- disks whose records end 256 sectors before their last one
+
+# The disks of group a, but that disk 1 has so many sectors behind its anchor.
+grow() {
+    group a
+    truncate -s +131072 a1.img
+}
+grow
+sum=$(cksum a?.img)
+early="slot 1 (a1.img): its records end 256 sectors before its end, as some controllers write them; it is served so"
+for command in examine show "read v 0 1" "scrub v"; do
+    ends 0 "" "$early" "./ddf a0.img a1.img a2.img -- $command"
+    [ "$(grep -c "256 sectors before" err)" = 1 ] || fail "said more than once: $(cat err)"
+    silent "slot 0 (a0.img): its records"
+done
+ends 0 "slot 1 sectors 34816 group" "" "./ddf a0.img a1.img a2.img -- examine | grep '^slot 1 '"
+for command in assemble "fail 1" "spare 0 global" "resync v" "write v 0 1 <bytes"; do
+    ends 3 "" "as some controllers write them; nobody tried on such a controller what is written here" "./ddf --careful a0.img a1.img a2.img -- $command"
+    says "nothing was done, since --careful"
+done
+ends 3 "" "nobody tried on such a controller" "echo show | ./ddf --careful a0.img a1.img a2.img -- batch"
+same a?.img
+# What is written leaves the sectors behind the anchor as they were.
+printf x | dd of=a1.img bs=1 seek=$((34817 * 512)) conv=notrunc 2>/dev/null
+tail -c 131072 a1.img >behind
+head -c 512 bytes >one
+ends 0 "ok" "nobody tried on such a controller" "./ddf --yes a0.img a1.img a2.img -- write v 0 1 <one"
+tail -c 131072 a1.img | cmp -s - behind || fail "a sector behind the end was written"
+truncate -s -131072 a1.img
+ends 0 "group" "" "./ddf a0.img a1.img a2.img -- show"
+[ ! -s err ] || fail "said $(cat err), of a disk that was cut"
+./ddf a0.img a1.img a2.img -- read v 0 1 | cmp -s - one || fail "what was written isn't read from the disk that was cut"
+# To label it is a disk that isn't empty, and then one of the standard.
+grow
+ends 3 "" "slot 0 (a1.img) isn't empty (DDF records of a controller, 257 sectors before the end): label makes it" "./ddf --careful a1.img -- label"
+ends 0 "ok sequence 1" "" "./ddf --yes a1.img -- label"
+ends 0 "slot 0 sectors 35072 group" "" "./ddf a1.img -- examine"
+silent "256 sectors before"
+echo "asking: disks whose records end 256 sectors before the end are named, served, and asked about before they are written"
+
 # ---- disks of members that were dropped
 
 group a
@@ -211,6 +306,33 @@ for command in show assemble "rebuild v"; do
     says "which the group lists as missing"
 done
 echo "asking: a disk that the group has dropped is named"
+
+# Where an array is failed without it, that disk may be all that has some of its blocks.
+for level in raid0 raid1; do
+    make_group f
+    ends 0 "ok" "" "./ddf f0.img f1.img f2.img -- create w $level 7 single 1,2@1024"
+    cp f1.img old.img
+    ends 0 "group" "" "./ddf f0.img f2.img -- assemble"
+    for command in show assemble "spare 0 off" "scrub v"; do
+        ends 0 "" "slot 1 (old.img) is the disk of member" "./ddf f0.img old.img f2.img -- $command || true"
+        if [ $level = raid0 ]; then
+            says "array w is failed, and this disk may be all that has some of its blocks, so wipe nothing and write nothing to it (docs/STOPS.md, under 'A disk wasn't named'"
+            silent wipefs
+        else
+            says "wipe its records (wipefs -a -t ddf_raid_member), label it"
+            silent "wipe nothing"
+        fi
+    done
+done
+# The members that are away count, as they do in what show tells.
+make_group f
+ends 0 "ok" "" "./ddf f0.img f1.img f2.img -- create w raid5.rnc 7 single 0,1,2@1024"
+cp f1.img old.img
+ends 0 "group" "" "./ddf f0.img f2.img -- assemble"
+ends 0 "group" "wipe its records" "./ddf f0.img old.img f2.img -- show"
+ends 0 "group" "array w is failed" "./ddf f0.img old.img -- show"
+silent wipefs
+echo "asking: nothing is to be wiped while an array is failed"
 
 # ---- disks that must not be written over
 
@@ -313,6 +435,19 @@ if strace -o calls true 2>/dev/null; then
     [ "$status" = 0 ] || fail "status $status where a write to the output was interrupted: $(cat err)"
     head -c 32768 bytes | cmp - printed || fail "other bytes were read where a write was interrupted"
     echo "asking: calls on streams that the system interrupts are made again"
+    # An input that fails behind a piece leaves a mark, and the blocks are named.
+    rm -f s?.img
+    truncate -s 32M s0.img s1.img
+    ends 0 "ok" "" "./ddf s0.img s1.img -- label"
+    ends 0 "ok" "" "./ddf s0.img s1.img -- create v raid1 0 single 0,1@8192"
+    ends 0 "ok" "" "./ddf s0.img s1.img -- accept v"
+    cat bytes bytes >long
+    ends 6 "" "array v is marked: blocks 100 to 4195 of it may be old or new" "strace -o calls -P '$work/long' -e inject=read:error=EIO:when=2 ./ddf s0.img s1.img -- write v 100 4096 <long"
+    says "Give resync v, and then the same write again"
+    ends 0 "ok" "" "./ddf s0.img s1.img -- resync v"
+    ends 6 "" "standard input failed" "strace -o calls -P '$work/long' -e inject=read:error=EIO:when=1 ./ddf s0.img s1.img -- write v 100 4096 <long"
+    silent "is marked:"
+    echo "asking: the blocks of a write whose input failed are named"
 else
     lacks "interrupted calls: no strace"
 fi
@@ -383,6 +518,18 @@ says "There is no such slot"
 silent "line 3 (show) was refused"
 ends 1 "refused 36" "The input has more than 65536 bytes; no line was run." "head -c 65537 bytes | ./ddf a0.img a1.img a2.img -- batch"
 silent "was refused"
+if command -v xz >/dev/null; then
+    # Linux's own groups have larger tables than what is labelled here.
+    mkdir linux
+    tar -xJf "$top/scripts/linux-disks/r1-spare.tar.xz" -C linux
+    truncate -s 64M linux/new.img
+    ends 0 "ok" "" "./ddf linux/new.img -- label linux"
+    own=$(./ddf linux/d?.img -- show 2>/dev/null | sed -n 's/^group \([0-9a-f]*\) .*/\1/p')
+    its=$(./ddf linux/new.img -- show 2>/dev/null | sed -n 's/^group \([0-9a-f]*\) .*/\1/p')
+    ends 1 "refused 29 geometry" "docs/NEW-DISK.md, under '1. A new disk'" "./ddf linux/d?.img linux/new.img -- @$own import $its"
+else
+    lacks "tables of other sizes: no xz"
+fi
 cp a0.img twin.img
 ends 4 "conflict slots" "One disk is there twice" "./ddf a0.img twin.img a1.img a2.img -- show"
 echo "asking: each refusal has its line for people"
@@ -409,7 +556,128 @@ ends 0 "ok" "" "./ddf l0.img l1.img l3.img l4.img -- spare 3 off"
 silent "$lost"
 ends 0 "ok" "" "./ddf a0.img a1.img a2.img -- fail 1"
 silent Linux
+rm -f l?.img
+truncate -s 64M l0.img l1.img l2.img
+ends 0 "ok" "" "./ddf l0.img l1.img l2.img -- label linux"
+ends 0 "ok" "" "./ddf l0.img l1.img l2.img -- create w raid0 7 single 0,1@1024"
+ends 0 "ok" "before Linux sees these disks take each lost one out of the machine: Linux believes its records, old as they are. Wipe none of them: array w is failed" "./ddf l0.img l2.img -- spare 1 global"
+silent wipefs
 echo "asking: what Linux makes of lost disks and of new arrays is told before and after"
 
+# ---- disks that fail while blocks are written
+
+# bad IMAGE CALLS FIRST-LAST STATUS OUTPUT ERROR WORDS: the same as ends, over an image whose sectors can't be read or written, as CALLS says.
+bad() {
+    ends "$4" "$5" "$6" "BAD_IMAGE=$1 $2=$3 LD_PRELOAD=./faults.so ./ddf $7"
+}
+
+# Three disks with an array v of a level over the first two or all, full of bytes.
+new_group() {
+    rm -f n?.img
+    truncate -s 17M n0.img n1.img n2.img n3.img
+    ends 0 "ok" "" "./ddf n0.img n1.img n2.img n3.img -- label"
+    ends 0 "ok" "" "./ddf n0.img n1.img n2.img n3.img -- create v $1"
+    ends 0 "ok" "" "./ddf n0.img n1.img n2.img n3.img -- resync v"
+    ends 0 "ok" "" "./ddf n0.img n1.img n2.img n3.img -- write v 0 1024 <bytes"
+    ends 0 "ok" "" "./ddf n0.img n1.img n2.img n3.img -- spare 3 global"
+}
+four="n0.img n1.img n2.img n3.img"
+if gcc -O1 -shared -fPIC -o faults.so "$top/scripts/faults.c" -ldl 2>/dev/null; then
+    # A write: its blocks may be old or new.
+    new_group "raid1 7 single 0,1@1024"
+    bad n1.img BAD_WRITES 5-6 3 "disk fault slot 1" "array v is marked: blocks 4 to 11 of it may be old or new, or old on one disk and new on another; the others read as they did" "$four -- write v 4 8 <bytes"
+    says "Give resync v, and then the same write again"
+    says "where resync ends so too: make a disk a spare, fail 1, resync v, rebuild v, and the same write again"
+    bad n1.img BAD_WRITES 5-6 3 "disk fault slot 1" "array v is marked: its copies or its parity may not agree, and each of its blocks reads as it did" "$four -- resync v"
+    says "where resync ends so too: make a disk a spare, fail 1, resync v, rebuild v"
+    silent "same write"
+    # Refused for the mark: nothing tells which blocks.
+    ends 1 "refused 24" "array v is marked, and which blocks were being written isn't recorded: each of its blocks reads as it did. Give resync v, and then this command again" "./ddf $four -- write v 4 8 <bytes"
+    ends 1 "refused 24" "Resync it first" "./ddf $four -- write v 4 8 <bytes"
+    # The way that is told leads out.
+    for command in "spare 3 global" "fail 1" "resync v" "rebuild v" "write v 4 8 <bytes"; do
+        bad n1.img BAD_WRITES 5-6 0 "ok" "" "$four -- $command"
+    done
+    bad n1.img BAD_WRITES 5-6 0 "group" "" "$four -- show"
+    grep -q "array v blocks 1024 optimal" out || fail "the way out of a marked mirror leads to: $(cat out)"
+    new_group "raid5.rnc 3 single 0,1,2@1024"
+    bad n1.img BAD_WRITES 8-8 3 "disk fault slot 1" "array v is marked: " "$four -- write v 4 32 <bytes"
+    says "blocks 4 to 35 of it may be old or new"
+    says "where resync ends so too: accept v, make a disk a spare, fail 1, rebuild v, and the same write again"
+    bad n1.img BAD_WRITES 8-8 3 "disk fault slot 1" "where resync ends so too: accept v, make a disk a spare, fail 1, rebuild v" "$four -- resync v"
+    for command in "accept v" "spare 3 global" "fail 1" "rebuild v" "write v 4 32 <bytes"; do
+        bad n1.img BAD_WRITES 8-8 0 "ok" "" "$four -- $command"
+    done
+    bad n1.img BAD_WRITES 8-8 0 "group" "" "$four -- show"
+    grep -q "array v blocks 2048 optimal" out || fail "the way out of a marked RAID 5 leads to: $(cat out)"
+    # A block beside those that a write is to write can't be read.
+    new_group "raid5.rnc 3 single 0,1,2@1024"
+    bad n0.img,n1.img BAD_READS 5-6 3 "disk fault slot 0" "array v isn't marked, and nothing of it was written: a block beside block 13, which the parity of their rows needs, can't be read from any disk" "$four -- write v 13 1 <bytes"
+    says "where it ends so too: read v, block by block, tells which one it is; put the others away, and write whole stripes with that block from a backup: this reads nothing"
+    bad n0.img,n1.img BAD_READS 5-6 3 "disk fault slot 0" "" "$four -- read v 5 1"
+    bad n0.img,n1.img BAD_READS 5-6 0 "ok" "" "$four -- write v 0 16 <bytes"
+    bad n0.img BAD_READS 5-6 0 "ok" "" "$four -- write v 13 1 <bytes"
+    bad n0.img BAD_READS 5-6 0 "group" "" "$four -- show"
+    grep -q "array v blocks 2048 optimal" out || fail "a write beside a block that can't be read leads to: $(cat out)"
+    # Marked, and a disk is away: resync is refused.
+    new_group "raid5.rnc 3 single 0,1,2@512"
+    ends 0 "ok" "" "./ddf $four -- create w raid5.rnc 3 single 0,1,2@512"
+    ends 3 "" "array w is marked, and accept compares nothing: from then on nothing tells that its parity may be wrong: where it is" "./ddf --careful $four -- accept w"
+    mv n1.img away
+    for command in "rebuild w:24" "resync w:23" "write w 0 1 <bytes:2"; do
+        for disk in 0 2 3; do cp n$disk.img k$disk.img; done
+        ends 1 "refused ${command##*:}" "array w is marked, and a disk of it is away; which blocks were being written isn't recorded" "./ddf k0.img k2.img k3.img -- ${command%:*}"
+        says "Bring that disk back, and give resync w. If it is gone for good: accept w, and rebuild w"
+    done
+    ends 3 "" "its parity may be wrong, and the blocks of the disk that is away are taken from it" "./ddf --careful n0.img n2.img n3.img -- accept w"
+    ends 0 "ok" "" "./ddf n0.img n2.img n3.img -- accept w"
+    ends 0 "ok" "" "./ddf n0.img n2.img n3.img -- rebuild w"
+    # An array that keeps its blocks once.
+    new_group "raid0 3 single 0,1@1024"
+    bad n1.img BAD_WRITES 5-6 3 "disk fault slot 1" "array v keeps its blocks once: blocks 0 to 31 of it may be old or new, and the others read as they did" "$four -- write v 0 32 <bytes"
+    new_group "raid1 7 single 0,1@1024"
+    bad n0.img BAD_WRITES 34000-34815 3 "disk fault slot 0" "array v isn't marked: of what was to be written all is there, or nothing (block 7)" "$four -- write v 7 1 <bytes"
+    echo "asking: what a write or a resync left that a disk failed under, and a way that leads out"
+
+    # A rebuild: a read of a source, or a write to the spare.
+    new_group "raid5.rnc 3 single 0,1,2@1024"
+    mv n1.img away
+    three="n0.img n2.img n3.img"
+    bad n0.img BAD_READS 800-801 3 "disk fault slot 0" "rebuild v: slot 0 (n0.img) has blocks that no other disk has, and a read of it failed" "$three -- rebuild v"
+    says "The spare is as it was, with the rows that are noted, and so is each block of the array"
+    says "docs/RESCUE.md, under 'Image each disk'"
+    for command in show assemble; do
+        ends 0 "group" "array v: slot 2 (n3.img), member" "./ddf $three -- $command"
+        says "is being filled and doesn't count yet: 0 of 128 rows are noted; rebuild v goes on"
+    done
+    bad n0.img BAD_READS 800-801 3 "disk fault slot 0" "rebuild v: slot 0 (n0.img) has blocks that no other disk has" "$three -- rebuild v"
+    bad n3.img BAD_WRITES 800-801 3 "disk fault slot 2" "rebuild v: slot 2 (n3.img), the disk that is being filled, couldn't be written: replace it" "$three -- rebuild v"
+    says "or fail 2; make another disk a spare, and give rebuild v again"
+    ends 0 "ok" "" "./ddf $three -- rebuild v"
+    ends 0 "group" "" "./ddf $three -- show"
+    silent "is being filled"
+    new_group "raid5.rnc 3 single 0,1,2@1024"
+    mv n1.img away
+    bad n2.img BAD_WRITES 34000-34815 3 "disk fault slot 1" "rebuild v: the records of slot 1 (n2.img) couldn't be written" "$three -- rebuild v"
+    echo "asking: of a rebuild that ended early which call failed, and which disk is being filled"
+
+    # A disk whose anchor lies before its end, and can't be read there, isn't taken for a blank one.
+    grow
+    bad a1.img BAD_READS 34815-34815 3 "slot 0 fault" "" "a1.img -- examine"
+    bad a1.img BAD_READS 34815-34815 0 "group" "slot 1 (a1.img) shows no member: a read of it failed" "a0.img a1.img a2.img -- show"
+    echo "asking: a disk of which it can't be read where its records end fails"
+else
+    lacks "disks that fail: no gcc"
+fi
+
+# Each heading that a line names.
+while read -r page heading; do
+    grep -q "^##* \([0-9]\. \)*$heading$" "$top/docs/$page" || fail "docs/$page has no heading $heading"
+done <<'TEXT'
+FAILED-DISK.md A second disk fails meanwhile
+NEW-DISK.md A new disk
+RESCUE.md Image each disk
+STOPS.md A disk wasn't named
+TEXT
 [ "$missed" = 0 ] || { echo "asking: $missed failed" >&2; exit 1; }
 all_tried asking

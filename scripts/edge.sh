@@ -13,6 +13,7 @@ trap 'rm -rf "$work"' EXIT
 "$top/ddf" --version >/dev/null
 cp "$top/crates/ddf/out/ddf" "$work/ddf"
 cd "$work"
+exec </dev/null
 chmod 755 .
 truncate -s 32M d0.img d1.img new.img
 : >empty.img
@@ -411,7 +412,7 @@ if command -v script >/dev/null; then
         ./ddf far0.img far1.img far2.img -- create far raid1 0 single 0,1@4000000 >/dev/null 2>&1
         far "resync far"
         ./ddf far0.img far1.img far2.img -- spare 2 global >/dev/null 2>&1
-        ./ddf far0.img far1.img far2.img -- fail 1 >/dev/null 2>&1
+        ./ddf --yes far0.img far1.img far2.img -- fail 1 >/dev/null 2>&1
         far "rebuild far"
         rm far0.img far1.img far2.img
     else

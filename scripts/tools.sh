@@ -23,8 +23,8 @@ fail() {
     exit 1
 }
 
-# Runs the program, without what it says to people.
-ddf() { "$DDF" "$@" 2>/dev/null; }
+# Runs the program, without what it says to people, and asks nothing.
+ddf() { "$DDF" --yes "$@" 2>/dev/null; }
 
 # Calls a tool, keeps what it prints in `printed` and what it says in `said`, and compares its status with the first word.
 tool() {
@@ -198,6 +198,13 @@ try_try() {
     [ "$(ddf kept/slot?.img -- show)" = "$(ddf d?.img -- show)" ] || fail "the kept copies show another group"
     grep -q '^array home .* init 02$' kept/about.txt || fail "about.txt doesn't say what examine prints"
     [ "$(du -sk kept | cut -f 1)" -lt 400 ] || fail "the kept copies aren't small"
+    # At a terminal nobody is asked, as it is about copies.
+    if command -v script >/dev/null; then
+        script -qec "'$top/tools/ddf-try' d?.img -- delete fast" /dev/null >printed 2>said </dev/null || fail "at a terminal it ends otherwise: $(cat printed)"
+        case $(cat printed) in *"go on?"*) fail "at a terminal it asks: $(cat printed)" ;; esac
+    else
+        lacks "try: a terminal, as there is no script"
+    fi
     same "as they were"
     rm -r kept
 }
@@ -224,10 +231,12 @@ TEXT
     # At a terminal nobody is asked, so nothing is done without --yes.
     if command -v script >/dev/null; then
         before=$(cksum d?.img)
-        status=0
-        script -qec "'$top/tools/ddf-json' d?.img -- delete fast" /dev/null >printed 2>said </dev/null || status=$?
-        [ "$status" = 3 ] || fail "at a terminal it ends with $status: $(cat printed)"
-        [ "$(cksum d?.img)" = "$before" ] || fail "at a terminal it does what it should ask about"
+        for streams in "" "2>told" ">told 2>&1" "</dev/null 2>told"; do
+            status=0
+            script -qec "'$top/tools/ddf-json' d?.img -- delete fast $streams" /dev/null >printed 2>said </dev/null || status=$?
+            [ "$status" = 3 ] || fail "at a terminal, with $streams, it ends with $status: $(cat printed)"
+            [ "$(cksum d?.img)" = "$before" ] || fail "at a terminal, with $streams, it does what it should ask about"
+        done
     else
         lacks "json: a terminal, as there is no script"
     fi

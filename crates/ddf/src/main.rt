@@ -1,28 +1,33 @@
 //! The program `ddf`: it opens the images that its words name, and does what they ask for.
+//! docs/ARCHITECTURE.md#one-command-from-its-words-to-the-sectors
 #![tactic(auto)]
 
 ghost use Rattle.std.specs.Prelude.{◌≤◌};
 
-use ddf_asking::{
-    Person, Risks, consents, made_for_linux, name_away, name_lines, name_lost_on_linux, name_odd,
-    name_risks, name_strays, name_turned, name_unfinished, name_unrebuilt, name_untaken, tell_end,
-    tell_faulted,
-};
+use ddf_arrays_left::{Fault, name_filling, name_marked, tell_cut, tell_faulted};
+use ddf_asking::{Person, Risks, consents, name_lines, name_risks, tell_end};
 use ddf_batch::serve;
 use ddf_bay::{Bay, FileBay};
 use ddf_bytes::{NoMemory, StdSink, StdSource};
 use ddf_command::{Asked, Command, Wish, refuse_words, slot_paths};
+use ddf_contents::{name_early, name_odd};
 use ddf_edge::{
-    CountingSink, DISK_FAULT, Failure, Given, Meter, NO_MEMORY, NotingSource, Patient,
-    STREAM_FAULT, USAGE, answer, any_locked, care_of_environment, care_word, command_word, explain,
+    CountingSink, Failure, Given, LastCall, Meter, NO_MEMORY, NotingSource, Patient, STREAM_FAULT,
+    USAGE, answer, any_locked, care_of_environment, care_word, command_word, explain,
     first_unopened, hold_streams, keep_freed, lines_of_input, name_failed, name_no_texts,
     name_rest, number_sizes, number_slots, open_disks, reason_of, same_disk, stamp_for,
 };
 use ddf_exercise::exercise_new_disks;
+use ddf_fenced::Fenced;
+use ddf_for_linux::{
+    made_for_linux, name_lost_on_linux, name_turned, name_unfinished, name_unrebuilt, name_untaken,
+};
 use ddf_heard::Heard;
 use ddf_linux::Turned;
+use ddf_losses::{name_away, name_strays};
 use ddf_progress::Watched;
-use ddf_refusals::{Ear, HearingSink};
+use ddf_refusals::{Ear, HearingSink, Refused};
+use ddf_shortened::{Ends, Shortened};
 use ddf_sizes::{complete, is_short, length_of, name_numbers, name_sizes};
 use ddf_words::{Asking, asking_of};
 use std::fs::File;
@@ -32,10 +37,13 @@ use std::rt::{Clock, Env, Files};
 use std::{env, io, str};
 
 fn main(rt: HostRuntime) -> ExitCode {
-    let sees = rt.stderr().is_terminal();
-    let types = rt.stdin().is_terminal();
-    let care = care_of_environment(&rt);
-    ExitCode::from(status(&rt, Person { sees, types, care }))
+    let person = Person {
+        sees: rt.stderr().is_terminal(),
+        types: rt.stdin().is_terminal(),
+        reads: rt.stdout().is_terminal(),
+        care: care_of_environment(&rt),
+    };
+    ExitCode::from(status(&rt, person))
 }
 
 /// What the words ask for.
@@ -45,6 +53,27 @@ enum Kind {
     Command,
     /// A batch: before its lines are known it counts as `assemble`, over the same group.
     Batch,
+}
+
+impl Kind {
+    /// Why the program ends where the input failed.
+    fn input_failure(self) -> Failure {
+        match self {
+            Kind::Command => Failure::Input,
+            Kind::Batch => Failure::Batch,
+        }
+    }
+}
+
+/// How a command ended.
+#[derive(Clone, Copy)]
+struct Ending {
+    /// Its status.
+    status: u8,
+    /// The slot of the disk that failed, where its output names one.
+    fault: Option<u16>,
+    /// The last call of it on a disk.
+    last: LastCall,
 }
 
 /// When a batch loses what was named.
@@ -140,9 +169,36 @@ where
 {
     let files = open_disks(rt, slot_paths(words), &Command::Show)?;
     check_opened(&files, &Command::Show)?;
+    let files = seen_for(rt, files, &Command::Show)?;
     let mut bay = Turned::new(files, made_for_linux(&Command::Show));
     complete(rt, &mut bay, words)?;
     Ok(())
+}
+
+/// The disks as a command sees them: as far as their records reach, and for `label`, which makes disks of the standard, to their ends. A disk of which it
+/// couldn't be read where they end fails each call, as one whose anchor can't be read does: it might else look blank, and its group go on without it.
+// argued: that `label` sees each disk to its end, and no other command does, and that a disk fails where the look at its end did, for all bays are made of
+// what this function answers.
+fn seen_for<R: Files + AllocGlobal>(
+    rt: &R,
+    files: FileBay<Heard<R>>,
+    command: &Command,
+) -> Result<Fenced<Shortened<FileBay<Heard<R>>>>, NoMemory> {
+    let bay = match command {
+        Command::Label { .. } => Shortened::whole(files),
+        _ => Shortened::new(files),
+    };
+    let unread = unread_slots(rt, bay.ends(), bay.slots())?;
+    Ok(Fenced::new(bay, unread))
+}
+
+/// Marks those of the first slots of which the look failed.
+fn unread_slots<R: AllocGlobal>(rt: &R, ends: Ends, slots: usize) -> Result<Vec<bool>, NoMemory> {
+    let mut unread = Vec::new(rt.alloc());
+    for slot in 0..slots {
+        unread.push(ends.is_unread(slot))?;
+    }
+    Ok(unread)
 }
 
 /// Exercises the program's commands on disks in memory. No image is touched.
@@ -219,10 +275,13 @@ where
     let stamp = stamp_for(rt, makes_names).map_err(Failure::Chance)?;
     let files = open_disks(rt, paths, &asked.command)?;
     check_opened(&files, &asked.command)?;
+    let files = seen_for(rt, files, &asked.command)?;
+    let ends = files.inner().ends();
+
     // argued: that the program makes the bay for `label linux`, and for nothing else, for this line alone makes the bay that a command gets, by the
     // command itself.
     let mut bay = Turned::new(files, made_for_linux(&asked.command));
-    let risks = name_before(rt, &mut bay, paths, asked, kind, person)?;
+    let risks = name_before(rt, &mut bay, ends, paths, asked, kind, person)?;
     let given = input_of(rt, kind, person)?;
     let length = if person.sees {
         length_of(rt, &mut bay, asked)
@@ -243,22 +302,22 @@ where
     let status = serve(rt.alloc(), words, &mut bay, &mut source, &mut sink, stamp);
     let (mut bay, meter) = bay.into_parts();
     meter.end();
+    let ending = Ending {
+        status,
+        fault: sink.fault(),
+        last: meter.last(),
+    };
     if kind == Kind::Command {
-        if let Some(refused) = sink.refused() {
-            name_numbers(rt, &mut bay, paths, asked, refused)?;
-        }
+        name_refused(rt, &mut bay, paths, asked, sink.refused())?;
     }
     tell_end(rt, &asked.command, paths, status, sink.sink().taken())?;
-    name_after(rt, &mut bay, paths, asked, status, risks);
+    name_after(rt, &mut bay, paths, asked, ending, risks);
     if person.sees && matches!(asked.command, Command::Show) {
         name_sizes(rt, &mut bay, paths, asked.group)?;
     }
-    name_failed(rt, &bay.into_inner(), paths);
+    name_failed(rt, &bay.into_inner().into_inner().into_inner(), paths);
     if status == STREAM_FAULT && source.failed() {
-        return Err(match kind {
-            Kind::Command => Failure::Input,
-            Kind::Batch => Failure::Batch,
-        });
+        return Err(kind.input_failure());
     }
     answered(status, asked.command.traits().may_write)
 }
@@ -275,10 +334,11 @@ fn check_opened<R: Files>(files: &FileBay<Heard<R>>, command: &Command) -> Resul
     Ok(())
 }
 
-/// Names what a command would lose or write over, and asks. Names too what is odd about disks that are looked at.
+/// Names what a command would lose or write over, and disks of controllers that it may write to, and asks. Names too what is odd about disks that are looked at.
 fn name_before<R>(
     rt: &R,
-    bay: &mut Turned<FileBay<Heard<R>>>,
+    bay: &mut Turned<Fenced<Shortened<FileBay<Heard<R>>>>>,
+    ends: Ends,
     paths: &[String],
     asked: &Asked,
     kind: Kind,
@@ -287,6 +347,7 @@ fn name_before<R>(
 where
     R: Files<File = File> + Input + Eprint + AllocGlobal + Clone + Drop,
 {
+    let early = name_early(rt, ends, paths, asked.command.traits().may_write);
     if let Command::Examine | Command::Show = asked.command {
         name_odd(rt, bay, paths);
     }
@@ -300,7 +361,7 @@ where
     if risks.losses && kind == Kind::Batch {
         let _ = rt.eprint(BATCH_LOSSES);
     }
-    if risks.any() {
+    if early || risks.any() {
         consents(rt, person)?;
     }
     Ok(risks)
@@ -343,13 +404,31 @@ fn text_of(lines: &Option<Vec<u8>>) -> Option<&str> {
     }
 }
 
+/// Says why a command was refused, as far as the disks tell it.
+fn name_refused<R>(
+    rt: &R,
+    bay: &mut Turned<Fenced<Shortened<FileBay<Heard<R>>>>>,
+    paths: &[String],
+    asked: &Asked,
+    refused: Option<Refused>,
+) -> Result<(), NoMemory>
+where
+    R: Files<File = File> + Eprint + AllocGlobal + Clone + Drop,
+{
+    if let Some(refused) = refused {
+        name_numbers(rt, bay, paths, asked, refused)?;
+        name_marked(rt, bay, asked, refused.number);
+    }
+    Ok(())
+}
+
 /// Says what a command left that somebody has to know.
 fn name_after<R>(
     rt: &R,
-    bay: &mut Turned<FileBay<Heard<R>>>,
+    bay: &mut Turned<Fenced<Shortened<FileBay<Heard<R>>>>>,
     paths: &[String],
     asked: &Asked,
-    status: u8,
+    ending: Ending,
     risks: Risks,
 )
 where
@@ -361,22 +440,32 @@ where
     if asked.command.traits().takes_group && !risks.any() {
         name_unfinished(rt, bay, asked.group);
     }
+    if let Command::Assemble | Command::Show = asked.command {
+        name_filling(rt, bay, paths, asked.group);
+    }
     if let Command::Assemble | Command::Show | Command::Rebuild { .. } = asked.command {
         name_unrebuilt(rt, bay, asked.group);
     }
-    if status == 0 {
+    if ending.status == 0 {
         name_done(rt, bay, paths, asked, risks);
-    } else if status == DISK_FAULT {
-        tell_faulted(rt, bay, asked);
-    } else if risks.losses && matches!(status, 1 | 4) {
+    } else if risks.losses && matches!(ending.status, 1 | 4) {
         let _ = rt.eprint(NOTHING_LOST);
+    }
+    let last = ending.last;
+    match ending.fault {
+        Some(slot) => {
+            let slot = usize::from(slot);
+            tell_faulted(rt, bay, paths, asked, Fault { slot, last });
+        }
+        None if ending.status == STREAM_FAULT => tell_cut(rt, bay, asked),
+        None => {}
     }
 }
 
 /// Says what a command that is done left that somebody has to know.
 fn name_done<R>(
     rt: &R,
-    bay: &mut Turned<FileBay<Heard<R>>>,
+    bay: &mut Turned<Fenced<Shortened<FileBay<Heard<R>>>>>,
     paths: &[String],
     asked: &Asked,
     risks: Risks,

@@ -2,7 +2,8 @@
 use ddf_edge::OneLine;
 use std::str;
 
-/// Names on standard error each line of a batch that takes a disk out of use or an array out of the records. Whether there is any.
+/// Names on standard error each line of a batch that takes a disk out of use or an array out of the records, or takes an array to
+/// agree. Whether there is any.
 pub fn name_lines<R: Eprint>(rt: &R, lines: &[u8]) -> bool {
     let Ok(text) = str::from_utf8(lines) else {
         return false;
@@ -24,6 +25,7 @@ fn end_of(line: &str) -> Option<&'static str> {
     match line.split(' ').next() {
         Some("fail") => Some("takes a disk out of use for good"),
         Some("delete") => Some("takes an array out of the records"),
+        Some("accept") => Some("takes the mark of an array away, and compares nothing"),
         _ => None,
     }
 }

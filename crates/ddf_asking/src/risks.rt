@@ -1,12 +1,10 @@
 //! What a command is about to lose or to write over.
-use crate::ending::{name_deleting, name_failing};
-use crate::filled::name_filled;
-use crate::for_linux::{name_misread, name_unfinished};
-use crate::losses::name_losses;
-use crate::tables::name_difference;
 use ddf_bay::Bay;
 use ddf_bytes::NoMemory;
+use ddf_contents::name_filled;
+use ddf_for_linux::{name_misread, name_unfinished};
 use ddf_linux::Turned;
+use ddf_losses::{name_accepting, name_deleting, name_difference, name_failing, name_losses};
 use ddf_words::{Asked, Command, Wish};
 
 /// What was named before a command.
@@ -95,6 +93,9 @@ where
         }
         Command::Change(Wish::Delete { name }) => {
             name_deleting(rt, bay, asked.group, name.items())
+        }
+        Command::Change(Wish::Accept { name }) => {
+            name_accepting(rt, bay, asked.group, name.items())
         }
         Command::Change(Wish::Create(creation)) => Ok(name_misread(rt, bay, creation)),
         _ => Ok(false),

@@ -1,4 +1,4 @@
-//! How careful the program is to be: a word before the images, or the environment.
+//! How careful the program is to be: a word before the images, or the environment. docs/COMMANDS.md#what-is-told-on-standard-error
 use std::env::FillError;
 use std::rt::Env;
 
@@ -8,7 +8,7 @@ const VARIABLE: &str = "DDF_CAREFUL";
 /// What the program does where somebody may want to stop it.
 #[derive(Clone, Copy, PartialEq, Eq)]
 pub enum Care {
-    /// It asks at a terminal, and goes on elsewhere.
+    /// It asks where it was started from a terminal, and goes on elsewhere.
     Ask,
     /// It does nothing, and says why.
     Careful,

@@ -1,4 +1,5 @@
-//! The disks of a command are kept from other programs: one that it reads from writers, one that it may write to from all.
+//! The disks of a command are kept from other programs: one that it reads from writers, one that it may write to from all. Two programs that
+//! write at once are an array lost. docs/COMMANDS.md#disks-and-the-system
 ghost use Rattle.std.specs.Prelude.{◌≡◌, length};
 
 use crate::in_use::use_of;

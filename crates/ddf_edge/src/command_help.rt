@@ -177,7 +177,7 @@ ddf IMAGE.. -- [@GROUP] accept NAME
 
 Writes: it takes the copies and the parity of a marked array to agree, on your word, and takes
 its mark away. Right for new disks of zeros alone, or where a lost disk leaves no other way:
-parity that is wrong gives wrong blocks then.
+parity that is wrong gives wrong blocks then. At a terminal you are asked.
 
   ddf d0.img d1.img -- accept root
 ";

@@ -54,9 +54,10 @@ all that is free in one piece.
 
 @GROUP is @ and the 48 digits of a group's GUID, or the first of them, where the disks show more
 than one group.
-Before a command loses a member, writes over a disk that isn't empty, fails a disk or deletes an
-array, standard error says so, and at a terminal you are asked. --yes asks nothing. --careful,
-or DDF_CAREFUL=1 in the environment, does nothing there, and ends with status 3.
+Before a command loses a member, writes over a disk that isn't empty, fails a disk, or deletes or
+accepts an array, standard error says so, and you are asked where any of the three standard
+streams is a terminal. --yes asks nothing. --careful, or DDF_CAREFUL=1 in the environment, does
+nothing there, and ends with status 3.
 
 Disks are opened for reading alone by commands that write nothing. Others don't touch a disk
 that is mounted, swapped to, part of another device, or protected from writes. Each disk is

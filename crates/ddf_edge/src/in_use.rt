@@ -1,4 +1,5 @@
-//! What the system tells of the use of a block device: whether it is protected, mounted, swapped to, or part of another device.
+//! What the system tells of the use of a block device: whether it is protected, mounted, swapped to, or part of another device. Linux would write
+//! behind the program's back. docs/COMMANDS.md#disks-and-the-system
 use crate::device::{device_of, if_told, is_held, is_protected, overlap};
 use std::fs::Metadata;
 use std::os::unix::fs::FileTypeExt;

@@ -39,7 +39,7 @@ pub use failure::{DISK_FAULT, Failure, NO_MEMORY, STREAM_FAULT};
 pub use given::{Given, lines_of_input};
 pub use help::{FIRST_LINE, USAGE, answer};
 pub use memory::keep_freed;
-pub use meter::{Length, Meter};
+pub use meter::{LastCall, Length, Meter};
 pub use no_text::name_no_texts;
 pub use noting::NotingSource;
 pub use one_line::OneLine;

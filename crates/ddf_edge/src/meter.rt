@@ -1,4 +1,4 @@
-//! How far a long command has come, for somebody at a terminal.
+//! How far a long command has come, for somebody at a terminal, and what its last call was.
 use crate::sizes::Size;
 use ddf_progress::Progress;
 use std::rt::Clock;
@@ -16,6 +16,17 @@ pub enum Length {
     Writes(u64),
 }
 
+/// The last call of a command on a disk, as far as reads and writes are counted.
+#[derive(Clone, Copy, PartialEq, Eq)]
+pub enum LastCall {
+    /// A read, or a sync, and nothing was written before.
+    First,
+    /// A read, once something was written.
+    Read,
+    /// A write, or a sync of what was written.
+    Write,
+}
+
 /// Tells on standard error how many sectors were read or written, of how many, how fast, and how long the others take at that speed. Each line takes
 /// the place of the one before, and none stays.
 #[derive(Drop)]
@@ -25,6 +36,7 @@ pub struct Meter<'r, R> {
     done: u64,
     began: Option<Instant>,
     told: u64,
+    last: LastCall,
 }
 
 impl<'r, R: Clock + Eprint> Meter<'r, R> {
@@ -40,7 +52,13 @@ impl<'r, R: Clock + Eprint> Meter<'r, R> {
             done: 0,
             began,
             told: 0,
+            last: LastCall::First,
         }
+    }
+
+    /// The last call so far.
+    pub fn last(&self) -> LastCall {
+        self.last
     }
 
     /// Takes the line away, where one was begun.
@@ -92,12 +110,16 @@ fn percent(part: u64, all: u64) -> u64 {
 
 impl<R: Clock + Eprint> Progress for Meter<'_, R> {
     fn read(&mut self, sectors: u64) {
+        if self.last == LastCall::Write {
+            self.last = LastCall::Read;
+        }
         if let Some(Length::Reads(all)) = self.length {
             self.count(sectors, all);
         }
     }
 
     fn wrote(&mut self, sectors: u64) {
+        self.last = LastCall::Write;
         if let Some(Length::Writes(all)) = self.length {
             self.count(sectors, all);
         }

@@ -1,4 +1,5 @@
-//! How long a command that reads waits for one that writes.
+//! How long a command that reads waits for one that writes: a disk that is locked for a moment would look absent.
+//! docs/FAULTS.md#looks-beside-a-command-that-writes
 use std::rt::Clock;
 use std::thread;
 use std::time::{Duration, Instant};

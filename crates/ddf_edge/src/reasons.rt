@@ -1,4 +1,5 @@
-//! Why a disk that a command would write to can't be opened, and what is to be done.
+//! Why a disk that a command would write to can't be opened, and what is to be done: never to leave it out, for then it is lost.
+//! docs/FAULTS.md#advice-to-leave-out-a-locked-disk
 use std::io::ErrorKind;
 use std::{fmt, io};
 

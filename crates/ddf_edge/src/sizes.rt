@@ -1,4 +1,4 @@
-//! Sizes with units where a command takes blocks or strips, as `1G` and `64K`, and sizes as people read them.
+//! Sizes with units where a command takes blocks or strips, as `1G` and `64K`, and sizes as people read them. docs/COMMANDS.md#arguments
 use crate::slot_images::{name_place, put_word};
 use ddf_words::number_of;
 use std::alloc::AllocError;

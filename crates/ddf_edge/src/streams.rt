@@ -1,4 +1,5 @@
-//! The standard streams.
+//! The standard streams, held open: a disk with the descriptor of a closed one would get the output.
+//! docs/DECISIONS-COMMANDS.md#the-program-and-the-system
 use std::fs::File;
 use std::io;
 use std::rt::Files;

@@ -1,4 +1,4 @@
-//! One disk under two names.
+//! One disk under two names: it would count as two members. docs/DECISIONS-COMMANDS.md#the-program-and-the-system
 use crate::one_line::OneLine;
 use ddf_bytes::NoMemory;
 use std::fs;

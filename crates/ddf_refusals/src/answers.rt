@@ -43,6 +43,20 @@ pub fn refusal_in(piece: &[u8]) -> Option<Refused> {
     Some(Refused { number, last })
 }
 
+/// The slot of the disk that failed, where a piece of output tells of one.
+pub fn fault_in(piece: &[u8]) -> Option<u16> {
+    if piece.len() > MOST_BYTES {
+        return None;
+    }
+    let Ok(text) = str::from_utf8(piece) else {
+        return None;
+    };
+    match text.trim_end().strip_prefix("disk fault slot ") {
+        Some(slot) => slot.parse::<u16>().ok(),
+        None => None,
+    }
+}
+
 /// Which contradiction a line tells: `conflict slots I J sequence Q` and what it is in.
 fn conflict_of(line: &str) -> u16 {
     match line.split(' ').nth(6) {

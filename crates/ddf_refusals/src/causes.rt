@@ -177,7 +177,7 @@ const CAUSES: [Cause; 43] = [
         number: 29,
         command: "import",
         why: "The tables of two disks have different sizes: of disks, arrays, an element's members, records or their sectors.",
-        way: "They can't be in one group: copy the data by read and write.",
+        way: "They can't be in one group: copy the data by read and write. A new disk can be made with tables that fit: docs/NEW-DISK.md, under '1. A new disk'.",
     },
     Cause {
         number: 30,

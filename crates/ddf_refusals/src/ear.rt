@@ -1,5 +1,5 @@
 //! Who hears what commands print, and tells people why one is refused.
-use crate::answers::{CONFLICT, Refused, refusal_in};
+use crate::answers::{CONFLICT, Refused, fault_in, refusal_in};
 use crate::causes::cause_of;
 use ddf_edge::OneLine;
 
@@ -15,6 +15,7 @@ pub struct Ear<'a, R> {
     done: usize,
     amid: bool,
     refused: Option<Refused>,
+    fault: Option<u16>,
 }
 
 impl<'a, R: Eprint> Ear<'a, R> {
@@ -27,12 +28,18 @@ impl<'a, R: Eprint> Ear<'a, R> {
             done: 0,
             amid: false,
             refused: None,
+            fault: None,
         }
     }
 
     /// The last refusal, if there was any.
     pub fn refused(&self) -> Option<Refused> {
         self.refused
+    }
+
+    /// The slot of the last disk that failed, if one did.
+    pub fn fault(&self) -> Option<u16> {
+        self.fault
     }
 
     /// Hears a piece, of which so many bytes were taken. A rest that is given once more isn't another one.
@@ -53,6 +60,8 @@ impl<'a, R: Eprint> Ear<'a, R> {
         if let Some(refused) = refusal_in(piece) {
             self.refused = Some(refused);
             self.tell(refused.number, place);
+        } else if let Some(slot) = fault_in(piece) {
+            self.fault = Some(slot);
         }
     }
 

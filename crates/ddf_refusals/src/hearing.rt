@@ -27,6 +27,11 @@ impl<'a, R: Eprint, K> HearingSink<'a, R, K> {
     pub fn refused(&self) -> Option<Refused> {
         self.ear.refused()
     }
+
+    /// The slot of the last disk that failed, if one did.
+    pub fn fault(&self) -> Option<u16> {
+        self.ear.fault()
+    }
 }
 
 impl<R: Eprint, K: Sink> Sink for HearingSink<'_, R, K> {

@@ -4,14 +4,9 @@ use ddf_bay::Bay;
 use ddf_bytes::NoMemory;
 use ddf_config::{Array, ElementPlan, Position, array_capacity, is_current};
 use ddf_edge::Length;
+use ddf_primary::Need;
 use ddf_request::named_array;
 use ddf_words::{Asked, Command};
-
-/// The level whose members are copies of each other.
-const MIRROR: u8 = 0x01;
-
-/// The levels with parity.
-const PARITY: [u8; 2] = [0x04, 0x05];
 
 /// What a command does with the blocks of an array.
 #[derive(Clone, Copy)]
@@ -104,13 +99,13 @@ fn of_resync(array: &Array) -> u64 {
 }
 
 fn of_element(element: &ElementPlan, is_mirrored: bool) -> u64 {
-    if is_mirrored || element.level == MIRROR {
-        let count = element.positions.as_slice().len() as u64;
-        element.blocks.saturating_mul(count)
-    } else if PARITY.contains(&element.level) {
-        element.blocks
-    } else {
-        0
+    let count = element.positions.as_slice().len() as u64;
+    let cells = element.blocks.saturating_mul(count);
+    match Need::of_level(element.level) {
+        Need::One => cells,
+        _ if is_mirrored => cells,
+        Need::AllButOne => element.blocks,
+        Need::All => 0,
     }
 }
 

@@ -1,4 +1,4 @@
-//! Words that only the disks complete: a group by the first digits of its GUID, and `100%` for all that is free.
+//! Words that only the disks complete: a group by the first digits of its GUID, and `100%` for all that is free. docs/COMMANDS.md#arguments
 use crate::founded::group_at;
 use crate::numbers::{free_on, strip_of};
 use ddf_assembly::{Assembly, Group, assemble};

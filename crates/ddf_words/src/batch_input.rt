@@ -1,4 +1,4 @@
-//! The text of a batch, as the input gives it.
+//! The text of a batch, as the input gives it: whole, before the first line is run, or none. docs/COMMANDS.md#batch
 ghost use Rattle.std.specs.Prelude.{◌≡◌, length, IfErr, IfOk};
 ghost use Rattle.ddf_words.specs.Input.{IsRead, IsUnread};
 

@@ -1,4 +1,4 @@
-//! The words behind the dashes: the name of a group where one is meant, and a command.
+//! The words behind the dashes: the name of a group where one is meant, and a command. docs/COMMANDS.md#arguments
 ghost use Rattle.std.specs.Prelude.{◌≡◌, ℕ, List, true, string_bytes, IfOk, IfSome};
 ghost use Rattle.ddf_words.specs.Traits.{traits_of};
 ghost use Rattle.ddf_words.specs.Words.{words_of, NamesGroup, Spells, SpellsAsked, IsCommand, IsGroupCommand, IsRequest, GoWrongAt};

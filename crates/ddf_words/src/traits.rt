@@ -1,4 +1,5 @@
-//! What a command may do.
+//! What a command may do: one row for each, on which rests whether disks are opened for writing, and which statuses there are.
+//! docs/DECISIONS-COMMANDS.md#words-and-commands
 ghost use Rattle.std.specs.Prelude.{◌≡◌};
 
 use crate::command::{Command, Wish};

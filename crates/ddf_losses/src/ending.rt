@@ -1,6 +1,6 @@
 //! What `fail` and `delete` put an end to.
-use crate::arrays_after::{lies_on, name_arrays_after};
-use ddf_assembly::{Assembly, Group, assemble};
+use ddf_arrays_left::{group_shown, lies_on, name_arrays_after};
+use ddf_assembly::Group;
 use ddf_bay::Bay;
 use ddf_bytes::{Guid, Hex32, NoMemory};
 use ddf_config::{Array, Config, array_capacity, slot_of};
@@ -21,18 +21,39 @@ pub fn name_failing<R, B: Bay>(
 where
     R: Eprint + AllocGlobal,
 {
-    let Some((group, config)) = group_over(rt, bay, named)? else {
-        return Ok(false);
-    };
+    match group_over(rt, bay, named)? {
+        Some((group, config)) => name_out_of_use(rt, paths, &group, &config, slot),
+        None => Ok(false),
+    }
+}
+
+/// Names the disk of a slot that goes out of use, and what becomes of the arrays on it. Whether it does.
+fn name_out_of_use<R>(
+    rt: &R,
+    paths: &[String],
+    group: &Group,
+    config: &Config,
+    slot: usize,
+) -> Result<bool, NoMemory>
+where
+    R: Eprint + AllocGlobal,
+{
     let Some(seat) = group.seats().iter().find(|seat| seat.slot == slot) else {
         return Ok(false);
     };
     let reference = seat.reference;
-    let after = match apply(rt.alloc(), &config, &Change::Fail(reference), group.seats()) {
-        Ok(after) => after,
-        Err(PlanFault::Memory) => return Err(NoMemory),
-        Err(PlanFault::Refused(_)) => return Ok(false),
-    };
+    match apply(rt.alloc(), config, &Change::Fail(reference), group.seats()) {
+        Ok(after) => {
+            tell_out_of_use(rt, paths, slot, reference);
+            name_arrays_after(rt, group, config, &after, &[reference])?;
+            Ok(true)
+        }
+        Err(PlanFault::Memory) => Err(NoMemory),
+        Err(PlanFault::Refused(_)) => Ok(false),
+    }
+}
+
+fn tell_out_of_use<R: Eprint>(rt: &R, paths: &[String], slot: usize, reference: u32) {
     if let Some(path) = paths.get(slot) {
         let path = OneLine(path);
         let reference = Hex32(reference);
@@ -40,8 +61,6 @@ where
             "ddf: slot {slot} ({path}), member {reference}, goes out of use for good"
         );
     }
-    name_arrays_after(rt, &group, &config, &after, &[reference])?;
-    Ok(true)
 }
 
 /// Names on standard error the array that `delete` takes out of the records, and where it lies. Whether there is one.
@@ -54,14 +73,27 @@ pub fn name_deleting<R, B: Bay>(
 where
     R: Eprint + AllocGlobal,
 {
-    let Some((group, config)) = group_over(rt, bay, named)? else {
-        return Ok(false);
-    };
+    match group_over(rt, bay, named)? {
+        Some((group, config)) => name_out_of_records(rt, &group, &config, word),
+        None => Ok(false),
+    }
+}
+
+/// Names the array that goes out of the records, and where it lies. Whether there is one.
+fn name_out_of_records<R>(
+    rt: &R,
+    group: &Group,
+    config: &Config,
+    word: &[u8],
+) -> Result<bool, NoMemory>
+where
+    R: Eprint + AllocGlobal,
+{
     let Some((_, array)) = named_array(&config.arrays, word) else {
         return Ok(false);
     };
     let name = NameText(&array.name);
-    let slots = slots_of_array(rt, &group, array)?;
+    let slots = slots_of_array(rt, group, array)?;
     let _ = match array_capacity(rt.alloc(), array) {
         Ok(blocks) => eprintln!(rt;
             "ddf: array {name} ({blocks} blocks, on slots{slots}) goes out of the records: no command finds its blocks again"
@@ -72,7 +104,7 @@ where
 }
 
 /// The group that a command is over, and its configuration once absent members are lost.
-fn group_over<R, B: Bay>(
+pub fn group_over<R, B: Bay>(
     rt: &R,
     bay: &mut B,
     named: Option<Guid>,
@@ -80,10 +112,8 @@ fn group_over<R, B: Bay>(
 where
     R: AllocGlobal,
 {
-    let group = match assemble(rt.alloc(), bay, named) {
-        Ok(group) => group,
-        Err(Assembly::Memory) => return Err(NoMemory),
-        Err(_) => return Ok(None),
+    let Some(group) = group_shown(rt, bay, named)? else {
+        return Ok(None);
     };
     let config = match loss(rt.alloc(), &group)? {
         Some(config) => config,

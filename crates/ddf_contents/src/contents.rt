@@ -15,6 +15,8 @@ pub enum Content {
     /// An anchor in the last sector, in the other byte order.
     OtherOrder,
     /// An anchor, or another header, 257 sectors before the end.
+    EarlyAnchor,
+    /// One there in the other byte order.
     OtherPlace,
     /// A header so many sectors before the end.
     Moved(u64),
@@ -64,16 +66,15 @@ fn name_at<B: Bay>(bay: &mut B, slot: usize, lba: u64) -> Option<&'static str> {
     }
 }
 
-/// Records of the standard where this program doesn't read them.
+/// Records of the standard in another place or byte order.
 pub fn odd_records_of<B: Bay>(bay: &mut B, slot: usize) -> Option<Content> {
     let size = size_of(bay, slot);
     if signature_at(bay, slot, size.checked_sub(1)) == Some(HEADER_SIGNATURE.swap_bytes()) {
         return Some(Content::OtherOrder);
     }
     match signature_at(bay, slot, size.checked_sub(OTHER_ANCHOR)) {
-        Some(found) if found == HEADER_SIGNATURE || found == HEADER_SIGNATURE.swap_bytes() => {
-            Some(Content::OtherPlace)
-        }
+        Some(found) if found == HEADER_SIGNATURE => Some(Content::EarlyAnchor),
+        Some(found) if found == HEADER_SIGNATURE.swap_bytes() => Some(Content::OtherPlace),
         _ => None,
     }
 }
@@ -102,6 +103,10 @@ impl fmt::Display for Content {
             Content::OtherOrder => write!(
                 f,
                 "DDF records of a controller, in the other byte order, which this program doesn't read"
+            ),
+            Content::EarlyAnchor => write!(
+                f,
+                "DDF records of a controller, 257 sectors before the end"
             ),
             Content::OtherPlace => write!(
                 f,

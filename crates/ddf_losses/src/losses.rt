@@ -1,6 +1,7 @@
-//! Members that a command over a group would lose, and disks that show none.
-use crate::arrays_after::name_arrays_after;
+//! Members that a command over a group would lose, and disks that show none. A disk that is lost for want of a word is lost for good.
+//! docs/STOPS.md#a-disk-wasnt-named
 use crate::silent::{Silence, silence_alone, silence_of};
+use ddf_arrays_left::{failed_array, group_shown, name_arrays_after};
 use ddf_assembly::{Assembly, Group, assemble};
 use ddf_bay::Bay;
 use ddf_bytes::{Guid, Hex32, NoMemory};
@@ -18,20 +19,36 @@ pub fn name_losses<R, B: Bay>(
 where
     R: Eprint + AllocGlobal,
 {
-    let group = match assemble(rt.alloc(), bay, named) {
-        Ok(group) => group,
-        Err(Assembly::Memory) => return Err(NoMemory),
-        Err(_) => return Ok(false),
-    };
-    let silent = silent_slots(rt, bay, paths, &group)?;
-    let Some(after) = loss(rt.alloc(), &group)? else {
-        name_dropped(rt, paths, &silent);
-        return Ok(false);
-    };
-    name_absent(rt, group.absent(), are_all_dropped(&silent));
-    name_silent(rt, paths, &silent);
-    name_arrays_after(rt, &group, group.config(), &after, group.absent())?;
-    Ok(true)
+    match group_shown(rt, bay, named)? {
+        Some(group) => name_losses_of(rt, bay, paths, &group),
+        None => Ok(false),
+    }
+}
+
+/// Names each absent member of a group, each slot that may be such a member's, and each array that is degraded or fails by the
+/// loss. Whether there is any.
+fn name_losses_of<R, B: Bay>(
+    rt: &R,
+    bay: &mut B,
+    paths: &[String],
+    group: &Group,
+) -> Result<bool, NoMemory>
+where
+    R: Eprint + AllocGlobal,
+{
+    let silent = silent_slots(rt, bay, paths, group)?;
+    match loss(rt.alloc(), group)? {
+        Some(after) => {
+            name_absent(rt, group.absent(), are_all_dropped(&silent));
+            name_silent(rt, paths, &silent);
+            name_arrays_after(rt, group, group.config(), &after, group.absent())?;
+            Ok(true)
+        }
+        None => {
+            name_dropped(rt, paths, &silent);
+            Ok(false)
+        }
+    }
 }
 
 /// Names on standard error each slot that shows no group, where a command that only looks misses a member, and each that is the
@@ -45,13 +62,26 @@ pub fn name_away<R, B: Bay>(
 where
     R: Eprint + AllocGlobal,
 {
-    let group = match assemble(rt.alloc(), bay, named) {
-        Ok(group) => group,
-        Err(Assembly::Memory) => return Err(NoMemory),
-        Err(Assembly::NoGroup) => return name_all_silent(rt, bay, paths),
-        Err(_) => return Ok(()),
-    };
-    let silent = silent_slots(rt, bay, paths, &group)?;
+    match assemble(rt.alloc(), bay, named) {
+        Ok(group) => name_away_from(rt, bay, paths, &group),
+        Err(Assembly::Memory) => Err(NoMemory),
+        Err(Assembly::NoGroup) => name_all_silent(rt, bay, paths),
+        Err(_) => Ok(()),
+    }
+}
+
+/// Names each slot that shows no group, where a member of this one is absent, and each that is the disk of a member that it lists
+/// as missing.
+fn name_away_from<R, B: Bay>(
+    rt: &R,
+    bay: &mut B,
+    paths: &[String],
+    group: &Group,
+) -> Result<(), NoMemory>
+where
+    R: Eprint + AllocGlobal,
+{
+    let silent = silent_slots(rt, bay, paths, group)?;
     if group.absent().is_empty() {
         name_dropped(rt, paths, &silent);
     } else {
@@ -83,10 +113,11 @@ fn silent_slots<R, B: Bay>(
 where
     R: AllocGlobal,
 {
+    let failed = failed_array(rt, group)?;
     let mut silent = Vec::new(rt.alloc());
     for slot in 0..paths.len() {
         if let Some(silence) = silence_of(rt.alloc(), bay, slot, group)? {
-            silent.push((slot, silence))?;
+            silent.push((slot, silence.beside(&failed)))?;
         }
     }
     Ok(silent)
@@ -94,9 +125,7 @@ where
 
 /// Whether each slot that shows no member is the disk of one that the group lists as missing.
 fn are_all_dropped(silent: &[(usize, Silence)]) -> bool {
-    silent
-        .iter()
-        .all(|(_, silence)| matches!(silence, Silence::Dropped(_)))
+    silent.iter().all(|(_, silence)| silence.is_dropped())
 }
 
 /// Names each absent member, and that its image wasn't named where every image shows a group.
@@ -127,7 +156,7 @@ fn name_silent<R: Eprint>(rt: &R, paths: &[String], silent: &[(usize, Silence)])
 fn name_dropped<R: Eprint>(rt: &R, paths: &[String], silent: &[(usize, Silence)]) {
     for (slot, silence) in silent {
         if let Some(path) = paths.get(*slot) {
-            if matches!(silence, Silence::Dropped(_)) {
+            if silence.is_dropped() {
                 tell_silent(rt, *slot, path, silence);
             }
         }

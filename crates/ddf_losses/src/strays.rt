@@ -1,5 +1,6 @@
-//! Disks of a group that must not be written over, and are no source of a read.
-use ddf_assembly::{Assembly, Group, assemble};
+//! Disks of a group that must not be written over, and are no source of a read. docs/REFUSALS.md#39-in-full
+use ddf_arrays_left::group_shown;
+use ddf_assembly::Group;
 use ddf_bay::Bay;
 use ddf_bytes::{Guid, NoMemory};
 use ddf_config::Seat;
@@ -17,15 +18,26 @@ pub fn name_strays<R, B: Bay>(
 where
     R: Eprint + AllocGlobal,
 {
-    let group = match assemble(rt.alloc(), bay, named) {
-        Ok(group) => group,
-        Err(Assembly::Memory) => return Err(NoMemory),
-        Err(_) => return Ok(()),
-    };
-    let trusted = trusted_seats(rt.alloc(), &group)?;
+    match group_shown(rt, bay, named)? {
+        Some(group) => name_strays_of(rt, bay, paths, &group),
+        None => Ok(()),
+    }
+}
+
+/// Names each disk of this group that recovery must not write over, and why.
+fn name_strays_of<R, B: Bay>(
+    rt: &R,
+    bay: &mut B,
+    paths: &[String],
+    group: &Group,
+) -> Result<(), NoMemory>
+where
+    R: Eprint + AllocGlobal,
+{
+    let trusted = trusted_seats(rt.alloc(), group)?;
     for seat in group.seats() {
         if !has_slot(trusted.as_slice(), seat.slot) {
-            let why = reason_of(rt, bay, &group, seat.slot);
+            let why = reason_of(rt, bay, group, seat.slot);
             tell_stray(rt, paths, seat.slot, why);
         }
     }
@@ -33,7 +45,7 @@ where
 }
 
 /// Whether one of these seats is on a slot.
-fn has_slot(seats: &[Seat], slot: usize) -> bool {
+pub fn has_slot(seats: &[Seat], slot: usize) -> bool {
     seats.iter().any(|seat| seat.slot == slot)
 }
 

@@ -1,9 +1,11 @@
 //! Slots that show no member of a group.
+use crate::strays::has_slot;
 use ddf_assembly::Group;
 use ddf_bay::Bay;
 use ddf_bytes::{Guid, Hex32, NoMemory};
 use ddf_copy::{AnchorFault, Newest, ShowFault, anchor_of, newest};
 use ddf_header::Header;
+use ddf_name::NameText;
 use std::alloc::Global;
 use std::fmt;
 
@@ -20,28 +22,48 @@ pub enum Silence {
     Failed,
     /// It is the disk of a member that the group lists as missing.
     Dropped(u32),
+    /// So it is, and the array of this name is failed.
+    Needed(u32, [u8; 16]),
+}
+
+impl Silence {
+    /// The same, where the array of this name is failed.
+    pub fn beside(self, failed: &Option<[u8; 16]>) -> Silence {
+        match (self, failed) {
+            (Silence::Dropped(reference), Some(name)) => Silence::Needed(reference, *name),
+            _ => self,
+        }
+    }
+
+    /// Whether it is the disk of a member that the group lists as missing.
+    pub fn is_dropped(&self) -> bool {
+        matches!(self, Silence::Dropped(_) | Silence::Needed(_, _))
+    }
 }
 
 impl fmt::Display for Silence {
     fn fmt<W: fmt::Write>(&self, f: &mut fmt::Formatter<W>) -> fmt::Result {
         match self {
-            Silence::Blank => write!(
-                f,
-                "shows no member: its last sector is no anchor (is it another disk, or an image that was cut short or grown?)"
+            Silence::Blank => f.write_str(
+                "shows no member: its last sector is no anchor (is it another disk, or an image that was cut short or grown?)",
             ),
-            Silence::Damaged => write!(
-                f,
-                "shows no member: the anchor in its last sector is damaged"
-            ),
-            Silence::NotWhole => write!(
-                f,
-                "shows no member: neither of its copies of the records is whole"
-            ),
-            Silence::Failed => write!(f, "shows no member: a read of it failed"),
+            Silence::Damaged => {
+                f.write_str("shows no member: the anchor in its last sector is damaged")
+            }
+            Silence::NotWhole => {
+                f.write_str("shows no member: neither of its copies of the records is whole")
+            }
+            Silence::Failed => f.write_str("shows no member: a read of it failed"),
             Silence::Dropped(reference) => write!(
                 f,
                 "is the disk of member {}, which the group lists as missing: the group has gone on without it, and doesn't take it back; wipe its records (wipefs -a -t ddf_raid_member), label it, and import it as a new disk",
                 Hex32(*reference)
+            ),
+            Silence::Needed(reference, name) => write!(
+                f,
+                "is the disk of member {}, which the group lists as missing: the group has gone on without it, and doesn't take it back; array {} is failed, and this disk may be all that has some of its blocks, so wipe nothing and write nothing to it (docs/STOPS.md, under 'A disk wasn't named'; docs/RESCUE.md)",
+                Hex32(*reference),
+                NameText(name)
             ),
         }
     }
@@ -63,7 +85,7 @@ pub fn silence_of<B: Bay>(
     slot: usize,
     group: &Group,
 ) -> Result<Option<Silence>, NoMemory> {
-    if slot >= bay.slots() || group.seats().iter().any(|seat| seat.slot == slot) {
+    if slot >= bay.slots() || has_slot(group.seats(), slot) {
         return Ok(None);
     }
     match shown_at(alloc, bay, slot)? {

@@ -1,8 +1,10 @@
 //! What standard error says of Linux: disks and arrays that it doesn't take, and arrays whose first resync it hadn't finished.
-use ddf_assembly::{Group, assemble};
+//! docs/LINUX.md#what-linux-starts
+use ddf_arrays_left::{failed_array, group_shown, slot_filled};
+use ddf_assembly::Group;
 use ddf_bay::Bay;
 use ddf_bytes::Guid;
-use ddf_config::{Array, is_current, slot_of};
+use ddf_config::{Array, slot_of};
 use ddf_edge::OneLine;
 use ddf_linux::Turned;
 use ddf_name::NameText;
@@ -213,16 +215,31 @@ fn is_uneven(creation: &Creation) -> bool {
     }
 }
 
+/// The group that a command is over, where a disk of Linux's kind is there.
+fn group_on_linux<R, B: Bay + Drop>(
+    rt: &R,
+    bay: &mut Turned<B>,
+    named: Option<Guid>,
+) -> Option<Group>
+where
+    R: AllocGlobal,
+{
+    if !(0..bay.slots()).any(|slot| turns(bay, slot)) {
+        return None;
+    }
+    match group_shown(rt, bay, named) {
+        Ok(group) => group,
+        Err(_) => None,
+    }
+}
+
 /// Names on standard error each array on disks of Linux's kind that Linux left before its first resync had ended: its records
 /// call it consistent.
 pub fn name_unfinished<R, B: Bay + Drop>(rt: &R, bay: &mut Turned<B>, named: Option<Guid>)
 where
     R: Eprint + AllocGlobal,
 {
-    if !(0..bay.slots()).any(|slot| turns(bay, slot)) {
-        return;
-    }
-    let Ok(group) = assemble(rt.alloc(), bay, named) else {
+    let Some(group) = group_on_linux(rt, bay, named) else {
         return;
     };
     for (_, array) in &group.config().arrays {
@@ -257,17 +274,28 @@ pub fn name_lost_on_linux<R, B: Bay + Drop>(rt: &R, bay: &mut Turned<B>, named: 
 where
     R: Eprint + AllocGlobal,
 {
-    if !(0..bay.slots()).any(|slot| turns(bay, slot)) {
-        return;
-    }
-    let Ok(group) = assemble(rt.alloc(), bay, named) else {
+    let Some(group) = group_on_linux(rt, bay, named) else {
         return;
     };
     if has_missing(&group) {
-        let _ = eprintln!(rt;
-            "ddf: before Linux sees these disks take each lost one out of the machine, or wipe its records (wipefs -a -t ddf_raid_member): Linux believes them, old as they are"
-        );
+        tell_lost(rt, &group);
     }
+}
+
+/// Says what is to be done with the lost disks of a group before Linux sees the others.
+fn tell_lost<R: Eprint + AllocGlobal>(rt: &R, group: &Group) {
+    let _ = match failed_array(rt, group) {
+        Ok(Some(name)) => {
+            let name = NameText(&name);
+            eprintln!(rt;
+                "ddf: before Linux sees these disks take each lost one out of the machine: Linux believes its records, old as they are. Wipe none of them: array {name} is failed, and a lost disk may be all that has some of its blocks (docs/STOPS.md, under 'A disk wasn't named')"
+            )
+        }
+        Ok(None) => eprintln!(rt;
+            "ddf: before Linux sees these disks take each lost one out of the machine, or wipe its records (wipefs -a -t ddf_raid_member): Linux believes them, old as they are"
+        ),
+        Err(_) => Ok(()),
+    };
 }
 
 /// Names on standard error each array on disks of Linux's kind of which a rebuild has begun and hasn't ended.
@@ -275,32 +303,17 @@ pub fn name_unrebuilt<R, B: Bay + Drop>(rt: &R, bay: &mut Turned<B>, named: Opti
 where
     R: Eprint + AllocGlobal,
 {
-    if !(0..bay.slots()).any(|slot| turns(bay, slot)) {
-        return;
-    }
-    let Ok(group) = assemble(rt.alloc(), bay, named) else {
+    let Some(group) = group_on_linux(rt, bay, named) else {
         return;
     };
     for (_, array) in &group.config().arrays {
-        if is_being_filled(&group, array) && lies_on_linux(bay, &group, array) {
+        if slot_filled(&group, array).is_some() && lies_on_linux(bay, &group, array) {
             let name = NameText(&array.name);
             let _ = eprintln!(rt;
                 "ddf: array {name}: a rebuild has begun and hasn't ended; end it (rebuild {name}) before Linux sees these disks"
             );
         }
     }
-}
-
-/// Whether a position of an array is out of sync, and its disk is there.
-fn is_being_filled(group: &Group, array: &Array) -> bool {
-    for element in array.elements.items().iter().flatten() {
-        for position in element.positions.as_slice() {
-            if !position.synced && is_current(&group.config().members, position.reference) {
-                return true;
-            }
-        }
-    }
-    false
 }
 
 /// Whether a group lists a member as missing.

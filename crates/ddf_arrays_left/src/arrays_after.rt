@@ -1,7 +1,8 @@
 //! What becomes of arrays.
 use ddf_assembly::Group;
 use ddf_bytes::NoMemory;
-use ddf_config::{Array, Config};
+use ddf_config::{Array, Config, is_within};
+use ddf_recovery::loss;
 use ddf_text::group_text;
 
 /// Names each array whose state another configuration alters, as it is then, and each other one that lies on these disks.
@@ -45,4 +46,22 @@ pub fn lies_on(array: &Array, references: &[u32]) -> bool {
         }
     }
     false
+}
+
+/// The name of the first array that is failed without the disks that are away, where one is. A disk that the group has lost may be
+/// all that has some of its blocks: also one in whose place another was filled.
+pub fn failed_array<R: AllocGlobal>(rt: &R, group: &Group) -> Result<Option<[u8; 16]>, NoMemory> {
+    match loss(rt.alloc(), group)? {
+        Some(after) => Ok(failed_in(&after)),
+        None => Ok(failed_in(group.config())),
+    }
+}
+
+fn failed_in(config: &Config) -> Option<[u8; 16]> {
+    for (_, array) in &config.arrays {
+        if !is_within(&config.members, array) {
+            return Some(array.name);
+        }
+    }
+    None
 }

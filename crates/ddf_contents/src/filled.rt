@@ -1,4 +1,4 @@
-//! Disks that `label` would write over.
+//! Disks that `label` would write over. docs/COMMANDS.md#label
 use crate::contents::content_of;
 use crate::moved::header_before_end;
 use crate::sectors::{sector_of, size_of};

@@ -1,5 +1,5 @@
 //! How the tables of disks differ that are to be in one group.
-use ddf_assembly::{Assembly, assemble};
+use ddf_arrays_left::group_shown;
 use ddf_bay::Bay;
 use ddf_bytes::{Guid, NoMemory};
 use ddf_copy::anchor_of;
@@ -57,16 +57,12 @@ fn add_slots<R, B: Bay>(
 where
     R: AllocGlobal,
 {
-    match assemble(rt.alloc(), bay, named) {
-        Ok(group) => {
-            for seat in group.seats() {
-                slots.push(seat.slot)?;
-            }
-            Ok(())
+    if let Some(group) = group_shown(rt, bay, named)? {
+        for seat in group.seats() {
+            slots.push(seat.slot)?;
         }
-        Err(Assembly::Memory) => Err(NoMemory),
-        Err(_) => Ok(()),
     }
+    Ok(())
 }
 
 /// How much the tables of a slot's disk hold, by its anchor.

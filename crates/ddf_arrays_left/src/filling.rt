@@ -1,0 +1,76 @@
+//! Disks that a rebuild has begun to fill.
+use crate::positions::is_filled;
+use crate::shown::group_shown;
+use ddf_assembly::Group;
+use ddf_bay::Bay;
+use ddf_bytes::{Guid, Hex32};
+use ddf_config::{Array, ElementPlan, Position, slot_of, strip_sectors};
+use ddf_edge::OneLine;
+use ddf_name::NameText;
+
+/// Names on standard error each disk that a rebuild has begun to fill and that doesn't count yet, how far it is, and how it goes on.
+pub fn name_filling<R, B: Bay>(rt: &R, bay: &mut B, paths: &[String], named: Option<Guid>)
+where
+    R: Eprint + AllocGlobal,
+{
+    let Ok(Some(group)) = group_shown(rt, bay, named) else {
+        return;
+    };
+    for (_, array) in &group.config().arrays {
+        let elements = array.elements.items();
+        for element in elements.iter().flatten() {
+            name_in_element(rt, paths, &group, array, element);
+        }
+    }
+}
+
+/// Names each disk of an element that is being filled.
+fn name_in_element<R: Eprint>(
+    rt: &R,
+    paths: &[String],
+    group: &Group,
+    array: &Array,
+    element: &ElementPlan,
+) {
+    let rows = rows_of(array, element);
+    for position in element.positions.as_slice() {
+        if is_filled(group.config(), position) {
+            tell_filling(rt, paths, group, array, position, rows);
+        }
+    }
+}
+
+/// How many rows of strips an element has.
+fn rows_of(array: &Array, element: &ElementPlan) -> u64 {
+    let strip = match strip_sectors(array.elements.items().len(), element) {
+        Some(strip) => strip.max(1),
+        None => 1,
+    };
+    element.blocks.saturating_add(strip.saturating_sub(1)) / strip.max(1)
+}
+
+/// Says that the disk of a position is being filled.
+fn tell_filling<R: Eprint>(
+    rt: &R,
+    paths: &[String],
+    group: &Group,
+    array: &Array,
+    position: &Position,
+    rows: u64,
+) {
+    let name = NameText(&array.name);
+    let reference = Hex32(position.reference);
+    let row = position.row;
+    let slot = slot_of(group.seats(), position.reference);
+    let _ = match paths.get(slot) {
+        Some(path) => {
+            let path = OneLine(path);
+            eprintln!(rt;
+                "ddf: array {name}: slot {slot} ({path}), member {reference}, is being filled and doesn't count yet: {row} of {rows} rows are noted; rebuild {name} goes on"
+            )
+        }
+        None => eprintln!(rt;
+            "ddf: array {name}: member {reference}, which is absent, was being filled: {row} of {rows} rows are noted; name its image, and rebuild {name} goes on"
+        ),
+    };
+}

@@ -1,0 +1,19 @@
+//! What is left of arrays: which lie on a disk, what becomes of them without it, which are failed, what a call that failed left of their blocks, and which disk of
+//! one is being filled.
+//!
+//! argued: that what is told of an array is what is left of it, for each is a few lines over the group as it was assembled.
+#![tactic(auto)]
+
+mod arrays_after;
+mod faulted;
+mod filling;
+mod positions;
+mod shown;
+mod unfilled;
+
+pub use arrays_after::{failed_array, lies_on, name_arrays_after};
+pub use faulted::{name_marked, tell_cut, tell_faulted};
+pub use filling::name_filling;
+pub use positions::{keeps_parity, lacks_one, slot_filled};
+pub use shown::group_shown;
+pub use unfilled::Fault;
