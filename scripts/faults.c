@@ -8,7 +8,8 @@
  *                 each call behind it fail)
  *   FAULT_TOLD    a file that is made once this has happened
  *   CUT_AT_END    where it is set, no write is kept that no sync made sure when the program ends
- *   BAD_IMAGE     an image with bad sectors: reads that touch BAD_READS and writes that touch BAD_WRITES fail, each written as FIRST-LAST
+ *   BAD_IMAGE     an image with bad sectors, or several with commas between: reads that touch BAD_READS and writes that touch BAD_WRITES fail, each written as
+ *                 FIRST-LAST
  */
 #define _GNU_SOURCE
 #include <dlfcn.h>
@@ -97,13 +98,27 @@ static const char *image_of(int file)
     return path;
 }
 
+/* Whether a list of names with commas between has this one. */
+static int is_among(const char *names, const char *name)
+{
+    size_t length = strlen(name);
+    for (;;) {
+        const char *end = strchrnul(names, ',');
+        if ((size_t)(end - names) == length && strncmp(names, name, length) == 0)
+            return 1;
+        if (!*end)
+            return 0;
+        names = end + 1;
+    }
+}
+
 /* Whether a call that moves so many bytes of an image touches a bad sector. */
 static int is_bad(int file, const char *path, size_t length, const char *name)
 {
-    const char *image = getenv("BAD_IMAGE"), *range = getenv(name);
+    const char *images = getenv("BAD_IMAGE"), *range = getenv(name);
     long first, last;
     const char *own = strrchr(path, '/');
-    if (!image || !range || !own || strcmp(own + 1, image) != 0 || sscanf(range, "%ld-%ld", &first, &last) != 2)
+    if (!images || !range || !own || !is_among(images, own + 1) || sscanf(range, "%ld-%ld", &first, &last) != 2)
         return 0;
     off_t begin = lseek(file, 0, SEEK_CUR);
     return begin < (last + 1) * 512 && begin + (off_t)length > first * 512;

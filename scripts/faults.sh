@@ -1,7 +1,7 @@
 #!/bin/sh
 # Runs the program over disks that fail: a call of it that fails, is interrupted or moves a part alone, a power cut or a kill at any moment of a change, a file system that
 # is full or read only, sectors that can't be read or written, and a disk that grows or shrinks between two commands. What was acknowledged
-# is there after it (promise:acknowledged, promise:written).
+# is there after it (promise:acknowledged, promise:written), also beside one range of sectors anywhere that can't be read.
 #
 #   scripts/faults.sh [STEP]
 #
@@ -47,7 +47,7 @@ ends() {
     case $(cat out) in "$printed"*) ;; *) fail "no $printed of: $*" ;; esac
 }
 
-# over_bad IMAGE CALLS RANGE STATUS OUTPUT WORDS..: the same over an image with bad sectors, where CALLS is BAD_READS or BAD_WRITES.
+# over_bad IMAGE CALLS RANGE STATUS OUTPUT WORDS..: the same over an image with bad sectors, or several with commas between, where CALLS is BAD_READS or BAD_WRITES.
 over_bad() {
     fault="BAD_IMAGE=$1 $2=$3"
     shift 3
@@ -343,6 +343,127 @@ try_rebuild() {
     try_syncs rebuild v
 }
 
+# holds FILE: the array has the blocks of this file, over the image with bad sectors that is tried.
+holds() {
+    over_bad "$bad" BAD_READS "$range" 0 "" $images -- read v 0 "$blocks"
+    cmp -s out "$1" || fail "other blocks are read than $1 has, over $bad $range of $level"
+}
+
+# each_block FILE: what is read of each block by itself, over the image with bad sectors that is tried, and nothing of those that can't be read.
+each_block() {
+    : >"$1"
+    block=0
+    while [ "$block" -lt "$blocks" ]; do
+        fault="BAD_IMAGE=$bad BAD_READS=$range"
+        runs $images -- read v "$block" 1
+        fault=
+        [ "$status" != 0 ] || { echo "block $block" && base64 out; } >>"$1"
+        block=$((block + 1))
+    done
+}
+
+# beside_writes: a write of two blocks at several places, over a range of sectors that can't be read. It is done, and every other block is what it was.
+beside_writes() {
+    for at in 0 5 $((blocks / 2 - 1)) $((blocks - 2)); do
+        restore
+        cp small input
+        cp whole now
+        dd if=small of=now bs=512 seek="$at" conv=notrunc status=none
+        over_bad "$bad" BAD_READS "$range" 0 "ok" $images -- write v "$at" 2
+        holds now
+    done
+}
+
+# beside_resync: a resync is done, or it says what is to be done, and that way leads out.
+beside_resync() {
+    restore
+    fault="BAD_IMAGE=$bad BAD_READS=$range"
+    runs $images -- resync v
+    fault=
+    [ "$status" = 0 ] || {
+        [ "$status" = 3 ] || fail "status $status of a resync over $bad $range of $level"
+        slot=$(sed -n 's/^disk fault slot //p' out)
+        grep -q "before any other write or resync: make a disk a spare, fail $slot, rebuild v" err || fail "a resync over $bad $range of $level says no way"
+        holds whole
+        for command in "spare 6 global" "fail $slot" "rebuild v"; do
+            over_bad "$bad" BAD_READS "$range" 0 "ok" $images -- $command
+        done
+        [ "$bad" = g.img ] || over_bad "$bad" BAD_READS "$range" 0 "ok" $images -- resync v
+    }
+    holds whole
+}
+
+# beside_rebuild: a disk is lost, and another has the range. A rebuild fills the spare, or ends at a block that no disk has; each block that could be read can be read.
+beside_rebuild() {
+    restore
+    ends 0 "ok" $images -- spare 6 global
+    ends 0 "ok" $images -- fail 0
+    each_block before
+    fault="BAD_IMAGE=$bad BAD_READS=$range"
+    runs $images -- rebuild v
+    fault=
+    [ "$status" = 0 ] || grep -q "rebuild v: slot .* has blocks that no other disk has" err || fail "status $status of a rebuild over $bad $range of $level"
+    each_block behind
+    cmp -s before behind || fail "a rebuild over $bad $range of $level changed a block that could be read"
+}
+
+# Arrays of each level with one range of sectors that can't be read, on each of their disks in turn: every block that could be read before a command can be read behind it,
+# or the command says what to do, and that way leads out.
+try_beside() {
+    images="a.img b.img c.img d.img e.img f.img g.img" named='' other='' lost=0
+    tried=0
+    while read -r members level; do
+        rm -f $images
+        truncate -s $((33000 * 512)) $images
+        ends 0 "ok sequence 1" $images -- label
+        ends 0 "ok sequence 2" $images -- create v $level
+        ends 0 "ok sequence 3" $images -- resync v
+        ends 0 "group" $images -- show
+        blocks=$(sed -n 's/^array v blocks \([0-9]*\) .*/\1/p' out)
+        head -c $((blocks * 512)) /dev/urandom >input
+        ends 0 "ok sequence 5" $images -- write v 0 "$blocks"
+        cp input whole
+        head -c 1024 /dev/urandom >small
+        keep
+        for bad in $(echo $images | cut -d ' ' -f "1-$members"); do
+            for range in 0-2 3-8 15-15; do
+                restore
+                holds whole
+                beside_writes
+                beside_resync
+                tried=$((tried + 1))
+            done
+            [ "$members" -gt 3 ] || [ "$bad" = a.img ] || beside_rebuild
+        done
+    done <<'LEVELS'
+2 raid1 0 single 0,1@16
+3 raid4.last 2 single 0,1,2@16
+3 raid5.rnc 2 single 0,1,2@16
+4 raid1 2 striped 0,1@16 2,3@16
+6 raid5.rnc 2 mirrored 0,1,2@16 3,4,5@16
+6 raid5.rn 2 striped 0,1,2@16 3,4,5@16
+6 raid4.first 2 concat 0,1,2@16 3,4,5@16
+LEVELS
+    # Two disks of a RAID 5 can't be read in one row: a write beside it writes nothing, says so, and one of the whole stripe is done.
+    level="raid5.rnc 2 single 0,1,2@16"
+    rm -f $images
+    truncate -s $((33000 * 512)) $images
+    ends 0 "ok sequence 1" $images -- label
+    ends 0 "ok sequence 2" $images -- create v $level
+    ends 0 "ok sequence 3" $images -- resync v
+    mark_time
+    head -c 512 /dev/urandom >input
+    over_bad a.img,b.img BAD_READS 1-1 3 "disk fault slot 0" $images -- write v 5 1
+    is_untouched || fail "a write whose look failed wrote to an image"
+    grep -q "array v isn't marked, and nothing of it was written: a block beside block 5" err || fail "said $(cat err), of a write whose look failed"
+    over_bad a.img,b.img BAD_READS 1-1 0 "ok sequence 5" $images -- write v 4 1
+    head -c 4096 /dev/urandom >input
+    over_bad a.img,b.img BAD_READS 1-1 0 "ok sequence 7" $images -- write v 0 8
+    ends 0 "" $images -- read v 0 8
+    cmp -s out input || fail "a stripe that was written over sectors that can't be read isn't there"
+    echo "faults: one range of sectors that can't be read, on each disk of seven arrays: $tried times, and no block was lost"
+}
+
 # group_of IMAGE: the GUID of the group that this image shows.
 group_of() {
     ends 0 "slot 0" "$1" -- examine
@@ -365,4 +486,5 @@ try_sizes
 try_file_system
 try_import
 try_rebuild
+try_beside
 all_tried faults

@@ -1,5 +1,5 @@
 -- How a call of the program ends.
-use Rattle.std.proofs.Common.{◌≡◌, ◌∙◌, ◌⊎◌, inl, inr, ⊎_elim, ℕ, ◌*◌, List, [], ◌++◌, length, replicate, true, false, Option, Result, Ok, Err, refl, sym, subst, arith}
+use Rattle.std.proofs.Common.{◌≡◌, ◌⊎◌, inl, inr, ⊎_elim, ℕ, ◌*◌, List, [], ◌++◌, length, replicate, false, Option, Result, Ok, Err, refl, sym, subst, arith}
 use Rattle.std.specs.Prelude.{IsTrue}
 use Rattle.std.proofs.lemmas.Bool.{cases_lt}
 use Rattle.std.proofs.lemmas.List.{append-nil, length-replicate}
@@ -50,7 +50,7 @@ use Rattle.ddf_write_commands.proofs.Since.{none_along}
 use Rattle.ddf_rebuild_command.specs.Asked.{rebuild_request}
 use Rattle.ddf_rebuild_command.specs.Rebuilt.{IsRebuildDone, IsRebuiltIn}
 use Rattle.ddf_rebuild_command.proofs.Costs.{none_cost}
-use Rattle.ddf_write_commands.specs.Write.{IsWriteDone, write_request, writing}
+use Rattle.ddf_write_commands.specs.Write.{IsWriteDone, looking, write_request}
 use Rattle.ddf_write_commands.specs.Write.Outcome.{Unfit}
 use Rattle.ddf_command.specs.Run.{IsCommandDone, is_status}
 
@@ -185,7 +185,8 @@ module _ {D : Type 0} (old : BayState D) (tells told : Type 0) (before : SinkSta
         has = record {
           taken = taken;
           gone = λ given. absurd (given refl);
-          gives = (refl, reads_start old, worked_nothing (writing start []) old tells timestamp word request (group_of taken.newest named));
+          pieces = record { each = 1; ahead = 0 };
+          gives = (refl, reads_start old, worked_nothing (looking start count) old tells timestamp word request (group_of taken.newest named));
           leaves = λ tells. tt;
           along = λ tells. tt;
           costs = none_written (work_of tells old old) (reads_start old);

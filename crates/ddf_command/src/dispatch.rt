@@ -1,4 +1,5 @@
-//! What a call of the program does, and what it promises.
+//! What a call of the program does, and what it promises: a command's words lead to its crate here.
+//! docs/ARCHITECTURE.md#one-command-from-its-words-to-the-sectors
 ghost use Rattle.std.specs.Prelude.{◌≡◌, ◌⊎◌, ℕ, true, false, length, IsTrue};
 ghost use Rattle.ddf_bay.specs.Moments.{GoesOn};
 ghost use Rattle.ddf_bay.specs.ReadsOnly.{ReadsOnly};

@@ -1,4 +1,4 @@
-//! Laws of histories: functions that do nothing, whose contracts are the laws.
+//! Laws of histories: functions that do nothing, whose contracts are the laws. docs/PROOF.md#proved
 ghost use Rattle.std.specs.Prelude.{◌≡◌, ◌⊎◌, ◌<◌, ◌≤◌, ◌+◌, ◌-◌, ◌^◌, ℕ, Bool, true, false, ◌∷◌, [], List, length, Option, Some, Result, Ok, slice_get};
 ghost use Rattle.std.specs.Str.{bytes_eq};
 ghost use Rattle.ddf_bytes.specs.declared.stamp.Stamp.{Stamp};

@@ -69,6 +69,7 @@ module _ (one other : List Seat) (alike : AreAlikeSeats one other) where
   change_same config image promises (changes.Unmark named init) may = λ guid allowed array promised found is volume over.
       subst (λ (is_absent : ℕ → ℕ → Bool). MayBeCleared is_absent volume image allowed) (absent_same config.members array.elements)
       (may guid allowed array promised found is volume (over_same array volume over))
+  change_same config image promises (changes.Rewind guid) may = may
   change_same config image promises (changes.Begin named element position reference start) may = may
   change_same config image promises (changes.Progress named element position row) may = λ guid allowed array promised found is volume over.
       may guid allowed array promised found is volume (over_same array volume over)

@@ -40,8 +40,10 @@ use Rattle.ddf_data_calls.specs.Floors.{HaveFloors}
 use Rattle.ddf_data_calls.proofs.Asked.{ask_same}
 use Rattle.ddf_data_calls.proofs.Issued.{ends_keep}
 use Rattle.ddf_data_calls.proofs.Recovered.{recovered_alike}
-use Rattle.ddf_data_calls.proofs.Seats.{IsFloored, seated_floor}
-use Rattle.ddf_data_calls.proofs.Steps.{issued_made, step_floors}
+use Rattle.ddf_data_calls.proofs.Seats.{seated_floor}
+use Rattle.ddf_data_calls.proofs.Steps.{issued_made}
+use Rattle.ddf_write_commands.proofs.BelowSteps.{IsFloored}
+use Rattle.ddf_write_commands.proofs.StepFloors.{readied_floors}
 
 -- What a call that changes a group tells of it, as far as it matters to the group's history and its data.
 pub record TookGroup {D : Type 0} (old new : BayState D) (left : List Bool) (newest : List (Option Newest)) (named : Option (List ℕ)) (found : GroupValue) (steps : List Step)
@@ -79,7 +81,7 @@ module _ (group : List ℕ) {D : Type 0} (old new : BayState D) (past : Past (gr
 
   step_past : (slot l : ℕ) → IsStepsSector (size_of old slot) steps slot l → floor slot ≤ l
   step_past slot l is =
-      let from = step_floors found timestamp asked steps are is.on.number is.on.step is.on.is_step is.on.place is.on.disk is.on.is_disk in
+      let from = readied_floors found timestamp (option_to_list asked) steps are is.on.number is.on.step is.on.is_step is.on.place is.on.disk is.on.is_disk in
       let before = own_floor from.place from.before from.is_there in
       let slot_is : from.before.seat.slot ≡ slot = from.same_slot ∙ is.on.on_slot in
       let same : floor_of is.on.disk.copy ≡ floor slot = from.same_floor ∙ before.same ∙ ap floor slot_is in

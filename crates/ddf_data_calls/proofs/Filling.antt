@@ -50,7 +50,7 @@ use Rattle.ddf_group_commands.specs.Written.{AreWritten}
 use Rattle.ddf_write_commands.specs.Holding.{holding}
 use Rattle.ddf_write_commands.proofs.Parts.{issued_parts}
 use Rattle.ddf_data_calls.specs.Calls.{AreMade, left_over}
-use Rattle.ddf_data_calls.proofs.Steps.{HaveFloorsOf, configs}
+use Rattle.ddf_data_calls.proofs.Steps.{configs}
 use Rattle.ddf_rebuild_command.specs.Along.{AreIssued, HasCome, IsOverRounds}
 use Rattle.ddf_rebuild_command.specs.Asked.{rows_in}
 use Rattle.ddf_rebuild_command.specs.Filled.{RiseTo}
@@ -78,7 +78,8 @@ use Rattle.ddf_data_calls.proofs.RowsSet.{kept_cell, wider_cell}
 use Rattle.ddf_data_calls.proofs.Split as split
 use Rattle.ddf_data_calls.proofs.Standing as standing
 use Rattle.ddf_data_calls.proofs.Standing.{over_slots, seats_same}
-use Rattle.ddf_data_calls.proofs.Untouched.{AllFloored, writing_same, written_same}
+use Rattle.ddf_write_commands.proofs.BelowSteps.{writing_same, written_same}
+use Rattle.ddf_write_commands.proofs.StepFloors.{AllFloored, HaveFloorsOf}
 
 true_false : {A : Type 0} (b : Bool) → b ≡ true → b ≡ false → A
 true_false b x y = absurd cc

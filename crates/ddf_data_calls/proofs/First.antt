@@ -40,9 +40,11 @@ use Rattle.ddf_data_calls.specs.Calls.{AreMade, MayAsk, left_over}
 use Rattle.ddf_data_calls.specs.Floors.{HaveFloors}
 use Rattle.ddf_data_calls.proofs.Issued.{ends_keep}
 use Rattle.ddf_data_calls.proofs.Seats as seating
-use Rattle.ddf_data_calls.proofs.Seats.{IsFloored, found_at}
+use Rattle.ddf_data_calls.proofs.Seats.{found_at}
 use Rattle.ddf_data_calls.proofs.Steps.{issued_made}
-use Rattle.ddf_data_calls.proofs.Untouched.{AllFloored, floors_first, floors_last, readied_floors, seated_floor, writing_same, written_same}
+use Rattle.ddf_data_calls.proofs.Untouched.{seated_floor}
+use Rattle.ddf_write_commands.proofs.BelowSteps.{IsFloored, writing_same, written_same}
+use Rattle.ddf_write_commands.proofs.StepFloors.{AllFloored, floors_first, floors_last, readied_floors}
 
 -- ---- what a call found
 

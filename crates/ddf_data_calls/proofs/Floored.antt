@@ -32,15 +32,15 @@ use Rattle.ddf_write_commands.specs.Holding.{holding}
 use Rattle.ddf_write_commands.specs.Planned.{IsPlanned}
 use Rattle.ddf_write_commands.specs.Worked.{IsLeftClosing, IsLeftWorking}
 use Rattle.ddf_data_calls.specs.Floors.{AllHaveFloors, HaveFloorsIn}
-use Rattle.ddf_data_calls.proofs.Seats.{IsFloored}
-use Rattle.ddf_data_calls.proofs.Steps.{HaveFloorsOf}
 use Rattle.ddf_data_calls.proofs.Accepted.{mark_of}
 use Rattle.ddf_data_calls.proofs.Both as both
 use Rattle.ddf_data_calls.proofs.First.{IsCalled}
 use Rattle.ddf_data_calls.proofs.Both.{IsSplit}
 use Rattle.ddf_data_calls.proofs.Carried.{Carrying}
 use Rattle.ddf_data_calls.proofs.Staged.{IsCarried}
-use Rattle.ddf_data_calls.proofs.Untouched.{AllFloored, floors_first, floors_last, on_floor, on_step, readied_floors, seated_floor}
+use Rattle.ddf_data_calls.proofs.Untouched.{seated_floor}
+use Rattle.ddf_write_commands.proofs.BelowSteps.{IsFloored, on_floor, on_step}
+use Rattle.ddf_write_commands.proofs.StepFloors.{AllFloored, HaveFloorsOf, floors_first, floors_last, readied_floors}
 
 true_false : (b : Bool) → b ≡ true → b ≡ false → ⊥
 true_false b x y = cc

@@ -35,7 +35,7 @@ use Rattle.ddf_data_calls.proofs.Filling.{one_floored, target_its}
 use Rattle.ddf_data_calls.proofs.First as start
 use Rattle.ddf_data_calls.proofs.First.{IsCalled}
 use Rattle.ddf_data_calls.proofs.Floored as floored
-use Rattle.ddf_data_calls.proofs.Untouched.{AllFloored, floors_first, floors_last, readied_floors}
+use Rattle.ddf_write_commands.proofs.StepFloors.{AllFloored, floors_first, floors_last, readied_floors}
 
 true_false : (b : Bool) → b ≡ true → b ≡ false → ⊥
 true_false b x y = cc

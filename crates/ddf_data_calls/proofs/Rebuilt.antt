@@ -50,7 +50,7 @@ use Rattle.ddf_data_calls.proofs.FloorsRebuilt as floors
 use Rattle.ddf_data_calls.proofs.Floored.{writing_own}
 use Rattle.ddf_data_calls.proofs.Gone.{acked_goes, goes_more, issued_goes, over_goes, steps_lose}
 use Rattle.ddf_data_calls.proofs.Taken.{only_reads}
-use Rattle.ddf_data_calls.proofs.Untouched.{readied_floors}
+use Rattle.ddf_write_commands.proofs.StepFloors.{readied_floors}
 
 -- ---- the steps of rounds, taken apart
 

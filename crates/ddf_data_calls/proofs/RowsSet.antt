@@ -6,6 +6,7 @@ use Rattle.std.proofs.lemmas.Bool.{cases_lt}
 use Rattle.std.specs.Prelude.{slice_get}
 use Rattle.std.specs.List.{AllByRecursion}
 use Rattle.ddf_bay.specs.Sectors.{Image}
+use Rattle.ddf_primary.specs.Cells.{height_of}
 use Rattle.ddf_array.specs.Apart.{IsApart}
 use Rattle.ddf_array.specs.Redundant.{IsRedundant}
 use Rattle.ddf_array.specs.Volume.{IsVolume, Volume}
@@ -31,13 +32,13 @@ use Rattle.ddf_rebuild_command.specs.Rounds.{AreRounds, IsFilled, Round, row_bef
 fewer_rows : (v : Volume) (element position few many : ℕ) (image : Image) → few ≤ many → HasRebuilt v element position 0 many image image → HasRebuilt v element position 0 few image image
 fewer_rows v element position few many image le set part place slot sector target rows =
     let to = rows.to_is in
-    let grows : few * part.shape.strip ≤ many * part.shape.strip = mul-le-mul_right part.shape.strip le in
+    let grows : few * height_of part.shape ≤ many * height_of part.shape = mul-le-mul_right (height_of part.shape) le in
     set part place slot sector target (record { from_is = rows.from_is; to_is = omega (arith, to, grows); below = rows.below })
 
 -- sectors at more rows
 pub wider_cell : (v : Volume) (element position from to first last slot lba : ℕ) → first ≤ from → to ≤ last → IsTargetCell v element position from to slot lba → IsTargetCell v element position first last slot lba
 wider_cell v element position from to first last slot lba low high cell =
-    let strip = cell.part.shape.strip in
+    let strip = height_of cell.part.shape in
     let from_is = cell.in_rows.from_is in
     let to_is = cell.in_rows.to_is in
     let down : first * strip ≤ from * strip = mul-le-mul_right strip low in
@@ -56,7 +57,7 @@ pub kept_cell : (v : Volume) (element position kept all slot lba : ℕ) → IsTa
 kept_cell v element position kept all slot lba cell = ⊎_elim
     (λ (few : kept < all). wider_cell v element position (min kept all) all kept all slot lba (omega (arith, few)) (omega arith) cell)
     (λ (many : all ≤ kept).
-    let strip = cell.part.shape.strip in
+    let strip = height_of cell.part.shape in
     let from_is = cell.in_rows.from_is in
     let to_is = cell.in_rows.to_is in
     let same : min kept all ≡ all = omega (arith, many) in
@@ -115,11 +116,11 @@ module _ (failed : ℕ → Type 0) (told : Type 0) (tell : told) (sizes : List �
   }
 
   -- an earlier row isn't written
-  not_written : (from to : ℕ) (part : Part) (place : Place) (slot sector : ℕ) → IsTarget v e p part place slot → sector < from * part.shape.strip → IsTargetCell v e p from to slot (place.start + sector) → ⊥
+  not_written : (from to : ℕ) (part : Part) (place : Place) (slot sector : ℕ) → IsTarget v e p part place slot → sector < from * height_of part.shape → IsTargetCell v e p from to slot (place.start + sector) → ⊥
   not_written from to part place slot sector target earlier cell =
       let looked = same_target v e p cell.part part cell.place place cell.is_target.is_part target.is_part cell.is_target.is_place target.is_place in
       let sector_is : sector ≡ cell.sector = let at : place.start + sector ≡ place.start + cell.sector = cell.lba_is ∙ ap (λ (x : Place). x.start + cell.sector) looked.1 in omega (arith, at) in
-      let up : from * part.shape.strip ≤ cell.sector = subst (λ (x : Part). from * x.shape.strip ≤ cell.sector) looked.0 cell.in_rows.from_is in
+      let up : from * height_of part.shape ≤ cell.sector = subst (λ (x : Part). from * height_of x.shape ≤ cell.sector) looked.0 cell.in_rows.from_is in
       omega (arith, up, earlier, sector_is)
 
   -- While a round's rows are written those before them stay so.

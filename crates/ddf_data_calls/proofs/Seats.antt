@@ -27,7 +27,7 @@ use Rattle.ddf_history.proofs.Calls.{seen_copy, seen_read}
 use Rattle.ddf_history.proofs.Since.{first_is_copy}
 use Rattle.ddf_history.proofs.Sound.{groups_are_sound}
 use Rattle.ddf_seats.specs.declared.seated.Seated.{Seated}
-use Rattle.ddf_seats.specs.Group.{GroupValue, copy_at, floor_of as copy_floor, seat_at, seat_of}
+use Rattle.ddf_seats.specs.Group.{GroupValue, copy_at, seat_at, seat_of}
 use Rattle.ddf_assembly.specs.Group.{group_as, group_of}
 use Rattle.ddf_recovery.specs.Recovery.{trusted_seats}
 use Rattle.ddf_seats.specs.Seated.{seated}
@@ -40,13 +40,9 @@ use Rattle.ddf_history_steps.proofs.Claimed as claims
 use Rattle.ddf_data_history.specs.Promised.{AreAlone, is_seat, seats_in}
 use Rattle.ddf_data_history.proofs.Seats.{found, has_seat, is_found, seat_of as listed_seat}
 use Rattle.ddf_data_disks.specs.Seats.{AreOnSlots}
+use Rattle.ddf_write_commands.proofs.BelowSteps.{IsFloored}
 use Rattle.ddf_history_steps.specs.Floors.{HasFloor}
 use Rattle.ddf_data_calls.specs.Floors.{HaveFloors}
-
--- a disk of a group has the floor of its slot, and it lies on the disk
-pub record IsFloored (size : ℕ) (floor : ℕ → ℕ) (disk : Seated) : Type 0 where
-  pub same : copy_floor disk.copy ≡ floor disk.seat.slot
-  pub within : floor disk.seat.slot < size
 
 -- ---- seats of a history
 

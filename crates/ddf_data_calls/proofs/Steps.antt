@@ -1,34 +1,24 @@
 -- The steps that a call with one change makes, by what they make of the configuration and of the disks.
-use Rattle.std.proofs.Common.{◌≡◌, ◌⊎◌, ◌∙◌, inl, inr, ⊎_elim, ℕ, zero, suc, ◌<◌, ◌≤◌, ◌==◌, not, cond, Bool, true, false, List, [], ◌∷◌, ◌++◌, map, filter, Option, Some, None, Result, Ok, Err, if◌then◌else◌, refl, ap, sym, subst, arith}
+use Rattle.std.proofs.Common.{◌≡◌, ◌⊎◌, ◌∙◌, inl, inr, ⊎_elim, ℕ, ◌<◌, ◌≤◌, ◌==◌, not, cond, Bool, true, false, List, [], ◌∷◌, ◌++◌, map, filter, Option, Some, None, Result, Ok, Err, if◌then◌else◌, refl, ap, sym, subst, arith}
 use Rattle.std.proofs.lemmas.Bool.{eq-eqb, ne_eqb}
-use Rattle.std.specs.Prelude.{option_to_list, slice_get}
+use Rattle.std.specs.Prelude.{option_to_list}
 use Rattle.std.specs.List.{AllByRecursion}
 use Rattle.ddf_bay.specs.Sectors.{Image}
 use Rattle.ddf_config.specs.declared.refusal.Refusal.{Refusal}
 use Rattle.ddf_config.specs.declared.seat.Seat.{Seat}
 use Rattle.ddf_config.specs.Configuration.{Configuration}
-use Rattle.ddf_copy.specs.declared.copy.DiskCopy.{DiskCopy}
-use Rattle.ddf_copy.specs.declared.which.Which.TheVariants.{Primary}
-use Rattle.ddf_copy.specs.Headers.{written_as}
 use Rattle.ddf_plan.specs.declared.change.Change.{Change}
 use Rattle.ddf_plan.specs.Causes.{steps_of as change_steps}
 use Rattle.ddf_plan.specs.Same.{is_step}
 use Rattle.ddf_data_group.specs.Grouped.{Promises}
-use Rattle.ddf_view.specs.Shows.{shows}
-use Rattle.ddf_view.specs.View.{view_of}
-use Rattle.ddf_rewrite.specs.Before.{Before, before}
-use Rattle.ddf_rewrite.specs.Copies.{changed_copy, recovered_copy}
-use Rattle.ddf_rewrite.proofs.Lists.{map_get}
 use Rattle.ddf_seats.specs.declared.seated.Seated.{Seated}
-use Rattle.ddf_seats.specs.Group.{GroupValue, floor_of}
+use Rattle.ddf_seats.specs.Group.{GroupValue}
 use Rattle.ddf_steps.specs.Ready.{AreNumbered, steps_from, with_step}
 use Rattle.ddf_recovery.specs.Ready.{readied}
-use Rattle.ddf_recovery.specs.Recovery.{config_lost, config_recovered, disks_recovered, loss, lost_step, mended, mended_copy, mended_or_kept, mending_step, recovery_of}
-use Rattle.ddf_seats.specs.Leading.{lags, leading, some}
+use Rattle.ddf_recovery.specs.Recovery.{config_lost, config_recovered, disks_recovered, loss, lost_step, mending_step, recovery_of}
+use Rattle.ddf_seats.specs.Leading.{some}
 use Rattle.ddf_steps.specs.Refusing.{step_refusal}
-use Rattle.ddf_seats.specs.Seated.{seated, views_in, levelled}
-use Rattle.ddf_steps.specs.Steps.{Step, config_after, disks_after, raised, rewritten, stays_in, step_of}
-use Rattle.ddf_seats.proofs.Lists.{filter_get}
+use Rattle.ddf_steps.specs.Steps.{Step, raised, step_of}
 use Rattle.ddf_recovery.proofs.Numbered.{steps_numbered}
 use Rattle.ddf_recovery.proofs.ReadiedSteps.{are_tried, behind, loss_rises, none_spent, steps_are}
 use Rattle.ddf_history_steps.specs.Going.{changes_in}
@@ -175,119 +165,3 @@ issued_made found asked timestamp steps are seats image promises may =
         (if absent then config_lost found ∷ configs (behind found (option_to_list asked) timestamp steps are) else configs (behind found (option_to_list asked) timestamp steps are))
     by true made = (record { change = loss found; sequence = raised found.config.sequence (change_steps (loss found)); is_next = refl; may = tt }, made)
     by false made = made
-
--- ---- the floors of the disks that steps write
-
--- A disk is on the slot of a seat's disk, with a copy of the same floor.
-pub record HasFloorOf (seats : List Seated) (disk : Seated) : Type 0 where
-  pub place : ℕ
-  pub before : Seated
-  pub is_there : slice_get seats place ≡ Some before
-  pub same_slot : before.seat.slot ≡ disk.seat.slot
-  pub same_floor : floor_of disk.copy ≡ floor_of before.copy
-
-abbrev pub HaveFloorsOf : List Seated → List Seated → Type 0
-HaveFloorsOf seats disks = (place : ℕ) (disk : Seated) → slice_get disks place ≡ Some disk → HasFloorOf seats disk
-
-changed_floor : (leaders : Before) (config : Configuration) (timestamp : ℕ) (copy : DiskCopy) → floor_of (written_as (changed_copy copy leaders config timestamp) Primary) ≡ floor_of copy
-unfolding changed_copy
-changed_floor leaders config timestamp copy = refl
-
-mended_floor : (leaders : Before) (config : Configuration) (timestamp : ℕ) (copy : DiskCopy) → floor_of (written_as (mended_copy leaders config timestamp copy) Primary) ≡ floor_of copy
-unfolding recovered_copy
-mended_floor leaders config timestamp copy = by (shows config (view_of copy))
-  where
-    by : (shown : Bool) → floor_of (written_as (if shown then copy else recovered_copy copy leaders config timestamp) Primary) ≡ floor_of copy
-    by true = refl
-    by false = refl
-
-module _ (seats : List Seated) where
-  renewed : (disk next : Seated) → disk.seat.slot ≡ next.seat.slot → floor_of next.copy ≡ floor_of disk.copy → HasFloorOf seats disk → HasFloorOf seats next
-  renewed disk next slot floor from =
-      record { place = from.place; before = from.before; is_there = from.is_there; same_slot = from.same_slot ∙ slot; same_floor = floor ∙ from.same_floor }
-
-  pub mapped : (f : Seated → Seated) (disks : List Seated) → ((disk : Seated) → (f disk).seat.slot ≡ disk.seat.slot) → ((disk : Seated) → floor_of (f disk).copy ≡ floor_of disk.copy)
-      → HaveFloorsOf seats disks → HaveFloorsOf seats (map f disks)
-  mapped f disks slots floors from place disk at =
-      let one = map_get f disks place disk at in
-      subst (HasFloorOf seats) one.2 (renewed one.0 (f one.0) (sym (slots one.0)) (floors one.0) (from place one.0 one.1))
-
-  filtered : (p : Seated → Bool) (disks : List Seated) → HaveFloorsOf seats disks → HaveFloorsOf seats (filter p disks)
-  filtered p disks from place disk at = let there = filter_get p disks place disk at in from there.0 disk there.1
-
-  pub after_floors : (timestamp : ℕ) (leaders : Before) (config : Configuration) (disks : List Seated) → HaveFloorsOf seats disks → HaveFloorsOf seats (disks_after timestamp leaders config disks)
-  unfolding disks_after
-  after_floors timestamp leaders config disks from =
-      mapped (rewritten leaders config timestamp) (filter (stays_in config) disks) (λ disk. refl) (λ disk. changed_floor leaders config timestamp disk.copy) (filtered (stays_in config) disks from)
-
-module _ (found : GroupValue) (timestamp : ℕ) where
-  own_floors : HaveFloorsOf (seated found) (seated found)
-  own_floors place disk at = record { place = place; before = disk; is_there = at; same_slot = refl; same_floor = refl }
-
-  lost_floors : HaveFloorsOf (seated found) (lost_step timestamp found).disks
-  lost_floors = after_floors (seated found) timestamp (leading found) (config_lost found) (seated found) own_floors
-
-  mending_floors : HaveFloorsOf (seated found) (mending_step timestamp found).disks
-  mending_floors =
-      mapped (seated found) (mended (leading found) found.config timestamp) (filter (lags found) (seated found)) (λ disk. refl) (λ disk. mended_floor (leading found) found.config timestamp disk.copy)
-      (filtered (seated found) (lags found) (seated found) own_floors)
-
-  pub recovery_floors : (step : Step) → recovery_of timestamp found ≡ Some step → HaveFloorsOf (seated found) step.disks
-  unfolding recovery_of
-  recovery_floors step is = by (some found.absent) (some found.lagging) is
-    where
-      by : (absent lagging : Bool)
-          → ◌≡◌ {A = Option Step} (if absent then Some (lost_step timestamp found) else if lagging then Some (mending_step timestamp found) else None) (Some step)
-          → HaveFloorsOf (seated found) step.disks
-      by true lagging is = let same : lost_step timestamp found ≡ step = cc in subst (λ (one : Step). HaveFloorsOf (seated found) one.disks) same lost_floors
-      by false true is = let same : mending_step timestamp found ≡ step = cc in subst (λ (one : Step). HaveFloorsOf (seated found) one.disks) same mending_floors
-      by false false is = absurd cc
-
-  pub recovered_floors : HaveFloorsOf (seated found) (disks_recovered timestamp found)
-  unfolding disks_recovered
-  recovered_floors = by (some found.absent)
-    where
-      kept_slot : (disk : Seated) → (mended_or_kept timestamp found disk).seat.slot ≡ disk.seat.slot
-      kept_slot disk = by_lag (lags found disk)
-        where
-          by_lag : (b : Bool) → (if b then levelled (mended (leading found) found.config timestamp disk) else disk).seat.slot ≡ disk.seat.slot
-          by_lag true = refl
-          by_lag false = refl
-
-      kept_floor : (disk : Seated) → floor_of (mended_or_kept timestamp found disk).copy ≡ floor_of disk.copy
-      kept_floor disk = by_lag (lags found disk)
-        where
-          by_lag : (b : Bool) → floor_of (if b then levelled (mended (leading found) found.config timestamp disk) else disk).copy ≡ floor_of disk.copy
-          by_lag true = mended_floor (leading found) found.config timestamp disk.copy
-          by_lag false = refl
-
-      by : (b : Bool) → HaveFloorsOf (seated found) (if b then map levelled (lost_step timestamp found).disks else map (mended_or_kept timestamp found) (seated found))
-      by true = mapped (seated found) levelled (lost_step timestamp found).disks (λ disk. refl) (λ disk. refl) lost_floors
-      by false = mapped (seated found) (mended_or_kept timestamp found) (seated found) kept_slot kept_floor own_floors
-
-  -- Each disk that the steps write has the floor of its seat's disk.
-  pub step_floors : (asked : Option Change) (steps : List Step) → readied found (option_to_list asked) timestamp ≡ Ok steps
-      → (number : ℕ) (step : Step) → slice_get steps number ≡ Some step → HaveFloorsOf (seated found) step.disks
-  step_floors asked steps are number step at =
-      by_recovery (recovery_of timestamp found) refl number (subst (λ (all : List Step). slice_get all number ≡ Some step) (steps_are found (option_to_list asked) timestamp steps are) at)
-    where
-      behind_floors : (ask : Option Change) (all : List Step) → steps_from timestamp None (option_to_list ask) (config_recovered found) (disks_recovered timestamp found) ≡ Ok all
-          → (k : ℕ) → slice_get all k ≡ Some step → HaveFloorsOf (seated found) step.disks
-      behind_floors None all is k there = absurd (let no = subst (λ (l : List Step). slice_get l k ≡ Some step) (of_none timestamp (config_recovered found) (disks_recovered timestamp found) all is) there in cc)
-      behind_floors (Some change) all is k there = ⊎_elim
-          (λ none. absurd (let no = subst (λ (l : List Step). slice_get l k ≡ Some step) none there in cc))
-          (λ one. first k (subst (λ (l : List Step). slice_get l k ≡ Some step) one there))
-          (of_change timestamp (config_recovered found) (disks_recovered timestamp found) change all is).steps_are
-        where
-          first : (j : ℕ) → slice_get (step_of timestamp (config_recovered found) (disks_recovered timestamp found) change ∷ []) j ≡ Some step → HaveFloorsOf (seated found) step.disks
-          first zero same =
-              let is_it : step_of timestamp (config_recovered found) (disks_recovered timestamp found) change ≡ step = cc in
-              subst (λ (one : Step). HaveFloorsOf (seated found) one.disks) is_it
-              (after_floors (seated found) timestamp (before (views_in (disks_recovered timestamp found))) (config_after (config_recovered found) change) (disks_recovered timestamp found) recovered_floors)
-          first (suc j) none = absurd cc
-
-      by_recovery : (next : Option Step) → recovery_of timestamp found ≡ next → (k : ℕ) → slice_get (option_to_list next ++ behind found (option_to_list asked) timestamp steps are) k ≡ Some step
-          → HaveFloorsOf (seated found) step.disks
-      by_recovery None is k there = behind_floors asked (behind found (option_to_list asked) timestamp steps are) (are_tried found (option_to_list asked) timestamp steps are) k there
-      by_recovery (Some one) is zero there = let same : one ≡ step = cc in recovery_floors step (is ∙ ap Some same)
-      by_recovery (Some one) is (suc k) there = behind_floors asked (behind found (option_to_list asked) timestamp steps are) (are_tried found (option_to_list asked) timestamp steps are) k there

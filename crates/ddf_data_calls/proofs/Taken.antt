@@ -1,5 +1,5 @@
 -- A write keeps its history and the data of its group.
-use Rattle.std.proofs.Common.{◌≡◌, inl, inr, ⊎_elim, ℕ, ◌<◌, ◌^◌, Bool, true, false, List, [], ◌∷◌, ◌++◌, Option, Some, None, Result, Ok, refl, sym, subst, if◌then◌else◌}
+use Rattle.std.proofs.Common.{◌≡◌, ◌∙◌, inl, inr, ⊎_elim, ℕ, ◌<◌, ◌^◌, Bool, true, false, List, [], ◌∷◌, ◌++◌, Option, Some, None, Result, Ok, refl, sym, ap, subst, length, if◌then◌else◌}
 use Rattle.std.specs.Prelude.{option_to_list}
 use Rattle.ddf_bay.specs.ReadsOnly.{ReadsOnly}
 use Rattle.ddf_bay.specs.Sectors.{Image, IsLeft}
@@ -158,7 +158,7 @@ module _ {D : Type 0} (tells : Type 0) (told : tells) (old new : BayState D) (gr
     redundant = λ before behind alike done left are allowed promised.
         behind_redundant (Failed old new) plan.volume is_split.known
         (both.places_apart group old past floor promises wrote.taken.left wrote.taken.newest named found called timestamp plan.entry (write_behind plan.entry) (ask_of plan.entry) plan.first plan.last plan.volume is_split)
-        is_split.undegraded start sectors before behind are
+        is_split.undegraded start sectors before behind (λ slot lba cell. ap length (alike slot lba cell) ∙ whole_held slot lba) are
         (redundant_same plan.volume is_split.known old.held before (λ slot lba cell. sym (alike slot lba cell))
         (prepared.was_redundant group old past floor promises wrote.taken.left wrote.taken.newest named found called plan.entry (named_is (config_recovered found).arrays word plan.entry plan.is_named) (fit).has
         plan.volume is_split.known is_split.within (fit).unmarked

@@ -8,13 +8,10 @@ use Rattle.std.proofs.lemmas.Nat.{mul-le}
 use Rattle.std.specs.Prelude.{nat_le, option_map, slice_get}
 use Rattle.std.specs.List.{cons_option}
 use Rattle.std.specs.Result.{result_ok}
-use Rattle.ddf_primary.specs.declared.layout.Layout.{Layout}
-use Rattle.ddf_primary.specs.declared.layout.Layout.TheVariants.{Raid0, Raid1, Parity, Jbod, Concatenation}
 use Rattle.ddf_primary.specs.Placement.{Placement}
-use Rattle.ddf_primary.specs.Levels.{IsShape, least_blocks}
-use Rattle.ddf_primary.specs.Cells.{cells, rows_by, rows_of, unit_of}
-use Rattle.ddf_primary.proofs.ShapeFacts.{capacity_is, capacity_le, rows_is, rows_le, rows_le_concatenated}
-use Rattle.ddf_primary.proofs.WholeLayouts.{concatenated_length}
+use Rattle.ddf_primary.specs.Levels.{least_blocks}
+use Rattle.ddf_primary.specs.Cells.{cells, rows_of, unit_of}
+use Rattle.ddf_primary.proofs.ShapeFacts.{cells_le, rows_fit}
 use Rattle.ddf_secondary.specs.declared.element.ElementSize.{ElementSize}
 use Rattle.ddf_secondary.specs.declared.fault.TiersFault.TheVariants.{Count, Level, Mixed}
 use Rattle.ddf_secondary.specs.declared.level.SecondaryLevel.{SecondaryLevel}
@@ -42,31 +39,13 @@ use Rattle.ddf_data_calls.proofs.Few.{ArraysFew, looked_few}
 
 -- ---- sizes
 
-cells_le : (layout : Layout) (shape : Placement) → shape.layout ≡ layout → IsShape shape → length (cells shape) ≤ shape.members * shape.blocks
-cells_le Raid0 shape is sound = omega (arith, capacity_is shape sound (λ e. let no : Raid0 ≡ Concatenation = sym is ∙ e in absurd cc), capacity_le shape sound)
-cells_le Raid1 shape is sound = omega (arith, capacity_is shape sound (λ e. let no : Raid1 ≡ Concatenation = sym is ∙ e in absurd cc), capacity_le shape sound)
-cells_le (Parity parity) shape is sound = omega (arith, capacity_is shape sound (λ e. let no : Parity parity ≡ Concatenation = sym is ∙ e in absurd cc), capacity_le shape sound)
-cells_le Jbod shape is sound = omega (arith, capacity_is shape sound (λ e. let no : Jbod ≡ Concatenation = sym is ∙ e in absurd cc), capacity_le shape sound)
-cells_le Concatenation shape is sound = omega (arith, concatenated_length shape is)
-
-rows_among : (shape : Placement) → IsShape shape → (shape.layout ≡ Concatenation → ⊥) → unit_of shape * rows_of shape ≤ length (cells shape)
-rows_among shape sound other = subst (λ (n : ℕ). unit_of shape * n ≤ length (cells shape)) (rows_is shape other) (rows_le shape sound other)
-
-rows_cells : (layout : Layout) (shape : Placement) → shape.layout ≡ layout → IsShape shape → unit_of shape * rows_of shape ≤ length (cells shape)
-rows_cells Raid0 shape is sound = rows_among shape sound (λ e. let no : Raid0 ≡ Concatenation = sym is ∙ e in absurd cc)
-rows_cells Raid1 shape is sound = rows_among shape sound (λ e. let no : Raid1 ≡ Concatenation = sym is ∙ e in absurd cc)
-rows_cells (Parity parity) shape is sound = rows_among shape sound (λ e. let no : Parity parity ≡ Concatenation = sym is ∙ e in absurd cc)
-rows_cells Jbod shape is sound = rows_among shape sound (λ e. let no : Jbod ≡ Concatenation = sym is ∙ e in absurd cc)
-rows_cells Concatenation shape is sound =
-    subst (λ (l : Layout). unit_of shape * rows_by l shape.members shape.strip shape.blocks ≤ length (cells shape)) (sym is) (rows_le_concatenated shape is)
-
 shape_small : (elements : ℕ) (element : ElementValue) (shape : Placement) → element_shape elements element ≡ Some shape → length element.positions ≤ 64 → IsSmall (shape_size shape)
 shape_small elements element shape made few =
     let sound = is_shape elements element shape made few in
     let members = members_are elements element shape made in
     let blocks : shape.blocks ≤ 2 ^ 48 = leb-true shape.blocks (2 ^ 48) (and_parts (nat_le (least_blocks shape.layout shape.strip) shape.blocks) (nat_le shape.blocks (2 ^ 48)) sound.blocks_taken).1 in
-    let all : length (cells shape) ≤ shape.members * shape.blocks = cells_le shape.layout shape refl sound in
-    let rows : unit_of shape * rows_of shape ≤ length (cells shape) = rows_cells shape.layout shape refl sound in
+    let all : length (cells shape) ≤ shape.members * shape.blocks = cells_le shape sound in
+    let rows : unit_of shape * rows_of shape ≤ length (cells shape) = rows_fit shape sound in
     let most : shape.members * shape.blocks ≤ 64 * 2 ^ 48 = mul-le shape.members shape.blocks 64 (2 ^ 48) (omega (arith, members, few)) blocks in
     let power : 64 * 2 ^ 48 ≤ 2 ^ 56 = lit≤ tt in
     (omega (arith, all, most, power), omega (arith, all, rows, most, power))

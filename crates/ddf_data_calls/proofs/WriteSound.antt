@@ -9,9 +9,8 @@ use Rattle.ddf_array.specs.Redundant.{IsRedundant}
 use Rattle.ddf_array.specs.Sound.{AreSectors}
 use Rattle.ddf_array.specs.Volume.{IsVolume, Volume, volume}
 use Rattle.ddf_array.specs.Within.{is_within}
-use Rattle.ddf_array.proofs.Consistent.{consistent_if}
 use Rattle.ddf_cells.specs.Degraded.{is_degraded}
-use Rattle.ddf_write.specs.RowWrites.{IsSure}
+use Rattle.ddf_write.specs.RowWrites.{HaveSectors, IsSure}
 use Rattle.ddf_write.proofs.RedundantAfter.{redundant_after}
 use Rattle.ddf_write.specs.Writing.{HasWritten, IsLeftByWrite}
 use Rattle.ddf_data_array.specs.Allowed.{Allowed}
@@ -75,7 +74,7 @@ before_redundant is_absent w v known within mark (inr marked) image allowed kept
     (marked_redundant is_absent w (subst IsVolume marked known) (ap is_within (sym marked) ∙ within) mark image allowed kept)
 
 -- So it is behind a write.
-pub behind_redundant : (failed : ℕ → Type 0) (v : Volume) → IsVolume v → IsApart v → is_degraded v ≡ false → (start : ℕ) (sectors : List (List ℕ)) (before behind : Image) → AreSectors behind → IsRedundant v before
+pub behind_redundant : (failed : ℕ → Type 0) (v : Volume) → IsVolume v → IsApart v → is_degraded v ≡ false → (start : ℕ) (sectors : List (List ℕ)) (before behind : Image) → HaveSectors v before → AreSectors behind → IsRedundant v before
     → IsLeftByWrite v start sectors before behind → HasWritten v start sectors (IsSure failed v before) behind → IsRedundant v behind
-behind_redundant failed v known apart whole start sectors before behind are redundant left has =
-    redundant_after v known apart whole start sectors before behind are redundant left Unit tt (record { cells = has.cells; parity = λ sure. has.parity (inr (consistent_if v before redundant).equal_copies) })
+behind_redundant failed v known apart whole start sectors before behind were are redundant left has =
+    redundant_after v known apart whole start sectors before behind are redundant left Unit tt (record { cells = has.cells; parity = λ sure. has.parity (inr (were, redundant)) })

@@ -35,8 +35,8 @@ use Rattle.ddf_bay.proofs.Steps.{stops_weaken}
 use Rattle.ddf_data_calls.specs.Floors.{HaveFloorsIn}
 use Rattle.ddf_data_calls.proofs.First.{IsCalled}
 use Rattle.ddf_data_calls.proofs.Floored.{writing_own}
-use Rattle.ddf_data_calls.proofs.Untouched.{readied_floors}
 use Rattle.ddf_data_events.proofs.Floors.{by_held}
+use Rattle.ddf_write_commands.proofs.StepFloors.{readied_floors}
 
 -- Behind a change that was done an array that it created may have any bytes.
 module _ (guid : List ℕ) {D : Type 0} (disks : BayState D) (past : Past (groups guid)) (readable : ℕ → Bool) (found : GroupValue) (timestamp : ℕ) (steps : List Step) (floor : ℕ → ℕ)

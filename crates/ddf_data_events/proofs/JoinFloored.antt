@@ -26,9 +26,10 @@ use Rattle.ddf_seats.proofs.CommittedSeats.{seated_is}
 use Rattle.ddf_assembly.proofs.SettledHeld.{newest_kept}
 use Rattle.ddf_history_steps.proofs.Slots.{slot_is}
 use Rattle.ddf_import_command.specs.Import.{import_steps}
-use Rattle.ddf_data_calls.proofs.Seats.{IsFloored, newest_there}
-use Rattle.ddf_data_calls.proofs.Steps.{HasFloorOf, HaveFloorsOf, after_floors, recovered_floors, recovery_floors}
+use Rattle.ddf_data_calls.proofs.Seats.{newest_there}
 use Rattle.ddf_data_events.specs.Joins.{HaveJoiningFloors}
+use Rattle.ddf_write_commands.proofs.BelowSteps.{IsFloored}
+use Rattle.ddf_write_commands.proofs.StepFloors.{HasFloorOf, HaveFloorsOf, after_floors, recovered_floors, recovery_floors}
 
 module _ (timestamp : ℕ) (native other : GroupValue) where
   -- the disks of both groups

@@ -32,14 +32,15 @@ use Rattle.ddf_group_commands.specs.Writing.{IsLeftWriting}
 use Rattle.ddf_import_command.specs.Import.{import_asked, import_steps}
 use Rattle.ddf_data_calls.specs.Calls.{KeepsBoth, left_over}
 use Rattle.ddf_data_calls.specs.Floors.{AllHaveFloors, HaveFloors, HaveFloorsIn}
-use Rattle.ddf_data_calls.proofs.Seats.{IsFloored, seated_floor}
-use Rattle.ddf_data_calls.proofs.Untouched.{AllFloored, on_floor, writing_same}
+use Rattle.ddf_data_calls.proofs.Seats.{seated_floor}
 use Rattle.ddf_data_events.specs.Joins.{HaveJoiningFloors, IsNonePromised}
 use Rattle.ddf_data_events.proofs.JoinAsked.{IsUnrefused, is_readied, is_unrefused}
 use Rattle.ddf_data_events.proofs.JoinApart.{members_apart}
 use Rattle.ddf_data_events.proofs.JoinFloored.{both_floored, steps_floors}
 use Rattle.ddf_data_events.proofs.JoinIssued.{all_keep, begun_from, issued_from, recovery_ends, recovery_loses, recovery_made, recovered_members, recovery_members}
 use Rattle.ddf_data_events.proofs.JoinStaying.{joined_keeps}
+use Rattle.ddf_write_commands.proofs.BelowSteps.{IsFloored, on_floor, writing_same}
+use Rattle.ddf_write_commands.proofs.StepFloors.{AllFloored}
 
 -- An import that wasn't refused, as far as it matters to the history and the data of the group: what it found of both groups, and what is asked of it.
 pub record IsImportOf (group : List ℕ) {D : Type 0} (old new : BayState D) (past : Past (groups group)) (floor : ℕ → ℕ) (promises : Promises) (native other : GroupValue) (timestamp : ℕ) (made : Joining)

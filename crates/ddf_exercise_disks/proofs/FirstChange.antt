@@ -1,5 +1,5 @@
 -- The changes of a new group: its array is created, and two of its disks become spares.
-use Rattle.std.proofs.Common.{◌≡◌, ◌∙◌, ℕ, zero, suc, ◌+◌, ◌^◌, ◌<◌, ◌≤◌, Bool, false, List, [], ◌∷◌, length, Some, refl, sym, ap, subst, inr, arith}
+use Rattle.std.proofs.Common.{◌≡◌, ◌∙◌, ℕ, zero, suc, ◌+◌, ◌^◌, ◌<◌, ◌≤◌, Bool, false, List, [], ◌∷◌, length, Some, refl, sym, ap, subst, arith}
 use Rattle.std.specs.Prelude.{slice_get}
 use Rattle.ddf_bytes.specs.declared.stamp.Stamp.{Stamp}
 use Rattle.ddf_bytes.specs.Streams.{SinkState}
@@ -11,7 +11,6 @@ use Rattle.ddf_config.specs.declared.member.SpareUse.TheVariants.{Global, No}
 use Rattle.ddf_config.specs.declared.seat.Seat.{Seat}
 use Rattle.ddf_config.specs.Configuration.{Configuration}
 use Rattle.ddf_config.specs.ElementValue.{ElementValue}
-use Rattle.ddf_plan.specs.declared.change.Change.{Change}
 use Rattle.ddf_plan.specs.declared.change.Change.TheVariants.{Create, Spare}
 use Rattle.ddf_plan.specs.Refusals.{greatest_sequence}
 use Rattle.ddf_words.specs.declared.command.SpareWord.TheVariants as spare_words
@@ -19,7 +18,7 @@ use Rattle.ddf_words.specs.declared.command.Wish.{Wish}
 use Rattle.ddf_words.specs.declared.command.Wish.TheVariants as wishes
 use Rattle.ddf_update.specs.NewCopies.{group_of, reference_at}
 use Rattle.ddf_rewrite.specs.Wanted.{all_wanted}
-use Rattle.ddf_steps.specs.Asked.{CanBeAsked, IsNewArray, IsNewPlan}
+use Rattle.ddf_steps.specs.Asked.{IsNewArray, IsNewPlan}
 use Rattle.ddf_text.specs.Done.{sequence_line}
 use Rattle.ddf_answer.specs.Call.{answer_of, work_of}
 use Rattle.ddf_request.specs.NewArray.{new_array_guid}
@@ -27,11 +26,9 @@ use Rattle.ddf_group_commands.specs.Change.{IsChangeDone}
 use Rattle.ddf_group_commands.specs.Requests.{request_for}
 use Rattle.ddf_uncut_group.specs.Asking.{AreNext}
 use Rattle.ddf_uncut_group.specs.Plain.{HasRoom}
-use Rattle.ddf_uncut_group.specs.Settled.{AreMembers}
 use Rattle.ddf_uncut_data.proofs.Held.{holds_same}
 use Rattle.ddf_exercise_config.specs.Disks.{AreApart, Disks}
 use Rattle.ddf_exercise_config.specs.Founded.{new_disks}
-use Rattle.ddf_exercise_config.specs.Makes.{Makes}
 use Rattle.ddf_exercise_config.specs.Stages.{array, created, element, founded, group_with, members, not_at_all, optimal, positions_at, resynced, seats_at, whole, with_spare}
 use Rattle.ddf_exercise_config.specs.Turns.Turn.{Opening}
 use Rattle.ddf_exercise_config.specs.Views.{view_at}

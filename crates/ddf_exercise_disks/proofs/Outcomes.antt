@@ -1,5 +1,5 @@
 -- How a command ends on a group that it finds, that refuses it nothing, and of whose slots no call fails: it is done, or memory ran out, or its output failed.
-use Rattle.std.proofs.Common.{◌≡◌, ◌∙◌, ◌⊎◌, ℕ, zero, suc, ◌+◌, ◌-◌, ◌*◌, ◌<◌, ◌≤◌, ◌==◌, Bool, true, false, List, [], ◌++◌, length, min, Option, Some, None, Result, Ok, Err, codes, sym, ap, subst, inl, inr, ⊎_elim, arith}
+use Rattle.std.proofs.Common.{◌≡◌, ◌∙◌, ◌⊎◌, ℕ, zero, suc, ◌+◌, ◌-◌, ◌*◌, ◌<◌, ◌≤◌, ◌==◌, Bool, true, false, List, [], ◌∷◌, ◌++◌, length, min, Option, Some, None, Result, Ok, Err, codes, refl, sym, ap, subst, inl, inr, ⊎_elim, arith, length-append}
 use Rattle.std.proofs.lemmas.Fmt.{decimal_digit}
 use Rattle.ddf_bytes.specs.declared.stamp.Stamp.{Stamp}
 use Rattle.ddf_bay.specs.ReadsOnly.{SlotRose}
@@ -30,9 +30,11 @@ use Rattle.ddf_group_commands.specs.Change.{IsChangeDone, IsChanged, IsChangedIn
 use Rattle.ddf_write_commands.specs.Doing.{Doing}
 use Rattle.ddf_write_commands.specs.Resync.{IsResyncDone, resync_request, resyncing}
 use Rattle.ddf_write_commands.specs.Worked.{IsArrayDone, IsArrayStopped, IsWorkedIn, IsWorkedOf}
-use Rattle.ddf_write_commands.specs.Payload.{IsAllTaken, IsPayload, IsShort, first_piece}
-use Rattle.ddf_pieces.specs.Pieces.{piece_blocks, room_for}
-use Rattle.ddf_write_commands.specs.Write.{IsSequenceTold, IsWriteDone, IsWriteIn, IsWriteTold, write_request, writing}
+use Rattle.ddf_write_commands.specs.Payload.{IsAllTaken, IsPayload, IsShort, Pieces}
+use Rattle.ddf_write.specs.Looking.{piece_of}
+use Rattle.ddf_pieces.specs.Coming.{AreSectorsOf512}
+use Rattle.ddf_pieces.specs.Pieces.{bytes_of as bytes_of_sectors, piece_blocks}
+use Rattle.ddf_write_commands.specs.Write.{IsSequenceTold, IsWriteDone, IsWriteIn, IsWriteTold, looking, write_request, writing}
 use Rattle.ddf_write_commands.specs.Write.{Outcome as WriteOutcome}
 use Rattle.ddf_write_commands.specs.Write.Outcome.{Broken, NotRead as NotGiven, Short, Taken, Unfit}
 use Rattle.ddf_read_commands.specs.Read.{AreBlocks, IsReadDone, IsReadIn, IsReadOf, IsReadTold, IsReadable, IsWithoutSource, bytes_of, read_refusal}
@@ -43,6 +45,19 @@ use Rattle.ddf_rebuild_command.specs.Asked.{rebuild_request}
 use Rattle.ddf_rebuild_command.specs.Rounds.{steps_of as steps_in_rounds}
 use Rattle.ddf_rebuild_command.specs.Rebuilt.{IsRebuildDone, IsRebuiltIn, IsRebuiltOf, IsArrayRebuilt, IsArrayInSync}
 use Rattle.ddf_request.specs.Named.{named_array}
+
+-- the bytes of whole sectors
+sectors_long : (sectors : List (List ℕ)) → AreSectorsOf512 sectors → length (bytes_of_sectors sectors) ≡ 512 * length sectors
+sectors_long [] whole = refl
+sectors_long (sector ∷ sectors) whole =
+    let first = whole 0 sector refl in
+    let rest = sectors_long sectors (λ j one at. whole (suc j) one at) in
+    let both = length-append sector (bytes_of_sectors sectors) in
+    omega (arith, both, first, rest)
+
+-- a piece has no more blocks than are left
+piece_few : (each ahead at left : ℕ) → piece_of each ahead at left ≤ left
+piece_few each ahead at left = omega arith
 
 eqb_same : (n : ℕ) → (n == n) ≡ true
 eqb_same n = grind arith
@@ -164,65 +179,64 @@ module _ {D : Type 0} (work : Work D) (answer : Answer) (told : answer.tells) (f
       (are : steps_of found timestamp (write_request word start count) ≡ Ok steps) where
     abbrev HasPut : Type 0
     HasPut =
-        (sectors : List (List ℕ)) × (left : List ℕ) × IsPayload input count sectors left × (length sectors ≡ count)
+        (sectors : List (List ℕ)) × (left : List ℕ) × ((pieces : Pieces) × IsPayload input pieces count sectors left) × (length sectors ≡ count)
         × IsArrayDone (writing start sectors) work found timestamp word (write_request word start count) (last_sequence found.config.sequence steps)
 
     abbrev put_text : List ℕ
     put_text = sequence_line (last_sequence found.config.sequence steps)
 
     write_left : (sectors : List (List ℕ)) (volume : Volume) (slot : ℕ) → (writing start sectors).NoneLeft (Failed work.old work.new) volume slot → IsOneOf (slots_of found.seats) slot → ⊥
-    write_left sectors volume slot left seat = calm slot seat (inl left.none_left.of_cell.none_left.this_failed)
+    write_left sectors volume slot left seat = absurd left
 
-    no_part : (pieces blocks : ℕ) → blocks ≡ pieces * count → 0 < blocks → blocks < count → ⊥
-    no_part zero blocks is more less = omega (arith, is, more)
-    no_part (suc pieces) blocks is more less = let all : suc pieces * count ≡ count + pieces * count = omega arith in omega (arith, is, all, less)
+    look_left : (volume : Volume) (slot : ℕ) → (looking start count).NoneLeft (Failed work.old work.new) volume slot → IsOneOf (slots_of found.seats) slot → ⊥
+    look_left volume slot left seat = calm slot seat (inl left.none_left.this_failed)
 
-    abbrev TakenWhole : List (List ℕ) → List ℕ → Type 0
-    TakenWhole sectors left = IsPayload input count sectors left × IsAllTaken input count sectors left
+    abbrev TakenWhole : Pieces → List (List ℕ) → List ℕ → Type 0
+    TakenWhole pieces sectors left = IsPayload input pieces count sectors left × IsAllTaken input pieces count sectors left
 
-    -- Blocks that are no more than those of one piece come whole.
-    whole_of : (sectors : List (List ℕ)) (left : List ℕ) → TakenWhole sectors left → length sectors ≡ count
-    whole_of sectors left (payload, inl all) = all.0
-    whole_of sectors left (payload, inr part) =
-        let room : room_for count ≡ count = omega (arith, few, some) in
-        let is = payload.pieces.are part.1 in
-        absurd (no_part payload.pieces.pieces (length sectors) (is ∙ ap (λ (n : ℕ). payload.pieces.pieces * n) room) part.0 part.1)
+    -- Blocks of which the input has all bytes come whole.
+    whole_of : (pieces : Pieces) (sectors : List (List ℕ)) (left : List ℕ) → TakenWhole pieces sectors left → length sectors ≡ count
+    whole_of pieces sectors left (payload, inl all) = all.0
+    whole_of pieces sectors left (payload, inr part) =
+        let long : length input.old.left ≡ length (bytes_of_sectors sectors) + length left = ap length (payload.bytes gives) ∙ length-append (bytes_of_sectors sectors) left in
+        let whole = sectors_long sectors payload.whole in
+        let next = piece_few pieces.each pieces.ahead (length sectors) (count - length sectors) in
+        absurd (omega (arith, long, whole, next, part.1, (part.2 gives).0, enough))
 
-    not_short : (least : ℕ) → IsShort input count least → ⊥
-    not_short least short =
-        let first : first_piece count ≡ count = omega (arith, few, some) in
+    not_short : (pieces : Pieces) (least : ℕ) → IsShort input pieces count least → ⊥
+    not_short pieces least short =
+        let first = piece_few pieces.each pieces.ahead 0 count in
         let fewer = short.fewer in
         let all = (short.all gives).0 in
-        let less : least < 512 * count = subst (λ (n : ℕ). least < 512 * n) first fewer in
-        omega (arith, less, all, enough)
+        omega (arith, first, fewer, all, enough)
 
     told_whole : (all : Bool) (blocks sequence : ℕ) → all ≡ true → IsSequenceTold all blocks sequence answer → ClosesWith 0 (sequence_line sequence) answer
     told_whole true blocks sequence is ends = ends
     told_whole false blocks sequence is ends = absurd cc
 
-    done_with : (sectors : List (List ℕ)) (left : List ℕ) (sequence : ℕ) → IsPayload input count sectors left → length sectors ≡ count
+    done_with : (pieces : Pieces) (sectors : List (List ℕ)) (left : List ℕ) (sequence : ℕ) → IsPayload input pieces count sectors left → length sectors ≡ count
         → IsArrayDone (writing start sectors) work found timestamp word (write_request word start count) sequence → ClosesWith 0 (sequence_line sequence) answer → EndsWell answer put_text HasPut
-    done_with sectors left sequence payload long worked ends =
+    done_with pieces sectors left sequence payload long worked ends =
         let last = worked_last work answer told found timestamp (write_request word start count) steps are calm (writing start sectors) word (write_left sectors) sequence worked in
         closes answer told put_text
-        (sectors, left, payload, long, subst (IsArrayDone (writing start sectors) work found timestamp word (write_request word start count)) last worked)
+        (sectors, left, (pieces, payload), long, subst (IsArrayDone (writing start sectors) work found timestamp word (write_request word start count)) last worked)
         (subst (λ (number : ℕ). ClosesWith 0 (sequence_line number) answer) last ends)
 
-    write_by : (outcome : WriteOutcome) → IsWriteIn work input timestamp word start count (Ok found) outcome → IsWriteTold count outcome answer → EndsWell answer put_text HasPut
-    write_by (Taken sectors (Ok sequence)) is ends =
-        let long = whole_of sectors is.0.0 (is.0.1, is.0.2) in
-        done_with sectors is.0.0 sequence is.0.1 long is.2 (told_whole (length sectors == count) (length sectors) sequence (ap (λ (n : ℕ). n == count) long ∙ eqb_same count) ends)
-    write_by (Taken sectors (Err failure)) is ends =
+    write_by : (pieces : Pieces) (outcome : WriteOutcome) → IsWriteIn work input timestamp word start count pieces (Ok found) outcome → IsWriteTold count outcome answer → EndsWell answer put_text HasPut
+    write_by pieces (Taken sectors (Ok sequence)) is ends =
+        let long = whole_of pieces sectors is.0.0 (is.0.1, is.0.2) in
+        done_with pieces sectors is.0.0 sequence is.0.1 long is.2 (told_whole (length sectors == count) (length sectors) sequence (ap (λ (n : ℕ). n == count) long ∙ eqb_same count) ends)
+    write_by pieces (Taken sectors (Err failure)) is ends =
         failed_by work answer told found timestamp (write_request word start count) steps are calm (writing start sectors) word (write_left sectors) failure is.2 ends
-    write_by (Broken sectors) is ends = inr (inl ends.0)
-    write_by (Short least) is ends = absurd (not_short least is.0)
-    write_by NotGiven is ends = inr (inl ends.0)
-    write_by (Unfit failure) is ends =
-        failed_by work answer told found timestamp (write_request word start count) steps are calm (writing start []) word (write_left []) failure is.2 ends
+    write_by pieces (Broken sectors) is ends = inr (inl ends.0)
+    write_by pieces (Short least) is ends = absurd (not_short pieces least is.0)
+    write_by pieces NotGiven is ends = inr (inl ends.0)
+    write_by pieces (Unfit failure) is ends =
+        failed_by work answer told found timestamp (write_request word start count) steps are calm (looking start count) word look_left failure is.2 ends
 
     pub write_ends : (named : Option (List ℕ)) (done : IsWriteDone work input named timestamp word start count answer) → group_of done.has.taken.newest named ≡ Ok found → EndsWell answer put_text HasPut
     write_ends named done is =
-        write_by done.outcome (subst (λ (meaning : Result GroupValue Assembly). IsWriteIn work input timestamp word start count meaning done.outcome) is done.has.gives) done.ends
+        write_by done.has.pieces done.outcome (subst (λ (meaning : Result GroupValue Assembly). IsWriteIn work input timestamp word start count done.has.pieces meaning done.outcome) is done.has.gives) done.ends
 
   -- ---- rebuild
 

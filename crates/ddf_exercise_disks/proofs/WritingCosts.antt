@@ -3,14 +3,13 @@ use Rattle.std.proofs.Common.{◌≡◌, ◌∙◌, ℕ, zero, suc, ◌+◌, ◌
 use Rattle.std.specs.Prelude.{if◌then◌else◌}
 use Rattle.std.specs.List.{cons_option, flat_map, range_with_len, sum_by}
 use Rattle.std.proofs.lemmas.List.Sums.{sum_by-cons}
-use Rattle.ddf_primary.specs.Cells.{cells}
-use Rattle.ddf_primary.specs.Placement.{Placement}
+use Rattle.ddf_primary.proofs.Copies.{few_copies}
 use Rattle.ddf_secondary.specs.Spots.{spots}
 use Rattle.ddf_secondary.specs.declared.spot.Spot.{Spot}
 use Rattle.ddf_array.specs.declared.part.Part.{Part}
 use Rattle.ddf_array.specs.declared.site.Site.{Site}
-use Rattle.ddf_array.specs.Cells.{block_spots, cells_like, element_cells, is_in_every, spots_like}
-use Rattle.ddf_array.specs.Levels.{is_on_every}
+use Rattle.ddf_array.specs.Cells.{block_spots, element_cells, is_in_every, spots_like}
+use Rattle.ddf_array.specs.Levels.{keeps_copies}
 use Rattle.ddf_array.specs.Places.{site_at}
 use Rattle.ddf_array.specs.Sources.{at_spot, copies, element_copies}
 use Rattle.ddf_array.specs.Volume.{Volume}
@@ -21,14 +20,6 @@ use Rattle.ddf_exercise_config.specs.Views.{part, places_at, view_at}
 
 -- ---- each block has one cell at most
 
-few_cells : (shape : Placement) (block : ℕ) → is_on_every shape.layout ≡ false → length (element_cells shape block) ≤ 1
-few_cells shape block single = by_cell (slice_get (cells shape) block)
-  where
-    by_cell : (found : Option (ℕ × ℕ)) → length {A = ℕ × ℕ} (elim found [ None ↦ [] | Some cell ↦ cells_like shape.layout shape.members cell ]) ≤ 1
-    by_cell None = omega arith
-    by_cell (Some cell) =
-        subst (λ b. length {A = ℕ × ℕ} (map {B = ℕ × ℕ} (λ position. (position, cell.1)) (if b then range_with_len 0 shape.members else cell.0 ∷ [])) ≤ 1) (sym single) (omega arith)
-
 one_few : {Y : Type 0} (found : Option Y) → length (cons_option found []) ≤ 1
 one_few None = omega arith
 one_few (Some y) = omega arith
@@ -38,8 +29,8 @@ some_few f [] few = omega arith
 some_few f (x ∷ []) few = one_few (f x)
 some_few f (x ∷ (y ∷ xs)) few = absurd (omega (arith, few))
 
-copies_few : (one : Part) (block : ℕ) → is_on_every one.shape.layout ≡ false → length (element_copies one block) ≤ 1
-copies_few one block single = some_few (λ cell. site_at one.places cell.0 cell.1) (element_cells one.shape block) (few_cells one.shape block single)
+copies_few : (one : Part) (block : ℕ) → keeps_copies one.shape.layout ≡ false → length (element_copies one block) ≤ 1
+copies_few one block single = some_few (λ cell. site_at one.places cell.0 cell.1) (element_cells one.shape block) (few_copies one.shape block single)
 
 spots_few : (v : Volume) (block : ℕ) → is_in_every v.tiers.level ≡ false → length (block_spots v block) ≤ 1
 spots_few v block single = by_spot (slice_get (spots v.tiers) block)
@@ -51,7 +42,7 @@ spots_few v block single = by_spot (slice_get (spots v.tiers) block)
 
 -- so do all elements alone
 abbrev AreSingle : List Part → Type 0
-AreSingle parts = (element : ℕ) (one : Part) → slice_get parts element ≡ Some one → is_on_every one.shape.layout ≡ false
+AreSingle parts = (element : ℕ) (one : Part) → slice_get parts element ≡ Some one → keeps_copies one.shape.layout ≡ false
 
 spot_few : (parts : List Part) → AreSingle parts → (spot : Spot) → length (at_spot parts element_copies spot) ≤ 1
 spot_few parts single spot = by (slice_get parts spot.element) refl
@@ -88,7 +79,7 @@ range_long start (suc count) = ap suc (range_long (start + 1) count)
 -- ---- the array of an exercise
 
 single_on : (is_marked : Bool) (turn : Turn) → AreSingle (view_at turn is_marked).parts
-single_on is_marked turn zero one at = let is : part (places_at turn) ≡ one = cc in subst (λ (p : Part). is_on_every p.shape.layout ≡ false) is refl
+single_on is_marked turn zero one at = let is : part (places_at turn) ≡ one = cc in subst (λ (p : Part). keeps_copies p.shape.layout ≡ false) is refl
 single_on is_marked turn (suc element) one at = absurd cc
 
 parity_count : (turn : Turn) (is_marked : Bool) (count : ℕ) → row_cells (view_at turn is_marked) count ≡ count

@@ -39,6 +39,7 @@ use Rattle.ddf_group_commands.specs.Costs.{steps_sectors}
 use Rattle.ddf_group_commands.specs.Written.{AreWritten}
 use Rattle.ddf_write_commands.specs.Around.{config_behind, marking}
 use Rattle.ddf_write_commands.specs.Costs.{CostsOfDoing}
+use Rattle.ddf_write_commands.specs.Payload.{Pieces}
 use Rattle.ddf_write_commands.specs.Planned.{Entry, IsPlanned}
 use Rattle.ddf_write_commands.specs.Worked.{AreBlocksDone}
 use Rattle.ddf_write_commands.specs.Write.{CostsOfWriting, IsWriteDone, IsWriteIn, IsWriteTold, Outcome, write_request, writing}
@@ -349,18 +350,18 @@ module _ (name : List ℕ) (total asked : ℕ) (out : List Bool) (disks : Disks)
     doing_asked : (sectors : List (List ℕ)) → length sectors ≤ count → CostsOfDoing (writing start sectors) work timestamp word asking (Ok group) → (state_of new).asked ≤ most
     doing_asked sectors within_count costs = ⊎_elim nothing_asked (λ plan. costs_few plan.plan sectors within_count plan.most) costs
 
-    asks_few : (outcome : Outcome) → IsWriteIn work input timestamp word start count (Ok group) outcome → CostsOfWriting work input timestamp word start count (Ok group) outcome → (state_of new).asked ≤ most
-    asks_few (Taken sectors worked) is costs = doing_asked sectors is.0.1.pieces.within costs
-    asks_few (Broken sectors) is costs = doing_asked sectors is.0.1.pieces.within costs
-    asks_few (Short least) is costs = nothing_asked costs
-    asks_few NotRead is costs = nothing_asked costs
-    asks_few (Unfit failure) is costs = nothing_asked costs
+    asks_few : (pieces : Pieces) (outcome : Outcome) → IsWriteIn work input timestamp word start count pieces (Ok group) outcome → CostsOfWriting work input timestamp word start count (Ok group) outcome → (state_of new).asked ≤ most
+    asks_few pieces (Taken sectors worked) is costs = doing_asked sectors is.0.1.ends.within costs
+    asks_few pieces (Broken sectors) is costs = doing_asked sectors is.0.1.ends.within costs
+    asks_few pieces (Short least) is costs = nothing_asked costs
+    asks_few pieces NotRead is costs = nothing_asked costs
+    asks_few pieces (Unfit failure) is costs = nothing_asked costs
 
     module _ (is_found : group_of done.has.taken.newest (Some name) ≡ Ok group) where
       few_asked : (state_of new).asked ≤ most
       few_asked =
-          asks_few done.outcome
-          (subst (λ (meaning : Result GroupValue Assembly). IsWriteIn work input timestamp word start count meaning done.outcome) is_found done.has.gives)
+          asks_few done.has.pieces done.outcome
+          (subst (λ (meaning : Result GroupValue Assembly). IsWriteIn work input timestamp word start count done.has.pieces meaning done.outcome) is_found done.has.gives)
           (subst (λ (meaning : Result GroupValue Assembly). CostsOfWriting work input timestamp word start count meaning done.outcome) is_found done.has.costs)
 
       enough_given : 512 * count ≤ length (replicate (512 * count) byte)
@@ -372,7 +373,7 @@ module _ (name : List ℕ) (total asked : ℕ) (out : List Bool) (disks : Disks)
           (ends_then answer (sequence_line (last_sequence group.config.sequence steps))
           (λ put.
           stores_then put.4.plan put.0 (put.4.done tt) few_asked byte long put.3
-          (sectors_filled byte (512 * count) put.0 put.1 put.2.whole (put.2.bytes tt)))
+          (sectors_filled byte (512 * count) put.0 put.1 put.2.1.whole (put.2.1.bytes tt)))
           (write_ends work answer tt group timestamp word steps (calm_on name total asked out config seats old new stands goes (let few = few_asked in omega (arith, few, enough)))
           input tt start count (omega (arith, small)) some enough_given steps_are (Some name) done is_found))
 

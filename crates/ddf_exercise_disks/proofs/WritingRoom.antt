@@ -1,14 +1,10 @@
 -- The steps around the blocks of a write, and the array of an exercise that they mark.
-use Rattle.std.proofs.Common.{◌≡◌, ℕ, zero, suc, ◌+◌, ◌≤◌, Bool, true, List, [], ◌∷◌, ◌++◌, length, Some, refl, sym, ap, subst, inr, arith}
+use Rattle.std.proofs.Common.{◌≡◌, ℕ, zero, suc, ◌+◌, ◌≤◌, Bool, true, List, [], ◌∷◌, ◌++◌, length, Some, refl, sym, ap, subst, arith}
 use Rattle.std.specs.Prelude.{slice_get}
 use Rattle.std.specs.List.{AllByRecursion}
 use Rattle.ddf_config.specs.declared.element.Position.{Position}
 use Rattle.ddf_config.specs.declared.member.Member.{Member}
-use Rattle.ddf_config.specs.declared.seat.Seat.{Seat}
-use Rattle.ddf_config.specs.Configuration.{Configuration}
-use Rattle.ddf_plan.specs.declared.change.Change.{Change}
 use Rattle.ddf_plan.specs.declared.change.Change.TheVariants.{Mark}
-use Rattle.ddf_plan.specs.Refusals.{greatest_sequence}
 use Rattle.ddf_update.specs.Group.{IsOneOf}
 use Rattle.ddf_array.specs.declared.part.Part.{Part}
 use Rattle.ddf_array.specs.declared.place.Place.{Place}
@@ -16,7 +12,6 @@ use Rattle.ddf_array.specs.Places.{is_available}
 use Rattle.ddf_cells.specs.Apart.{LiesAt}
 use Rattle.ddf_rewrite.specs.Spares.{arrays_of_spare}
 use Rattle.ddf_rewrite.specs.Wanted.{all_wanted}
-use Rattle.ddf_steps.specs.Asked.{CanBeAsked}
 use Rattle.ddf_steps.specs.Committed.{slots_of}
 use Rattle.ddf_seats.specs.Group.{GroupValue}
 use Rattle.ddf_steps.specs.Ready.{group_after}
@@ -26,12 +21,10 @@ use Rattle.ddf_history_steps.specs.BlockFloors.{floor_in}
 use Rattle.ddf_group_commands.specs.Change.{last_sequence}
 use Rattle.ddf_group_commands.specs.Costs.{steps_sectors}
 use Rattle.ddf_write_commands.specs.Around.{config_behind, marking}
-use Rattle.ddf_uncut_group.specs.Asking.{AreNext}
 use Rattle.ddf_uncut_group.specs.Plain.{HasRoom}
-use Rattle.ddf_uncut_group.specs.Settled.{AreMembers, group_behind}
+use Rattle.ddf_uncut_group.specs.Settled.{group_behind}
 use Rattle.ddf_uncut_data.specs.Whole.{IsWhole}
 use Rattle.ddf_exercise_config.specs.Disks.{Disks}
-use Rattle.ddf_exercise_config.specs.Makes.{Makes}
 use Rattle.ddf_exercise_config.specs.Stages.{array, group_with, members_at, positions_at, seats_at}
 use Rattle.ddf_exercise_config.specs.Turns.{Turn}
 use Rattle.ddf_exercise_config.specs.Turns.Turn.{Closing, Middle, Opening}

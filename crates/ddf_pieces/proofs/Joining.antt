@@ -5,7 +5,7 @@ use Rattle.std.proofs.lemmas.Bool.{cases_lt}
 use Rattle.std.proofs.lemmas.List.{get_or_append_left, get_or-append_right}
 use Rattle.ddf_bay.specs.Moments.{IsSettled}
 use Rattle.ddf_bay.specs.State.{BayState}
-use Rattle.ddf_bay.proofs.Steps.{rose_since, rose_then, stops_start, stops_then}
+use Rattle.ddf_bay.proofs.Steps.{stops_start, stops_then}
 use Rattle.ddf_array.specs.declared.part.Part.{Part}
 use Rattle.ddf_array.specs.declared.site.Site.{Site}
 use Rattle.ddf_array.specs.Apart.{IsApart}
@@ -14,16 +14,14 @@ use Rattle.ddf_array.specs.Sources.{copies}
 use Rattle.ddf_array.specs.Values.{bytes_at}
 use Rattle.ddf_array.specs.Volume.{Volume, IsVolume}
 use Rattle.ddf_array.proofs.Consistent.{position_within}
-use Rattle.ddf_read.specs.Reading.{Failed}
 use Rattle.ddf_cells.specs.CellsOn.{copy_cells}
 use Rattle.ddf_cells.specs.Degraded.{is_degraded}
-use Rattle.ddf_cells.specs.Touching.{GoesBetween}
 use Rattle.ddf_cells.proofs.CopiesOn.{block_at_sits}
 use Rattle.ddf_cells.proofs.OnCells.{block_below}
-use Rattle.ddf_write.specs.RowWrites.{IsSure, row_cells}
+use Rattle.ddf_write.specs.Keeping.{AreTheirValues, Keeping, KeepsNone}
+use Rattle.ddf_write.specs.RowWrites.{row_cells}
 use Rattle.ddf_write.specs.Writing.{IsAmongWrites, IsParityAt, IsTouched, IsWritten, MayGive}
-use Rattle.ddf_write.proofs.RedundantAfter.{copies_stay_equal}
-use Rattle.ddf_write.proofs.RowReads.{sure_fewer}
+use Rattle.ddf_write.proofs.KeptValues.{values_stay}
 use Rattle.ddf_write.proofs.RowsUntouched.{IsUntouched, never_touched, sum_untouched, touched_or_not, untouched_stays}
 use Rattle.ddf_write.proofs.WriteLeaves.{cell_stays}
 use Rattle.ddf_pieces.specs.Writing.{AreWritten, LeaveWrites}
@@ -68,19 +66,9 @@ module _ {D : Type 0} (tells : Type 0) (v : Volume) (start : ℕ) (xs ys : List 
 
   -- ---- and what is written by both
 
-  module _ (known : IsVolume v) (apart : IsApart v) (whole : is_degraded v ≡ false) (goes : GoesBetween a b) (then : GoesBetween b c) (is : AreWritten tells a b v start xs) (was : AreWritten tells b c v (start + length xs) ys) where
-    fewer : (slot : ℕ) → Failed a b slot → Failed a c slot
-    fewer slot failed = rose_then (a.failed_reads slot) (b.failed_reads slot) (c.failed_reads slot) (goes.reads_rise slot) failed (then.reads_rise slot)
-
-    later : (slot : ℕ) → Failed b c slot → Failed a c slot
-    later slot failed = rose_since (a.failed_reads slot) (b.failed_reads slot) (c.failed_reads slot) (goes.reads_rise slot) failed
-
-    sure_first : IsSure (Failed a c) v a.held → IsSure (Failed a b) v a.held
-    sure_first sure = sure_fewer (Failed a b) (Failed a c) v a.held fewer sure
-
-    sure_next : tells → IsSure (Failed a c) v a.held → IsSure (Failed b c) v b.held
-    sure_next tell (inl never) = inl (λ slot on failed. never slot on (later slot failed))
-    sure_next tell (inr equal) = inr (copies_stay_equal v known apart start xs a.held b.held (first.held tell) (λ k i one below at. (is.written tell).cells k i one below at) equal)
+  module _ (known : IsVolume v) (apart : IsApart v) (whole : is_degraded v ≡ false) (kept : Keeping) (none : KeepsNone v start (length xs) kept) (is : AreWritten tells a b v start xs kept) (was : AreWritten tells b c v (start + length xs) ys kept) where
+    values_next : tells → AreTheirValues v a.held kept → AreTheirValues v b.held kept
+    values_next tell values = values_stay v known apart whole start xs a.held b.held (first.held tell) kept none values
 
     module _ (tell : tells) where
       -- cells of the first blocks stay
@@ -97,9 +85,9 @@ module _ {D : Type 0} (tells : Type 0) (v : Volume) (start : ℕ) (xs ys : List 
           (cases_lt k (length xs))
 
       -- so does the parity of rows that the next ones don't touch
-      parity_stays : IsSure (Failed a c) v a.held → (element sector : ℕ) (part : Part) (one : Site) → IsParityAt v start (length (xs ++ ys)) element sector part one → IsUntouched v (start + length xs) (length ys) element part sector
+      parity_stays : AreTheirValues v a.held kept → (element sector : ℕ) (part : Part) (one : Site) → IsParityAt v start (length (xs ++ ys)) element sector part one → IsUntouched v (start + length xs) (length ys) element part sector
           → bytes_at c.held one ≡ row_sum v c.held element part sector
-      parity_stays sure element sector part one at not =
+      parity_stays values element sector part one at not =
           let sits = block_at_sits v known element at.touched.position sector (start + at.touched.k) at.touched.holds_it in
           let part_same : sits.part ≡ part = some_is (sym sits.is_part ∙ at.is_part) in
           let inside = subst (λ (q : Part). sector < q.shape.blocks) part_same (block_below v known element at.touched.position sector (start + at.touched.k) sits) in
@@ -108,14 +96,14 @@ module _ {D : Type 0} (tells : Type 0) (v : Volume) (start : ℕ) (xs ys : List 
           (λ behind. absurd (never_touched v known (start + length xs) (length ys) element sector part at.is_part not behind))
           (touched_split v start (length xs) (length ys) element sector (subst (λ n. IsTouched v start n element sector) (length-append xs ys) at.touched)) in
           untouched_stays v known apart (start + length xs) ys b.held c.held (next.held tell) element sector part at.is_part inside not at.position one at.is_there
-          ∙ (is.written tell).parity (sure_first sure) element sector part one (parity_with v start (length (xs ++ ys)) start (length xs) element sector part one at touched)
+          ∙ (is.written tell).parity values element sector part one (parity_with v start (length (xs ++ ys)) start (length xs) element sector part one at touched)
           ∙ sym (sum_untouched v known apart (start + length xs) ys b.held c.held (next.held tell) element sector part at.is_part inside not whole at.position at.is_parity (position_within part.places at.position sector one at.is_there))
 
-      parity_both : IsSure (Failed a c) v a.held → (element sector : ℕ) (part : Part) (one : Site) → IsParityAt v start (length (xs ++ ys)) element sector part one → bytes_at c.held one ≡ row_sum v c.held element part sector
-      parity_both sure element sector part one at =
+      parity_both : AreTheirValues v a.held kept → (element sector : ℕ) (part : Part) (one : Site) → IsParityAt v start (length (xs ++ ys)) element sector part one → bytes_at c.held one ≡ row_sum v c.held element part sector
+      parity_both values element sector part one at =
           ⊎_elim
-          (λ touched. (was.written tell).parity (sure_next tell sure) element sector part one (parity_with v start (length (xs ++ ys)) (start + length xs) (length ys) element sector part one at touched))
-          (λ not. parity_stays sure element sector part one at not)
+          (λ touched. (was.written tell).parity (values_next tell values) element sector part one (parity_with v start (length (xs ++ ys)) (start + length xs) (length ys) element sector part one at touched))
+          (λ not. parity_stays values element sector part one at not)
           (touched_or_not v (start + length xs) (length ys) element sector (length part.places))
 
       durable_both : (slot : ℕ) → IsWritten v start (length (xs ++ ys)) slot → IsSettled c.may_hold c.held slot
@@ -123,9 +111,9 @@ module _ {D : Type 0} (tells : Type 0) (v : Volume) (start : ℕ) (xs ys : List 
           ⊎_elim (λ front. was.settled tell slot (is.durable tell slot front)) (λ behind. was.durable tell slot behind)
           (written_split v start (length xs) (length ys) slot (subst (λ n. IsWritten v start n slot) (length-append xs ys) written))
 
-    pub written_both : AreWritten tells a c v start (xs ++ ys)
+    pub written_both : AreWritten tells a c v start (xs ++ ys) kept
     written_both = record {
-      written = λ tell. record { cells = λ k i one below at. cell_both tell k i one below at; parity = λ sure element sector part one at. parity_both tell sure element sector part one at };
+      written = λ tell. record { cells = λ k i one below at. cell_both tell k i one below at; parity = λ values element sector part one at. parity_both tell values element sector part one at };
       durable = λ tell slot written. durable_both tell slot written;
       settled = λ tell slot settled. was.settled tell slot (is.settled tell slot settled);
       unfailed = was.unfailed ∙ is.unfailed;

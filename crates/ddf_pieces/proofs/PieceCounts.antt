@@ -1,8 +1,10 @@
 -- How many blocks the first pieces have, and what is counted for each of them.
-use Rattle.std.proofs.Common.{min, ⊎_elim, zero, ◌%◌, ◌≡◌, ◌∙◌, ℕ, suc, ◌+◌, ◌-◌, ◌*◌, ◌<◌, ◌≤◌, sym, ap, arith}
-use Rattle.std.proofs.Math.Nat.{suc-mul}
+use Rattle.std.proofs.Common.{min, ⊎_elim, zero, ◌%◌, ◌/◌, ◌≡◌, ◌∙◌, ℕ, suc, ◌+◌, ◌-◌, ◌*◌, ◌<◌, ◌≤◌, sym, ap, arith}
+use Rattle.std.proofs.Math.Nat.{mul-mod_left, suc-mul}
 use Rattle.std.proofs.lemmas.Bool.{cases_lt}
-use Rattle.ddf_pieces.specs.Pieces.{AreWholePieces, over_pieces, piece_blocks, piece_of, room_for}
+use Rattle.std.proofs.lemmas.Nat.{div-add-mod', mod_below}
+use Rattle.ddf_write.specs.Looking as looking
+use Rattle.ddf_pieces.specs.Pieces.{AreWholePieces, EndWithPiece, over_pieces, piece_blocks, piece_of, room_for}
 
 -- So many pieces are done, and the last of them not before it was begun.
 pub record AreDone (each count at : ℕ) : Type 0 where
@@ -60,3 +62,33 @@ full_pieces count at whole more =
 -- the next piece of a command
 pub next_piece : (count at : ℕ) → at < count → piece_of (room_for count) (count - at) ≡ min (count - at) piece_blocks
 next_piece count at more = omega (arith, more)
+
+-- ---- pieces that are written: the first may be shorter
+
+pub ends_start : (each ahead count : ℕ) → EndWithPiece each ahead count 0
+ends_start each ahead count = record { within = omega arith; pieces = 0; are = λ some. absurd (omega (arith, some)) }
+
+module _ (each ahead count at size : ℕ) (some : 0 < each) (more : at < count) (is : size ≡ looking.piece_of each ahead at (count - at)) where
+  pub size_some : 0 < size
+  size_some = omega (arith, is, more, mod_below (ahead + at) each some)
+
+  pub size_within : at + size ≤ count
+  size_within = omega (arith, is, more)
+
+  pub ends_more : EndWithPiece each ahead count (at + size)
+  ends_more = record {
+    within = size_within;
+    pieces = suc ((ahead + at) / each);
+    are = λ begun later.
+        let full : size ≡ each - (ahead + at) % each = omega (arith, is, later, more) in
+        let rest = mod_below (ahead + at) each some in
+        let parts = div-add-mod' (ahead + at) each in
+        omega (arith, full, rest, parts, suc-mul ((ahead + at) / each) each);
+  }
+
+-- one that is as long as the others
+pub plain_size : (each count at size : ℕ) → (pieces : ℕ) → at ≡ pieces * each → at < count → size ≡ looking.piece_of each 0 at (count - at) → size ≡ piece_of each (count - at)
+plain_size each count at size pieces are more is =
+    let there : 0 + at ≡ pieces * each = omega (arith, are) in
+    let none : (0 + at) % each ≡ 0 = ap (λ n. n % each) there ∙ mul-mod_left pieces each in
+    omega (arith, is, none)

@@ -9,22 +9,23 @@ use Rattle.ddf_bay.proofs.Steps.{rose_since, stops_start}
 use Rattle.ddf_array.specs.Apart.{IsApart}
 use Rattle.ddf_array.specs.Volume.{Volume, IsVolume}
 use Rattle.ddf_read.specs.declared.fault.VolumeFault.TheVariants.{Range, Lost, Unsure, Degraded, Disk}
-use Rattle.ddf_read.specs.Reading.{Failed}
 use Rattle.ddf_cells.specs.Touching.{GoesBetween}
 use Rattle.ddf_write.specs.RowWrites.{keeps_parity_anywhere}
-use Rattle.ddf_write.specs.WriteRefused.{IsStopped, NoneLeftOfRow, write_refusal}
+use Rattle.ddf_write.specs.WriteRefused.{IsStopped, write_refusal}
 use Rattle.ddf_write.specs.Writing.{IsAmongWrites, IsWritten}
 use Rattle.ddf_write.proofs.WrittenValues.{not_refused}
 use Rattle.ddf_pieces.specs.declared.fault.PieceFault.{PieceFault}
 use Rattle.ddf_pieces.specs.declared.fault.PieceFault.TheVariants as faults
 use Rattle.ddf_pieces.specs.Coming.{AreSectorsOf512, HaveCome, IsFilled}
-use Rattle.ddf_pieces.specs.Pieces.{AreWholePieces, bytes_of, over_pieces, piece_of}
-use Rattle.ddf_pieces.specs.Writing.{AreGivenBlocks, ArePiecesWritten, AreWritten, IsPieceStopped, IsStoppedInPieces, IsWrittenTo, LeaveWrites, piece_calls}
+use Rattle.ddf_write.specs.Keeping.{Keeping, KeepsNone}
+use Rattle.ddf_write.specs.Looking.{piece_of}
+use Rattle.ddf_pieces.specs.Pieces as sizes
+use Rattle.ddf_pieces.specs.Pieces.{EndWithPiece, bytes_of, over_pieces}
+use Rattle.ddf_pieces.specs.Writing.{AreGivenBlocks, ArePiecesWritten, AreWritten, IsPieceStopped, IsWrittenTo, LeaveWrites, piece_calls}
 use Rattle.ddf_pieces.proofs.Joining.{leave_both, written_both}
-use Rattle.ddf_pieces.proofs.PieceCounts.{AreDone, done_more, done_start, over_more, whole_of}
+use Rattle.ddf_pieces.proofs.PieceCounts.{AreDone, done_more, done_start, ends_more, ends_start, over_more, plain_size, size_some}
 use Rattle.ddf_pieces.proofs.Ranges.{written_behind}
 use Rattle.ddf_pieces.proofs.ReadSteps.{bytes_joined}
-use Rattle.ddf_pieces.proofs.WriteParts.{row_more}
 
 -- ---- what came
 
@@ -84,26 +85,32 @@ module _ (tells : Type 0) (old now new : SourceState) (first : List ℕ) (xs ys 
 
 -- ---- what is written
 
-pub record HaveBeenWritten {D : Type 0} (tells : Type 0) (old now : BayState D) (v : Volume) (start count each : ℕ) (source_tells : Type 0) (before mid : SourceState) (first : List ℕ) (at : ℕ) : Type 0 where
+-- of an array without parity all pieces but the last are as long
+pub record IsPlain {D : Type 0} (old now : BayState D) (v : Volume) (start count each ahead at : ℕ) : Type 0 where
+  pub none_ahead : ahead ≡ 0
+  pub done : AreDone each count at
+  pub calls : now.calls ≤ old.calls + over_pieces (piece_calls old v) each start count done.pieces
+
+pub record HaveBeenWritten {D : Type 0} (tells : Type 0) (old now : BayState D) (v : Volume) (start count each ahead : ℕ) (kept : Keeping) (source_tells : Type 0) (before mid : SourceState) (first : List ℕ) (at : ℕ) : Type 0 where
   pub sectors : List (List ℕ)
   pub long : length sectors ≡ at
-  pub done : AreDone each count at
+  pub ends : EndWithPiece each ahead count at
   pub come : IsCome source_tells before mid first sectors at
   pub leave : LeaveWrites tells old now v start sectors
-  pub is_written : AreWritten tells old now v start sectors
+  pub is_written : AreWritten tells old now v start sectors kept
   pub goes : GoesBetween old now
-  pub calls : keeps_parity_anywhere v ≡ false → now.calls ≤ old.calls + over_pieces (piece_calls old v) each start count done.pieces
+  pub plain : keeps_parity_anywhere v ≡ false → IsPlain old now v start count each ahead at
 
 none_written : (v : Volume) (start slot : ℕ) → IsWritten v start 0 slot → ⊥
 none_written v start slot (lba, inl cell) = omega (arith, cell.below)
 none_written v start slot (lba, inr of) = omega (arith, of.is_at.touched.below)
 
-module _ {D : Type 0} (tells : Type 0) (v : Volume) (start count each : ℕ) (source_tells : Type 0) (before : SourceState) (first : List ℕ) where
-  pub written_start : (old : BayState D) → 0 < each → HaveBeenWritten tells old old v start count each source_tells before before first 0
-  written_start old some = record {
+module _ {D : Type 0} (tells : Type 0) (v : Volume) (start count each ahead : ℕ) (kept : Keeping) (source_tells : Type 0) (before : SourceState) (first : List ℕ) where
+  pub written_start : (old : BayState D) → 0 < each → (keeps_parity_anywhere v ≡ false → ahead ≡ 0) → HaveBeenWritten tells old old v start count each ahead kept source_tells before before first 0
+  written_start old some none_ahead = record {
     sectors = [];
     long = refl;
-    done = done_start each count some;
+    ends = ends_start each ahead count;
     come = record { none = λ none. refl; come = λ behind. absurd (omega (arith, behind)); same_faults = refl };
     leave = record {
       any_moment = stops_start old (IsAmongWrites v start [] old.may_hold);
@@ -115,29 +122,29 @@ module _ {D : Type 0} (tells : Type 0) (v : Volume) (start count each : ℕ) (so
     is_written = record {
       written = λ told. record {
         cells = λ k i one below at. absurd (omega (arith, below));
-        parity = λ sure element sector part one at. absurd (omega (arith, at.touched.below));
+        parity = λ values element sector part one at. absurd (omega (arith, at.touched.below));
       };
       durable = λ told slot written. absurd (none_written v start slot written);
       settled = λ told slot settled. settled;
       unfailed = refl;
     };
     goes = record { goes_on = λ bay leads. leads; same_sizes = refl; reads_rise = λ s. omega arith; writes_rise = λ s. omega arith };
-    calls = λ none. omega arith;
+    plain = λ none. record { none_ahead = none_ahead none; done = done_start each count some; calls = omega arith };
   }
 
-  module _ (old now : BayState D) (mid : SourceState) (at : ℕ) (so_far : HaveBeenWritten tells old now v start count each source_tells before mid first at) (accepted : write_refusal v start count ≡ None) where
+  module _ (old now : BayState D) (mid : SourceState) (at : ℕ) (so_far : HaveBeenWritten tells old now v start count each ahead kept source_tells before mid first at) (accepted : write_refusal v start count ≡ None) where
     -- the blocks that were given, once there are any
-    given_blocks : (after : SourceState) → 0 < at → AreGivenBlocks tells old now v start count each source_tells before after first so_far.sectors mid.left
+    given_blocks : (after : SourceState) → 0 < at → AreGivenBlocks tells old now v start count each ahead kept source_tells before after first so_far.sectors mid.left
     given_blocks after some = record {
       accepted = accepted;
-      whole = subst (AreWholePieces each count) (sym so_far.long) (whole_of each count at so_far.done);
+      whole = subst (EndWithPiece each ahead count) (sym so_far.long) so_far.ends;
       come = so_far.come.come some;
       leave = so_far.leave;
-      calls = λ none. record { pieces = so_far.done.pieces; few = so_far.done.few; grew = so_far.calls none };
+      calls = λ none. let plain = so_far.plain none in record { pieces = plain.done.pieces; few = plain.done.few; grew = plain.calls };
     }
 
     -- all of them are written
-    pub written_all : count ≤ at → (count ≡ 0 → first ≡ []) → IsWrittenTo tells old now v start count each source_tells before mid first at
+    pub written_all : count ≤ at → (count ≡ 0 → first ≡ []) → IsWrittenTo tells old now v start count each ahead kept source_tells before mid first at
     written_all all none = record {
       sectors = so_far.sectors;
       many = so_far.long;
@@ -145,16 +152,16 @@ module _ {D : Type 0} (tells : Type 0) (v : Volume) (start count each : ℕ) (so
       are = ⊎_elim (λ (some : 0 < at). given_blocks mid some) (λ (zero_at : at ≤ 0). let is : at ≡ 0 = omega (arith, zero_at) in no_blocks is) (cases_lt 0 at);
       is_written = so_far.is_written;
       same_faults = so_far.come.same_faults;
-      ends = inl (omega (arith, all, so_far.done.within), λ told. refl);
+      ends = inl (omega (arith, all, so_far.ends.within), λ told. refl);
     }
       where
-        no_blocks : at ≡ 0 → AreGivenBlocks tells old now v start count each source_tells before mid first so_far.sectors mid.left
+        no_blocks : at ≡ 0 → AreGivenBlocks tells old now v start count each ahead kept source_tells before mid first so_far.sectors mid.left
         no_blocks zero_at =
             let empty : so_far.sectors ≡ [] = none_long so_far.sectors (omega (arith, so_far.long, zero_at)) in
             let nothing : count ≡ 0 = omega (arith, all, zero_at) in
             record {
               accepted = accepted;
-              whole = subst (AreWholePieces each count) (sym so_far.long) (whole_of each count at so_far.done);
+              whole = subst (EndWithPiece each ahead count) (sym so_far.long) so_far.ends;
               come = record {
                 whole = subst AreSectorsOf512 (sym empty) (λ k sector is. absurd cc);
                 came = [];
@@ -162,12 +169,12 @@ module _ {D : Type 0} (tells : Type 0) (v : Volume) (start count each : ℕ) (so
                 from = λ told. sym (so_far.come.none zero_at);
               };
               leave = so_far.leave;
-              calls = λ never. record { pieces = so_far.done.pieces; few = so_far.done.few; grew = so_far.calls never };
+              calls = λ never. let plain = so_far.plain never in record { pieces = plain.done.pieces; few = plain.done.few; grew = plain.calls };
             }
 
     -- the source ended before the next piece was full
-    pub written_cut : at < count → 0 < at → (after : SourceState) (piece : List ℕ) → length piece ≡ 512 * piece_of each (count - at) → IsFilled source_tells mid after piece (Ok false)
-        → IsWrittenTo tells old now v start count each source_tells before after first at
+    pub written_cut : at < count → 0 < at → (after : SourceState) (piece : List ℕ) → length piece ≡ 512 * piece_of each ahead at (count - at) → IsFilled source_tells mid after piece (Ok false)
+        → IsWrittenTo tells old now v start count each ahead kept source_tells before after first at
     written_cut more some after piece long filled = record {
       sectors = so_far.sectors;
       many = so_far.long;
@@ -180,7 +187,7 @@ module _ {D : Type 0} (tells : Type 0) (v : Volume) (start count each : ℕ) (so
 
     -- a read of it failed
     pub source_failed : at < count → 0 < at → (after : SourceState) (piece : List ℕ) (fault : PieceFault) → IsFilled source_tells mid after piece (Err fault)
-        → ArePiecesWritten tells old now v start count each source_tells before after first (Err fault)
+        → ArePiecesWritten tells old now v start count each ahead kept source_tells before after first (Err fault)
     source_failed more some after piece (faults.Volume fault) filled = absurd filled
     source_failed more some after piece faults.Source filled = record {
       sectors = so_far.sectors;
@@ -195,7 +202,7 @@ module _ {D : Type 0} (tells : Type 0) (v : Volume) (start count each : ℕ) (so
 
     -- ---- one piece more
 
-    module _ (more : at < count) (some : 0 < each) (size : ℕ) (is : size ≡ piece_of each (count - at)) (after : SourceState) (ys : List (List ℕ)) (many : length ys ≡ size) (whole : AreSectorsOf512 ys)
+    module _ (more : at < count) (some : 0 < each) (size : ℕ) (is : size ≡ piece_of each ahead at (count - at)) (after : SourceState) (ys : List (List ℕ)) (many : length ys ≡ size) (whole : AreSectorsOf512 ys)
         (next : IsNext source_tells mid after first (bytes_of ys) at) (new : BayState D) (leave : LeaveWrites tells now new v (start + at) ys) (goes : GoesBetween now new)
         (calls : keeps_parity_anywhere v ≡ false → new.calls ≤ now.calls + piece_calls now v (start + at) (length ys)) where
       here : start + at ≡ start + length so_far.sectors
@@ -219,50 +226,44 @@ module _ {D : Type 0} (tells : Type 0) (v : Volume) (start count each : ℕ) (so
       long = omega (arith, length-append so_far.sectors ys, so_far.long, many)
 
       come : IsCome source_tells before after first (so_far.sectors ++ ys) (at + size)
-      come = come_more source_tells before mid after first so_far.sectors ys at size so_far.come next so_far.long (omega (arith, is, more, some)) whole
+      come = come_more source_tells before mid after first so_far.sectors ys at size so_far.come next so_far.long (size_some each ahead count at size some more is) whole
 
-      calls_both : keeps_parity_anywhere v ≡ false → new.calls ≤ old.calls + over_pieces (piece_calls old v) each start count (suc so_far.done.pieces)
-      calls_both none =
+      plain_both : keeps_parity_anywhere v ≡ false → IsPlain old new v start count each ahead (at + size)
+      plain_both none =
+          let plain = so_far.plain none in
           let slots : piece_calls now v (start + at) (length ys) ≡ piece_calls old v (start + at) size =
           ap (λ (sizes : List ℕ). piece_calls (record now { sizes = sizes }) v (start + at) (length ys)) so_far.goes.same_sizes ∙ ap (piece_calls old v (start + at)) many in
-          omega (arith, so_far.calls none, calls none, slots, over_more each count at so_far.done more size is (piece_calls old v) start)
+          let full : size ≡ sizes.piece_of each (count - at) =
+          plain_size each count at size plain.done.pieces (plain.done.are more) more (is ∙ ap (λ n. piece_of each n at (count - at)) plain.none_ahead) in
+          record {
+            none_ahead = plain.none_ahead;
+            done = done_more each count at plain.done more size full;
+            calls = omega (arith, plain.calls, calls none, slots, over_more each count at plain.done more size full (piece_calls old v) start);
+          }
 
-      pub written_more : IsVolume v → IsApart v → AreWritten tells now new v (start + at) ys → HaveBeenWritten tells old new v start count each source_tells before after first (at + size)
-      written_more known apart is_written = record {
+      pub written_more : IsVolume v → IsApart v → KeepsNone v start count kept → AreWritten tells now new v (start + at) ys kept → HaveBeenWritten tells old new v start count each ahead kept source_tells before after first (at + size)
+      written_more known apart none is_written = record {
         sectors = so_far.sectors ++ ys;
         long = long;
-        done = done_more each count at so_far.done more size is;
+        ends = ends_more each ahead count at size some more is;
         come = come;
         leave = both;
         is_written =
-            written_both tells v start so_far.sectors ys so_far.leave leave_here known apart (not_refused v start count accepted).1 so_far.goes goes so_far.is_written
-            (subst (λ n. AreWritten tells now new v n ys) here is_written);
+            written_both tells v start so_far.sectors ys so_far.leave leave_here known apart (not_refused v start count accepted).1 kept
+            (λ element position sector bytes there k below. none element position sector bytes there k (omega (arith, below, so_far.long, more))) so_far.is_written
+            (subst (λ n. AreWritten tells now new v n ys kept) here is_written);
         goes = goes_both;
-        calls = calls_both;
+        plain = plain_both;
       }
 
-      later : (slot : ℕ) → Failed now new slot → Failed old new slot
-      later slot failed = rose_since (old.failed_reads slot) (now.failed_reads slot) (new.failed_reads slot) (so_far.goes.reads_rise slot) failed
-
-      stopped_here : (slot : ℕ) → IsStopped now new v (start + at) (length ys) slot → IsStoppedInPieces old new v start (length (so_far.sectors ++ ys)) each slot
-      stopped_here slot (inl failed) =
-          let wider : length so_far.sectors + length ys ≡ length (so_far.sectors ++ ys) = sym (length-append so_far.sectors ys) in
-          inl (
+      stopped_here : (slot : ℕ) → IsStopped now new v (start + at) (length ys) slot → IsStopped old new v start (length (so_far.sectors ++ ys)) slot
+      stopped_here slot failed =
+          let wider : length so_far.sectors + length ys ≡ length (so_far.sectors ++ ys) = sym (length-append so_far.sectors ys) in (
             subst (λ n. IsWritten v start n slot) wider (written_behind v start (length so_far.sectors) (length ys) slot (subst (λ n. IsWritten v n (length ys) slot) here failed.0)),
             rose_since (old.failed_writes slot) (now.failed_writes slot) (new.failed_writes slot) (so_far.goes.writes_rise slot) failed.1,
           )
-      stopped_here slot (inr left) =
-          let begun : at ≡ so_far.done.pieces * each = so_far.done.are more in
-          let last : length ys ≡ piece_of each (length (so_far.sectors ++ ys) - at) = omega (arith, many, long, is) in
-          inr (record {
-            pieces = so_far.done.pieces;
-            more = omega (arith, begun, long, is, more, some);
-            none_left =
-                subst (λ n. NoneLeftOfRow (Failed old new) v (start + n) (piece_of each (length (so_far.sectors ++ ys) - n)) slot) begun
-                (subst (λ n. NoneLeftOfRow (Failed old new) v (start + at) n slot) last (row_more (Failed now new) (Failed old new) later v (start + at) (length ys) slot left));
-          })
 
-      pub write_failed : (fault : PieceFault) → IsPieceStopped now new v (start + at) (length ys) fault → ArePiecesWritten tells old new v start count each source_tells before after first (Err fault)
+      pub write_failed : (fault : PieceFault) → IsPieceStopped now new v (start + at) (length ys) fault → ArePiecesWritten tells old new v start count each ahead kept source_tells before after first (Err fault)
       write_failed (faults.Volume (Range most)) stopped = absurd stopped
       write_failed (faults.Volume Lost) stopped = absurd stopped
       write_failed (faults.Volume Unsure) stopped = absurd stopped
@@ -272,14 +273,10 @@ module _ {D : Type 0} (tells : Type 0) (v : Volume) (start count each : ℕ) (so
         left = after.left;
         are = record {
           accepted = accepted;
-          whole = subst (AreWholePieces each count) (sym long) (whole_of each count (at + size) (done_more each count at so_far.done more size is));
-          come = come.come (omega (arith, is, more, some));
+          whole = subst (EndWithPiece each ahead count) (sym long) (ends_more each ahead count at size some more is);
+          come = come.come (omega (arith, size_some each ahead count at size some more is));
           leave = both;
-          calls = λ none. record {
-            pieces = suc so_far.done.pieces;
-            few = (done_more each count at so_far.done more size is).few;
-            grew = calls_both none;
-          };
+          calls = λ none. let plain = plain_both none in record { pieces = plain.done.pieces; few = plain.done.few; grew = plain.calls };
         };
         stopped = stopped_here slot stopped;
         same_faults = come.same_faults;

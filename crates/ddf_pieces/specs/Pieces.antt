@@ -24,6 +24,12 @@ pub record AreWholePieces (each count blocks : ℕ) : Type 0 where
   pub pieces : ℕ
   pub are : blocks < count → blocks ≡ pieces * each
 
+-- So many blocks are all of a range, or those of its first pieces of which the first is shorter by some and the others have so many each.
+pub record EndWithPiece (each ahead count blocks : ℕ) : Type 0 where
+  pub within : blocks ≤ count
+  pub pieces : ℕ
+  pub are : 0 < blocks → blocks < count → ahead + blocks ≡ pieces * each
+
 -- a number for each of the first pieces of a range, and their sum
 abbrev pub over_pieces : ((start count : ℕ) → ℕ) → (each start count : ℕ) → (pieces : ℕ) → ℕ
 over_pieces number each start count zero = 0

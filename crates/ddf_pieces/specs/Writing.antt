@@ -8,15 +8,16 @@ use Rattle.ddf_bay.specs.State.{BayState}
 use Rattle.ddf_array.specs.Volume.{Volume}
 use Rattle.ddf_read.specs.declared.fault.VolumeFault.{VolumeFault}
 use Rattle.ddf_read.specs.declared.fault.VolumeFault.TheVariants.{Range, Lost, Unsure, Degraded, Disk}
-use Rattle.ddf_read.specs.Reading.{Failed}
 use Rattle.ddf_cells.specs.CellsOn.{copy_cells, write_stretches}
-use Rattle.ddf_write.specs.RowWrites.{IsSure, keeps_parity_anywhere, row_cells}
-use Rattle.ddf_write.specs.WriteRefused.{IsStopped, NoneLeftOfRow, write_refusal}
+use Rattle.ddf_write.specs.Keeping.{AreTheirValues, Keeping}
+use Rattle.ddf_write.specs.Looking.{piece_of}
+use Rattle.ddf_write.specs.RowWrites.{keeps_parity_anywhere, row_cells}
+use Rattle.ddf_write.specs.WriteRefused.{IsStopped, write_refusal}
 use Rattle.ddf_write.specs.Writing.{AddsWrites, HasWritten, IsAmongWrites, IsLeftByWrite, IsWritten}
 use Rattle.ddf_pieces.specs.declared.fault.PieceFault.{PieceFault}
 use Rattle.ddf_pieces.specs.declared.fault.PieceFault.TheVariants as faults
 use Rattle.ddf_pieces.specs.Coming.{HaveCome}
-use Rattle.ddf_pieces.specs.Pieces.{AreWholePieces, GrewByPieces, piece_of}
+use Rattle.ddf_pieces.specs.Pieces.{EndWithPiece, GrewByPieces}
 
 -- ---- what writes of blocks leave, one or several
 
@@ -31,9 +32,9 @@ module _ {D : Type 0} (tells : Type 0) (old new : BayState D) (volume : Volume) 
     pub written : new.sectors_written ≤ old.sectors_written + (copy_cells volume start (length sectors) + row_cells volume (length sectors))
 
   -- The blocks are written and synced: each available cell of a block has its bytes, and each parity cell of a row that they touch is the sum of the row where
-  -- no read failed or all copies were equal before. A slot on which nothing was pending has nothing pending. No write or sync failed.
-  pub record AreWritten : Type 0 where
-    pub written : tells → HasWritten volume start sectors (IsSure (Failed old new) volume old.held) new.held
+  -- what was kept were the values of the cells beside them. A slot on which nothing was pending has nothing pending. No write or sync failed.
+  pub record AreWritten (kept : Keeping) : Type 0 where
+    pub written : tells → HasWritten volume start sectors (AreTheirValues volume old.held kept) new.held
     pub durable : tells → (slot : ℕ) → IsWritten volume start (length sectors) slot → IsSettled new.may_hold new.held slot
     pub settled : tells → (slot : ℕ) → IsSettled old.may_hold old.held slot → IsSettled new.may_hold new.held slot
     pub unfailed : new.failed_writes ≡ old.failed_writes
@@ -49,26 +50,15 @@ IsPieceStopped old new volume start count (faults.Sink fault) = ⊥
 
 -- ---- pieces
 
--- no source is left at a slot for a data cell of a row that a piece touches, and the cell holds no block of that piece
-pub record NoneLeftOfPiece (failed : ℕ → Type 0) (volume : Volume) (start count each slot : ℕ) : Type 0 where
-  pub pieces : ℕ
-  pub more : pieces * each < count
-  pub none_left : NoneLeftOfRow failed volume (start + pieces * each) (piece_of each (count - pieces * each)) slot
-
--- the calls ended at a slot: a write or sync of it failed, and it has a sector that the writes give bytes; or no source is left there
-abbrev pub IsStoppedInPieces : {D : Type 0} (old new : BayState D) → Volume → (start count each slot : ℕ) → Type 0
-IsStoppedInPieces old new volume start count each slot =
-    (IsWritten volume start count slot × Rose (old.failed_writes slot) (new.failed_writes slot)) ⊎ NoneLeftOfPiece (Failed old new) volume start count each slot
-
 -- the most calls of a write of a piece to an array that keeps no parity
 abbrev pub piece_calls : {D : Type 0} → BayState D → Volume → (start count : ℕ) → ℕ
 piece_calls old volume start count = write_stretches volume start count + length old.sizes
 
-module _ {D : Type 0} (tells : Type 0) (old new : BayState D) (volume : Volume) (start count each : ℕ) (source_tells : Type 0) (before after : SourceState) (first : List ℕ) where
+module _ {D : Type 0} (tells : Type 0) (old new : BayState D) (volume : Volume) (start count each ahead : ℕ) (kept : Keeping) (source_tells : Type 0) (before after : SourceState) (first : List ℕ) where
   -- The sectors are the blocks that were given to be written: those of the first piece and of later ones that came. So many bytes that the source had weren't among them.
   pub record AreGivenBlocks (sectors : List (List ℕ)) (left : List ℕ) : Type 0 where
     pub accepted : write_refusal volume start count ≡ None
-    pub whole : AreWholePieces each count (length sectors)
+    pub whole : EndWithPiece each ahead count (length sectors)
     pub come : HaveCome source_tells before first sectors left
     pub leave : LeaveWrites tells old new volume start sectors
     pub calls : keeps_parity_anywhere volume ≡ false → GrewByPieces (piece_calls old volume) each start count old.calls new.calls
@@ -80,11 +70,11 @@ module _ {D : Type 0} (tells : Type 0) (old new : BayState D) (volume : Volume) 
     pub many : length sectors ≡ blocks
     pub left : List ℕ
     pub are : AreGivenBlocks sectors left
-    pub is_written : AreWritten tells old new volume start sectors
+    pub is_written : AreWritten tells old new volume start sectors kept
     pub same_faults : after.faults ≡ before.faults
     pub ends :
         ((blocks ≡ count) × (source_tells → after.left ≡ left))
-        ⊎ ((0 < blocks) × (blocks < count) × (source_tells → (length left < 512 * piece_of each (count - blocks)) × (after.left ≡ [])))
+        ⊎ ((0 < blocks) × (blocks < count) × (source_tells → (length left < 512 * piece_of each ahead blocks (count - blocks)) × (after.left ≡ [])))
 
   -- A read of the source failed behind these blocks, which are written and synced.
   pub record IsSourceFailed : Type 0 where
@@ -92,16 +82,16 @@ module _ {D : Type 0} (tells : Type 0) (old new : BayState D) (volume : Volume) 
     pub more : length sectors < count
     pub left : List ℕ
     pub are : AreGivenBlocks sectors left
-    pub is_written : AreWritten tells old new volume start sectors
+    pub is_written : AreWritten tells old new volume start sectors kept
     pub rose : Rose before.faults after.faults
     pub came : source_tells → GivesFront (record before { left = left }) after
 
-  -- The write of the last piece of these blocks ended at a slot.
+  -- The write of the last piece of these blocks ended at a slot: a write or sync of it failed.
   pub record IsWriteStopped (slot : ℕ) : Type 0 where
     pub sectors : List (List ℕ)
     pub left : List ℕ
     pub are : AreGivenBlocks sectors left
-    pub stopped : IsStoppedInPieces old new volume start (length sectors) each slot
+    pub stopped : IsStopped old new volume start (length sectors) slot
     pub same_faults : after.faults ≡ before.faults
     pub rest : source_tells → after.left ≡ left
 

@@ -1,4 +1,4 @@
-//! The sizes of pieces.
+//! The sizes of pieces: a range of any length goes by them, in memory for one. docs/LIMITS.md#a-call
 ghost use Rattle.std.specs.Prelude.{◌≡◌, ◌≤◌, ◌*◌, ◌/◌, ℕ, List, length};
 ghost use Rattle.ddf_pieces.specs.Coming.{AreSectorsOf512};
 ghost use Rattle.ddf_pieces.specs.Pieces.{bytes_of, piece_of, room_for};

@@ -1,36 +1,38 @@
 //! Writes of blocks of an array, piece by piece.
-ghost use Rattle.std.specs.Prelude.{◌≡◌, ◌+◌, ◌*◌, ◌/◌, ◌<◌, ◌≤◌, ◌^◌, None, true, false, length, take, OnOk, IfErr};
+ghost use Rattle.std.specs.Prelude.{◌≡◌, ◌+◌, ◌-◌, ◌*◌, ◌/◌, ◌<◌, ◌≤◌, ◌^◌, None, true, false, length, min, take, OnOk, IfErr};
 ghost use Rattle.ddf_array.specs.Apart.{IsApart};
 ghost use Rattle.ddf_array.specs.Sources.{trusts_parity};
 ghost use Rattle.ddf_array.specs.Volume.{Fits, IsVolume};
 ghost use Rattle.ddf_cells.specs.Touching.{GoesBetween};
+ghost use Rattle.ddf_write.specs.Keeping.{AllAreKept};
+ghost use Rattle.ddf_write.specs.Looking.{LiesBeside, piece_of};
 ghost use Rattle.ddf_write.specs.RowWrites.{keeps_parity_anywhere};
 ghost use Rattle.ddf_write.specs.WriteRefused as refused;
-ghost use Rattle.ddf_pieces.specs.Pieces.{piece_of};
 ghost use Rattle.ddf_pieces.specs.Writing.{ArePiecesWritten, AreWritten, IsPieceStopped, LeaveWrites, piece_calls};
 
 use crate::PieceFault;
-use crate::sizes::{piece_of, sectors_in};
+use crate::sizes::sectors_in;
 use crate::source::has_piece;
 use ddf_array::View;
 use ddf_bay::Bay;
 use ddf_bytes::{Sector, Source};
 use ddf_read::VolumeFault;
-use ddf_write::{write_blocks, write_refusal};
+use ddf_write::{Beside, Kept, piece_of, write_blocks, write_refusal};
 
-/// Writes so many blocks from one on, piece by piece: each of as many blocks as the room has whole sectors, and the last of what is left. The room begins with
-/// the first piece, already read; each later one is read from the source before it is written. Each piece is written as `write_blocks` writes it, and synced
-/// before the next is read. It takes no memory.
+/// Writes so many blocks from one on, piece by piece, in the pieces that were looked at before: no row has blocks of two of them, and what lies beside each is
+/// kept. The room begins with the first piece, already read; each later one is read from the source before it is written. Each piece is written as
+/// `write_blocks` writes it, and synced before the next is read. It takes no memory, and reads no disk.
 ///
 /// Answers how many leading blocks are written and synced: all, or, where the source ends before a later piece is full, those of the whole pieces before.
-/// Later blocks' cells are untouched then.
+/// Later blocks' cells are untouched then, and the parity of each row that was touched is right all the same.
 ///
 /// # Errors
-/// `Volume`: nothing is read or written where `write_blocks` refuses the whole range, by `Range`, `Lost` or `Degraded`; `Disk` where it ends so at a piece.
+/// `Volume`: nothing is read or written where `write_blocks` refuses the whole range, by `Range`, `Lost` or `Degraded`; `Disk` where a write or sync failed.
 /// `Source` where a read of the source failed: the pieces before it are written and synced.
 pub fn write_pieces<B: Bay, S: Source>(
     bay: &mut B,
     view: &View,
+    beside: &Beside,
     start: u64,
     count: u64,
     work: &mut [u8],
@@ -39,23 +41,27 @@ pub fn write_pieces<B: Bay, S: Source>(
     requires apart { IsApart view.now }
     requires fits { Fits (B.disks bay.old).sizes view.now }
     requires marked { keeps_parity_anywhere view.now ≡ true → trusts_parity view.now ≡ false }
-    requires room { 512 ≤ length work.old }
+    requires beside { LiesBeside view.now start count beside.now }
+    requires room { 512 * min beside.now.each count ≤ length work.old }
     // promise:cut
-    ensures done { ArePiecesWritten B.tells (B.disks bay.old) (B.disks bay.new) view.now start count (length work.old / 512) S.tells (S.input source.old) (S.input source.new)
-        (take (512 * piece_of (length work.old / 512) count) work.old) result }
+    ensures done { ArePiecesWritten B.tells (B.disks bay.old) (B.disks bay.new) view.now start count beside.now.each beside.now.ahead beside.now.kept S.tells (S.input source.old) (S.input source.new)
+        (take (512 * piece_of beside.now.each beside.now.ahead 0 count) work.old) result }
     ensures goes { GoesBetween (B.disks bay.old) (B.disks bay.new) }
+    // promise:beside
+    ensures reads { (B.disks bay.new).failed_reads ≡ (B.disks bay.old).failed_reads }
     ensures never_falls { (S.input source.old).faults ≤ (S.input source.new).faults }
 {
     if let Some(fault) = write_refusal(view, start, count as usize) {
         return Err(PieceFault::Volume(fault));
     }
-    write_each(bay, view, start, count, work, source)
+    write_each(bay, view, beside, start, count, work, source)
 }
 
 /// Writes one piece after another of blocks that nothing refuses.
 fn write_each<B: Bay, S: Source>(
     bay: &mut B,
     view: &View,
+    beside: &Beside,
     start: u64,
     count: u64,
     work: &mut [u8],
@@ -67,22 +73,23 @@ fn write_each<B: Bay, S: Source>(
     requires marked { keeps_parity_anywhere view.now ≡ true → trusts_parity view.now ≡ false }
     requires accepted { refused.write_refusal view.now start count ≡ None }
     requires small { start + count < 2 ^ 64 }
-    requires room { 512 ≤ length work.old }
-    ensures done { ArePiecesWritten B.tells (B.disks bay.old) (B.disks bay.new) view.now start count (length work.old / 512) S.tells (S.input source.old) (S.input source.new)
-        (take (512 * piece_of (length work.old / 512) count) work.old) result }
+    requires beside { LiesBeside view.now start count beside.now }
+    requires room { 512 * min beside.now.each count ≤ length work.old }
+    ensures done { ArePiecesWritten B.tells (B.disks bay.old) (B.disks bay.new) view.now start count beside.now.each beside.now.ahead beside.now.kept S.tells (S.input source.old) (S.input source.new)
+        (take (512 * piece_of beside.now.each beside.now.ahead 0 count) work.old) result }
     ensures goes { GoesBetween (B.disks bay.old) (B.disks bay.new) }
+    ensures reads { (B.disks bay.new).failed_reads ≡ (B.disks bay.old).failed_reads }
     ensures never_falls { (S.input source.old).faults ≤ (S.input source.new).faults }
 {
-    let each = work.len() / 512;
     let mut at = 0;
     while at < count {
-        let size = piece_of(each, count - at);
-        let piece = &mut work[..512 * size];
+        let size = piece_of(beside.each, beside.ahead, at, count - at);
+        let piece = &mut work[..512 * size as usize];
         if !has_piece(source, at, piece)? {
             return Ok(at);
         }
-        write_piece(bay, view, start + at, sectors_in(piece))?;
-        at += size as u64;
+        write_piece(bay, view, &beside.kept, start + at, sectors_in(piece))?;
+        at += size;
     }
     Ok(at)
 }
@@ -91,6 +98,7 @@ fn write_each<B: Bay, S: Source>(
 fn write_piece<B: Bay>(
     bay: &mut B,
     view: &View,
+    kept: &Kept,
     start: u64,
     piece: &[Sector],
 ) -> Result<(), PieceFault>
@@ -98,13 +106,15 @@ fn write_piece<B: Bay>(
     requires fits { Fits (B.disks bay.old).sizes view.now }
     requires marked { keeps_parity_anywhere view.now ≡ true → trusts_parity view.now ≡ false }
     requires accepted { refused.write_refusal view.now start (length piece.now) ≡ None }
+    requires all_kept { AllAreKept view.now start (length piece.now) kept.now }
     ensures leave { LeaveWrites B.tells (B.disks bay.old) (B.disks bay.new) view.now start piece.now }
-    ensures written { OnOk result (AreWritten B.tells (B.disks bay.old) (B.disks bay.new) view.now start piece.now) }
+    ensures written { OnOk result (AreWritten B.tells (B.disks bay.old) (B.disks bay.new) view.now start piece.now kept.now) }
     ensures stopped { IfErr result (IsPieceStopped (B.disks bay.old) (B.disks bay.new) view.now start (length piece.now)) }
     ensures goes { GoesBetween (B.disks bay.old) (B.disks bay.new) }
+    ensures reads { (B.disks bay.new).failed_reads ≡ (B.disks bay.old).failed_reads }
     ensures calls { keeps_parity_anywhere view.now ≡ false → (B.disks bay.new).calls ≤ (B.disks bay.old).calls + piece_calls (B.disks bay.old) view.now start (length piece.now) }
 {
-    match write_blocks(bay, view, start, piece) {
+    match write_blocks(bay, view, kept, start, piece) {
         Ok(()) => Ok(()),
         Err(VolumeFault::Disk(slot)) => Err(PieceFault::Volume(VolumeFault::Disk(slot))),
         Err(

@@ -2,6 +2,7 @@
 use Rattle.std.proofs.Common.{◌≡◌, ◌∙◌, inr, ⊎_elim, ℕ, ◌+◌, ◌*◌, ◌≤◌, List, Some, refl, sym, ap, arith, length, slice_get}
 use Rattle.std.proofs.Math.Nat.{mul-le-mul_right}
 use Rattle.ddf_bay.specs.Sectors.{Image}
+use Rattle.ddf_primary.specs.Cells.{height_of}
 use Rattle.ddf_array.specs.declared.part.Part.{Part}
 use Rattle.ddf_array.specs.declared.place.Place.{Place}
 use Rattle.ddf_array.specs.Sound.{AreSectors}
@@ -27,7 +28,7 @@ use Rattle.ddf_uncut_data.proofs.Held.{holds_same}
 fewer_rows : (v : Volume) (element position few many : ℕ) (image : Image) → few ≤ many → HasRebuilt v element position 0 many image image → HasRebuilt v element position 0 few image image
 fewer_rows v element position few many image le set part place slot sector target rows =
     let to = rows.to_is in
-    let grows : few * part.shape.strip ≤ many * part.shape.strip = mul-le-mul_right part.shape.strip le in
+    let grows : few * height_of part.shape ≤ many * height_of part.shape = mul-le-mul_right (height_of part.shape) le in
     set part place slot sector target (record { from_is = rows.from_is; to_is = omega (arith, to, grows); below = rows.below })
 
 -- a sector of the position is one of its extent

@@ -2,17 +2,14 @@
 use Rattle.std.proofs.Common.{◌≡◌, ◌∙◌, inl, inr, ⊎_elim, ℕ, zero, suc, ◌≤◌, Bool, true, false, List, [], ◌∷◌, Option, Some, None, refl, sym, ap, arith, slice_get, length, ◌&&◌}
 use Rattle.std.specs.Prelude.{is_some, nat_le, if◌then◌else◌}
 use Rattle.std.specs.List.{list_all, list_any}
-use Rattle.std.proofs.lemmas.Bool.{le-leb}
 use Rattle.ddf_bay.specs.Sectors.{Image}
-use Rattle.ddf_primary.specs.declared.layout.Layout.{Layout}
-use Rattle.ddf_primary.specs.declared.layout.Layout.TheVariants.{Raid0, Raid1, Parity, Jbod, Concatenation}
+use Rattle.ddf_data_array.proofs.LessRows.{enough}
 use Rattle.ddf_secondary.proofs.SizeFacts.{list_all_from}
-use Rattle.ddf_config.specs.Within.{has_enough}
 use Rattle.ddf_array.specs.declared.part.Part.{Part}
 use Rattle.ddf_array.specs.declared.place.Place.{Place}
 use Rattle.ddf_array.specs.Apart.{IsApart}
 use Rattle.ddf_array.specs.Cells.{is_in_every}
-use Rattle.ddf_array.specs.Levels.{keeps_parity, level_of}
+use Rattle.ddf_array.specs.Levels.{keeps_parity}
 use Rattle.ddf_array.specs.Places.{is_available}
 use Rattle.ddf_array.specs.Volume.{IsVolume, Volume}
 use Rattle.ddf_array.specs.Within.{is_mirrored, is_part_within, is_within}
@@ -20,12 +17,12 @@ use Rattle.ddf_rebuild.specs.Target.{IsOut}
 use Rattle.ddf_data_array.specs.Changing.{changed_item, in_sync, part_in_sync, place_in_sync}
 use Rattle.ddf_data_array.specs.Fewer.{AreFewerParts, ArePlaces, HasFewerRows, IsFewerPlace, LeavesRows}
 use Rattle.ddf_data_array.specs.Rows.{HasNoRows, IsFirstOut}
-use Rattle.ddf_data_array.proofs.Fewer.{away, same_parts as same_part_count}
+use Rattle.ddf_data_array.proofs.Fewer.{same_parts as same_part_count}
 use Rattle.ddf_data_array.proofs.Items.{changed_cases, few_away}
 use Rattle.ddf_uncut_data.specs.Blocks.{HoldsBlocks}
 use Rattle.ddf_uncut_data.specs.Replaced.{part_with, replaced_place, with_place}
 use Rattle.ddf_uncut_data.specs.Whole.{IsWhole, IsWholeBut}
-use Rattle.ddf_uncut_data.proofs.Less.{holds_less, parity_enough}
+use Rattle.ddf_uncut_data.proofs.Less.{holds_less}
 use Rattle.ddf_uncut_data.proofs.Whole.{in_sync_of, same_parts, same_places}
 
 some_is : {X : Type 0} (o : Option X) (one other : X) → o ≡ Some one → o ≡ Some other → one ≡ other
@@ -116,13 +113,6 @@ whole_synced v element position out whole k q other place other_at place_at = �
 
 -- ---- one place is away, of elements that keep parity
 
-enough_by : (layout : Layout) (places : List Place) → keeps_parity layout ≡ true → away places ≤ 1 → has_enough (level_of layout) is_available places ≡ true
-enough_by Raid0 places keeps few = absurd (cc)
-enough_by Raid1 places keeps few = absurd (cc)
-enough_by (Parity parity) places keeps few = parity_enough parity places ∙ le-leb (away places) 1 few
-enough_by Jbod places keeps few = absurd (cc)
-enough_by Concatenation places keeps few = absurd (cc)
-
 together : (mirrored : Bool) (parts : List Part) → mirrored ≡ false → list_all is_part_within parts ≡ true → (if mirrored then list_any is_part_within parts else list_all is_part_within parts) ≡ true
 together true parts alone all = absurd (cc)
 together false parts alone all = all
@@ -130,7 +120,7 @@ together false parts alone all = all
 pub within_but : (v : Volume) (element position : ℕ) → is_mirrored v ≡ false → ((k : ℕ) (part : Part) → slice_get v.parts k ≡ Some part → keeps_parity part.shape.layout ≡ true) → IsWholeBut element position v → is_within v ≡ true
 within_but v element position alone keep whole =
     together (is_mirrored v) v.parts alone (list_all_from is_part_within v.parts (λ k part at.
-    enough_by part.shape.layout part.places (keep k part at)
+    enough part.shape.layout part.places (keep k part at)
     (few_away part.places position (λ q place place_at apart. ⊎_elim (λ same. absurd (apart same.1)) (λ there. there) (whole k q part place at place_at)))))
 
 -- ---- no rows count

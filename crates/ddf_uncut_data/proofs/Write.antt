@@ -5,7 +5,6 @@ use Rattle.ddf_bay.specs.Sectors.{Image}
 use Rattle.ddf_array.specs.Redundant.{IsRedundant}
 use Rattle.ddf_array.specs.Sound.{AreSectors}
 use Rattle.ddf_array.specs.Volume.{Volume, IsVolume}
-use Rattle.ddf_array.proofs.Consistent.{consistent_if}
 use Rattle.ddf_write.specs.RowWrites.{IsSure}
 use Rattle.ddf_write.specs.Writing.{HasWritten, IsLeftByWrite}
 use Rattle.ddf_write.proofs.RedundantAfter.{redundant_after}
@@ -41,7 +40,7 @@ module _ (failed : ℕ → Type 0) (marked : Bool) (v : Volume) (start : ℕ) (s
   module _ (left : IsLeftByWrite (with_mark marked v) start sectors before behind) (has : HasWritten (with_mark marked v) start sectors (IsSure failed (with_mark marked v) before) behind) where
     redundant : IsRedundant (with_mark marked v) behind
     redundant = redundant_after (with_mark marked v) known holds.apart (not_degraded v whole) start sectors before behind are was_redundant left Unit tt
-        (record { cells = has.cells; parity = λ sure. has.parity (inr (consistent_if (with_mark marked v) before was_redundant).equal_copies) })
+        (record { cells = has.cells; parity = λ sure. has.parity (inr (λ slot lba cell. holds.kept.sound.are_sectors slot lba, was_redundant)) })
 
     once : IsKeptData none_absent (with_mark marked v) behind (once_written (exactly blocks) start sectors)
     once = kept_once none_absent (with_mark marked v) known holds.apart start sectors before behind (exactly blocks) writable

@@ -1,22 +1,20 @@
 -- The cells that a write sets, position by position, are the available cells of its blocks.
 use Rattle.std.proofs.Common.{◌≡◌, ◌∙◌, ◌⊎◌, inl, inr, ⊎_elim, ℕ, zero, suc, ◌+◌, ◌<◌, ◌≤◌, Bool, true, false, List, [], ◌∷◌, Option, Some, None, refl, sym, ap, arith, map, filter_map, length, slice_get, ◌||◌}
-use Rattle.std.specs.Prelude.{◌==◌, if◌then◌else◌}
+use Rattle.std.specs.Prelude.{◌==◌, option_and_then, option_map, if◌then◌else◌}
 use Rattle.std.specs.List.{cons_option, flat_map, range_with_len, sum_by}
 use Rattle.std.proofs.lemmas.Bool.{cases_lt, eqb-true, eq-eqb}
 use Rattle.std.proofs.lemmas.List.{length-append}
 use Rattle.std.proofs.lemmas.List.Sums.{sum_by-cons}
-use Rattle.ddf_primary.specs.Cells.{cells}
+use Rattle.ddf_primary.specs.Copies.{copy_on, sector_on}
 use Rattle.ddf_secondary.specs.declared.spot.Spot.{Spot}
 use Rattle.ddf_secondary.specs.Spots.{spots}
 use Rattle.ddf_array.specs.declared.part.Part.{Part}
-use Rattle.ddf_array.specs.declared.place.Place.{Place}
 use Rattle.ddf_array.specs.declared.site.Site.{Site}
 use Rattle.ddf_array.specs.Places.{site_at}
-use Rattle.ddf_array.specs.Levels.{is_on_every}
-use Rattle.ddf_array.specs.Cells.{cells_like, is_in_every, spots_like}
+use Rattle.ddf_array.specs.Cells.{is_in_every, spots_like}
 use Rattle.ddf_array.specs.Sources.{at_element, at_spot, copies, element_copies}
 use Rattle.ddf_array.specs.Volume.{Volume, IsVolume}
-use Rattle.ddf_cells.specs.CellsOn.{cell_by, cell_in, cell_of, cell_on, copy_cells, how_many, places_at, write_cells}
+use Rattle.ddf_cells.specs.CellsOn.{cell_in, cell_of, cell_on, copy_cells, how_many, places_at, write_cells}
 
 -- ---- sums
 
@@ -108,44 +106,26 @@ length-cons : (o : Option Site) (xs : List Site) → length (cons_option o xs) �
 length-cons None xs = let none : length xs ≡ 0 + length xs = omega arith in none
 length-cons (Some one) xs = let one_more : suc (length xs) ≡ 1 + length xs = omega arith in one_more
 
-length-kept : (places : List Place) (sector : ℕ) (xs : List ℕ)
-    → length (filter_map (λ (cell : ℕ × ℕ). site_at places cell.0 cell.1) (map (λ position. (position, sector)) xs)) ≡ sum_by (λ position. number (site_at places position sector)) xs
-length-kept places sector [] = refl
-length-kept places sector (x ∷ xs) =
-    length-cons (site_at places x sector) (filter_map (λ (cell : ℕ × ℕ). site_at places cell.0 cell.1) (map (λ position. (position, sector)) xs))
-    ∙ ap (λ n. number (site_at places x sector) + n) (length-kept places sector xs) ∙ sym (sum_by-cons (λ position. number (site_at places position sector)) x xs)
-
-past : (places : List Place) (position sector : ℕ) → length places ≤ position → number (site_at places position sector) ≡ 0
-past [] position sector le = refl
-past (p ∷ places) zero sector le = absurd (omega (arith, le))
-past (p ∷ places) (suc position) sector le = past places position sector (omega (arith, le))
-
-number_if : (b : Bool) (o : Option Site) → number (if b then o else None) ≡ (if b then number o else 0)
-number_if true o = refl
-number_if false o = refl
-
 -- ---- of an element
 
 module _ (part : Part) (block : ℕ) (long : length part.places ≡ part.shape.members) where
-  on_cell_by : (cell : ℕ × ℕ) (every : Bool) → sum_by (λ position. number (if every || cell.0 == position then site_at part.places position cell.1 else None)) (range_with_len 0 (length part.places))
-      ≡ length (filter_map (λ (c : ℕ × ℕ). site_at part.places c.0 c.1) (map (λ position. (position, cell.1)) (if every then range_with_len 0 part.shape.members else cell.0 ∷ [])))
-  on_cell_by cell true = sym (length-kept part.places cell.1 (range_with_len 0 part.shape.members) ∙ ap (λ n. sum_by (λ position. number (site_at part.places position cell.1)) (range_with_len 0 n)) (sym long))
-  on_cell_by cell false =
-      sum_same (λ position. number (if cell.0 == position then site_at part.places position cell.1 else None)) (λ position. if cell.0 == position then number (site_at part.places position cell.1) else 0)
-      (range_with_len 0 (length part.places)) (λ position. number_if (cell.0 == position) (site_at part.places position cell.1))
-      ∙ ⊎_elim
-      (λ (inside : cell.0 < length part.places). only_one cell.0 0 (length part.places) (λ position. number (site_at part.places position cell.1)) (omega arith) (omega (arith, inside)))
-      (λ (over : length part.places ≤ cell.0). only_none cell.0 0 (length part.places) (λ position. number (site_at part.places position cell.1)) (inr (omega (arith, over))) ∙ sym (past part.places cell.0 cell.1 over))
-      (cases_lt cell.0 (length part.places))
-      ∙ sym (length-kept part.places cell.1 (cell.0 ∷ []) ∙ sum_by-cons (λ position. number (site_at part.places position cell.1)) cell.0 [] ∙ omega arith)
+  abbrev there : ℕ × ℕ → Option Site
+  there cell = site_at part.places cell.0 cell.1
 
-  by_cell : (found : Option (ℕ × ℕ)) → sum_by (λ position. number (cell_by part position found)) (range_with_len 0 (length part.places))
-      ≡ length (filter_map (λ (c : ℕ × ℕ). site_at part.places c.0 c.1) (elim found [ None ↦ [] | Some cell ↦ cells_like part.shape.layout part.shape.members cell ]))
-  by_cell None = sum_zero (λ position. number None) (range_with_len 0 (length part.places)) (λ position. refl)
-  by_cell (Some cell) = on_cell_by cell (is_on_every part.shape.layout)
+  on_member : (member : ℕ) (found : Option ℕ) (others : List (ℕ × ℕ))
+      → number (option_and_then (site_at part.places member) found) + length (filter_map there others) ≡ length (filter_map there (cons_option (option_map (λ sector. (member, sector)) found) others))
+  on_member member None others = omega arith
+  on_member member (Some sector) others = sym (length-cons (site_at part.places member sector) (filter_map there others))
+
+  on_members : (members : List ℕ) → sum_by (λ position. number (cell_in part position block)) members ≡ length (filter_map there (filter_map (copy_on part.shape block) members))
+  on_members [] = refl
+  on_members (m ∷ members) =
+      sum_by-cons (λ position. number (cell_in part position block)) m members
+      ∙ ap (λ n. number (cell_in part m block) + n) (on_members members)
+      ∙ on_member m (sector_on part.shape m block) (filter_map (copy_on part.shape block) members)
 
   in_element : sum_by (λ position. number (cell_in part position block)) (range_with_len 0 (length part.places)) ≡ length (element_copies part block)
-  in_element = by_cell (slice_get (cells part.shape) block)
+  in_element = on_members (range_with_len 0 (length part.places)) ∙ ap (λ n. length (filter_map there (filter_map (copy_on part.shape block) (range_with_len 0 n)))) long
 
 -- ---- of the array
 

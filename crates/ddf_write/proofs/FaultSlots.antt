@@ -1,16 +1,12 @@
 -- A fault of a write names a slot of the array's available places.
-use Rattle.std.proofs.Common.{◌≡◌, ◌∙◌, ℕ, ◌+◌, ◌<◌, Option, Some, None, refl, sym, subst, inl, inr, map, slice_get}
-use Rattle.std.specs.Prelude.{option_to_list}
+use Rattle.std.proofs.Common.{◌≡◌, ◌∙◌, ℕ, ◌+◌, ◌<◌, Some, sym, subst, inl, inr, slice_get}
 use Rattle.ddf_bay.specs.State.{BayState}
 use Rattle.ddf_array.specs.declared.part.Part.{Part}
-use Rattle.ddf_array.specs.Places.{site_at, site_on}
-use Rattle.ddf_array.specs.Rows.{block_at}
-use Rattle.ddf_array.specs.Sources.{copy, sources}
+use Rattle.ddf_array.specs.Places.{site_on}
 use Rattle.ddf_array.specs.Volume.{IsVolume, Volume}
-use Rattle.ddf_read.specs.Reading.{FirstHasSlot, IsOn}
+use Rattle.ddf_read.specs.Reading.{IsOn}
 use Rattle.ddf_cells.proofs.Alike.{cell_site, copy_is_cell}
 use Rattle.ddf_cells.proofs.CopiesOn.{block_at_sits}
-use Rattle.ddf_cells.proofs.FirstSlots.{block_on, own_on}
 use Rattle.ddf_cells.proofs.OnCells.{block_below}
 use Rattle.ddf_cells.proofs.Surely.{cell_on}
 use Rattle.ddf_write.specs.WriteRefused.{IsStopped}
@@ -33,12 +29,5 @@ module _ (v : Volume) (known : IsVolume v) (start count : ℕ) where
       cell_on v slot lba
       (cell_site v known parity.element parity.part is.is_part is.position parity.sector (site_on slot lba) (touched_below parity.element parity.sector parity.part is.is_part is.touched) is.is_there)
 
-  source_by : (element : ℕ) (part : Part) → slice_get v.parts element ≡ Some part → (position sector : ℕ) → sector < part.shape.blocks → (slot : ℕ) (found : Option ℕ)
-      → FirstHasSlot (λ other. other ≡ slot) (elim found [ None ↦ map copy (option_to_list (site_at part.places position sector)) | Some block ↦ sources v block ]) → IsOn v slot
-  source_by element part is_part position sector below slot None has = own_on v known element part is_part position sector below slot (site_at part.places position sector) refl has
-  source_by element part is_part position sector below slot (Some block) has = block_on v block slot has
-
   pub stopped_on : {D : Type 0} (a b : BayState D) (slot : ℕ) → IsStopped a b v start count slot → IsOn v slot
-  stopped_on a b slot (inl failed) = written_on slot failed.0
-  stopped_on a b slot (inr left) =
-      source_by left.element left.part left.is_part left.position left.sector (touched_below left.element left.sector left.part left.is_part left.touched) slot (block_at v left.element left.position left.sector) left.of_cell.none_left.is_of_first
+  stopped_on a b slot failed = written_on slot failed.0

@@ -10,3 +10,8 @@ pub mod RowsUntouched
 pub mod RedundantAfter
 pub mod WrittenValues
 pub mod CellsCount
+pub mod KeptValues
+pub mod Gathered
+pub mod Marking
+mod Wholly
+pub mod Looked

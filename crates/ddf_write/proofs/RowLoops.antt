@@ -2,16 +2,15 @@
 use Rattle.std.proofs.Common.{◌≡◌, ◌≢◌, ◌∙◌, ◌⊎◌, inl, inr, ⊎_elim, ℕ, ◌+◌, ◌-◌, ◌/◌, ◌<◌, ◌≤◌, Bool, true, false, List, Some, None, sym, ap, subst, arith, length, slice_get}
 use Rattle.std.specs.Prelude.{if◌then◌else◌}
 use Rattle.std.proofs.lemmas.Bool.{cases_lt}
-use Rattle.std.proofs.lemmas.Nat.{div_below}
 use Rattle.std.proofs.lemmas.Option.{slice_get_within}
 use Rattle.ddf_bay.specs.Sectors.{Image}
 use Rattle.ddf_bay.specs.State.{BayState}
 use Rattle.ddf_primary.specs.declared.cell.Cell.{Cell}
-use Rattle.ddf_primary.specs.declared.layout.Layout.{Layout}
-use Rattle.ddf_primary.specs.declared.layout.Layout.TheVariants.{Raid0, Raid1, Parity, Jbod, Concatenation}
 use Rattle.ddf_primary.specs.Cells as cells_of
-use Rattle.ddf_primary.specs.Cells.{cells, depth_by, depth_of, parity_member, rows_by, rows_of}
+use Rattle.ddf_primary.specs.Cells.{cells, depth_of, parity_member, rows_of}
 use Rattle.ddf_primary.proofs.ShapeFacts.{cell_facts}
+use Rattle.ddf_primary.proofs.Needs.{parity_keeps, parity_alone, row_below}
+use Rattle.ddf_primary.proofs.Copies.{one_copy}
 use Rattle.ddf_secondary.specs.declared.element.ElementSize.{ElementSize}
 use Rattle.ddf_secondary.specs.declared.level.SecondaryLevel.{SecondaryLevel}
 use Rattle.ddf_secondary.specs.declared.level.SecondaryLevel.TheVariants.{Striped, Mirrored, Concatenated, Spanned}
@@ -29,20 +28,16 @@ use Rattle.ddf_array.specs.Values.{bytes_at}
 use Rattle.ddf_array.specs.Volume.{Volume, IsVolume}
 use Rattle.ddf_array.proofs.Consistent.{position_within}
 use Rattle.ddf_array.proofs.Elements.{parts_count}
-use Rattle.ddf_read.specs.Reading.{Failed}
-use Rattle.ddf_write.specs.RowWrites.{AllRows, AreTouched, IsFilled, IsOnlyCell, IsSure, KeepsSums, RowsIn, RowsOf, parity_cells, parity_cells_of}
+use Rattle.ddf_write.specs.RowWrites.{AllRows, AreTouched, IsFilled, IsOnlyCell, KeepsSums, RowsIn, RowsOf, parity_cells, parity_cells_of}
 use Rattle.ddf_cells.specs.Touching.{Writes}
 use Rattle.ddf_cells.specs.Degraded.{is_degraded}
-use Rattle.ddf_write.specs.WriteRefused.{IsStopped, sources_in_write}
+use Rattle.ddf_write.specs.WriteRefused.{IsStopped}
 use Rattle.ddf_array.specs.Apart.{IsApart}
 use Rattle.ddf_write.specs.Writing.{IsParityAt, IsTouched, MayGive}
 use Rattle.ddf_cells.proofs.CopiesOn.{block_at_sits, sits_block_at}
 use Rattle.ddf_cells.proofs.OnCells.{Sits, block_below, in_every_holds, on_cell, one_place, sector_below, spot_of}
-use Rattle.ddf_bay.proofs.Steps.{rose_since, rose_then}
-use Rattle.ddf_write.proofs.RowReads.{sure_fewer}
+use Rattle.ddf_bay.proofs.Steps.{rose_since}
 use Rattle.ddf_write.proofs.RowSteps.{parity_of}
-use Rattle.ddf_read.proofs.Tries.{NotRead-wider}
-use Rattle.ddf_cells.proofs.DataCells.{keeps}
 use Rattle.ddf_write.proofs.RowsRight.{row_stays}
 use Rattle.ddf_write.proofs.Gives.{may_cell}
 use Rattle.ddf_cells.specs.Parity.{IsOfRows}
@@ -53,26 +48,12 @@ some_is e = cc
 
 -- ---- the only cell of a block on an element
 
-row_by : (layout : Layout) (members strip blocks x : ℕ) → keeps_parity layout ≡ true → 0 < strip → x < depth_by layout strip blocks → x / strip < rows_by layout members strip blocks
-row_by Raid0 members strip blocks x keeps some below = absurd (cc)
-row_by Raid1 members strip blocks x keeps some below = absurd (cc)
-row_by (Parity parity) members strip blocks x keeps some below = div_below x strip (blocks / strip) some below
-row_by Jbod members strip blocks x keeps some below = absurd (cc)
-row_by Concatenation members strip blocks x keeps some below = absurd (cc)
-
 inner_by : (level : SecondaryLevel) (sizes : List ElementSize) (items : List Spot) (element i j block : ℕ) → spots_of.HoldsBy level sizes items (spot_of element i) block
     → spots_of.HoldsBy level sizes items (spot_of element j) block → i ≡ j
 inner_by Striped sizes items element i j block one other = ap (λ (s : Spot). s.block) (some_is (sym one ∙ other))
 inner_by Mirrored sizes items element i j block one other = ap (λ (s : Spot). s.block) (some_is (sym one.1 ∙ other.1))
 inner_by Concatenated sizes items element i j block one other = ap (λ (s : Spot). s.block) (some_is (sym one ∙ other))
 inner_by Spanned sizes items element i j block one other = ap (λ (s : Spot). s.block) (some_is (sym one ∙ other))
-
-cell_by : (layout : Layout) (members : ℕ) (items : List (ℕ × ℕ)) (p x p' x' i : ℕ) → keeps_parity layout ≡ true → cells_of.HoldsBy layout members items p x i → cells_of.HoldsBy layout members items p' x' i → x ≡ x'
-cell_by Raid0 members items p x p' x' i keeps one other = absurd (cc)
-cell_by Raid1 members items p x p' x' i keeps one other = absurd (cc)
-cell_by (Parity parity) members items p x p' x' i keeps one other = ap (λ (c : ℕ × ℕ). c.1) (some_is (sym one ∙ other))
-cell_by Jbod members items p x p' x' i keeps one other = absurd (cc)
-cell_by Concatenation members items p x p' x' i keeps one other = absurd (cc)
 
 module _ (v : Volume) (known : IsVolume v) (element : ℕ) (part : Part) (is_part : slice_get v.parts element ≡ Some part) where
   pub same_part : (p x b : ℕ) (sits : Sits v element p x b) → sits.part ≡ part
@@ -83,7 +64,7 @@ module _ (v : Volume) (known : IsVolume v) (element : ℕ) (part : Part) (is_par
       let first : cells_of.Holds part.shape p x one.inner = subst (λ (q : Part). cells_of.Holds q.shape p x one.inner) (same_part p x b one) one.on_position in
       let second : cells_of.Holds part.shape p' x' other.inner = subst (λ (q : Part). cells_of.Holds q.shape p' x' other.inner) (same_part p' x' b other) other.on_position in
       let inner : other.inner ≡ one.inner = inner_by v.tiers.level v.tiers.sizes (spots v.tiers) element other.inner one.inner b other.in_element one.in_element in
-      cell_by part.shape.layout part.shape.members (cells part.shape) p x p' x' one.inner keep first (subst (λ i. cells_of.Holds part.shape p' x' i) inner second)
+      one_copy part.shape p x p' x' one.inner (parity_alone part.shape.layout keep) first (subst (λ i. cells_of.Holds part.shape p' x' i) inner second)
 
   -- the cell that the placement gives
   pub only_cell : keeps_parity part.shape.layout ≡ true → (block : ℕ) (spot : Spot) → slice_get (spots v.tiers) block ≡ Some spot → (is_in_every v.tiers.level ≡ true) ⊎ (spot.element ≡ element) → (cell : Cell)
@@ -101,7 +82,7 @@ module _ (v : Volume) (known : IsVolume v) (element : ℕ) (part : Part) (is_par
         holds_it = sits_block_at v known element cell.member cell.sector block sits;
         only = λ position sector other. one_sector keep position sector cell.member cell.sector block (block_at_sits v known element position sector block other) sits;
         row_is = row;
-        in_rows = subst (λ n. n < rows_of part.shape) (sym row) (row_by part.shape.layout part.shape.members part.shape.strip part.shape.blocks cell.sector keep (omega (arith, shape.some_strip)) deep);
+        in_rows = subst (λ n. n < rows_of part.shape) (sym row) (row_below part.shape.layout part.shape.members part.shape.strip part.shape.blocks cell.sector keep (omega (arith, shape.some_strip)) deep);
         below = block_below v known element cell.member cell.sector block sits;
       }
 
@@ -271,7 +252,7 @@ pub rows_no_parity : (v : Volume) (start count element : ℕ) (Q : (element sect
     → RowsIn v start count element Q
 rows_no_parity v start count element Q part is_part without sector q one is =
     let same : q ≡ part = some_is (sym is.is_part ∙ is_part) in
-    absurd (never (without ∙ ap (λ (r : Part). keeps_parity r.shape.layout) (sym same) ∙ keeps q.shape.layout q.shape.members (sector / q.shape.strip) is.position is.is_parity))
+    absurd (never (without ∙ ap (λ (r : Part). keeps_parity r.shape.layout) (sym same) ∙ parity_keeps q.shape.layout q.shape.members (sector / q.shape.strip) is.position is.is_parity))
   where
     never : false ≡ true → ⊥
     never e = cc
@@ -304,29 +285,5 @@ cells_of_parity parts count element part at keep = ap (parity_cells_of count) at
 -- ---- failures
 
 module _ {D : Type 0} {a b c : BayState D} {t u w x : List Bool} (v : Volume) (start : ℕ) (sectors : List (List ℕ)) (tells : Type 0) (first : Writes (MayGive v start sectors) tells a b t u) (next : Writes (MayGive v start sectors) tells b c w x) where
-  pub failed_since : (slot : ℕ) → Failed b c slot → Failed a c slot
-  failed_since slot rose = rose_since (a.failed_reads slot) (b.failed_reads slot) (c.failed_reads slot) (first.reads_rise slot) rose
-
-  pub failed_then : (slot : ℕ) → Failed a b slot → Failed a c slot
-  failed_then slot rose = rose_then (a.failed_reads slot) (b.failed_reads slot) (c.failed_reads slot) (first.reads_rise slot) rose (next.reads_rise slot)
-
   pub stopped_since : (count slot : ℕ) → IsStopped b c v start count slot → IsStopped a c v start count slot
-  stopped_since count slot (inl (written, rose)) = inl (written, rose_since (a.failed_writes slot) (b.failed_writes slot) (c.failed_writes slot) (first.writes_rise slot) rose)
-  stopped_since count slot (inr left) = inr (record {
-    element = left.element;
-    sector = left.sector;
-    part = left.part;
-    is_part = left.is_part;
-    keeps = left.keeps;
-    touched = left.touched;
-    position = left.position;
-    is_position = left.is_position;
-    is_data = left.is_data;
-    of_cell = record { is_other = left.of_cell.is_other; none_left = NotRead-wider failed_since (sources_in_write v left.element left.part left.position left.sector) (Some slot) left.of_cell.none_left };
-  })
-
-  pub sure_before : (entry : Image) → IsSure (Failed a c) v entry → IsSure (Failed a b) v entry
-  sure_before entry sure = sure_fewer (Failed a b) (Failed a c) v entry failed_then sure
-
-  pub sure_here : (entry : Image) → IsSure (Failed a c) v entry → IsSure (Failed b c) v entry
-  sure_here entry sure = sure_fewer (Failed b c) (Failed a c) v entry failed_since sure
+  stopped_since count slot (written, rose) = (written, rose_since (a.failed_writes slot) (b.failed_writes slot) (c.failed_writes slot) (first.writes_rise slot) rose)

@@ -4,6 +4,7 @@ use Rattle.std.proofs.lemmas.Bool.{cases_lt}
 use Rattle.ddf_bay.specs.Sectors.{Image}
 use Rattle.ddf_primary.specs.Cells.{parity_member}
 use Rattle.ddf_primary.proofs.ShapeFacts.{cell_facts}
+use Rattle.ddf_primary.proofs.Needs.{parity_keeps}
 use Rattle.ddf_array.specs.declared.part.Part.{Part}
 use Rattle.ddf_array.specs.declared.site.Site.{Site}
 use Rattle.ddf_array.specs.Apart.{IsApart}
@@ -14,7 +15,7 @@ use Rattle.ddf_array.specs.Volume.{Volume, IsVolume}
 use Rattle.ddf_array.proofs.Consistent.{position_within}
 use Rattle.ddf_cells.specs.Degraded.{is_degraded}
 use Rattle.ddf_cells.proofs.CopiesOn.{block_at_sits, on_position, sits_block_at}
-use Rattle.ddf_cells.proofs.DataCells.{keeps, read_from_one, row_is, same_sums}
+use Rattle.ddf_cells.proofs.DataCells.{read_from_one, row_is, same_sums}
 use Rattle.ddf_cells.proofs.OnCells.{block_below, moved, on_cell, one_place}
 use Rattle.ddf_cells.proofs.Whole.{whole_site}
 use Rattle.ddf_write.specs.Writing.{IsLeftByWrite, IsTouched}
@@ -110,6 +111,6 @@ module _ (v : Volume) (known : IsVolume v) (apart : IsApart v) (start : ℕ) (se
       row_is v known element part is_part sector parity is_parity after below
       ∙ same_sums v known element part is_part sector parity is_parity (cell_value v after element part sector) (cell_value v before element part sector) (length part.places)
       (λ other under off.
-      let own = whole_site v whole element part is_part (keeps part.shape.layout part.shape.members (sector / part.shape.strip) parity is_parity) other sector under in
+      let own = whole_site v whole element part is_part (parity_keeps part.shape.layout part.shape.members (sector / part.shape.strip) parity is_parity) other sector under in
       value_untouched other own.0 under own.1)
       ∙ sym (row_is v known element part is_part sector parity is_parity before below)

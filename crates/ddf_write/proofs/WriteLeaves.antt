@@ -3,6 +3,7 @@ use Rattle.std.proofs.Common.{◌≡◌, ◌≢◌, ◌∙◌, ◌⊎◌, inl, i
 use Rattle.std.specs.Prelude.{slice_index_or, option_map, option_and_then, if◌then◌else◌}
 use Rattle.ddf_bay.specs.Sectors.{Image, Outcomes, IsLeft}
 use Rattle.ddf_bay.specs.Moments.{IsSettled}
+use Rattle.ddf_primary.proofs.Needs.{parity_keeps}
 use Rattle.ddf_array.specs.declared.part.Part.{Part}
 use Rattle.ddf_array.specs.declared.place.Place.{Place}
 use Rattle.ddf_array.specs.declared.site.Site.{Site}
@@ -19,7 +20,7 @@ use Rattle.ddf_array.specs.Apart.{IsApart}
 use Rattle.ddf_write.specs.Writing.{HasWritten, IsAmongWrites, IsLeftByWrite, MayGive}
 use Rattle.ddf_cells.proofs.CopiesOn.{block_at_sits, on_position}
 use Rattle.ddf_cells.proofs.OnCells.{block_below, no_parity, on_cell, one_owner}
-use Rattle.ddf_cells.proofs.DataCells.{keeps, read_from_one, row_is, same_sums}
+use Rattle.ddf_cells.proofs.DataCells.{read_from_one, row_is, same_sums}
 use Rattle.ddf_cells.proofs.Whole.{whole_site}
 use Rattle.ddf_write.proofs.Gives.{may_cell}
 
@@ -97,7 +98,7 @@ module _ (v : Volume) (known : IsVolume v) (apart : IsApart v) (whole : is_degra
     cells = λ k i one below at. same_copy (start + k) i one at ∙ written.cells k i one below at;
     parity = λ is_sure element sector part one is.
         let below = position_within part.places is.position sector one is.is_there in
-        let keep = keeps part.shape.layout part.shape.members (sector / part.shape.strip) is.position is.is_parity in
+        let keep = parity_keeps part.shape.layout part.shape.members (sector / part.shape.strip) is.position is.is_parity in
         same_on element is.position sector part one is.is_part is.is_there
         ∙ written.parity is_sure element sector part one is
         ∙ row_is v known element part is.is_part sector is.position is.is_parity held below

@@ -4,6 +4,7 @@ use Rattle.std.specs.Prelude.{count_by, nat_lt, slice_index_or, if◌then◌else
 use Rattle.std.specs.List.{list_all}
 use Rattle.std.proofs.lemmas.List.Sums.{sum_by-cons}
 use Rattle.ddf_bay.specs.Sectors.{Image}
+use Rattle.ddf_primary.proofs.Needs.{parity_keeps}
 use Rattle.ddf_array.specs.declared.place.Place.{Place}
 use Rattle.ddf_array.specs.declared.site.Site.{Site}
 use Rattle.ddf_array.specs.Apart.{IsApart}
@@ -21,7 +22,7 @@ use Rattle.ddf_read.specs.declared.fault.VolumeFault.TheVariants.{Range, Lost, D
 use Rattle.ddf_cells.specs.Degraded.{is_degraded}
 use Rattle.ddf_write.specs.WriteRefused.{write_refusal}
 use Rattle.ddf_write.specs.Writing.{HasWritten, IsLeftByWrite}
-use Rattle.ddf_cells.proofs.DataCells.{at_first, keeps, value_first}
+use Rattle.ddf_cells.proofs.DataCells.{at_first, value_first}
 use Rattle.ddf_cells.proofs.Whole.{none_lacks}
 use Rattle.ddf_write.proofs.WriteLeaves.{cell_stays, unmarked_redundant}
 
@@ -59,7 +60,7 @@ sound_after is_absent v marked image whole are redundant = record {
   redundant = λ unmarked within. unmarked_redundant v image marked redundant;
   parity = λ unmarked within element sector position part one is_part away absent is_parity below at holds.
       let lacks = none_lacks v.parts whole element part is_part in
-      let keep = keeps part.shape.layout part.shape.members (sector / part.shape.strip) position is_parity in
+      let keep = parity_keeps part.shape.layout part.shape.members (sector / part.shape.strip) position is_parity in
       let none = none_away part.places (all_there (keeps_parity part.shape.layout) (list_all is_available part.places) keep lacks) in
       absurd (omega (arith, away, none));
 }

@@ -1,4 +1,4 @@
--- When the sum of a row that is read while blocks are written is sure (profile).
+-- The rows that blocks touch which are written, and when their sums are sure (profile).
 use Rattle.std.specs.Prelude.{◌≡◌, ◌⊎◌, ℕ, ◌+◌, ◌/◌, ◌<◌, List, [], Bool, Option, Some, None, if◌then◌else◌, slice_get, slice_index_or, length}
 use Rattle.std.specs.List.{list_any, range_with_len, sum_by}
 use Rattle.ddf_bay.specs.Sectors.{Image}
@@ -7,18 +7,23 @@ use Rattle.ddf_primary.specs.Cells.{rows_of}
 use Rattle.ddf_array.specs.declared.part.Part.{Part}
 use Rattle.ddf_array.specs.declared.site.Site.{Site}
 use Rattle.ddf_array.specs.Levels.{keeps_parity}
+use Rattle.ddf_array.specs.Redundant.{IsRedundant}
 use Rattle.ddf_array.specs.Rows.{block_at, row_sum}
 use Rattle.ddf_array.specs.Values.{bytes_at}
 use Rattle.ddf_array.specs.Volume.{Volume}
 use Rattle.ddf_read.specs.Reading.{IsOn}
-use Rattle.ddf_cells.specs.CellSources.{HaveEqualCopies}
+use Rattle.ddf_cells.specs.Alike.{IsCell}
 use Rattle.ddf_cells.specs.CellsOn.{cell_on}
 use Rattle.ddf_cells.specs.Touching.{IsTouchedSlot}
 use Rattle.ddf_write.specs.Writing.{IsLeftByWrite, IsParityAt, IsTouched}
 
--- no read failed of a disk on which the array has an available cell, or all copies of each block were equal before
+-- each available cell of an array has a whole sector
+abbrev pub HaveSectors : Volume → Image → Type 0
+HaveSectors volume image = (slot lba : ℕ) → IsCell volume slot lba → length (image slot lba) ≡ 512
+
+-- no read failed of a disk on which the array has an available cell, or the array was redundant before
 abbrev pub IsSure : (failed : ℕ → Type 0) → Volume → Image → Type 0
-IsSure failed volume entry = ((slot : ℕ) → IsOn volume slot → failed slot → ⊥) ⊎ HaveEqualCopies volume entry
+IsSure failed volume entry = ((slot : ℕ) → IsOn volume slot → failed slot → ⊥) ⊎ (HaveSectors volume entry × IsRedundant volume entry)
 
 -- the cells of these blocks hold their bytes
 abbrev pub AllSet : Volume → (start : ℕ) → List (List ℕ) → Image → Type 0

@@ -1,36 +1,35 @@
-//! The parity of rows that are touched while blocks are written, by runs of neighbouring rows.
-ghost use Rattle.std.specs.Prelude.{◌≡◌, ◌≢◌, ◌⊎◌, ◌+◌, ◌<◌, ◌≤◌, ◌^◌, ℕ, List, Some, false, true, length, slice_get, OnOk, IfOk, IfErr, MatchOption};
+//! The parity of rows that are touched while blocks are written, by runs of neighbouring rows. docs/DECISIONS-COMMANDS.md#blocks-written
+ghost use Rattle.std.specs.Prelude.{◌≡◌, ◌⊎◌, ◌+◌, ◌<◌, ◌≤◌, ◌^◌, ℕ, List, Some, false, true, length, slice_get, OnOk, IfOk, IfErr};
 ghost use Rattle.ddf_array.specs.declared.site.Site.{Site};
 ghost use Rattle.ddf_array.specs.Apart.{IsApart};
 ghost use Rattle.ddf_array.specs.Levels.{keeps_parity};
 ghost use Rattle.ddf_array.specs.Places.{site_at};
-ghost use Rattle.ddf_array.specs.Rows.{block_at, row_sum};
-ghost use Rattle.ddf_array.specs.Sources.{trusts_parity};
+ghost use Rattle.ddf_array.specs.Rows.{row_sum};
 ghost use Rattle.ddf_array.specs.Values.{bytes_at};
 ghost use Rattle.ddf_array.specs.Volume.{Fits, IsVolume, capacity};
-ghost use Rattle.ddf_read.specs.Reading.{Failed};
-ghost use Rattle.ddf_cells.specs.CellSources.{IsReadable};
 ghost use Rattle.ddf_cells.specs.Degraded.{is_degraded};
 ghost use Rattle.ddf_cells.specs.Parity.{IsOfRows};
 ghost use Rattle.ddf_cells.specs.RowSums.{HoldsParityAlong};
 ghost use Rattle.ddf_cells.specs.Touching.{IsTouchedSlot, Writes};
-ghost use Rattle.ddf_write.specs.RowWrites.{AllRows, AreTouched, IsFilled, IsNoted, IsOnlyCell, IsSummed, IsSure, KeepsSums, RowsIn, keeps_parity_anywhere, parity_cells, row_cells};
+ghost use Rattle.ddf_write.specs.Keeping.{AllAreKept, AreTheirValues};
+ghost use Rattle.ddf_write.specs.RowWrites.{AllRows, AreTouched, IsFilled, IsNoted, IsSummed, KeepsSums, RowsIn, keeps_parity_anywhere, parity_cells, row_cells};
 ghost use Rattle.ddf_write.specs.WriteRefused.{IsStopped};
-ghost use Rattle.ddf_write.specs.Writing.{IsTouched, MayGive};
+ghost use Rattle.ddf_write.specs.Writing.{MayGive};
 
+use crate::kept::Kept;
 use crate::row::sum_rows;
+use crate::touching::{cell_in_element, touched_from, untouched_from};
 use ddf_array::{Part, View};
 use ddf_bay::Bay;
 use ddf_bytes::Sector;
-use ddf_cells::{SECTORS, block_at, blocks_along, piece_at, touch};
-use ddf_primary::Cell;
+use ddf_cells::{SECTORS, blocks_along, piece_at, touch};
 use ddf_read::keeps_parity;
 
-/// Sets the parity of neighbouring rows to the sums of their data cells. After a failure, the slot that failed, or at which
-/// no source of a data cell is left.
+/// Sets the parity of neighbouring rows to the sums of their data cells. After a failure, the slot that failed.
 fn set_run<B: Bay>(
     bay: &mut B,
     view: &View,
+    kept: &Kept,
     part: &Part,
     element: usize,
     parity: usize,
@@ -43,8 +42,6 @@ fn set_run<B: Bay>(
     requires known { IsVolume view.now }
     requires apart { IsApart view.now }
     requires fits { Fits (B.disks bay.old).sizes view.now }
-    requires readable { IsReadable view.now }
-    requires marked { trusts_parity view.now ≡ false }
     requires whole { is_degraded view.now ≡ false }
     requires is_part { slice_get view.now.parts element ≡ Some part.now }
     requires keeps { keeps_parity part.now.shape.layout ≡ true }
@@ -53,15 +50,18 @@ fn set_run<B: Bay>(
     requires some { 0 < count }
     requires few { count ≤ 32 }
     requires small { sector + count < 2 ^ 64 }
+    requires numbers { start + length from.now < 2 ^ 64 }
     requires sectors { sector + count ≤ part.now.shape.blocks }
+    requires all_kept { AllAreKept view.now start (length from.now) kept.now }
     requires rows_touched { AreTouched view.now start (length from.now) element sector count }
     ensures writes { Writes (MayGive view.now start from.now) B.tells (B.disks bay.old) (B.disks bay.new) touched.old touched.new }
     ensures only { B.tells → (s l : ℕ) → ((B.disks bay.new).held s l ≡ (B.disks bay.old).held s l) ⊎ IsOfRows part.now parity sector count s l }
     ensures summed { B.tells → (entry : ℕ → ℕ → List ℕ) → IsFilled view.now start from.now entry (B.disks bay.old).held
-        → OnOk result (IsSure (Failed (B.disks bay.old) (B.disks bay.new)) view.now entry → (j : ℕ) (one : Site) → j < count → site_at part.now.places parity (sector + j) ≡ Some one
+        → OnOk result (AreTheirValues view.now entry kept.now → (j : ℕ) (one : Site) → j < count → site_at part.now.places parity (sector + j) ≡ Some one
         → bytes_at (B.disks bay.new).held one ≡ row_sum view.now (B.disks bay.new).held element part.now (sector + j)) }
     ensures noted { OnOk result ((j : ℕ) (one : Site) → j < count → site_at part.now.places parity (sector + j) ≡ Some one → IsTouchedSlot touched.new one.slot) }
     ensures unfailed { OnOk result ((B.disks bay.new).failed_writes ≡ (B.disks bay.old).failed_writes) }
+    ensures reads { (B.disks bay.new).failed_reads ≡ (B.disks bay.old).failed_reads }
     ensures cause { IfErr result (IsStopped (B.disks bay.old) (B.disks bay.new) view.now start (length from.now)) }
     ensures asked { (B.disks bay.new).sectors_asked ≤ (B.disks bay.old).sectors_asked + count }
     ensures written { (B.disks bay.new).sectors_written ≤ (B.disks bay.old).sectors_written + count }
@@ -71,8 +71,8 @@ fn set_run<B: Bay>(
     let work = &mut work[..count];
     let out = &mut sums[..count];
     sum_rows(
-        bay, view, part, element, parity, sector, start, from, work, out,
-    )?;
+        view, kept, part, element, parity, sector, start, from, work, out,
+    );
     let Some(first) = part.site_at(parity, sector) else {
         unreachable!()
     };
@@ -83,116 +83,12 @@ fn set_run<B: Bay>(
     }
 }
 
-/// How many neighbouring rows of an element from one on hold one of so many blocks on a position.
-fn touched_at(
-    view: &View,
-    element: usize,
-    position: usize,
-    sector: u64,
-    start: u64,
-    count: usize,
-) -> usize
-    ensures { AreTouched view.now start count element sector result }
-{
-    match block_at(view, element, position, sector) {
-        Some(block) => {
-            if start <= block && block - start < count as u64 {
-                return blocks_along(view, block, count - (block - start) as usize);
-            }
-            0
-        }
-        None => 0,
-    }
-}
-
-/// How many neighbouring rows of an element from one on hold one of so many blocks. Some where the first row does.
-fn touched_from(
-    view: &View,
-    part: &Part,
-    element: usize,
-    sector: u64,
-    start: u64,
-    count: usize,
-) -> usize
-    ensures { AreTouched view.now start count element sector result }
-{
-    for position in 0..part.places.items().len() {
-        let rows = touched_at(view, element, position, sector, start, count);
-        if rows > 0 {
-            return rows;
-        }
-    }
-    0
-}
-
-/// How many of so many neighbouring rows a position can pass before it holds a block from one on, where it holds an
-/// earlier one.
-fn rows_before(
-    view: &View,
-    element: usize,
-    position: usize,
-    sector: u64,
-    start: u64,
-    most: usize,
-) -> usize
-    requires some { 0 < most }
-    ensures some { 0 < result }
-    ensures within { result ≤ most }
-{
-    match block_at(view, element, position, sector) {
-        Some(block) => {
-            if block < start && start - block < most as u64 {
-                return (start - block) as usize;
-            }
-            most
-        }
-        None => most,
-    }
-}
-
-/// How many of so many neighbouring rows come before one that another strip of the range touches too.
-fn untouched_from(
-    view: &View,
-    part: &Part,
-    element: usize,
-    sector: u64,
-    start: u64,
-    most: usize,
-) -> usize
-    requires some { 0 < most }
-    ensures some { 0 < result }
-    ensures within { result ≤ most }
-{
-    let mut count = most;
-    for position in 0..part.places.items().len() {
-        count = rows_before(view, element, position, sector, start, count);
-    }
-    count
-}
-
-/// The cell of a block on an element that keeps parity, if it holds the block.
-fn cell_in_element(view: &View, part: &Part, element: usize, block: u64) -> Option<Cell>
-    requires is_part { slice_get view.now.parts element ≡ Some part.now }
-    requires known { IsVolume view.now }
-    requires parity { keeps_parity part.now.shape.layout ≡ true }
-    requires block { block < capacity view.now }
-    ensures cell { MatchOption result ((position sector : ℕ) → block_at view.now element position sector ≢ Some block) (IsOnlyCell view.now element part.now block) }
-{
-    let spot = view.spot(block);
-    if view.is_in_every() {
-        return Some(part.shape.place(spot.block));
-    }
-    if usize::from(spot.element) == element {
-        return Some(part.shape.place(spot.block));
-    }
-    None
-}
-
 /// Sets the parity of the rows of an element that blocks of the range touch from one of them on, where the blocks before
 /// it haven't: as far as these lie along a strip. Answers how many blocks they are.
 fn set_rows_from<B: Bay>(
     bay: &mut B,
     view: &View,
+    kept: &Kept,
     part: &Part,
     element: usize,
     start: u64,
@@ -203,24 +99,24 @@ fn set_rows_from<B: Bay>(
     requires known { IsVolume view.now }
     requires apart { IsApart view.now }
     requires fits { Fits (B.disks bay.old).sizes view.now }
-    requires readable { IsReadable view.now }
-    requires marked { trusts_parity view.now ≡ false }
     requires whole { is_degraded view.now ≡ false }
     requires is_part { slice_get view.now.parts element ≡ Some part.now }
     requires keeps { keeps_parity part.now.shape.layout ≡ true }
     requires small { start + length from.now < 2 ^ 64 }
     requires blocks { start + length from.now ≤ capacity view.now }
+    requires all_kept { AllAreKept view.now start (length from.now) kept.now }
     requires here { k < length from.now }
     ensures some { IfOk result (λ count. 0 < count) }
     ensures within { IfOk result (λ count. k + count ≤ length from.now) }
     ensures writes { Writes (MayGive view.now start from.now) B.tells (B.disks bay.old) (B.disks bay.new) touched.old touched.new }
     ensures kept { B.tells → (entry : ℕ → ℕ → List ℕ) → IsFilled view.now start from.now entry (B.disks bay.old).held
-        → IfOk result (λ count. IsSure (Failed (B.disks bay.old) (B.disks bay.new)) view.now entry → KeepsSums view.now start (length from.now) (B.disks bay.old).held (B.disks bay.new).held) }
+        → IfOk result (λ count. AreTheirValues view.now entry kept.now → KeepsSums view.now start (length from.now) (B.disks bay.old).held (B.disks bay.new).held) }
     ensures summed { B.tells → (entry : ℕ → ℕ → List ℕ) → IsFilled view.now start from.now entry (B.disks bay.old).held
-        → IfOk result (λ count. IsSure (Failed (B.disks bay.old) (B.disks bay.new)) view.now entry
+        → IfOk result (λ count. AreTheirValues view.now entry kept.now
         → RowsIn view.now start k element (IsSummed view.now (B.disks bay.old).held) → RowsIn view.now start (k + count) element (IsSummed view.now (B.disks bay.new).held)) }
     ensures noted { IfOk result (λ count. RowsIn view.now start k element (IsNoted touched.old) → RowsIn view.now start (k + count) element (IsNoted touched.new)) }
     ensures unfailed { OnOk result ((B.disks bay.new).failed_writes ≡ (B.disks bay.old).failed_writes) }
+    ensures reads { (B.disks bay.new).failed_reads ≡ (B.disks bay.old).failed_reads }
     ensures cause { IfErr result (IsStopped (B.disks bay.old) (B.disks bay.new) view.now start (length from.now)) }
     ensures asked { IfOk result (λ count. (B.disks bay.new).sectors_asked ≤ (B.disks bay.old).sectors_asked + count) }
     ensures written { IfOk result (λ count. (B.disks bay.new).sectors_written ≤ (B.disks bay.old).sectors_written + count) }
@@ -244,6 +140,7 @@ fn set_rows_from<B: Bay>(
     set_run(
         bay,
         view,
+        kept,
         part,
         element,
         usize::from(parity),
@@ -256,11 +153,11 @@ fn set_rows_from<B: Bay>(
     Ok(count)
 }
 
-/// Sets the parity of each row of an element that these blocks touch. After a failure, the slot that failed, or at which no
-/// source of a data cell is left.
+/// Sets the parity of each row of an element that these blocks touch. After a failure, the slot that failed.
 fn set_rows_in<B: Bay>(
     bay: &mut B,
     view: &View,
+    kept: &Kept,
     element: usize,
     start: u64,
     from: &[Sector],
@@ -269,18 +166,18 @@ fn set_rows_in<B: Bay>(
     requires known { IsVolume view.now }
     requires apart { IsApart view.now }
     requires fits { Fits (B.disks bay.old).sizes view.now }
-    requires readable { IsReadable view.now }
-    requires marked { keeps_parity_anywhere view.now ≡ true → trusts_parity view.now ≡ false }
     requires whole { is_degraded view.now ≡ false }
     requires small { start + length from.now < 2 ^ 64 }
     requires blocks { start + length from.now ≤ capacity view.now }
+    requires all_kept { AllAreKept view.now start (length from.now) kept.now }
     ensures writes { Writes (MayGive view.now start from.now) B.tells (B.disks bay.old) (B.disks bay.new) touched.old touched.new }
     ensures kept { B.tells → (entry : ℕ → ℕ → List ℕ) → IsFilled view.now start from.now entry (B.disks bay.old).held
-        → OnOk result (IsSure (Failed (B.disks bay.old) (B.disks bay.new)) view.now entry → KeepsSums view.now start (length from.now) (B.disks bay.old).held (B.disks bay.new).held) }
+        → OnOk result (AreTheirValues view.now entry kept.now → KeepsSums view.now start (length from.now) (B.disks bay.old).held (B.disks bay.new).held) }
     ensures summed { B.tells → (entry : ℕ → ℕ → List ℕ) → IsFilled view.now start from.now entry (B.disks bay.old).held
-        → OnOk result (IsSure (Failed (B.disks bay.old) (B.disks bay.new)) view.now entry → RowsIn view.now start (length from.now) element (IsSummed view.now (B.disks bay.new).held)) }
+        → OnOk result (AreTheirValues view.now entry kept.now → RowsIn view.now start (length from.now) element (IsSummed view.now (B.disks bay.new).held)) }
     ensures noted { OnOk result (RowsIn view.now start (length from.now) element (IsNoted touched.new)) }
     ensures unfailed { OnOk result ((B.disks bay.new).failed_writes ≡ (B.disks bay.old).failed_writes) }
+    ensures reads { (B.disks bay.new).failed_reads ≡ (B.disks bay.old).failed_reads }
     ensures cause { IfErr result (IsStopped (B.disks bay.old) (B.disks bay.new) view.now start (length from.now)) }
     ensures asked { (B.disks bay.new).sectors_asked ≤ (B.disks bay.old).sectors_asked + parity_cells view.now.parts (length from.now) element }
     ensures written { (B.disks bay.new).sectors_written ≤ (B.disks bay.old).sectors_written + parity_cells view.now.parts (length from.now) element }
@@ -294,16 +191,16 @@ fn set_rows_in<B: Bay>(
     }
     let mut k = 0;
     while k < from.len() {
-        k += set_rows_from(bay, view, part, element, start, k, from, touched)?;
+        k += set_rows_from(bay, view, kept, part, element, start, k, from, touched)?;
     }
     Ok(())
 }
 
-/// Sets the parity of each row that these blocks touch, element by element. After a failure, the slot that failed, or at
-/// which no source of a data cell is left.
+/// Sets the parity of each row that these blocks touch, element by element. After a failure, the slot that failed.
 pub(crate) fn set_rows<B: Bay>(
     bay: &mut B,
     view: &View,
+    kept: &Kept,
     start: u64,
     from: &[Sector],
     touched: &mut [bool; 64],
@@ -311,23 +208,23 @@ pub(crate) fn set_rows<B: Bay>(
     requires known { IsVolume view.now }
     requires apart { IsApart view.now }
     requires fits { Fits (B.disks bay.old).sizes view.now }
-    requires readable { IsReadable view.now }
-    requires marked { keeps_parity_anywhere view.now ≡ true → trusts_parity view.now ≡ false }
     requires whole { is_degraded view.now ≡ false }
     requires small { start + length from.now < 2 ^ 64 }
     requires blocks { start + length from.now ≤ capacity view.now }
+    requires all_kept { AllAreKept view.now start (length from.now) kept.now }
     ensures writes { Writes (MayGive view.now start from.now) B.tells (B.disks bay.old) (B.disks bay.new) touched.old touched.new }
     ensures summed { B.tells → (entry : ℕ → ℕ → List ℕ) → IsFilled view.now start from.now entry (B.disks bay.old).held
-        → OnOk result (IsSure (Failed (B.disks bay.old) (B.disks bay.new)) view.now entry → AllRows view.now start (length from.now) (IsSummed view.now (B.disks bay.new).held)) }
+        → OnOk result (AreTheirValues view.now entry kept.now → AllRows view.now start (length from.now) (IsSummed view.now (B.disks bay.new).held)) }
     ensures noted { OnOk result (AllRows view.now start (length from.now) (IsNoted touched.new)) }
     ensures unfailed { OnOk result ((B.disks bay.new).failed_writes ≡ (B.disks bay.old).failed_writes) }
+    ensures reads { (B.disks bay.new).failed_reads ≡ (B.disks bay.old).failed_reads }
     ensures cause { IfErr result (IsStopped (B.disks bay.old) (B.disks bay.new) view.now start (length from.now)) }
     ensures asked { (B.disks bay.new).sectors_asked ≤ (B.disks bay.old).sectors_asked + row_cells view.now (length from.now) }
     ensures written { (B.disks bay.new).sectors_written ≤ (B.disks bay.old).sectors_written + row_cells view.now (length from.now) }
     ensures calls { keeps_parity_anywhere view.now ≡ false → (B.disks bay.new).calls ≤ (B.disks bay.old).calls }
 {
     for element in 0..view.parts().len() {
-        set_rows_in(bay, view, element, start, from, touched)?;
+        set_rows_in(bay, view, kept, element, start, from, touched)?;
     }
     Ok(())
 }

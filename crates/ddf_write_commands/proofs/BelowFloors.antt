@@ -15,6 +15,7 @@ use Rattle.ddf_array.specs.Viewing.{view_of}
 use Rattle.ddf_array.specs.Volume.{Fits, IsVolume, Volume}
 use Rattle.ddf_array.proofs.Fits.{view_fits}
 use Rattle.ddf_read.proofs.Sites.{IsThere, site_at_there}
+use Rattle.ddf_cells.specs.Alike.{IsCell}
 use Rattle.ddf_cells.specs.Parity.{IsParityCell}
 use Rattle.ddf_array.specs.declared.part.Part.{Part}
 use Rattle.ddf_cells.proofs.CopiesOn.{block_at_sits, on_position}
@@ -34,7 +35,7 @@ abbrev on_slot : ℕ → Seat → Bool
 on_slot slot seat = seat.slot == slot
 
 -- Where the slots of seats rise each seat is the one of its slot.
-floor_found : (seats : List Seat) → SlotsRise seats → (place : ℕ) (seat : Seat) → slice_get seats place ≡ Some seat → floor_in seats seat.slot ≡ seat.floor
+pub floor_found : (seats : List Seat) → SlotsRise seats → (place : ℕ) (seat : Seat) → slice_get seats place ≡ Some seat → floor_in seats seat.slot ≡ seat.floor
 floor_found [] rise place seat at = absurd cc
 floor_found (first ∷ others) rise zero seat at =
     let same : first ≡ seat = cc in
@@ -116,7 +117,11 @@ module _ (config : Configuration) (guid : List ℕ) (seats : List Seat) (volume 
       let lba = there.lba_is in
       omega (arith, lba, floor)
 
-  -- What a resync sets lies below the floor of its slot,
+  -- A sector of an available position lies below the floor of its slot,
+  pub cell_below : (s l : ℕ) → IsCell volume s l → l < floor_in seats s
+  cell_below s l is = below_floor s l (site_at_there (floors seats (length sizes)) is.part is.position is.sector 1 (site_on s l) (fits_floors is.element is.part is.is_part) (omega (arith, is.below)) is.is_site)
+
+  -- what a resync sets does,
   pub given_below : (tells : Type 0) (before : Image) (s l : ℕ) (bytes : List ℕ) → MayResync volume tells before s l bytes → l < floor_in seats s
   given_below tells before s l bytes may = below_floor s l (given_there volume known (floors seats (length sizes)) fits_floors tells before s l bytes may)
 

@@ -1,5 +1,5 @@
 -- How many sectors are asked for around the blocks of an array and of these: the calls one behind another.
-use Rattle.std.proofs.Common.{◌≡◌, ◌∙◌, ℕ, ◌+◌, ◌≤◌, Bool, true, false, List, [], ◌∷◌, ◌++◌, length, Option, Some, None, Result, Ok, Err, refl, sym, ap, subst, inl, inr, arith}
+use Rattle.std.proofs.Common.{◌≡◌, ◌∙◌, ℕ, ◌+◌, ◌≤◌, Bool, true, false, List, [], ◌∷◌, ◌++◌, length, Option, Some, None, Result, Ok, Err, refl, sym, ap, subst, inl, arith}
 use Rattle.ddf_bay.specs.Moments.{Costs}
 use Rattle.ddf_bay.specs.ReadsOnly.{ReadsOnly}
 use Rattle.ddf_bay.specs.State.{BayState}
@@ -7,7 +7,6 @@ use Rattle.ddf_array.specs.Volume.{Volume}
 use Rattle.ddf_plan.specs.declared.change.Change.{Change}
 use Rattle.ddf_update.specs.Prepared.{all_sectors}
 use Rattle.ddf_group.specs.declared.answer.Assembly.{Assembly}
-use Rattle.ddf_seats.specs.declared.fault.GroupFault.{GroupFault}
 use Rattle.ddf_recovery.specs.Committed.{WasReadied, left_behind, next_updates, recovery_updates}
 use Rattle.ddf_seats.specs.Group.{GroupValue}
 use Rattle.ddf_steps.specs.Ready.{ReadyStep}

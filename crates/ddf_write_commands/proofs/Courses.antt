@@ -1,6 +1,5 @@
 -- What a call that works on blocks keeps of each history of its group, on its way: by what the calls that it makes promise.
 use Rattle.std.proofs.Common.{◌≡◌, ℕ, ◌≤◌, Bool, true, false, List, Option, refl}
-use Rattle.ddf_bay.specs.Sectors.{Image, IsLeft, IsWhole}
 use Rattle.ddf_bay.specs.State.{BayState}
 use Rattle.ddf_bay.specs.Told.{IsTold}
 use Rattle.ddf_config.specs.Configuration.{Configuration}

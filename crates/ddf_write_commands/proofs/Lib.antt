@@ -3,6 +3,8 @@ pub mod Staying
 pub mod Splitting
 pub mod Unmoved
 pub mod BelowFloors
+pub mod StepFloors
+pub mod BelowSteps
 pub mod Courses
 pub mod Opening
 pub mod Closing
@@ -20,12 +22,17 @@ mod ResyncArray
 mod Sparing
 mod ResyncBlocks
 mod PlanWritten
+mod MarkedCells
+mod BesideKept
 mod WriteWorks
 mod WriteArray
 mod WriteBlocks
 pub mod Since
 pub mod Ended
 mod Looked
+mod BehindLook
+mod Surely
+mod WriteLooked
 mod FirstPiece
 mod WriteTaken
 mod WriteCame

@@ -1,6 +1,5 @@
 -- A resync that begins with a look at what it needs.
-use Rattle.std.proofs.Common.{◌≡◌, ◌∙◌, ℕ, suc, ◌+◌, ◌<◌, ◌≤◌, Bool, false, List, [], ◌∷◌, Option, None, Result, Ok, Err, inl, inr, refl, ap, subst, sym, arith}
-use Rattle.ddf_bay.specs.Moments.{StopsLeave}
+use Rattle.std.proofs.Common.{◌≡◌, ◌∙◌, ℕ, suc, ◌+◌, ◌≤◌, Bool, List, [], ◌∷◌, Option, None, Result, Ok, Err, inl, inr, refl, ap, subst, sym, arith}
 use Rattle.ddf_bay.specs.Sectors.{Image, IsLeft}
 use Rattle.ddf_bay.specs.State.{BayState}
 use Rattle.ddf_bay.proofs.Steps.{stops_then, stops_weaken}
@@ -59,6 +58,18 @@ goes_looked old looked reads = record {
   writes_rise = λ s. let same = ap (λ (counts : ℕ → ℕ). counts s) reads.same_writes in omega (arith, same);
 }
 
+-- The group that was found is found still.
+module _ {D : Type 0} (old looked : BayState D) (reads : OnlyReads old looked) (group : GroupValue) where
+  newest_still : (slot : ℕ) (left : List Bool) → newest_from looked slot left ≡ newest_from old slot left
+  newest_still slot [] = refl
+  newest_still slot (out ∷ left) = rw (reads.reads.same_sizes, reads.reads.same_held, newest_still (suc slot) left) refl
+
+  pub found_still : (left : List Bool) (named : Option (List ℕ)) → IsFoundBy old left named group → IsFoundBy looked left named group
+  found_still left named by = record {
+    every_slot = rw reads.reads.same_sizes by.every_slot;
+    is_found = subst (λ (newest : List (Option Newest)). group_of newest named ≡ Ok group) (sym (newest_still 0 left)) by.is_found;
+  }
+
 module _ {D : Type 0} (tells : Type 0) (old looked : BayState D) (reads : OnlyReads old looked) (group : GroupValue) (plan : Plan) (timestamp : ℕ) (ready : ReadyValue) (was : WasReadied group plan.changes timestamp ready) where
   writes_rise : (slot : ℕ) → old.failed_writes slot ≤ looked.failed_writes slot
   writes_rise = (goes_looked old looked reads).writes_rise
@@ -98,16 +109,6 @@ module _ {D : Type 0} (tells : Type 0) (old looked : BayState D) (reads : OnlyRe
 
   -- ---- or the resync came behind it
 
-  newest_still : (slot : ℕ) (left : List Bool) → newest_from looked slot left ≡ newest_from old slot left
-  newest_still slot [] = refl
-  newest_still slot (out ∷ left) = rw (reads.reads.same_sizes, reads.reads.same_held, newest_still (suc slot) left) refl
-
-  found_still : (left : List Bool) (named : Option (List ℕ)) → IsFoundBy old left named group → IsFoundBy looked left named group
-  found_still left named by = record {
-    every_slot = rw reads.reads.same_sizes by.every_slot;
-    is_found = subst (λ (newest : List (Option Newest)). group_of newest named ≡ Ok group) (sym (newest_still 0 left)) by.is_found;
-  }
-
   pub behind_look : (new : BayState D) (outcome : Result ℕ Failure) → HasResyncedBlocks tells looked new group plan timestamp outcome → HasResyncedBlocks tells old new group plan timestamp outcome
   behind_look new outcome done = record {
     worked = λ word is.
@@ -116,10 +117,10 @@ module _ {D : Type 0} (tells : Type 0) (old looked : BayState D) (reads : OnlyRe
         stops_then (stops_weaken reads.reads.any_moment (left_first word is new)) (done.leaves told word is)
         (λ image left. left_since tells resyncing resync_steady old looked new reads.reads reads.never_falls writes_rise group timestamp word (resync_request word) image left);
     beside = λ told. beside_since old looked new (slots_of group.seats) reads.reads (done.beside told);
-    keeps = λ told left named by steps are. since_entry old looked new left group steps (is_done outcome) reads.reads (done.keeps told left named (found_still left named by) steps are);
+    keeps = λ told left named by steps are. since_entry old looked new left group steps (is_done outcome) reads.reads (done.keeps told left named (found_still old looked reads group left named by) steps are);
     along = λ told left named by word is any_plan guid same past kept admitted.
         along_since tells resyncing resync_steady old looked new reads.reads reads.never_falls writes_rise guid past left group timestamp word (resync_request word) any_plan (is_done outcome) kept
-        (done.along told left named (found_still left named by) word is any_plan guid same past (kept_still guid past old looked reads.reads kept) (admitted_still guid past old looked reads.reads left group admitted));
+        (done.along told left named (found_still old looked reads group left named by) word is any_plan guid same past (kept_still guid past old looked reads.reads kept) (admitted_still guid past old looked reads.reads left group admitted));
     costs = λ steps are. writes_since tells old looked new reads.reads (steps_sectors steps + resyncing.most_sectors plan.view) (done.costs steps are);
     spares = λ told word is. spares_since tells old looked new reads.reads reads.never_falls group timestamp word (done.spares told word is);
   }

@@ -9,6 +9,9 @@ use Rattle.std.specs.Map.{lookup}
 use Rattle.std.specs.Result.{result_ok}
 use Rattle.std.specs.Cmp.Lexicographic.{pointwise}
 use Rattle.ddf_primary.specs.Placement.{Placement}
+use Rattle.ddf_primary.specs.declared.need.Need.{Need}
+use Rattle.ddf_primary.specs.declared.need.Need.TheVariants.{All, One, AllButOne}
+use Rattle.ddf_primary.specs.Needs.{need_by}
 use Rattle.ddf_secondary.specs.Arrangement.{tiers_of}
 use Rattle.ddf_secondary.specs.declared.element.ElementSize.{ElementSize}
 use Rattle.ddf_config.specs.declared.array.Array.{Array}
@@ -23,7 +26,7 @@ use Rattle.ddf_config.specs.Members.{same_guid}
 use Rattle.ddf_config.specs.Shapes.{array_tiers, element_shape, part_size, secondary_level}
 use Rattle.ddf_config.specs.States.{array_with_low, is_marked}
 use Rattle.ddf_config.specs.Unusable.{unusable}
-use Rattle.ddf_config.specs.Within.{has_enough, has_enough_parts, has_parity, lacks_one}
+use Rattle.ddf_config.specs.Within.{has_enough, has_enough_parts}
 use Rattle.ddf_plan.specs.declared.change.Change.TheVariants.{Mark}
 use Rattle.ddf_plan.specs.Arrays.{arrays_after, kept_and_added}
 use Rattle.ddf_plan.specs.Changes.{changed, changed_at}
@@ -35,7 +38,7 @@ use Rattle.ddf_repair.proofs.Usable.{looked_up, one_after, table_is, usable_kept
 use Rattle.ddf_array.specs.declared.part.Part.{Part}
 use Rattle.ddf_array.specs.declared.place.Place.{Place}
 use Rattle.ddf_array.specs.Cells.{is_in_every}
-use Rattle.ddf_array.specs.Levels.{keeps_parity, level_of}
+use Rattle.ddf_array.specs.Levels.{keeps_parity}
 use Rattle.ddf_array.specs.Places.{is_available}
 use Rattle.ddf_array.specs.Viewing.{known_part, part_of, parts_of, place_of, view_of}
 use Rattle.ddf_array.specs.Volume.{Volume}
@@ -115,22 +118,21 @@ counted_cleared : (n : ℕ) (places : List Place) → fold lacking n (map cleare
 counted_cleared n [] = refl
 counted_cleared n (place ∷ places) = counted_cleared (lacking n place) places
 
-enough_cleared : (level : ℕ) (places : List Place) → has_enough level is_available (map cleared_place places) ≡ has_enough level is_available places
-enough_cleared level places =
-    ap (λ (b : Bool). if level == 0x01 then b else (if has_parity level then lacks_one is_available (map cleared_place places) else list_all is_available (map cleared_place places))) (any_cleared places)
-    ∙ ap (λ (n : ℕ). if level == 0x01 then list_any is_available places else (if has_parity level then nat_le n 1 else list_all is_available (map cleared_place places))) (counted_cleared 0 places)
-    ∙ ap (λ (b : Bool). if level == 0x01 then list_any is_available places else (if has_parity level then lacks_one is_available places else b)) (all_cleared places)
+enough_cleared : (need : Need) (places : List Place) → has_enough need is_available (map cleared_place places) ≡ has_enough need is_available places
+enough_cleared All places = all_cleared places
+enough_cleared One places = any_cleared places
+enough_cleared AllButOne places = ap (λ (n : ℕ). nat_le n 1) (counted_cleared 0 places)
 
 any_within : (parts : List Part) → list_any is_part_within (map cleared parts) ≡ list_any is_part_within parts
 any_within [] = refl
 any_within (part ∷ parts) =
-    ap (λ (b : Bool). b || list_any is_part_within (map cleared parts)) (enough_cleared (level_of part.shape.layout) part.places)
+    ap (λ (b : Bool). b || list_any is_part_within (map cleared parts)) (enough_cleared (need_by part.shape.layout) part.places)
     ∙ ap (λ (b : Bool). is_part_within part || b) (any_within parts)
 
 all_within : (parts : List Part) → list_all is_part_within (map cleared parts) ≡ list_all is_part_within parts
 all_within [] = refl
 all_within (part ∷ parts) =
-    ap (λ (b : Bool). b && list_all is_part_within (map cleared parts)) (enough_cleared (level_of part.shape.layout) part.places)
+    ap (λ (b : Bool). b && list_all is_part_within (map cleared parts)) (enough_cleared (need_by part.shape.layout) part.places)
     ∙ ap (λ (b : Bool). is_part_within part && b) (all_within parts)
 
 any_lacks : (parts : List Part) → list_any lacks_place (map cleared parts) ≡ list_any lacks_place parts

@@ -1,7 +1,7 @@
 -- How it is planned what is written around the blocks of an array, or why it isn't.
 use Rattle.std.proofs.Common.{◌≡◌, ℕ, Bool, true, false, not, ◌||◌, List, [], ◌∷◌, ◌++◌, Option, Some, None, Result, Ok, Err, refl, sym, ap, subst, ◌∙◌, if◌then◌else◌}
 use Rattle.std.proofs.lemmas.Bool.{false≢true}
-use Rattle.std.specs.Prelude.{option_to_list}
+use Rattle.std.specs.Prelude.{option_to_list, unwrap_or}
 use Rattle.std.specs.List.{list_any}
 use Rattle.std.specs.Map.{lookup}
 use Rattle.std.specs.Option.{option_or}
@@ -173,14 +173,14 @@ or_false false = refl
 
 module _ (config : Configuration) (seats : List Seat) (guid : List ℕ) (view : Volume) (is : view_of config guid seats ≡ Ok view) where
   -- what marking gives
-  pub not_step : same_tables config (changed_at config (Mark guid) config.sequence) ≡ true → IsMarkedAs config guid seats (Ok (false, view))
-  not_step same = (sym (ap not (sym (same_numbered config (Mark guid) config.sequence) ∙ same)), is)
+  pub not_step : same_tables config (changed_at config (Mark guid) config.sequence) ≡ true → IsMarkedAs config guid seats view (Ok (false, view, None))
+  not_step same = (sym (ap not (sym (same_numbered config (Mark guid) config.sequence) ∙ same)), is, refl)
 
   pub a_step : same_tables config (changed_at config (Mark guid) config.sequence) ≡ false → (next : Volume) → view_of (changed_at config (Mark guid) config.sequence) guid seats ≡ Ok next
-      → IsMarkedAs config guid seats (Ok (true, next))
-  a_step same next viewed = (sym (ap not (sym (same_numbered config (Mark guid) config.sequence) ∙ same)), viewed)
+      → IsMarkedAs config guid seats view (Ok (true, next, Some view))
+  a_step same next viewed = (sym (ap not (sym (same_numbered config (Mark guid) config.sequence) ∙ same)), viewed, refl)
 
-  pub no_view : (failure : Failure) → IsViewed (view_of (changed_at config (Mark guid) config.sequence) guid seats) (Err failure) → IsMarkedAs config guid seats (Err failure)
+  pub no_view : (failure : Failure) → IsViewed (view_of (changed_at config (Mark guid) config.sequence) guid seats) (Err failure) → IsMarkedAs config guid seats view (Err failure)
   no_view (Refused refusal) e = let has = sym (marked_view config guid seats view is config.sequence) ∙ e in absurd cc
   no_view (Disk slot) e = absurd e
   no_view (Conflict i j sequence differ) e = absurd e
@@ -199,7 +199,7 @@ module _ (config : Configuration) (seats : List Seat) (guid : List ℕ) (view : 
 
     -- of one that keeps all that it holds once
     pub plain_plan : is_redundant view ≡ false → IsVolume view → (changes : List Change) → changes ≡ option_to_list behind
-        → IsPlanFor after config seats item (record { changes = changes; redundant = false; marks = false; view = view })
+        → IsPlanFor after config seats item (record { changes = changes; redundant = false; marks = false; view = view; unmarked = None })
     plain_plan once known changes changes_are =
         let none = sym redundant_is ∙ once in
         let mark = marking_as false none in
@@ -215,6 +215,8 @@ module _ (config : Configuration) (seats : List Seat) (guid : List ℕ) (view : 
             is_marked = λ never. absurd (false≢true never);
           };
           known = known;
+          is_unmarked = refl;
+          known_before = known;
         }
 
     -- of one that keeps it several times
@@ -224,10 +226,10 @@ module _ (config : Configuration) (seats : List Seat) (guid : List ℕ) (view : 
         let viewed_as = from_view config guid seats next viewed in
         viewed_as.marked_is ∙ ap is_marked (some_is (sym viewed_as.array_is ∙ found)) ∙ was_marked config guid array found (sym step)
 
-    pub marked_plan : is_redundant view ≡ true → (marked : Bool) (next : Volume) → marked ≡ is_step config (Mark guid)
-        → view_of (if marked then changed_at config (Mark guid) config.sequence else config) guid seats ≡ Ok next → IsVolume next → (changes : List Change) → changes ≡ Mark guid ∷ option_to_list behind
-        → IsPlanFor after config seats item (record { changes = changes; redundant = true; marks = marked; view = next })
-    marked_plan several marked next step viewed known changes changes_are =
+    pub marked_plan : is_redundant view ≡ true → (marked : Bool) (next : Volume) (unmarked : Option Volume) → marked ≡ is_step config (Mark guid)
+        → view_of (if marked then changed_at config (Mark guid) config.sequence else config) guid seats ≡ Ok next → unwrap_or unmarked next ≡ view → IsVolume next → IsVolume view → (changes : List Change)
+        → changes ≡ Mark guid ∷ option_to_list behind → IsPlanFor after config seats item (record { changes = changes; redundant = true; marks = marked; view = next; unmarked = unmarked })
+    marked_plan several marked next unmarked step viewed was known known_before changes changes_are =
         let all = sym redundant_is ∙ several in
         let mark = marking_as true all in
         let steps : marks config item ≡ marked = ap (list_any (is_step config)) mark ∙ or_false (is_step config (Mark guid)) ∙ sym step in
@@ -242,4 +244,6 @@ module _ (config : Configuration) (seats : List Seat) (guid : List ℕ) (view : 
             is_marked = λ redundant. marked_next marked step next viewed;
           };
           known = known;
+          is_unmarked = was;
+          known_before = known_before;
         }

@@ -19,7 +19,7 @@ use Rattle.ddf_config.proofs.Firsts.{first_append}
 use Rattle.ddf_plan.specs.declared.change.Change.{Change}
 use Rattle.ddf_plan.specs.declared.change.Change.TheVariants.{Unmark}
 use Rattle.ddf_array.specs.declared.part.Part.{Part}
-use Rattle.ddf_array.specs.Levels.{is_on_every, keeps_parity}
+use Rattle.ddf_array.specs.Levels.{keeps_copies, keeps_parity}
 use Rattle.ddf_array.specs.Viewing.{is_array_redundant, is_array_within, view_of}
 use Rattle.ddf_array.specs.Volume.{Volume, capacity}
 use Rattle.ddf_array.specs.Within.{is_mirrored, is_redundant, is_within, keeps_more}
@@ -110,6 +110,11 @@ none_of_three true true lacks e = absurd cc
 none_of_three true false true e = absurd cc
 none_of_three true false false e = refl
 
+unmarked_by : (within marked lacks : Bool) → first_refusal (three within marked lacks) ≡ None → marked ≡ false
+unmarked_by false marked lacks e = absurd cc
+unmarked_by true true lacks e = absurd cc
+unmarked_by true false lacks e = refl
+
 none_written : (passes within lacks : Bool) (most : ℕ) → passes ≡ false → ◌≡◌ {A = Option VolumeFault} (if not within then Some volumes.Lost else (if lacks then Some volumes.Unsure else None)) None
     → ◌≡◌ {A = Option VolumeFault} (if passes then Some (volumes.Range most) else (if not within then Some volumes.Lost else (if lacks then Some volumes.Degraded else None))) None
 none_written true within lacks most e none = absurd (false≢true (sym e))
@@ -123,7 +128,7 @@ any_more (part ∷ parts) e = by (keeps_parity part.shape.layout) refl e (any_mo
   where
     by : (b : Bool) → keeps_parity part.shape.layout ≡ b → (b || list_any keeps_parity_in parts) ≡ true → (list_any keeps_parity_in parts ≡ true → list_any keeps_more parts ≡ true)
         → (keeps_more part || list_any keeps_more parts) ≡ true
-    by true keeps any later = or_left (keeps_more part) (list_any keeps_more parts) (or_right (is_on_every part.shape.layout) (keeps_parity part.shape.layout) keeps)
+    by true keeps any later = or_left (keeps_more part) (list_any keeps_more parts) (or_right (keeps_copies part.shape.layout) (keeps_parity part.shape.layout) keeps)
     by false keeps any later = or_right (keeps_more part) (list_any keeps_more parts) (later any)
 
 -- An array that keeps parity keeps what it holds in more than one place.
@@ -162,6 +167,20 @@ module _ (start count : ℕ) (config : Configuration) (seats : List Seat) (word 
       none_written (nat_lt (capacity plan.view) (start + count)) (is_within plan.view) (is_degraded plan.view) (capacity plan.view)
       (ap (λ (n : ℕ). nat_lt n (start + count)) (same ∙ told) ∙ range)
       (either write_behind config seats entry plan is.is_for found (λ (v : Volume). resync_refusal v ≡ None) not_refused (refusal_same is.is_for.before ∙ not_refused))
+
+  -- The array isn't marked,
+  pub was_unmarked : is.is_for.before.marked ≡ false
+  was_unmarked =
+      let viewed = from_view config entry.0 seats is.is_for.before is.is_for.is_before in
+      viewed.marked_is ∙ ap is_marked (some_is (sym viewed.array_is ∙ found))
+      ∙ unmarked_by (is_array_within seats entry.1) (is_marked entry.1) (lacks_position (view_of config entry.0 seats)) both.1
+
+  -- and it is as little refused.
+  pub unmarked_accepted : write_refusal is.is_for.before start count ≡ None
+  unmarked_accepted =
+      let v = is.is_for.before in
+      none_written (nat_lt (capacity v) (start + count)) (is_within v) (is_degraded v) (capacity v)
+      (ap (λ (n : ℕ). nat_lt n (start + count)) (told_capacity config entry.0 seats v entry.1 is.is_for.is_before found) ∙ range) not_refused
 
 few_by : (b : Bool) (change : Change) → length (if b then change ∷ [] else []) ≤ 1
 few_by true change = omega arith

@@ -1,5 +1,5 @@
 -- What a command over the blocks of an array comes to, since its entry: its group is read before.
-use Rattle.std.proofs.Common.{◌≡◌, ◌⊎◌, ℕ, suc, ◌≤◌, Bool, true, false, List, [], ◌∷◌, Option, Result, Ok, Err, refl, sym, ap, subst, ◌∙◌, inl, inr, ⊎_elim, arith}
+use Rattle.std.proofs.Common.{◌≡◌, ◌⊎◌, ℕ, suc, ◌≤◌, Bool, true, false, List, [], ◌∷◌, Option, Result, Ok, Err, refl, sym, ap, subst, ◌∙◌, inl, inr, ⊎_elim}
 use Rattle.std.specs.Prelude.{OnOk}
 use Rattle.ddf_bay.specs.Moments.{StopsLeave}
 use Rattle.ddf_bay.specs.ReadsOnly.{ReadsOnly}
@@ -176,18 +176,6 @@ module _ {D : Type 0} (doing : Doing) (work : Work D) (named : Option (List ℕ)
     along = λ told. none_along read.left (group_of read.newest named);
     costs = unwritten_costs doing work timestamp word request reads (group_of read.newest named);
   }
-
-  -- and of which group
-  pub unwritten_found : (group : GroupValue) (failure : Failure) (read : IsGroupRead work named (Ok group)) (is : IsWorkedOf doing work group timestamp word request (Err failure))
-      → group_of (unwritten_come group failure read is).taken.newest named ≡ Ok group
-  unfolding unwritten_come
-  unwritten_found group failure read is = group_read work named group read
-
-  -- and that each slot was left out of which every call fails
-  pub unwritten_out : (group : GroupValue) (failure : Failure) (read : IsGroupRead work named (Ok group)) (is : IsWorkedOf doing work group timestamp word request (Err failure))
-      → AreOut work.old (unwritten_come group failure read is).taken.left
-  unfolding unwritten_come
-  unwritten_out group failure read is = read.gone (λ spent. absurd cc)
 
   -- what it was refused for
   pub not_planned : (refusing : Refusing) (behind : Entry → List Change) (group : GroupValue) (failure : Failure) → request ≡ request_around refusing behind word

@@ -1,5 +1,5 @@
 -- A resync that asks for no sectors but those of its steps, where nothing differs.
-use Rattle.std.proofs.Common.{◌≡◌, ◌∙◌, ◌⊎◌, ℕ, ◌+◌, ◌≤◌, Bool, true, false, ◌||◌, List, [], ◌∷◌, ◌++◌, Option, Some, Ok, if◌then◌else◌, inl, inr, ⊎_elim, refl, ap, subst, sym, arith}
+use Rattle.std.proofs.Common.{◌≡◌, ◌∙◌, ◌⊎◌, ℕ, ◌+◌, ◌≤◌, Bool, true, false, ◌||◌, List, [], ◌∷◌, ◌++◌, Option, Some, Ok, if◌then◌else◌, inl, inr, ⊎_elim, refl, ap, sym, arith}
 use Rattle.std.proofs.lemmas.Bool.{false≢true}
 use Rattle.std.specs.List.{list_any}
 use Rattle.std.specs.Map.{lookup}
@@ -9,7 +9,6 @@ use Rattle.ddf_bay.specs.State.{BayState}
 use Rattle.ddf_config.specs.Configuration.{Configuration}
 use Rattle.ddf_config.specs.Members.{same_guid}
 use Rattle.ddf_config.specs.States.{is_marked}
-use Rattle.ddf_config.specs.declared.array.Array.{Array}
 use Rattle.ddf_plan.specs.declared.change.Change.TheVariants.{Mark}
 use Rattle.ddf_plan.specs.Same.{is_step}
 use Rattle.ddf_array.specs.Viewing.{is_array_redundant}
@@ -22,7 +21,6 @@ use Rattle.ddf_recovery.specs.Ready.{readied}
 use Rattle.ddf_recovery.specs.Recovery.{config_recovered}
 use Rattle.ddf_steps.specs.Steps.{Step}
 use Rattle.ddf_answer.specs.Call.{Work, work_of}
-use Rattle.ddf_answer.specs.Costs.{WritesAtMost}
 use Rattle.ddf_answer.proofs.Costs.{none_written, writes_most, writes_since}
 use Rattle.ddf_answer.proofs.Rises.{rose_later}
 use Rattle.ddf_read_commands.proofs.ArrayUse.{named_is}
@@ -33,7 +31,7 @@ use Rattle.ddf_write_commands.specs.declared.planning.Plan.{Plan}
 use Rattle.ddf_write_commands.specs.Marking.{marks}
 use Rattle.ddf_write_commands.specs.Planned.{Entry, IsPlanned}
 use Rattle.ddf_write_commands.specs.Plans.{IsPlanOf}
-use Rattle.ddf_write_commands.specs.Resync.{DifferedBehind, SparesWhatAgrees, resync_behind, resync_refusals, resync_request}
+use Rattle.ddf_write_commands.specs.Resync.{SparesWhatAgrees, resync_behind, resync_refusals, resync_request}
 use Rattle.ddf_write_commands.proofs.Marked.{was_marked}
 use Rattle.ddf_write_commands.proofs.PlanKept.{redundant_view, steps_are}
 

@@ -1,5 +1,5 @@
 -- What a write of blocks came to, by what it took from its input.
-use Rattle.std.proofs.Common.{◌≡◌, ◌⊎◌, ℕ, Bool, true, false, List, [], length, ◌==◌, Option, Result, Ok, Err, refl, ap, subst, inl, inr, ⊎_elim}
+use Rattle.std.proofs.Common.{◌≡◌, ◌⊎◌, ℕ, Bool, true, false, List, ◌++◌, length, ◌==◌, Option, Result, Ok, Err, refl, ap, sym, subst, inr, ⊎_elim}
 use Rattle.std.specs.Prelude.{IsTrue}
 use Rattle.ddf_bay.specs.Moments.{GoesOn}
 use Rattle.ddf_bay.specs.ReadsOnly.{ReadsOnly}
@@ -8,8 +8,6 @@ use Rattle.ddf_config.specs.declared.refusal.Refusal.TheVariants.{ShortPayload}
 use Rattle.ddf_group.specs.declared.answer.Assembly.{Assembly}
 use Rattle.ddf_seats.specs.Group.{GroupValue}
 use Rattle.ddf_assembly.specs.Group.{group_of}
-use Rattle.ddf_assembly.specs.Slots.{AreOut}
-use Rattle.ddf_steps.specs.Steps.{Step}
 use Rattle.ddf_answer.specs.declared.failure.Failure.{Failure}
 use Rattle.ddf_answer.specs.declared.failure.Failure.TheVariants.{Memory, Refused}
 use Rattle.ddf_answer.specs.Answers.{IsToldFailure}
@@ -20,19 +18,20 @@ use Rattle.ddf_answer.proofs.Costs.{none_written}
 use Rattle.ddf_words.specs.declared.command.Command.TheVariants.{Write}
 use Rattle.ddf_words.specs.declared.traits.Traits.{Traits}
 use Rattle.ddf_words.specs.Traits.{traits_of}
-use Rattle.ddf_group_commands.specs.Change.{Request, steps_of}
-use Rattle.ddf_group_commands.specs.GroupRead.{IsGroupRead}
+use Rattle.ddf_group_commands.specs.Change.{Request}
 use Rattle.ddf_write_commands.specs.declared.payload.PayloadFault.{PayloadFault}
 use Rattle.ddf_write_commands.specs.declared.payload.PayloadFault.TheVariants as payloads
 use Rattle.ddf_write_commands.specs.declared.writing.Done.{Done}
 use Rattle.ddf_write_commands.specs.declared.writing.WriteFault.{WriteFault}
 use Rattle.ddf_write_commands.specs.declared.writing.WriteFault.TheVariants as faults
-use Rattle.ddf_write_commands.specs.Payload.{InputRose, IsNoPayload, IsShort, IsUntaken}
-use Rattle.ddf_write_commands.specs.Write.{HasWrittenArray, IsDoneTold, IsSequenceTold, IsWriteTold, IsWriteIn, IsWrittenAs, Outcome, answered, fault_of_payload, write_request, writing}
+use Rattle.ddf_write_commands.specs.Payload.{ArePiecesOf, InputRose, IsNoPayload, IsShort, IsUntaken, Pieces}
+use Rattle.ddf_write_commands.specs.Planned.{IsPlanned}
+use Rattle.ddf_write_commands.specs.Worked.{IsWorkedIn}
+use Rattle.ddf_write_commands.specs.Write.{HasWrittenArray, IsAccepted, IsDoneTold, IsSequenceTold, IsWriteTold, IsWriteIn, IsWrittenAs, Outcome, answered, fault_of_payload, looking, write_request, writing}
 use Rattle.ddf_write_commands.specs.Write.Outcome.{Broken, NotRead, Short, Taken, Unfit}
 use Rattle.ddf_write_commands.proofs.Ended.{failure_cause, failure_unwritten}
-use Rattle.ddf_write_commands.proofs.Since.{HasComeTo, unwritten_come, unwritten_found, unwritten_out}
-use Rattle.ddf_write_commands.proofs.WriteWorks.{write_steady}
+use Rattle.ddf_write_commands.proofs.Since.{HasComeTo, HaveSince}
+use Rattle.ddf_write_commands.proofs.WriteWorks.{look_steady, write_steady}
 
 module _ {D : Type 0} (work : Work D) (input : Input) (named : Option (List ℕ)) (timestamp : ℕ) (word : List ℕ) (start count : ℕ) where
   abbrev request : Request
@@ -41,40 +40,70 @@ module _ {D : Type 0} (work : Work D) (input : Input) (named : Option (List ℕ)
   unfit_memory : (failure : Failure) → ◌≡◌ {A = Result ℕ Failure} (Err failure) (Err Memory) → Unfit failure ≡ Unfit Memory
   unfit_memory failure spent = let same : failure ≡ Memory = cc in ap Unfit same
 
+  -- of a write that takes nothing it isn't said how it goes in pieces
+  abbrev none_taken : Pieces
+  none_taken = record { each = 1; ahead = 0 }
+
   -- nothing was taken from the input
-  pub unfit_came : IsUntaken input → ReadsOnly work.old work.new → (failure : Failure) → HasComeTo (writing start []) work named timestamp word request (Err failure)
+  pub unfit_came : IsUntaken input → ReadsOnly work.old work.new → (failure : Failure) → HasComeTo (looking start count) work named timestamp word request (Err failure)
       → HasWrittenArray work input named timestamp word start count (Unfit failure)
-  unfit_came untaken reads failure come = record { taken = come.taken; gone = λ given. come.gone (λ spent. given (unfit_memory failure spent)); gives = (untaken, reads, come.gives); leaves = λ told. tt; along = λ told. tt; costs = none_written work reads }
-
-  module _ (group : GroupValue) (steps : List Step) (are_asked : steps_of group timestamp request ≡ Ok steps) where
-    module _ (read : IsGroupRead work named (Ok group)) (reads : ReadsOnly work.old work.new) where
-      abbrev come : HasComeTo (writing start []) work named timestamp word request (Err Memory)
-      come = unwritten_come (writing start []) work named timestamp word request reads group Memory read reads
-
-      is_group : group_of come.taken.newest named ≡ Ok group
-      is_group = unwritten_found (writing start []) work named timestamp word request reads group Memory read reads
-
-      are_out : AreOut work.old come.taken.left
-      are_out = unwritten_out (writing start []) work named timestamp word request reads group Memory read reads
-
-      -- the input ended before
-      pub short_came : (found : ℕ) → IsShort input count found → HasWrittenArray work input named timestamp word start count (Short found)
-      short_came found short = record { taken = come.taken; gone = λ given. are_out; gives = (short, record { found = group; is_found = is_group; steps = steps; are_asked = are_asked }, reads); leaves = λ told. tt; along = λ told. tt; costs = none_written work reads }
-
-      -- it failed
-      pub not_read_came : InputRose input → HasWrittenArray work input named timestamp word start count NotRead
-      not_read_came rose = record { taken = come.taken; gone = λ given. are_out; gives = (rose, record { found = group; is_found = is_group; steps = steps; are_asked = are_asked }, reads); leaves = λ told. tt; along = λ told. tt; costs = none_written work reads }
-
-  -- why there was nothing to write
-  pub payload_came : (group : GroupValue) (steps : List Step) → steps_of group timestamp request ≡ Ok steps → IsGroupRead work named (Ok group) → ReadsOnly work.old work.new
-      → (fault : PayloadFault) → IsNoPayload input count fault → IsWrittenAs work input named timestamp word start count (Err (fault_of_payload fault))
-  payload_came group steps asked read reads (payloads.Short found) is = record { outcome = Short found; is_answered = refl; has = short_came group steps asked read reads found is }
-  payload_came group steps asked read reads payloads.Failed is = record { outcome = NotRead; is_answered = refl; has = not_read_came group steps asked read reads is }
-  payload_came group steps asked read reads payloads.Memory is = record {
-    outcome = Unfit Memory;
-    is_answered = refl;
-    has = unfit_came is reads Memory (unwritten_come (writing start []) work named timestamp word request reads group Memory read reads);
+  unfit_came untaken reads failure come = record {
+    taken = come.taken;
+    gone = λ given. come.gone (λ spent. given (unfit_memory failure spent));
+    pieces = none_taken;
+    gives = (untaken, reads, come.gives);
+    leaves = λ told. tt;
+    along = λ told. tt;
+    costs = none_written work reads;
   }
+
+  -- ---- what lies beside the blocks was looked at
+
+  module _ (group : GroupValue) (plan : IsPlanned group timestamp word request) (pieces : Pieces) (are_pieces : ArePiecesOf plan.volume start count pieces)
+      (since : HaveSince (looking start count) work named timestamp word request group false) (reads : ReadsOnly work.old work.new) where
+    is_accepted : IsAccepted timestamp word start count pieces (group_of since.taken.newest named)
+    is_accepted = record { found = group; is_found = since.is_group; steps = plan.first ++ plan.last; are_asked = plan.are_asked; plan = plan; are_pieces = are_pieces }
+
+    -- the input ended before
+    short_came : (found : ℕ) → IsShort input pieces count found → HasWrittenArray work input named timestamp word start count (Short found)
+    short_came found short = record {
+      taken = since.taken;
+      gone = λ given. since.gone;
+      pieces = pieces;
+      gives = (short, is_accepted, reads);
+      leaves = λ told. tt;
+      along = λ told. tt;
+      costs = none_written work reads;
+    }
+
+    -- it failed
+    not_read_came : InputRose input → HasWrittenArray work input named timestamp word start count NotRead
+    not_read_came rose = record {
+      taken = since.taken;
+      gone = λ given. since.gone;
+      pieces = pieces;
+      gives = (rose, is_accepted, reads);
+      leaves = λ told. tt;
+      along = λ told. tt;
+      costs = none_written work reads;
+    }
+
+    -- there was no memory
+    no_room : HasComeTo (looking start count) work named timestamp word request (Err Memory)
+    no_room = record {
+      taken = since.taken;
+      gone = λ given. since.gone;
+      gives = subst (λ (one : Result GroupValue Assembly). IsWorkedIn (looking start count) work timestamp word request one (Err Memory)) (sym since.is_group) reads;
+      leaves = since.leaves;
+      along = since.along;
+      costs = since.costs;
+    }
+
+    -- why there was nothing to write
+    pub payload_came : (fault : PayloadFault) → IsNoPayload input pieces count fault → IsWrittenAs work input named timestamp word start count (Err (fault_of_payload fault))
+    payload_came (payloads.Short found) is = record { outcome = Short found; is_answered = refl; has = short_came found is }
+    payload_came payloads.Failed is = record { outcome = NotRead; is_answered = refl; has = not_read_came is }
+    payload_came payloads.Memory is = record { outcome = Unfit Memory; is_answered = refl; has = unfit_came is reads Memory no_room }
 
   pub unfit_as : (failure : Failure) → HasWrittenArray work input named timestamp word start count (Unfit failure) → IsWrittenAs work input named timestamp word start count (Err (faults.Failure failure))
   unfit_as failure has = record { outcome = Unfit failure; is_answered = refl; has = has }
@@ -110,7 +139,7 @@ module _ (count : ℕ) (answer : Answer) where
 
 -- ---- how it ends
 
-module _ {D : Type 0} (work : Work D) (input : Input) (answer : Answer) (timestamp : ℕ) (word : List ℕ) (start count : ℕ) (stream : answer.status ≡ 6 → SinkRose answer.old answer.new ⊎ InputRose input)
+module _ {D : Type 0} (work : Work D) (input : Input) (answer : Answer) (timestamp : ℕ) (word : List ℕ) (start count : ℕ) (pieces : Pieces) (stream : answer.status ≡ 6 → SinkRose answer.old answer.new ⊎ InputRose input)
     (goes_on : GoesOn work.old work.new) (same_sizes : work.new.sizes ≡ work.old.sizes) where
   abbrev Rises : Type 0
   Rises = SinkRose answer.old answer.new ⊎ InputRose input
@@ -126,7 +155,7 @@ module _ {D : Type 0} (work : Work D) (input : Input) (answer : Answer) (timesta
   sequence_wrote true blocks sequence told un = closes_wrote refl told un
   sequence_wrote false blocks sequence told un = ⊎_elim (λ seven. wrote answer.status 7 refl seven un) (λ last. wrote answer.status 6 refl last un) told.ends
 
-  cause_by : (outcome : Outcome) (meaning : Result GroupValue Assembly) → IsWriteIn work input timestamp word start count meaning outcome → IsWriteTold count outcome answer → HasCause traits work answer Rises
+  cause_by : (outcome : Outcome) (meaning : Result GroupValue Assembly) → IsWriteIn work input timestamp word start count pieces meaning outcome → IsWriteTold count outcome answer → HasCause traits work answer Rises
   cause_by (Taken sectors (Ok sequence)) meaning is told = sequence_cause (length sectors == count) (length sectors) sequence told
   cause_by (Taken sectors (Err failure)) meaning is told =
       failure_cause traits refl refl refl (writing start sectors) (write_steady start sectors) work answer Rises stream timestamp word (write_request word start count) failure meaning is.2 told
@@ -134,9 +163,9 @@ module _ {D : Type 0} (work : Work D) (input : Input) (answer : Answer) (timesta
   cause_by (Short found) meaning is told = refused_told traits work answer stream refl told
   cause_by NotRead meaning is told = stream_cause traits work answer stream told.0
   cause_by (Unfit failure) meaning is told =
-      failure_cause traits refl refl refl (writing start []) (write_steady start []) work answer Rises stream timestamp word (write_request word start count) failure meaning is.2 told
+      failure_cause traits refl refl refl (looking start count) (look_steady start count) work answer Rises stream timestamp word (write_request word start count) failure meaning is.2 told
 
-  unwritten_by : (outcome : Outcome) (meaning : Result GroupValue Assembly) → IsWriteIn work input timestamp word start count meaning outcome → IsWriteTold count outcome answer
+  unwritten_by : (outcome : Outcome) (meaning : Result GroupValue Assembly) → IsWriteIn work input timestamp word start count pieces meaning outcome → IsWriteTold count outcome answer
       → IsTrue (is_unwritten answer.status) → ReadsOnly work.old work.new
   unwritten_by (Taken sectors (Ok sequence)) meaning is told un = absurd (sequence_wrote (length sectors == count) (length sectors) sequence told un)
   unwritten_by (Taken sectors (Err failure)) meaning is told un =
@@ -146,6 +175,6 @@ module _ {D : Type 0} (work : Work D) (input : Input) (answer : Answer) (timesta
   unwritten_by NotRead meaning is told un = is.2
   unwritten_by (Unfit failure) meaning is told un = is.1
 
-  pub write_ends : (outcome : Outcome) (meaning : Result GroupValue Assembly) → IsWriteIn work input timestamp word start count meaning outcome → IsWriteTold count outcome answer → EndsBy traits work answer Rises
+  pub write_ends : (outcome : Outcome) (meaning : Result GroupValue Assembly) → IsWriteIn work input timestamp word start count pieces meaning outcome → IsWriteTold count outcome answer → EndsBy traits work answer Rises
   write_ends outcome meaning is told =
       record { cause = cause_by outcome meaning is told; unwritten = unwritten_by outcome meaning is told; stays = λ none. absurd cc; goes_on = goes_on; same_sizes = same_sizes }

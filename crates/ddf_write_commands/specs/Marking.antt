@@ -1,5 +1,5 @@
 -- The view of an array whose blocks are to be written, as it is once the array is marked.
-use Rattle.std.specs.Prelude.{◌≡◌, ℕ, Bool, true, List, Result, Ok, Err, if◌then◌else◌}
+use Rattle.std.specs.Prelude.{◌≡◌, ℕ, Bool, true, List, Option, Result, Ok, Err, unwrap_or, if◌then◌else◌}
 use Rattle.std.specs.List.{list_any}
 use Rattle.ddf_config.specs.declared.array.Array.{Array}
 use Rattle.ddf_config.specs.declared.seat.Seat.{Seat}
@@ -28,11 +28,13 @@ pub record IsMarkedView (config : Configuration) (seats : List Seat) (entry : Li
   pub steps : is_step ≡ marks config entry
   pub is_marked : redundant ≡ true → volume.marked ≡ true
 
--- whether to mark an array is a step, and its view once it is marked; or want of memory
-abbrev pub IsMarkedAs : (config : Configuration) (guid : List ℕ) (seats : List Seat) → Result (Bool × Volume) Failure → Type 0
-IsMarkedAs config guid seats (Ok next) = (next.0 ≡ is_step config (Mark guid)) × (view_of (if next.0 then changed_at config (Mark guid) config.sequence else config) guid seats ≡ Ok next.1)
-IsMarkedAs config guid seats (Err Memory) = Unit {0}
-IsMarkedAs config guid seats (Err (Refused refusal)) = ⊥
-IsMarkedAs config guid seats (Err (Disk slot)) = ⊥
-IsMarkedAs config guid seats (Err (Conflict i j sequence differ)) = ⊥
-IsMarkedAs config guid seats (Err (Split i j)) = ⊥
+-- whether to mark an array is a step, its view once it is marked, and the one that it had, where this is another; or want of memory
+abbrev pub IsMarkedAs : (config : Configuration) (guid : List ℕ) (seats : List Seat) (was : Volume) → Result (Bool × Volume × Option Volume) Failure → Type 0
+IsMarkedAs config guid seats was (Ok next) =
+    (next.0 ≡ is_step config (Mark guid)) × (view_of (if next.0 then changed_at config (Mark guid) config.sequence else config) guid seats ≡ Ok next.1)
+    × (unwrap_or next.2 next.1 ≡ was)
+IsMarkedAs config guid seats was (Err Memory) = Unit {0}
+IsMarkedAs config guid seats was (Err (Refused refusal)) = ⊥
+IsMarkedAs config guid seats was (Err (Disk slot)) = ⊥
+IsMarkedAs config guid seats was (Err (Conflict i j sequence differ)) = ⊥
+IsMarkedAs config guid seats was (Err (Split i j)) = ⊥

@@ -1,5 +1,5 @@
 -- What is planned of the blocks of an array before anything is written.
-use Rattle.std.specs.Prelude.{◌≡◌, ℕ, List, None, Some, Result, Ok, Err}
+use Rattle.std.specs.Prelude.{◌≡◌, ℕ, List, None, Some, Result, Ok, Err, unwrap_or}
 use Rattle.ddf_config.specs.declared.seat.Seat.{Seat}
 use Rattle.ddf_config.specs.Configuration.{Configuration}
 use Rattle.ddf_config.specs.Refusals.{first_refusal}
@@ -16,6 +16,10 @@ use Rattle.ddf_write_commands.specs.declared.planning.Plan.{Plan}
 use Rattle.ddf_write_commands.specs.Marking.{IsMarkedView}
 use Rattle.ddf_write_commands.specs.Planned.{Entry, Refusing, changes_around, request_around}
 
+-- the array of a plan as it is before it is marked for its blocks
+abbrev pub unmarked_view : Plan → Volume
+unmarked_view plan = unwrap_or plan.unmarked plan.view
+
 -- The changes around the blocks of an array of a configuration, and its views over these seats: as it is, and as it is once it is marked.
 pub record IsPlanFor (behind : Entry → List Change) (config : Configuration) (seats : List Seat) (entry : Entry) (plan : Plan) : Type 0 where
   pub changes : plan.changes ≡ changes_around behind entry
@@ -23,6 +27,8 @@ pub record IsPlanFor (behind : Entry → List Change) (config : Configuration) (
   pub is_before : view_of config entry.0 seats ≡ Ok before
   pub is_marked_view : IsMarkedView config seats entry plan.view plan.redundant plan.marks
   pub known : IsVolume plan.view
+  pub is_unmarked : unmarked_view plan ≡ before
+  pub known_before : IsVolume before
 
 -- This is planned of the array that a word names: nothing refuses it.
 pub record IsPlanOf (refusing : Refusing) (behind : Entry → List Change) (config : Configuration) (seats : List Seat) (word : List ℕ) (plan : Plan) : Type 0 where

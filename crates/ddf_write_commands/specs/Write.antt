@@ -12,11 +12,16 @@ use Rattle.ddf_plan.specs.declared.change.Change.{Change}
 use Rattle.ddf_plan.specs.declared.change.Change.TheVariants.{Unmark}
 use Rattle.ddf_array.specs.Viewing.{is_array_redundant, is_array_within, view_of}
 use Rattle.ddf_cells.specs.CellsOn.{copy_cells}
+use Rattle.ddf_array.specs.Volume.{Volume}
+use Rattle.ddf_bay.specs.Sectors.{Image}
+use Rattle.ddf_read.specs.Reading.{Failed}
+use Rattle.ddf_write.specs.Beside.{NoneLeftBeside}
+use Rattle.ddf_write.specs.Keeping.{AreTheirValues, Keeping}
+use Rattle.ddf_write.specs.Looking.{piece_of}
 use Rattle.ddf_write.specs.RowWrites.{IsSure, row_cells}
 use Rattle.ddf_write.specs.Writing.{HasWritten, IsAmongWrites, IsLeftByWrite}
-use Rattle.ddf_pieces.specs.Pieces.{AreWholePieces, piece_blocks, piece_of, room_for}
+use Rattle.ddf_pieces.specs.Pieces.{EndWithPiece}
 use Rattle.ddf_pieces.specs.Coming.{HaveCome}
-use Rattle.ddf_pieces.specs.Writing.{NoneLeftOfPiece}
 use Rattle.ddf_group.specs.declared.answer.Assembly.{Assembly}
 use Rattle.ddf_steps.specs.Committed.{slots_of}
 use Rattle.ddf_seats.specs.Group.{GroupValue}
@@ -27,7 +32,7 @@ use Rattle.ddf_assembly.specs.Slots.{AreOut}
 use Rattle.ddf_text.specs.Done.{cut_line, sequence_line}
 use Rattle.ddf_steps.specs.Steps.{Step}
 use Rattle.ddf_answer.specs.declared.failure.Failure.{Failure}
-use Rattle.ddf_answer.specs.declared.failure.Failure.TheVariants.{Memory, Refused}
+use Rattle.ddf_answer.specs.declared.failure.Failure.TheVariants.{Conflict, Disk, Memory, Refused, Split}
 use Rattle.ddf_answer.specs.Answers.{IsToldFailure}
 use Rattle.ddf_answer.specs.Call.{Answer, Input, Work, work_of}
 use Rattle.ddf_answer.specs.Costs.{WritesAtMost}
@@ -47,8 +52,8 @@ use Rattle.ddf_write_commands.specs.declared.planning.Plan.{Plan}
 use Rattle.ddf_write_commands.specs.declared.writing.Done.{Done}
 use Rattle.ddf_write_commands.specs.declared.writing.WriteFault.{WriteFault}
 use Rattle.ddf_write_commands.specs.declared.writing.WriteFault.TheVariants as faults
-use Rattle.ddf_write_commands.specs.Payload.{InputRose, IsPayload, IsShort, IsTakenBy, IsUntaken}
-use Rattle.ddf_write_commands.specs.Planned.{Entry, Refusing, lacks_position, request_around}
+use Rattle.ddf_write_commands.specs.Payload.{ArePiecesOf, InputRose, IsPayload, IsShort, IsTakenBy, IsUntaken, Pieces}
+use Rattle.ddf_write_commands.specs.Planned.{Entry, IsPlanned, Refusing, lacks_position, request_around}
 use Rattle.ddf_write_commands.specs.Plans.{IsPlanOf}
 use Rattle.ddf_write_commands.specs.Worked.{IsArrayDone, IsArrayLeft, IsLeftDoing, IsLeftIn, IsWorkedIn, IsWorkedOf, LeavesDoing}
 
@@ -72,20 +77,34 @@ write_request word start count = request_around (write_refusals start count) wri
 
 -- ---- what is done to the blocks
 
--- the blocks from a number on get the bytes of these sectors, piece by piece
-abbrev pub writing : (start : ℕ) → (sectors : List (List ℕ)) → Doing
-writing start sectors = record {
+-- The blocks from a number on get the bytes of these sectors, piece by piece. The parity of their rows is right where what lies beside them is sure. No read is
+-- needed once it has begun.
+abbrev pub writing_where : (sure : (failed : ℕ → Type 0) → Volume → (before : Image) → Type 0) → (start : ℕ) → (sectors : List (List ℕ)) → Doing
+writing_where sure start sectors = record {
   IsAmong = λ volume before may image. IsAmongWrites volume start sectors may image;
   IsLeft = λ volume before image. IsLeftByWrite volume start sectors before image;
-  HasDone = λ failed volume before image. HasWritten volume start sectors (IsSure failed volume before) image;
-  NoneLeft = λ failed volume slot. NoneLeftOfPiece failed volume start (length sectors) piece_blocks slot;
+  HasDone = λ failed volume before image. HasWritten volume start sectors (sure failed volume before) image;
+  NoneLeft = λ failed volume slot. ⊥;
   most_sectors = λ volume. copy_cells volume start (length sectors) + row_cells volume (length sectors);
 }
+
+-- it is where no read failed, or where the array was redundant
+abbrev pub writing : (start : ℕ) → (sectors : List (List ℕ)) → Doing
+writing start sectors = writing_where IsSure start sectors
+
+-- between the steps: where what was kept of it are its values
+abbrev pub writing_beside : Keeping → (start : ℕ) → (sectors : List (List ℕ)) → Doing
+writing_beside kept start sectors = writing_where (λ failed volume before. AreTheirValues volume before kept) start sectors
+
+-- What comes before it: what lies beside so many blocks is looked at, and nothing is written.
+abbrev pub looking : (start count : ℕ) → Doing
+looking start count = record (writing start []) { NoneLeft = λ failed volume slot. NoneLeftBeside failed volume start count slot }
 
 -- ---- what came of it
 
 -- What came of a write: these sectors were given to be written, and this came of the work; these, one at least, were written, and then a read of the
--- input failed; the input ended within the first piece; a read of it failed there; or nothing was taken from it, for this reason.
+-- input failed; the input ended within the first piece; a read of it failed there; or nothing was taken from it, for this reason: the group refuses it, a cell
+-- beside the blocks can't be read, or memory ran out.
 pub data Outcome : Type 0 where
   Taken : (sectors : List (List ℕ)) → (worked : Result ℕ Failure) → Outcome
   Broken : (sectors : List (List ℕ)) → Outcome
@@ -100,28 +119,32 @@ is_written (Short found) = false
 is_written NotRead = false
 is_written (Unfit failure) = false
 
--- Nothing of the group refuses it: so the input is read at all.
-pub record IsAccepted (timestamp : ℕ) (request : Request) (meaning : Result GroupValue Assembly) : Type 0 where
+-- Nothing of the group refuses it, and the blocks go in these pieces: so the input is read at all.
+pub record IsAccepted (timestamp : ℕ) (word : List ℕ) (start count : ℕ) (pieces : Pieces) (meaning : Result GroupValue Assembly) : Type 0 where
   pub found : GroupValue
   pub is_found : meaning ≡ Ok found
   pub steps : List Step
-  pub are_asked : steps_of found timestamp request ≡ Ok steps
+  pub are_asked : steps_of found timestamp (write_request word start count) ≡ Ok steps
+  pub plan : IsPlanned found timestamp word (write_request word start count)
+  pub are_pieces : ArePiecesOf plan.volume start count pieces
 
 module _ {D : Type 0} (work : Work D) (input : Input) (timestamp : ℕ) (word : List ℕ) (start count : ℕ) where
   abbrev pub request : Request
   request = write_request word start count
 
-  -- what came of the group, and of the input
-  abbrev pub IsWriteIn : Result GroupValue Assembly → Outcome → Type 0
-  IsWriteIn meaning (Taken sectors worked) =
-      ((left : List ℕ) × IsPayload input count sectors left × IsTakenBy input count sectors left worked) × IsAccepted timestamp request meaning
-      × IsWorkedIn (writing start sectors) work timestamp word request meaning worked
-  IsWriteIn meaning (Broken sectors) =
-      ((left : List ℕ) × IsPayload input count sectors left × (0 < length sectors) × (length sectors < count) × InputRose input) × IsAccepted timestamp request meaning
-      × IsLeftIn (writing start sectors) work timestamp word request meaning
-  IsWriteIn meaning (Short found) = IsShort input count found × IsAccepted timestamp request meaning × ReadsOnly work.old work.new
-  IsWriteIn meaning NotRead = InputRose input × IsAccepted timestamp request meaning × ReadsOnly work.old work.new
-  IsWriteIn meaning (Unfit failure) = IsUntaken input × ReadsOnly work.old work.new × IsWorkedIn (writing start []) work timestamp word request meaning (Err failure)
+  -- What came of the group, and of the input. Where a cell beside the blocks can't be read nothing is written, and nothing is taken of the input; once these are
+  -- written only a write or a sync that fails ends the work.
+  module _ (pieces : Pieces) where
+    abbrev pub IsWriteIn : Result GroupValue Assembly → Outcome → Type 0
+    IsWriteIn meaning (Taken sectors worked) =
+        ((left : List ℕ) × IsPayload input pieces count sectors left × IsTakenBy input pieces count sectors left worked) × IsAccepted timestamp word start count pieces meaning
+        × IsWorkedIn (writing start sectors) work timestamp word request meaning worked
+    IsWriteIn meaning (Broken sectors) =
+        ((left : List ℕ) × IsPayload input pieces count sectors left × (0 < length sectors) × (length sectors < count) × InputRose input)
+        × IsAccepted timestamp word start count pieces meaning × IsLeftIn (writing start sectors) work timestamp word request meaning
+    IsWriteIn meaning (Short found) = IsShort input pieces count found × IsAccepted timestamp word start count pieces meaning × ReadsOnly work.old work.new
+    IsWriteIn meaning NotRead = InputRose input × IsAccepted timestamp word start count pieces meaning × ReadsOnly work.old work.new
+    IsWriteIn meaning (Unfit failure) = IsUntaken input × ReadsOnly work.old work.new × IsWorkedIn (looking start count) work timestamp word request meaning (Err failure)
 
   -- what a stop leaves, at every moment: without the bytes, nothing else than before
   abbrev pub LeavesWriting : Result GroupValue Assembly → Outcome → Type 0
@@ -151,7 +174,8 @@ module _ {D : Type 0} (work : Work D) (input : Input) (timestamp : ℕ) (word : 
 pub record HasWrittenArray {D : Type 0} (work : Work D) (input : Input) (named : Option (List ℕ)) (timestamp : ℕ) (word : List ℕ) (start count : ℕ) (outcome : Outcome) : Type 0 where
   pub taken : TakesGroup work named timestamp (write_request word start count) (is_written outcome)
   pub gone : (outcome ≡ Unfit Memory → ⊥) → AreOut work.old taken.left
-  pub gives : IsWriteIn work input timestamp word start count (group_of taken.newest named) outcome
+  pub pieces : Pieces
+  pub gives : IsWriteIn work input timestamp word start count pieces (group_of taken.newest named) outcome
   pub leaves : work.tells → LeavesWriting work input timestamp word start count (group_of taken.newest named) outcome
   pub along : work.tells → GoesAlongWriting work input timestamp word start count taken.left (group_of taken.newest named) outcome
   pub costs : CostsOfWriting work input timestamp word start count (group_of taken.newest named) outcome
@@ -210,25 +234,36 @@ pub record IsWrittenAs {D : Type 0} (work : Work D) (input : Input) (named : Opt
   pub is_answered : result ≡ answered outcome
   pub has : HasWrittenArray work input named timestamp word start count outcome
 
+-- ---- before the steps
+
+-- why what lies beside blocks isn't known: no source of a cell is left at a slot, or memory ran out
+abbrev pub IsUnseen : {D : Type 0} → (old new : BayState D) → Volume → (start count : ℕ) → Failure → Type 0
+IsUnseen old new volume start count (Disk slot) = NoneLeftBeside (Failed old new) volume start count slot
+IsUnseen old new volume start count Memory = Unit {0}
+IsUnseen old new volume start count (Refused refusal) = ⊥
+IsUnseen old new volume start count (Conflict i j sequence differ) = ⊥
+IsUnseen old new volume start count (Split i j) = ⊥
+
 -- ---- between the steps
 
 -- The sectors were given to be written, of so many blocks: those of a first piece, and what the source gave behind it. So much was left of it.
-pub record AreGiven (source_tells : Type 0) (before : SourceState) (first : List ℕ) (count : ℕ) (sectors : List (List ℕ)) (left : List ℕ) : Type 0 where
-  pub pieces : AreWholePieces (room_for count) count (length sectors)
+pub record AreGiven (source_tells : Type 0) (before : SourceState) (first : List ℕ) (pieces : Pieces) (count : ℕ) (sectors : List (List ℕ)) (left : List ℕ) : Type 0 where
+  pub ends : EndWithPiece pieces.each pieces.ahead count (length sectors)
   pub come : HaveCome source_tells before first sectors left
 
 -- what the source gave of them: all, or whole pieces and then its end; or, where the work failed, all of these, or none where it failed before; or it failed behind these
-abbrev pub IsGivenFor : (source_tells : Type 0) → (before after : SourceState) → (first : List ℕ) → (count : ℕ) → (sectors : List (List ℕ)) → Result Done WriteFault → Type 0
-IsGivenFor source_tells before after first count sectors (Ok done) =
+abbrev pub IsGivenFor : (source_tells : Type 0) → (before after : SourceState) → (first : List ℕ) → Pieces → (count : ℕ) → (sectors : List (List ℕ)) → Result Done WriteFault → Type 0
+IsGivenFor source_tells before after first pieces count sectors (Ok done) =
     (length sectors ≡ done.blocks) × (after.faults ≡ before.faults)
-    × ((left : List ℕ) × AreGiven source_tells before first count sectors left
+    × ((left : List ℕ) × AreGiven source_tells before first pieces count sectors left
     × (((length sectors ≡ count) × (source_tells → after.left ≡ left))
-    ⊎ ((0 < length sectors) × (length sectors < count) × (source_tells → (length left < 512 * piece_of (room_for count) (count - length sectors)) × (after.left ≡ [])))))
-IsGivenFor source_tells before after first count sectors (Err (faults.Failure failure)) =
+    ⊎ ((0 < length sectors) × (length sectors < count)
+    × (source_tells → (length left < 512 * piece_of pieces.each pieces.ahead (length sectors) (count - length sectors)) × (after.left ≡ [])))))
+IsGivenFor source_tells before after first pieces count sectors (Err (faults.Failure failure)) =
     ((sectors ≡ []) × (after ≡ before))
-    ⊎ ((left : List ℕ) × AreGiven source_tells before first count sectors left × (source_tells → GivesFront (record before { left = left }) after))
-IsGivenFor source_tells before after first count sectors (Err faults.Input) =
-    (left : List ℕ) × AreGiven source_tells before first count sectors left × (length sectors < count) × Rose before.faults after.faults
+    ⊎ ((left : List ℕ) × AreGiven source_tells before first pieces count sectors left × (source_tells → GivesFront (record before { left = left }) after))
+IsGivenFor source_tells before after first pieces count sectors (Err faults.Input) =
+    (left : List ℕ) × AreGiven source_tells before first pieces count sectors left × (length sectors < count) × Rose before.faults after.faults
     × (source_tells → GivesFront (record before { left = left }) after)
 
 -- what came of the work
@@ -241,18 +276,18 @@ abbrev pub is_all_done : Result Done WriteFault → Bool
 is_all_done (Ok done) = true
 is_all_done (Err fault) = false
 
--- The blocks of an array were written so far between the steps of its group, by a plan.
-pub record HasWrittenBlocks {D : Type 0} (tells : Type 0) (old new : BayState D) (group : GroupValue) (plan : Plan) (timestamp start count : ℕ) (source_tells : Type 0) (before after : SourceState) (first : List ℕ)
-    (sectors : List (List ℕ)) (result : Result Done WriteFault) : Type 0 where
-  pub given : IsGivenFor source_tells before after first count sectors result
+-- The blocks of an array were written so far between the steps of its group, by a plan and by what was kept of what lies beside them.
+pub record HasWrittenBlocks {D : Type 0} (tells : Type 0) (old new : BayState D) (group : GroupValue) (plan : Plan) (timestamp start count : ℕ) (kept : Keeping) (pieces : Pieces) (source_tells : Type 0)
+    (before after : SourceState) (first : List ℕ) (sectors : List (List ℕ)) (result : Result Done WriteFault) : Type 0 where
+  pub given : IsGivenFor source_tells before after first pieces count sectors result
   pub worked : (word : List ℕ) → IsPlanOf (write_refusals start count) write_behind (config_recovered group) group.seats word plan
-      → IsEndedOf (writing start sectors) (work_of tells old new) group timestamp word (write_request word start count) result
+      → IsEndedOf (writing_beside kept start sectors) (work_of tells old new) group timestamp word (write_request word start count) result
   pub leaves : tells → (word : List ℕ) → IsPlanOf (write_refusals start count) write_behind (config_recovered group) group.seats word plan
-      → StopsLeave old new (IsLeftDoing (writing start sectors) (work_of tells old new) group timestamp word (write_request word start count))
+      → StopsLeave old new (IsLeftDoing (writing_beside kept start sectors) (work_of tells old new) group timestamp word (write_request word start count))
   pub beside : tells → LeavesOthers old new (slots_of group.seats)
   pub keeps : tells → (left : List Bool) (named : Option (List ℕ)) → IsFoundBy old left named group → (steps : List Step) → readied group plan.changes timestamp ≡ Ok steps
       → KeepsHistories old new left group steps (is_all_done result)
   pub along : tells → (left : List Bool) (named : Option (List ℕ)) → IsFoundBy old left named group
       → (word : List ℕ) → IsPlanOf (write_refusals start count) write_behind (config_recovered group) group.seats word plan
-      → AllComeAlong (writing start sectors) (work_of tells old new) left group timestamp word (write_request word start count) (is_all_done result)
-  pub costs : (steps : List Step) → readied group plan.changes timestamp ≡ Ok steps → WritesAtMost (work_of tells old new) (steps_sectors steps + (writing start sectors).most_sectors plan.view)
+      → AllComeAlong (writing_beside kept start sectors) (work_of tells old new) left group timestamp word (write_request word start count) (is_all_done result)
+  pub costs : (steps : List Step) → readied group plan.changes timestamp ≡ Ok steps → WritesAtMost (work_of tells old new) (steps_sectors steps + (writing_beside kept start sectors).most_sectors plan.view)

@@ -1,4 +1,6 @@
-//! What is written around the blocks of an array: a group's recovery and the array's mark before them, and the last step behind them.
+//! What is written around the blocks of an array: a group's recovery and the array's mark before them, and the last step behind them. A stop
+//! within blocks of an array that isn't marked would leave parity that fits no row, and nothing would tell.
+//! docs/STOPS.md#the-blocks-of-arrays
 ghost use Rattle.std.specs.Prelude.{◌≡◌, ◌≤◌, ℕ, List, Bool, false, Option, None, Ok, Err, length, IfErr, IfOk, OnOk};
 ghost use Rattle.std.specs.List.{AllByRecursion, list_any};
 ghost use Rattle.ddf_bay.specs.Moments.{GoesOn, StopsLeave};

@@ -1,11 +1,11 @@
-//! The bytes of blocks, as the input gives them.
-ghost use Rattle.std.specs.Prelude.{◌≡◌, ◌≤◌, ◌*◌, ℕ, length, IfOk, IfErr, OnOk};
-ghost use Rattle.ddf_pieces.specs.Pieces.{piece_of, room_for};
+//! The bytes of blocks, as the input gives them. The first piece is read before the first write, so an input that ends within it changes nothing.
+//! docs/COMMANDS.md#write
+ghost use Rattle.std.specs.Prelude.{◌≡◌, ◌≤◌, ◌<◌, ◌*◌, ℕ, length, IfOk, IfErr, IfSome, OnOk};
 ghost use Rattle.ddf_answer.specs.Call.{input_of};
-ghost use Rattle.ddf_write_commands.specs.Payload.{IsFirstPiece, IsNoPayload};
+ghost use Rattle.ddf_write_commands.specs.Payload.{IsFirstPiece, IsNoPayload, first_piece, pieces_of, room_of};
 
 use ddf_bytes::{NoMemory, Source, fill_from};
-use ddf_pieces::room_for;
+use ddf_write::{Beside, piece_of};
 use std::alloc::Global;
 
 /// Why there are no bytes of blocks.
@@ -36,21 +36,36 @@ fn zeros(alloc: Global, size: usize) -> Result<Vec<u8>, NoMemory>
     Ok(bytes)
 }
 
-/// The blocks of the first piece of so many.
-fn first_piece(count: u64) -> usize
-    ensures { result ≡ piece_of (room_for count) count }
+/// How many bytes of room a piece of so many blocks takes. None where that is more than memory has numbers for.
+fn room_of(beside: &Beside, count: u64) -> Option<u64>
+    ensures { IfSome result (λ size. size ≡ 512 * room_of (pieces_of beside.now) count) }
 {
-    count.min(room_for(count) as u64) as usize
+    let blocks = beside.each.min(count).max(1);
+    blocks.checked_mul(512)
+}
+
+/// The blocks of the first piece of so many.
+fn first_piece(beside: &Beside, count: u64) -> u64
+    requires { 0 < beside.now.each }
+    ensures { result ≡ first_piece (pieces_of beside.now) count }
+{
+    piece_of(beside.each, beside.ahead, 0, count)
 }
 
 /// Reads the bytes of the first piece of so many blocks to the beginning of the room for a piece, and not a byte more of the input.
-fn fill_first<S: Source>(source: &mut S, count: u64, room: &mut [u8]) -> Result<(), PayloadFault>
-    requires { length room.old ≡ 512 * room_for count }
-    ensures read { OnOk result (IsFirstPiece (input_of S.tells (S.input source.old) (S.input source.new)) count room.new) }
-    ensures fault { IfErr result (IsNoPayload (input_of S.tells (S.input source.old) (S.input source.new)) count) }
+fn fill_first<S: Source>(
+    source: &mut S,
+    beside: &Beside,
+    count: u64,
+    room: &mut [u8],
+) -> Result<(), PayloadFault>
+    requires some { 0 < beside.now.each }
+    requires room { length room.old ≡ 512 * room_of (pieces_of beside.now) count }
+    ensures read { OnOk result (IsFirstPiece (input_of S.tells (S.input source.old) (S.input source.new)) (pieces_of beside.now) count room.new) }
+    ensures fault { IfErr result (IsNoPayload (input_of S.tells (S.input source.old) (S.input source.new)) (pieces_of beside.now) count) }
     ensures never_falls { (S.input source.old).faults ≤ (S.input source.new).faults }
 {
-    let size = 512 * first_piece(count);
+    let size = 512 * first_piece(beside, count) as usize;
     match fill_from(source, &mut room[..size]) {
         Ok(found) if found == size => Ok(()),
         Ok(found) => Err(PayloadFault::Short(found as u64)),
@@ -58,17 +73,24 @@ fn fill_first<S: Source>(source: &mut S, count: u64, room: &mut [u8]) -> Result<
     }
 }
 
-/// Room for a piece of so many blocks. It begins with the bytes of the first piece, as the input gives them, and not a byte more of it is read.
+/// Room for a piece of so many blocks, as these were looked at. It begins with the bytes of the first piece, as the input gives them, and not a byte more of it
+/// is read.
 pub(crate) fn read_first<S: Source>(
     alloc: Global,
     source: &mut S,
+    beside: &Beside,
     count: u64,
 ) -> Result<Vec<u8>, PayloadFault>
-    ensures read { IfOk result (λ room. IsFirstPiece (input_of S.tells (S.input source.old) (S.input source.new)) count room.items) }
-    ensures fault { IfErr result (IsNoPayload (input_of S.tells (S.input source.old) (S.input source.new)) count) }
+    requires { 0 < beside.now.each }
+    ensures read { IfOk result (λ room. IsFirstPiece (input_of S.tells (S.input source.old) (S.input source.new)) (pieces_of beside.now) count room.items) }
+    ensures fault { IfErr result (IsNoPayload (input_of S.tells (S.input source.old) (S.input source.new)) (pieces_of beside.now) count) }
     ensures never_falls { (S.input source.old).faults ≤ (S.input source.new).faults }
 {
-    let mut room = zeros(alloc, 512 * room_for(count))?;
-    fill_first(source, count, &mut room)?;
+    let size = match room_of(beside, count) {
+        Some(size) => size as usize,
+        None => return Err(PayloadFault::Memory),
+    };
+    let mut room = zeros(alloc, size)?;
+    fill_first(source, beside, count, &mut room)?;
     Ok(room)
 }

@@ -1,4 +1,6 @@
-//! What is planned of the blocks of an array before anything is written: the changes of its group around them, and its view between these.
+//! What is planned of the blocks of an array before anything is written: the changes of its group around them, its view between these, and
+//! what refuses `write` and `resync` beside any use of it. Refused after the mark an array would stay marked.
+//! docs/GROUPS.md#orders-of-refusal
 ghost use Rattle.std.specs.Prelude.{◌≡◌, ◌++◌, ◌∷◌, [], not, List, option_to_list, Some, Ok, IfOk, OnOk, if◌then◌else◌};
 ghost use Rattle.std.specs.Map.{lookup};
 ghost use Rattle.ddf_array.specs.Viewing.{view_of};
@@ -14,7 +16,7 @@ ghost use Rattle.ddf_recovery.specs.Recovery.{config_recovered};
 ghost use Rattle.ddf_read_commands.specs.Use.{IsViewed};
 ghost use Rattle.ddf_write_commands.specs.Marking.{IsMarkedAs};
 ghost use Rattle.ddf_write_commands.specs.Planned.{Entry};
-ghost use Rattle.ddf_write_commands.specs.Plans.{MayPlan, MayPlanFor};
+ghost use Rattle.ddf_write_commands.specs.Plans.{MayPlan, MayPlanFor, unmarked_view};
 ghost use Rattle.ddf_write_commands.specs.Resync.{resync_behind, resync_refusals};
 ghost use Rattle.ddf_write_commands.specs.Write.{write_behind, write_refusals};
 
@@ -45,6 +47,18 @@ pub(crate) struct Plan {
     pub(crate) marks: bool,
     /// The array as it is once it is marked.
     pub(crate) view: View,
+    /// The array as it is before, where to mark it is a step.
+    unmarked: Option<View>,
+}
+
+/// The array of a plan as it is before it is marked for its blocks.
+pub(crate) fn unmarked_view(plan: &Plan) -> &View
+    ensures { result.now ≡ unmarked_view plan.now }
+{
+    match &plan.unmarked {
+        Some(view) => view,
+        None => &plan.view,
+    }
 }
 
 /// What is planned of the array of a group that a word names, to resync it.
@@ -150,17 +164,18 @@ fn planned(
     ensures { (array : Array) (after : Entry → List Change) → lookup (same_guid guid) config.now.arrays ≡ Some array → after (guid, array) ≡ option_to_list behind
         → MayPlanFor after config.now seats.now (guid, array) result }
 {
+    is_sound(&view);
     if !view.redundant() {
-        is_sound(&view);
         let changes = listed(alloc, None, behind)?;
         return Ok(Plan {
             changes,
             redundant: false,
             marks: false,
             view,
+            unmarked: None,
         });
     }
-    let (marks, view) = marked(alloc, config, seats, &guid, view)?;
+    let (marks, view, unmarked) = marked(alloc, config, seats, &guid, view)?;
     is_sound(&view);
     let changes = listed(alloc, Some(Change::Mark(guid)), behind)?;
     Ok(Plan {
@@ -168,26 +183,27 @@ fn planned(
         redundant: true,
         marks,
         view,
+        unmarked,
     })
 }
 
-/// Whether to mark an array is a step, and its view once it is marked.
+/// Whether to mark an array is a step, its view once it is marked, and that before, where it is another one.
 fn marked(
     alloc: Global,
     config: &Config,
     seats: &[Seat],
     guid: &Guid,
     view: View,
-) -> Result<(bool, View), Failure>
+) -> Result<(bool, View, Option<View>), Failure>
     requires { view_of config.now guid.now seats.now ≡ Ok view }
-    ensures { IsMarkedAs config.now guid.now seats.now result }
+    ensures { IsMarkedAs config.now guid.now seats.now view result }
 {
     let next = changed_at(alloc, config, &Change::Mark(*guid), config.sequence)?;
     if same_tables(config, &next) {
-        return Ok((false, view));
+        return Ok((false, view, None));
     }
-    let view = view_of(alloc, &next, seats, guid)?;
-    Ok((true, view))
+    let marked_view = view_of(alloc, &next, seats, guid)?;
+    Ok((true, marked_view, Some(view)))
 }
 
 /// The view of an array.

@@ -1,4 +1,5 @@
-//! `resync`: the copies and the parity of an array are made to agree.
+//! `resync`: the copies and the parity of an array are made to agree. One that isn't marked is read before its mark: marked and stopped by a bad
+//! sector it would have lost what parity alone gives. docs/FAULTS.md#a-resync-over-an-unreadable-sector
 ghost use Rattle.std.specs.Prelude.{◌≡◌, ◌⊎◌, ◌+◌, ◌≤◌, ℕ, List, None, false, true, OnOk, IfErr};
 ghost use Rattle.ddf_bytes.specs.Stamps.{timestamp_of};
 ghost use Rattle.ddf_bay.specs.Moments.{GoesOn, IsSettled, StopsLeave};

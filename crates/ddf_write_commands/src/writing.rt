@@ -1,10 +1,17 @@
-//! `write`: blocks of an array get the bytes of the input.
-ghost use Rattle.std.specs.Prelude.{◌≡◌, ◌⊎◌, ◌*◌, ℕ, List, Option, OnOk, length, take};
+//! `write`: blocks of an array get the bytes of the input. What lies beside them is read before the array is marked: behind the mark parity is no
+//! source, and a bad sector beside them could not be had. docs/FAULTS.md#a-small-write-beside-an-unreadable-sector
+ghost use Rattle.std.specs.Prelude.{◌≡◌, ◌⊎◌, ◌*◌, ℕ, List, None, Option, true, IfErr, IfOk, OnOk, length, take};
 ghost use Rattle.ddf_bytes.specs.Stamps.{timestamp_of};
 ghost use Rattle.ddf_bytes.specs.Streams.{SinkRose};
 ghost use Rattle.ddf_bay.specs.Moments.{GoesOn};
+ghost use Rattle.ddf_array.specs.Sources.{trusts_parity};
+ghost use Rattle.ddf_array.specs.Volume.{Fits};
+ghost use Rattle.ddf_read.specs.Reading.{Failed, OnlyReads};
 ghost use Rattle.ddf_cells.specs.Touching.{GoesBetween};
-ghost use Rattle.ddf_pieces.specs.Pieces.{room_for};
+ghost use Rattle.ddf_write.specs.Keeping.{AreTheirValues};
+ghost use Rattle.ddf_write.specs.Looking.{LiesBeside};
+ghost use Rattle.ddf_write.specs.RowWrites.{IsSure, keeps_parity_anywhere};
+ghost use Rattle.ddf_write.specs.WriteRefused.{write_refusal};
 ghost use Rattle.ddf_recovery.specs.Committed.{WasReadied};
 ghost use Rattle.ddf_recovery.specs.Recovery.{config_recovered};
 ghost use Rattle.ddf_seats.specs.Seated.{seated};
@@ -16,13 +23,13 @@ ghost use Rattle.ddf_words.specs.declared.command.Command.{Command};
 ghost use Rattle.ddf_words.specs.Traits.{traits_of};
 ghost use Rattle.ddf_group_commands.specs.GroupRead.{IsReadFrom};
 ghost use Rattle.ddf_write_commands.specs.Opened.{AreMembers};
-ghost use Rattle.ddf_write_commands.specs.Payload.{InputRose, first_piece};
-ghost use Rattle.ddf_write_commands.specs.Plans.{IsPlanOf};
-ghost use Rattle.ddf_write_commands.specs.Write.{HasWrittenBlocks, IsDoneTold, IsWriteDone, IsWrittenAs, write_behind, write_refusals};
+ghost use Rattle.ddf_write_commands.specs.Payload.{InputRose, first_piece, pieces_of, room_of};
+ghost use Rattle.ddf_write_commands.specs.Plans.{IsPlanOf, unmarked_view};
+ghost use Rattle.ddf_write_commands.specs.Write.{HasWrittenBlocks, IsDoneTold, IsUnseen, IsWriteDone, IsWrittenAs, write_behind, write_refusals};
 
 use crate::around::{close_blocks, open_blocks, ready_blocks};
 use crate::payload::{PayloadFault, read_first};
-use crate::planning::{Plan, plan_write};
+use crate::planning::{Plan, plan_write, unmarked_view};
 use ddf_answer::{Failure, Status, tell, tell_failure};
 use ddf_assembly::Group;
 use ddf_bay::Bay;
@@ -33,6 +40,7 @@ use ddf_pieces::{PieceFault, write_pieces};
 use ddf_read_commands::failure_of;
 use ddf_recovery::Ready;
 use ddf_text::{cut_line, sequence_line};
+use ddf_write::{Beside, LookFault, look_beside};
 use std::alloc::Global;
 
 /// Why blocks aren't written.
@@ -79,8 +87,10 @@ struct Done {
 }
 
 /// Recovers the group that the disks are, gives so many blocks of the array that the word names, from one on, the bytes of the input, and prints the
-/// group's sequence number behind it. The input is read piece by piece: the first piece only where nothing refuses the write, before anything is written, and
-/// each later one before it is written. Where the input ends before one of these, the pieces before it are written, and it prints how many blocks they have.
+/// group's sequence number behind it. Before anything is written it reads what the new parity needs of the blocks beside them, by every source that these have:
+/// where one has none left, nothing is written, and nothing taken of the input. From then on no block is read. The input is read piece by piece: the first piece
+/// only where nothing refuses the write, before anything is written, and each later one before it is written. Where the input ends before one of these, the
+/// pieces before it are written, and it prints how many blocks they have.
 pub fn write<B: Bay, S: Source, K: Sink>(
     alloc: Global,
     named: Option<Guid>,
@@ -92,6 +102,7 @@ pub fn write<B: Bay, S: Source, K: Sink>(
     sink: &mut K,
     stamp: &Stamp,
 ) -> Status
+    // promise:beside
     ensures done { IsWriteDone (work_of B.tells (B.disks bay.old) (B.disks bay.new)) (input_of S.tells (S.input source.old) (S.input source.new)) named (timestamp_of stamp.now) name.now start count
         (answer_of K.tells (K.output sink.old) (K.output sink.new) (code_of result)) }
     ensures ends { EndsBy (traits_of (Command.Write name.now start count)) (work_of B.tells (B.disks bay.old) (B.disks bay.new)) (answer_of K.tells (K.output sink.old) (K.output sink.new) (code_of result))
@@ -137,17 +148,43 @@ fn written<B: Bay, S: Source>(
     let plan = plan_write(alloc, &group, name, start, count)?;
     let timestamp = stamp.timestamp();
     let mut ready = ready_blocks(alloc, &group, &plan, timestamp)?;
-    let mut room = read_first(alloc, source, count)?;
+    let beside = look(alloc, &plan, start, count, bay)?;
+    let mut room = read_first(alloc, source, &beside, count)?;
     write_array(
-        &mut group, &mut ready, &plan, start, count, &mut room, source, timestamp, bay,
+        &mut group, &mut ready, &plan, &beside, start, count, &mut room, source, timestamp, bay,
     )
 }
 
-/// Writes blocks of an array, piece by piece, between the steps of its group that are ready. The room begins with the first piece. It takes no memory.
+/// Looks at what lies beside blocks before their array is marked for them, while its parity is a source.
+fn look<B: Bay>(
+    alloc: Global,
+    plan: &Plan,
+    start: u64,
+    count: u64,
+    bay: &mut B,
+) -> Result<Beside, Failure>
+    requires fits { Fits (B.disks bay.old).sizes (unmarked_view plan.now) }
+    requires trusted { keeps_parity_anywhere (unmarked_view plan.now) ≡ true → trusts_parity (unmarked_view plan.now) ≡ true }
+    requires accepted { write_refusal (unmarked_view plan.now) start count ≡ None }
+    ensures beside { IfOk result (LiesBeside (unmarked_view plan.now) start count) }
+    ensures values { B.tells → IfOk result (λ beside. IsSure (Failed (B.disks bay.old) (B.disks bay.new)) (unmarked_view plan.now) (B.disks bay.old).held → AreTheirValues (unmarked_view plan.now) (B.disks bay.old).held beside.kept) }
+    ensures unseen { IfErr result (IsUnseen (B.disks bay.old) (B.disks bay.new) (unmarked_view plan.now) start count) }
+    ensures reads { OnlyReads (B.disks bay.old) (B.disks bay.new) }
+{
+    match look_beside(alloc, bay, unmarked_view(plan), start, count) {
+        Ok(beside) => Ok(beside),
+        Err(LookFault::Volume(fault)) => Err(failure_of(fault)),
+        Err(LookFault::Memory) => Err(Failure::Memory),
+    }
+}
+
+/// Writes blocks of an array, piece by piece, between the steps of its group that are ready. The room begins with the first piece. It takes no memory, and no
+/// read of a disk is made.
 fn write_array<B: Bay, S: Source>(
     group: &mut Group,
     ready: &mut Ready,
     plan: &Plan,
+    beside: &Beside,
     start: u64,
     count: u64,
     room: &mut [u8],
@@ -160,13 +197,15 @@ fn write_array<B: Bay, S: Source>(
     requires planned { (word : List ℕ) × IsPlanOf (write_refusals start count) write_behind (config_recovered group.old) group.old.seats word plan.now }
     requires members { AreMembers (config_recovered group.old) group.old.seats }
     requires floored { AreFloored (seated group.old) }
-    requires room { length room.old ≡ 512 * room_for count }
-    ensures done { (sectors : List (List ℕ)) × HasWrittenBlocks B.tells (B.disks bay.old) (B.disks bay.new) group.old plan.now timestamp start count S.tells (S.input source.old) (S.input source.new) (take (512 * first_piece count) room.old) sectors result }
+    requires lies { LiesBeside plan.now.view start count beside.now }
+    requires room { length room.old ≡ 512 * room_of (pieces_of beside.now) count }
+    ensures done { (sectors : List (List ℕ)) × HasWrittenBlocks B.tells (B.disks bay.old) (B.disks bay.new) group.old plan.now timestamp start count beside.now.kept (pieces_of beside.now) S.tells (S.input source.old) (S.input source.new) (take (512 * first_piece (pieces_of beside.now) count) room.old) sectors result }
     ensures unfailed { OnOk result ((B.disks bay.new).failed_writes ≡ (B.disks bay.old).failed_writes) }
     ensures goes { GoesBetween (B.disks bay.old) (B.disks bay.new) }
+    ensures reads { (B.disks bay.new).failed_reads ≡ (B.disks bay.old).failed_reads }
 {
     open_blocks(group, ready, plan, timestamp, bay)?;
-    match write_pieces(bay, &plan.view, start, count, room, source) {
+    match write_pieces(bay, &plan.view, beside, start, count, room, source) {
         Ok(written) => {
             let sequence = close_blocks(group, ready, bay)?;
             Ok(Done {

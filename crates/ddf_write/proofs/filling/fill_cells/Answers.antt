@@ -1,49 +1,36 @@
-use Rattle.std.proofs.Common.{◌≡◌, ◌∙◌, ◌+◌, ◌-◌, length, take, drop, sym, ap, subst, arith}
-use Rattle.std.proofs.lemmas.Result.{err_from_is_err_and}
-use Rattle.ddf_bay.specs.Sectors.{Image}
+use Rattle.std.proofs.Common.{◌≡◌, ◌≢◌, ◌∙◌, ◌+◌, ◌-◌, ◌/◌, Some, length, take, drop, ap, subst, arith}
+use Rattle.ddf_primary.specs.Cells.{parity_member}
 use Rattle.ddf_array.specs.Rows.{cell_value}
-use Rattle.ddf_read.specs.Reading.{Failed}
-use Rattle.ddf_read.proofs.OnlyReading.{failed_before, failed_behind, only_reads_then}
 use Rattle.ddf_cells.proofs.Piecewise.{piece_more, rest_long}
-use Rattle.ddf_write.specs.RowWrites.{IsFilled}
-use Rattle.ddf_write.proofs.RowReads.{left_of_more, sure_fewer}
+use Rattle.ddf_write.specs.Writing.{IsTouched}
 use Rattle.ddf_write.proofs.filling.fill_cells.Goals as goal
 
-pub fill_first-requires-clause-fits : goal.fill_first-requires-clause-fits
-fill_first-requires-clause-fits g c = rw c.loop-at.invariant.reads.reads.same_sizes c.requires.fits
+pub fill_first-at-requires-clause-holds_data : goal.fill_first-at-requires-clause-holds_data
+fill_first-at-requires-clause-holds_data c = λ k below.
+    let part = c.args.part.now in
+    let same : c.args.sector + (c.loop-at.at + k) ≡ c.args.sector + c.loop-at.at + k = omega arith in
+    subst (λ x. parity_member part.shape (x / part.shape.strip) ≢ Some c.args.position) same (c.requires.holds_data (c.loop-at.at + k) (omega (arith, below, rest_long c.loop-at.out c.loop-at.at, c.loop-at.auto.out)))
 
-pub returns-in_err-at-clause-left : goal.returns-in_err-at-clause-left
-returns-in_err-at-clause-left g c =
-    let p = err_from_is_err_and c.from_residual.result c.from_residual.ensures.1 in
-    rw (p.1, p.2)
-    (left_of_more (failed_before c.loop-at.invariant.reads c.in_err-at.ensures.reads) c.args.view.now c.args.start _ c.args.element c.args.part.now c.args.sector c.loop-at.at _ (length c.args.out.now) c.args.position _
-    (omega (arith, rest_long c.loop-at.out c.loop-at.at, c.loop-at.auto.out, c.loop-at-test.true)) c.in_err-at.ensures.left)
+pub fill_first-at-requires-clause-touched : goal.fill_first-at-requires-clause-touched
+fill_first-at-requires-clause-touched c = λ k below.
+    let same : c.args.sector + (c.loop-at.at + k) ≡ c.args.sector + c.loop-at.at + k = omega arith in
+    subst (λ x. IsTouched c.args.view.now c.args.start (length c.args.from.now) c.args.element x) same (c.requires.touched (c.loop-at.at + k) (omega (arith, below, rest_long c.loop-at.out c.loop-at.at, c.loop-at.auto.out)))
 
 pub loop-at-preserved : goal.loop-at-preserved
-loop-at-preserved g c =
+loop-at-preserved c =
     let v = c.args.view.now in
-    let old = g.B.Bay.disks c.args.bay.now in
-    let now = g.B.Bay.disks c.loop-at.bay in
-    let new = g.B.Bay.disks c.fill_first.new.bay in
-    let so_far = c.loop-at.invariant.reads in
-    let next = c.in_ok-at.ensures.reads in
     let long : length (take (length c.loop-at.out - c.loop-at.at) (drop c.loop-at.at c.loop-at.out)) ≡ length c.args.out.now - c.loop-at.at =
     rest_long c.loop-at.out c.loop-at.at ∙ ap (λ n. n - c.loop-at.at) c.loop-at.auto.out in
     record {
-      inside = omega (arith, c.in_ok-at.ensures.within, long, c.loop-at.invariant.inside);
-      reads = only_reads_then so_far next;
-      values = λ tells entry filled sure.
-          let filled_now : IsFilled v c.args.start c.args.from.now entry now.held = subst (λ (f : Image). IsFilled v c.args.start c.args.from.now entry f) (sym so_far.reads.same_held) filled in
-          piece_more (λ k bytes. bytes ≡ cell_value v old.held c.args.element c.args.part.now (c.args.sector + k) c.args.position) c.loop-at.out c.fill_first.new.out _ c.loop-at.at c.in_ok-at.field-0
-          (omega (arith, c.loop-at.invariant.inside, c.loop-at.auto.out)) (omega (arith, c.in_ok-at.ensures.within, c.fill_first.auto.out))
-          (c.loop-at.invariant.values tells entry filled (sure_fewer (Failed old now) (Failed old new) v entry (failed_behind so_far next) sure))
+      inside = omega (arith, c.fill_first-at.ensures.within, long, c.loop-at.invariant.inside);
+      values = λ entry image filled values.
+          piece_more (λ k bytes. bytes ≡ cell_value v image c.args.element c.args.part.now (c.args.sector + k) c.args.position) c.loop-at.out c.fill_first-at.new.out _ c.loop-at.at c.fill_first-at.result
+          (omega (arith, c.loop-at.invariant.inside, c.loop-at.auto.out)) (omega (arith, c.fill_first-at.ensures.within, c.fill_first-at.auto.out))
+          (c.loop-at.invariant.values entry image filled values)
           (λ k below.
           let same : c.args.sector + c.loop-at.at + k ≡ c.args.sector + (c.loop-at.at + k) = omega arith in
-          c.in_ok-at.ensures.values tells entry filled_now (sure_fewer (Failed now new) (Failed old new) v entry (failed_before so_far next) sure) k below
-          ∙ ap (λ (f : Image). cell_value v f c.args.element c.args.part.now (c.args.sector + c.loop-at.at + k) c.args.position) so_far.reads.same_held
-          ∙ ap (λ n. cell_value v old.held c.args.element c.args.part.now n c.args.position) same);
+          c.fill_first-at.ensures.values entry image filled values k below ∙ ap (λ n. cell_value v image c.args.element c.args.part.now n c.args.position) same);
     }
 
-pub returns-clause-values : goal.returns-clause-values
-returns-clause-values g c = λ tells entry filled sure k below.
-    c.loop-at.invariant.values tells entry filled sure k (omega (arith, below, c.loop-at-test.false, c.loop-at.auto.out))
+pub returns : goal.returns
+returns c = record { values = λ entry image filled values k below. c.loop-at.invariant.values entry image filled values k (omega (arith, below, c.loop-at-test.false, c.loop-at.auto.out)) }

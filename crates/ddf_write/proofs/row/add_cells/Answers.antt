@@ -6,18 +6,28 @@ use Rattle.ddf_array.specs.Rows.{cell_value}
 use Rattle.ddf_cells.proofs.SumSteps.{none_added, one_added}
 use Rattle.ddf_write.proofs.row.add_cells.Goals as goal
 
-pub returns-then-other-parity-clause-added : goal.returns-then-other-parity-clause-added
-returns-then-other-parity-clause-added g c = λ tells entry filled sure part part_at k below.
-    sym (none_added (cell_value c.args.view.now (g.B.Bay.disks c.args.bay.now).held c.args.element part (c.args.sector + k)) c.args.parity c.args.other _ c.if-other-parity.true)
+some_is : {X : Type 0} {a b : X} → Some a ≡ Some b → a ≡ b
+some_is e = cc
 
-pub returns-in-Ok-clause-added : goal.returns-in-Ok-clause-added
-returns-in-Ok-clause-added g c = λ tells entry filled sure part part_at k below.
-    let cell = cell_value c.args.view.now (g.B.Bay.disks c.args.bay.now).held c.args.element part (c.args.sector + k) in
-    let same : c.args.part.now ≡ part = some_is (sym c.requires.is_part ∙ part_at) in
-    c.add_each.ensures k below
-    ∙ ap (xor (slice_index_or c.args.into.now k []))
-    (c.in-Ok.ensures.values tells entry filled sure k (omega (arith, below, c.requires.room)) ∙ ap (λ (q : Part). cell_value c.args.view.now (g.B.Bay.disks c.args.bay.now).held c.args.element q (c.args.sector + k) c.args.other) same)
-    ∙ sym (one_added cell c.args.parity c.args.other (slice_index_or c.args.into.now k []) c.if-other-parity.false)
-  where
-    some_is : {X : Type 0} {a b : X} → Some a ≡ Some b → a ≡ b
-    some_is e = cc
+pub fill_cells-requires-clause-holds_data : goal.fill_cells-requires-clause-holds_data
+fill_cells-requires-clause-holds_data c = λ k below same. c.if-other-parity.false (some_is (sym same ∙ c.requires.parity k (omega (arith, below, c.requires.room))))
+
+pub fill_cells-requires-clause-touched : goal.fill_cells-requires-clause-touched
+fill_cells-requires-clause-touched c = λ k below. c.requires.touched k (omega (arith, below, c.requires.room))
+
+pub returns-then-other-parity : goal.returns-then-other-parity
+returns-then-other-parity c = record {
+  added = λ entry image filled values part part_at k below.
+      sym (none_added (cell_value c.args.view.now image c.args.element part (c.args.sector + k)) c.args.parity c.args.other _ c.if-other-parity.true);
+}
+
+pub returns : goal.returns
+returns c = record {
+  added = λ entry image filled values part part_at k below.
+      let cell = cell_value c.args.view.now image c.args.element part (c.args.sector + k) in
+      let same : c.args.part.now ≡ part = some_is (sym c.requires.is_part ∙ part_at) in
+      c.add_each.ensures k below
+      ∙ ap (xor (slice_index_or c.args.into.now k []))
+      (c.fill_cells.ensures.values entry image filled values k (omega (arith, below, c.requires.room)) ∙ ap (λ (q : Part). cell_value c.args.view.now image c.args.element q (c.args.sector + k) c.args.other) same)
+      ∙ sym (one_added cell c.args.parity c.args.other (slice_index_or c.args.into.now k []) c.if-other-parity.false);
+}

@@ -4,7 +4,7 @@ use Rattle.ddf_cells.proofs.RunsOn.{sum_below, sum_more}
 use Rattle.ddf_cells.proofs.WriteSteps.{writes_start, writes_then}
 use Rattle.ddf_write.specs.RowWrites.{IsNoted, IsSummed, parity_cells}
 use Rattle.ddf_write.specs.Writing.{MayGive}
-use Rattle.ddf_write.proofs.RowLoops.{filled_then, rows_all, rows_more, stopped_since, sure_before, sure_here}
+use Rattle.ddf_write.proofs.RowLoops.{filled_then, rows_all, rows_more, stopped_since}
 use Rattle.ddf_write.proofs.rows.set_rows.Goals as goal
 
 pub set_rows_in-requires-clause-fits : goal.set_rows_in-requires-clause-fits
@@ -13,9 +13,10 @@ set_rows_in-requires-clause-fits g c = rw c.loop-element.invariant.writes.same_s
 pub loop-element-init : goal.loop-element-init
 loop-element-init g c = record {
   writes = writes_start (MayGive c.args.view.now c.args.start c.args.from.now) g.B.Bay.tells (g.B.Bay.disks c.args.bay.now) c.args.touched.now;
-  summed = λ tells entry filled sure element sector part one below is. absurd (omega (arith, below));
+  summed = λ tells entry filled values element sector part one below is. absurd (omega (arith, below));
   noted = λ element sector part one below is. absurd (omega (arith, below));
   unfailed = refl;
+  reads = refl;
   asked = omega arith;
   written = omega arith;
   calls = λ none. omega arith;
@@ -49,10 +50,10 @@ pub returns-in_err-set_rows_in-clause-calls : goal.returns-in_err-set_rows_in-cl
 returns-in_err-set_rows_in-clause-calls g c = λ none. omega (arith, c.loop-element.invariant.calls none, c.in_err-set_rows_in.ensures.calls none)
 
 pub returns-clause-summed : goal.returns-clause-summed
-returns-clause-summed g c = λ tells entry filled sure.
+returns-clause-summed g c = λ tells entry filled values.
     let v = c.args.view.now in
     let n = ap length c.parts-element-end.ensures.parts in
-    rows_all v c.args.start (length c.args.from.now) c.loop-element.element (IsSummed v (g.B.Bay.disks c.loop-element.bay).held) (omega (arith, n, c.loop-element-test.false)) (c.loop-element.invariant.summed tells entry filled sure)
+    rows_all v c.args.start (length c.args.from.now) c.loop-element.element (IsSummed v (g.B.Bay.disks c.loop-element.bay).held) (omega (arith, n, c.loop-element-test.false)) (c.loop-element.invariant.summed tells entry filled values)
 
 pub returns-clause-noted : goal.returns-clause-noted
 returns-clause-noted g c =
@@ -82,14 +83,14 @@ loop-element-preserved g c =
     let cells : ℕ → ℕ = parity_cells v.parts (length c.args.from.now) in
     record {
       writes = writes_then (MayGive v c.args.start c.args.from.now) g.B.Bay.tells so_far.writes next.writes;
-      summed = λ tells entry filled sure.
+      summed = λ tells entry filled values.
           let filled_now = filled_then v c.requires.known c.requires.apart c.args.start c.args.from.now g.B.Bay.tells entry tells filled so_far.writes in
-          let here = sure_here v c.args.start c.args.from.now g.B.Bay.tells so_far.writes next.writes entry sure in
-          rows_more v c.args.start (length c.args.from.now) e (IsSummed v now.held) (IsSummed v new.held) (next.kept tells entry filled_now here) (next.summed tells entry filled_now here)
-          (so_far.summed tells entry filled (sure_before v c.args.start c.args.from.now g.B.Bay.tells so_far.writes next.writes entry sure));
+          rows_more v c.args.start (length c.args.from.now) e (IsSummed v now.held) (IsSummed v new.held) (next.kept tells entry filled_now values) (next.summed tells entry filled_now values)
+          (so_far.summed tells entry filled values);
       noted =
           rows_more v c.args.start (length c.args.from.now) e (IsNoted c.loop-element.touched) (IsNoted c.set_rows_in.new.touched) (λ element sector part one is was. next.writes.touched_up one.slot was) next.noted so_far.noted;
       unfailed = next.unfailed ∙ so_far.unfailed;
+      reads = next.reads ∙ so_far.reads;
       asked = omega (arith, so_far.asked, next.asked, sum_more cells e);
       written = omega (arith, so_far.written, next.written, sum_more cells e);
       calls = λ none. omega (arith, so_far.calls none, next.calls none);

@@ -1,15 +1,15 @@
 use Rattle.std.proofs.Common.{◌≡◌, ◌∙◌, ◌+◌, ◌/◌, ◌<◌, ◌≤◌, ℕ, Some, length, sym, ap, arith}
 use Rattle.ddf_primary.specs.Cells.{parity_member}
+use Rattle.ddf_primary.proofs.Needs.{parity_below}
 use Rattle.ddf_array.specs.Rows.{block_at}
 use Rattle.ddf_cells.proofs.Depths.{blocks_small}
 use Rattle.ddf_write.specs.RowWrites.{IsNoted, IsSummed}
 use Rattle.ddf_cells.proofs.ParityCells.{parity_holds}
-use Rattle.ddf_cells.proofs.Redundance.{parity_below}
 use Rattle.ddf_write.proofs.RowLoops.{has_members, parity_within, rows_are_touched, rows_inside, rows_no_cell, rows_passed, rows_set, sums_keep}
 use Rattle.ddf_write.proofs.rows.set_rows_from.Goals as goal
 
 pub returns-in_default-clause-summed : goal.returns-in_default-clause-summed
-returns-in_default-clause-summed g c = λ tells entry filled sure so_far.
+returns-in_default-clause-summed g c = λ tells entry filled values so_far.
     rows_no_cell c.args.view.now c.requires.known c.args.start c.args.k c.args.element (IsSummed c.args.view.now (g.B.Bay.disks c.args.bay.now).held) c.in_default.ensures.cell so_far
 
 pub returns-in_default-clause-noted : goal.returns-in_default-clause-noted
@@ -17,7 +17,7 @@ returns-in_default-clause-noted g c = λ so_far.
     rows_no_cell c.args.view.now c.requires.known c.args.start c.args.k c.args.element (IsNoted c.args.touched.now) c.in_default.ensures.cell so_far
 
 pub returns-then-passed-gt0-clause-summed : goal.returns-then-passed-gt0-clause-summed
-returns-then-passed-gt0-clause-summed g c = λ tells entry filled sure so_far.
+returns-then-passed-gt0-clause-summed g c = λ tells entry filled values so_far.
     let cell = c.in-Some.cell in
     let only = c.in-Some.ensures.cell in
     rows_passed c.args.view.now c.requires.known c.args.start c.args.k c.args.element c.args.part.now c.requires.is_part c.requires.keeps cell c.min.result
@@ -72,7 +72,7 @@ set_run-requires-clause-rows_touched g c =
     (length c.args.from.now) (omega (arith, c.untouched_from-count.ensures.within, c.piece_at-piece.ensures.within, c.blocks_along-along.ensures.within, c.requires.here))
 
 pub returns-clause-kept : goal.returns-clause-kept
-returns-clause-kept g c = λ tells entry filled sure.
+returns-clause-kept g c = λ tells entry filled values.
     let v = c.args.view.now in
     let cell = c.in-Some.cell in
     let part = c.args.part.now in
@@ -86,10 +86,10 @@ returns-clause-kept g c = λ tells entry filled sure.
     let inside = rows_inside v c.requires.known c.args.start c.args.k c.args.element part c.requires.is_part c.requires.keeps cell n follow c.untouched_from-count.ensures.some in
     let touched = rows_are_touched v c.requires.known c.args.start c.args.k c.args.element part c.requires.is_part c.requires.keeps cell n follow (length c.args.from.now) within in
     sums_keep v c.requires.known c.requires.apart c.args.start c.args.from.now c.requires.whole (g.B.Bay.disks c.args.bay.now).held (g.B.Bay.disks c.set_run.new.bay).held c.args.element cell.sector n c.from.result part c.requires.is_part
-    holds inside touched (c.in_ok-set_run.ensures.only tells) (c.in_ok-set_run.ensures.summed tells entry filled sure)
+    holds inside touched (c.in_ok-set_run.ensures.only tells) (c.in_ok-set_run.ensures.summed tells entry filled values)
 
 pub returns-clause-summed : goal.returns-clause-summed
-returns-clause-summed g c = λ tells entry filled sure so_far.
+returns-clause-summed g c = λ tells entry filled values so_far.
     let v = c.args.view.now in
     let old = g.B.Bay.disks c.args.bay.now in
     let new = g.B.Bay.disks c.set_run.new.bay in
@@ -104,7 +104,7 @@ returns-clause-summed g c = λ tells entry filled sure so_far.
     let within : c.args.k + n ≤ length c.args.from.now = omega (arith, c.untouched_from-count.ensures.within, c.piece_at-piece.ensures.within, c.blocks_along-along.ensures.within, c.requires.here) in
     let inside = rows_inside v c.requires.known c.args.start c.args.k c.args.element part c.requires.is_part c.requires.keeps cell n follow c.untouched_from-count.ensures.some in
     let touched = rows_are_touched v c.requires.known c.args.start c.args.k c.args.element part c.requires.is_part c.requires.keeps cell n follow (length c.args.from.now) within in
-    let set = c.in_ok-set_run.ensures.summed tells entry filled sure in
+    let set = c.in_ok-set_run.ensures.summed tells entry filled values in
     rows_set v c.requires.known c.args.start c.args.k c.args.element part c.requires.is_part c.requires.keeps cell n follow (IsSummed v old.held) (IsSummed v new.held) c.from.result holds
     (λ sector q one is was.
     sums_keep v c.requires.known c.requires.apart c.args.start c.args.from.now c.requires.whole old.held new.held c.args.element cell.sector n c.from.result part c.requires.is_part

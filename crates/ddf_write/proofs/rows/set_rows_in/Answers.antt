@@ -5,7 +5,7 @@ use Rattle.ddf_write.specs.RowWrites.{IsNoted, IsSummed, keeps_parity_in}
 use Rattle.ddf_write.specs.Writing.{MayGive}
 use Rattle.ddf_cells.proofs.Items.{any_at}
 use Rattle.ddf_cells.proofs.WriteSteps.{writes_start, writes_then}
-use Rattle.ddf_write.proofs.RowLoops.{cells_of_parity, filled_then, parity_within, rows_no_part, rows_no_parity, stopped_since, sure_before, sure_here}
+use Rattle.ddf_write.proofs.RowLoops.{cells_of_parity, filled_then, parity_within, rows_no_part, rows_no_parity, stopped_since}
 use Rattle.ddf_write.proofs.rows.set_rows_in.Goals as goal
 
 pub set_rows_from-requires-clause-fits : goal.set_rows_from-requires-clause-fits
@@ -15,10 +15,11 @@ pub loop-k-init : goal.loop-k-init
 loop-k-init g c = record {
   within = omega arith;
   writes = writes_start (MayGive c.args.view.now c.args.start c.args.from.now) g.B.Bay.tells (g.B.Bay.disks c.args.bay.now) c.args.touched.now;
-  kept = λ tells entry filled sure element sector part one is was. was;
-  summed = λ tells entry filled sure sector part one is. absurd (omega (arith, is.touched.below));
+  kept = λ tells entry filled values element sector part one is was. was;
+  summed = λ tells entry filled values sector part one is. absurd (omega (arith, is.touched.below));
   noted = λ sector part one is. absurd (omega (arith, is.touched.below));
   unfailed = refl;
+  reads = refl;
   asked = omega arith;
   written = omega arith;
 }
@@ -31,33 +32,27 @@ loop-k-preserved g c =
     record {
       within = omega (arith, next.within);
       writes = writes_then (MayGive v c.args.start c.args.from.now) g.B.Bay.tells so_far.writes next.writes;
-      kept = λ tells entry filled sure element sector part one is was.
-          next.kept tells entry (filled_then v c.requires.known c.requires.apart c.args.start c.args.from.now g.B.Bay.tells entry tells filled so_far.writes)
-          (sure_here v c.args.start c.args.from.now g.B.Bay.tells so_far.writes next.writes entry sure) element sector part one is
-          (so_far.kept tells entry filled (sure_before v c.args.start c.args.from.now g.B.Bay.tells so_far.writes next.writes entry sure) element sector part one is was);
-      summed = λ tells entry filled sure.
-          next.summed tells entry (filled_then v c.requires.known c.requires.apart c.args.start c.args.from.now g.B.Bay.tells entry tells filled so_far.writes)
-          (sure_here v c.args.start c.args.from.now g.B.Bay.tells so_far.writes next.writes entry sure)
-          (so_far.summed tells entry filled (sure_before v c.args.start c.args.from.now g.B.Bay.tells so_far.writes next.writes entry sure));
+      kept = λ tells entry filled values element sector part one is was.
+          next.kept tells entry (filled_then v c.requires.known c.requires.apart c.args.start c.args.from.now g.B.Bay.tells entry tells filled so_far.writes) values element sector part one is
+          (so_far.kept tells entry filled values element sector part one is was);
+      summed = λ tells entry filled values.
+          next.summed tells entry (filled_then v c.requires.known c.requires.apart c.args.start c.args.from.now g.B.Bay.tells entry tells filled so_far.writes) values (so_far.summed tells entry filled values);
       noted = next.noted so_far.noted;
       unfailed = next.unfailed ∙ so_far.unfailed;
+      reads = next.reads ∙ so_far.reads;
       asked = omega (arith, so_far.asked, next.asked);
       written = omega (arith, so_far.written, next.written);
     }
 
-pub set_rows_from-requires-clause-marked : goal.set_rows_from-requires-clause-marked
-set_rows_from-requires-clause-marked g c =
-    c.requires.marked (any_at keeps_parity_in c.args.view.now.parts c.args.element c.in-Some.part.now c.in-Some.ensures.found (ap keeps_parity (sym c.layout.ensures) ∙ sym c.if-not-keeps_parity.ensures))
-
 pub returns-in_default-clause-summed : goal.returns-in_default-clause-summed
-returns-in_default-clause-summed g c = λ tells entry filled sure.
+returns-in_default-clause-summed g c = λ tells entry filled values.
     rows_no_part c.args.view.now c.args.start (length c.args.from.now) c.args.element (IsSummed c.args.view.now (g.B.Bay.disks c.args.bay.now).held) c.in_default.ensures.found
 
 pub returns-in_default-clause-noted : goal.returns-in_default-clause-noted
 returns-in_default-clause-noted g c = rows_no_part c.args.view.now c.args.start (length c.args.from.now) c.args.element (IsNoted c.args.touched.now) c.in_default.ensures.found
 
 pub returns-then-not-keeps_parity-clause-summed : goal.returns-then-not-keeps_parity-clause-summed
-returns-then-not-keeps_parity-clause-summed g c = λ tells entry filled sure.
+returns-then-not-keeps_parity-clause-summed g c = λ tells entry filled values.
     rows_no_parity c.args.view.now c.args.start (length c.args.from.now) c.args.element (IsSummed c.args.view.now (g.B.Bay.disks c.args.bay.now).held) c.in-Some.part.now c.in-Some.ensures.found
     (c.if-not-keeps_parity.ensures ∙ ap keeps_parity c.layout.ensures)
 
@@ -75,8 +70,8 @@ returns-in_err-k-clause-cause g c =
     rw (p.1, p.2) (stopped_since c.args.view.now c.args.start c.args.from.now g.B.Bay.tells c.loop-k.invariant.writes c.in_err-k.ensures.writes (length c.args.from.now) _ c.in_err-k.ensures.cause)
 
 pub returns-clause-summed : goal.returns-clause-summed
-returns-clause-summed g c = λ tells entry filled sure sector part one is.
-    c.loop-k.invariant.summed tells entry filled sure sector part one (parity_within c.args.view.now c.args.start (length c.args.from.now) c.loop-k.k c.args.element sector part one (omega (arith, c.loop-k-test.false)) is)
+returns-clause-summed g c = λ tells entry filled values sector part one is.
+    c.loop-k.invariant.summed tells entry filled values sector part one (parity_within c.args.view.now c.args.start (length c.args.from.now) c.loop-k.k c.args.element sector part one (omega (arith, c.loop-k-test.false)) is)
 
 pub returns-clause-noted : goal.returns-clause-noted
 returns-clause-noted g c = λ sector part one is.

@@ -1,7 +1,7 @@
 use Rattle.std.proofs.Common.{◌≡◌, ℕ, ◌+◌, ◌-◌, ◌≤◌, List, length}
-use Rattle.ddf_read.specs.Reading.{Failed}
 use Rattle.ddf_cells.specs.Touching.{Writes}
-use Rattle.ddf_write.specs.RowWrites.{IsFilled, IsNoted, IsSummed, IsSure, KeepsSums, RowsIn}
+use Rattle.ddf_write.specs.Keeping.{AreTheirValues}
+use Rattle.ddf_write.specs.RowWrites.{IsFilled, IsNoted, IsSummed, KeepsSums, RowsIn}
 use Rattle.ddf_write.specs.Writing.{MayGive}
 use Rattle.ddf_write.proofs.rows.set_rows_in.Given as goal
 
@@ -13,12 +13,13 @@ invariant-loop-k g l =
     record {
       within : l.k ≤ length l.from;
       writes : Writes (MayGive l.view l.start l.from) B.tells old now l.fn.touched l.touched;
-      kept : B.tells → (entry : ℕ → ℕ → List ℕ) → IsFilled l.view l.start l.from entry old.held → IsSure (Failed old now) l.view entry
+      kept : B.tells → (entry : ℕ → ℕ → List ℕ) → IsFilled l.view l.start l.from entry old.held → AreTheirValues l.view entry l.kept
           → KeepsSums l.view l.start (length l.from) old.held now.held;
-      summed : B.tells → (entry : ℕ → ℕ → List ℕ) → IsFilled l.view l.start l.from entry old.held → IsSure (Failed old now) l.view entry
+      summed : B.tells → (entry : ℕ → ℕ → List ℕ) → IsFilled l.view l.start l.from entry old.held → AreTheirValues l.view entry l.kept
           → RowsIn l.view l.start l.k l.element (IsSummed l.view now.held);
       noted : RowsIn l.view l.start l.k l.element (IsNoted l.touched);
       unfailed : now.failed_writes ≡ old.failed_writes;
+      reads : now.failed_reads ≡ old.failed_reads;
       asked : now.sectors_asked ≤ old.sectors_asked + l.k;
       written : now.sectors_written ≤ old.sectors_written + l.k;
     }

@@ -1,21 +1,17 @@
-use Rattle.std.proofs.Common.{◌≡◌, ◌∙◌, inl, inr, ⊎_elim, ℕ, ◌+◌, ◌<◌, Some, sym, ap, subst, arith, length, rules}
+use Rattle.std.proofs.Common.{◌≡◌, ◌∙◌, ◌<◌, Some, sym, ap, subst, arith, length, rules}
 use Rattle.std.specs.Prelude.{option_map, slice_set, true}
 use Rattle.std.proofs.lemmas.Grind.{common_steps}
-use Rattle.ddf_bytes.specs.Counts.{Rose}
 use Rattle.ddf_bay.specs.Sectors.{Image}
 use Rattle.ddf_bay.specs.Moments.{Mixes}
 use Rattle.ddf_bay.proofs.Runs.{put_mixes}
 use Rattle.ddf_array.specs.declared.site.Site.{Site}
-use Rattle.ddf_array.specs.Rows.{row_sum}
 use Rattle.ddf_read.specs.Along.{further}
-use Rattle.ddf_read.specs.Reading.{Failed}
 use Rattle.ddf_read.proofs.Sites.{site_at_there}
 use Rattle.ddf_read.proofs.SourcesAlong.{site_further}
 use Rattle.ddf_cells.specs.Touching.{IsTouchedSlot}
-use Rattle.ddf_cells.proofs.WriteSteps.{touch_here, writes_read, writes_run, writes_then}
-use Rattle.ddf_write.specs.RowWrites.{IsSure}
+use Rattle.ddf_cells.proofs.WriteSteps.{touch_here, writes_run}
 use Rattle.ddf_write.specs.Writing.{MayGive}
-use Rattle.ddf_write.proofs.RowReads.{never_some, sure_fewer}
+use Rattle.ddf_write.proofs.RowReads.{never_some}
 use Rattle.ddf_cells.proofs.Whole.{whole_site}
 use Rattle.ddf_write.proofs.RowSteps.{run_gives, run_only, run_set, run_written}
 use Rattle.ddf_write.proofs.rows.set_run.Goals as goal
@@ -36,24 +32,22 @@ touch-requires g c =
 pub write_run-requires-clause-slot : goal.write_run-requires-clause-slot
 write_run-requires-clause-slot g c =
     let there = site_at_there (g.B.Bay.disks c.args.bay.now).sizes c.args.part.now c.args.parity c.args.sector c.args.count c.in-Some.first (c.requires.fits c.args.element c.args.part.now c.requires.is_part) c.requires.sectors (sym c.in-Some.ensures) in
-    rw c.in_ok-sum_rows.ensures.reads.reads.same_sizes there.slot_is
+    there.slot_is
 
 pub returns-in-Ok-clause-writes : goal.returns-in-Ok-clause-writes
 returns-in-Ok-clause-writes g c =
     let v = c.args.view.now in
     let one = c.in-Some.first in
-    let mid = g.B.Bay.disks c.sum_rows.new.bay in
+    let mid = g.B.Bay.disks c.args.bay.now in
     let sums = c.sum_rows.new.out in
     let n : length c.sum_rows.new.out ≡ c.args.count = first_of (grind (arith, common_steps), search rules) in
     let there = site_at_there (g.B.Bay.disks c.args.bay.now).sizes c.args.part.now c.args.parity c.args.sector c.args.count one (c.requires.fits c.args.element c.args.part.now c.requires.is_part) c.requires.sectors (sym c.in-Some.ensures) in
     let few : one.slot < length c.args.touched.now = omega (arith, there.slot_is, g.met.B.Bay.few c.args.bay.now, c.told-touched) in
     rw c.touch.ensures
-    (writes_then (MayGive v c.args.start c.args.from.now) g.B.Bay.tells
-    (writes_read (MayGive v c.args.start c.args.from.now) g.B.Bay.tells c.args.touched.now c.in_ok-sum_rows.ensures.reads)
     (writes_run (MayGive v c.args.start c.args.from.now) g.B.Bay.tells one.slot one.lba sums c.args.touched.now _ _ few (omega (arith, n, c.requires.some))
     (run_gives v c.args.element c.args.part.now c.requires.is_part c.args.sector c.args.count c.args.parity c.requires.is_parity c.args.start c.args.from.now c.requires.rows_touched one (sym c.in-Some.ensures) sums n)
     (λ tells. subst (λ (f : Image). Mixes mid.held f one.slot one.lba sums) (sym (c.in-Ok.ensures.held tells)) (put_mixes mid.held one.slot one.lba sums))
-    c.write_run.ensures.left c.write_run.ensures.any_moment c.write_run.ensures.spends))
+    c.write_run.ensures.left c.write_run.ensures.any_moment c.write_run.ensures.spends)
 
 pub returns-in-Err-clause-writes : goal.returns-in-Err-clause-writes
 returns-in-Err-clause-writes g c =
@@ -64,51 +58,43 @@ returns-in-Err-clause-writes g c =
     let there = site_at_there (g.B.Bay.disks c.args.bay.now).sizes c.args.part.now c.args.parity c.args.sector c.args.count one (c.requires.fits c.args.element c.args.part.now c.requires.is_part) c.requires.sectors (sym c.in-Some.ensures) in
     let few : one.slot < length c.args.touched.now = omega (arith, there.slot_is, g.met.B.Bay.few c.args.bay.now, c.told-touched) in
     rw c.touch.ensures
-    (writes_then (MayGive v c.args.start c.args.from.now) g.B.Bay.tells
-    (writes_read (MayGive v c.args.start c.args.from.now) g.B.Bay.tells c.args.touched.now c.in_ok-sum_rows.ensures.reads)
     (writes_run (MayGive v c.args.start c.args.from.now) g.B.Bay.tells one.slot one.lba sums c.args.touched.now _ _ few (omega (arith, n, c.requires.some))
     (run_gives v c.args.element c.args.part.now c.requires.is_part c.args.sector c.args.count c.args.parity c.requires.is_parity c.args.start c.args.from.now c.requires.rows_touched one (sym c.in-Some.ensures) sums n)
     (λ tells. c.in-Err.ensures.held_failed tells)
-    c.write_run.ensures.left c.write_run.ensures.any_moment c.write_run.ensures.spends))
+    c.write_run.ensures.left c.write_run.ensures.any_moment c.write_run.ensures.spends)
 
 pub returns-in-Ok-clause-only : goal.returns-in-Ok-clause-only
 returns-in-Ok-clause-only g c = λ tells s l.
     let v = c.args.view.now in
     let one = c.in-Some.first in
-    let old = g.B.Bay.disks c.args.bay.now in
-    let mid = g.B.Bay.disks c.sum_rows.new.bay in
+    let mid = g.B.Bay.disks c.args.bay.now in
     let new = g.B.Bay.disks c.write_run.new.self in
     let sums = c.sum_rows.new.out in
     let n : length c.sum_rows.new.out ≡ c.args.count = first_of (grind (arith, common_steps), search rules) in
     let mixes : Mixes mid.held new.held one.slot one.lba sums = subst (λ (f : Image). Mixes mid.held f one.slot one.lba sums) (sym (c.in-Ok.ensures.held tells)) (put_mixes mid.held one.slot one.lba sums) in
-    ⊎_elim (λ same. inl (same ∙ ap (λ (f : Image). f s l) c.in_ok-sum_rows.ensures.reads.reads.same_held)) inr
     (run_only v c.args.element c.args.part.now c.requires.is_part c.args.sector c.args.count c.args.parity c.requires.is_parity c.args.start c.args.from.now c.requires.rows_touched one (sym c.in-Some.ensures) sums n mid.held new.held mixes s l)
 
 pub returns-in-Err-clause-only : goal.returns-in-Err-clause-only
 returns-in-Err-clause-only g c = λ tells s l.
     let v = c.args.view.now in
     let one = c.in-Some.first in
-    let mid = g.B.Bay.disks c.sum_rows.new.bay in
+    let mid = g.B.Bay.disks c.args.bay.now in
     let new = g.B.Bay.disks c.write_run.new.self in
     let sums = c.sum_rows.new.out in
     let n : length c.sum_rows.new.out ≡ c.args.count = first_of (grind (arith, common_steps), search rules) in
-    ⊎_elim (λ same. inl (same ∙ ap (λ (f : Image). f s l) c.in_ok-sum_rows.ensures.reads.reads.same_held)) inr
     (run_only v c.args.element c.args.part.now c.requires.is_part c.args.sector c.args.count c.args.parity c.requires.is_parity c.args.start c.args.from.now c.requires.rows_touched one (sym c.in-Some.ensures) sums n mid.held new.held (c.in-Err.ensures.held_failed tells) s l)
 
 pub returns-in-Ok-clause-summed : goal.returns-in-Ok-clause-summed
-returns-in-Ok-clause-summed g c = λ tells entry filled sure j other below at.
+returns-in-Ok-clause-summed g c = λ tells entry filled values j other below at.
     let v = c.args.view.now in
     let one = c.in-Some.first in
-    let old = g.B.Bay.disks c.args.bay.now in
-    let mid = g.B.Bay.disks c.sum_rows.new.bay in
+    let mid = g.B.Bay.disks c.args.bay.now in
     let new = g.B.Bay.disks c.write_run.new.self in
     let sums = c.sum_rows.new.out in
     let n : length c.sum_rows.new.out ≡ c.args.count = first_of (grind (arith, common_steps), search rules) in
-    let same : (slot : ℕ) → Failed old mid slot → Failed old new slot = λ slot failed. subst (λ (n : ℕ). Rose (old.failed_reads slot) n) (sym (ap (λ (f : ℕ → ℕ). f slot) c.write_run.ensures.spends.same)) failed in
-    let before : IsSure (Failed old mid) v entry = sure_fewer (Failed old mid) (Failed old new) v entry same sure in
     run_set v c.args.element c.args.part.now c.requires.is_part c.args.sector c.args.count c.args.parity c.requires.is_parity c.args.start c.args.from.now c.requires.rows_touched one (sym c.in-Some.ensures) sums n
     c.requires.known c.requires.apart c.requires.whole c.requires.inside c.requires.sectors mid.held new.held (c.in-Ok.ensures.held tells)
-    (λ i inside. c.in_ok-sum_rows.ensures.sums tells entry filled before i (omega (arith, inside, n)) ∙ ap (λ (f : Image). row_sum v f c.args.element c.args.part.now (c.args.sector + i)) (sym c.in_ok-sum_rows.ensures.reads.reads.same_held))
+    (λ i inside. c.sum_rows.ensures.sums entry mid.held filled values i (omega (arith, inside, n)))
     j other below at
 
 pub returns-in-Ok-clause-noted : goal.returns-in-Ok-clause-noted
@@ -126,15 +112,7 @@ pub returns-in-Err-clause-cause : goal.returns-in-Err-clause-cause
 returns-in-Err-clause-cause g c =
     let v = c.args.view.now in
     let one = c.in-Some.first in
-    let old = g.B.Bay.disks c.args.bay.now in
-    let mid = g.B.Bay.disks c.sum_rows.new.bay in
-    let new = g.B.Bay.disks c.write_run.new.self in
     let sums = c.sum_rows.new.out in
     let n : length c.sum_rows.new.out ≡ c.args.count = first_of (grind (arith, common_steps), search rules) in
     let written = run_written v c.args.element c.args.part.now c.requires.is_part c.args.sector c.args.count c.args.parity c.requires.is_parity c.args.start c.args.from.now c.requires.rows_touched one (sym c.in-Some.ensures) sums n c.requires.some in
-    let same : mid.failed_writes one.slot ≡ old.failed_writes one.slot = ap (λ (f : ℕ → ℕ). f one.slot) c.in_ok-sum_rows.ensures.reads.same_writes in
-    inl (written, subst (λ (n : ℕ). Rose n (new.failed_writes one.slot)) same c.in-Err.ensures.failed)
-
-pub returns-in_err-sum_rows-clause-writes : goal.returns-in_err-sum_rows-clause-writes
-returns-in_err-sum_rows-clause-writes g c =
-    writes_read (MayGive c.args.view.now c.args.start c.args.from.now) g.B.Bay.tells c.args.touched.now c.in_err-sum_rows.ensures.reads
+    (written, c.in-Err.ensures.failed)

@@ -1,12 +1,10 @@
-use Rattle.std.proofs.Common.{◌∙◌, inl, ℕ, length, sym, ap, subst, arith}
+use Rattle.std.proofs.Common.{◌∙◌, length, ap, arith}
 use Rattle.std.proofs.lemmas.Result.{err_from_is_err_and, IfErr-weaker, on_ok_weaker}
-use Rattle.ddf_bytes.specs.Counts.{Rose}
 use Rattle.ddf_bay.proofs.Steps.{rose_since}
-use Rattle.ddf_read.specs.Reading.{Failed}
-use Rattle.ddf_write.specs.RowWrites.{AllSet, IsSure}
+use Rattle.ddf_write.specs.Keeping.{AreTheirValues}
+use Rattle.ddf_write.specs.RowWrites.{AllSet}
 use Rattle.ddf_write.proofs.CellsCount.{cells_are_copies}
-use Rattle.ddf_write.proofs.RowLoops.{failed_since, filled_then, stopped_since}
-use Rattle.ddf_write.proofs.RowReads.{sure_fewer}
+use Rattle.ddf_write.proofs.RowLoops.{filled_then, stopped_since}
 use Rattle.ddf_write.proofs.WriteEnds.{filled_by, given_there, noted_written, written_end, written_noted, written_there}
 use Rattle.ddf_write.specs.Writing.{MayGive}
 use Rattle.ddf_write.proofs.Gives.{both_written, cells_written, may_cell}
@@ -32,7 +30,7 @@ returns-in_err-write_cells-clause-cause g c =
     let p = err_from_is_err_and c.from_residual.result c.from_residual.ensures.1 in
     let v = c.args.view.now in
     let w = cells_written v c.args.start c.args.from.now g.B.Bay.tells c.in_err-write_cells.ensures.writes in
-    rw (p.1, p.2) (inl (noted_written v c.requires.known c.args.start c.args.from.now g.B.Bay.tells w (none_touched 64) _ c.in_err-write_cells.ensures.touched, c.in_err-write_cells.ensures.failed))
+    rw (p.1, p.2) (noted_written v c.requires.known c.args.start c.args.from.now g.B.Bay.tells w (none_touched 64) _ c.in_err-write_cells.ensures.touched, c.in_err-write_cells.ensures.failed)
 
 -- the parity couldn't
 pub returns-in_err-set_rows-clause-any_moment : goal.returns-in_err-set_rows-clause-any_moment
@@ -90,7 +88,7 @@ returns-clause-cause g c =
     let w = both_written c.args.view.now c.args.start c.args.from.now g.B.Bay.tells c.in_ok-write_cells.ensures.writes c.in_ok-set_rows.ensures.writes in
     let known = c.requires.known in
     IfErr-weaker c.sync_touched.result _ _
-    (λ slot both. inl (noted_written c.args.view.now known c.args.start c.args.from.now g.B.Bay.tells w (none_touched 64) slot both.0, rose_since _ _ _ (w.writes_rise slot) both.1))
+    (λ slot both. (noted_written c.args.view.now known c.args.start c.args.from.now g.B.Bay.tells w (none_touched 64) slot both.0, rose_since _ _ _ (w.writes_rise slot) both.1))
     (both_of_err c.sync_touched.result _ _ c.sync_touched.ensures.touched c.sync_touched.ensures.failed)
 
 pub returns-clause-written : goal.returns-clause-written
@@ -98,20 +96,16 @@ returns-clause-written g c = λ tells.
     let v = c.args.view.now in
     let old = g.B.Bay.disks c.args.bay.now in
     let a = g.B.Bay.disks c.write_cells.new.bay in
-    let b = g.B.Bay.disks c.set_rows.new.bay in
-    let n = g.B.Bay.disks c.sync_touched.new.bay in
     let first = (cells_written c.args.view.now c.args.start c.args.from.now g.B.Bay.tells c.in_ok-write_cells.ensures.writes) in
     let next = c.in_ok-set_rows.ensures.writes in
     let w = writes_then (MayGive v c.args.start c.args.from.now) g.B.Bay.tells first next in
     let set : AllSet v c.args.start c.args.from.now a.held = λ element position k one below cell. (c.in_ok-write_cells.ensures.set tells element position k one (omega arith) below cell).0 in
     let filled = filled_by v c.requires.known c.args.start c.args.from.now g.B.Bay.tells first tells set in
     let all = filled_then v c.requires.known c.requires.apart c.args.start c.args.from.now g.B.Bay.tells old.held tells filled next in
-    let fewer : (slot : ℕ) → Failed a b slot → Failed old n slot =
-    λ slot failed. subst (λ (m : ℕ). Rose (old.failed_reads slot) m) (sym (ap (λ (f : ℕ → ℕ). f slot) c.sync_touched.ensures.reads)) (failed_since v c.args.start c.args.from.now g.B.Bay.tells first next slot failed) in
     on_ok_weaker c.sync_touched.result
     (λ settled.
-    written_end v c.requires.known c.args.start c.args.from.now g.B.Bay.tells w (g.B.Bay.disks c.sync_touched.new.bay) c.sync_touched.ensures.held (IsSure (Failed old n) v old.held) tells all.cells
-    (λ sure. c.in_ok-set_rows.ensures.summed tells old.held filled (sure_fewer (Failed a b) (Failed old n) v old.held fewer sure)))
+    written_end v c.requires.known c.args.start c.args.from.now g.B.Bay.tells w (g.B.Bay.disks c.sync_touched.new.bay) c.sync_touched.ensures.held (AreTheirValues v old.held c.args.kept.now) tells all.cells
+    (λ values. c.in_ok-set_rows.ensures.summed tells old.held filled values))
     c.sync_touched.ensures.settled
 
 pub returns-clause-durable : goal.returns-clause-durable
@@ -164,3 +158,9 @@ returns-in_err-write_cells-clause-any_moment g c = (cells_written c.args.view.no
 pub returns-clause-unfailed : goal.returns-clause-unfailed
 returns-clause-unfailed g c =
     on_ok_weaker c.sync_touched.result (λ same. same ∙ c.in_ok-set_rows.ensures.unfailed ∙ c.in_ok-write_cells.ensures.unfailed) c.sync_touched.ensures.unfailed
+
+pub returns-in_err-set_rows-clause-reads : goal.returns-in_err-set_rows-clause-reads
+returns-in_err-set_rows-clause-reads g c = c.in_err-set_rows.ensures.reads ∙ c.in_ok-write_cells.ensures.reads
+
+pub returns-clause-reads : goal.returns-clause-reads
+returns-clause-reads g c = c.sync_touched.ensures.reads ∙ c.in_ok-set_rows.ensures.reads ∙ c.in_ok-write_cells.ensures.reads

@@ -13,16 +13,16 @@ returns-then-same_tables c =
     not_step c.args.config.now c.args.seats.now c.args.guid.now c.args.view c.requires
     (ap (same_tables c.args.config.now) (sym c.in_ok-next.ensures) ∙ sym c.same_tables.ensures ∙ c.if-same_tables.true)
 
-pub returns-in_err-view : goal.returns-in_err-view
-returns-in_err-view c =
-    let failed = err_from_is_err_and c.from_residual-in_err-view.result c.from_residual-in_err-view.ensures.1 in
+pub returns-in_err-marked_view : goal.returns-in_err-marked_view
+returns-in_err-marked_view c =
+    let failed = err_from_is_err_and c.from_residual-in_err-marked_view.result c.from_residual-in_err-marked_view.ensures.1 in
     rw (failed.1, failed.2)
-    (no_view c.args.config.now c.args.seats.now c.args.guid.now c.args.view c.requires c.in_err-view.field-0.0
-    (subst (λ (config : Configuration). IsViewed (view_of config c.args.guid.now c.args.seats.now) (Err c.in_err-view.field-0.0)) c.in_ok-next.ensures c.in_err-view.ensures))
+    (no_view c.args.config.now c.args.seats.now c.args.guid.now c.args.view c.requires c.in_err-marked_view.field-0.0
+    (subst (λ (config : Configuration). IsViewed (view_of config c.args.guid.now c.args.seats.now) (Err c.in_err-marked_view.field-0.0)) c.in_ok-next.ensures c.in_err-marked_view.ensures))
 
 pub returns : goal.returns
 unfolding same_tables
 returns c =
     a_step c.args.config.now c.args.seats.now c.args.guid.now c.args.view c.requires
-    (ap (same_tables c.args.config.now) (sym c.in_ok-next.ensures) ∙ sym c.same_tables.ensures ∙ c.if-same_tables.false) c.in_ok-view.view
-    (subst (λ (config : Configuration). view_of config c.args.guid.now c.args.seats.now ≡ Ok c.in_ok-view.view) c.in_ok-next.ensures c.in_ok-view.ensures)
+    (ap (same_tables c.args.config.now) (sym c.in_ok-next.ensures) ∙ sym c.same_tables.ensures ∙ c.if-same_tables.false) c.in_ok-marked_view.marked_view
+    (subst (λ (config : Configuration). view_of config c.args.guid.now c.args.seats.now ≡ Ok c.in_ok-marked_view.marked_view) c.in_ok-next.ensures c.in_ok-marked_view.ensures)

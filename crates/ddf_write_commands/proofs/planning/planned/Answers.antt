@@ -9,4 +9,4 @@ returns-then-not-redundant c = λ array after found after_is.
 pub returns : goal.returns
 returns c = λ array after found after_is.
     marked_plan c.args.config.now c.args.seats.now c.args.guid c.args.view c.requires array found after c.args.behind after_is (sym c.if-not-redundant.ensures) c.in_ok-marks.marks c.in_ok-marks.view
-    c.in_ok-marks.ensures.0 c.in_ok-marks.ensures.1 c.is_sound-2.ensures c.in_ok-changes-2.changes c.in_ok-changes-2.ensures
+    c.in_ok-marks.unmarked c.in_ok-marks.ensures.0 c.in_ok-marks.ensures.1 c.in_ok-marks.ensures.2 c.is_sound-2.ensures c.is_sound.ensures c.in_ok-changes-2.changes c.in_ok-changes-2.ensures

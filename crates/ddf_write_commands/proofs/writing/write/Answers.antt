@@ -19,7 +19,7 @@ returns-in-Ok-clause-done g c =
 pub returns-in-Ok-clause-ends : goal.returns-in-Ok-clause-ends
 returns-in-Ok-clause-ends g c =
     let done = returns-in-Ok-clause-done g c in
-    write_ends _ _ _ (timestamp_of c.args.stamp.now) c.args.name.now c.args.start c.args.count (λ six. inl (c.tell_done.ensures.stream six)) c.written.ensures.goes_on c.written.ensures.same_sizes done.outcome _ done.has.gives done.ends
+    write_ends _ _ _ (timestamp_of c.args.stamp.now) c.args.name.now c.args.start c.args.count done.has.pieces (λ six. inl (c.tell_done.ensures.stream six)) c.written.ensures.goes_on c.written.ensures.same_sizes done.outcome _ done.has.gives done.ends
 
 pub returns-in-Err-Failure-clause-done : goal.returns-in-Err-Failure-clause-done
 returns-in-Err-Failure-clause-done g c =
@@ -31,4 +31,4 @@ returns-in-Err-Failure-clause-done g c =
 pub returns-in-Err-Failure-clause-ends : goal.returns-in-Err-Failure-clause-ends
 returns-in-Err-Failure-clause-ends g c =
     let done = returns-in-Err-Failure-clause-done g c in
-    write_ends _ _ _ (timestamp_of c.args.stamp.now) c.args.name.now c.args.start c.args.count (λ six. inl (c.tell_failure.ensures.stream six)) c.written.ensures.goes_on c.written.ensures.same_sizes done.outcome _ done.has.gives done.ends
+    write_ends _ _ _ (timestamp_of c.args.stamp.now) c.args.name.now c.args.start c.args.count done.has.pieces (λ six. inl (c.tell_failure.ensures.stream six)) c.written.ensures.goes_on c.written.ensures.same_sizes done.outcome _ done.has.gives done.ends
