@@ -1,0 +1,4 @@
+mod Seen
+mod Looked
+mod Below
+mod Behind

@@ -1,0 +1,5 @@
+pub mod SlotEnds
+pub mod Looking
+pub mod EndsOf
+pub mod Sizes
+pub mod ShortenedBays
