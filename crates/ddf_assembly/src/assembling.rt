@@ -1,4 +1,5 @@
-//! Assembly: which group the disks of a bay are.
+//! Assembly: which group the disks of a bay are. It only reads: what it finds is told before anything may be written.
+//! docs/GROUPS.md#which-group-the-disks-are
 ghost use Rattle.std.specs.Prelude.{◌≡◌, ◌+◌, ◌*◌, ◌≤◌, ℕ, List, [], false, length, map, slice_index_or, IfOk};
 ghost use Rattle.ddf_bay.specs.ReadsOnly.{ReadsOnly};
 ghost use Rattle.ddf_config.specs.Seats.{SeatsFit};

@@ -1,4 +1,5 @@
-//! The newest copy of each slot of a bay.
+//! The newest copy of each slot of a bay. A slot of which a read failed is left out and not taken for blank: it may hold anything.
+//! docs/DECISIONS.md#which-group-the-disks-are
 ghost use Rattle.std.specs.Prelude.{◌≡◌, ◌+◌, ◌*◌, ◌++◌, ◌∷◌, ◌<◌, ◌≤◌, ℕ, [], true, IfOk, IfSome, OnOk, length, slice_index};
 ghost use Rattle.ddf_bay.specs.State.{on_slot};
 ghost use Rattle.ddf_bay.specs.ReadsOnly.{LooksAt, ReadsOnly};

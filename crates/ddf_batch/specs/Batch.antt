@@ -2,7 +2,6 @@
 use Rattle.std.specs.Prelude.{◌≡◌, ◌⊎◌, ℕ, List, [], ◌∷◌, Option, Bool, true, false, ◌||◌, ◌==◌, nat_lt, codes, if◌then◌else◌}
 use Rattle.std.specs.List.{list_any}
 use Rattle.ddf_bytes.specs.declared.stamp.Stamp.{Stamp}
-use Rattle.ddf_bytes.specs.Counts.{Rose}
 use Rattle.ddf_bytes.specs.Streams.{SinkRose, SinkState, SourceState}
 use Rattle.ddf_bay.specs.State.{BayState}
 use Rattle.ddf_words.specs.Words.{Word}

@@ -1,7 +1,7 @@
 -- What one line of a batch does: a call of its own, as the program makes it.
 use Rattle.std.specs.Prelude.{◌≡◌, ◌⊎◌, ℕ, List, [], Option, false, true, IsTrue, nat_le}
 use Rattle.ddf_bytes.specs.declared.stamp.Stamp.{Stamp}
-use Rattle.ddf_bytes.specs.Streams.{SinkRose, SinkState, SourceState}
+use Rattle.ddf_bytes.specs.Streams.{SinkRose, SinkState}
 use Rattle.ddf_bay.specs.Moments.{GoesOn}
 use Rattle.ddf_bay.specs.ReadsOnly.{ReadsOnly}
 use Rattle.ddf_bay.specs.State.{BayState}

@@ -1,4 +1,4 @@
-//! A batch: its lines one after another.
+//! A batch: its lines one after another, and 36 where it has too many bytes. docs/COMMANDS.md#batch
 ghost use Rattle.std.specs.Prelude.{◌≡◌, ◌||◌, IsTrue, false, nat_lt};
 ghost use Rattle.std.specs.List.{slice_split};
 ghost use Rattle.ddf_bay.specs.Moments.{GoesOn};

@@ -1,4 +1,4 @@
-//! One line of a batch.
+//! One line of a batch. A line that is refused ends nothing: those before it stand, and the next one is run. docs/COMMANDS.md#batch
 ghost use Rattle.ddf_words.specs.Words.{words_of};
 ghost use Rattle.ddf_words.specs.Lines.{numbered, parts_of};
 ghost use Rattle.ddf_batch.specs.Line.{IsLineRun};

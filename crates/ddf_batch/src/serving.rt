@@ -1,4 +1,5 @@
-//! The call that the program makes.
+//! The call that the program makes. It promises nothing itself, so the program doesn't load all that `run` promises.
+//! docs/DECISIONS-COMMANDS.md#words-and-commands
 ghost use Rattle.std.specs.Prelude.{◌≡◌, length};
 ghost use Rattle.ddf_words.specs.Words.{words_of, slot_count};
 

@@ -1,4 +1,5 @@
-//! A bay of disks: numbered slots of sectors, of which a stop leaves some of what was written since the last good sync.
+//! A bay of disks: numbered slots of sectors, of which a stop leaves some of what was written since the last good sync. Writes have no order but
+//! by syncs: a caller that takes one for granted loses what it acknowledged. docs/DISK-MODEL.md#the-model-in-short
 ghost use Rattle.std.specs.Prelude.{◌≡◌, ◌<◌, ◌≤◌, ◌+◌, ◌-◌, ◌^◌, [], ◌∷◌, List, ℕ, length, OnOk, OnErr, slice_index};
 ghost use Rattle.ddf_bytes.specs.Counts.{Rose};
 ghost use Rattle.ddf_bay.specs.Sectors.{IsLeft, IsRead, put_run};

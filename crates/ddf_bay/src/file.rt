@@ -1,4 +1,4 @@
-//! A bay over files or block devices, of whose content nothing is told.
+//! A bay over files or block devices, of whose content nothing is told: std's files know no power cuts. docs/DISK-MODEL.md#the-bays
 ghost use Rattle.std.specs.Prelude.{◌≡◌, ◌≢◌, ◌<◌, ◌≤◌, ◌+◌, ◌^◌, ◌↔◌, [], List, ℕ, true, false, length, IfOk, IsNone, IsSome, Some, OnOk, OnErr, IsErr, IsTrue, slice_index, nat_le};
 ghost use Rattle.std.specs.List.{list_all};
 ghost use Rattle.ddf_bytes.specs.Counts.{Rose};

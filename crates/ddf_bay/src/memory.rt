@@ -1,4 +1,4 @@
-//! A bay in memory: logged writes over zeros, calls that fail by their numbers, and what a stop leaves.
+//! A bay in memory: logged writes over zeros, calls that fail by their numbers, and what a stop leaves. docs/DISK-MODEL.md#the-bays
 ghost use Rattle.std.specs.Prelude.{◌≡◌, ◌≢◌, ◌⊎◌, ◌<◌, ◌≤◌, ◌+◌, ◌-◌, ◌^◌, ◌↔◌, [], ◌∷◌, List, ℕ, length, IfOk, IsTrue, slice_index, nat_le};
 ghost use Rattle.std.specs.List.{list_all};
 ghost use Rattle.ddf_bytes.specs.Counts.{Rose};

@@ -1,4 +1,5 @@
-//! Whole transfers to and from a file. A call that the system interrupted is made again, and one that fails isn't.
+//! Whole transfers to and from a file. A call that the system interrupted is made again: taken for a failure it would lose a disk for good. One
+//! that fails isn't. docs/FAULTS.md#a-call-that-a-signal-interrupts
 ghost use Rattle.std.specs.Prelude.{◌≡◌, ◌*◌, ◌/◌, ◌<◌, ◌^◌, length, IsSome, IfSome, IfOk, IsErr, OnOk, false, is_ok};
 ghost use Rattle.std.specs.Io.Seek.{MovesTo};
 ghost use Rattle.ddf_bay.specs.Files.{allows_writes, AreBoth, IsReadAt, IsWrittenAt};

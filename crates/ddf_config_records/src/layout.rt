@@ -1,4 +1,4 @@
-//! Where the fields of the configuration records stand (SNIA DDF 2.0).
+//! Where the fields of the configuration records stand: offsets in bytes (SNIA DDF 2.0). docs/FORMAT.md#element-record
 use ddf_seal::{SEAL, Span};
 
 /// Offset of the GUID of the array.

@@ -1,4 +1,4 @@
-//! Both copies of a disk, and which of them is the newest.
+//! Both copies of a disk, and which of them is the newest. docs/FORMAT.md#the-newest-copy
 ghost use Rattle.std.specs.Prelude.{◌≡◌, ◌⊎◌, ◌+◌, ◌<◌, ◌≤◌, ℕ, IfErr, IfOk, Err, Bool, false, length, slice_index};
 ghost use Rattle.ddf_bay.specs.State.{on_slot};
 ghost use Rattle.ddf_bay.specs.ReadsOnly.{ReadsOnly, LooksAt};

@@ -1,4 +1,4 @@
-//! The header of a copy against the anchor.
+//! The header of a copy against the anchor. An open header counts for nothing: its sections may be half written. docs/FORMAT.md#whole-copies
 ghost use Rattle.std.specs.Prelude.{◌≡◌, ◌<◌, IfSome, Some, IfErr, Ok};
 ghost use Rattle.std.specs.Result.{result_err};
 ghost use Rattle.ddf_copy.specs.Gate.{differ_at, first_difference, gate_fault, header_bytes, is_shared};

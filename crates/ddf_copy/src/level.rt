@@ -1,4 +1,4 @@
-//! Whether two copies are level.
+//! Whether two copies are level: of one sequence and with the same sections. Of two that differ none may be chosen. docs/FORMAT.md#the-newest-copy
 ghost use Rattle.std.specs.Prelude.{◌≡◌, ◌*◌, ◌+◌, ◌<◌, ◌≤◌, List, length, slice_get, Some, map};
 ghost use Rattle.std.specs.List.{list_all, range_with_len};
 ghost use Rattle.std.specs.Str.{bytes_eq};

@@ -1,4 +1,4 @@
-//! Whether the two copies lie before the anchor, and apart.
+//! Whether the two copies lie before the anchor, and apart: an update of one would else write over the other. docs/FORMAT.md#whole-copies
 ghost use Rattle.std.specs.Prelude.{◌≡◌, ◌+◌, ◌^◌, ◌<◌, ◌≤◌, IfSome, position};
 ghost use Rattle.std.specs.List.{list_any};
 ghost use Rattle.ddf_copy.specs.Room.{has_no_room, has_sector_of, is_out_of_room, meets_copy, room_fault, share};

@@ -9,10 +9,10 @@ use Rattle.ddf_copy.specs.declared.newest_copy.Newest.{Newest}
 use Rattle.ddf_import.specs.Joined.{without_lost}
 use Rattle.ddf_view.specs.View.{View, view_of}
 use Rattle.ddf_rewrite.proofs.Lists.{map_get}
-use Rattle.ddf_history.specs.Groups.{Disk, groups, has_current, disk_of}
+use Rattle.ddf_history.specs.Groups.{groups, has_current, disk_of}
 use Rattle.ddf_history.specs.Issued.{IsSince, Past, is_away}
 use Rattle.ddf_history.specs.Leaders.{seen}
-use Rattle.ddf_history.specs.Promise.{IsKept, IsRight}
+use Rattle.ddf_history.specs.Promise.{IsKept}
 use Rattle.ddf_history.specs.Reading.{IsCopyOf, Scene, ShowsGroup, Shown}
 use Rattle.ddf_history.specs.Scenes.{scene_of}
 use Rattle.ddf_history.proofs.Calls.{seen_copy, seen_read}
@@ -21,7 +21,7 @@ use Rattle.ddf_history.proofs.Sound.{groups_are_sound}
 use Rattle.ddf_steps.specs.Committed.{slots_of}
 use Rattle.ddf_seats.specs.Group.{GroupValue}
 use Rattle.ddf_assembly.specs.Group.{group_of}
-use Rattle.ddf_joining.specs.Joining.{config_joining, join_config}
+use Rattle.ddf_joining.specs.Joining.{config_joining}
 use Rattle.ddf_assembly.specs.Slots.{newest_from}
 use Rattle.ddf_history_steps.specs.Going.{IsAdmitted}
 use Rattle.ddf_history_joins.specs.Joins.{AdmitsBoth, AdmitsCall}

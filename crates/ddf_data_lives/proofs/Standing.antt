@@ -4,9 +4,8 @@ use Rattle.std.proofs.lemmas.Bool.{false_from_ne_true}
 use Rattle.std.specs.Prelude.{IsTrue, slice_get, slice_index_or}
 use Rattle.ddf_bytes.specs.declared.stamp.Stamp.{Stamp}
 use Rattle.ddf_header.specs.declared.kind.Revision.{Revision}
-use Rattle.ddf_bay.specs.Memory.{MemoryState, disks_of, state_of, without}
+use Rattle.ddf_bay.specs.Memory.{MemoryState, disks_of}
 use Rattle.ddf_bay.specs.ReadsOnly.{LookFailed}
-use Rattle.ddf_bay.specs.Sectors.{Image}
 use Rattle.ddf_bay.specs.declared.memory.MemoryBay.{MemoryBay}
 use Rattle.ddf_config.specs.Configuration.{Configuration}
 use Rattle.ddf_copy.specs.declared.newest_copy.Newest.{Newest}
@@ -28,19 +27,19 @@ use Rattle.ddf_group_commands.specs.Change.{is_done}
 use Rattle.ddf_write_commands.specs.Write.{is_written}
 use Rattle.ddf_data_calls.specs.Reading.{MayBe, blocks_printed}
 use Rattle.ddf_history_life.specs.Life.{labelled_disk}
-use Rattle.ddf_history_memory.specs.Histories.{GoesWell, HasMemberOn, IsCutAt, IsStopped}
+use Rattle.ddf_history_memory.specs.Histories.{GoesWell, HasMemberOn}
 use Rattle.ddf_history_memory.proofs.Slots.{becomes, before_told, not_read, read_below, reads_left}
 use Rattle.ddf_data_events.specs.Beginnings.{first_moment, none_promised}
 use Rattle.ddf_data_events.specs.Calls.{EndsAt, HasComeTo, joins_in}
 use Rattle.ddf_data_events.specs.Calls.Call.{Accepts, Changes, Joins, Others, Reads, Rebuilds, Resyncs, Writes}
 use Rattle.ddf_data_events.specs.Moments.{Moment}
 use Rattle.ddf_data_life.specs.Commands.{IsRead}
-use Rattle.ddf_data_life.specs.Histories.{CallOn, FindsOn, IsDataBegun, IsDataHistoryOn, LeavesLostOut, behind, exit_on, read_as}
+use Rattle.ddf_data_life.specs.Histories.{CallOn, FindsOn, IsDataHistoryOn, LeavesLostOut, behind, exit_on, read_as}
 use Rattle.ddf_data_life.proofs.Calls.{cut_on, ends_on, finds}
 use Rattle.ddf_data_life.proofs.Labels.{label_begins}
 use Rattle.ddf_data_life.proofs.Losses.{come_back, stopped, unplugged}
 use Rattle.ddf_data_life.proofs.Printed.{printed}
-use Rattle.ddf_data_lives.specs.Standing.{Behind, KeepsDisk, Stands, StandsOn, Turn, changes_of}
+use Rattle.ddf_data_lives.specs.Standing.{Behind, KeepsDisk, Stands, StandsOn, Turn}
 use Rattle.ddf_data_lives.specs.Standing.Turn.{Cut, Ended, Returned, Stopped, Unplugged}
 use Rattle.ddf_data_lives.proofs.Since.{ends_since}
 

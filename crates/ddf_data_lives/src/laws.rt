@@ -1,4 +1,4 @@
-//! Laws of long histories: functions that do nothing, whose contracts are the laws.
+//! Laws of long histories: functions that do nothing, whose contracts are the laws. docs/PROOF.md#proved
 ghost use Rattle.std.specs.Prelude.{◌≡◌, ◌<◌, ℕ, Bool, true, false, List, [], Option, Some, None, Ok, Err, IsTrue, length, slice_index_or};
 ghost use Rattle.ddf_bytes.specs.declared.stamp.Stamp.{Stamp};
 ghost use Rattle.ddf_header.specs.declared.kind.Revision.{Revision};

@@ -1,4 +1,4 @@
-//! The exercise.
+//! The exercise. docs/COMMANDS.md#exercise
 ghost use Rattle.std.specs.Prelude.{◌≡◌, ◌⊎◌, ◌≤◌, ◌++◌, IsTrue, length};
 ghost use Rattle.std.specs.List.{list_all};
 ghost use Rattle.ddf_bytes.specs.declared.stamp.Stamp.{Stamp};

@@ -4,7 +4,6 @@ use Rattle.ddf_config.specs.declared.array.Array.{Array}
 use Rattle.ddf_config.specs.declared.element.Position.{Position}
 use Rattle.ddf_config.specs.Configuration.{Configuration}
 use Rattle.ddf_config.specs.Refusals.{first_refusal, refuse_if}
-use Rattle.ddf_config.specs.declared.refusal.Refusal.TheVariants.{Shape}
 use Rattle.ddf_config.specs.States.{is_marked}
 use Rattle.ddf_bytes.specs.declared.stamp.Stamp.{Stamp}
 use Rattle.ddf_config.specs.declared.refusal.Refusal.{Refusal}

@@ -1,5 +1,5 @@
 -- How many sectors a command asks to be written that writes steps of a group.
-use Rattle.std.proofs.Common.{◌≡◌, ◌∙◌, ℕ, zero, suc, ◌+◌, ◌≤◌, List, [], ◌∷◌, ◌++◌, length, not, Option, Some, None, Result, Ok, Err, sum_by, refl, sym, ap, subst, arith}
+use Rattle.std.proofs.Common.{◌≡◌, ◌∙◌, ℕ, suc, ◌+◌, ◌≤◌, List, [], ◌∷◌, ◌++◌, length, not, Option, Some, None, Result, Ok, Err, sum_by, refl, sym, subst, arith}
 use Rattle.std.proofs.lemmas.List.Filters.{sum_by-filter_both}
 use Rattle.std.proofs.lemmas.List.Sums.{sum_by-append, sum_by-cons}
 use Rattle.std.specs.List.{filter}
@@ -21,7 +21,7 @@ use Rattle.ddf_recovery.specs.Ready.{ReadyValue, all_ready, readied}
 use Rattle.ddf_recovery.specs.Recovery.{disks_recovered}
 use Rattle.ddf_seats.specs.Seated.{seated, is_adopted, levelled}
 use Rattle.ddf_steps.specs.Steps.{Step, in_order}
-use Rattle.ddf_steps.specs.Trying.{AreFollowing, ArePrepared, Follows}
+use Rattle.ddf_steps.specs.Trying.{AreFollowing, Follows}
 use Rattle.ddf_answer.specs.declared.failure.Failure.{Failure}
 use Rattle.ddf_answer.specs.Call.{Work, work_of}
 use Rattle.ddf_answer.specs.Costs.{WritesAtMost, disk_sectors}

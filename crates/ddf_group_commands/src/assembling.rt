@@ -1,4 +1,4 @@
-//! `assemble`: the group that the disks are.
+//! `assemble`: the group that the disks are, brought in order. docs/COMMANDS.md#assemble
 ghost use Rattle.std.specs.Prelude.{◌≡◌, string_bytes, IfErr, IfOk};
 ghost use Rattle.ddf_bay.specs.Moments.{GoesOn};
 ghost use Rattle.ddf_bytes.specs.Stamps.{timestamp_of};

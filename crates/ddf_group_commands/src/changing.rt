@@ -1,4 +1,4 @@
-//! Every change of a group that words ask for.
+//! Every change of a group that words ask for, by one body: read, recover, ask, write, tell. docs/DECISIONS-COMMANDS.md#words-and-commands
 ghost use Rattle.std.specs.Prelude.{◌≡◌, length};
 ghost use Rattle.std.specs.Option.{option_to_list};
 ghost use Rattle.ddf_bay.specs.Moments.{GoesOn};

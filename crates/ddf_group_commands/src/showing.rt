@@ -1,4 +1,5 @@
-//! `show`: the group that the disks are, as they record it.
+//! `show`: the group that the disks are, as they record it. It counts by the disks that are there, or an array without one would be `optimal`.
+//! docs/COMMANDS.md#show
 ghost use Rattle.std.specs.Prelude.{◌≡◌};
 ghost use Rattle.ddf_bytes.specs.Streams.{SinkRose};
 ghost use Rattle.ddf_group_commands.specs.Show.{IsGroupShown, IsShown};

@@ -1,4 +1,4 @@
-//! Where the fields of a header stand in its sector: offsets in bytes (SNIA DDF 2.0).
+//! Where the fields of a header stand in its sector: offsets in bytes (SNIA DDF 2.0). docs/FORMAT.md#header
 use ddf_seal::{SEAL, Span};
 
 /// The signature of each header (SNIA DDF 2.0).

@@ -1,4 +1,4 @@
-//! Laws of the headline in use: functions that do nothing, whose contracts are the laws.
+//! Laws of the headline in use: functions that do nothing, whose contracts are the laws. docs/PROOF.md#proved
 ghost use Rattle.std.specs.Prelude.{◌≡◌, ◌<◌, ◌+◌, ◌-◌, ◌^◌, ℕ, List, [], Ok, Err, length};
 ghost use Rattle.ddf_bytes.specs.declared.stamp.Stamp.{Stamp};
 ghost use Rattle.ddf_header.specs.declared.kind.Revision.{Revision};

@@ -1,4 +1,4 @@
-//! Why the disks and arrays of another group can't join a group.
+//! Why the disks and arrays of another group can't join a group: each has to be told from all others there. docs/REFUSALS.md#34-clash-guid
 ghost use Rattle.std.specs.Prelude.{◌≡◌, find, IfOk};
 ghost use Rattle.ddf_import.specs.Clash.{has_guid, is_there, disk_clash, has_array, array_clash, bound, first_bound, bound_in, takes_name, join_cause};
 

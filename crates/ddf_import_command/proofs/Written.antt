@@ -1,19 +1,16 @@
 -- What an import wrote: the recovery, where there is one, and then the join.
-use Rattle.std.proofs.Common.{◌≡◌, ℕ, Bool, ◌<◌, ◌^◌, List, [], ◌∷◌, ◌++◌, length, Option, Some, None, Result, Ok, refl, ap, sym, subst, ◌∙◌}
+use Rattle.std.proofs.Common.{◌≡◌, ℕ, Bool, ◌<◌, ◌^◌, List, [], ◌∷◌, ◌++◌, length, Option, Some, None, refl, ap, sym, subst, ◌∙◌}
 use Rattle.std.specs.Prelude.{option_map, option_to_list, slice_get}
 use Rattle.std.specs.List.{AllByRecursion}
-use Rattle.ddf_bay.specs.State.{BayState, size_of}
-use Rattle.ddf_header.specs.declared.reading.Header.{Header}
+use Rattle.ddf_bay.specs.State.{BayState}
 use Rattle.ddf_config.specs.declared.seat.Seat.{Seat}
 use Rattle.ddf_copy.specs.declared.newest_copy.Newest.{Newest}
-use Rattle.ddf_copy.specs.Copies.{newest_of}
 use Rattle.ddf_rewrite.proofs.Lists.{all_at, all_by_get}
 use Rattle.ddf_update.specs.Changes.{AreChanged, MayChangeAll, SlotChange}
 use Rattle.ddf_seats.specs.declared.seated.Seated.{Seated}
 use Rattle.ddf_steps.specs.Committed.{AreSettled, IsRewritten, slots_of, synced}
 use Rattle.ddf_recovery.specs.Committed.{HoldsGroup, MayRecover, group_recovered, recovery_slots, recovery_updates}
 use Rattle.ddf_seats.specs.Group.{GroupValue}
-use Rattle.ddf_assembly.specs.Held.{AreHeldOn}
 use Rattle.ddf_joining.specs.Importing.{IsJoinOf, MayJoinDisks, join_slots, join_updates, was_readied}
 use Rattle.ddf_joining.specs.Joining.{Joining, join_config, join_disks, join_leaders}
 use Rattle.ddf_joining.specs.JoinValue.{JoinValue}

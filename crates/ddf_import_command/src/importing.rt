@@ -1,4 +1,5 @@
-//! `import`: another group joins the group that the disks are.
+//! `import`: another group joins the group that the disks are. The disks that join are written last: cut short before the first disk shows the
+//! join they are still their own group's, and from then on the next command takes them over. docs/NEW-DISK.md#cut-short
 ghost use Rattle.std.specs.Prelude.{◌≡◌, ◌≤◌, ℕ, Bool, List, Option, Ok, OnOk, Some, ◌+◌, ◌*◌, length};
 ghost use Rattle.ddf_bay.specs.Moments.{GoesOn, StopsLeave};
 ghost use Rattle.ddf_bytes.specs.Stamps.{timestamp_of};

@@ -1,4 +1,5 @@
-//! The import of another group: what it is, ready to be written, and how it is written.
+//! The import of another group: what it is, ready to be written, and how it is written: its group's disks first, those that join last.
+//! docs/NEW-DISK.md#cut-short
 ghost use Rattle.std.specs.Prelude.{◌≡◌, ◌⊎◌, ◌+◌, ◌&&◌, ◌∷◌, ℕ, [], false, length, Option, None, Ok, IfErr, IfOk, IfSome, OnErr, OnOk};
 ghost use Rattle.std.specs.Option.{option_map_or};
 ghost use Rattle.std.specs.Str.{bytes_eq};

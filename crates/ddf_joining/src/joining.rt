@@ -1,4 +1,4 @@
-//! The join of another group's disks: the configuration and the disks of both groups, and why they can't join.
+//! The join of another group's disks: the configuration and the disks of both groups, and why they can't join. docs/DECISIONS.md#groups-that-join
 ghost use Rattle.std.specs.Prelude.{◌≡◌, ◌+◌, ◌<◌, ◌^◌, ◌++◌, None, filter, length, IfOk, OnOk};
 ghost use Rattle.std.specs.List.{list_all};
 ghost use Rattle.ddf_plan.specs.Same.{same_flag};

@@ -1,4 +1,4 @@
-//! The word that a name prints as.
+//! The word that a name prints as. Two names that print alike are one name to whoever types it. docs/FAULTS.md#two-arrays-whose-names-print-alike
 ghost use Rattle.std.specs.Prelude.{◌≡◌, ◌++◌, codes};
 ghost use Rattle.std.specs.List.{list_all};
 ghost use Rattle.std.specs.Str.{bytes_eq};

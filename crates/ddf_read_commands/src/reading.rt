@@ -1,4 +1,4 @@
-//! `read`: blocks of an array.
+//! `read`: blocks of an array. It goes on where disks are away or fail, since it is how data is rescued. docs/COMMANDS.md#read
 ghost use Rattle.std.specs.Prelude.{◌≡◌, None, IfOk};
 ghost use Rattle.ddf_bytes.specs.Streams.{SinkRose};
 ghost use Rattle.ddf_config.specs.Seats.{SeatsFit};

@@ -1,4 +1,4 @@
-//! `scrub`: whether the copies and the parity of an array agree.
+//! `scrub`: whether the copies and the parity of an array agree. docs/COMMANDS.md#scrub
 ghost use Rattle.std.specs.Prelude.{◌≡◌};
 ghost use Rattle.ddf_bytes.specs.Streams.{SinkRose};
 ghost use Rattle.ddf_bay.specs.ReadsOnly.{ReadsOnly};

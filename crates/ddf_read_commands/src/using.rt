@@ -1,4 +1,4 @@
-//! The use of an array's blocks, and what it is refused for.
+//! The use of an array's blocks, and what it is refused for: decided once, for every command over blocks. docs/GROUPS.md#orders-of-refusal
 ghost use Rattle.std.specs.Prelude.{◌≡◌, ℕ, List, Some, ◌+◌, nat_lt, IfOk};
 ghost use Rattle.ddf_array.specs.Viewing.{view_of};
 ghost use Rattle.ddf_recovery.specs.Recovery.{trusted_seats};

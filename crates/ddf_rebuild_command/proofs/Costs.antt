@@ -5,7 +5,7 @@ use Rattle.std.specs.Prelude.{min}
 use Rattle.ddf_bay.specs.Moments.{SpendsOver}
 use Rattle.ddf_bay.specs.ReadsOnly.{ReadsOnly}
 use Rattle.ddf_bay.specs.State.{BayState}
-use Rattle.ddf_primary.specs.Cells.{depth_of}
+use Rattle.ddf_primary.specs.Cells.{depth_of, height_of}
 use Rattle.ddf_primary.specs.Placement.{Placement}
 use Rattle.ddf_cells.specs.Writing.{AsksFor}
 use Rattle.ddf_cells.proofs.Writes.{asks_start, asks_then}
@@ -52,10 +52,10 @@ part_below : (depth first row : ℕ) → min row depth - first ≤ depth - first
 part_below depth first row = omega arith
 
 rows_add : (shape : Placement) (from row : ℕ) → from ≤ row → sectors_of shape from row + sectors_from shape row ≤ sectors_from shape from
-rows_add shape from row le = parts_add (depth_of shape) (from * shape.strip) (row * shape.strip) (mul-le-mul_right shape.strip le)
+rows_add shape from row le = parts_add (depth_of shape) (from * height_of shape) (row * height_of shape) (mul-le-mul_right (height_of shape) le)
 
 rows_below : (shape : Placement) (from row : ℕ) → sectors_of shape from row ≤ sectors_from shape from
-rows_below shape from row = part_below (depth_of shape) (from * shape.strip) (row * shape.strip)
+rows_below shape from row = part_below (depth_of shape) (from * height_of shape) (row * height_of shape)
 
 -- ---- steps
 

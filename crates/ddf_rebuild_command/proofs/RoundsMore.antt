@@ -7,6 +7,7 @@ use Rattle.std.specs.Prelude.{Some}
 use Rattle.ddf_bay.specs.Moments.{IsSettled}
 use Rattle.ddf_bay.specs.Sectors.{Image}
 use Rattle.ddf_bay.specs.State.{BayState}
+use Rattle.ddf_primary.specs.Cells.{height_of}
 use Rattle.ddf_array.specs.Volume.{Volume}
 use Rattle.ddf_config.specs.declared.seat.Seat.{Seat}
 use Rattle.ddf_rebuild.specs.Rebuilding.{NoneLeftInRows}
@@ -115,7 +116,7 @@ module _ (P Q : ℕ → Type 0) (more : (slot : ℕ) → P slot → Q slot) (ear
 pub none_left_more : (P Q : ℕ → Type 0) → ((slot : ℕ) → P slot → Q slot) → (volume : Volume) (element position from to earlier later slot : ℕ) → earlier ≤ from → to ≤ later
     → NoneLeftInRows P volume element position from to slot → NoneLeftInRows Q volume element position earlier later slot
 none_left_more P Q more volume element position from to earlier later slot first last none =
-    let strip = none.part.shape.strip in
+    let strip = height_of none.part.shape in
     let from_is = none.in_rows.from_is in
     let to_is = none.in_rows.to_is in
     let lower : earlier * strip ≤ from * strip = mul-le-mul_right strip first in

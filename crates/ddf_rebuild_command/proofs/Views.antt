@@ -7,10 +7,10 @@ use Rattle.std.proofs.Math.Nat.{div-le_of_le-mul, mul-le-mul_right, mul-suc}
 use Rattle.std.specs.Prelude.{filter_map, is_some, nat_le, nat_lt, option_and_then, option_map, slice_get}
 use Rattle.std.specs.Map.{lookup}
 use Rattle.std.specs.List.{cons_option, flat_map, list_all, list_any}
-use Rattle.ddf_primary.specs.Cells.{depth_of}
+use Rattle.ddf_primary.specs.Cells.{depth_of, height_of}
 use Rattle.ddf_primary.specs.Levels.{least_blocks}
 use Rattle.ddf_primary.specs.Placement.{Placement}
-use Rattle.ddf_primary.proofs.ShapeFacts.{depth_le}
+use Rattle.ddf_primary.proofs.ShapeFacts.{depth_le, height_some}
 use Rattle.ddf_config.specs.declared.array.Array.{Array}
 use Rattle.ddf_config.specs.declared.element.Position.{Position}
 use Rattle.ddf_config.specs.declared.extent.Extent.{Extent}
@@ -203,4 +203,5 @@ pub few_rows : (part : Part) → IsPart part → row_count part.shape ≤ 2 ^ 48
 few_rows part is =
     let shape = part.shape in
     let blocks = leb-true shape.blocks (2 ^ 48) (and_parts (nat_le (least_blocks shape.layout shape.strip) shape.blocks) (nat_le shape.blocks (2 ^ 48)) is.shape_is.blocks_taken).1 in
-    omega (arith, blocks, depth_le shape.layout shape.strip shape.blocks, rows_below (depth_of shape) shape.strip is.shape_is.some_strip)
+    let some = height_some shape is.shape_is in
+    omega (arith, blocks, depth_le shape.layout shape.strip shape.blocks, rows_below (depth_of shape) (height_of shape) (omega (arith, some)))

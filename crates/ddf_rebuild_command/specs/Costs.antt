@@ -1,6 +1,6 @@
 -- How many sectors a rebuild asks to be written, at most.
 use Rattle.std.specs.Prelude.{◌⊎◌, ℕ, ◌+◌, ◌-◌, ◌*◌, List, ◌++◌, Result, Ok, Err}
-use Rattle.ddf_primary.specs.Cells.{depth_of}
+use Rattle.ddf_primary.specs.Cells.{depth_of, height_of}
 use Rattle.ddf_primary.specs.Placement.{Placement}
 use Rattle.ddf_group.specs.declared.answer.Assembly.{Assembly}
 use Rattle.ddf_seats.specs.Group.{GroupValue}
@@ -14,7 +14,7 @@ use Rattle.ddf_rebuild_command.specs.Rounds.{steps_of}
 
 -- the sectors of a position from a row on
 abbrev pub sectors_from : Placement → (row : ℕ) → ℕ
-sectors_from shape row = depth_of shape - row * shape.strip
+sectors_from shape row = depth_of shape - row * height_of shape
 
 -- Every position is in sync: no more than the steps that are asked, each once, and these are the recovery's.
 pub record CostsOfRecovery {D : Type 0} (work : Work D) (found : GroupValue) (timestamp : ℕ) (word : List ℕ) : Type 0 where

@@ -1,4 +1,5 @@
-//! The rounds of a rebuild: rows of a position are filled, and then a step of its group is written that tells of them.
+//! The rounds of a rebuild: rows of a position are filled, and then a step of its group is written that tells of them. Told of before they are sure,
+//! rows would be read that nobody filled. docs/STOPS.md#the-blocks-of-arrays
 ghost use Rattle.std.specs.Prelude.{◌≡◌, ◌≤◌, ◌+◌, ℕ, ◌∷◌, [], length, slice_get, Some, IfErr, OnOk, is_ok};
 ghost use Rattle.ddf_cells.specs.Writing.{AsksFor};
 ghost use Rattle.ddf_array.specs.declared.part.Part.{Part};

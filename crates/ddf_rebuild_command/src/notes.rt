@@ -1,4 +1,5 @@
-//! Where a rebuild notes how far it has come.
+//! Where a rebuild notes how far it has come: at 63 rows at most, since each note is a change of the group that is made before the first row is filled.
+//! docs/DECISIONS-COMMANDS.md#blocks-rebuilt
 ghost use Rattle.std.specs.Prelude.{◌≡◌, ◌≤◌, ◌^◌, IfOk};
 ghost use Rattle.ddf_rebuild_command.specs.Notes.{notes, rows_between};
 

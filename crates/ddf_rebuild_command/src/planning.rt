@@ -1,4 +1,5 @@
-//! What is planned of the rebuild of an array before anything is written: the changes of its group, and the rows between these.
+//! What is planned of the rebuild of an array before anything is written: the changes of its group, the rows between these, and what refuses it.
+//! docs/GROUPS.md#orders-of-refusal
 ghost use Rattle.std.specs.Prelude.{◌≡◌, ◌≤◌, ◌^◌, ◌==◌, ◌&&◌, ◌++◌, ◌∷◌, [], false, not, nat_lt, find, slice_get, option_to_list, Some, Ok, IfOk};
 ghost use Rattle.std.specs.Map.{lookup};
 ghost use Rattle.std.specs.Option.{option_copied};

@@ -1,4 +1,4 @@
-//! `rebuild`: a position of an array is filled, and is in sync again.
+//! `rebuild`: a position of an array is filled, and is in sync again. docs/COMMANDS.md#rebuild
 ghost use Rattle.std.specs.Prelude.{◌≡◌, Some, OnOk};
 ghost use Rattle.ddf_bytes.specs.Stamps.{timestamp_of};
 ghost use Rattle.ddf_bay.specs.Moments.{GoesOn};

@@ -1,4 +1,5 @@
-//! The steps of a group, written to its disks one after another.
+//! The steps of a group, written to its disks one after another, each behind its gate. The seats are synced before: what an earlier call left
+//! pending could come to light later. docs/UPDATES.md#several-disks
 ghost use Rattle.std.specs.Prelude.{◌≡◌, ◌⊎◌, ◌+◌, ◌<◌, ℕ, [], ◌∷◌, length, Some, None, MatchOption, OnErr, OnOk, IfErr};
 ghost use Rattle.ddf_bytes.specs.Counts.{Rose};
 ghost use Rattle.ddf_bay.specs.Sectors.{IsLeft};

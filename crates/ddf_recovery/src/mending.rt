@@ -1,4 +1,5 @@
-//! What recovery gives the disks of a group that lag, where no member is absent.
+//! What recovery gives the disks of a group that lag, where no member is absent: the newest configuration, with its sequence number as it is.
+//! docs/STOPS.md#what-the-next-command-does-first
 ghost use Rattle.std.specs.Prelude.{◌≡◌, true, filter, fold, map, None, IfOk};
 ghost use Rattle.std.specs.List.{AllByRecursion};
 ghost use Rattle.ddf_copy.specs.Written.{CanBeCopy};

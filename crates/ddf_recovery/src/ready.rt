@@ -1,4 +1,5 @@
-//! The steps that changes of a group are, ready to be written.
+//! The steps that changes of a group are, made and judged before the first is written: found out later, a full table or want of memory would end
+//! a change between two disks. docs/DECISIONS.md#recovery-and-the-steps-of-a-change
 ghost use Rattle.std.specs.Prelude.{◌≡◌, ◌&&◌, ◌||◌, false, option_map, IfOk, IfSome};
 ghost use Rattle.std.specs.Option.{option_map_or};
 ghost use Rattle.std.specs.List.{AllByRecursion, list_any};

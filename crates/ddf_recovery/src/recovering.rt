@@ -1,4 +1,5 @@
 //! The recovery of a group: the loss of the members that are absent, or else the configuration for the seats that lag.
+//! docs/STOPS.md#what-the-next-command-does-first
 ghost use Rattle.std.specs.Prelude.{◌≡◌, ◌==◌, ℕ, None, Some, Err, filter, find, map, option_map, IfOk, IfSome};
 ghost use Rattle.ddf_plan.specs.Causes.{causes};
 ghost use Rattle.ddf_rewrite.specs.Before.{before};

@@ -1,4 +1,5 @@
-//! Disks of a group that recovery must not write over.
+//! Disks of a group that recovery must not write over: those of another group, the only record of an element, older images (39).
+//! docs/REFUSALS.md#39-in-full
 ghost use Rattle.std.specs.Prelude.{◌≡◌, ◌<◌, ◌^◌, filter_map, IfOk};
 ghost use Rattle.std.specs.List.{list_any};
 ghost use Rattle.ddf_view.specs.Reading.{are_noted};

@@ -23,7 +23,7 @@ use Rattle.ddf_config.proofs.Firsts.{all_pass}
 use Rattle.ddf_name.specs.Names.{is_place_name, name_text}
 use Rattle.ddf_plan.specs.declared.change.Change.TheVariants.{Create}
 use Rattle.ddf_plan.specs.Arrays.{kept_and_added, kept_array}
-use Rattle.ddf_plan.specs.Changes.{after, changed}
+use Rattle.ddf_plan.specs.Changes.{after}
 use Rattle.ddf_plan.specs.Create.{created}
 use Rattle.ddf_plan.specs.CreateRefusal.{has_named, is_taken, is_no_shape, is_spare_disk, references}
 use Rattle.ddf_plan.specs.Floors.{extents_refusal}

@@ -1,4 +1,4 @@
-//! The array that the words name.
+//! The array that the words name, by the word that its name prints as, or by its place. docs/COMMANDS.md#arguments
 ghost use Rattle.std.specs.Prelude.{◌≡◌, option_map};
 ghost use Rattle.std.specs.Str.{bytes_eq};
 ghost use Rattle.ddf_request.specs.Named.{named_array, named_guid, place_word, placed_guid, printed_guid};

@@ -1,4 +1,4 @@
-//! What its disks and its state tell of an array that a command is to use.
+//! What its disks and its state tell of an array that a command is to use. docs/GROUPS.md#orders-of-refusal
 ghost use Rattle.std.specs.Prelude.{◌≡◌, Some, find, IfOk};
 ghost use Rattle.std.specs.Option.{option_copied};
 ghost use Rattle.ddf_request.specs.Usable.{bad_blocks, is_bad, is_held, is_held_from_writes, lies_on, useless};

@@ -1,4 +1,4 @@
-//! The seats of current members.
+//! The seats of current members: the slots where their disks were found. docs/GROUPS.md#members
 ghost use Rattle.std.specs.Prelude.{◌≡◌, option_map, IfOk};
 ghost use Rattle.ddf_seats.specs.Group.{bad_count, copy_at, floor_of, seat_at, seat_of, seats_of};
 

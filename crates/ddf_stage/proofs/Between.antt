@@ -1,15 +1,15 @@
 -- Two things that are done one after the other, with a sync behind each: what a stop on the way leaves.
-use Rattle.std.proofs.Common.{◌≡◌, ◌∙◌, ◌⊎◌, inl, inr, ⊎_elim, ℕ, ◌+◌, ◌<◌, ◌≤◌, List, [], ◌∷◌, Some, sym, ap, subst, arith, slice_get}
+use Rattle.std.proofs.Common.{◌≡◌, ◌∙◌, ◌⊎◌, inl, ⊎_elim, ℕ, ◌+◌, ◌<◌, ◌≤◌, List, [], ◌∷◌, sym, arith}
 use Rattle.ddf_bay.specs.Sectors.{Image, Outcomes, IsLeft}
 use Rattle.ddf_bay.specs.State.{BayState}
-use Rattle.ddf_bay.specs.Moments.{IsSettled, Keeps, StopsLeave}
+use Rattle.ddf_bay.specs.Moments.{IsSettled, StopsLeave}
 use Rattle.ddf_bay.proofs.Steps.{stops_then, stops_weaken}
 use Rattle.ddf_stage.specs.declared.desk.Desk.{Desk}
 use Rattle.ddf_stage.specs.declared.desk.StageCell.{StageCell}
 use Rattle.ddf_stage.specs.declared.desk.Staged.{Staged}
 use Rattle.ddf_stage.specs.Desks.{HasDesk, IsOnDesks}
-use Rattle.ddf_stage.specs.Staging.{Adds, AreAside, AreOffDesks, Either, Giving, HasCell, IsAmong, IsBetween, IsCell, IsThere, Mixes}
-use Rattle.ddf_stage.proofs.Giving.{adds_keeps, among_left, between_then}
+use Rattle.ddf_stage.specs.Staging.{Adds, AreAside, AreOffDesks, Giving, HasCell, IsAmong, IsBetween, IsCell, IsThere, Mixes}
+use Rattle.ddf_stage.proofs.Giving.{among_left, between_then}
 
 -- the first is written, and made sure
 pub first_done : {D : Type 0} (First Then : Giving) (a b c : BayState D) → StopsLeave a b (IsAmong First a.may_hold) → Adds First a.may_hold b.may_hold → StopsLeave b c (IsLeft b.may_hold)

@@ -1,14 +1,12 @@
 -- The gate that stands in a sector is the one that the sector was written for.
-use Rattle.std.proofs.Common.{◌≡◌, ◌↔◌, ◌∙◌, ℕ, zero, suc, ◌+◌, ◌<◌, ◌≤◌, ◌^◌, Bool, true, false, ◌&&◌, List, [], ◌∷◌, length, replicate, Option, Some, None, refl, sym, ap, subst, arith, inl, inr, lit<}
+use Rattle.std.proofs.Common.{◌≡◌, ◌↔◌, ◌∙◌, ℕ, ◌+◌, ◌<◌, ◌≤◌, ◌^◌, Bool, true, false, ◌&&◌, List, [], ◌∷◌, length, Option, Some, None, refl, sym, ap, subst, arith, inr, lit<}
 use Rattle.std.specs.Prelude.{nat_eq, slice_index, if◌then◌else◌}
 use Rattle.std.specs.List.{AllByRecursion}
-use Rattle.std.specs.Int.{w16, w64}
 use Rattle.std.proofs.lemmas.Bool.{eqb-true, eq-eqb}
 use Rattle.std.proofs.lemmas.List.{length-replicate}
 use Rattle.std.specs.Cmp.Lexicographic.{pointwise}
-use Rattle.ddf_bytes.specs.Bytes.{bytes_at, number_at}
 use Rattle.ddf_seal.specs.Seal.{seal_place}
-use Rattle.ddf_seal.specs.Unread.{Field, Fits, Stands, place_of, places, written}
+use Rattle.ddf_seal.specs.Unread.{Fits, Stands, place_of, places, written}
 use Rattle.ddf_seal.specs.Records.{record_bytes}
 use Rattle.ddf_seal.proofs.Same.{AreWithin, IsOutside, within_from_test}
 use Rattle.ddf_seal.proofs.Records.{apart_from_test, length-record_bytes, sealed_outside, spelled_kept, written_outside, written_spelled}

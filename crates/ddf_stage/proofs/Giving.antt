@@ -1,5 +1,5 @@
 -- Calls that give sectors bytes, one after another.
-use Rattle.std.proofs.Common.{◌≡◌, ◌≢◌, ◌∙◌, ◌⊎◌, inl, inr, ⊎_elim, ℕ, zero, suc, ◌+◌, ◌-◌, ◌<◌, ◌≤◌, List, [], ◌∷◌, Some, refl, sym, ap, subst, arith, length, slice_get}
+use Rattle.std.proofs.Common.{◌≡◌, ◌≢◌, ◌∙◌, ◌⊎◌, inl, inr, ⊎_elim, ℕ, ◌+◌, ◌-◌, ◌<◌, ◌≤◌, List, [], ◌∷◌, Some, sym, ap, subst, arith, length, slice_get}
 use Rattle.std.specs.Prelude.{slice_index_or}
 use Rattle.ddf_bay.specs.Sectors.{Image, Outcomes, InRun, IsLeft, put_run}
 use Rattle.ddf_bay.specs.Moments as bay
@@ -9,9 +9,9 @@ use Rattle.ddf_bay.proofs.Runs.{inside, before as put_before, after as put_after
 use Rattle.ddf_stage.specs.declared.desk.Desk.{Desk}
 use Rattle.ddf_stage.specs.declared.desk.StageCell.{StageCell}
 use Rattle.ddf_stage.specs.declared.desk.Staged.{Staged}
-use Rattle.ddf_stage.specs.Desks.{HasDesk, HaveOwnSlots, IsOnDesks}
+use Rattle.ddf_stage.specs.Desks.{HaveOwnSlots, IsOnDesks}
 use Rattle.ddf_stage.specs.Laid.{sector_of}
-use Rattle.ddf_stage.specs.Staging.{Adds, AreAside, AreOffDesks, AreOwnCells, Either, Giving, IsAmong, IsBetween, IsCell, IsThere, Mixes}
+use Rattle.ddf_stage.specs.Staging.{Adds, AreAside, AreOwnCells, Either, Giving, IsAmong, IsBetween, IsCell, IsThere, Mixes}
 
 some_is : {X : Type 0} {a b : X} → Some a ≡ Some b → a ≡ b
 some_is e = cc

@@ -1,10 +1,8 @@
 -- Desks of disks, and what stands on them (profile).
-use Rattle.std.specs.Prelude.{◌≡◌, ◌⊎◌, ℕ, ◌+◌, ◌<◌, ◌≤◌, true, false, List, [], ◌∷◌, Option, Some, None, length, slice_get, slice_index, slice_index_or}
-use Rattle.ddf_bay.specs.Sectors.{Image, InRun}
+use Rattle.std.specs.Prelude.{◌≡◌, ◌⊎◌, ℕ, ◌+◌, ◌<◌, ◌≤◌, List, [], ◌∷◌, Some, length, slice_get, slice_index}
+use Rattle.ddf_bay.specs.Sectors.{InRun}
 use Rattle.ddf_stage.specs.declared.desk.Desk.{Desk}
 use Rattle.ddf_stage.specs.declared.desk.Staged.{Staged}
-use Rattle.ddf_stage.specs.declared.gate.Gate.{Gate}
-use Rattle.ddf_stage.specs.Gate.{gate_bytes, opened}
 
 -- the desks lie on their slots, of these sizes
 abbrev pub AreOn : (sizes : List ℕ) → List Desk → Type 0

@@ -6,7 +6,7 @@ use Rattle.ddf_stage.specs.declared.desk.Desk.{Desk}
 use Rattle.ddf_stage.specs.declared.desk.StageCell.{StageCell}
 use Rattle.ddf_stage.specs.declared.desk.Staged.{Staged}
 use Rattle.ddf_stage.specs.Gate.{gate_bytes}
-use Rattle.ddf_stage.specs.Desks.{IsGateAt, IsPayload}
+use Rattle.ddf_stage.specs.Desks.{IsGateAt}
 use Rattle.ddf_stage.specs.Laid.{sector_of}
 
 -- which bytes calls may give a sector of a slot

@@ -1,4 +1,5 @@
 //! Where the fields of the tables, of controller data, of disk data and of the bad block log stand: offsets in bytes (SNIA DDF 2.0).
+//! docs/FORMAT.md#physical-disk-records
 
 /// Offset of the populated count in a table of disks or of arrays.
 pub const POPULATED_AT: usize = 8;

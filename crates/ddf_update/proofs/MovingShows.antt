@@ -6,14 +6,14 @@ use Rattle.ddf_bay.specs.Moments.{IsSettled, StopsLeave}
 use Rattle.ddf_bay.proofs.Steps.{stops_weaken}
 use Rattle.ddf_header.specs.declared.geometry.Geometry.{Geometry}
 use Rattle.ddf_header.specs.declared.reading.Header.{Header}
-use Rattle.ddf_header.specs.Geometry.{geometry_at, section_of}
+use Rattle.ddf_header.specs.Geometry.{section_of}
 use Rattle.ddf_copy.specs.declared.copy.DiskCopy.{DiskCopy}
 use Rattle.ddf_copy.specs.declared.raw.Raw.{Raw}
 use Rattle.ddf_copy.specs.declared.which.Which.{Which}
 use Rattle.ddf_copy.specs.declared.which.Which.TheVariants.{Primary, Secondary}
 use Rattle.ddf_copy.specs.Anchor.{anchor_at}
-use Rattle.ddf_copy.specs.Copies.{copy_of, newest_at, newest_of}
-use Rattle.ddf_copy.specs.Headers.{anchor_header, written_as}
+use Rattle.ddf_copy.specs.Copies.{copy_of, newest_of}
+use Rattle.ddf_copy.specs.Headers.{anchor_header}
 use Rattle.ddf_copy.specs.Runs.{AreApart, HasCopy, IsInCopy, IsInParts, RunsCover, log_run, parts_of, runs_at}
 use Rattle.ddf_copy.specs.Sections.{HasSizes}
 use Rattle.ddf_copy.specs.Which.{other_of, place_of}

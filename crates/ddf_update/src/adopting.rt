@@ -1,4 +1,5 @@
-//! The copies of a disk that a group takes over from another one.
+//! The copies of a disk that a group takes over from another one: the anchor comes between them, so that a stop leaves one group's alone.
+//! docs/UPDATES.md#a-disk-that-is-taken-over
 ghost use Rattle.std.specs.Prelude.{◌≡◌, ◌≢◌, ◌⊎◌, ◌<◌, ◌≤◌, ◌+◌, ◌-◌, ◌*◌, length, OnOk, IfErr, slice_index};
 ghost use Rattle.ddf_bytes.specs.Counts.{Rose};
 ghost use Rattle.ddf_bay.specs.Sectors.{IsLeft};

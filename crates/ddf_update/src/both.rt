@@ -1,4 +1,4 @@
-//! Both copies of a disk.
+//! Both copies of a disk, the one that isn't the newest first: a stop within it leaves the newest alone. docs/UPDATES.md#behind-a-gate
 ghost use Rattle.std.specs.Prelude.{◌≡◌, ◌≢◌, ◌⊎◌, ◌<◌, ◌≤◌, ◌+◌, ◌*◌, length, OnOk, IfErr, slice_index};
 ghost use Rattle.ddf_bytes.specs.Counts.{Rose};
 ghost use Rattle.ddf_bay.specs.Moments.{StopsLeave, SpendsWrites, IsSettled};

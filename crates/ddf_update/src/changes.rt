@@ -1,4 +1,4 @@
-//! The change of several slots.
+//! The change of several slots, one after another: each is done before the next is begun. docs/UPDATES.md#several-disks
 ghost use Rattle.std.specs.Prelude.{◌≡◌, ℕ, length, OnOk, IfErr};
 ghost use Rattle.ddf_bytes.specs.Counts.{Rose};
 ghost use Rattle.ddf_bay.specs.Moments.{SpendsOver, StopsLeave};

@@ -1,4 +1,5 @@
-//! One copy behind its gate.
+//! One copy behind its gate: its header open, its sections, its header closed, each made sure before the next. A sync left out, and a stop could
+//! leave a closed header over half-written sections. docs/UPDATES.md#behind-a-gate
 ghost use Rattle.std.specs.Prelude.{◌≡◌, ◌≢◌, ◌<◌, ◌≤◌, ◌+◌, length, OnOk, IfErr, slice_index};
 ghost use Rattle.ddf_bytes.specs.Counts.{Rose};
 ghost use Rattle.ddf_bay.specs.Moments.{StopsLeave, SpendsWrites};

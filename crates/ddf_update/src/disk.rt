@@ -1,4 +1,4 @@
-//! The update of one disk.
+//! The update of one disk: which of its copies is written when, and where its anchor comes. docs/UPDATES.md#behind-a-gate
 ghost use Rattle.std.specs.Prelude.{◌≡◌, ◌⊎◌, ◌<◌, ◌≤◌, ◌+◌, ◌-◌, ◌*◌, length, OnOk, IfErr, slice_index};
 ghost use Rattle.ddf_bytes.specs.Counts.{Rose};
 ghost use Rattle.ddf_bay.specs.Sectors.{IsLeft};

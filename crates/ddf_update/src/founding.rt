@@ -1,4 +1,5 @@
-//! Copies of a disk at places where it has none, and its anchor: the first ones, or those that it moves to.
+//! Copies of a disk at places where it has none, and its anchor, the first ones or those that it moves to. The anchor is written last: without it
+//! a disk shows nothing. docs/UPDATES.md#the-first-copies-of-a-disk
 ghost use Rattle.std.specs.Prelude.{◌≡◌, ◌≢◌, ◌⊎◌, ◌<◌, ◌≤◌, ◌+◌, ◌-◌, ◌*◌, length, OnOk, IfErr, slice_index};
 ghost use Rattle.ddf_bytes.specs.Counts.{Rose};
 ghost use Rattle.ddf_bay.specs.Sectors.{IsLeft};

@@ -1,4 +1,4 @@
-//! How many records the copies of a new disk have room for, and where they lie (profile).
+//! How many records the copies of a new disk have room for, and where they lie (profile). docs/FORMAT.md#a-new-group
 ghost use Rattle.std.specs.Prelude.{◌≡◌, ◌≤◌, ◌+◌, ◌*◌};
 ghost use Rattle.ddf_update.specs.NewLayouts.{
   copy_length,

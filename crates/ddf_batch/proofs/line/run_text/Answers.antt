@@ -1,9 +1,5 @@
-use Rattle.std.proofs.Common.{◌≡◌, ◌∙◌, Err, ap, sym, subst}
-use Rattle.ddf_config.specs.declared.refusal.Refusal.TheVariants.{Words}
-use Rattle.ddf_text.specs.Refusal.{refusal_line}
+use Rattle.std.proofs.Common.{◌≡◌, ◌∙◌, Err, ap}
 use Rattle.ddf_words.specs.Words.{words_of}
-use Rattle.ddf_answer.specs.Call.{answer_of}
-use Rattle.ddf_answer.specs.Tells.{EndsWith}
 use Rattle.ddf_words.specs.Lines.{numbered, parts_of}
 use Rattle.ddf_batch.specs.Batch.{point}
 use Rattle.ddf_batch.proofs.LineRuns.{command_run, one_command, words_refused, words_unread}

@@ -1,4 +1,4 @@
-use Rattle.std.proofs.Common.{ap, refl}
+use Rattle.std.proofs.Common.{ap}
 use Rattle.std.proofs.lemmas.Result.{err_from_is_err_and}
 use Rattle.ddf_assembly.proofs.SettledHeld.{are_held}
 use Rattle.ddf_group_commands.specs.GroupRead.{group_or}

@@ -1,4 +1,4 @@
-use Rattle.std.proofs.Common.{◌≡◌, ◌∙◌, List, length, ap, subst, sym, inl, inr, arith}
+use Rattle.std.proofs.Common.{◌≡◌, ◌∙◌, List, length, subst, sym, inl, inr, arith}
 use Rattle.std.proofs.lemmas.Result.{err_from_is_err_and}
 use Rattle.ddf_bay.specs.Moments.{StopsLeave}
 use Rattle.ddf_bay.specs.State.{BayState}
@@ -7,7 +7,6 @@ use Rattle.ddf_bay.proofs.Steps.{keeps_then, left_keeps, stops_then, stops_weake
 use Rattle.ddf_config.specs.declared.seat.Seat.{Seat}
 use Rattle.ddf_steps.specs.Committed.{AreSettled, HaveSlots, IsNotWritten}
 use Rattle.ddf_recovery.specs.Committed.{slots_written, updates_written}
-use Rattle.ddf_seats.specs.Group.{GroupValue}
 use Rattle.ddf_steps.proofs.Synced.{changed_since, leaves_since, left_since, may_all, settled_since}
 use Rattle.ddf_recovery.proofs.committing.recover.Goals as goal
 

@@ -1,13 +1,12 @@
-use Rattle.std.proofs.Common.{◌≡◌, ◌+◌, ◌<◌, ◌≤◌, ℕ, [], ◌∷◌, Some, length, refl, sym, ◌∙◌, ap, subst, arith}
-use Rattle.std.specs.Prelude.{slice_get, slice_index, slice_index_or}
+use Rattle.std.proofs.Common.{◌≡◌, ◌+◌, ◌<◌, ◌≤◌, ℕ, [], ◌∷◌, Some, refl, ◌∙◌, arith}
+use Rattle.std.specs.Prelude.{slice_get, slice_index_or}
 use Rattle.std.proofs.lemmas.Grind.{common_steps}
 use Rattle.std.proofs.lemmas.Option.{slice_get-get_or, slice_get_within}
 use Rattle.ddf_bay.specs.Sectors.{put_run}
-use Rattle.ddf_bay.specs.Moments.{Adds, IsAmong, Mixes}
+use Rattle.ddf_bay.specs.Moments.{IsAmong, Mixes}
 use Rattle.ddf_bay.proofs.Runs.{put_mixes}
 use Rattle.ddf_bay.proofs.Steps.{over_most, over_then, over_writes, stops_then}
 use Rattle.ddf_stage.specs.declared.desk.StageCell.{StageCell}
-use Rattle.ddf_stage.specs.Laid.{sector_of}
 use Rattle.ddf_stage.specs.Staging.{HasCell}
 use Rattle.ddf_stage.proofs.Giving.{cell_adds, cell_among, cell_mixes, cells_all, cells_more}
 use Rattle.ddf_stage.proofs.cells.write_cells.Goals as goal

@@ -1,9 +1,9 @@
-use Rattle.std.proofs.Common.{◌≡◌, ◌+◌, ◌<◌, ◌≤◌, ℕ, Some, length, refl, sym, ◌∙◌, ap, subst, arith, ⊎_elim}
-use Rattle.std.specs.Prelude.{slice_get, slice_index, slice_index_or}
+use Rattle.std.proofs.Common.{◌≡◌, ◌+◌, ◌<◌, ◌≤◌, ℕ, Some, refl, sym, ◌∙◌, ap, subst, arith, ⊎_elim}
+use Rattle.std.specs.Prelude.{slice_get, slice_index_or}
 use Rattle.std.proofs.lemmas.Bool.{cases_eq}
 use Rattle.std.proofs.lemmas.Grind.{common_steps}
 use Rattle.std.proofs.lemmas.Option.{slice_get-get_or, slice_get_within}
-use Rattle.ddf_bay.specs.Moments.{IsSettled, Keeps}
+use Rattle.ddf_bay.specs.Moments.{IsSettled}
 use Rattle.ddf_bay.specs.Sectors.{IsLeft}
 use Rattle.ddf_bay.proofs.Steps.{keeps_then, left_keeps, over_most, over_then, over_writes, settled_keeps, stops_then}
 use Rattle.ddf_stage.specs.declared.desk.Desk.{Desk}

@@ -1,8 +1,8 @@
-use Rattle.std.proofs.Common.{◌≡◌, ◌∙◌, Bool, true, false, Option, Some, None, List, ℕ, sym, ap, subst}
+use Rattle.std.proofs.Common.{◌≡◌, ◌∙◌, Bool, true, false, Some, None, List, ℕ, sym, ap, subst}
 use Rattle.std.specs.Prelude.{nat_eq}
 use Rattle.std.specs.Cmp.Lexicographic.{pointwise}
 use Rattle.ddf_stage.specs.declared.gate.Gate.{Gate}
-use Rattle.ddf_stage.specs.Gate.{IsGate, gate_at, gate_bytes, opened}
+use Rattle.ddf_stage.specs.Gate.{IsGate, gate_at, gate_bytes}
 use Rattle.ddf_stage.proofs.Gates.{both_ways, opened_none, opened_some}
 use Rattle.ddf_stage.proofs.gate.open_gate.Goals as goal
 

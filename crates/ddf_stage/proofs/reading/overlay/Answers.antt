@@ -1,13 +1,12 @@
-use Rattle.std.proofs.Common.{◌≡◌, ◌∙◌, ℕ, ◌+◌, ◌*◌, ◌<◌, ◌≤◌, List, Option, Some, None, refl, sym, ap, arith, length, drop, slice_get}
-use Rattle.std.specs.Prelude.{slice_index, slice_index_or}
-use Rattle.std.proofs.lemmas.Grind.{common_steps}
+use Rattle.std.proofs.Common.{◌≡◌, ◌∙◌, ℕ, ◌+◌, ◌*◌, ◌<◌, ◌≤◌, Option, Some, None, refl, sym, arith, length, slice_get}
+use Rattle.std.specs.Prelude.{slice_index_or}
 use Rattle.std.proofs.lemmas.Option.{slice_get-get_or}
 use Rattle.ddf_bay.proofs.Looks.{reads_start, reads_then}
 use Rattle.ddf_bay.proofs.Steps.{over_most, over_reads, over_start, over_then}
 use Rattle.ddf_stage.specs.declared.desk.Desk.{Desk}
 use Rattle.ddf_stage.specs.declared.desk.Staged.{Staged}
 use Rattle.ddf_stage.specs.Desks.{HasDesk}
-use Rattle.ddf_stage.specs.Laid.{most_reads, on_desk}
+use Rattle.ddf_stage.specs.Laid.{on_desk}
 use Rattle.ddf_stage.proofs.DeskReads.{passed, reads_passed, reads_within}
 use Rattle.ddf_stage.proofs.reading.overlay.Goals as goal
 

@@ -1,11 +1,11 @@
-use Rattle.std.proofs.Common.{◌≡◌, ◌∙◌, ℕ, ◌+◌, ◌<◌, List, Some, refl, sym, ap, arith, length}
-use Rattle.std.specs.Prelude.{true, slice_index_or}
+use Rattle.std.proofs.Common.{◌≡◌, ◌∙◌, ℕ, ◌+◌, ◌<◌, Some, sym, ap, arith}
+use Rattle.std.specs.Prelude.{true}
 use Rattle.std.proofs.lemmas.Grind.{common_steps}
 use Rattle.ddf_bay.proofs.Steps.{spends_then}
 use Rattle.ddf_bay.specs.Sectors.{Image, IsRead}
 use Rattle.ddf_stage.specs.Gate.{opened}
 use Rattle.ddf_stage.specs.Laid.{names_one}
-use Rattle.ddf_stage.proofs.DeskReads.{read_is, reads_most, stands_there}
+use Rattle.ddf_stage.proofs.DeskReads.{read_is, stands_there}
 use Rattle.ddf_stage.proofs.reading.read_desk.Goals as goal
 
 pub returns-clause-exact : goal.returns-clause-exact

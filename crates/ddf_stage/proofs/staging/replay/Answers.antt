@@ -1,9 +1,9 @@
-use Rattle.std.proofs.Common.{◌≡◌, ℕ, List, [], ◌∷◌, length, refl, arith, ⊎_elim}
+use Rattle.std.proofs.Common.{◌≡◌, ℕ, List, [], ◌∷◌, ⊎_elim}
 use Rattle.std.specs.Prelude.{false}
-use Rattle.ddf_bay.specs.Moments.{IsSettled, StopsLeave}
+use Rattle.ddf_bay.specs.Moments.{IsSettled}
 use Rattle.ddf_stage.specs.Gate.{gate_bytes}
-use Rattle.ddf_stage.specs.Staging.{Adds, AreAside, ClosedGates, IsBetween, IsCell, IsThere, Mixes}
-use Rattle.ddf_stage.proofs.Between.{cell_slot, cells_aside, first_done, settled_beside, then_sure, then_written}
+use Rattle.ddf_stage.specs.Staging.{Adds, AreAside, ClosedGates, IsCell, IsThere, Mixes}
+use Rattle.ddf_stage.proofs.Between.{cell_slot, cells_aside, first_done, then_sure, then_written}
 use Rattle.ddf_stage.proofs.Giving.{adds_keeps, there_stays}
 use Rattle.ddf_stage.proofs.staging.replay.Goals as goal
 

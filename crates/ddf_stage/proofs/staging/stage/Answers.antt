@@ -1,9 +1,9 @@
-use Rattle.std.proofs.Common.{◌≡◌, ℕ, List, [], ◌∷◌, length, refl, arith}
+use Rattle.std.proofs.Common.{◌≡◌, ℕ, List, [], ◌∷◌, refl}
 use Rattle.std.specs.Prelude.{true}
-use Rattle.ddf_bay.specs.Moments.{IsSettled, StopsLeave}
+use Rattle.ddf_bay.specs.Moments.{IsSettled}
 use Rattle.ddf_stage.specs.Gate.{gate_bytes}
 use Rattle.ddf_stage.specs.Desks.{IsPayload}
-use Rattle.ddf_stage.specs.Staging.{Adds, AreAside, IsBetween, IsThere, Mixes, OpenGates}
+use Rattle.ddf_stage.specs.Staging.{Adds, AreAside, IsThere, Mixes, OpenGates}
 use Rattle.ddf_stage.proofs.Between.{desk_slot, first_done, then_sure, then_written}
 use Rattle.ddf_stage.proofs.Giving.{adds_keeps, payload_aside, there_stays}
 use Rattle.ddf_stage.proofs.staging.stage.Goals as goal
