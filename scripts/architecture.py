@@ -1,5 +1,5 @@
 #!/usr/bin/env python3
-"""Draws docs/architecture.svg, the layers of the repository with their crates, from crates.txt.
+"""Draws docs/architecture.svg, the layers of the repository with their crates, from crates.txt, and lists in docs/ARCHITECTURE.md where each refusal comes from.
 
     scripts/architecture.py [--check]
 
@@ -8,16 +8,23 @@ crate may stand on those of its own layer and of layers before it: what stands o
 picture leads from a layer to each that it stands on, as far as no other line leads there. Crates whose functions do
 nothing, so that their contracts are laws, have a broken line.
 
-With --check nothing is written: the layers have to be sound, the picture up to date, and docs/CRATES.md has to name each
-crate, and no other.
+Refusals and their numbers are those of crates/ddf_config/src/refusal.rt. One comes from each function that makes it, and not from
+those that hand it on.
+
+With --check nothing is written: the layers have to be sound, the picture and the list up to date, docs/CRATES.md has to name
+each crate, and no other, and each file of a crate that docs/ARCHITECTURE.md names has to be there.
 """
 import re
 import sys
+import textwrap
 from pathlib import Path
 from typing import NamedTuple, NoReturn
 
 TOP = Path(__file__).resolve().parent.parent
 PAGE = TOP / "docs/architecture.svg"
+TEXT = TOP / "docs/ARCHITECTURE.md"
+REFUSALS = TOP / "crates/ddf_config/src/refusal.rt"
+BEGIN, END = "<!-- refusals: made by scripts/architecture.py -->", "<!-- end of refusals -->"
 WIDE, HIGH, GAP, LEFT = 118, 20, 6, 20
 FULL, MIDDLE = 900, 60
 
@@ -161,15 +168,73 @@ def look_for_crates() -> None:
         stop(f"docs/CRATES.md and crates.txt differ in {' '.join(sorted(told ^ there))}")
 
 
+def refusals() -> list[tuple[int, str]]:
+    """The number of each refusal, with its name in the code."""
+    found = re.findall(r"^    /// (\d+): .*\n    (\w+)", REFUSALS.read_text(encoding="utf-8"), re.MULTILINE)
+    return [(int(number), name) for number, name in found]
+
+
+def made_in(code: str) -> list[tuple[str, str]]:
+    """The refusals that a file makes, by their names, each with the function that makes it. One that is only handed on, or asked for, isn't made there."""
+    found: list[tuple[str, str]] = []
+    function = ""
+    for line in code.splitlines():
+        if begun := re.match(r"\s*(?:pub(?:\(\w+\))? )?fn (\w+)", line):
+            function = begun[1]
+        taken, arrow, given = re.sub(r"//.*|\bmatches!\(.*", "", line).partition("=>")
+        if not arrow:
+            taken, given = "", taken
+        names = re.findall(r"\bRefusal::(\w+)", given) + re.findall(r"(?:Some|Err)\(VolumeFault::(\w+)", given)
+        found += [(name, function) for name in names if not re.search(rf"\b(?:Refusal|VolumeFault)::{name}\b", taken)]
+    return found
+
+
+def makers() -> dict[str, dict[str, list[str]]]:
+    """The files that make each refusal, by its name, with the functions. What prints one makes none."""
+    found: dict[str, dict[str, list[str]]] = {}
+    for path in sorted((TOP / "crates").glob("*/src/**/*.rt")):
+        file = str(path.relative_to(TOP / "crates"))
+        if path == REFUSALS or file.startswith("ddf_text/"):
+            continue
+        for name, function in made_in(path.read_text(encoding="utf-8")):
+            functions = found.setdefault(name, {}).setdefault(file, [])
+            if function not in functions:
+                functions.append(function)
+    return found
+
+
+def with_refusals(page: str) -> str:
+    """The page with the list of refusals in its place."""
+    made = makers()
+    rows = []
+    for number, name in refusals():
+        files = ", ".join(f"`{file}` ({', '.join(f'`{it}`' for it in functions)})" for file, functions in made.get(name, {}).items()) or "no command"
+        rows.append(textwrap.fill(f"- **{number}** `{name}`: {files}", 98, subsequent_indent="  ", break_long_words=False, break_on_hyphens=False))
+    begin, end = page.index(BEGIN) + len(BEGIN), page.index(END)
+    return page[:begin] + "\n\n" + "\n".join(rows) + "\n\n" + page[end:]
+
+
+def look_for_files(page: str) -> None:
+    """Each file and folder of a crate that the page names has to be there."""
+    named = set(re.findall(r"`(?:crates/)?(ddf\w*/[\w./-]+)`", page))
+    if lost := sorted(it for it in named if not (TOP / "crates" / it).exists()):
+        stop(f"docs/ARCHITECTURE.md names what isn't there: {' '.join(lost)}")
+
+
 def main() -> None:
     made = drawing()
+    page = TEXT.read_text(encoding="utf-8")
     if "--check" not in sys.argv[1:]:
         PAGE.write_text(made, encoding="utf-8")
+        TEXT.write_text(with_refusals(page), encoding="utf-8")
     elif not PAGE.exists() or PAGE.read_text(encoding="utf-8") != made:
         stop("docs/architecture.svg isn't what crates.txt says: run scripts/architecture.py")
+    elif with_refusals(page) != page:
+        stop("docs/ARCHITECTURE.md doesn't list where each refusal comes from: run scripts/architecture.py")
     else:
         look_for_crates()
-        print("architecture: no layer stands on one above it, and the picture and the list of crates are up to date")
+        look_for_files(page)
+        print("architecture: no layer stands on one above it; the picture, the lists of crates and of refusals are up to date")
 
 
 main()

@@ -5,6 +5,7 @@ sources.
     scripts/build.py run WORD..         proves, builds, and runs the program with these words
     scripts/build.py unproved WORD..    builds it without proofs, by the kit's trial run, and runs it
     scripts/build.py prove CRATE..      proves these crates and those below them alone
+    scripts/build.py above CRATE..      lists what a change of these has proved again, and how long it takes; it proves nothing
 
 Each crate is proved as soon as those below it are, the one with the longest way up first. The kit lets one command at a time work in a crate and in those below
 it, so each of those that run side by side has a copy of the sources (in target/build, for as long as this runs); the libraries are linked into it. What is proved
@@ -140,6 +141,21 @@ def all_below(crates: dict[str, list[str]]) -> dict[str, set[str]]:
     for name, below in crates.items():
         found[name] = {*below, *(it for low in below for it in found[low])}
     return found
+
+
+def tell_above(names: list[str]) -> None:
+    """Lists the crates that a change of some has proved again: these, and all that stand on them, lowest first, with minutes of a processor."""
+    crates = crates_below(list(rows()))
+    below, minutes = all_below(crates), minutes_of(crates)
+    if lost := sorted(set(names) - set(crates)):
+        stop(f"there is no crate {lost[0]}")
+    again = [it for it in crates if it in names or below[it] & set(names)]
+    ways: dict[str, float] = {}
+    for name in again:
+        print(f"{minutes[name]:5.1f}  {name}")
+        ways[name] = minutes[name] + max((ways[it] for it in below[name] if it in ways), default=0)
+    whole = sum(minutes[it] for it in again)
+    print(f"{whole:5.1f}  minutes of a processor for {len(again)} crates, and at least {max(ways.values()):.0f} however many work beside one another")
 
 
 # The machine
@@ -525,6 +541,8 @@ def main() -> None:
             become(unproved(), words)
         elif way == "prove" and words:
             Build(words).prove()
+        elif way == "above" and words:
+            tell_above(words)
         else:
             sys.exit((__doc__ or "").split("\n\n")[1])
     except OSError as why:

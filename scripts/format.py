@@ -37,9 +37,9 @@ IN_TERMS = re.compile(
     rf"\b(?:(?:plain|u8|u16|u32|u64|u32s|u64s)_at|number_at \w+ {TERM}|(?:bytes_at|placed|with_bytes_at|numbers32_at|numbers64_at|slice_index) {TERM}|record {{ at =) [1-9]\d*\b"
 )
 IN_CODE = re.compile(r"\b(?:(?:be16|be32|be64|put16|put32|put64|guid_at|place)\([^(),]*,|at:) [1-9]\d*\b")
-CODE = {"ddf_header", "ddf_tables", "ddf_config_records", "ddf_copy", "ddf_update", "ddf_rewrite", "ddf_stage"}
-# crates that have no record of their own: the bytes of numbers, seals, and lists of other things
-APART = {"ddf_bytes", "ddf_seal", "ddf_linux"}
+CODE = {"ddf_header", "ddf_tables", "ddf_config_records", "ddf_copy", "ddf_update", "ddf_rewrite", "ddf_seal", "ddf_stage"}
+# a crate that has no record: how numbers stand in bytes
+APART = {"ddf_bytes"}
 WIDTHS = {"u8": "1", "u16": "2", "u32": "4", "u64": "8"}
 # lengths that a definition counts: those of entries that lie one after another, and what M and S are
 LENGTHS = {

@@ -4,7 +4,8 @@
     scripts/links.py
 
 Pages are README.md, CHANGELOG.md and TODO.md, those of docs/ and below it, and the README of each crate and of folders of
-scripts. Heads of sources that name a page with a heading, as docs/FORMAT.md#header, are looked at too.
+scripts. Heads of sources that name a page with a heading, as docs/FORMAT.md#header, are looked at too, and so are files of this
+repository that a page names in backquotes: `scripts/links.py`, `ddf_bay/src/bay.rt` and, in the README of a crate, `src/bay.rt` or `bay.rt`.
 """
 import re
 import sys
@@ -40,9 +41,31 @@ def links(path: Path) -> list[str]:
     return re.findall(r"\]\(([^)\s]+)\)", text)
 
 
+def files(page: Path) -> list[str]:
+    """The files that a page names in backquotes and that aren't there. What is said of earlier versions may name others."""
+    if page.name == "CHANGELOG.md":
+        return []
+    text = re.sub(r"^ *```.*?^ *```$", "", page.read_text(encoding="utf-8"), flags=re.MULTILINE | re.DOTALL)
+    lost = []
+    for name in set(re.findall(r"`([\w./-]+\.(?:rt|antt|py|sh|txt|tsv|md|edit))`", text)):
+        places = [TOP / name, TOP / "crates" / name, TOP / "docs" / name, TOP / "tools" / name, TOP / "crates/ddf_rig/data" / name, TOP / "scripts" / name]
+        if page.parent.parent == TOP / "crates":
+            places += [page.parent / name, page.parent / "src" / name, page.parent / "specs" / name]
+        if any(it.exists() for it in places):
+            continue
+        # `specs/Stray.antt` behind the name of its crate, and `NAME.txt` of a user's own, can't be told from one another here.
+        if re.match(r"(?:crates/)?ddf\w*/|scripts/|docs/", name) or page.parent.parent == TOP / "crates":
+            lost.append(name)
+        elif re.match(r"specs/|src/|proofs/", name) and not any(TOP.glob(f"crates/*/{name}")):
+            lost.append(name)
+    return lost
+
+
 def main() -> None:
     wrong: list[str] = []
     count = 0
+    for page in pages():
+        wrong += [f"{page.relative_to(TOP)}: there is no {name}" for name in files(page)]
     for path in [*pages(), *sorted((TOP / "crates").glob("*/src/**/*.rt"))]:
         for link in links(path):
             if re.match(r"\w+:", link):

@@ -14,6 +14,7 @@ disks=${DDF_DISKS:-$top/scripts/linux-disks}
 [ -d "$disks" ] || lacks "no folder $disks"
 command -v xz >/dev/null || lacks "no xz"
 all_tried linux-disks
+exec </dev/null
 
 fail() {
     echo "linux-disks: $1" >&2

@@ -23,6 +23,8 @@ SOURCE, PAGE = TOP / "man/ddf.8.in", TOP / "man/ddf.8"
 WIDTH = 98
 # a number whose causes go by kinds of disks, and not by the command; the last row stands for all of them
 KINDS = {"39"}
+# a number that no command gives yet: it has its line, and no row
+NOT_GIVEN = {"37", "38"}
 
 
 def stop(why: str) -> NoReturn:
@@ -218,9 +220,9 @@ def commands_of_reference() -> set[str]:
 
 
 def numbers_printed() -> set[str]:
-    """The numbers of refusals that the program prints."""
+    """The numbers of refusals that the program prints, but of those that no command gives yet."""
     sources = [*(TOP / "crates/ddf_text/src").glob("*.rt"), *(TOP / "crates/ddf_batch/src").glob("*.rt")]
-    return {number for path in sources for number in re.findall(r'"refused (\d+) ', path.read_text(encoding="utf-8"))}
+    return {number for path in sources for number in re.findall(r'"refused (\d+) ', path.read_text(encoding="utf-8"))} - NOT_GIVEN
 
 
 def lint(name: str, command: list[str]) -> str:
@@ -228,7 +230,9 @@ def lint(name: str, command: list[str]) -> str:
     if shutil.which(command[0]) is None:
         return f"no {name}"
     told = subprocess.run(command, capture_output=True, text=True, check=False)
-    found = [line for line in (told.stdout * (name == "mandoc") + told.stderr).splitlines() if "outdated mandoc.db" not in line]
+    # Which pages of others are installed, and how old their index is, says nothing of this one.
+    others = ("outdated mandoc.db", "referenced manual not found")
+    found = [line for line in (told.stdout * (name == "mandoc") + told.stderr).splitlines() if not any(it in line for it in others)]
     if found:
         stop("\n".join([f"{name} finds in man/ddf.8:", *found]))
     print(f"man: {name} finds nothing in the page")

@@ -64,7 +64,7 @@ def stop(why):
 
 def ddf(images, *words):
     """What a command prints, and the lines of standard error that speak of Linux."""
-    ended = subprocess.run([TOP / "ddf", *images, "--", *words], capture_output=True, text=True, check=False)
+    ended = subprocess.run([TOP / "ddf", *images, "--", *words], stdin=subprocess.DEVNULL, capture_output=True, text=True, check=False)
     if ended.returncode != 0:
         stop(f"{words} ended with {ended.returncode}: {ended.stdout}{ended.stderr}")
     return ended.stdout, [line.removeprefix("ddf: ") for line in ended.stderr.splitlines() if "Linux doesn't" in line]

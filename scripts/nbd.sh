@@ -22,7 +22,7 @@ fail() {
 
 # Runs the program, without what it says to people.
 ddf() {
-    "$top/ddf" "$@" 2>/dev/null
+    "$top/ddf" --yes "$@" 2>/dev/null
 }
 
 # Serves the array `data` of these images while a command runs, in which $uri names it.

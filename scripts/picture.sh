@@ -16,7 +16,7 @@ fail() {
 
 # Runs the program, which has to end well, without what it says to people.
 ddf() {
-    "$top/ddf" "$@" >told 2>/dev/null || fail "$* ended otherwise: $(cat told)"
+    "$top/ddf" --yes "$@" >told 2>/dev/null || fail "$* ended otherwise: $(cat told)"
 }
 
 # Draws disks, and looks whether the picture is sound XML.

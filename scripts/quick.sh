@@ -4,7 +4,7 @@
 #
 #     scripts/quick.sh [NAME..]
 #
-# With names of folders and files of crates/ddf_rig/data, as `write` and `label/once.txt`, those scenarios alone are played.
+# With names of folders and files of crates/ddf_rig/data, as `write` and `label/once`, those scenarios alone are played.
 set -eu
 top=$(cd "$(dirname "$0")/.." && pwd)
 work=$(mktemp -d)
@@ -34,7 +34,7 @@ play() {
 # The files that are played of the names of some, and of folders.
 files_of() {
     for name; do
-        grep -x -e "${name%/}" -e "${name%/}/.*" "$top/crates/ddf_rig/args" || fail "no scenario is $name, and no folder"
+        grep -x -e "${name%/}" -e "$name.txt" -e "${name%/}/.*" "$top/crates/ddf_rig/args" || fail "no scenario is $name, and no folder"
     done
 }
 

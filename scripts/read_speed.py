@@ -99,7 +99,7 @@ def made(program, folder):
 
 
 def told(command):
-    return subprocess.run(command, stdout=subprocess.PIPE, check=True).stdout
+    return subprocess.run(command, stdin=subprocess.DEVNULL, stdout=subprocess.PIPE, check=True).stdout
 
 
 def rows(rounds, what, pairs, output, goal):

@@ -28,7 +28,7 @@ def group(program, folder, layout, slots):
         with open(copies[-1], "wb") as member:
             member.write(disk.read(SECTOR * layout.blocks))
         disk.close()
-    told([program, *images, "--", "accept", "array"])
+    told([program, "--yes", *images, "--", "accept", "array"])
     told([program, *images, "--", "spare", str(slots), "global"])
     return images, copies
 

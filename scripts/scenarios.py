@@ -61,8 +61,9 @@ HEAD = """\
 # Scenarios
 
 Made by `scripts/scenarios.py`. Each file of `crates/ddf_rig/data` shows one thing, which its name
-and its first sentence say; [TESTS.md](TESTS.md#scenarios) says how to play and to add one. What
-several of them play stands in files of parts, the last of a folder.
+and its first sentence say; the names stand here without `.txt`. To play one:
+`scripts/quick.sh label/once.txt`; [TESTS.md](TESTS.md#scenarios) says how to add one. What several
+of them play stands in files of parts, the last of a folder.
 """
 
 

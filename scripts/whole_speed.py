@@ -59,7 +59,7 @@ def whole_rows(program: str, work, rounds: int) -> None:
             os.remove(copy)
         call = [program, *images, "--"]
         if what != "RAID 0":
-            told([*call, "accept", "array"])
+            told([program, "--yes", *images, "--", "accept", "array"])
         if what == "RAID 5":
             read_row(call, data, work, what, "0.95", rounds)
             read_row([program, *images[1:], "--"], data, work, f"{what} short of a disk", "0.6", rounds)

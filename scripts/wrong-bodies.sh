@@ -12,11 +12,13 @@ trap 'rm -rf "$work"' EXIT
 # Every crate that has some, or those that are named.
 names=${*:-$(cd "$top/crates" && ls -d */wrong | sed 's,/wrong,,')}
 
-# The copy has no built work: it gets the libraries that the gate kept, and rt begins with what checks kept in this checkout.
+# The copy has no built work: it gets the libraries that the gate kept, and of a kit that keeps none those that checks built in this
+# checkout; rt builds anew what isn't of these files.
 (cd "$top" && tar cf - --exclude=out --exclude=.git .) | (cd "$work" && tar xf -)
 cd "$work"
 git init -q .
-"$top/scripts/kept.py" "$work" || true
+"$top/scripts/kept.py" "$work" ||
+    (cd "$top" && find crates -path 'crates/*/out/rlib' -prune -print | tar cf - -T -) | tar xf -
 failed=0
 for name in $names; do
     mkdir -p "crates/$name/must-fail"
