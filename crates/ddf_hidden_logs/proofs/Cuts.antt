@@ -1,0 +1,51 @@
+-- The pieces of a run, from the front on.
+use Rattle.std.proofs.Common.{◌≡◌, ℕ, ◌+◌, ◌-◌, ◌<◌, ◌≤◌, zero, suc, List, [], ◌∷◌, Bool, true, false, get_or, drop, refl, ◌∙◌, ap, arith}
+use Rattle.std.proofs.lemmas.List.{get_or-drop}
+use Rattle.std.proofs.lemmas.Bool.{ne_eqb}
+use Rattle.std.specs.Prelude.{◌==◌, ◌||◌, Option}
+use Rattle.ddf_hidden_logs.specs.declared.mask.Mask.{Mask}
+use Rattle.ddf_hidden_logs.specs.Masks.{turns}
+use Rattle.ddf_hidden_logs.specs.Pieces.{begins_at, pieces_below, turns_at}
+
+begins_then : (z a b z' a' b' : Bool) → z ≡ false → a ≡ a' → b ≡ b' → (z || (a || b)) ≡ true → (z' || (a' || b')) ≡ true
+begins_then true a b z' a' b' later same same' begins = absurd cc
+begins_then false a b true a' b' later same same' begins = refl
+begins_then false a b false a' b' later same same' begins = rw (← same, ← same') begins
+
+-- a run of one sector
+pub pieces_one : (mask : Option Mask) (lba : ℕ) (sector : List ℕ) → pieces_below mask lba (sector ∷ []) 1 ≡ 1
+unfolding pieces_below
+pieces_one mask lba sector = refl
+
+module _ (mask : Option Mask) (lba : ℕ) (sectors : List (List ℕ)) where
+  -- a sector of what is left of a run
+  rest_turns : (done k : ℕ) → turns_at mask (lba + done) (drop done sectors) k ≡ turns_at mask lba sectors (done + k)
+  rest_turns done k =
+      let at : lba + done + k ≡ lba + (done + k) = omega arith in
+      ap (λ (l : ℕ). turns mask l (get_or (drop done sectors) k [])) at ∙ ap (turns mask (lba + (done + k))) (get_or-drop done sectors k [])
+
+  -- where a piece begins there, it begins in the run
+  pub rest_begins : (done n : ℕ) → 0 < n → begins_at mask (lba + done) (drop done sectors) n ≡ true → begins_at mask lba sectors (done + n) ≡ true
+  rest_begins done n some begins =
+      let here = rest_turns done n in
+      let one : done + (n - 1) ≡ done + n - 1 = omega (arith, some) in
+      let before : turns_at mask (lba + done) (drop done sectors) (n - 1) ≡ turns_at mask lba sectors (done + n - 1) = rest_turns done (n - 1) ∙ ap (turns_at mask lba sectors) one in
+      let later : (n == 0) ≡ false = ne_eqb n 0 (λ e. omega (arith, e, some)) in
+      begins_then (n == 0) _ _ (done + n == 0) _ _ later here before begins
+
+  pub pieces_up : (n m : ℕ) → pieces_below mask lba sectors n ≤ pieces_below mask lba sectors (n + m)
+  unfolding pieces_below
+  pieces_up n zero = let same : n + zero ≡ n = omega arith in rw same (omega arith)
+  pieces_up n (suc m) =
+      let next : n + suc m ≡ suc (n + m) = omega arith in
+      let so_far = pieces_up n m in
+      rw next (omega (arith, so_far))
+
+  -- a piece more
+  pub pieces_more : (n m : ℕ) → 0 < m → begins_at mask lba sectors n ≡ true → pieces_below mask lba sectors n + 1 ≤ pieces_below mask lba sectors (n + m)
+  unfolding pieces_below
+  pieces_more n m some begins =
+      let one : pieces_below mask lba sectors (suc n) ≡ pieces_below mask lba sectors n + 1 = rw begins refl in
+      let at : suc n + (m - 1) ≡ n + m = omega (arith, some) in
+      let up : pieces_below mask lba sectors (suc n) ≤ pieces_below mask lba sectors (n + m) = rw at at (pieces_up (suc n) (m - 1)) in
+      omega (arith, one, up)

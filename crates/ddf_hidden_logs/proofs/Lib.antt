@@ -1,0 +1,16 @@
+mod Views
+mod Cuts
+mod Looking
+mod Anchored
+mod Again
+mod Recounted
+mod Sound
+mod Located
+mod Logged
+mod Whole
+mod Shows
+mod SealedAlike
+mod Other
+mod Newest
+mod Counts
+mod Seen

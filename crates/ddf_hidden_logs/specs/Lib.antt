@@ -1,0 +1,9 @@
+pub mod Masks
+pub mod State
+pub mod HiddenBays
+pub mod Pieces
+pub mod TurnLaws
+pub mod Recounts
+pub mod Shown
+pub mod Looks
+pub mod WasShown

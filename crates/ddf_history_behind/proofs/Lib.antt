@@ -1,0 +1,9 @@
+pub mod Counts
+pub mod Near
+pub mod Losing
+pub mod Steps
+pub mod Recovering
+pub mod Course
+pub mod Stale
+pub mod Joining
+pub mod Importing
