@@ -2,18 +2,18 @@
 //! docs/ARCHITECTURE.md#one-command-from-its-words-to-the-sectors
 #![tactic(auto)]
 
-ghost use Rattle.std.specs.Prelude.{◌≤◌};
+ghost use Rattle.std.specs.Prelude.{◌≤◌, length};
 
 use ddf_arrays_left::{Fault, name_filling, name_marked, tell_cut, tell_faulted};
 use ddf_asking::{Person, Risks, consents, name_lines, name_risks, tell_end};
 use ddf_batch::serve;
 use ddf_bay::{Bay, FileBay};
-use ddf_bytes::{NoMemory, StdSink, StdSource};
+use ddf_bytes::{NoMemory, Stamp, StdSink, StdSource};
 use ddf_command::{Asked, Command, Wish, refuse_words, slot_paths};
 use ddf_contents::{name_early, name_odd};
 use ddf_edge::{
-    CountingSink, Failure, Given, LastCall, Meter, NO_MEMORY, NotingSource, Patient, STREAM_FAULT,
-    USAGE, answer, any_locked, care_of_environment, care_word, command_word, explain,
+    CountingSink, Failure, Given, LastCall, Length, Meter, NO_MEMORY, NotingSource, Patient,
+    STREAM_FAULT, USAGE, answer, any_locked, care_of_environment, care_word, command_word, explain,
     first_unopened, hold_streams, keep_freed, lines_of_input, name_failed, name_no_texts,
     name_rest, number_sizes, number_slots, open_disks, reason_of, same_disk, stamp_for,
 };
@@ -74,6 +74,10 @@ struct Ending {
     fault: Option<u16>,
     /// The last call of it on a disk.
     last: LastCall,
+    /// Why it was refused, where it was.
+    refused: Option<Refused>,
+    /// How many bytes of its output were taken.
+    taken: u64,
 }
 
 /// When a batch loses what was named.
@@ -167,38 +171,10 @@ fn complete_words<R>(rt: &R, words: &mut Vec<String>) -> Result<(), Failure>
 where
     R: Files<File = File> + Clock + Eprint + AllocGlobal + Clone + Drop,
 {
-    let files = open_disks(rt, slot_paths(words), &Command::Show)?;
-    check_opened(&files, &Command::Show)?;
-    let files = seen_for(rt, files, &Command::Show)?;
-    let mut bay = Turned::new(files, made_for_linux(&Command::Show));
+    let disks = disks_for(rt, slot_paths(words), &Command::Show)?;
+    let mut bay = Turned::new(disks, made_for_linux(&Command::Show));
     complete(rt, &mut bay, words)?;
     Ok(())
-}
-
-/// The disks as a command sees them: as far as their records reach, and for `label`, which makes disks of the standard, to their ends. A disk of which it
-/// couldn't be read where they end fails each call, as one whose anchor can't be read does: it might else look blank, and its group go on without it.
-// argued: that `label` sees each disk to its end, and no other command does, and that a disk fails where the look at its end did, for all bays are made of
-// what this function answers.
-fn seen_for<R: Files + AllocGlobal>(
-    rt: &R,
-    files: FileBay<Heard<R>>,
-    command: &Command,
-) -> Result<Fenced<Shortened<FileBay<Heard<R>>>>, NoMemory> {
-    let bay = match command {
-        Command::Label { .. } => Shortened::whole(files),
-        _ => Shortened::new(files),
-    };
-    let unread = unread_slots(rt, bay.ends(), bay.slots())?;
-    Ok(Fenced::new(bay, unread))
-}
-
-/// Marks those of the first slots of which the look failed.
-fn unread_slots<R: AllocGlobal>(rt: &R, ends: Ends, slots: usize) -> Result<Vec<bool>, NoMemory> {
-    let mut unread = Vec::new(rt.alloc());
-    for slot in 0..slots {
-        unread.push(ends.is_unread(slot))?;
-    }
-    Ok(unread)
 }
 
 /// Exercises the program's commands on disks in memory. No image is touched.
@@ -273,14 +249,12 @@ where
     }
     let makes_names = kind == Kind::Batch || asked.command.traits().makes_names;
     let stamp = stamp_for(rt, makes_names).map_err(Failure::Chance)?;
-    let files = open_disks(rt, paths, &asked.command)?;
-    check_opened(&files, &asked.command)?;
-    let files = seen_for(rt, files, &asked.command)?;
-    let ends = files.inner().ends();
+    let disks = disks_for(rt, paths, &asked.command)?;
+    let ends = disks.inner().ends();
 
     // argued: that the program makes the bay for `label linux`, and for nothing else, for this line alone makes the bay that a command gets, by the
     // command itself.
-    let mut bay = Turned::new(files, made_for_linux(&asked.command));
+    let mut bay = Turned::new(disks, made_for_linux(&asked.command));
     let risks = name_before(rt, &mut bay, ends, paths, asked, kind, person)?;
     let given = input_of(rt, kind, person)?;
     let length = if person.sees {
@@ -289,8 +263,29 @@ where
         None
     };
 
+    serve_disks(
+        rt, words, asked, kind, person, risks, bay, given, length, stamp,
+    )
+}
+
+/// Hands the disks to the command, and says what it left.
+fn serve_disks<R>(
+    rt: &R,
+    words: &[String],
+    asked: &Asked,
+    kind: Kind,
+    person: Person,
+    risks: Risks,
+    bay: Turned<Fenced<Shortened<FileBay<Heard<R>>>>>,
+    given: Given<R::Reader>,
+    length: Option<Length>,
+    stamp: Stamp,
+) -> Result<u8, Failure>
+where
+    R: Files<File = File> + Clock + Input + Print + Eprint + AllocGlobal + Clone + Drop,
+{
     // A look keeps the slots, and no clause of it says so.
-    if bay.slots() != paths.len() {
+    if bay.slots() != slot_paths(words).len() {
         return Err(Failure::Declined);
     }
     let lines = lines_in(rt, &given)?;
@@ -300,26 +295,71 @@ where
     let ear = Ear::new(rt, command_word(words), text_of(&lines));
     let mut sink = HearingSink::new(output, ear);
     let status = serve(rt.alloc(), words, &mut bay, &mut source, &mut sink, stamp);
-    let (mut bay, meter) = bay.into_parts();
+    let (bay, meter) = bay.into_parts();
     meter.end();
     let ending = Ending {
         status,
         fault: sink.fault(),
         last: meter.last(),
+        refused: sink.refused(),
+        taken: sink.sink().taken(),
     };
-    if kind == Kind::Command {
-        name_refused(rt, &mut bay, paths, asked, sink.refused())?;
+    tell_served(
+        rt,
+        slot_paths(words),
+        asked,
+        kind,
+        person,
+        risks,
+        bay,
+        ending,
+    )?;
+    if status == STREAM_FAULT && source.failed() {
+        return Err(kind.input_failure());
     }
-    tell_end(rt, &asked.command, paths, status, sink.sink().taken())?;
+    answered(status, asked.command.traits().may_write)
+}
+
+/// Says on standard error what a command came to, and what it left.
+fn tell_served<R>(
+    rt: &R,
+    paths: &[String],
+    asked: &Asked,
+    kind: Kind,
+    person: Person,
+    risks: Risks,
+    bay: Turned<Fenced<Shortened<FileBay<Heard<R>>>>>,
+    ending: Ending,
+) -> Result<(), Failure>
+where
+    R: Files<File = File> + Eprint + AllocGlobal + Clone + Drop,
+{
+    let mut bay = bay;
+    if kind == Kind::Command {
+        name_refused(rt, &mut bay, paths, asked, ending.refused)?;
+    }
+    tell_end(rt, &asked.command, paths, ending.status, ending.taken)?;
     name_after(rt, &mut bay, paths, asked, ending, risks);
     if person.sees && matches!(asked.command, Command::Show) {
         name_sizes(rt, &mut bay, paths, asked.group)?;
     }
     name_failed(rt, &bay.into_inner().into_inner().into_inner(), paths);
-    if status == STREAM_FAULT && source.failed() {
-        return Err(kind.input_failure());
-    }
-    answered(status, asked.command.traits().may_write)
+    Ok(())
+}
+
+/// Opens the disks, and sees them as the command does.
+fn disks_for<R>(
+    rt: &R,
+    paths: &[String],
+    command: &Command,
+) -> Result<Fenced<Shortened<FileBay<Heard<R>>>>, Failure>
+where
+    R: Files<File = File> + Clock + Eprint + AllocGlobal + Clone + Drop,
+    requires { length paths.now ≤ 64 }
+{
+    let files = open_disks(rt, paths, command)?;
+    check_opened(&files, command)?;
+    Ok(seen_for(rt, files, command)?)
 }
 
 /// Whether a command may go on with the disks that could be opened.
@@ -332,6 +372,32 @@ fn check_opened<R: Files>(files: &FileBay<Heard<R>>, command: &Command) -> Resul
         return Err(Failure::Locked);
     }
     Ok(())
+}
+
+/// The disks as a command sees them: as far as their records reach, and for `label`, which makes disks of the standard, to their ends. A disk of which it
+/// couldn't be read where they end fails each call, as one whose anchor can't be read does: it would else look blank, though it may be one of the group's.
+// argued: that `label` sees each disk to its end, and no other command does, and that a disk fails where the look at its end did, for all bays are made of
+// what this function answers.
+fn seen_for<R: Files + AllocGlobal>(
+    rt: &R,
+    files: FileBay<Heard<R>>,
+    command: &Command,
+) -> Result<Fenced<Shortened<FileBay<Heard<R>>>>, NoMemory> {
+    let bay = match command {
+        Command::Label { .. } => Shortened::whole(files),
+        _ => Shortened::new(files),
+    };
+    let unread = unread_slots(rt, bay.ends(), bay.slots())?;
+    Ok(Fenced::new(bay, unread))
+}
+
+/// Marks those of the first slots of which the look failed.
+fn unread_slots<R: AllocGlobal>(rt: &R, ends: Ends, slots: usize) -> Result<Vec<bool>, NoMemory> {
+    let mut unread = Vec::new(rt.alloc());
+    for slot in 0..slots {
+        unread.push(ends.is_unread(slot))?;
+    }
+    Ok(unread)
 }
 
 /// Names what a command would lose or write over, and disks of controllers that it may write to, and asks. Names too what is odd about disks that are looked at.
