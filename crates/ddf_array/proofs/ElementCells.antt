@@ -48,3 +48,27 @@ module _ (part : Part) (block member sector : ℕ) (at : slice_get (cells part.s
   copies_on_one known is =
       ap (λ l. map copy (filter_map (λ (cell : ℕ × ℕ). site_at part.places cell.0 cell.1) l)) (cells_one known is)
       ∙ filter_map-copies part.places sector (member ∷ []) ∙ append-nil (copies_on part.places sector member)
+
+-- ---- of two cells
+
+module _ (part : Part) (block : ℕ) (low high : ℕ × ℕ) (are : element_cells part.shape block ≡ low ∷ high ∷ []) where
+  either : (one other : Option Site) → cons_option one (cons_option other []) ≡ option_to_list one ++ option_to_list other
+  either None None = refl
+  either None (Some site) = refl
+  either (Some site) None = refl
+  either (Some site) (Some next) = refl
+
+  sources : (one other : Option Site) → map copy (cons_option one (cons_option other [])) ≡ map copy (option_to_list one) ++ map copy (option_to_list other)
+  sources None None = refl
+  sources None (Some site) = refl
+  sources (Some site) None = refl
+  sources (Some site) (Some next) = refl
+
+  pub element_copies_two : element_copies part block ≡ option_to_list (site_at part.places low.0 low.1) ++ option_to_list (site_at part.places high.0 high.1)
+  element_copies_two =
+      ap (filter_map (λ (cell : ℕ × ℕ). site_at part.places cell.0 cell.1)) are ∙ either (site_at part.places low.0 low.1) (site_at part.places high.0 high.1)
+
+  pub copies_on_two : map copy (element_copies part block) ≡ copies_on part.places low.1 low.0 ++ copies_on part.places high.1 high.0
+  copies_on_two =
+      ap (λ l. map copy (filter_map (λ (cell : ℕ × ℕ). site_at part.places cell.0 cell.1) l)) are
+      ∙ sources (site_at part.places low.0 low.1) (site_at part.places high.0 high.1)

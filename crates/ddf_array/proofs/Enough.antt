@@ -4,6 +4,7 @@ use Rattle.std.specs.Prelude.{option_to_list, filter_map, is_some, count_by, if�
 use Rattle.std.specs.List.{range_with_len, flat_map, list_any, list_all, cons_option}
 use Rattle.std.proofs.lemmas.Option.{slice_get_within, slice_get_cases, slice_get-get_or}
 use Rattle.std.proofs.lemmas.Bool.{leb-true}
+use Rattle.std.proofs.lemmas.List.{length-map}
 use Rattle.std.proofs.lemmas.List.Sums.{sum_by-cons}
 use Rattle.ddf_array.specs.declared.place.Place.{Place}
 use Rattle.ddf_array.specs.declared.part.Part.{Part}
@@ -12,10 +13,13 @@ use Rattle.ddf_array.specs.Places.{is_available, site, site_at, site_on}
 use Rattle.ddf_array.specs.Sources.{Source, copy, row, all_of, row_without, other_at, element_copies, element_rows, at_element, copies, rows, every_source}
 use Rattle.ddf_array.specs.Levels.{keeps_copies, keeps_parity}
 use Rattle.ddf_primary.specs.declared.need.Need.{Need}
-use Rattle.ddf_primary.specs.declared.need.Need.TheVariants.{All, One, AllButOne}
+use Rattle.ddf_primary.specs.declared.need.Need.TheVariants.{All, One, AllButOne, Neighbours}
 use Rattle.ddf_primary.specs.Cells.{cells}
 use Rattle.ddf_primary.specs.Needs.{need_by}
-use Rattle.ddf_primary.proofs.Needs.{needs_all, needs_all_but_one, needs_one, parity_alone}
+use Rattle.ddf_primary.proofs.Needs.{needs_all, needs_all_but_one, needs_neighbours, needs_one, parity_alone}
+use Rattle.ddf_primary.specs.Copies.{IsHeldBy}
+use Rattle.ddf_primary.proofs.Copies.{copy_at, holds_on}
+use Rattle.ddf_primary.proofs.Enough.{is_enough}
 use Rattle.ddf_primary.proofs.ShapeFacts.{cell_facts}
 use Rattle.ddf_secondary.specs.declared.spot.Spot.{Spot}
 use Rattle.ddf_secondary.specs.Spots.{spots}
@@ -219,6 +223,36 @@ module _ (part : Part) (known : IsPart part) (block : ℕ) (below : block < leng
       apart : (a b : ℕ) → (a == b) ≡ false → a ≢ b
       apart a b e same = let yes = eq-eqb a b same in true_not_false (sym yes ∙ e)
 
+  -- by a position that holds it
+  copy_some : (found : List (ℕ × ℕ)) (k member sector : ℕ) → slice_get found k ≡ Some (member, sector) → 0 < length (copies_on part.places sector member)
+      → 0 < length (map copy (filter_map (λ (cell : ℕ × ℕ). site_at part.places cell.0 cell.1) found))
+  copy_some [] k member sector at some = absurd (cc)
+  copy_some (cell ∷ found) zero member sector at some =
+      let same : cell ≡ (member, sector) = cc in
+      first_some (site_at part.places cell.0 cell.1) _ (subst (λ (c : ℕ × ℕ). 0 < length (copies_on part.places c.1 c.0)) (sym same) some)
+    where
+      first_some : (o : Option Site) (others : List Site) → 0 < length (map copy (option_to_list o)) → 0 < length (map copy (cons_option o others))
+      first_some None others none = absurd (omega (arith, none))
+      first_some (Some site) others some = omega arith
+  copy_some (cell ∷ found) (suc k) member sector at some = behind (site_at part.places cell.0 cell.1) _ (copy_some found k member sector at some)
+    where
+      behind : (o : Option Site) (others : List Site) → 0 < length (map copy others) → 0 < length (map copy (cons_option o others))
+      behind None others some = some
+      behind (Some site) others some = omega arith
+
+  from_held : IsHeldBy part.shape (map is_available part.places) block → 0 < length element_sources
+  from_held held =
+      let found = there_is part.places held.member held.is_there in
+      let facts = cell_facts part.shape known.shape_is in
+      let on = holds_on part.shape known.shape_is held.member held.sector block held.holds in
+      let cell = copy_at part.shape block held.member held.sector (facts.member_within held.member held.sector block held.holds) on in
+      some_left (copy_some (element_cells part.shape block) cell.0 held.member held.sector cell.1 (copy_there part.places held.member held.sector found.0 found.1.0 found.1.1))
+    where
+      there_is : (places : List Place) (n : ℕ) → get_or (map is_available places) n false ≡ true → (place : Place) × ((slice_get places n ≡ Some place) × (is_available place ≡ true))
+      there_is [] n e = absurd (cc)
+      there_is (place ∷ places) zero e = (place, (refl, e))
+      there_is (place ∷ places) (suc n) e = there_is places n e
+
   enough_by : (need : Need) → need_by part.shape.layout ≡ need → has_enough need is_available part.places ≡ true → 0 < length element_sources
   enough_by All is e =
       let at = the_cell in
@@ -231,6 +265,10 @@ module _ (part : Part) (known : IsPart part) (block : ℕ) (below : block < leng
   enough_by AllButOne is e =
       let keeps = needs_all_but_one part.shape.layout is in
       parity_by (is_available (the_cell).place) refl keeps (parity_alone part.shape.layout keeps) (leb-true (count_by (λ (place : Place). not (is_available place)) part.places) 1 e)
+  enough_by (Neighbours spread) is e =
+      let layout = needs_neighbours part.shape.layout spread is in
+      let long : length (map is_available part.places) ≡ part.shape.members = length-map part.places is_available ∙ known.has_places in
+      from_held ((is_enough part.shape spread layout known.shape_is (map is_available part.places) long).0 e block below)
 
   pub element_enough : is_part_within part ≡ true → 0 < length element_sources
   element_enough e = enough_by (need_by part.shape.layout) refl e

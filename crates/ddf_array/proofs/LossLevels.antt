@@ -1,13 +1,14 @@
 -- An array that is within its level after a loss was so before.
-use Rattle.std.proofs.Common.{◌≡◌, ◌∙◌, ⊎_elim, ℕ, ◌+◌, ◌≤◌, Bool, true, false, not, List, [], ◌∷◌, Option, Some, None, refl, sym, ap, arith, length, ◌&&◌, ◌||◌}
+use Rattle.std.proofs.Common.{◌≡◌, ◌∙◌, ⊎_elim, ℕ, zero, suc, ◌+◌, ◌≤◌, Bool, true, false, not, List, [], ◌∷◌, Option, Some, None, refl, sym, ap, arith, map, length, get_or, ◌&&◌, ◌||◌}
 use Rattle.std.specs.Prelude.{nat_le, is_some, count_by, if◌then◌else◌}
 use Rattle.std.specs.List.{list_any, list_all}
 use Rattle.std.proofs.lemmas.Bool.{leb-true, le-leb}
 use Rattle.std.proofs.lemmas.List.Sums.{sum_by-cons}
 use Rattle.ddf_primary.specs.declared.need.Need.{Need}
-use Rattle.ddf_primary.specs.declared.need.Need.TheVariants.{All, One, AllButOne}
+use Rattle.ddf_primary.specs.declared.need.Need.TheVariants.{All, One, AllButOne, Neighbours}
 use Rattle.ddf_primary.specs.Placement.{Placement}
 use Rattle.ddf_primary.specs.Needs.{need_by}
+use Rattle.ddf_primary.proofs.Enough.{enough_more}
 use Rattle.ddf_secondary.specs.Arrangement.{Arrangement}
 use Rattle.ddf_config.specs.Within.{has_enough}
 use Rattle.ddf_array.specs.declared.place.Place.{Place}
@@ -76,12 +77,27 @@ fewer_away (before ∷ befores) (after ∷ afters) lost =
     let one : weight before ≤ weight after = one_away (is_available before) (is_available after) (available_keeps before after lost.0) in
     omega (arith, old, new, one, fewer_away befores afters lost.1)
 
+lost_count : (befores afters : List Place) → AreLostPlaces befores afters → length (map is_available afters) ≡ length (map is_available befores)
+lost_count [] [] lost = refl
+lost_count [] (after ∷ afters) lost = absurd lost
+lost_count (before ∷ befores) [] lost = absurd lost
+lost_count (before ∷ befores) (after ∷ afters) lost = ap suc (lost_count befores afters lost.1)
+
+lost_there : (befores afters : List Place) → AreLostPlaces befores afters → (n : ℕ) → get_or (map is_available afters) n false ≡ true → get_or (map is_available befores) n false ≡ true
+lost_there [] [] lost n e = e
+lost_there [] (after ∷ afters) lost n e = absurd lost
+lost_there (before ∷ befores) [] lost n e = absurd lost
+lost_there (before ∷ befores) (after ∷ afters) lost zero e = available_keeps before after lost.0 e
+lost_there (before ∷ befores) (after ∷ afters) lost (suc n) e = lost_there befores afters lost.1 n e
+
 enough_by : (need : Need) (befores afters : List Place) → AreLostPlaces befores afters → has_enough need is_available afters ≡ true → has_enough need is_available befores ≡ true
 enough_by All befores afters lost e = all_keeps befores afters lost e
 enough_by One befores afters lost e = any_keeps befores afters lost e
 enough_by AllButOne befores afters lost e =
     let few = leb-true (away afters) 1 e in
     le-leb (away befores) 1 (omega (arith, few, fewer_away befores afters lost))
+enough_by (Neighbours spread) befores afters lost e =
+    enough_more spread (map is_available afters) (map is_available befores) (lost_count befores afters lost) (lost_there befores afters lost) e
 
 -- ---- elements
 

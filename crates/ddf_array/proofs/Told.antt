@@ -8,9 +8,9 @@ use Rattle.std.proofs.lemmas.Bool.{ltb-false, le-leb, eqb-true, leb-true}
 use Rattle.std.proofs.lemmas.List.Folds.{list_any-append}
 use Rattle.std.proofs.lemmas.List.Sums.{sum_by-cons}
 use Rattle.ddf_primary.specs.declared.need.Need.{Need}
-use Rattle.ddf_primary.specs.declared.need.Need.TheVariants.{All, One, AllButOne}
+use Rattle.ddf_primary.specs.declared.need.Need.TheVariants.{All, One, AllButOne, Neighbours}
 use Rattle.ddf_primary.specs.Placement.{Placement}
-use Rattle.ddf_primary.specs.Needs.{need_of}
+use Rattle.ddf_primary.specs.Needs.{need_of, one_of_each}
 use Rattle.ddf_primary.proofs.Served.{IsAsCoded, served}
 use Rattle.ddf_secondary.specs.declared.element.ElementSize.{ElementSize}
 use Rattle.ddf_secondary.specs.declared.level.SecondaryLevel.{SecondaryLevel}
@@ -58,11 +58,16 @@ count_map p (x ∷ xs) =
     sum_by-cons (λ y. if not (p y) then 1 else 0) x xs ∙ ap (λ (n : ℕ). (if not (p x) then 1 else 0) + n) (count_map p xs)
     ∙ sym (sum_by-cons (λ b. if not b then 1 else 0) (p x) (map p xs))
 
+map_same : (bs : List Bool) → map (λ b. b) bs ≡ bs
+map_same [] = refl
+map_same (b ∷ bs) = ap (λ l. b ∷ l) (map_same bs)
+
 -- what an element needs asks only which positions are available
 pub enough_map : {X : Type 0} (need : Need) (p : X → Bool) (xs : List X) → has_enough need p xs ≡ has_enough need (λ b. b) (map p xs)
 enough_map All p xs = all_map p xs
 enough_map One p xs = any_map p xs
 enough_map AllButOne p xs = ap (λ n. nat_le n 1) (count_map p xs)
+enough_map (Neighbours spread) p xs = ap (one_of_each spread) (sym (map_same (map p xs)))
 
 -- ---- the level of an element
 

@@ -1,6 +1,6 @@
 //! The first available cell of a block: the one copy that all reads begin with, so that two reads of copies that differ give the same bytes.
 //! docs/STOPS.md#the-blocks-of-arrays
-ghost use Rattle.std.specs.Prelude.{◌≡◌, ◌<◌, ℕ, length, slice_get, option_to_list};
+ghost use Rattle.std.specs.Prelude.{◌≡◌, ◌<◌, ◌++◌, ℕ, length, slice_get, option_to_list};
 ghost use Rattle.std.specs.List.{flat_map, range_with_len};
 ghost use Rattle.ddf_primary.specs.Cells.{cells};
 ghost use Rattle.ddf_array.specs.Places.{site_at};
@@ -8,6 +8,7 @@ ghost use Rattle.ddf_array.specs.Sources.{element_copies, at_element, first_copy
 ghost use Rattle.ddf_array.specs.Volume.{IsPart, HasBlock, capacity};
 
 use crate::{Part, Site, View};
+use ddf_primary::Cell;
 
 /// The sector of the first position that is available.
 fn first_position(part: &Part, sector: u64) -> Option<Site>
@@ -24,6 +25,20 @@ fn first_position(part: &Part, sector: u64) -> Option<Site>
     None
 }
 
+/// The first of two cells that is available.
+fn first_of_two(part: &Part, low: Cell, high: Cell) -> Option<Site>
+    requires part { IsPart part.now }
+    requires low { low.sector < part.now.shape.blocks }
+    requires high { high.sector < part.now.shape.blocks }
+    ensures { result ≡ slice_get (option_to_list (site_at part.now.places low.member low.sector) ++ option_to_list (site_at part.now.places high.member high.sector)) 0 }
+{
+    let site = part.site_at(usize::from(low.member), low.sector);
+    if site.is_some() {
+        return site;
+    }
+    part.site_at(usize::from(high.member), high.sector)
+}
+
 /// The first available cell of a block of an element.
 fn first_in(part: &Part, block: u64) -> Option<Site>
     requires part { IsPart part.now }
@@ -34,7 +49,10 @@ fn first_in(part: &Part, block: u64) -> Option<Site>
     if part.shape.layout().is_on_every() {
         return first_position(part, cell.sector);
     }
-    part.site_at(usize::from(cell.member), cell.sector)
+    match part.shape.twins(block) {
+        Some(twins) => first_of_two(part, twins.low, twins.high),
+        None => part.site_at(usize::from(cell.member), cell.sector),
+    }
 }
 
 fn first_at(view: &View, element: usize, block: u64) -> Option<Site>

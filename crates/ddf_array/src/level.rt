@@ -1,13 +1,14 @@
 //! Which disks an array can do without. Taken for more than it is, an array would be changed or written of which blocks are gone.
 //! docs/GROUPS.md#arrays
-ghost use Rattle.std.specs.Prelude.{◌≡◌};
-ghost use Rattle.std.specs.List.{list_any, list_all};
+ghost use Rattle.std.specs.Prelude.{◌≡◌, ◌<◌, false, length, map, get_or};
+ghost use Rattle.ddf_primary.specs.Needs.{one_of_two};
+ghost use Rattle.std.specs.List.{list_any, list_all, range_with_len};
 ghost use Rattle.ddf_config.specs.Within.{lacks_one, has_enough};
 ghost use Rattle.ddf_array.specs.Places.{is_available};
 ghost use Rattle.ddf_array.specs.Within.{is_part_within, is_mirrored, is_within, is_redundant, keeps_more};
 
 use crate::{Part, Place, View};
-use ddf_primary::Need;
+use ddf_primary::{Need, Spread, begins_pairs};
 
 fn has_available(places: &[Place]) -> bool
     ensures { result ≡ list_any is_available places.now }
@@ -29,6 +30,32 @@ fn lacks_one(places: &[Place]) -> bool
     away <= 1
 }
 
+/// Whether there is a place of a number, and it is available.
+fn is_there(places: &[Place], number: usize) -> bool
+    ensures { result ≡ get_or (map is_available places.now) number false }
+{
+    match places.get(number) {
+        Some(place) => place.is_available(),
+        None => false,
+    }
+}
+
+/// Whether of a place of RAID 1E and the one behind it one is available, if they hold the same blocks.
+fn one_of_two(spread: Spread, places: &[Place], number: usize) -> bool
+    requires { number < length places.now }
+    ensures { result ≡ one_of_two spread (map is_available places.now) number }
+{
+    !begins_pairs(spread, places.len(), number)
+        || is_there(places, number)
+        || is_there(places, (number + 1) % places.len())
+}
+
+fn one_of_each(spread: Spread, places: &[Place]) -> bool
+    ensures { result ≡ list_all (one_of_two spread (map is_available places.now)) (range_with_len 0 (length places.now)) }
+{
+    (0..places.len()).all(|number| one_of_two(spread, places, number))
+}
+
 /// Whether enough places are available for what an element needs.
 fn has_enough(need: Need, places: &[Place]) -> bool
     ensures { result ≡ has_enough need is_available places.now }
@@ -37,6 +64,7 @@ fn has_enough(need: Need, places: &[Place]) -> bool
         Need::All => all_available(places),
         Need::One => has_available(places),
         Need::AllButOne => lacks_one(places),
+        Need::Neighbours(spread) => one_of_each(spread, places),
     }
 }
 
@@ -80,7 +108,8 @@ impl View {
     }
 
     /// Whether the array is within its level: each element is, or where they are mirrored one of them. An element
-    /// is where all positions are available, for RAID 1 one, and for RAID 4 and 5 all but at most one (profile).
+    /// is where all positions are available, for RAID 1 one, for RAID 4 and 5 all but at most one, and for RAID 1E one
+    /// of each two that hold the same blocks (profile).
     pub fn within(&self) -> bool
         ensures { result ≡ is_within self.now }
     {
@@ -91,7 +120,7 @@ impl View {
         }
     }
 
-    /// Whether the array keeps what it holds in more than one place: an element is RAID 1, 4 or 5, or two or more
+    /// Whether the array keeps what it holds in more than one place: an element is RAID 1, 1E, 4 or 5, or two or more
     /// are mirrored (SNIA DDF 2.0).
     pub fn redundant(&self) -> bool
         ensures { result ≡ is_redundant self.now }

@@ -1,10 +1,10 @@
 -- Which disks an array can do without. Which positions are available is a parameter of the definitions:
 -- the configuration alone answers it by its members, and whoever knows the disks by these.
-use Rattle.std.specs.Prelude.{ℕ, Bool, false, not, ◌&&◌, ◌||◌, ◌==◌, List, Option, Some, None, length, nat_le, count_by, is_some, if◌then◌else◌}
+use Rattle.std.specs.Prelude.{ℕ, Bool, false, not, ◌&&◌, ◌||◌, ◌==◌, List, map, Option, Some, None, length, nat_le, count_by, is_some, if◌then◌else◌}
 use Rattle.std.specs.List.{list_any, list_all}
 use Rattle.ddf_primary.specs.declared.need.Need.{Need}
-use Rattle.ddf_primary.specs.declared.need.Need.TheVariants.{All, One, AllButOne}
-use Rattle.ddf_primary.specs.Needs.{keeps_more_of, need_of}
+use Rattle.ddf_primary.specs.declared.need.Need.TheVariants.{All, One, AllButOne, Neighbours}
+use Rattle.ddf_primary.specs.Needs.{keeps_more_of, need_of, one_of_each}
 use Rattle.ddf_config.specs.declared.member.Member.{Member}
 use Rattle.ddf_config.specs.declared.element.Position.{Position}
 use Rattle.ddf_config.specs.declared.array.Array.{Array}
@@ -19,11 +19,13 @@ is_available members position = position.synced && is_current members position.r
 abbrev pub lacks_one : {X : Type 0} → (X → Bool) → List X → Bool
 lacks_one available places = nat_le (count_by (λ place. not (available place)) places) 1
 
--- that enough places of an element are available for what it needs: all, one, or all but at most one
+-- that enough places of an element are available for what it needs: all, one, all but at most one, or one of each two
+-- that hold the same blocks
 abbrev pub has_enough : {X : Type 0} → Need → (X → Bool) → List X → Bool
 has_enough All available places = list_all available places
 has_enough One available places = list_any available places
 has_enough AllButOne available places = lacks_one available places
+has_enough (Neighbours spread) available places = one_of_each spread (map available places)
 
 -- an element that no disk tells of is beyond its level
 abbrev pub is_part_within : (Position → Bool) → Option ElementValue → Bool

@@ -1,11 +1,12 @@
 //! Which disks an array can do without, as far as the configuration alone tells. docs/GROUPS.md#arrays
-ghost use Rattle.std.specs.Prelude.{◌≡◌};
-ghost use Rattle.std.specs.List.{list_any, list_all};
+ghost use Rattle.std.specs.Prelude.{◌≡◌, ◌<◌, false, length, map, get_or};
+ghost use Rattle.std.specs.List.{list_any, list_all, range_with_len};
+ghost use Rattle.ddf_primary.specs.Needs.{one_of_two};
 ghost use Rattle.ddf_config.specs.Within.{is_available, lacks_one, has_enough, is_part_within, is_within};
 
 use crate::lookup::is_current;
 use crate::{Array, ElementPlan, Member, Position};
-use ddf_primary::Need;
+use ddf_primary::{Need, Spread, begins_pairs};
 use indexmap::IndexMap;
 
 /// Whether a position is in sync and its member current.
@@ -42,6 +43,37 @@ fn lacks_one(members: &IndexMap<u32, Member>, positions: &[Position]) -> bool
     away <= 1
 }
 
+/// Whether there is a position of a number, and it is available.
+fn is_there(members: &IndexMap<u32, Member>, positions: &[Position], number: usize) -> bool
+    ensures { result ≡ get_or (map (is_available members.now.entries) positions.now) number false }
+{
+    match positions.get(number) {
+        Some(position) => is_available(members, position),
+        None => false,
+    }
+}
+
+/// Whether of a position of RAID 1E and the one behind it one is available, if they hold the same blocks.
+fn one_of_two(
+    members: &IndexMap<u32, Member>,
+    spread: Spread,
+    positions: &[Position],
+    number: usize,
+) -> bool
+    requires { number < length positions.now }
+    ensures { result ≡ one_of_two spread (map (is_available members.now.entries) positions.now) number }
+{
+    !begins_pairs(spread, positions.len(), number)
+        || is_there(members, positions, number)
+        || is_there(members, positions, (number + 1) % positions.len())
+}
+
+fn one_of_each(members: &IndexMap<u32, Member>, spread: Spread, positions: &[Position]) -> bool
+    ensures { result ≡ list_all (one_of_two spread (map (is_available members.now.entries) positions.now)) (range_with_len 0 (length positions.now)) }
+{
+    (0..positions.len()).all(|number| one_of_two(members, spread, positions, number))
+}
+
 /// Whether enough positions are available for what an element needs.
 fn has_enough(members: &IndexMap<u32, Member>, need: Need, positions: &[Position]) -> bool
     ensures { result ≡ has_enough need (is_available members.now.entries) positions.now }
@@ -50,6 +82,7 @@ fn has_enough(members: &IndexMap<u32, Member>, need: Need, positions: &[Position
         Need::All => all_available(members, positions),
         Need::One => has_available(members, positions),
         Need::AllButOne => lacks_one(members, positions),
+        Need::Neighbours(spread) => one_of_each(members, spread, positions),
     }
 }
 

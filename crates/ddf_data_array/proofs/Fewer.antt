@@ -1,13 +1,14 @@
 -- What an array with fewer available places can be read from, it could be read from before.
-use Rattle.std.proofs.Common.{◌≡◌, ◌∙◌, ⊎_elim, ℕ, zero, suc, ◌+◌, ◌≤◌, Bool, true, false, not, List, [], ◌∷◌, Option, Some, None, refl, sym, ap, subst, arith, map, length, slice_get, ◌&&◌, ◌||◌}
+use Rattle.std.proofs.Common.{◌≡◌, ◌∙◌, ⊎_elim, ℕ, zero, suc, ◌+◌, ◌≤◌, Bool, true, false, not, List, [], ◌∷◌, Option, Some, None, refl, sym, ap, subst, arith, map, length, get_or, slice_get, ◌&&◌, ◌||◌}
 use Rattle.std.specs.Prelude.{nat_le, is_some, count_by, option_map, option_and_then, if◌then◌else◌}
 use Rattle.std.specs.List.{list_any, list_all}
 use Rattle.std.proofs.lemmas.Bool.{leb-true, le-leb}
 use Rattle.std.proofs.lemmas.List.Sums.{sum_by-cons}
 use Rattle.ddf_primary.specs.Placement.{Placement}
 use Rattle.ddf_primary.specs.declared.need.Need.{Need}
-use Rattle.ddf_primary.specs.declared.need.Need.TheVariants.{All, One, AllButOne}
+use Rattle.ddf_primary.specs.declared.need.Need.TheVariants.{All, One, AllButOne, Neighbours}
 use Rattle.ddf_primary.specs.Needs.{need_by}
+use Rattle.ddf_primary.proofs.Enough.{enough_more}
 use Rattle.ddf_secondary.specs.declared.spot.Spot.{Spot}
 use Rattle.ddf_secondary.specs.Arrangement.{Arrangement}
 use Rattle.ddf_secondary.specs.Spots.{spots}
@@ -216,12 +217,27 @@ sites_alike (before ∷ befores) [] are position sector = absurd are
 sites_alike (before ∷ befores) (after ∷ afters) are zero sector = site_as before after sector are.0
 sites_alike (before ∷ befores) (after ∷ afters) are (suc position) sector = sites_alike befores afters are.1 position sector
 
+fewer_count : (befores afters : List Place) → ArePlaces IsFewerPlace befores afters → length (map is_available afters) ≡ length (map is_available befores)
+fewer_count [] [] fewer = refl
+fewer_count [] (after ∷ afters) fewer = absurd fewer
+fewer_count (before ∷ befores) [] fewer = absurd fewer
+fewer_count (before ∷ befores) (after ∷ afters) fewer = ap suc (fewer_count befores afters fewer.1)
+
+fewer_there : (befores afters : List Place) → ArePlaces IsFewerPlace befores afters → (n : ℕ) → get_or (map is_available afters) n false ≡ true → get_or (map is_available befores) n false ≡ true
+fewer_there [] [] fewer n e = e
+fewer_there [] (after ∷ afters) fewer n e = absurd fewer
+fewer_there (before ∷ befores) [] fewer n e = absurd fewer
+fewer_there (before ∷ befores) (after ∷ afters) fewer zero e = available_keeps before after fewer.0 e
+fewer_there (before ∷ befores) (after ∷ afters) fewer (suc n) e = fewer_there befores afters fewer.1 n e
+
 enough_by : (need : Need) (befores afters : List Place) → ArePlaces IsFewerPlace befores afters → has_enough need is_available afters ≡ true → has_enough need is_available befores ≡ true
 enough_by All befores afters fewer e = all_keeps befores afters fewer e
 enough_by One befores afters fewer e = any_keeps befores afters fewer e
 enough_by AllButOne befores afters fewer e =
     let few = leb-true (away afters) 1 e in
     le-leb (away befores) 1 (omega (arith, few, fewer_away befores afters fewer))
+enough_by (Neighbours spread) befores afters fewer e =
+    enough_more spread (map is_available afters) (map is_available befores) (fewer_count befores afters fewer) (fewer_there befores afters fewer) e
 
 pub part_keeps : (before after : Part) → after.shape ≡ before.shape → ArePlaces IsFewerPlace before.places after.places → is_part_within after ≡ true → is_part_within before ≡ true
 part_keeps before after same fewer e =

@@ -9,10 +9,10 @@ use Rattle.std.proofs.lemmas.Option.{none-some}
 use Rattle.ddf_bay.specs.Sectors.{Image}
 use Rattle.ddf_parity.specs.Xor.{xor_all, zeros}
 use Rattle.ddf_primary.specs.declared.need.Need.{Need}
-use Rattle.ddf_primary.specs.declared.need.Need.TheVariants.{All, One, AllButOne}
+use Rattle.ddf_primary.specs.declared.need.Need.TheVariants.{All, One, AllButOne, Neighbours}
 use Rattle.ddf_primary.specs.Placement.{Placement}
 use Rattle.ddf_primary.specs.Levels.{IsShape}
-use Rattle.ddf_primary.specs.Needs.{need_by}
+use Rattle.ddf_primary.specs.Needs.{need_by, one_of_each}
 use Rattle.ddf_primary.specs.Cells.{depth_of}
 use Rattle.ddf_primary.proofs.ShapeFacts.{cell_facts}
 use Rattle.ddf_secondary.specs.declared.spot.Spot.{Spot}
@@ -147,6 +147,7 @@ module _ (image : Image) where
     enough_same All = each_same is_available part.places was.places alike.available
     enough_same One = any_same is_available part.places was.places alike.available
     enough_same AllButOne = ap (λ n. nat_le n 1) (count_same is_available part.places was.places alike.available)
+    enough_same (Neighbours spread) = ap (one_of_each spread) alike.available
 
     pub within_same : is_part_within part ≡ is_part_within was
     within_same = ap (λ (s : Placement). has_enough (need_by s.layout) is_available part.places) alike.shape_is ∙ enough_same (need_by was.shape.layout)

@@ -1,13 +1,14 @@
 -- The elements of an array and the parts that they are over seats.
-use Rattle.std.proofs.Common.{◌≡◌, ◌∙◌, ℕ, zero, suc, ◌+◌, ◌≤◌, Bool, true, false, not, List, [], ◌∷◌, Option, Some, None, refl, sym, ap, subst, arith, map, filter_map, length, slice_get, ◌&&◌, ◌||◌}
+use Rattle.std.proofs.Common.{◌≡◌, ◌∙◌, ℕ, zero, suc, ◌+◌, ◌≤◌, Bool, true, false, not, List, [], ◌∷◌, Option, Some, None, refl, sym, ap, subst, arith, map, filter_map, length, get_or, slice_get, ◌&&◌, ◌||◌}
 use Rattle.std.specs.Prelude.{is_none, is_some, nat_le, option_map, count_by, if◌then◌else◌}
 use Rattle.std.specs.List.{cons_option, list_all, list_any}
 use Rattle.std.proofs.lemmas.Bool.{leb-true, le-leb}
 use Rattle.std.proofs.lemmas.List.Sums.{sum_by-cons}
 use Rattle.ddf_primary.specs.Placement.{Placement}
 use Rattle.ddf_primary.specs.declared.need.Need.{Need}
-use Rattle.ddf_primary.specs.declared.need.Need.TheVariants.{All, One, AllButOne}
+use Rattle.ddf_primary.specs.declared.need.Need.TheVariants.{All, One, AllButOne, Neighbours}
 use Rattle.ddf_primary.specs.Needs.{need_of}
+use Rattle.ddf_primary.proofs.Enough.{enough_more}
 use Rattle.ddf_array.proofs.Told.{shape_coded}
 use Rattle.ddf_config.specs.declared.array.Array.{Array}
 use Rattle.ddf_config.specs.declared.element.Position.{Position}
@@ -141,12 +142,22 @@ module _ {X Y : Type 0} (f : X → Y) (p : Y → Bool) (q : X → Bool) where
       let new : count_by (λ y. not (p y)) (f x ∷ map f xs) ≡ (if not (p (f x)) then 1 else 0) + count_by (λ y. not (p y)) (map f xs) = sum_by-cons (λ y. if not (p y) then 1 else 0) (f x) (map f xs) in
       omega (arith, old, new, weight (p (f x)) (q x) (down 0 x refl), count_down xs (λ k y at. down (suc k) y at))
 
+  count_alike : (xs : List X) → length (map p (map f xs)) ≡ length (map q xs)
+  count_alike [] = refl
+  count_alike (x ∷ xs) = ap suc (count_alike xs)
+
+  there_up : ((x : X) → p (f x) ≡ true → q x ≡ true) → (xs : List X) (n : ℕ) → get_or (map p (map f xs)) n false ≡ true → get_or (map q xs) n false ≡ true
+  there_up up [] n e = e
+  there_up up (x ∷ xs) zero e = up x e
+  there_up up (x ∷ xs) (suc n) e = there_up up xs n e
+
   pub enough_up : ((x : X) → p (f x) ≡ true → q x ≡ true) → (need : Need) (xs : List X) → has_enough need p (map f xs) ≡ true → has_enough need q xs ≡ true
   enough_up up All xs e = all_up up xs e
   enough_up up One xs e = any_up up xs e
   enough_up up AllButOne xs e =
       let few = leb-true (count_by (λ y. not (p y)) (map f xs)) 1 e in
       le-leb (count_by (λ x. not (q x)) xs) 1 (omega (arith, few, count_up up xs))
+  enough_up up (Neighbours spread) xs e = enough_more spread (map p (map f xs)) (map q xs) (count_alike xs) (there_up up xs) e
 
 slot_there : (synced : Bool) (slot : Option ℕ) → (synced && is_some slot) ≡ true → (synced ≡ true) × ((s : ℕ) × (slot ≡ Some s))
 slot_there true (Some s) e = (refl, (s, refl))

@@ -36,7 +36,7 @@ is_shape : IsShape shape
 is_shape = record { members_fit = lit< tt; members_taken = refl; some_strip = lit≤ tt; small_strip = lit≤ tt; blocks_taken = refl }
 
 cells_are : length (cells shape) ≡ 8192
-cells_are = sym (capacity_is shape is_shape (λ e. absurd (cc)))
+cells_are = sym (capacity_is shape is_shape (λ e. absurd (cc)) refl)
 
 none : ElementSize
 none = record { capacity = 0; unit = 0; rows = 0 }

@@ -7,6 +7,9 @@ pub mod Striped
 pub mod CellFacts
 pub mod RowLayouts
 pub mod WholeLayouts
+pub mod MirrorLayouts
 pub mod ShapeFacts
 pub mod Copies
 pub mod StripCells
+pub mod Enough
+pub mod Vectors

@@ -65,7 +65,7 @@ module _ (shape : Placement) (is : shape.layout ≡ Raid0) where
             omega (arith, in_all shape.members (block / shape.strip % shape.members) member inverse.number_at, slice_get_within (range_with_len 0 shape.members) (block / shape.strip % shape.members) member inverse.number_at, length-range_with_len 0 shape.members);
         sector_within = λ member sector block holds. rw is (striped_within (every_member shape.members) shape.members (length-every_member shape.members) shape.strip (shape.blocks / shape.strip) block member sector (raid_0_read member sector block holds));
         no_parity = λ member sector block holds on. none-some member (rw is at on);
-        covered = λ member sector known near.
+        covered = λ member sector known near even.
             inr ((sector / shape.strip * shape.members + member) * shape.strip + sector % shape.strip, (raid_0_block member sector _ known near).0 refl);
       }
 
@@ -117,7 +117,7 @@ module _ (shape : Placement) (parity : ParityLayout) (is : shape.layout ≡ Pari
         sector_within = λ member sector block holds. rw is (striped_within (members_around parity shape.members) (shape.members - 1) length-around shape.strip (shape.blocks / shape.strip) block member sector (parity_read member sector block holds));
         no_parity = λ member sector block holds on.
             (placed_around member sector block holds).not_parity (sym (same_Some _ member (rw is at on)));
-        covered = λ member sector known near.
+        covered = λ member sector known near even.
             let row = sector / shape.strip in
             ⊎_elim (λ same. inl (rw is (ap Some (sym same))))
             (λ other.

@@ -1,8 +1,8 @@
 -- The cells of the blocks of one strip lie side by side.
-use Rattle.std.proofs.Common.{◌≡◌, ◌∙◌, ℕ, ◌+◌, ◌-◌, ◌*◌, ◌/◌, ◌%◌, ◌<◌, ◌≤◌, List, Option, Some, length, slice_get, get_or, refl, sym, ap, arith}
+use Rattle.std.proofs.Common.{◌≡◌, ◌∙◌, ℕ, ◌+◌, ◌-◌, ◌*◌, ◌/◌, ◌%◌, ◌<◌, ◌≤◌, List, Some, length, slice_get, get_or, refl, sym, ap, arith}
 use Rattle.std.proofs.lemmas.Option.{some_pair_parts, slice_get-get_or}
 use Rattle.ddf_primary.specs.declared.layout.Layout.{Layout}
-use Rattle.ddf_primary.specs.declared.layout.Layout.TheVariants.{Raid0, Raid1, Parity, Jbod, Concatenation}
+use Rattle.ddf_primary.specs.declared.layout.Layout.TheVariants.{Raid0, Raid1, Parity, Jbod, Concatenation, Mirror}
 use Rattle.ddf_primary.specs.declared.parity.ParityLayout.{ParityLayout}
 use Rattle.ddf_primary.specs.Placement.{Placement}
 use Rattle.ddf_primary.specs.Levels.{IsShape}
@@ -11,10 +11,8 @@ use Rattle.ddf_primary.proofs.Around.{length-data_around, parity_on_within}
 use Rattle.ddf_primary.proofs.Divide.{number_within, same_row, later_place}
 use Rattle.ddf_primary.proofs.RowLayouts.{raid_0_place, parity_length, parity_place}
 use Rattle.ddf_primary.proofs.ShapeFacts.{raid_1_members, parity_members, jbod_members}
+use Rattle.ddf_primary.proofs.MirrorLayouts.{first_along, same_cell}
 use Rattle.ddf_primary.proofs.WholeLayouts.{raid_1_place, jbod_place, concatenated_place}
-
-same_cell : (a x b y : ℕ) → a ≡ x → b ≡ y → ◌≡◌ {A = Option (ℕ × ℕ)} (Some (a, b)) (Some (x, y))
-same_cell a x b y e f = let g : ℕ → ℕ → Option (ℕ × ℕ) = λ m n. Some (m, n) in ap (λ m. g m b) e ∙ ap (g x) f
 
 -- the same cell by another name
 moved : (items : List (ℕ × ℕ)) (block k member sector own at : ℕ) → slice_get items block ≡ Some (member, sector) → slice_get items block ≡ Some (own, at)
@@ -75,6 +73,7 @@ module _ (shape : Placement) (sound : IsShape shape) (block k member sector : �
       let one = jbod_members shape is sound in
       moved (cells shape) block k member sector 0 block there (jbod_place shape is one block here) (jbod_place shape is one (block + k) below)
   along_by Concatenation is room = on_members is room
+  along_by (Mirror spread) is room = first_along shape spread is block k member sector there below stays
 
   -- within a strip that is on one member
   pub cell_along : sector + k < shape.blocks → slice_get (cells shape) (block + k) ≡ Some (member, sector + k)

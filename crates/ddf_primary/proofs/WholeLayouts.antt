@@ -62,7 +62,7 @@ module _ (shape : Placement) (is : shape.layout ≡ Raid1) (two : 2 ≤ shape.me
         member_within = λ member sector block holds. (raid_1_read member sector block holds).0;
         sector_within = λ member sector block holds. rw is ((raid_1_read member sector block holds).1.within);
         no_parity = λ member sector block holds on. none-some member (rw is at on);
-        covered = λ member sector known near. inr (sector, (raid_1_block member sector sector known near).0 refl);
+        covered = λ member sector known near even. inr (sector, (raid_1_block member sector sector known near).0 refl);
       }
 
 module _ (shape : Placement) (is : shape.layout ≡ Jbod) (one : shape.members ≡ 1) where
@@ -97,7 +97,7 @@ module _ (shape : Placement) (is : shape.layout ≡ Jbod) (one : shape.members �
         member_within = λ member sector block holds. omega (arith, (jbod_read member sector block holds).member_is);
         sector_within = λ member sector block holds. rw is ((jbod_read member sector block holds).within);
         no_parity = λ member sector block holds on. none-some member (rw is at on);
-        covered = λ member sector known near. inr (sector, (jbod_block member sector sector known near).0 refl);
+        covered = λ member sector known near even. inr (sector, (jbod_block member sector sector known near).0 refl);
       }
 
 module _ (shape : Placement) (is : shape.layout ≡ Concatenation) where
@@ -162,6 +162,6 @@ module _ (shape : Placement) (is : shape.layout ≡ Concatenation) where
         member_within = λ member sector block holds. (concatenated_read member sector block holds).known;
         sector_within = λ member sector block holds. rw is ((concatenated_read member sector block holds).near);
         no_parity = λ member sector block holds on. none-some member (rw is at on);
-        covered = λ member sector known near.
+        covered = λ member sector known near even.
             inr (member * shape.blocks + sector, (concatenated_block member sector _ known near).0 refl);
       }

@@ -1,8 +1,8 @@
 -- The codes of the primary levels and qualifiers (the standard's tables of RAID levels), and what
 -- each level takes.
-use Rattle.std.specs.Prelude.{ℕ, ◌^◌, ◌==◌, nat_le, Bool, ◌&&◌, IsTrue, ◌<◌, ◌≤◌, if◌then◌else◌, Result, Ok, Err}
+use Rattle.std.specs.Prelude.{ℕ, ◌^◌, ◌*◌, ◌==◌, nat_le, Bool, ◌&&◌, IsTrue, ◌<◌, ◌≤◌, if◌then◌else◌, Result, Ok, Err}
 use Rattle.ddf_primary.specs.declared.layout.Layout.{Layout}
-use Rattle.ddf_primary.specs.declared.layout.Layout.TheVariants.{Raid0, Raid1, Parity, Jbod, Concatenation}
+use Rattle.ddf_primary.specs.declared.layout.Layout.TheVariants.{Raid0, Raid1, Parity, Jbod, Concatenation, Mirror}
 use Rattle.ddf_primary.specs.declared.parity.ParityLayout.TheVariants.{Raid4First, Raid4Last, Raid5ZeroRestart, Raid5LastRestart, Raid5LastContinuation}
 use Rattle.ddf_primary.specs.declared.fault.ShapeFault.{ShapeFault}
 use Rattle.ddf_primary.specs.declared.fault.ShapeFault.TheVariants.{Level, Qualifier, MemberCount, Blocks}
@@ -39,21 +39,23 @@ served_layout level qualifier =
     else (if level == 0x1F then Ok Concatenation
     else Err (Level level))))))
 
--- how many members a layout has; that RAID 1 has two or more is profile
+-- how many members a layout has; that RAID 1 has two or more, and RAID 1E three, is profile
 abbrev pub takes_members : Layout → ℕ → Bool
 takes_members Raid0 members = nat_le 1 members
 takes_members Raid1 members = nat_le 2 members
 takes_members (Parity _) members = nat_le 2 members
 takes_members Jbod members = members == 1
 takes_members Concatenation members = nat_le 1 members
+takes_members (Mirror spread) members = nat_le 3 members
 
--- how many blocks its members may have: one strip at least where the level has rows (profile)
+-- how many blocks its members may have: one data row's strips at least where the level has rows (profile)
 abbrev pub least_blocks : Layout → ℕ → ℕ
 least_blocks Raid0 strip = strip
 least_blocks Raid1 strip = 1
 least_blocks (Parity _) strip = strip
 least_blocks Jbod strip = 1
 least_blocks Concatenation strip = 1
+least_blocks (Mirror spread) strip = 2 * strip
 
 abbrev pub takes_blocks : Layout → ℕ → ℕ → Bool
 takes_blocks layout strip blocks = nat_le (least_blocks layout strip) blocks && nat_le blocks (2 ^ 48)

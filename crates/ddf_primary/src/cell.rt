@@ -1,4 +1,4 @@
-//! A cell: a member of an element, and a sector of its extent. docs/PLACING.md#primary-levels
+//! A cell: a member of an element, and a sector of its extent; and two of them. docs/PLACING.md#primary-levels
 
 /// A place on one member of an element.
 #[derive(Clone, Copy, PartialEq, Eq)]
@@ -7,6 +7,15 @@ pub struct Cell {
     pub member: u16,
     /// The sector, counted from the start of the member's extent.
     pub sector: u64,
-    /// The row of strips that the sector is in, from 0: `sector` divided by the strip's sectors.
+    /// The data row that the sector is in, from 0: `sector` divided by the sectors that such a row takes of each member.
     pub row: u64,
+}
+
+/// Both cells of a block of a level that holds it on two members.
+#[derive(Clone, Copy)]
+pub struct Twins {
+    /// The one on the lower member.
+    pub low: Cell,
+    /// The one on the higher member.
+    pub high: Cell,
 }

@@ -1,10 +1,11 @@
 //! The primary levels: which codes of the standard are served, with how many members and blocks. Others are refused: guessed at, their blocks
 //! would be read at wrong places. docs/PLACING.md#primary-levels
-ghost use Rattle.std.specs.Prelude.{◌≡◌, IsTrue};
+ghost use Rattle.std.specs.Prelude.{◌≡◌, ◌≤◌, ◌^◌};
 ghost use Rattle.ddf_primary.specs.Levels.{served_layout, takes_members, takes_blocks};
-ghost use Rattle.ddf_primary.specs.Needs.{is_on_every, keeps_copies, keeps_parity, need_by};
+ghost use Rattle.ddf_primary.specs.Needs.{is_on_every, is_on_two, keeps_copies, keeps_parity, need_by};
 
 use crate::{Need, ParityLayout, ShapeFault};
+use ddf_mirror1e::Spread;
 
 /// How an element lays its blocks over its members: a primary level, with what its qualifier says.
 #[derive(Clone, Copy, PartialEq, Eq)]
@@ -19,6 +20,8 @@ pub enum Layout {
     Jbod,
     /// Concatenation: one member after another.
     Concatenation,
+    /// RAID 1E: each block on two members, of which one stands behind the other.
+    Mirror(Spread),
 }
 
 impl Layout {
@@ -51,11 +54,18 @@ impl Layout {
         matches!(self, Layout::Raid1)
     }
 
+    /// Whether each block is on two members, of which one stands behind the other.
+    pub fn is_on_two(self) -> bool
+        ensures { result ≡ is_on_two self }
+    {
+        matches!(self, Layout::Mirror(_))
+    }
+
     /// Whether each block is on more than one member.
     pub fn keeps_copies(self) -> bool
         ensures { result ≡ keeps_copies self }
     {
-        matches!(self, Layout::Raid1)
+        matches!(self, Layout::Raid1 | Layout::Mirror(_))
     }
 
     /// Whether each row has its parity.
@@ -72,6 +82,7 @@ impl Layout {
         match self {
             Layout::Raid1 => Need::One,
             Layout::Parity(_) => Need::AllButOne,
+            Layout::Mirror(spread) => Need::Neighbours(spread),
             Layout::Raid0 | Layout::Jbod | Layout::Concatenation => Need::All,
         }
     }
@@ -84,16 +95,19 @@ impl Layout {
             Layout::Raid0 | Layout::Concatenation => members >= 1,
             Layout::Raid1 | Layout::Parity(_) => members >= 2,
             Layout::Jbod => members == 1,
+            Layout::Mirror(_) => members >= 3,
         }
     }
 
     /// Whether members may have this many blocks each.
     pub(crate) fn takes_blocks(self, strip: u64, blocks: u64) -> bool
+        requires { strip ≤ 2 ^ 31 }
         ensures { result ≡ takes_blocks self strip blocks }
     {
         let least = match self {
             Layout::Raid0 | Layout::Parity(_) => strip,
             Layout::Raid1 | Layout::Jbod | Layout::Concatenation => 1,
+            Layout::Mirror(_) => 2 * strip,
         };
         least <= blocks && blocks <= Layout::MOST_BLOCKS
     }

@@ -1,6 +1,9 @@
 //! What an element needs of its members so that each of its blocks can be had. docs/PLACING.md#needs
 ghost use Rattle.std.specs.Prelude.{◌≡◌};
+ghost use Rattle.ddf_mirror1e.specs.Copies.{begins_pairs};
 ghost use Rattle.ddf_primary.specs.Needs.{need_of, keeps_more_of};
+
+use ddf_mirror1e::Spread;
 
 /// Which members have to be there so that each cell can be read, or made of others.
 #[derive(Clone, Copy, PartialEq, Eq)]
@@ -11,6 +14,9 @@ pub enum Need {
     One,
     /// All but one: the rest of a row gives a cell by parity.
     AllButOne,
+    /// One of each member on which first copies lie and the one behind it, round the members: there the second copies
+    /// lie. For an even number of adjacent members these are the pairs 0 and 1, 2 and 3, and so on.
+    Neighbours(Spread),
 }
 
 impl Need {
@@ -31,4 +37,14 @@ pub fn keeps_more_of(level: u8) -> bool
     ensures { result ≡ keeps_more_of level }
 {
     matches!(level, 0x01 | 0x04 | 0x05 | 0x11)
+}
+
+/// Whether first copies of RAID 1E lie on a member, so that an element needs it or the one behind it.
+pub fn begins_pairs(spread: Spread, members: usize, member: usize) -> bool
+    ensures { result ≡ begins_pairs spread members member }
+{
+    match spread {
+        Spread::Adjacent => members % 2 == 1 || member % 2 == 0,
+        Spread::Offset => true,
+    }
 }

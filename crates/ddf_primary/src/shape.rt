@@ -1,10 +1,11 @@
 //! An element as numbers: from a block to its cell and back, for every level. That both ways agree is what keeps a write from going over
 //! another block. docs/PLACING.md#primary-levels
-ghost use Rattle.std.specs.Prelude.{◌≡◌, ◌↔◌, ℕ, ◌<◌, ◌≤◌, ◌+◌, ◌*◌, ◌/◌, ◌%◌, ◌^◌};
-ghost use Rattle.std.specs.Prelude.{length, slice_get, IfOk, IfSome};
+ghost use Rattle.std.specs.Prelude.{◌≡◌, ◌≢◌, ◌↔◌, ℕ, ◌<◌, ◌≤◌, ◌+◌, ◌*◌, ◌/◌, ◌%◌, ◌^◌};
+ghost use Rattle.std.specs.Prelude.{[], ◌∷◌, length, slice_get, option_map, is_some, IfOk, IfSome};
 
 use crate::strip::{block_of_strip, strip_of_block};
-use crate::{Cell, Layout, ParityLayout, ShapeFault};
+use crate::{Cell, Layout, ParityLayout, ShapeFault, Twins};
+use ddf_mirror1e::{Mirror1e, Spread};
 use std::marker::Model;
 
 /// One element: a primary level over members, which says where each of its blocks lies.
@@ -31,8 +32,10 @@ impl Model for Shape {
 
 impl Shape {
     ghost use Rattle.ddf_primary.specs.Levels.{shape_of, IsShape};
-    ghost use Rattle.ddf_primary.specs.Copies.{sector_on};
-    ghost use Rattle.ddf_primary.specs.Cells.{cells, columns_by, parity_member, Holds, depth_of, height_of, unit_of, rows_of};
+    ghost use Rattle.ddf_primary.specs.Needs.{is_on_two};
+    ghost use Rattle.ddf_primary.specs.Copies.{copies_of, sector_on};
+    ghost use Rattle.ddf_primary.specs.Cells.{cells, columns_by, parity_member, Holds, depth_of, height_of, unit_of, rows_of, twin_of};
+    ghost use Rattle.ddf_mirror1e.specs.Mirror.{mirror};
 
     /// The shape of an element: its primary level and qualifier, its number of members, the sectors
     /// of a strip, and the blocks per member.
@@ -88,6 +91,7 @@ impl Shape {
     {
         match self.layout {
             Layout::Concatenation => u64::from(self.members) * self.blocks,
+            Layout::Mirror(spread) => self.as_mirror(spread).capacity(),
             _ => u64::from(self.columns()) * self.depth(),
         }
     }
@@ -99,13 +103,14 @@ impl Shape {
         u64::from(self.columns()) * self.strip
     }
 
-    /// The whole rows. Concatenated members count as one.
+    /// The whole data rows. Concatenated members count as one.
     pub fn rows(&self) -> u64
         ensures value { result ≡ rows_of self.now }
         ensures fits { unit_of self.now * result ≤ length (cells self.now) }
     {
         match self.layout {
             Layout::Concatenation => u64::from(self.members) * self.blocks / self.strip,
+            Layout::Mirror(_) => self.blocks / self.strip / 2,
             _ => self.blocks / self.strip,
         }
     }
@@ -116,7 +121,10 @@ impl Shape {
         ensures bound { result ≤ self.now.blocks }
     {
         match self.layout {
-            Layout::Raid0 | Layout::Parity(_) => self.blocks / self.strip * self.strip,
+            Layout::Raid0 | Layout::Parity(_) | Layout::Mirror(Spread::Adjacent) => {
+                self.blocks / self.strip * self.strip
+            }
+            Layout::Mirror(Spread::Offset) => self.blocks / self.strip / 2 * 2 * self.strip,
             Layout::Raid1 | Layout::Jbod | Layout::Concatenation => self.blocks,
         }
     }
@@ -126,6 +134,7 @@ impl Shape {
         ensures value { result ≡ height_of self.now }
         ensures some { 0 < result }
         ensures small { result ≤ 2 ^ 32 }
+        ensures sound { IsShape self.now }
     {
         match self.layout {
             Layout::Raid0
@@ -133,16 +142,17 @@ impl Shape {
             | Layout::Parity(_)
             | Layout::Jbod
             | Layout::Concatenation => self.strip,
+            Layout::Mirror(_) => 2 * self.strip,
         }
     }
 
     /// The cell of a block. For RAID 1 it is that of member 0, and every member holds the block at
-    /// the same sector.
+    /// the same sector. For RAID 1E it is the first copy.
     pub fn place(&self, block: u64) -> Cell
         requires { block < length (cells self.now) }
         ensures cell { slice_get (cells self.now) block ≡ Some (result.member, result.sector) }
         ensures holds { Holds self.now result.member result.sector block }
-        ensures row { result.row ≡ result.sector / self.now.strip }
+        ensures row { result.row ≡ result.sector / height_of self.now }
         ensures member { result.member < self.now.members }
         ensures sector { result.sector < self.now.blocks }
     {
@@ -150,8 +160,55 @@ impl Shape {
         Cell {
             member,
             sector,
-            row: sector / self.strip,
+            row: sector / self.height(),
         }
+    }
+
+    /// The cell of a block's second copy. None for the levels that don't hold a block on two members.
+    pub fn twin(&self, block: u64) -> Option<Cell>
+        requires { block < length (cells self.now) }
+        ensures cell { option_map (λ cell. (cell.member, cell.sector)) result ≡ twin_of self.now block }
+        ensures holds { IfSome result (λ cell. Holds self.now cell.member cell.sector block) }
+        ensures apart { IfSome result (λ cell. (own sector : ℕ) → slice_get (cells self.now) block ≡ Some (own, sector) → own ≢ cell.member) }
+        ensures row { IfSome result (λ cell. cell.row ≡ cell.sector / height_of self.now) }
+        ensures member { IfSome result (λ cell. cell.member < self.now.members) }
+        ensures sector { IfSome result (λ cell. cell.sector < self.now.blocks) }
+    {
+        match self.layout {
+            Layout::Mirror(spread) => {
+                let second = self.as_mirror(spread).second(block);
+                Some(Cell {
+                    member: second.member,
+                    sector: second.sector,
+                    row: second.sector / self.height(),
+                })
+            }
+            _ => None,
+        }
+    }
+
+    /// Both cells of a block, in the order of their members. None for the levels that don't hold a block on two members.
+    pub fn twins(&self, block: u64) -> Option<Twins>
+        requires { block < length (cells self.now) }
+        ensures two { is_some result ≡ is_on_two self.now.layout }
+        ensures cells { IfSome result (λ twins. copies_of self.now block ≡ (twins.low.member, twins.low.sector) ∷ (twins.high.member, twins.high.sector) ∷ []) }
+        ensures low { IfSome result (λ twins. twins.low.sector < self.now.blocks) }
+        ensures high { IfSome result (λ twins. twins.high.sector < self.now.blocks) }
+    {
+        let first = self.place(block);
+        let Some(second) = self.twin(block) else {
+            return None;
+        };
+        if first.member < second.member {
+            return Some(Twins {
+                low: first,
+                high: second,
+            });
+        }
+        Some(Twins {
+            low: second,
+            high: first,
+        })
     }
 
     /// The sector at which a member holds a block, if it does.
@@ -166,10 +223,16 @@ impl Shape {
         } else {
             own == member
         };
-        if holds { Some(sector) } else { None }
+        if holds {
+            return Some(sector);
+        }
+        match self.twin(block) {
+            Some(twin) if twin.member == member => Some(twin.sector),
+            _ => None,
+        }
     }
 
-    /// The block that a member holds at a sector. None where the cell holds parity, or lies past the
+    /// The block that a member holds at a sector. None where the cell holds parity or nothing, or lies past the
     /// members or past the rows.
     pub fn block_at(&self, member: u16, sector: u64) -> Option<u64>
         ensures { (block : ℕ) → (result ≡ Some block) ↔ Holds self.now member sector block }
@@ -182,6 +245,7 @@ impl Shape {
             Layout::Parity(parity) => self.parity_block(parity, member, sector),
             Layout::Raid1 | Layout::Jbod => Some(sector),
             Layout::Concatenation => Some(u64::from(member) * self.blocks + sector),
+            Layout::Mirror(spread) => self.as_mirror(spread).block_at(member, sector),
         }
     }
 
@@ -201,7 +265,7 @@ impl Shape {
         ensures { result ≡ columns_by self.now.layout self.now.members }
     {
         match self.layout {
-            Layout::Raid0 => self.members,
+            Layout::Raid0 | Layout::Mirror(_) => self.members,
             Layout::Parity(_) => self.members - 1,
             Layout::Raid1 | Layout::Jbod | Layout::Concatenation => 1,
         }
@@ -224,7 +288,19 @@ impl Shape {
             }
             Layout::Raid1 | Layout::Jbod => (0, block),
             Layout::Concatenation => ((block / self.blocks) as u16, block % self.blocks),
+            Layout::Mirror(spread) => {
+                let first = self.as_mirror(spread).first(block);
+                (first.member, first.sector)
+            }
         }
+    }
+
+    /// The same numbers as RAID 1E.
+    fn as_mirror(&self, spread: Spread) -> Mirror1e
+        requires { self.now.layout ≡ Layout.Mirror spread }
+        ensures { result ≡ mirror spread self.now.members self.now.strip self.now.blocks }
+    {
+        Mirror1e::of(spread, self.members, self.strip, self.blocks)
     }
 
     /// The block at a sector of the data strips of this number.

@@ -19,7 +19,7 @@ part_along part block count sound stays inside room = record {
       let own = get_or (cells part.shape) block (0, 0) in
       let there : slice_get (cells part.shape) block ≡ Some own = slice_get-get_or (cells part.shape) block (0, 0) (omega (arith, below, inside)) in
       let later = cell_along part.shape sound block k own.0 own.1 there (omega (arith, below, inside)) (omega (arith, below, stays)) (omega (arith, room own.0 own.1 there, below)) in
-      sector_further part.shape block k own.0 own.1 member there later;
+      sector_further part.shape block k own.0 own.1 member there later (omega (arith, below, stays));
   in_unit = omega (arith, stays, strip_in_unit block part.shape.strip (columns_by part.shape.layout part.shape.members) sound.some_strip (columns_some part.shape.layout part.shape.members sound.members_taken));
   in_element = inside;
 }

@@ -1,5 +1,5 @@
 //! Reads of one block of an element.
-ghost use Rattle.std.specs.Prelude.{◌≡◌, ◌<◌, map, length, option_to_list};
+ghost use Rattle.std.specs.Prelude.{◌≡◌, ◌<◌, ◌++◌, map, length, option_to_list};
 ghost use Rattle.std.specs.List.{flat_map, range_with_len};
 ghost use Rattle.ddf_primary.specs.Cells.{cells};
 ghost use Rattle.ddf_array.specs.Places.{site_at};
@@ -15,6 +15,7 @@ use crate::reading::try_site;
 use ddf_array::Part;
 use ddf_bay::Bay;
 use ddf_bytes::Sector;
+use ddf_primary::Cell;
 
 /// Reads a sector of the first position that can be read.
 fn read_any<B: Bay>(
@@ -41,6 +42,34 @@ fn read_any<B: Bay>(
     Err(failed)
 }
 
+/// Reads the first of two cells that can be read.
+fn read_either<B: Bay>(
+    bay: &mut B,
+    part: &Part,
+    low: Cell,
+    high: Cell,
+    into: &mut Sector,
+) -> Result<(), Option<usize>>
+    requires part { IsPart part.now }
+    requires fits { PartFits (B.disks bay.old).sizes part.now }
+    requires low { low.sector < part.now.shape.blocks }
+    requires high { high.sector < part.now.shape.blocks }
+    ensures tried { Tried B.tells (Failed (B.disks bay.old) (B.disks bay.new)) (B.disks bay.old).held
+        (map copy (option_to_list (site_at part.now.places low.member low.sector)) ++ map copy (option_to_list (site_at part.now.places high.member high.sector))) result into.new }
+    ensures reads { OnlyReads (B.disks bay.old) (B.disks bay.new) }
+{
+    let first = part.site_at(usize::from(low.member), low.sector);
+    let failed = match try_site(bay, first, into) {
+        Ok(()) => return Ok(()),
+        Err(failed) => failed,
+    };
+    let second = part.site_at(usize::from(high.member), high.sector);
+    match try_site(bay, second, into) {
+        Ok(()) => Ok(()),
+        Err(next) => Err(failed.or(next)),
+    }
+}
+
 /// Reads a block from its first position that can be read.
 fn read_copies<B: Bay>(
     bay: &mut B,
@@ -58,8 +87,13 @@ fn read_copies<B: Bay>(
     if is_on_every(part.shape.layout()) {
         return read_any(bay, part, cell.sector, into);
     }
-    let site = part.site_at(usize::from(cell.member), cell.sector);
-    try_site(bay, site, into)
+    match part.shape.twins(block) {
+        Some(twins) => read_either(bay, part, twins.low, twins.high, into),
+        None => {
+            let site = part.site_at(usize::from(cell.member), cell.sector);
+            try_site(bay, site, into)
+        }
+    }
 }
 
 /// Reads a block by the other cells of its row, where the element keeps parity and all of these are available.

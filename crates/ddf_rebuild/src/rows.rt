@@ -135,7 +135,8 @@ fn sectors_between(part: &Part, from: u64, to: u64) -> (u64, u64)
     ensures first { result.0 ≡ min (from * height_of part.now.shape) result.1 }
 {
     let height = part.shape.height();
-    let end = (to * height).min(depth_of(part));
+    let depth = depth_of(part);
+    let end = (to * height).min(depth);
     let first = (from * height).min(end);
     (first, end)
 }

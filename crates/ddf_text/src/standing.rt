@@ -1,12 +1,13 @@
 //! The state of an array by the seats of its members.
-ghost use Rattle.std.specs.Prelude.{◌≡◌, not, count_by};
-ghost use Rattle.std.specs.List.{list_any};
+ghost use Rattle.std.specs.Prelude.{◌≡◌, ◌<◌, not, false, count_by, length, map, get_or};
+ghost use Rattle.std.specs.List.{list_any, list_all, range_with_len};
+ghost use Rattle.ddf_primary.specs.Needs.{one_of_two};
 ghost use Rattle.ddf_array.specs.Viewing.{is_array_within, is_seated};
 ghost use Rattle.ddf_config.specs.Within.{has_enough, is_part_within};
 ghost use Rattle.ddf_text.specs.Standing.{has_position_away, has_seat, state_on_seats};
 
 use ddf_config::{Array, ElementPlan, Position, Seat, floor_of};
-use ddf_primary::Need;
+use ddf_primary::{Need, Spread, begins_pairs};
 
 /// The state of an array with a position that isn't available.
 pub(crate) const DEGRADED: u8 = 1;
@@ -39,6 +40,32 @@ fn count_away(seats: &[Seat], positions: &[Position]) -> usize
         .count()
 }
 
+/// Whether there is a position of a number, and it is available.
+fn is_there(seats: &[Seat], positions: &[Position], number: usize) -> bool
+    ensures { result ≡ get_or (map (is_seated seats.now) positions.now) number false }
+{
+    match positions.get(number) {
+        Some(position) => is_seated(seats, position),
+        None => false,
+    }
+}
+
+/// Whether of a position of RAID 1E and the one behind it one is available, if they hold the same blocks.
+fn one_of_two(seats: &[Seat], spread: Spread, positions: &[Position], number: usize) -> bool
+    requires { number < length positions.now }
+    ensures { result ≡ one_of_two spread (map (is_seated seats.now) positions.now) number }
+{
+    !begins_pairs(spread, positions.len(), number)
+        || is_there(seats, positions, number)
+        || is_there(seats, positions, (number + 1) % positions.len())
+}
+
+fn one_of_each(seats: &[Seat], spread: Spread, positions: &[Position]) -> bool
+    ensures { result ≡ list_all (one_of_two spread (map (is_seated seats.now) positions.now)) (range_with_len 0 (length positions.now)) }
+{
+    (0..positions.len()).all(|number| one_of_two(seats, spread, positions, number))
+}
+
 /// Whether enough positions are available for what an element needs.
 fn has_enough(seats: &[Seat], need: Need, positions: &[Position]) -> bool
     ensures { result ≡ has_enough need (is_seated seats.now) positions.now }
@@ -48,6 +75,7 @@ fn has_enough(seats: &[Seat], need: Need, positions: &[Position]) -> bool
         Need::All => away == 0,
         Need::One => away < positions.len(),
         Need::AllButOne => away <= 1,
+        Need::Neighbours(spread) => one_of_each(seats, spread, positions),
     }
 }
 

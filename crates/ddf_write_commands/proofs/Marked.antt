@@ -10,8 +10,8 @@ use Rattle.std.specs.Result.{result_ok}
 use Rattle.std.specs.Cmp.Lexicographic.{pointwise}
 use Rattle.ddf_primary.specs.Placement.{Placement}
 use Rattle.ddf_primary.specs.declared.need.Need.{Need}
-use Rattle.ddf_primary.specs.declared.need.Need.TheVariants.{All, One, AllButOne}
-use Rattle.ddf_primary.specs.Needs.{need_by}
+use Rattle.ddf_primary.specs.declared.need.Need.TheVariants.{All, One, AllButOne, Neighbours}
+use Rattle.ddf_primary.specs.Needs.{need_by, one_of_each}
 use Rattle.ddf_secondary.specs.Arrangement.{tiers_of}
 use Rattle.ddf_secondary.specs.declared.element.ElementSize.{ElementSize}
 use Rattle.ddf_config.specs.declared.array.Array.{Array}
@@ -118,10 +118,15 @@ counted_cleared : (n : ℕ) (places : List Place) → fold lacking n (map cleare
 counted_cleared n [] = refl
 counted_cleared n (place ∷ places) = counted_cleared (lacking n place) places
 
+each_cleared : (places : List Place) → map is_available (map cleared_place places) ≡ map is_available places
+each_cleared [] = refl
+each_cleared (place ∷ places) = ap (λ (l : List Bool). is_available place ∷ l) (each_cleared places)
+
 enough_cleared : (need : Need) (places : List Place) → has_enough need is_available (map cleared_place places) ≡ has_enough need is_available places
 enough_cleared All places = all_cleared places
 enough_cleared One places = any_cleared places
 enough_cleared AllButOne places = ap (λ (n : ℕ). nat_le n 1) (counted_cleared 0 places)
+enough_cleared (Neighbours spread) places = ap (one_of_each spread) (each_cleared places)
 
 any_within : (parts : List Part) → list_any is_part_within (map cleared parts) ≡ list_any is_part_within parts
 any_within [] = refl

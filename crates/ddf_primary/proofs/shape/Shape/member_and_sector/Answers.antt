@@ -1,7 +1,10 @@
-use Rattle.std.proofs.Common.{⊎_elim, arith}
+use Rattle.std.proofs.Common.{ℕ, ◌<◌, ⊎_elim, length, subst, arith}
 use Rattle.ddf_primary.proofs.RowLayouts.{raid_0_place, parity_place}
 use Rattle.ddf_primary.proofs.WholeLayouts.{raid_1_place, jbod_place, concatenated_place, concatenated_within}
 use Rattle.ddf_primary.proofs.ShapeFacts.{raid_1_members, parity_members, jbod_members}
+use Rattle.ddf_primary.specs.Placement.{placement}
+use Rattle.ddf_primary.specs.Cells.{cells}
+use Rattle.ddf_primary.proofs.MirrorLayouts.{mirror_length, mirror_place}
 use Rattle.ddf_primary.proofs.shape.Shape.member_and_sector.Goals as goal
 
 pub overflow_cast-result : goal.overflow_cast-result
@@ -33,3 +36,15 @@ pub returns-in-Concatenation : goal.returns-in-Concatenation
 returns-in-Concatenation c =
     rw (← c.self.view_is)
     (concatenated_place _ c.in-Concatenation.is c.args.block (rw (← c.self.view_is) at c.requires))
+
+pub first-first-requires : goal.first-first-requires
+first-first-requires c =
+    let shape = placement c.self.inside.layout c.self.inside.members c.self.inside.strip c.self.inside.blocks in
+    let below : c.args.block < length (cells shape) = rw (← c.self.view_is) at c.requires in
+    rw (c.as_mirror.ensures, ← c.self.view_is) (subst (λ (n : ℕ). c.args.block < n) (mirror_length shape c.in-Mirror.spread c.in-Mirror.is) below)
+
+pub returns-in-Mirror : goal.returns-in-Mirror
+returns-in-Mirror c =
+    let shape = placement c.self.inside.layout c.self.inside.members c.self.inside.strip c.self.inside.blocks in
+    let below : c.args.block < length (cells shape) = rw (← c.self.view_is) at c.requires in
+    rw (c.first-first.ensures.member, c.first-first.ensures.sector, c.as_mirror.ensures, ← c.self.view_is) (mirror_place shape c.in-Mirror.spread c.in-Mirror.is c.args.block below)
