@@ -44,6 +44,7 @@ module _ (group : List ℕ) where
           acked = way.acked;
           stands = way.stands;
           most = way.most;
+          in_turn = way.in_turn;
           is_now = way.is_now
               ∙ ap (λ (changes : List Configuration). acknowledge (issue_all group (begun group past readable found way.number) changes) way.acked) (sym (take-append-le way.issued first last few));
         })
@@ -62,6 +63,7 @@ module _ (group : List ℕ) where
             acked = over.number + length first;
             stands = inr (omega arith);
             most = omega arith;
+            in_turn = inr (inl (omega arith));
             is_now = over.is_now
                 ∙ ap (λ (changes : List Configuration). acknowledge (issue_all group (begun group past readable found over.number) changes) (over.number + length first)) (sym (take-append_seam first last));
           })
@@ -75,9 +77,9 @@ module _ (group : List ℕ) where
       loses_all : some found.absent ≡ true → 1 ≤ length (first ++ last)
       loses_all absent = let one = loses absent in let long = length-append first last in omega (arith, one, long)
 
-      -- the others are issued;
-      pub issued_goes : Goes group past readable found (first ++ last) (issue_all group before last)
-      issued_goes =
+      -- the other one is issued, where there is one;
+      pub issued_goes : length last ≤ 1 → Goes group past readable found (first ++ last) (issue_all group before last)
+      issued_goes one =
           let long = length-append first last in
           inr (record {
             number = over.number;
@@ -88,6 +90,7 @@ module _ (group : List ℕ) where
             acked = over.number + length first;
             stands = inr (omega arith);
             most = omega (arith, long);
+            in_turn = inr (inl (omega (arith, long, one)));
             is_now = issued_is
                 ∙ ap (λ (changes : List Configuration). acknowledge (issue_all group (begun group past readable found over.number) changes) (over.number + length first)) (sym (take-length (first ++ last)));
           })
@@ -117,6 +120,7 @@ module _ (group : List ℕ) where
             acked = all.number + length (first ++ last);
             stands = inr (omega arith);
             most = omega arith;
+            in_turn = inr (inl (omega arith));
             is_now = all.is_now
                 ∙ ap (λ (changes : List Configuration). acknowledge (issue_all group (begun group past readable found all.number) changes) (all.number + length (first ++ last))) (sym (take-length (first ++ last)));
           })

@@ -71,7 +71,7 @@ AllIssue found steps = AllByRecursion (λ (step : Step). (step.config.sequence =
 abbrev issued : Bool → Step → List Step → List Step
 issued same step others = cond (not same) (step ∷ others) others
 
-few_issued : (found : GroupValue) (steps : List Step) → length (changes_in found steps) ≤ length steps
+pub few_issued : (found : GroupValue) (steps : List Step) → length (changes_in found steps) ≤ length steps
 few_issued found [] = omega arith
 few_issued found (step ∷ steps) = by (step.config.sequence == found.config.sequence) (few_issued found steps)
   where

@@ -49,6 +49,7 @@ use Rattle.ddf_data_calls.proofs.First.{IsCalled}
 use Rattle.ddf_data_calls.proofs.FloorsRebuilt as floors
 use Rattle.ddf_data_calls.proofs.Floored.{writing_own}
 use Rattle.ddf_data_calls.proofs.Gone.{acked_goes, goes_more, issued_goes, over_goes, steps_lose}
+use Rattle.ddf_data_calls.proofs.NotedSteps.{few_issued}
 use Rattle.ddf_data_calls.proofs.Taken.{only_reads}
 use Rattle.ddf_write_commands.proofs.StepFloors.{readied_floors}
 
@@ -112,6 +113,7 @@ module _ {D : Type 0} (group : List ℕ) (old new : BayState D) (past : Past (gr
       let round = come.2 in
       let before = plan.first ++ steps_of (take number plan.rounds) in
       let others = steps_of (drop (suc number) plan.rounds) in
+      let one : length (changes_in found ((come.2).step ∷ [])) ≤ 1 = few_issued found ((come.2).step ∷ []) in
       let all : (changes_in found (plan.first ++ steps_of (take number plan.rounds)) ++ changes_in found ((come.2).step ∷ [])) ++ changes_in found (steps_of (drop (suc number) plan.rounds))
       ≡ changes_in found (plan.first ++ steps_of plan.rounds) =
       ap (λ (changes : List Configuration). changes ++ changes_in found others) (sym (issued_parts found before (round.step ∷ [])))
@@ -123,7 +125,7 @@ module _ {D : Type 0} (group : List ℕ) (old new : BayState D) (past : Past (gr
       (goes_more group past (is_read left) found (changes_in found before ++ changes_in found (round.step ∷ [])) (changes_in found others) now
       (⊎_elim
       (λ issued. subst (λ (one : Past (groups group)). GoesBy (changes_in found before ++ changes_in found (round.step ∷ [])) one) (sym issued)
-      (issued_goes group past (is_read left) found (changes_in found before) (changes_in found (round.step ∷ [])) (loses_behind number) come.0 come.1))
+      (issued_goes group past (is_read left) found (changes_in found before) (changes_in found (round.step ∷ [])) (loses_behind number) come.0 come.1 one))
       (λ acked. subst (λ (one : Past (groups group)). GoesBy (changes_in found before ++ changes_in found (round.step ∷ [])) one) (sym acked)
       (acked_goes group past (is_read left) found (changes_in found before) (changes_in found (round.step ∷ [])) (loses_behind number) come.0 come.1))
       come.4))

@@ -1,5 +1,5 @@
 -- The steps of a call on the blocks of an array, those before the blocks and the one behind them, by what they make of the configuration.
-use Rattle.std.proofs.Common.{◌≡◌, ◌⊎◌, ◌∙◌, inl, inr, ⊎_elim, ℕ, Bool, true, false, List, [], ◌∷◌, ◌++◌, length, map, Option, Some, None, Result, Ok, Err, if◌then◌else◌, refl, ap, sym, subst, arith, append_assoc}
+use Rattle.std.proofs.Common.{◌≡◌, ◌⊎◌, ◌∙◌, inl, inr, ⊎_elim, ℕ, ◌≤◌, Bool, true, false, List, [], ◌∷◌, ◌++◌, length, map, Option, Some, None, Result, Ok, Err, if◌then◌else◌, refl, ap, sym, subst, arith, append_assoc}
 use Rattle.std.proofs.lemmas.List.{append_cancel_left}
 use Rattle.std.specs.Prelude.{option_to_list, slice_get}
 use Rattle.ddf_bay.specs.Sectors.{Image}
@@ -27,7 +27,7 @@ use Rattle.ddf_write_commands.specs.Around.{config_behind}
 use Rattle.ddf_write_commands.proofs.Parts.{issued_parts}
 use Rattle.ddf_data_calls.specs.Calls.{AreMade, MayAsk}
 use Rattle.ddf_data_calls.proofs.Begun.{done_is, last_of}
-use Rattle.ddf_data_calls.proofs.Steps.{asked_made, configs, issued_are}
+use Rattle.ddf_data_calls.proofs.Steps.{asked_made, configs, few_asked, issued_are}
 
 -- ---- lists
 
@@ -161,6 +161,13 @@ module _ (found : GroupValue) (timestamp : ℕ) (mark : Option Change) (asked : 
           ++ configs last
       by true = ap (λ (all : List Step). config_lost found ∷ configs all) both_are ∙ ap (λ (all : List Configuration). config_lost found ∷ all) (configs_parts (behind found (option_to_list mark) timestamp first are_first) last)
       by false = ap configs both_are ∙ configs_parts (behind found (option_to_list mark) timestamp first are_first) last
+
+  -- Where one change is asked behind the blocks at the most, they issue one.
+  pub last_few : (ask : Option Change) → asked ≡ option_to_list ask → length (changes_in found last) ≤ 1
+  last_few ask is =
+      subst (λ (all : List Configuration). length all ≤ 1) (sym last_issued)
+      (few_asked timestamp (split).config (split).disks ask last
+      (subst (λ (all : List Change). steps_from timestamp None all (split).config (split).disks ≡ Ok last) is (split).from))
 
   -- the configuration between the steps
   pub between : Configuration

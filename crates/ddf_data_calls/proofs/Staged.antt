@@ -39,6 +39,7 @@ use Rattle.ddf_data_calls.proofs.Accepted.{mark_of}
 use Rattle.ddf_data_calls.proofs.Carried.{Carrying}
 use Rattle.ddf_data_calls.proofs.Gone.{acked_goes, acked_over, goes_more, issued_goes, over_goes, steps_lose}
 use Rattle.ddf_data_calls.proofs.OneArray.{weaker_promised}
+use Rattle.ddf_data_calls.proofs.Split.{last_few}
 use Rattle.ddf_write_commands.proofs.Parts.{issued_parts}
 
 -- How a command's work is one that carries data: what it may give sectors, and what is sure once it is done.
@@ -159,7 +160,8 @@ module _ {D : Type 0} (tells : Type 0) (old new : BayState D) (group : List ℕ)
   stage_goes Working now come = over_goes group past (is_read left) found (changes_in found plan.first) (changes_in found plan.last) loses now come
   stage_goes Closing now come =
       subst (Goes group past (is_read left) found (changes_in found plan.first ++ changes_in found plan.last)) (sym come.2)
-      (issued_goes group past (is_read left) found (changes_in found plan.first) (changes_in found plan.last) loses come.0 come.1)
+      (issued_goes group past (is_read left) found (changes_in found plan.first) (changes_in found plan.last) loses come.0 come.1
+      (last_few found timestamp (mark_of plan.entry) asked plan.first plan.last is.are_first is.are_all ask is.is_asked))
   stage_goes Done now come =
       subst (Goes group past (is_read left) found (changes_in found plan.first ++ changes_in found plan.last)) (sym come.2)
       (acked_goes group past (is_read left) found (changes_in found plan.first) (changes_in found plan.last) loses come.0 come.1)

@@ -1,5 +1,5 @@
 -- The steps that a call with one change makes, by what they make of the configuration and of the disks.
-use Rattle.std.proofs.Common.{◌≡◌, ◌⊎◌, ◌∙◌, inl, inr, ⊎_elim, ℕ, ◌<◌, ◌≤◌, ◌==◌, not, cond, Bool, true, false, List, [], ◌∷◌, ◌++◌, map, filter, Option, Some, None, Result, Ok, Err, if◌then◌else◌, refl, ap, sym, subst, arith}
+use Rattle.std.proofs.Common.{◌≡◌, ◌⊎◌, ◌∙◌, inl, inr, ⊎_elim, ℕ, ◌<◌, ◌≤◌, ◌==◌, not, cond, Bool, true, false, List, [], ◌∷◌, ◌++◌, length, map, filter, Option, Some, None, Result, Ok, Err, if◌then◌else◌, refl, ap, sym, subst, arith}
 use Rattle.std.proofs.lemmas.Bool.{eq-eqb, ne_eqb}
 use Rattle.std.specs.Prelude.{option_to_list}
 use Rattle.std.specs.List.{AllByRecursion}
@@ -54,6 +54,14 @@ module _ (timestamp : ℕ) (config : Configuration) (disks : List Seated) where
           ]) (Ok steps) → AreOfChange timestamp config disks change steps
       by_refusal None none e = by_step none (is_step config change) e
       by_refusal (Some refusal) some_one e = absurd cc
+
+  -- There is one at the most.
+  pub few_asked : (asked : Option Change) (steps : List Step) → steps_from timestamp None (option_to_list asked) config disks ≡ Ok steps → length (configs steps) ≤ 1
+  few_asked None steps is = subst (λ (all : List Step). length (configs all) ≤ 1) (sym (of_none steps is)) (omega arith)
+  few_asked (Some change) steps is = ⊎_elim
+      (λ none. subst (λ (all : List Step). length (configs all) ≤ 1) (sym none) (omega arith))
+      (λ one. subst (λ (all : List Step). length (configs all) ≤ 1) (sym one) (omega arith))
+      (of_change change steps is).steps_are
 
   -- what they make of the configuration
   pub asked_made : (seats : Configuration → List Seat) (image : Image) (promises : Promises) (asked : Option Change) (steps : List Step)

@@ -16,7 +16,7 @@ use Rattle.ddf_recovery.specs.Recovery.{config_lost, config_recovered, loss, los
 use Rattle.ddf_seats.specs.Leading.{some}
 use Rattle.ddf_steps.specs.Steps.{Step, raised}
 use Rattle.ddf_plan.specs.Causes.{steps_of as change_steps}
-use Rattle.ddf_history_steps.specs.Going.{Ends, begun, changes_in, issue_all}
+use Rattle.ddf_history_steps.specs.Going.{Ends, IsUnderway, begun, changes_in, issue_all}
 use Rattle.ddf_history_steps.specs.Steps.{recovery_changes}
 use Rattle.ddf_history_steps.proofs.MembersKept.{change_from}
 use Rattle.ddf_data_history.specs.Promised.{AreAlone, KeepsData, seats_in}
@@ -101,9 +101,9 @@ module _ (group : List ℕ) where
   issue_more past [] next = refl
   issue_more past (first ∷ changes) next = issue_more (issue past first) changes next
 
-  -- The last of them stands at the end, no earlier than what stood so before.
+  -- The last of them stands at the end, behind what stood so before and the others.
   last_there : (past : Past (groups group)) (number : ℕ) (config : Configuration) → slice_get past.changes.issued number ≡ Some config → (changes : List Configuration)
-      → (n : ℕ) × (slice_get (issue_all group past changes).changes.issued n ≡ Some (last_of config changes)) × (number ≤ n)
+      → (n : ℕ) × (slice_get (issue_all group past changes).changes.issued n ≡ Some (last_of config changes)) × (number + length changes ≤ n)
   last_there past number config at [] = (number, at, omega arith)
   last_there past number config at (next ∷ others) =
       let within = get_within past.changes.issued number config at in
@@ -146,48 +146,42 @@ module _ (group : List ℕ) (floor : ℕ → ℕ) (small : (slot : ℕ) → floo
   first_keeps : (done : Bool) (now : Past (groups group)) → Ends group past readable native first done now → KeepsData group now floor image promises
   first_keeps done now ends = ends_keep group floor small image promises past alone kept readable native first made done now ends
 
-  -- All of them are issued.
-  whole_keeps : (number : ℕ) → IsSince past.changes number native.config → (acked : ℕ) → past.changes.acked ≤ acked
+  -- All of them are issued, and the first acknowledged.
+  whole_keeps : (number : ℕ) → IsSince past.changes number native.config → (acked : ℕ) → number + length first ≤ acked
       → KeepsData group (acknowledge (issue_all group (begun group past readable native number) (first ++ next ∷ [])) acked) floor image promises
   whole_keeps number since acked late =
       let start = begun group past readable native number in
-      let middle = acknowledge (issue_all group start first) past.changes.acked in
-      let from = since.late in
-      let middle_keeps : KeepsData group middle floor image promises =
-      first_keeps false middle (inr (record {
-        number = number;
-        since = since;
-        issued = length first;
-        few = omega arith;
-        loses = loses;
-        acked = past.changes.acked;
-        stands = inl refl;
-        most = omega (arith, from);
-        is_now = ap (λ (changes : List Configuration). acknowledge (issue_all group start changes) past.changes.acked) (sym (take-length first));
-      })) in
+      let middle = acknowledge (issue_all group start first) (number + length first) in
+      let middle_keeps : KeepsData group middle floor image promises = first_keeps true middle (record { number = number; since = since; is_now = refl }) in
       let last = last_there group start number native.config (begun_there group past readable native number native.config since.is_there) first in
-      let behind = joins middle last.0 (let more = last.2 in record { late = omega (arith, from, more); is_there = last.1 }) middle_keeps in
+      let behind = joins middle last.0 (let more = last.2 in record { late = omega (arith, more); is_there = last.1 }) middle_keeps in
       subst (λ (all : Past (groups group)). KeepsData group (acknowledge all acked) floor image promises) (sym (issue_more group start first next))
       (by_acknowledge group floor small (issue middle next) image promises behind acked late)
+
+  -- Where the last one is issued the first are acknowledged.
+  first_acked : (now : Past (groups group)) (way : IsUnderway group past readable native (first ++ next ∷ []) now) → length first < way.issued → way.number + length first ≤ way.acked
+  first_acked now way all = ⊎_elim
+      (λ none. absurd (omega (arith, all, none)))
+      (λ others. ⊎_elim (λ turn. omega (arith, all, turn)) (λ loss. absurd (let least = loses loss.0 in let one = loss.1 in omega (arith, all, one, least))) others)
+      way.in_turn
 
   -- However far the call came.
   pub all_keep : (done : Bool) (now : Past (groups group)) → Ends group past readable native (first ++ next ∷ []) done now → KeepsData group now floor image promises
   all_keep true now over =
-      let late = over.since.late in
+      let long = length-append first (next ∷ []) in
       subst (λ (p : Past (groups group)). KeepsData group p floor image promises) (sym over.is_now)
-      (whole_keeps over.number over.since (over.number + length (first ++ next ∷ [])) (omega (arith, late)))
+      (whole_keeps over.number over.since (over.number + length (first ++ next ∷ [])) (omega (arith, long)))
   all_keep false now (inl same) = first_keeps false now (inl same)
   all_keep false now (inr way) =
       let long = length-append first (next ∷ []) in
       let few = way.few in
-      let late = way.since.late in
       ⊎_elim
       (λ all.
       let whole : take way.issued (first ++ next ∷ []) ≡ first ++ next ∷ [] =
       ap (λ (n : ℕ). take n (first ++ next ∷ [])) (let same : way.issued ≡ length (first ++ next ∷ []) = omega (arith, all, few, long) in same) ∙ take-length (first ++ next ∷ []) in
       subst (λ (p : Past (groups group)). KeepsData group p floor image promises) (sym (way.is_now
       ∙ ap (λ (changes : List Configuration). acknowledge (issue_all group (begun group past readable native way.number) changes) way.acked) whole))
-      (whole_keeps way.number way.since way.acked (⊎_elim (λ same. omega (arith, same)) (λ from. omega (arith, from, late)) way.stands)))
+      (whole_keeps way.number way.since way.acked (first_acked now way all)))
       (λ some_of.
       let within : way.issued ≤ length first = omega (arith, some_of) in
       first_keeps false now (inr (record {
@@ -199,6 +193,7 @@ module _ (group : List ℕ) (floor : ℕ → ℕ) (small : (slot : ℕ) → floo
         acked = way.acked;
         stands = way.stands;
         most = way.most;
+        in_turn = way.in_turn;
         is_now = way.is_now
             ∙ ap (λ (changes : List Configuration). acknowledge (issue_all group (begun group past readable native way.number) changes) way.acked) (take-append-le way.issued first (next ∷ []) within);
       })))

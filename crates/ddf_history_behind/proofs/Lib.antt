@@ -3,7 +3,11 @@ pub mod Near
 pub mod Losing
 pub mod Steps
 pub mod Recovering
+pub mod InTurn
+pub mod Commands
 pub mod Course
 pub mod Stale
 pub mod Joining
 pub mod Importing
+pub mod Requests
+pub mod Events

@@ -52,7 +52,7 @@ module _ (timestamp : ℕ) (found : GroupValue) where
 -- ---- how near the loss is
 
 -- The first of some that are absent.
-first_absent : (config : Configuration) (absent : List ℕ) → some absent ≡ true → AllByRecursion (λ reference. is_current config.members reference ≡ true) absent
+pub first_absent : (config : Configuration) (absent : List ℕ) → some absent ≡ true → AllByRecursion (λ reference. is_current config.members reference ≡ true) absent
     → (reference : ℕ) × (others : List ℕ) × (absent ≡ reference ∷ others) × (is_current config.members reference ≡ true)
 first_absent config [] some current = absurd (false≢true some)
 first_absent config (reference ∷ others) some current = (reference, others, refl, current.0)
@@ -80,17 +80,17 @@ module _ (group : List ℕ) (past : Past (groups group)) (chain : IsChain past.c
     abbrev start : Past (groups group)
     start = begun group past readable found number
 
-    start_changes : start.changes ≡ cut past.changes number
+    pub start_changes : start.changes ≡ cut past.changes number
     start_changes = by (some found.absent)
       where
         by : (absent : Bool) → (if absent then take_off (leave_out past readable found.config) number else take_off past number).changes ≡ cut past.changes number
         by true = refl
         by false = refl
 
-    start_near : AreNear group start.changes
+    pub start_near : AreNear group start.changes
     start_near = subst (AreNear group) (sym start_changes) (near_cut group past.changes number near)
 
-    start_loss : some found.absent ≡ true → AreNear group (issue start (config_lost found)).changes
+    pub start_loss : some found.absent ≡ true → AreNear group (issue start (config_lost found)).changes
     start_loss absent =
         near_issued group start.changes (config_lost found) start_near
         (λ i earlier at. loss_near absent i earlier (subst (λ (changes : Changes (groups group)). IsSince changes i earlier) start_changes at))

@@ -48,7 +48,7 @@ first_among reference others = or_left (nat_eq reference reference) (list_any (n
 
 module _ (config : Configuration) where
   -- A change that loses a current member may take two numbers.
-  loses_near : (change : Change) (reference : ℕ) → steps_of change ≡ 2 → is_current config.members reference ≡ true → is_among (lost_by change) reference ≡ true
+  pub loses_near : (change : Change) (reference : ℕ) → steps_of change ≡ 2 → is_current config.members reference ≡ true → is_among (lost_by change) reference ≡ true
       → (config_after config change).sequence ≤ config.sequence + most_between config (config_after config change)
   loses_near change reference two current among =
       let most : (config_after config change).sequence ≤ config.sequence + 2 = subst (λ (n : ℕ). raised config.sequence (steps_of change) ≤ config.sequence + n) two (raised_most config.sequence (steps_of change)) in

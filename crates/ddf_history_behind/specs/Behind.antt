@@ -1,9 +1,11 @@
 -- How far behind the newest configuration of a history a disk may be that shows an older one.
-use Rattle.std.specs.Prelude.{◌≡◌, ◌≢◌, ◌⊎◌, ℕ, ◌+◌, ◌*◌, ◌≤◌, ◌&&◌, not, Bool, false, List, [], ◌∷◌, count_by, length, map, Option, Some, Ok, slice_get}
+use Rattle.std.specs.Prelude.{◌≡◌, ◌≢◌, ◌⊎◌, ℕ, ◌+◌, ◌*◌, ◌≤◌, ◌&&◌, not, Bool, true, false, List, [], ◌∷◌, count_by, length, map, Option, Some, Ok, slice_get}
+use Rattle.std.specs.List.{AllByRecursion}
 use Rattle.ddf_bay.specs.Moments.{StopsLeave}
 use Rattle.ddf_bay.specs.State.{BayState}
 use Rattle.ddf_config.specs.declared.member.Member.{Member}
 use Rattle.ddf_config.specs.Configuration.{Configuration}
+use Rattle.ddf_config.specs.Members.{is_current}
 use Rattle.ddf_plan.specs.declared.change.Change.{Change}
 use Rattle.ddf_plan.specs.declared.change.Change.TheVariants.{Lose}
 use Rattle.ddf_view.specs.View.{View}
@@ -47,6 +49,10 @@ most_between earlier later = 1 + 2 * count_by (is_lost_between earlier) later.me
 abbrev pub LosesSome : Change → Type 0
 LosesSome (Lose references) = references ≢ []
 LosesSome other = Unit {0}
+
+-- What is absent of a group are current members, as of each that `assemble` finds.
+abbrev pub AbsentAreCurrent : GroupValue → Type 0
+AbsentAreCurrent found = AllByRecursion (λ reference. is_current found.config.members reference ≡ true) found.absent
 
 -- each of these steps is no further on than that from the configuration before it
 abbrev pub AreNearSteps : Configuration → List Step → Type 0

@@ -1,30 +1,43 @@
 //! Laws of older images: functions that do nothing, whose contracts are the laws.
-ghost use Rattle.std.specs.Prelude.{◌≡◌, ◌≤◌, ℕ, [], ◌∷◌, Bool, false, true, List, Option, length};
+ghost use Rattle.std.specs.Prelude.{◌≡◌, ◌≤◌, ℕ, [], ◌∷◌, ◌++◌, Bool, false, true, List, Option, Ok, length};
 ghost use Rattle.std.specs.List.{AllByRecursion};
+ghost use Rattle.ddf_bytes.specs.declared.stamp.Stamp.{Stamp};
 ghost use Rattle.ddf_bay.specs.Moments.{StopsLeave};
 ghost use Rattle.ddf_bay.specs.Sectors.{IsLeft};
 ghost use Rattle.ddf_config.specs.Configuration.{Configuration};
 ghost use Rattle.ddf_plan.specs.declared.change.Change.{Change};
 ghost use Rattle.ddf_history.specs.Groups.{groups};
+ghost use Rattle.ddf_history.specs.History.{AllKept, IsHistory, Moment};
 ghost use Rattle.ddf_history.specs.Issued.{Past, give_back, lose};
 ghost use Rattle.ddf_history.specs.Promise.{IsKept};
+ghost use Rattle.ddf_history.specs.Reading.{Each};
 ghost use Rattle.ddf_history.specs.Scenes.{scene_of};
 ghost use Rattle.ddf_seats.specs.Group.{GroupValue};
 ghost use Rattle.ddf_seats.specs.Seated.{seated};
 ghost use Rattle.ddf_recovery.specs.Committed.{group_next, group_recovered, left_behind};
-ghost use Rattle.ddf_recovery.specs.Ready.{ReadyValue};
+ghost use Rattle.ddf_recovery.specs.Ready.{ReadyValue, readied};
+ghost use Rattle.ddf_steps.specs.Steps.{Step};
 ghost use Rattle.ddf_joining.specs.Importing.{IsOfAnother};
-ghost use Rattle.ddf_joining.specs.Joining.{join_config};
+ghost use Rattle.ddf_joining.specs.Joining.{Joining, join_config, joining};
 ghost use Rattle.ddf_joining.specs.JoinValue.{JoinValue};
 ghost use Rattle.ddf_history_steps.specs.BlockFloors.{AreFloored, StaySettled, WritesBelow, floor_in};
 ghost use Rattle.ddf_history_steps.specs.Course.{changes_ready};
-ghost use Rattle.ddf_history_steps.specs.Going.{Ends, Goes, IsAdmitted};
+ghost use Rattle.ddf_history_steps.specs.Going.{Ends, Goes, IsAdmitted, KeepsHistory, changes_in};
 ghost use Rattle.ddf_history_steps.specs.Kept.{AreAllKept, is_read};
-ghost use Rattle.ddf_history_steps.specs.Steps.{IsCommit, IsRecovery, WasTaken, behind_recovery};
+ghost use Rattle.ddf_history_steps.specs.Steps.{IsCommit, IsRecovery, WasTaken, behind_recovery, recovery_changes};
 ghost use Rattle.ddf_history_joins.specs.Joins.{AdmitsCall, IsImport, StandsToJoin, WereBothTaken, import_changes};
-ghost use Rattle.ddf_history_behind.specs.Behind.{AreNear, IsNearWay, KeepsNear, KeepsNearJoin, LosesSome, NoneLags, NoneStale};
+ghost use Rattle.ddf_history_behind.specs.Behind.{AbsentAreCurrent, AreNear, IsNearWay, KeepsNear, KeepsNearJoin, LosesSome, NoneLags, NoneStale};
+ghost use Rattle.ddf_words.specs.declared.command.Wish.{Wish};
+ghost use Rattle.ddf_group_commands.specs.Assemble.{no_change};
+ghost use Rattle.ddf_group_commands.specs.Requests.{request_for};
+ghost use Rattle.ddf_write_commands.specs.Resync.{resync_request};
+ghost use Rattle.ddf_write_commands.specs.Write.{write_request};
+ghost use Rattle.ddf_rebuild_command.specs.Asked.{rebuild_request};
+ghost use Rattle.ddf_command.specs.History.{Leaves};
+ghost use Rattle.ddf_history_behind.specs.Commands.{IsCommandCall, LosesNone, NoneStaleAt};
 
 use ddf_bay::Bay;
+use ddf_command::a_group_is_assembled_at_every_moment_of_its_history;
 
 /// Where each slot shows what it should by a history whose changes are near one another, no seat of what is assembled is taken for an older image: not that
 /// of a disk that stops left behind, nor that of one that has come back from a loss.
@@ -45,6 +58,25 @@ pub fn no_stop_leaves_a_disk_that_is_taken_for_an_older_image<B: Bay>()
         → (B.disks new).sizes ≡ (B.disks old).sizes → (B.disks new).tells_left
         → (now : Past (groups group)) × Ends group past (is_read left) found changes done now
         × ((cut : B) → (B.disks cut).sizes ≡ (B.disks new).sizes → IsLeft (B.disks new).may_hold (B.disks cut).held → NoneStale group now (B.disks cut)) }
+{}
+
+/// In a history of a group whose calls are those of commands, with stops within them and between them, and losses and returns of disks: at every moment, whatever a
+/// stop leaves, no seat of what is assembled of it is taken for an older image. A change of this engine is acknowledged at its start.
+pub fn no_moment_of_a_history_has_a_disk_that_is_taken_for_an_older_image<B: Bay>()
+    ensures { (told : B.tells) (group : List ℕ) (start : Moment (groups group) B) (history : List (Moment (groups group) B))
+        → AllKept (Leaves told B.disks group) start → AreNear group start.past.changes → start.past.changes.own_from ≤ start.past.changes.acked
+        → IsHistory (Leaves told B.disks group) (IsCommandCall told B.disks group) start history → Each (NoneStaleAt told B.disks group) (start ∷ history) }
+{
+    a_group_is_assembled_at_every_moment_of_its_history::<B>();
+}
+
+/// What the words of a command ask of a group is no loss of no member.
+pub fn no_command_loses_nothing()
+    ensures changes { (slots : ℕ) (stamp : Stamp) (wish : Wish) → LosesNone (request_for slots stamp wish) }
+    ensures assembles { LosesNone no_change }
+    ensures resyncs { (word : List ℕ) → LosesNone (resync_request word) }
+    ensures writes { (word : List ℕ) (start count : ℕ) → LosesNone (write_request word start count) }
+    ensures rebuilds { (word : List ℕ) → LosesNone (rebuild_request word) }
 {}
 
 /// A history begins so, with one configuration, and stays so where a slot is lost, or comes back.
@@ -82,6 +114,20 @@ pub fn a_call_leaves_no_disk_far_behind<B: Bay>()
     ensures ends { (group : List ℕ) (past : Past (groups group)) (old new : B) (left : List Bool) (found : GroupValue) (changes : List Configuration)
         (now_found : GroupValue) (ready : ReadyValue) → IsNearWay group (B.disks old) (B.disks new) past left found changes now_found ready → ready.steps ≡ []
         → KeepsNear group (B.disks old) (B.disks new) past left found changes true }
+{}
+
+/// A command that asks for changes of a group keeps each history that admits it so, however it ends and wherever a stop cuts it, by what its contract says of the
+/// history: for it issues its changes in turn, and acknowledges each before the next. So does one by which another group's disks join.
+pub fn a_command_leaves_no_disk_far_behind<B: Bay>()
+    ensures changes { (group : List ℕ) (past : Past (groups group)) (old new : B) (left : List Bool) (found : GroupValue) (asked : List Change) (timestamp : ℕ)
+        (steps : List Step) (done : Bool) → readied found asked timestamp ≡ Ok steps → AllByRecursion LosesSome asked → AbsentAreCurrent found
+        → IsAdmitted group past (B.disks old) left found → AreNear group past.changes
+        → KeepsHistory group (B.disks old) (B.disks new) past left found (changes_in found steps) done
+        → KeepsNear group (B.disks old) (B.disks new) past left found (changes_in found steps) done }
+    ensures joins { (group : List ℕ) (past : Past (groups group)) (old new : B) (left : List Bool) (native other : GroupValue) (timestamp : ℕ) (made : Joining) (done : Bool)
+        → joining timestamp native other ≡ Ok made → AbsentAreCurrent native → IsAdmitted group past (B.disks old) left native → AreNear group past.changes
+        → KeepsHistory group (B.disks old) (B.disks new) past left native (recovery_changes timestamp native ++ made.step.config ∷ []) done
+        → KeepsNear group (B.disks old) (B.disks new) past left native (recovery_changes timestamp native ++ made.step.config ∷ []) done }
 {}
 
 /// The join of another group's disks keeps a history so, behind a recovery, and so does a call that recovers the group first.

@@ -50,6 +50,7 @@ module _ (group : List ℕ) (past : Past (groups group)) (readable : ℕ → Boo
         acked = is.acked;
         stands = is.stands;
         most = is.most;
+        in_turn = is.in_turn;
         is_now = is.is_now
             ∙ ap (λ (some : List Configuration). acknowledge (issue_all group (begun group past readable found is.number) some) is.acked) (sym (take_first is.issued changes later is.few));
       })

@@ -11,7 +11,7 @@ use Rattle.ddf_history_steps.specs.Going.{Ends, Goes, IsOver, IsUnderway, begun,
 
 module _ (group : List ℕ) where
   -- issued changes stay where they are
-  issued_stays : (past : Past (groups group)) (changes : List Configuration) (i : ℕ) (config : Configuration)
+  pub issued_stays : (past : Past (groups group)) (changes : List Configuration) (i : ℕ) (config : Configuration)
       → slice_get past.changes.issued i ≡ Some config → slice_get (issue_all group past changes).changes.issued i ≡ Some config
   issued_stays past [] i config at = at
   issued_stays past (next ∷ others) i config at = issued_stays (issue past next) others i config (get_kept past.changes.issued (next ∷ []) i config at)

@@ -1,5 +1,5 @@
 -- A change that a call issues behind its recovery: how far the call came then, and that it is over once the change is acknowledged.
-use Rattle.std.proofs.Common.{◌≡◌, ◌⊎◌, ℕ, ◌+◌, ◌<◌, ◌≤◌, Bool, true, false, not, cond, List, [], ◌∷◌, ◌++◌, length, map, take, Option, Some, None, if◌then◌else◌, refl, ap, sym, ◌∙◌, arith, subst, length-append, append-nil}
+use Rattle.std.proofs.Common.{◌≡◌, ◌⊎◌, ℕ, ◌+◌, ◌<◌, ◌≤◌, Bool, true, false, not, cond, List, [], ◌∷◌, ◌++◌, length, map, take, Option, Some, None, if◌then◌else◌, inl, inr, refl, ap, sym, ◌∙◌, arith, subst, length-append, append-nil}
 use Rattle.std.proofs.Math.Seq.{take-length}
 use Rattle.std.proofs.lemmas.Bool.{eqb-true, false≢true}
 use Rattle.std.proofs.lemmas.List.{length-take-le, map-append}
@@ -62,10 +62,10 @@ module _ (group : List ℕ) where
       abbrev before : Past (groups group)
       before = issue_all group start changes
 
-      -- The change is issued behind the others, of which some was acknowledged.
-      pub change_goes : (acked : ℕ) → (acked ≡ past.changes.acked) ⊎ (number ≤ acked) → acked ≤ number + length changes
+      -- The change is issued behind the others, of which the last was acknowledged.
+      pub change_goes : (acked : ℕ) → (acked ≡ past.changes.acked) ⊎ (number ≤ acked) → acked ≡ number + length changes
           → IsUnderway group past readable found (changes ++ next ∷ []) (issue (acknowledge before acked) next)
-      change_goes acked stands most = record {
+      change_goes acked stands last = record {
         number = number;
         since = since;
         issued = length (changes ++ next ∷ []);
@@ -73,7 +73,8 @@ module _ (group : List ℕ) where
         loses = λ absent. let more : length (changes ++ next ∷ []) ≡ length changes + 1 = length-append changes (next ∷ []) in omega (arith, more);
         acked = acked;
         stands = stands;
-        most = let more : length (changes ++ next ∷ []) ≡ length changes + 1 = length-append changes (next ∷ []) in omega (arith, most, more);
+        most = let more : length (changes ++ next ∷ []) ≡ length changes + 1 = length-append changes (next ∷ []) in omega (arith, last, more);
+        in_turn = let more : length (changes ++ next ∷ []) ≡ length changes + 1 = length-append changes (next ∷ []) in inr (inl (omega (arith, last, more)));
         is_now = ap (λ (now : Past (groups group)). acknowledge now acked)
             (sym (issue_more start changes next) ∙ ap (issue_all group start) (sym (take-length (changes ++ next ∷ []))));
       }

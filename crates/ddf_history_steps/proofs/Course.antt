@@ -48,6 +48,7 @@ module _ (group : List ℕ) (past : Past (groups group)) (readable : ℕ → Boo
         acked = way.acked;
         stands = way.stands;
         most = way.most;
+        in_turn = way.in_turn;
         is_now = way.is_now
             ∙ ap (λ (changes : List Configuration). acknowledge (issue_all group (begun group past readable found way.number) changes) way.acked)
             (sym (take-append-le way.issued first later few));
@@ -67,6 +68,7 @@ module _ (group : List ℕ) (past : Past (groups group)) (readable : ℕ → Boo
           acked = over.number + length first;
           stands = inr (omega arith);
           most = omega arith;
+          in_turn = inr (inl (omega arith));
           is_now = over.is_now
               ∙ ap (λ (changes : List Configuration). acknowledge (issue_all group (begun group past readable found over.number) changes) (over.number + length first))
               (sym (take-append_seam first later));

@@ -39,7 +39,7 @@ module _ (group : List ℕ) where
 
   module _ (past : Past (groups group)) (readable : ℕ → Bool) (found : GroupValue) where
     -- What the call assembled stands last where it begins.
-    begun_last : (number : ℕ) → IsSince past.changes number found.config
+    pub begun_last : (number : ℕ) → IsSince past.changes number found.config
         → (slice_get (begun group past readable found number).changes.issued number ≡ Some found.config)
         × (length (begun group past readable found number).changes.issued ≡ number + 1)
     begun_last number since = by (some found.absent)

@@ -1,5 +1,5 @@
 -- Recovery keeps a history: whatever a stop leaves of it shows what it should for the changes as they then are.
-use Rattle.std.proofs.Common.{◌≡◌, ℕ, ◌+◌, ◌<◌, ◌≤◌, not, Bool, true, false, eqb, List, [], ◌∷◌, ◌++◌, length, map, Option, Some, None, Ok, if◌then◌else◌, refl, ap, sym, ◌∙◌, inl, inr, subst, arith}
+use Rattle.std.proofs.Common.{◌≡◌, ◌⊎◌, ℕ, ◌+◌, ◌<◌, ◌≤◌, not, Bool, true, false, eqb, List, [], ◌∷◌, ◌++◌, length, map, Option, Some, None, Ok, if◌then◌else◌, refl, ap, sym, ◌∙◌, inl, inr, subst, arith}
 use Rattle.std.proofs.lemmas.Bool.{eq-eqb, ne_eqb}
 use Rattle.std.proofs.lemmas.List.{length-append}
 use Rattle.std.proofs.Math.Seq.{take-append_seam}
@@ -40,7 +40,7 @@ use Rattle.ddf_history_steps.proofs.RecoveringStops.{before, done_left, done_say
 -- ---- the changes that a recovery issues
 
 -- Where members are absent, that is their loss.
-lost_changes : (timestamp : ℕ) (found : GroupValue) → some found.absent ≡ true → found.config.sequence < (config_lost found).sequence
+pub lost_changes : (timestamp : ℕ) (found : GroupValue) → some found.absent ≡ true → found.config.sequence < (config_lost found).sequence
     → changes_in found (option_to_list (recovery_of timestamp found)) ≡ config_lost found ∷ []
 unfolding recovery_of
 lost_changes timestamp found absent rises =
@@ -51,7 +51,7 @@ lost_changes timestamp found absent rises =
     ∙ ap (λ (b : Bool). map (λ (step : Step). step.config) (if not b then lost_step timestamp found ∷ [] else [])) differ
 
 -- Else there is none: to give seats the configuration as it is issues no change.
-no_changes : (timestamp : ℕ) (found : GroupValue) → some found.absent ≡ false → changes_in found (option_to_list (recovery_of timestamp found)) ≡ []
+pub no_changes : (timestamp : ℕ) (found : GroupValue) → some found.absent ≡ false → changes_in found (option_to_list (recovery_of timestamp found)) ≡ []
 unfolding recovery_of
 no_changes timestamp found present =
     let mending : Option Step = if some found.lagging then Some (mending_step timestamp found) else None in
@@ -222,6 +222,18 @@ module _ {group : List ℕ} {D : Type 0} (past : Past (groups group)) (state : B
       let one : length recovery_changes ≡ 1 = ap (λ (issued : List Configuration). length issued) (lost_changes timestamp found absent rises) in
       omega (arith, one)
 
+  -- The loss comes first of all, and is its only change.
+  loss_first : (length recovery_changes ≡ 0) ⊎ (begun_with.0 + length recovery_changes ≤ past.changes.acked + 1)
+      ⊎ ((some found.absent ≡ true) × (length recovery_changes ≡ 1))
+  loss_first = by (some found.absent) refl
+    where
+      by : (b : Bool) → some found.absent ≡ b → (length recovery_changes ≡ 0) ⊎ (begun_with.0 + length recovery_changes ≤ past.changes.acked + 1)
+          ⊎ ((some found.absent ≡ true) × (length recovery_changes ≡ 1))
+      by true absent =
+          let rises = lost_rises group past state left named found taken changes timestamp ready was may absent in
+          inr (inr (absent, ap (λ (issued : List Configuration). length issued) (lost_changes timestamp found absent rises)))
+      by false present = inl (ap (λ (issued : List Configuration). length issued) (no_changes timestamp found present))
+
   -- Before it is acknowledged the recovery is under way.
   pub recovery_goes : (later : List Configuration) → IsUnderway group past (is_read left) found (recovery_changes ++ later) recovery_past
   recovery_goes later =
@@ -235,6 +247,7 @@ module _ {group : List ℕ} {D : Type 0} (past : Past (groups group)) (state : B
         acked = past.changes.acked;
         stands = inl refl;
         most = omega arith;
+        in_turn = loss_first;
         is_now = ap (λ (n : ℕ). acknowledge recovery_past n) still_acked ∙ changes_taken later past.changes.acked;
       }
 
@@ -250,6 +263,7 @@ module _ {group : List ℕ} {D : Type 0} (past : Past (groups group)) (state : B
     acked = recovery_last;
     stands = inr (omega arith);
     most = omega arith;
+    in_turn = inr (inl (omega arith));
     is_now = changes_taken later recovery_last;
   }
 

@@ -32,7 +32,7 @@ module _ (group : List ℕ) where
 
   -- Behind what the call assembled, the first of its changes are issued, so many, and this is the last that is acknowledged: it was so at
   -- entry, or what was assembled is, or one of them. Where members are absent their loss is the first, so that no slot counts as lost before it
-  -- is issued.
+  -- is issued. They are issued in turn: before the next one all are acknowledged, but for that loss, which comes first of all.
   pub record IsUnderway (past : Past (groups group)) (readable : ℕ → Bool) (found : GroupValue) (changes : List Configuration) (now : Past (groups group)) : Type 0 where
     pub number : ℕ
     pub since : IsSince past.changes number found.config
@@ -42,6 +42,7 @@ module _ (group : List ℕ) where
     pub acked : ℕ
     pub stands : (acked ≡ past.changes.acked) ⊎ (number ≤ acked)
     pub most : acked ≤ number + issued
+    pub in_turn : (issued ≡ 0) ⊎ (number + issued ≤ acked + 1) ⊎ ((some found.absent ≡ true) × (issued ≡ 1))
     pub is_now : now ≡ acknowledge (issue_all (begun past readable found number) (take issued changes)) acked
 
   -- how far it came: not yet begun, or under way
