@@ -11,6 +11,7 @@ from dataclasses import dataclass, field
 from pathlib import Path
 from struct import pack
 
+from logs_speed import logs_rows
 from measuring import beside, measured, peak_of, row, spread
 from read_speed import read_rows
 from rebuild_speed import rebuild_rows
@@ -192,6 +193,7 @@ def main():
     write_rows(program, work, max(3, rounds // 8))
     rebuild_rows(program, work, max(3, rounds // 8))
     whole_rows(program, work, max(3, rounds // 8))
+    logs_rows(program, work, max(3, rounds // 2))
     xor = work / "xor/crates/xor_speed/out/xor_speed"
     if xor.exists():
         for sectors in (1, 64):

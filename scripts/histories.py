@@ -1,6 +1,6 @@
 #!/usr/bin/env python3
 """Plays random histories of two groups over disks in memory, one of which joins the other by an import: commands that are stopped or meet failing writes, losses and returns of
-disks, stops that keep some of the writes that no sync made sure. Behind each it looks whether what the program promises holds: what was acknowledged is there
+disks, stops that keep some of the writes that no sync made sure. Of half of them some disks have bad sectors under their arrays, which lie at spare places. Behind each it looks whether what the program promises holds: what was acknowledged is there
 (promise:acknowledged), the groups are assembled, the import has happened or it hasn't (promise:joined), and each block of both groups has its last
 acknowledged bytes, or the old or new ones of a write that was cut short (promise:read).
 
@@ -87,14 +87,34 @@ class Maker:
 
     def begin(self):
         size = self.chance.choice(["65536", "65536", "65536", "131072"])
+        has_logs = self.chance.random() < 0.5
         self.say("% disks " + " ".join([size] * DISKS) + " room 60000", "new")
         for group in (LARGE, self.host if self.guest is LARGE else self.guest):
             kind = self.chance.choice(["linux ", ""] if size == "131072" else [""])
             self.say(group.stamp(), "still")
             self.say(f"$ label {kind}" + " ".join(map(str, group.slots)), "command", ["label"], group)
+            if has_logs:
+                self.log(group, int(size), kind)
             for words in group.made:
                 self.command(group, words.replace("PARITY", self.chance.choice(PARITY)))
         self.look()
+
+    def log(self, group: Group, size: int, kind: str):
+        """Bad sectors in the logs of some disks of a group, in both copies, among the first sectors: there arrays will lie. Their spare places are in the workspace."""
+        for slot in group.slots:
+            if self.chance.random() < 0.3:
+                continue
+            places, at = f"{slot} {size - 2},{size - 42} 1", 0
+            starts = sorted(self.chance.sample(range(0, 40, 3), self.chance.randint(1, 9)))
+            spares = self.chance.sample(range(0, 3 * len(starts), 3), len(starts))
+            self.say(f"% put {places} 10 {3 * len(starts):08x}", "still")
+            self.say(f"% put {places} 24 {size - 32849 + 18 + self.chance.randint(0, 1000):016x}", "still")
+            for start, spare in zip(starts, spares):
+                self.say(f"% put {places} {32 + at} {start:016x}{spare:08x}{self.chance.randint(1, 3):04x}", "still")
+                at += 16
+            self.say(f"% set {places} 8 {len(starts):04x}", "still")
+            if kind:
+                self.say(f"% turn {places}", "still")
 
     def look(self):
         """What both groups are told to be, and what is read of their arrays. Once the import was given, those of the guest are looked at under either name."""

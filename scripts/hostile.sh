@@ -13,7 +13,7 @@ trap 'rm -rf "$work"' EXIT
 cd "$work"
 
 # Folders of crates/ddf_rig/data whose scenarios have ranges with steps, and those beside them.
-folders='calls|block-calls|import-calls|bad-bytes|pieces'
+folders='calls|block-calls|import-calls|bad-bytes|pieces|logs'
 
 # Builds what plays scenarios, where it isn't there.
 rig=${DDF_RIG:-$top/crates/ddf_rig/out/ddf_rig}
@@ -126,7 +126,10 @@ try_memory() {
     refuse create vol raid5.rnc 0 single 0,1,2@9
     refuse accept vol
     refuse resync vol
+    # Bytes beyond the blocks are told of in a line that needs memory.
+    head -c 512 /dev/urandom >input
     refuse write vol 3 1
+    head -c 9216 /dev/urandom >input
     refuse write vol 0 18
     refuse read vol 0 18
     refuse scrub vol
@@ -149,7 +152,21 @@ try_memory() {
     named="a.img d.img e.img"
     refuse delete vol
     refuse assemble
+    refuse_with_logs
     [ "$faults" = 0 ]
+}
+
+# The same on disks whose bad block logs have entries, which are written by hand.
+refuse_with_logs() {
+    images="hand0.img hand1.img"
+    named=$images
+    PYTHONPATH=$top/scripts python3 -B -c '
+from handmade import Disk, Entry, Group
+Group([Disk(place, 300, 10, 8, [Entry(12, 1, 2), Entry(20, 5, 1)]) for place in range(2)], 100).write(".")'
+    refuse show
+    refuse read pair 0 18
+    refuse write pair 0 18
+    refuse assemble
 }
 
 # Disks in memory, on which commands are refused each allocation: a mirror, and two groups of a disk each.

@@ -41,7 +41,7 @@ files_of() {
 # Makes a copy of the program that a trial run of crates/ddf has built, while that runs: the kit keeps none.
 build() {
     mkdir "$work/trial"
-    (cd "$top/crates/ddf" && TMPDIR=$work/trial exec rt try --seconds 60 -- -- exercise 1 2000) >/dev/null 2>"$work/build.log" &
+    (cd "$top/crates/ddf" && TMPDIR=$work/trial exec rt try --seconds 60 -- -- exercise 1 256) >/dev/null 2>"$work/build.log" &
     trial=$!
     until [ -x "$work/ddf" ] && "$work/ddf" --version >/dev/null 2>&1; do
         kill -0 "$trial" 2>/dev/null || fail "the program isn't built: $(tail -n 20 "$work/build.log")"

@@ -53,6 +53,7 @@ FOLDERS = {
     "block-calls": "Each call fails, or is a stop: commands that write blocks",
     "import-calls": "Each call fails, or is a stop: `import`",
     "bad-bytes": "Bytes that are wrong",
+    "logs": "Bad block logs",
     "linux": "Disks for Linux",
     "placing": "Where blocks lie",
     "model": "The disk model, and checksums",

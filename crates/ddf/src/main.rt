@@ -2,32 +2,32 @@
 //! docs/ARCHITECTURE.md#one-command-from-its-words-to-the-sectors
 #![tactic(auto)]
 
-ghost use Rattle.std.specs.Prelude.{◌≤◌, length};
+ghost use Rattle.std.specs.Prelude.{◌≡◌, ◌≤◌, length, IfOk};
+ghost use Rattle.ddf_words.specs.Words.{words_of, slot_count};
 
 use ddf_arrays_left::{Fault, name_filling, name_marked, tell_cut, tell_faulted};
 use ddf_asking::{Person, Risks, consents, name_lines, name_risks, tell_end};
 use ddf_batch::serve;
-use ddf_bay::{Bay, FileBay};
+use ddf_bay::Bay;
 use ddf_bytes::{NoMemory, Stamp, StdSink, StdSource};
 use ddf_command::{Asked, Command, Wish, refuse_words, slot_paths};
 use ddf_contents::{name_early, name_odd};
+use ddf_disks::{ends_of, name_failed_of, name_ranges, open};
 use ddf_edge::{
     CountingSink, Failure, Given, LastCall, Length, Meter, NO_MEMORY, NotingSource, Patient,
-    STREAM_FAULT, USAGE, answer, any_locked, care_of_environment, care_word, command_word, explain,
-    first_unopened, hold_streams, keep_freed, lines_of_input, name_failed, name_no_texts,
-    name_rest, number_sizes, number_slots, open_disks, reason_of, same_disk, stamp_for,
+    STREAM_FAULT, USAGE, answer, care_of_environment, care_word, command_word, explain,
+    hold_streams, keep_freed, lines_of_input, name_failed, name_no_texts, name_rest, number_sizes,
+    number_slots, same_disk, stamp_for,
 };
 use ddf_exercise::exercise_new_disks;
-use ddf_fenced::Fenced;
 use ddf_for_linux::{
-    made_for_linux, name_lost_on_linux, name_turned, name_unfinished, name_unrebuilt, name_untaken,
+    LinuxBay, made_for_linux, name_lost_on_linux, name_turned, name_unfinished, name_unrebuilt,
+    name_untaken,
 };
-use ddf_heard::Heard;
-use ddf_linux::Turned;
 use ddf_losses::{name_away, name_strays};
 use ddf_progress::Watched;
 use ddf_refusals::{Ear, HearingSink, Refused};
-use ddf_shortened::{Ends, Shortened};
+use ddf_shortened::Ends;
 use ddf_sizes::{complete, is_short, length_of, name_numbers, name_sizes};
 use ddf_words::{Asking, asking_of};
 use std::fs::File;
@@ -78,6 +78,8 @@ struct Ending {
     refused: Option<Refused>,
     /// How many bytes of its output were taken.
     taken: u64,
+    /// Whether its input failed.
+    is_cut: bool,
 }
 
 /// When a batch loses what was named.
@@ -171,9 +173,9 @@ fn complete_words<R>(rt: &R, words: &mut Vec<String>) -> Result<(), Failure>
 where
     R: Files<File = File> + Clock + Eprint + AllocGlobal + Clone + Drop,
 {
-    let disks = disks_for(rt, slot_paths(words), &Command::Show)?;
-    let mut bay = Turned::new(disks, made_for_linux(&Command::Show));
-    complete(rt, &mut bay, words)?;
+    let founds = made_for_linux(&Command::Show);
+    let mut disks = open(rt, slot_paths(words), &Command::Show, founds)?;
+    complete(rt, &mut disks, words)?;
     Ok(())
 }
 
@@ -222,12 +224,6 @@ fn answered(status: u8, writes: bool) -> Result<u8, Failure> {
     }
 }
 
-/// Whether a command may write to the disks of a group, and to go on without those that are away.
-fn changes_group(command: &Command) -> bool {
-    let traits = command.traits();
-    traits.takes_group && traits.may_write
-}
-
 /// Opens the disks, and hands them to the command. A group isn't changed where a disk that is named can't be opened, and isn't looked
 /// at where one is locked.
 // argued: that a command gets the images that its words name, and that one which changes a group isn't run where an image can't be opened, nor one that
@@ -249,46 +245,125 @@ where
     }
     let makes_names = kind == Kind::Batch || asked.command.traits().makes_names;
     let stamp = stamp_for(rt, makes_names).map_err(Failure::Chance)?;
-    let disks = disks_for(rt, paths, &asked.command)?;
-    let ends = disks.inner().ends();
 
     // argued: that the program makes the bay for `label linux`, and for nothing else, for this line alone makes the bay that a command gets, by the
     // command itself.
-    let mut bay = Turned::new(disks, made_for_linux(&asked.command));
-    let risks = name_before(rt, &mut bay, ends, paths, asked, kind, person)?;
-    let given = input_of(rt, kind, person)?;
-    let length = if person.sees {
-        length_of(rt, &mut bay, asked)
-    } else {
-        None
-    };
-
-    serve_disks(
-        rt, words, asked, kind, person, risks, bay, given, length, stamp,
-    )
+    let disks = open(rt, paths, &asked.command, made_for_linux(&asked.command))?;
+    name_ranges(rt, &disks, paths, &asked.command);
+    let ends = ends_of(&disks);
+    let (disks, status, is_cut) = serve_on(rt, words, asked, kind, person, disks, ends, stamp)?;
+    name_failed_of(rt, disks, paths);
+    if is_cut {
+        return Err(kind.input_failure());
+    }
+    answered(status, asked.command.traits().may_write)
 }
 
-/// Hands the disks to the command, and says what it left.
-fn serve_disks<R>(
+/// What a command is given beside its disks.
+#[derive(Drop)]
+struct Task<S> {
+    /// What it takes.
+    given: Given<S>,
+    /// The lines of a batch once more, for what is said of them.
+    lines: Option<Vec<u8>>,
+    /// How long it will be, where a person sees how far it has come.
+    length: Option<Length>,
+}
+
+/// Says what has to be known before the command, hands the disks to it, and says what it left. Answers the disks, the status, and whether the input failed.
+fn serve_on<R, B>(
     rt: &R,
     words: &[String],
     asked: &Asked,
     kind: Kind,
     person: Person,
-    risks: Risks,
-    bay: Turned<Fenced<Shortened<FileBay<Heard<R>>>>>,
-    given: Given<R::Reader>,
-    length: Option<Length>,
+    bay: B,
+    ends: Ends,
     stamp: Stamp,
-) -> Result<u8, Failure>
+) -> Result<(B, u8, bool), Failure>
 where
     R: Files<File = File> + Clock + Input + Print + Eprint + AllocGlobal + Clone + Drop,
+    B: LinuxBay + Drop,
 {
+    let mut bay = bay;
+    let (risks, task) = ready(rt, &mut bay, ends, words, asked, kind, person)?;
+    let (mut bay, ending) = serve_disks(rt, words, bay, task, stamp);
+    let paths = slot_paths(words);
+    tell_served(rt, &mut bay, paths, asked, kind, person, ending, risks)?;
+    Ok((bay, ending.status, ending.is_cut))
+}
+
+/// Says what has to be known before the command, asks, and takes the lines of a batch.
+fn ready<R, B>(
+    rt: &R,
+    bay: &mut B,
+    ends: Ends,
+    words: &[String],
+    asked: &Asked,
+    kind: Kind,
+    person: Person,
+) -> Result<(Risks, Task<R::Reader>), Failure>
+where
+    R: Files<File = File> + Input + Eprint + AllocGlobal + Clone + Drop,
+    B: LinuxBay,
+    ensures { IfOk result (λ x. length (B.disks bay.new).sizes ≡ slot_count (words_of words.now)) }
+{
+    let paths = slot_paths(words);
+    let risks = name_before(rt, bay, ends, paths, asked, kind, person)?;
+    let task = task_of(rt, bay, asked, kind, person)?;
+
     // A look keeps the slots, and no clause of it says so.
-    if bay.slots() != slot_paths(words).len() {
-        return Err(Failure::Declined);
+    if bay.slots() == paths.len() {
+        Ok((risks, task))
+    } else {
+        Err(Failure::Declined)
     }
+}
+
+/// What the command is given beside its disks.
+fn task_of<R, B>(
+    rt: &R,
+    bay: &mut B,
+    asked: &Asked,
+    kind: Kind,
+    person: Person,
+) -> Result<Task<R::Reader>, Failure>
+where
+    R: Files<File = File> + Input + Eprint + AllocGlobal,
+    B: Bay,
+{
+    let given = input_of(rt, kind, person)?;
     let lines = lines_in(rt, &given)?;
+    let length = if person.sees {
+        length_of(rt, bay, asked)
+    } else {
+        None
+    };
+    Ok(Task {
+        given,
+        lines,
+        length,
+    })
+}
+
+/// Hands the disks to the command. Answers them, and how it ended.
+fn serve_disks<R, B>(
+    rt: &R,
+    words: &[String],
+    bay: B,
+    task: Task<R::Reader>,
+    stamp: Stamp,
+) -> (B, Ending)
+where
+    R: Files<File = File> + Clock + Input + Print + Eprint + AllocGlobal + Clone + Drop,
+    B: Bay + Drop,
+    requires { length (B.disks bay).sizes ≡ slot_count (words_of words.now) }
+{
+    let Task {
+        given,
+        lines,
+        length,
+    } = task;
     let mut bay = Watched::new(bay, Meter::new(rt, length));
     let mut source = NotingSource::new(StdSource::new(given));
     let output = CountingSink::new(StdSink::new(Patient(io::writer(rt))));
@@ -303,107 +378,41 @@ where
         last: meter.last(),
         refused: sink.refused(),
         taken: sink.sink().taken(),
+        is_cut: status == STREAM_FAULT && source.failed(),
     };
-    tell_served(
-        rt,
-        slot_paths(words),
-        asked,
-        kind,
-        person,
-        risks,
-        bay,
-        ending,
-    )?;
-    if status == STREAM_FAULT && source.failed() {
-        return Err(kind.input_failure());
-    }
-    answered(status, asked.command.traits().may_write)
+    (bay, ending)
 }
 
 /// Says on standard error what a command came to, and what it left.
-fn tell_served<R>(
+fn tell_served<R, B>(
     rt: &R,
+    bay: &mut B,
     paths: &[String],
     asked: &Asked,
     kind: Kind,
     person: Person,
-    risks: Risks,
-    bay: Turned<Fenced<Shortened<FileBay<Heard<R>>>>>,
     ending: Ending,
+    risks: Risks,
 ) -> Result<(), Failure>
 where
     R: Files<File = File> + Eprint + AllocGlobal + Clone + Drop,
+    B: LinuxBay,
 {
-    let mut bay = bay;
     if kind == Kind::Command {
-        name_refused(rt, &mut bay, paths, asked, ending.refused)?;
+        name_refused(rt, bay, paths, asked, ending.refused)?;
     }
     tell_end(rt, &asked.command, paths, ending.status, ending.taken)?;
-    name_after(rt, &mut bay, paths, asked, ending, risks);
+    name_after(rt, bay, paths, asked, ending, risks);
     if person.sees && matches!(asked.command, Command::Show) {
-        name_sizes(rt, &mut bay, paths, asked.group)?;
-    }
-    name_failed(rt, &bay.into_inner().into_inner().into_inner(), paths);
-    Ok(())
-}
-
-/// Opens the disks, and sees them as the command does.
-fn disks_for<R>(
-    rt: &R,
-    paths: &[String],
-    command: &Command,
-) -> Result<Fenced<Shortened<FileBay<Heard<R>>>>, Failure>
-where
-    R: Files<File = File> + Clock + Eprint + AllocGlobal + Clone + Drop,
-    requires { length paths.now ≤ 64 }
-{
-    let files = open_disks(rt, paths, command)?;
-    check_opened(&files, command)?;
-    Ok(seen_for(rt, files, command)?)
-}
-
-/// Whether a command may go on with the disks that could be opened.
-fn check_opened<R: Files>(files: &FileBay<Heard<R>>, command: &Command) -> Result<(), Failure> {
-    if changes_group(command) {
-        if let Some(why) = first_unopened(files) {
-            return Err(Failure::Unopened(reason_of(&why)));
-        }
-    } else if command.traits().takes_group && any_locked(files) {
-        return Err(Failure::Locked);
+        name_sizes(rt, bay, paths, asked.group)?;
     }
     Ok(())
-}
-
-/// The disks as a command sees them: as far as their records reach, and for `label`, which makes disks of the standard, to their ends. A disk of which it
-/// couldn't be read where they end fails each call, as one whose anchor can't be read does: it would else look blank, though it may be one of the group's.
-// argued: that `label` sees each disk to its end, and no other command does, and that a disk fails where the look at its end did, for all bays are made of
-// what this function answers.
-fn seen_for<R: Files + AllocGlobal>(
-    rt: &R,
-    files: FileBay<Heard<R>>,
-    command: &Command,
-) -> Result<Fenced<Shortened<FileBay<Heard<R>>>>, NoMemory> {
-    let bay = match command {
-        Command::Label { .. } => Shortened::whole(files),
-        _ => Shortened::new(files),
-    };
-    let unread = unread_slots(rt, bay.ends(), bay.slots())?;
-    Ok(Fenced::new(bay, unread))
-}
-
-/// Marks those of the first slots of which the look failed.
-fn unread_slots<R: AllocGlobal>(rt: &R, ends: Ends, slots: usize) -> Result<Vec<bool>, NoMemory> {
-    let mut unread = Vec::new(rt.alloc());
-    for slot in 0..slots {
-        unread.push(ends.is_unread(slot))?;
-    }
-    Ok(unread)
 }
 
 /// Names what a command would lose or write over, and disks of controllers that it may write to, and asks. Names too what is odd about disks that are looked at.
-fn name_before<R>(
+fn name_before<R, B>(
     rt: &R,
-    bay: &mut Turned<Fenced<Shortened<FileBay<Heard<R>>>>>,
+    bay: &mut B,
     ends: Ends,
     paths: &[String],
     asked: &Asked,
@@ -412,6 +421,7 @@ fn name_before<R>(
 ) -> Result<Risks, Failure>
 where
     R: Files<File = File> + Input + Eprint + AllocGlobal + Clone + Drop,
+    B: LinuxBay,
 {
     let early = name_early(rt, ends, paths, asked.command.traits().may_write);
     if let Command::Examine | Command::Show = asked.command {
@@ -471,15 +481,16 @@ fn text_of(lines: &Option<Vec<u8>>) -> Option<&str> {
 }
 
 /// Says why a command was refused, as far as the disks tell it.
-fn name_refused<R>(
+fn name_refused<R, B>(
     rt: &R,
-    bay: &mut Turned<Fenced<Shortened<FileBay<Heard<R>>>>>,
+    bay: &mut B,
     paths: &[String],
     asked: &Asked,
     refused: Option<Refused>,
 ) -> Result<(), NoMemory>
 where
     R: Files<File = File> + Eprint + AllocGlobal + Clone + Drop,
+    B: Bay,
 {
     if let Some(refused) = refused {
         name_numbers(rt, bay, paths, asked, refused)?;
@@ -489,9 +500,9 @@ where
 }
 
 /// Says what a command left that somebody has to know.
-fn name_after<R>(
+fn name_after<R, B>(
     rt: &R,
-    bay: &mut Turned<Fenced<Shortened<FileBay<Heard<R>>>>>,
+    bay: &mut B,
     paths: &[String],
     asked: &Asked,
     ending: Ending,
@@ -499,6 +510,7 @@ fn name_after<R>(
 )
 where
     R: Files<File = File> + Eprint + AllocGlobal + Clone + Drop,
+    B: LinuxBay,
 {
     if let Command::Examine | Command::Assemble | Command::Show = asked.command {
         name_turned(rt, bay);
@@ -529,15 +541,10 @@ where
 }
 
 /// Says what a command that is done left that somebody has to know.
-fn name_done<R>(
-    rt: &R,
-    bay: &mut Turned<Fenced<Shortened<FileBay<Heard<R>>>>>,
-    paths: &[String],
-    asked: &Asked,
-    risks: Risks,
-)
+fn name_done<R, B>(rt: &R, bay: &mut B, paths: &[String], asked: &Asked, risks: Risks)
 where
     R: Files<File = File> + Eprint + AllocGlobal + Clone + Drop,
+    B: LinuxBay,
 {
     name_untaken(rt, bay, paths, &asked.command);
     let takes_a_disk = matches!(

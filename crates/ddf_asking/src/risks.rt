@@ -1,9 +1,7 @@
 //! What a command is about to lose or to write over.
-use ddf_bay::Bay;
 use ddf_bytes::NoMemory;
 use ddf_contents::name_filled;
-use ddf_for_linux::{name_misread, name_unfinished};
-use ddf_linux::Turned;
+use ddf_for_linux::{LinuxBay, name_misread, name_unfinished};
 use ddf_losses::{name_accepting, name_deleting, name_difference, name_failing, name_losses};
 use ddf_words::{Asked, Command, Wish};
 
@@ -29,9 +27,9 @@ impl Risks {
 }
 
 /// Names on standard error what a command would lose or write over that somebody may want to keep.
-pub fn name_risks<R, B: Bay + Drop>(
+pub fn name_risks<R, B: LinuxBay>(
     rt: &R,
-    bay: &mut Turned<B>,
+    bay: &mut B,
     paths: &[String],
     asked: &Asked,
 ) -> Result<Risks, NoMemory>
@@ -59,9 +57,9 @@ where
 }
 
 /// Names the members that a command would lose, of an import those of both groups. Whether there are any.
-fn lost_by<R, B: Bay + Drop>(
+fn lost_by<R, B: LinuxBay>(
     rt: &R,
-    bay: &mut Turned<B>,
+    bay: &mut B,
     paths: &[String],
     asked: &Asked,
 ) -> Result<bool, NoMemory>
@@ -78,9 +76,9 @@ where
 }
 
 /// Names what else a change would put an end to, or what it would make that Linux misreads. Whether there is any.
-fn named_by<R, B: Bay + Drop>(
+fn named_by<R, B: LinuxBay>(
     rt: &R,
-    bay: &mut Turned<B>,
+    bay: &mut B,
     paths: &[String],
     asked: &Asked,
 ) -> Result<bool, NoMemory>

@@ -49,6 +49,13 @@ impl<B: Bay + Drop> Remapped<B> {
         })
     }
 
+    /// The bay below, to be asked.
+    pub fn inner(&self) -> &B
+        ensures { result.now ≡ inner_of self.now }
+    {
+        &self.inner
+    }
+
     /// The bay below.
     pub fn into_inner(self) -> B
         ensures inner { result ≡ inner_of self }

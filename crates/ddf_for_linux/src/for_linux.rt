@@ -1,12 +1,12 @@
 //! What standard error says of Linux: disks and arrays that it doesn't take, and arrays whose first resync it hadn't finished.
 //! docs/LINUX.md#what-linux-starts
+use crate::linux_bay::LinuxBay;
 use ddf_arrays_left::{failed_array, group_shown, slot_filled};
 use ddf_assembly::Group;
 use ddf_bay::Bay;
 use ddf_bytes::Guid;
 use ddf_config::{Array, slot_of};
 use ddf_edge::OneLine;
-use ddf_linux::Turned;
 use ddf_name::NameText;
 use ddf_update::NewLayout;
 use ddf_words::{Command, Creation, DiskStyle, Wish};
@@ -35,12 +35,7 @@ pub fn made_for_linux(command: &Command) -> Option<NewLayout> {
 }
 
 /// Names on standard error what a command that is done made for Linux, and Linux doesn't take.
-pub fn name_untaken<R: Eprint, B: Bay + Drop>(
-    rt: &R,
-    bay: &Turned<B>,
-    paths: &[String],
-    command: &Command,
-) {
+pub fn name_untaken<R: Eprint, B: LinuxBay>(rt: &R, bay: &B, paths: &[String], command: &Command) {
     match command {
         Command::Label {
             style: DiskStyle::Linux,
@@ -54,10 +49,7 @@ pub fn name_untaken<R: Eprint, B: Bay + Drop>(
 }
 
 /// Names each of these slots, or of all where there are none, whose disk is too small.
-fn name_small<R: Eprint, B: Bay>(rt: &R, bay: &Turned<B>, paths: &[String], slots: &[u8])
-where
-    B: Drop,
-{
+fn name_small<R: Eprint, B: LinuxBay>(rt: &R, bay: &B, paths: &[String], slots: &[u8]) {
     for (slot, path) in paths.iter().enumerate() {
         let is_named = slots.is_empty() || slots.iter().any(|other| usize::from(*other) == slot);
         if is_named && is_small(bay, slot) {
@@ -70,12 +62,12 @@ where
 }
 
 /// Whether the disk of a slot is too small for Linux, where there is such a slot.
-fn is_small<B: Bay + Drop>(bay: &Turned<B>, slot: usize) -> bool {
+fn is_small<B: LinuxBay>(bay: &B, slot: usize) -> bool {
     slot < bay.slots() && bay.size(slot) <= TOO_SMALL
 }
 
 /// Whether a new array has an element on a disk that is too small for Linux.
-fn is_on_small<B: Bay + Drop>(bay: &Turned<B>, creation: &Creation) -> bool {
+fn is_on_small<B: LinuxBay>(bay: &B, creation: &Creation) -> bool {
     let mut is_on = false;
     for element in creation.elements.items() {
         for slot in element.slots.items() {
@@ -86,19 +78,14 @@ fn is_on_small<B: Bay + Drop>(bay: &Turned<B>, creation: &Creation) -> bool {
 }
 
 /// Whether a new array has an element on a disk of Linux's kind.
-fn is_on_linux<B: Bay + Drop>(bay: &Turned<B>, creation: &Creation) -> bool {
+fn is_on_linux<B: LinuxBay>(bay: &B, creation: &Creation) -> bool {
     let mut is_on = false;
     for element in creation.elements.items() {
         for slot in element.slots.items() {
-            is_on |= turns(bay, usize::from(*slot));
+            is_on |= bay.turns(usize::from(*slot));
         }
     }
     is_on
-}
-
-/// Whether records of a slot are turned, where there is such a slot.
-fn turns<B: Bay + Drop>(bay: &Turned<B>, slot: usize) -> bool {
-    slot < bay.slots() && bay.turns(slot)
 }
 
 /// Names a new array that Linux doesn't start, and why. A disk of it may be too small.
@@ -111,11 +98,7 @@ fn name_unstarted<R: Eprint>(rt: &R, creation: &Creation, is_on_small: bool) {
 }
 
 /// Names on standard error a new array on disks of Linux's kind that Linux would read as something else. Whether it is one.
-pub fn name_misread<R: Eprint, B: Bay + Drop>(
-    rt: &R,
-    bay: &Turned<B>,
-    creation: &Creation,
-) -> bool {
+pub fn name_misread<R: Eprint, B: LinuxBay>(rt: &R, bay: &B, creation: &Creation) -> bool {
     if !is_on_linux(bay, creation) {
         return false;
     }
@@ -216,15 +199,11 @@ fn is_uneven(creation: &Creation) -> bool {
 }
 
 /// The group that a command is over, where a disk of Linux's kind is there.
-fn group_on_linux<R, B: Bay + Drop>(
-    rt: &R,
-    bay: &mut Turned<B>,
-    named: Option<Guid>,
-) -> Option<Group>
+fn group_on_linux<R, B: LinuxBay>(rt: &R, bay: &mut B, named: Option<Guid>) -> Option<Group>
 where
     R: AllocGlobal,
 {
-    if !(0..bay.slots()).any(|slot| turns(bay, slot)) {
+    if !(0..bay.slots()).any(|slot| bay.turns(slot)) {
         return None;
     }
     match group_shown(rt, bay, named) {
@@ -235,7 +214,7 @@ where
 
 /// Names on standard error each array on disks of Linux's kind that Linux left before its first resync had ended: its records
 /// call it consistent.
-pub fn name_unfinished<R, B: Bay + Drop>(rt: &R, bay: &mut Turned<B>, named: Option<Guid>)
+pub fn name_unfinished<R, B: LinuxBay>(rt: &R, bay: &mut B, named: Option<Guid>)
 where
     R: Eprint + AllocGlobal,
 {
@@ -258,11 +237,11 @@ fn is_unfinished(array: &Array) -> bool {
 }
 
 /// Whether a position of an array lies on a disk of Linux's kind.
-fn lies_on_linux<B: Bay + Drop>(bay: &Turned<B>, group: &Group, array: &Array) -> bool {
+fn lies_on_linux<B: LinuxBay>(bay: &B, group: &Group, array: &Array) -> bool {
     let mut lies = false;
     for element in array.elements.items().iter().flatten() {
         for position in element.positions.as_slice() {
-            lies |= turns(bay, slot_of(group.seats(), position.reference));
+            lies |= bay.turns(slot_of(group.seats(), position.reference));
         }
     }
     lies
@@ -270,7 +249,7 @@ fn lies_on_linux<B: Bay + Drop>(bay: &Turned<B>, group: &Group, array: &Array) -
 
 /// Says on standard error what is to be done with a lost disk before Linux sees the others, where a group on disks of Linux's kind
 /// lists one as missing.
-pub fn name_lost_on_linux<R, B: Bay + Drop>(rt: &R, bay: &mut Turned<B>, named: Option<Guid>)
+pub fn name_lost_on_linux<R, B: LinuxBay>(rt: &R, bay: &mut B, named: Option<Guid>)
 where
     R: Eprint + AllocGlobal,
 {
@@ -299,7 +278,7 @@ fn tell_lost<R: Eprint + AllocGlobal>(rt: &R, group: &Group) {
 }
 
 /// Names on standard error each array on disks of Linux's kind of which a rebuild has begun and hasn't ended.
-pub fn name_unrebuilt<R, B: Bay + Drop>(rt: &R, bay: &mut Turned<B>, named: Option<Guid>)
+pub fn name_unrebuilt<R, B: LinuxBay>(rt: &R, bay: &mut B, named: Option<Guid>)
 where
     R: Eprint + AllocGlobal,
 {
@@ -327,7 +306,7 @@ fn has_missing(group: &Group) -> bool {
 }
 
 /// Names on standard error each slot whose checksums are turned.
-pub fn name_turned<R: Eprint, B: Bay + Drop>(rt: &R, bay: &Turned<B>) {
+pub fn name_turned<R: Eprint, B: LinuxBay>(rt: &R, bay: &B) {
     for slot in 0..bay.slots() {
         if bay.turns(slot) {
             let _ = eprintln!(rt; "ddf: slot {slot}: checksums as Linux's mdadm counts them");

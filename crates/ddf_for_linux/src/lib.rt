@@ -4,8 +4,10 @@
 #![tactic(auto)]
 
 mod for_linux;
+mod linux_bay;
 
 pub use for_linux::{
     made_for_linux, name_lost_on_linux, name_misread, name_turned, name_unfinished, name_unrebuilt,
     name_untaken,
 };
+pub use linux_bay::LinuxBay;

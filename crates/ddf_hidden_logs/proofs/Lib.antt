@@ -14,3 +14,4 @@ mod Other
 mod Newest
 mod Counts
 mod Seen
+mod Honouring

@@ -7,3 +7,5 @@ pub mod Recounts
 pub mod Shown
 pub mod Looks
 pub mod WasShown
+pub mod Honouring
+pub mod HonouredLaws

@@ -2,6 +2,9 @@
 use Rattle.std.specs.Prelude.{ℕ, ◌+◌, Bool, false, ◌==◌, ◌&&◌, ◌||◌, nat_lt, if◌then◌else◌, List, length, Option, Some, None, slice_index_or}
 use Rattle.std.specs.List.{list_all}
 use Rattle.std.specs.Str.{bytes_eq}
+use Rattle.std.specs.Int.{w16}
+use Rattle.ddf_bytes.specs.Bytes.{number_at}
+use Rattle.ddf_tables.specs.declared.layout.TheConstants.{LOG_COUNT_AT}
 use Rattle.ddf_hidden_logs.specs.declared.mask.Mask.{Mask}
 
 -- a log begins at a sector
@@ -26,6 +29,14 @@ other_of mask bytes = if bytes_eq bytes mask.below then mask.shown else mask.bel
 abbrev pub turned_by : Mask → ℕ → List ℕ → List ℕ
 turned_by mask l bytes = if turns_by mask l bytes then other_of mask bytes else bytes
 
+-- the entries that the log counts which begins so
+abbrev pub count_in : List ℕ → ℕ
+count_in front = number_at w16 front LOG_COUNT_AT
+
+-- those of a log that shows none
+abbrev pub hidden_by : Mask → ℕ
+hidden_by mask = if count_in mask.shown == 0 then count_in mask.below else 0
+
 -- ---- on a slot, which may have none
 
 abbrev pub turns : Option Mask → ℕ → List ℕ → Bool
@@ -36,6 +47,11 @@ turns (Some mask) l bytes = turns_by mask l bytes
 abbrev pub turn : Option Mask → ℕ → List ℕ → List ℕ
 turn None l bytes = bytes
 turn (Some mask) l bytes = turned_by mask l bytes
+
+-- the entries that a log has which shows none
+abbrev pub hidden : Option Mask → ℕ
+hidden None = 0
+hidden (Some mask) = hidden_by mask
 
 -- the mask of a slot in a list of them
 abbrev pub mask_of : List (Option Mask) → ℕ → Option Mask

@@ -1,9 +1,11 @@
 //! A bay over a bay, whose disks' bad block logs show what counts against the disk.
-ghost use Rattle.std.specs.Prelude.{◌≡◌, ℕ};
-ghost use Rattle.ddf_hidden_logs.specs.Masks.{turn};
+ghost use Rattle.std.specs.Prelude.{◌≡◌, ℕ, None};
+ghost use Rattle.ddf_hidden_logs.specs.Masks.{hidden, turn};
 
 use crate::mask::Mask;
+use crate::masks::hidden_at;
 use ddf_bay::Bay;
+use std::alloc::Global;
 
 /// A bay over a bay. Of each slot, at the place of the bad block log in either copy, the front of the newest copy's log is seen as another one:
 /// with the count of entries that counts against the disk, which is 0 where its log is honoured. What is written there as it is seen stands there as
@@ -29,6 +31,22 @@ impl<B: Bay + Drop> Hidden<B> {
             masks,
             made: 0,
         }
+    }
+
+    /// Sees each slot as it is, without a look.
+    pub fn plain(alloc: Global, inner: B) -> Hidden<B>
+        ensures inner { inner_of result ≡ inner }
+        ensures plain { (s : ℕ) → mask_of result s ≡ None }
+        ensures calls { (disks_of B.disks result).calls ≡ 0 }
+    {
+        Hidden::new(inner, Vec::new(alloc))
+    }
+
+    /// How many entries the log of a slot has, where it shows none of them: its ranges of bad sectors, where the log is honoured.
+    pub fn hidden(&self, slot: usize) -> u16
+        ensures { result ≡ hidden (mask_of self.now slot) }
+    {
+        hidden_at(self.masks.as_slice(), slot)
     }
 
     /// The bay below, to be asked.

@@ -4,6 +4,8 @@
 mod calls;
 mod hidden;
 mod hiding;
+mod honoured;
+mod honoured_calls;
 mod laws;
 mod look;
 mod mask;
@@ -13,6 +15,7 @@ mod recount;
 
 pub use hidden::Hidden;
 pub use hiding::hide_logs;
+pub use honoured::Honoured;
 pub use laws::{
     a_bay_of_hidden_logs_goes_on_where_the_bay_below_does, a_disk_shows_what_counts_against_it,
 };

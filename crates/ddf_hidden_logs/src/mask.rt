@@ -1,8 +1,9 @@
 //! A sector of a slot that is seen as another one.
 ghost use Rattle.std.specs.Prelude.{◌≡◌, ◌==◌, ◌+◌, length};
-ghost use Rattle.ddf_hidden_logs.specs.Masks.{is_either, is_place, is_sector, other_of, turned_by, turns_by};
+ghost use Rattle.ddf_hidden_logs.specs.Masks.{hidden_by, is_either, is_place, is_sector, other_of, turned_by, turns_by};
 
-use ddf_bytes::Sector;
+use ddf_bytes::{Sector, be16};
+use ddf_tables::layout::LOG_COUNT_AT;
 
 /// The front of a disk's bad block log, and what is seen of it. At its place in either copy each of the two sectors is seen as the other one.
 #[derive(Clone, Copy)]
@@ -50,6 +51,17 @@ impl Mask {
     {
         if self.turns(lba, sector) {
             *sector = self.other(sector);
+        }
+    }
+
+    /// How many entries the log has, where it shows none.
+    pub fn hidden(&self) -> u16
+        ensures { result ≡ hidden_by self.now }
+    {
+        if be16(&self.shown, LOG_COUNT_AT) == 0 {
+            be16(&self.below, LOG_COUNT_AT)
+        } else {
+            0
         }
     }
 

@@ -1,6 +1,6 @@
 //! The masks of the slots of a bay, and what is seen through them.
 ghost use Rattle.std.specs.Prelude.{◌≡◌, ◌<◌, ◌≤◌, ◌+◌, ◌^◌, ℕ, [], true, false, length, option_map, slice_index_or};
-ghost use Rattle.ddf_hidden_logs.specs.Masks.{mask_of, turn, turned_by, turns_by};
+ghost use Rattle.ddf_hidden_logs.specs.Masks.{hidden, mask_of, turn, turned_by, turns_by};
 ghost use Rattle.ddf_hidden_logs.specs.Pieces.{turns_at};
 
 use crate::mask::Mask;
@@ -13,6 +13,16 @@ fn mask_of(masks: &[Option<Mask>], slot: usize) -> Option<&Mask>
     match masks.get(slot) {
         Some(mask) => mask.as_ref(),
         None => None,
+    }
+}
+
+/// How many entries the log of a slot has, where it shows none.
+pub(crate) fn hidden_at(masks: &[Option<Mask>], slot: usize) -> u16
+    ensures { result ≡ hidden (mask_of masks.now slot) }
+{
+    match mask_of(masks, slot) {
+        Some(mask) => mask.hidden(),
+        None => 0,
     }
 }
 

@@ -65,6 +65,13 @@ impl<B: Bay + Drop> Turned<B> {
         }
     }
 
+    /// The inner bay, to be asked.
+    pub fn inner(&self) -> &B
+        ensures { result.now ≡ inner_of self.now }
+    {
+        &self.inner
+    }
+
     /// The inner bay.
     pub fn into_inner(self) -> B
         ensures inner { result ≡ inner_of self }

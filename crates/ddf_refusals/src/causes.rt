@@ -188,20 +188,20 @@ const CAUSES: [Cause; 43] = [
     Cause {
         number: 31,
         command: "rebuild",
-        why: "The disk in the slot, one of the array's or the spare, lists bad blocks in its log.",
-        way: "Make another disk the spare; or fail the slot, where the array can do without it, and rebuild.",
+        why: "The disk in the slot, one of the array's or the spare, lists bad blocks in its log that can't be served at spare places.",
+        way: "Make another disk the spare; or fail the slot, where the array can do without it, and rebuild. Where the disk's two copies list different ones, assemble first.",
     },
     Cause {
         number: 31,
         command: "import",
-        why: "A disk that joins lists bad blocks in its log.",
+        why: "A disk that joins lists bad blocks in its log that can't be served at spare places.",
         way: "Within its own group fail its slot and rebuild first, or copy the data by read and write.",
     },
     Cause {
         number: 31,
         command: "any",
-        why: "A disk of the array lists bad blocks in its log.",
-        way: "Read without that disk, where the array can do without it. To go on for good, fail its slot and rebuild.",
+        why: "A disk of the array lists bad blocks in its log that can't be served at spare places.",
+        way: "Where the disk's two copies list different ones, assemble first. Else read without that disk, where the array can do without it; to go on for good, fail its slot and rebuild.",
     },
     Cause {
         number: 32,

@@ -1,10 +1,9 @@
 //! The program whose scenarios these are.
 use ddf_batch::serve;
-use ddf_bay::{Bay, MemoryBay};
+use ddf_bay::Bay;
 use ddf_bytes::{MemorySink, MemorySource, Stamp};
 use ddf_command::{Command, DiskStyle, asked, slot_paths};
-use ddf_linux::Turned;
-use ddf_scenario::Program;
+use ddf_scenario::{Program, Seen, Sight};
 use ddf_update::NewLayout;
 use std::alloc::Global;
 
@@ -16,24 +15,30 @@ impl Program for Ddf {
         slot_paths(words).len()
     }
 
-    fn made_for_linux(&self, alloc: Global, words: &[String]) -> Option<NewLayout> {
+    fn sight(&self, alloc: Global, words: &[String]) -> Sight {
+        let mut sight = Sight {
+            founds: None,
+            by_logs: true,
+        };
         let Ok(asked) = asked(alloc, words) else {
-            return None;
+            return sight;
         };
         match asked.command {
             Command::Label {
                 style: DiskStyle::Linux,
                 ..
-            } => Some(NewLayout::Small),
-            _ => None,
+            } => sight.founds = Some(NewLayout::Small),
+            Command::Examine => sight.by_logs = false,
+            _ => {}
         }
+        sight
     }
 
     fn call(
         &self,
         alloc: Global,
         words: &[String],
-        bay: &mut Turned<MemoryBay>,
+        bay: &mut Seen,
         input: &mut MemorySource,
         sink: &mut MemorySink,
         stamp: Stamp,

@@ -1,18 +1,24 @@
 //! The call of the program over the disks of a scenario.
 use crate::disks::{ALL, Disks, Output, new_bay};
 use crate::input::empty;
-use crate::program::Program;
+use crate::looking::{log_looks, seen, unseen};
+use crate::program::{Program, Seen, Sight};
 use crate::run::{sync_slot, write_sectors};
 use crate::told::text_of;
 use crate::words::{push_words, words_over};
 use anyhow::bail;
-use ddf_bay::{Bay, MemoryBay};
+use ddf_bay::Bay;
 use ddf_bytes::{MemorySink, MemorySource, Stamp};
-use ddf_linux::Turned;
 use std::alloc::Global;
 
 /// The sizes of small disks, for words alone.
 const SMALL: [u64; 64] = [9; 64];
+
+/// Small blank disks have no logs.
+const PLAIN: Sight = Sight {
+    founds: None,
+    by_logs: false,
+};
 
 /// The answer of a command over all disks.
 pub fn command<P: Program>(
@@ -21,9 +27,13 @@ pub fn command<P: Program>(
     disks: &mut Disks,
     text: &str,
 ) -> anyhow::Result<String> {
-    let inner = disks.take()?;
-    let words = words_over(alloc, inner.slots(), text)?;
-    let mut bay = Turned::new(inner, program.made_for_linux(alloc, words.as_slice()));
+    let slots = disks.bay()?.slots();
+    let words = words_over(alloc, slots, text)?;
+    let sight = program.sight(alloc, words.as_slice());
+    let inner = disks.take_for(alloc, sight)?;
+    let before = inner.calls();
+    let mut bay = seen(alloc, inner, sight)?;
+    disks.pass_over(log_looks(&bay, before));
     if disks.loses_anchors {
         lose_anchors(&mut bay)?;
         disks.loses_anchors = false;
@@ -41,7 +51,7 @@ pub fn command<P: Program>(
         &mut input,
         disks.output,
     )?;
-    disks.bay = Some(bay.into_inner());
+    disks.bay = Some(unseen(bay));
     Ok(answer)
 }
 
@@ -57,7 +67,7 @@ pub fn command_alone<P: Program>(
     let Some(sizes) = SMALL.get(..program.disks(words.as_slice())) else {
         bail!("there are too many disks");
     };
-    let mut bay = Turned::new(new_bay(alloc, sizes, 0)?, None);
+    let mut bay = seen(alloc, new_bay(alloc, sizes, 0)?, PLAIN)?;
     call(
         alloc,
         program,
@@ -72,7 +82,7 @@ pub fn command_alone<P: Program>(
 fn call<P: Program>(
     alloc: Global,
     program: &P,
-    bay: &mut Turned<MemoryBay>,
+    bay: &mut Seen,
     words: &[String],
     stamp: Stamp,
     input: &mut MemorySource,
@@ -92,14 +102,14 @@ fn call<P: Program>(
 }
 
 /// Writes zeros over the last sector of each disk, through the bay as it was first seen.
-fn lose_anchors(bay: &mut Turned<MemoryBay>) -> anyhow::Result<()> {
+fn lose_anchors(bay: &mut Seen) -> anyhow::Result<()> {
     for slot in 0..bay.slots() {
         lose_anchor(bay, slot)?;
     }
     Ok(())
 }
 
-fn lose_anchor(bay: &mut Turned<MemoryBay>, slot: usize) -> anyhow::Result<()> {
+fn lose_anchor(bay: &mut Seen, slot: usize) -> anyhow::Result<()> {
     if slot < bay.slots() {
         let last = bay.size(slot).saturating_sub(1);
         write_sectors(bay, slot, last, &[[0; 512]])?;

@@ -3,8 +3,9 @@ ghost use Rattle.std.specs.Prelude.{◌≡◌, ◌≤◌, ◌^◌, IsTrue, lengt
 ghost use Rattle.std.specs.List.{AllPass, list_all};
 
 use crate::numbers::{count, number, numbers};
+use crate::program::Sight;
 use crate::run::{sync_slot, write_sectors};
-use crate::stop::{WRITES, stopped};
+use crate::stop::{Failing, WRITES, started, stopped};
 use anyhow::bail;
 use ddf_bay::{Bay, MemoryBay};
 use ddf_bytes::{MemorySource, Sector, Stamp};
@@ -38,7 +39,13 @@ pub struct Disks {
     pub input: Option<MemorySource>,
     /// Whether the anchors are lost behind the next command's first look at them.
     pub loses_anchors: bool,
-    /// The calls of the bay when they were asked for last.
+    /// The calls that fail in the next command, where a stop told some.
+    failing: Option<Failing>,
+    /// The slots that are unplugged.
+    unplugged: [bool; 64],
+    /// The calls before the bay began to count anew.
+    before: u64,
+    /// The calls that were told, and those that aren't.
     counted: u64,
 }
 
@@ -54,6 +61,9 @@ impl Disks {
             output: ALL,
             input: None,
             loses_anchors: false,
+            failing: None,
+            unplugged: [false; 64],
+            before: 0,
             counted: 0,
         }
     }
@@ -83,16 +93,41 @@ impl Disks {
         self.bay = Some(new_bay(alloc, sizes.as_slice(), room)?);
         self.output = ALL;
         self.input = None;
-        self.counted = 0;
+        self.begin(None);
         Ok(())
+    }
+
+    /// Begins to count calls.
+    fn begin(&mut self, failing: Option<Failing>) {
+        self.failing = failing;
+        self.unplugged = [false; 64];
+        self.before = 0;
+        self.counted = 0;
     }
 
     /// A stop, and a start: `KEEP`, with `after N` or `failing N..` behind it.
     pub fn stop(&mut self, alloc: Global, words: &[&str]) -> anyhow::Result<()> {
         let bay = self.take()?;
-        self.bay = Some(stopped(alloc, bay, words)?);
-        self.counted = 0;
+        let (bay, failing) = stopped(alloc, bay, words)?;
+        self.bay = Some(bay);
+        self.begin(failing);
         Ok(())
+    }
+
+    /// Takes the disks out for a command, with its calls that fail. Their calls are told without those that count them.
+    pub fn take_for(&mut self, alloc: Global, sight: Sight) -> anyhow::Result<MemoryBay> {
+        let bay = self.take()?;
+        let Some(failing) = self.failing.take() else {
+            return Ok(bay);
+        };
+        self.before = self.before.saturating_add(bay.calls());
+        let mut bay = started(alloc, bay, &failing, sight)?;
+        for (slot, is_out) in self.unplugged.iter().enumerate() {
+            if *is_out && slot < bay.slots() {
+                bay.unplug(slot);
+            }
+        }
+        Ok(bay)
     }
 
     /// Makes each later call on a slot fail, up to the next stop.
@@ -107,6 +142,9 @@ impl Disks {
             bail!("there is no such slot");
         }
         bay.unplug(slot);
+        if slot < 64 {
+            self.unplugged[slot] = true;
+        }
         Ok(())
     }
 
@@ -154,9 +192,15 @@ impl Disks {
         sync_slot(self.bay()?, count(slot)?)
     }
 
-    /// How many calls the bay was asked since this was asked last, or since the last stop.
+    /// Leaves so many calls out of those that are told.
+    pub fn pass_over(&mut self, calls: u64) {
+        self.counted = self.counted.saturating_add(calls);
+    }
+
+    /// How many calls the bay was asked since this was asked last, or since the last stop, but for those that looked for bad block logs.
     pub fn calls(&mut self, alloc: Global) -> anyhow::Result<String> {
-        let calls = self.bay()?.calls();
+        let before = self.before;
+        let calls = self.bay()?.calls().saturating_add(before);
         let since = calls.saturating_sub(self.counted);
         self.counted = calls;
         Ok(format!(in alloc; "{since}\n")?)

@@ -8,6 +8,7 @@ mod disks;
 mod edit;
 mod input;
 mod lines;
+mod looking;
 mod numbers;
 mod outcomes;
 mod placing;
@@ -26,6 +27,6 @@ mod vectors;
 mod words;
 
 pub use player::play;
-pub use program::Program;
+pub use program::{Program, Seen, Sight};
 pub use report::Report;
 pub use script::{Step, steps_of};

@@ -1,5 +1,7 @@
 //! Stops, as by a power cut, and the starts behind them.
+use crate::looking::{first_looks, log_looks, seen, unseen};
 use crate::numbers::{number, numbers};
+use crate::program::Sight;
 use anyhow::bail;
 use ddf_bay::MemoryBay;
 use std::alloc::Global;
@@ -7,16 +9,80 @@ use std::alloc::Global;
 /// The sectors that a scenario may write to its disks.
 pub const WRITES: usize = 20_000;
 
-/// The disks behind a stop, and a start with calls that fail: `KEEP`, with `after N` or `failing N..` behind it. Calls count from 0.
-pub fn stopped(alloc: Global, bay: MemoryBay, words: &[&str]) -> anyhow::Result<MemoryBay> {
-    let (keep, failing, after) = match words {
-        [keep] => (keep, Vec::new(alloc), None),
-        [keep, "after", first] => (keep, Vec::new(alloc), Some(number(first)?)),
-        [keep, "failing", failing @ ..] => (keep, numbers(alloc, failing)?, None),
-        _ => bail!("no stop is written so"),
+/// The calls of the next command that fail, as a stop told them: counted from that stop on, without those that look for bad block logs.
+#[derive(Drop)]
+pub struct Failing {
+    /// The numbers of calls that fail.
+    calls: Vec<u64>,
+    /// The number from which on all fail, if there is one.
+    after: Option<u64>,
+}
+
+/// The disks behind a stop, and a start: `KEEP`, with `after N` or `failing N..` behind it, and then which calls of the next command fail. With `looking N..`
+/// these fail at once, and those that look for logs count too.
+pub fn stopped(
+    alloc: Global,
+    bay: MemoryBay,
+    words: &[&str],
+) -> anyhow::Result<(MemoryBay, Option<Failing>)> {
+    let [keep, rest @ ..] = words else {
+        bail!("no stop is written so");
     };
     let keep = kept(alloc, keep)?;
-    Ok(bay.crash(keep.as_slice(), failing, after))
+    let (looking, failing) = match rest {
+        [] => (Vec::new(alloc), None),
+        ["after", first] => {
+            let after = Some(number(first)?);
+            (
+                Vec::new(alloc),
+                Some(Failing {
+                    calls: Vec::new(alloc),
+                    after,
+                }),
+            )
+        }
+        ["failing", calls @ ..] => {
+            let calls = numbers(alloc, calls)?;
+            (Vec::new(alloc), Some(Failing { calls, after: None }))
+        }
+        ["looking", calls @ ..] => (numbers(alloc, calls)?, None),
+        _ => bail!("no stop is written so"),
+    };
+    Ok((bay.crash(keep.as_slice(), looking, None), failing))
+}
+
+/// The disks with the calls that fail in the next command, behind those that look for logs, which are tried once to count them. What isn't sure yet is made sure.
+pub fn started(
+    alloc: Global,
+    bay: MemoryBay,
+    failing: &Failing,
+    sight: Sight,
+) -> anyhow::Result<MemoryBay> {
+    let made = bay.calls();
+    let first = made.saturating_add(first_looks(&bay));
+    let bay = seen(alloc, bay, sight)?;
+    let looks = log_looks(&bay, made);
+    let mut calls = Vec::new(alloc);
+    for call in &failing.calls {
+        calls.push(place_of(*call, made, first, looks))?;
+    }
+    let after = match failing.after {
+        Some(call) => Some(place_of(call, made, first, looks)),
+        None => None,
+    };
+    let keep = kept(alloc, "all")?;
+    Ok(unseen(bay).crash(keep.as_slice(), calls, after))
+}
+
+/// The number of a call, counted from the command on, of one that is told from a stop on, of which so many calls were made before the command. The looks for logs
+/// follow the first looks.
+fn place_of(call: u64, made: u64, first: u64, looks: u64) -> u64 {
+    let place = call.saturating_sub(made);
+    if call < first {
+        place
+    } else {
+        place.saturating_add(looks)
+    }
 }
 
 /// Which of the writes that no sync made sure a stop keeps: `none`, `all`, every `second` one from the first on, or as a row of `+` and

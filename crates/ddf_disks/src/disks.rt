@@ -1,0 +1,62 @@
+//! The disks that a command gets, as one bay.
+ghost use Rattle.std.specs.Prelude.{◌≤◌, length};
+
+use crate::opened::{Reached, reached_disks};
+use ddf_bay::Bay;
+use ddf_edge::{Failure, name_failed};
+use ddf_hidden_logs::Honoured;
+use ddf_linux::Turned;
+use ddf_shortened::Ends;
+use ddf_update::NewLayout;
+use ddf_words::Command;
+use std::alloc::Global;
+use std::fs::File;
+use std::rt::{Clock, Files};
+
+/// The disks that a command gets, one a slot.
+pub type Disks<R> = Honoured<Turned<Reached<R>>>;
+
+/// Opens the disks that a command names, for reading alone, or for writing too where the command may write. With `founds` new disks of that layout
+/// are sealed in Linux's kind.
+///
+/// # Errors
+/// `Unopened` where the command changes a group and a disk can't be opened, `Locked` where it looks at a group and another program has a disk, and
+/// want of memory.
+pub fn open<R>(
+    rt: &R,
+    paths: &[String],
+    command: &Command,
+    founds: Option<NewLayout>,
+) -> Result<Disks<R>, Failure>
+where
+    R: Files<File = File> + Clock + Eprint + AllocGlobal + Clone + Drop,
+    requires { length paths.now ≤ 64 }
+{
+    let reached = reached_disks(rt, paths, command)?;
+    by_logs(rt.alloc(), Turned::new(reached, founds), command)
+}
+
+/// The disks by what their bad block logs say. `examine` tells what is written on them, so it sees sectors and logs as they are.
+// argued: that a command reads and writes bad sectors where the logs say, for what this function answers is the bay that it gets, and that `examine` alone
+// sees the logs themselves.
+fn by_logs<B: Bay + Drop>(
+    alloc: Global,
+    inner: B,
+    command: &Command,
+) -> Result<Honoured<B>, Failure> {
+    if let Command::Examine = command {
+        return Ok(Honoured::as_written(alloc, inner));
+    }
+    Ok(Honoured::new(alloc, inner)?)
+}
+
+/// How far the records of each disk reach.
+pub fn ends_of<R: Files>(disks: &Disks<R>) -> Ends {
+    disks.inner().inner().inner().ends()
+}
+
+/// Closes the disks, and names on standard error each of which a call failed, and what the system said of the last one.
+pub fn name_failed_of<R: Files + Eprint>(rt: &R, disks: Disks<R>, paths: &[String]) {
+    let shortened = disks.into_inner().into_inner().into_inner();
+    name_failed(rt, &shortened.into_inner(), paths);
+}
