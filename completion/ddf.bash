@@ -35,7 +35,7 @@ _ddf_behind() {
     label:*) _ddf_offer_images "$cur" "${@:2}" ;;
     fail:1 | spare:1) _ddf_offer_images "$cur" ;;
     spare:2) _ddf_offer "global for off" "$cur" ;;
-    create:2) _ddf_offer "raid0 raid1 raid4.first raid4.last raid5.r0 raid5.rn raid5.rnc jbod concat" "$cur" ;;
+    create:2) _ddf_offer "raid0 raid1 raid1e.adjacent raid1e.offset raid4.first raid4.last raid5.r0 raid5.rn raid5.rnc jbod concat" "$cur" ;;
     create:3) _ddf_offer "0 1 2 3 4 5 6 7 8 9 10 11 12 13 14 15" "$cur" ;;
     create:4) _ddf_offer "single striped mirrored concat spanned" "$cur" ;;
     esac

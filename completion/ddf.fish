@@ -86,6 +86,6 @@ complete -c ddf -n __ddf_wants_command -a batch -d 'Do the commands on the lines
 complete -c ddf -n '__ddf_at label 1' -a linux -d "Disks that Linux's mdadm takes"
 complete -c ddf -n '__ddf_labels; or __ddf_at fail 1; or __ddf_at spare 1' -a '(__ddf_images)'
 complete -c ddf -n '__ddf_at spare 2' -a 'global for off'
-complete -c ddf -n '__ddf_at create 2' -a 'raid0 raid1 raid4.first raid4.last raid5.r0 raid5.rn raid5.rnc jbod concat'
+complete -c ddf -n '__ddf_at create 2' -a 'raid0 raid1 raid1e.adjacent raid1e.offset raid4.first raid4.last raid5.r0 raid5.rn raid5.rnc jbod concat'
 complete -c ddf -n '__ddf_at create 3' -a '(seq 0 15)'
 complete -c ddf -n '__ddf_at create 4' -a 'single striped mirrored concat spanned'

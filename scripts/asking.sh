@@ -293,6 +293,73 @@ ends 0 "slot 0 sectors 35072 group" "" "./ddf a1.img -- examine"
 silent "256 sectors before"
 echo "asking: disks whose records end 256 sectors before the end are named, served, and asked about before they are written"
 
+# ---- disks with one copy of their records, and RAID 5 of a vendor
+
+# resealed IMAGE OFFSET BYTES SECTOR..: these bytes stand there in these sectors, which are counted from the end and sealed anew.
+resealed() {
+    python3 - "$@" <<'END'
+import sys
+import zlib
+
+name, offset, digits, *places = sys.argv[1:]
+start, written = int(offset), bytes.fromhex(digits)
+with open(name, "r+b") as image:
+    for place in places:
+        image.seek(-512 * int(place), 2)
+        sector = bytearray(image.read(512))
+        sector[start:start + len(written)] = written
+        sector[4:8] = b"\xff" * 4
+        sector[4:8] = zlib.crc32(sector).to_bytes(4, "big")
+        image.seek(-512 * int(place), 2)
+        image.write(sector)
+END
+}
+
+if command -v python3 >/dev/null; then
+    nowhere=ffffffffffffffff
+    group a
+    resealed a1.img 104 $nowhere 1 41
+    sum=$(cksum a?.img)
+    for command in examine show; do
+        ends 0 "" "slot 1 (a1.img) has one copy of its DDF records, and this program reads disks with two: mdadm -E reads it, if mdadm wrote it" "./ddf a0.img a1.img a2.img -- $command"
+        silent "(a0.img) has one copy"
+    done
+    ends 0 "slot 0 damaged place" "slot 0 (a1.img) has one copy of its DDF records" "./ddf a1.img -- examine"
+    ends 1 "refused 12" "slot 0 (a1.img) has one copy of its DDF records" "./ddf a1.img -- show"
+    ends 1 "refused 11 slot 0 not blank" "" "./ddf a1.img -- label"
+    same a?.img
+    resealed a1.img 96 $nowhere 1
+    ends 0 "slot 0 damaged place" "" "./ddf a1.img -- examine"
+    silent "one copy"
+    group a
+    resealed a1.img 96 $nowhere 1
+    ends 0 "slot 0 damaged place" "" "./ddf a1.img -- examine"
+    silent "one copy"
+    echo "asking: a disk with one copy of its records is named"
+
+    # Controller data have the vendor at 32, and stand behind either header.
+    make_group f
+    ends 0 "ok" "" "./ddf f0.img f1.img f2.img -- create w raid5.rnc 7 single 0,1,2@1024"
+    resealed f2.img 32 0590 40 80
+    ends 0 "group" "" "./ddf f0.img f1.img f2.img -- show"
+    silent 9005
+    resealed f2.img 32 9005 40 80
+    sum=$(cksum f?.img)
+    for command in show assemble "read w 0 1"; do
+        ends 0 "" "array w: its controller is of PCI vendor 9005 (Adaptec), and dmraid reads RAID 5 of these as left-asymmetric, whatever the records say: compare some files before you trust it" "./ddf f0.img f1.img f2.img -- $command"
+        silent "array v"
+    done
+    same f?.img
+    ends 0 "group" "" "./ddf f0.img f1.img -- show"
+    silent 9005
+    ends 0 "ok" "array w: its controller is of PCI vendor 9005" "./ddf f0.img f1.img f2.img -- delete w"
+    ends 0 "group" "" "./ddf f0.img f1.img f2.img -- show"
+    silent 9005
+    echo "asking: of a RAID 5 of PCI vendor 9005 it is told that dmraid reads it otherwise"
+else
+    lacks "a disk with one copy of its records, and RAID 5 of a vendor (python3)"
+fi
+
 # ---- disks of members that were dropped
 
 group a
@@ -499,6 +566,8 @@ ends 1 "refused 17" "Take another name" "./ddf a0.img a1.img a2.img -- create v 
 ends 1 "refused 19" "slot 0 is named twice" "./ddf a0.img a1.img a2.img -- create w raid1 0 single 0,0@64"
 ends 1 "refused 19" "BLOCKS are 100, less than the 128 of one strip" "./ddf a0.img a1.img a2.img -- create w raid0 7 single 0,1@100"
 ends 1 "refused 19" "raid1, raid4 and raid5 want 2 at least" "./ddf a0.img a1.img a2.img -- create w raid1 0 single 0@64"
+ends 1 "refused 19" "raid1e wants 3" "./ddf a0.img a1.img a2.img -- create w raid1e.offset 0 single 0,1@64"
+ends 1 "refused 19" "BLOCKS are 200, less than the 256 of two strips" "./ddf a0.img a1.img a2.img -- create w raid1e.adjacent 7 single 0,1,2@200"
 ends 1 "refused 19" "SECONDARY is single for one element alone, and 2 are given" "./ddf a0.img a1.img a2.img -- create w raid1 0 single 0,1@64 1,2@64"
 ends 1 "refused 20 no extent on slot 0" "and 200000 are wanted" "./ddf a0.img a1.img a2.img -- create w raid1 0 single 0,1@200000"
 room=$(sed -n 's/.*slot 0 .*largest free run has \([0-9]*\) blocks.*/\1/p' err)

@@ -22,7 +22,7 @@ for file in ddf.bash _ddf ddf.fish; do
         grep -q -w -e "$command" "$top/completion/$file" || fail "completion/$file has no command $command"
     done <"$work/commands"
 done
-levels="concat jbod raid0 raid1 raid4.first raid4.last raid5.r0 raid5.rn raid5.rnc"
+levels="concat jbod raid0 raid1 raid1e.adjacent raid1e.offset raid4.first raid4.last raid5.r0 raid5.rn raid5.rnc"
 for level in $levels; do
     grep -q -w "$level" "$top/crates/ddf_edge/src/help.rt" || fail "--help knows no level $level"
 done
@@ -39,6 +39,7 @@ ddf d0.img d1.img -- label d0.img |d1.img
 ddf d0.img d1.img -- create |
 ddf d0.img d1.img -- create a |$levels
 ddf d0.img d1.img -- create a raid5|raid5.r0 raid5.rn raid5.rnc
+ddf d0.img d1.img -- create a raid1e|raid1e.adjacent raid1e.offset
 ddf d0.img d1.img -- create a raid5.rnc 1|1 10 11 12 13 14 15
 ddf d0.img d1.img -- create a raid5.rnc 7 |concat mirrored single spanned striped
 ddf d0.img d1.img -- create a raid5.rnc 7 single |

@@ -297,13 +297,14 @@ ends 0 "ok sequence 1" "" "./ddf small.img $linux_disks -- label linux $linux_di
 silent_on_linux
 ends 0 "ok sequence 1" "" "./ddf enough.img -- label linux"
 silent_on_linux
-for words in "raid0 3 single 0,1@128" "raid1 0 single 0,1@128" "raid1 0 single 0,1,2@128" "raid1 3 striped 0,1@128 2,3@128" "raid1 3 spanned 0,1@128 2,3@128" "raid1 3 striped 0,1,2@128 3,4,5@128"; do
+for words in "raid0 3 single 0,1@128" "raid1 0 single 0,1@128" "raid1 0 single 0,1,2@128" "raid1 3 striped 0,1@128 2,3@128" "raid1 3 spanned 0,1@128 2,3@128" "raid1 3 striped 0,1,2@128 3,4,5@128" \
+    "raid1e.adjacent 3 single 0,1,2@128" "raid1e.adjacent 3 single 0,1,2,3@128"; do
     makes "$words" ""
     silent_on_linux
 done
 new_linux_group
 few_strips=": Linux doesn't start it: it has no strips of less than 4 KiB (code 3)"
-for words in "raid0 0 single 0,1@128" "raid0 2 single 0,1@128" "raid5.rn 2 single 0,1,2@128" "raid1 2 striped 0,1@128 2,3@128"; do
+for words in "raid0 0 single 0,1@128" "raid0 2 single 0,1@128" "raid5.rn 2 single 0,1,2@128" "raid1 2 striped 0,1@128 2,3@128" "raid1e.adjacent 2 single 0,1,2@128"; do
     makes "$words" "$few_strips"
 done
 makes "raid1 0 single 0,1,2,3@128" ": Linux doesn't start it: it has no RAID 1 of four disks and more"
@@ -311,7 +312,7 @@ makes "raid4.first 7 single 0,1,2@128" ": Linux doesn't start it: it has no RAID
 makes "jbod 0 single 0@128" ": Linux doesn't start it: it has no JBOD"
 makes "concat 0 single 0,1@128" ": Linux doesn't start it: it has no concatenation"
 new_linux_group
-for words in "raid0 7 striped 0,1@128 2,3@128" "raid1 7 concat 0,1@128 2,3@128"; do
+for words in "raid0 7 striped 0,1@128 2,3@128" "raid1 7 concat 0,1@128 2,3@128" "raid1e.adjacent 3 striped 0,1,2@128 3,4,5@128"; do
     makes "$words" ": Linux doesn't start it: of several elements it has those of RAID 1 alone, striped or spanned"
 done
 for words in "raid1 7 striped 0,1@128 2,3,4@128" "raid1 3 spanned 0,1,2@128 3,4@128"; do
@@ -320,6 +321,8 @@ done
 for words in "raid5.r0 3 single 0,1,2@128" "raid5.rn 7 single 0,1,2@128" "raid4.last 7 single 0,1,2@128"; do
     makes "$words" ": Linux doesn't start it without --force: nothing has made its parity agree with its data yet"
 done
+# Linux would read this level as another one, so it isn't made on its disks.
+ends 1 "refused 18 level 11 RAID 1E" "a disk that Linux reads" "./ddf $linux_disks -- create e raid1e.offset 3 single 0,1,2@128"
 truncate -s 64M m1.img m2.img
 truncate -s 32M m0.img
 ends 0 "ok sequence 1" "slot 0 (m0.img): Linux doesn't take it" "./ddf m0.img m1.img m2.img -- label linux"

@@ -255,7 +255,7 @@ view_apart config guid seats v e are element position other_element other_positi
     subst (λ r. is_some (lookup (nat_eq r) config.members) ≡ true) seat.is_reference (are.of_members seat.at seat.seat seat.is_at) in
     let at = to_flat part_extents view.array.elements two.first.at position two.first.item x.one two.first.is_at x.is_extent in
     let well : lies_well config.members (extents config.arrays) x.one ≡ true =
-    all_pass (lies_well config.members (extents config.arrays)) (array_extents view.array) (lie_well config.members seats (extents config.arrays) view.array view.usable) at.0 x.one at.1 in
+    all_pass (lies_well config.members (extents config.arrays)) (array_extents view.array) (lie_well config.members seats (extents config.arrays) guid view.array view.usable) at.0 x.one at.1 in
     let few = meets_by config.members (extents config.arrays) x.one (lookup (nat_eq x.one.reference) config.members) refl member well in
     let from : x.one.start ≤ overlap.lba = omega (arith, overlap.from_one, x.is_start) in
     let below : overlap.lba < x.one.start + x.one.blocks = omega (arith, overlap.in_one, x.is_start, x.is_blocks) in

@@ -72,10 +72,10 @@ enough_map (Neighbours spread) p xs = ap (one_of_each spread) (sym (map_same (ma
 -- ---- the level of an element
 
 -- the properties of an element's shape are those of its level
-pub shape_coded : (elements : ℕ) (element : ElementValue) (shape : Placement) → element_shape elements element ≡ Some shape → IsAsCoded element.level shape.layout
+pub shape_coded : (elements : ℕ) (element : ElementValue) (shape : Placement) → element_shape elements element ≡ Some shape → IsAsCoded element.level element.qualifier shape.layout
 shape_coded elements element shape e =
     let m = made elements element shape e in
-    subst (λ (s : Placement). IsAsCoded element.level s.layout) (sym m.shape_is) (served element.level element.qualifier m.layout m.layout_is)
+    subst (λ (s : Placement). IsAsCoded element.level element.qualifier s.layout) (sym m.shape_is) (served element.level element.qualifier m.layout m.layout_is)
 
 -- ---- positions
 
@@ -110,7 +110,7 @@ module _ (seats : List Seat) (elements : ℕ) where
       → Same element (record { shape = shape; places = map (place_of seats element.blocks) element.positions })
   same_part element shape made below =
       let places = map (place_of seats element.blocks) element.positions in
-      let need = need_of element.level in
+      let need = need_of element.level element.qualifier in
       let coded = shape_coded elements element shape made in
       record {
         within =
@@ -212,7 +212,7 @@ module _ (conf : Configuration) (guid : List ℕ) (seats : List Seat) (v : Volum
       let array = view.array in
       let all = extents conf.arrays in
       subst (SameAll seats (length array.elements) array.elements) (sym view.parts_are)
-      (same_all seats (length array.elements) array.elements (complete conf.members seats all array view.usable) (shapes conf.members seats all array view.usable) (below_floors conf.members seats all array view.usable))
+      (same_all seats (length array.elements) array.elements (complete conf.members seats all guid array view.usable) (shapes conf.members seats all guid array view.usable) (below_floors conf.members seats all guid array view.usable))
 
   mirrored_is : is_mirrored v ≡ config.is_mirrored view.array
   mirrored_is =

@@ -26,14 +26,14 @@ there_by : (complete there : Bool) → complete ≡ true → (not complete || th
 there_by true there is e = e
 there_by false there is e = absurd (cc)
 
-module _ (members : List (ℕ × Member)) (seats : List Seat) (all : List Extent) (array : Array) (usable : unusable members seats all array ≡ None) where
+module _ (members : List (ℕ × Member)) (seats : List Seat) (all : List Extent) (guid : List ℕ) (array : Array) (usable : unusable members seats all guid array ≡ None) where
   served_on : is_served_on members seats all array ≡ true
   served_on = holds (is_served_on members seats all array) Shape
-      (all_pass (unserved_level array ∷ []) (refuse_if (not (is_served_on members seats all array)) Shape) (refuse_if (not (is_complete array)) Lost ∷ []) usable)
+      (all_pass (unserved_level guid array ∷ []) (refuse_if (not (is_served_on members seats all array)) Shape) (refuse_if (not (is_complete array)) Lost ∷ []) usable)
 
   pub complete : is_complete array ≡ true
   complete = holds (is_complete array) Lost
-      (all_pass (unserved_level array ∷ refuse_if (not (is_served_on members seats all array)) Shape ∷ []) (refuse_if (not (is_complete array)) Lost) [] usable)
+      (all_pass (unserved_level guid array ∷ refuse_if (not (is_served_on members seats all array)) Shape ∷ []) (refuse_if (not (is_complete array)) Lost) [] usable)
 
   pub below_floors : list_any (passes_floor seats) (array_extents array) ≡ false
   below_floors = not_true _ (and_second (is_served members all array) (not (list_any (passes_floor seats) (array_extents array))) served_on)

@@ -20,13 +20,13 @@ use Rattle.ddf_array.proofs.Usable.{tiers}
 pub record Viewed (config : Configuration) (guid : List ℕ) (seats : List Seat) (volume : Volume) : Type 0 where
   pub array : Array
   pub array_is : lookup (same_guid guid) config.arrays ≡ Some array
-  pub usable : unusable config.members seats (extents config.arrays) array ≡ None
+  pub usable : unusable config.members seats (extents config.arrays) guid array ≡ None
   pub tiers_are : array_tiers array ≡ Some volume.tiers
   pub parts_are : volume.parts ≡ parts_of seats array.elements
   pub marked_is : volume.marked ≡ is_marked array
 
 module _ (config : Configuration) (guid : List ℕ) (seats : List Seat) (v : Volume) where
-  by_tiers : (array : Array) → lookup (same_guid guid) config.arrays ≡ Some array → unusable config.members seats (extents config.arrays) array ≡ None
+  by_tiers : (array : Array) → lookup (same_guid guid) config.arrays ≡ Some array → unusable config.members seats (extents config.arrays) guid array ≡ None
       → (t : Option Arrangement) → array_tiers array ≡ t
       → ◌≡◌ {A = Result Volume Refusal} (elim t [ None ↦ Err Shape | Some tiers ↦ Ok (volume (is_marked array) tiers (parts_of seats array.elements)) ]) (Ok v)
       → Viewed config guid seats v
@@ -42,29 +42,29 @@ module _ (config : Configuration) (guid : List ℕ) (seats : List Seat) (v : Vol
         marked_is = sym (ap (λ (x : Volume). x.marked) same);
       }
 
-  by_refusal : (array : Array) → lookup (same_guid guid) config.arrays ≡ Some array → (r : Option Refusal) → unusable config.members seats (extents config.arrays) array ≡ r
+  by_refusal : (array : Array) → lookup (same_guid guid) config.arrays ≡ Some array → (r : Option Refusal) → unusable config.members seats (extents config.arrays) guid array ≡ r
       → ◌≡◌ {A = Result Volume Refusal} (elim r [ None ↦ viewed seats array | Some refusal ↦ Err refusal ]) (Ok v) → Viewed config guid seats v
   by_refusal array found None usable e = by_tiers array found usable (array_tiers array) refl e
   by_refusal array found (Some refusal) usable e = absurd (cc)
 
-  by_array : (found : Option Array) → lookup (same_guid guid) config.arrays ≡ found → view_by config seats found ≡ Ok v → Viewed config guid seats v
+  by_array : (found : Option Array) → lookup (same_guid guid) config.arrays ≡ found → view_by config guid seats found ≡ Ok v → Viewed config guid seats v
   by_array None found e = absurd (cc)
-  by_array (Some array) found e = by_refusal array found (unusable config.members seats (extents config.arrays) array) refl e
+  by_array (Some array) found e = by_refusal array found (unusable config.members seats (extents config.arrays) guid array) refl e
 
   pub from_view : view_of config guid seats ≡ Ok v → Viewed config guid seats v
   from_view e = by_array (lookup (same_guid guid) config.arrays) refl e
 
 -- An array that can be used has a view.
 module _ (config : Configuration) (guid : List ℕ) (seats : List Seat) (array : Array) (found : lookup (same_guid guid) config.arrays ≡ Some array)
-    (usable : unusable config.members seats (extents config.arrays) array ≡ None) where
+    (usable : unusable config.members seats (extents config.arrays) guid array ≡ None) where
   view_with : (t : Option Arrangement) → array_tiers array ≡ t → is_some t ≡ true → (v : Volume) × (view_of config guid seats ≡ Ok v)
   view_with None are there = absurd (cc)
   view_with (Some tiers) are there = (
     volume (is_marked array) tiers (parts_of seats array.elements),
-    ap (view_by config seats) found
+    ap (view_by config guid seats) found
         ∙ ap (λ (r : Option Refusal). elim r [ None ↦ viewed seats array | Some refusal ↦ Err refusal ]) usable
         ∙ ap (λ (t : Option Arrangement). elim t [ None ↦ Err Shape | Some one ↦ Ok (volume (is_marked array) one (parts_of seats array.elements)) ]) are,
   )
 
   pub has_view : (v : Volume) × (view_of config guid seats ≡ Ok v)
-  has_view = view_with (array_tiers array) refl (tiers config.members seats (extents config.arrays) array usable)
+  has_view = view_with (array_tiers array) refl (tiers config.members seats (extents config.arrays) guid array usable)

@@ -61,17 +61,18 @@ viewed seats array =
       | Some tiers ↦ Ok (volume (is_marked array) tiers (parts_of seats array.elements))
     ]
 
-abbrev pub view_by : Configuration → List Seat → Option Array → Result Volume Refusal
-view_by config seats None = Err NoArray
-view_by config seats (Some array) =
-    elim (unusable config.members seats (extents config.arrays) array) [
+-- the view of the array that is found of a GUID
+abbrev pub view_by : Configuration → (guid : List ℕ) → List Seat → Option Array → Result Volume Refusal
+view_by config guid seats None = Err NoArray
+view_by config guid seats (Some array) =
+    elim (unusable config.members seats (extents config.arrays) guid array) [
       | None ↦ viewed seats array
       | Some refusal ↦ Err refusal
     ]
 
 -- the view of an array, or the refusal: no such array, or why it can't be used
 abbrev pub view_of : Configuration → List ℕ → List Seat → Result Volume Refusal
-view_of config guid seats = view_by config seats (lookup (same_guid guid) config.arrays)
+view_of config guid seats = view_by config guid seats (lookup (same_guid guid) config.arrays)
 
 -- an answer up to want of memory
 abbrev pub IsViewAnswer : Result Volume Refusal → Result Volume ViewFault → Type 0

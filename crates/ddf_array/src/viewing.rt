@@ -127,7 +127,7 @@ fn parts_of(
 }
 
 /// Why an array can't be used over these seats: the first of a level that isn't served, numbers that make no array or extents that
-/// don't lie well, and an element that is unknown.
+/// don't lie well, and an element that is unknown. The GUID is the array's.
 ///
 /// # Errors
 /// Memory ran out.
@@ -135,12 +135,13 @@ pub fn use_refusal(
     alloc: Global,
     config: &Config,
     seats: &[Seat],
+    guid: &Guid,
     array: &Array,
 ) -> Result<Option<Refusal>, NoMemory>
-    ensures { IfOk result (λ refusal. refusal ≡ unusable config.now.members seats.now (extents config.now.arrays) array.now) }
+    ensures { IfOk result (λ refusal. refusal ≡ unusable config.now.members seats.now (extents config.now.arrays) guid.now array.now) }
 {
     let all = ExtentsByDisk::new(alloc, &config.arrays)?;
-    let refusal = unusable(alloc, &config.members, seats, &all, array)?;
+    let refusal = unusable(alloc, &config.members, seats, &all, guid, array)?;
     Ok(refusal)
 }
 
@@ -148,11 +149,12 @@ fn view_array(
     alloc: Global,
     config: &Config,
     seats: &[Seat],
+    guid: &Guid,
     array: &Array,
 ) -> Result<View, ViewFault>
-    ensures { IsViewAnswer (view_by config.now seats.now (Some array.now)) result }
+    ensures { IsViewAnswer (view_by config.now guid.now seats.now (Some array.now)) result }
 {
-    if let Some(refusal) = use_refusal(alloc, config, seats, array)? {
+    if let Some(refusal) = use_refusal(alloc, config, seats, guid, array)? {
         return Err(ViewFault::Refused(refusal));
     }
     let Some(tiers) = array_tiers(alloc, array)? else {
@@ -173,13 +175,13 @@ impl View {
     pub fn new(
         alloc: Global,
         config: &Config,
-        array: &Guid,
+        guid: &Guid,
         seats: &[Seat],
     ) -> Result<View, ViewFault>
-        ensures { IsViewAnswer (view_of config.now array.now seats.now) result }
+        ensures { IsViewAnswer (view_of config.now guid.now seats.now) result }
     {
-        match config.arrays.get(array) {
-            Some(array) => view_array(alloc, config, seats, array),
+        match config.arrays.get(guid) {
+            Some(array) => view_array(alloc, config, seats, guid, array),
             None => Err(ViewFault::Refused(Refusal::NoArray)),
         }
     }

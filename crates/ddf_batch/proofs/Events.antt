@@ -9,6 +9,7 @@ use Rattle.ddf_bay.specs.State.{BayState}
 use Rattle.ddf_view.specs.View.{View}
 use Rattle.ddf_seats.specs.Group.{GroupValue}
 use Rattle.ddf_group.specs.declared.answer.Assembly.{Assembly}
+use Rattle.ddf_assembly.specs.Group.{group_of}
 use Rattle.ddf_history.specs.Groups.{groups}
 use Rattle.ddf_history.specs.History.{IsHistory, Moment}
 use Rattle.ddf_history.specs.Issued.{Past}
@@ -29,6 +30,7 @@ use Rattle.ddf_answer.specs.Tells.{IsCutShort}
 use Rattle.ddf_group_commands.proofs.Beside.{reads_beside}
 use Rattle.ddf_group_commands.specs.Assemble.{IsTold}
 use Rattle.ddf_group_commands.specs.Change.{IsToldChange, is_done}
+use Rattle.ddf_group_commands.specs.Requests.{linux_found}
 use Rattle.ddf_command.specs.History.{GroupCall, IsCall, IsCut, IsEnd, IsOther, Leaves, OtherCall, kept_by, past_at}
 use Rattle.ddf_command.specs.Run.{IsCommandDone}
 use Rattle.ddf_words.specs.Lines.{is_for_lines}
@@ -73,10 +75,20 @@ module _ {B : Type 0} (tells : Type 0) (disks : B → BayState B) (told : Type 0
   line_took (Import other) line writes joins done = absurd (false≢true (sym joins))
   line_took Show line writes joins done = absurd (false≢true writes)
   line_took (Scrub name) line writes joins done = absurd (false≢true writes)
-  line_took Assemble line writes joins done = record { done = is_done done.outcome; taken = done.has.taken; is_done = told_done _ done.outcome (answer_of told from.output to.output code) done.ends }
-  line_took (Resync name) line writes joins done = record { done = is_done done.outcome; taken = done.has.taken; is_done = changed_done done.outcome (answer_of told from.output to.output code) done.ends }
-  line_took (Rebuild name) line writes joins done = record { done = is_done done.outcome; taken = done.has.taken; is_done = changed_done done.outcome (answer_of told from.output to.output code) done.ends }
-  line_took (Change wish) line writes joins done = record { done = is_done done.outcome; taken = done.has.taken; is_done = changed_done done.outcome (answer_of told from.output to.output code) done.ends }
+  line_took Assemble line writes joins done =
+      record { done = is_done done.outcome; linux = linux_found (group_of done.has.taken.newest group); taken = done.has.taken; are_its = refl; is_done = told_done _ done.outcome (answer_of told from.output to.output code) done.ends }
+  line_took (Resync name) line writes joins done =
+      record { done = is_done done.outcome; linux = linux_found (group_of done.has.taken.newest group); taken = done.has.taken; are_its = refl; is_done = changed_done done.outcome (answer_of told from.output to.output code) done.ends }
+  line_took (Rebuild name) line writes joins done =
+      record { done = is_done done.outcome; linux = linux_found (group_of done.has.taken.newest group); taken = done.has.taken; are_its = refl; is_done = changed_done done.outcome (answer_of told from.output to.output code) done.ends }
+  line_took (Change wish) line writes joins done =
+      record {
+        done = is_done done.outcome;
+        linux = done.wished.linux;
+        taken = done.wished.has.taken;
+        are_its = done.wished.are_its;
+        is_done = changed_done done.outcome (answer_of told from.output to.output code) done.ends;
+      }
 
   -- The line of an import came to what a call of the program does.
   pub line_joined : (other : List ℕ) → IsCommandDone (work_of tells (disks from.bay) (disks to.bay)) no_input stamp group (Import other) (answer_of told from.output to.output code)

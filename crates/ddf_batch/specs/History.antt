@@ -17,7 +17,7 @@ use Rattle.ddf_answer.specs.Call.{work_of}
 use Rattle.ddf_answer.specs.declared.failure.Failure.{Failure}
 use Rattle.ddf_group_commands.specs.Assemble.{no_change}
 use Rattle.ddf_group_commands.specs.Change.{Request, TakesGroup, is_done, steps_of}
-use Rattle.ddf_group_commands.specs.Requests.{request_for}
+use Rattle.ddf_group_commands.specs.Requests.{linux_found, request_for}
 use Rattle.ddf_write_commands.specs.Resync.{resync_request}
 use Rattle.ddf_import_command.specs.Import.{HasImported}
 use Rattle.ddf_rebuild_command.specs.Asked.{rebuild_request}
@@ -25,12 +25,12 @@ use Rattle.ddf_command.specs.History.{IsCall}
 use Rattle.ddf_batch.specs.Batch.{AreLinesRun, Going, goes_on, point}
 use Rattle.ddf_batch.specs.Line.{Point}
 
--- the changes that the command of a line asks of a group, on so many slots
-abbrev pub request_of_line : (slots : ℕ) → Stamp → Command → Request
-request_of_line slots stamp (Resync name) = resync_request name
-request_of_line slots stamp (Rebuild name) = rebuild_request name
-request_of_line slots stamp (Change wish) = request_for slots stamp wish
-request_of_line slots stamp other = no_change
+-- the changes that the command of a line asks of a group, on so many slots, of which Linux reads these members' disks
+abbrev pub request_of_line : (slots : ℕ) → Stamp → (linux : List ℕ) → Command → Request
+request_of_line slots stamp linux (Resync name) = resync_request name
+request_of_line slots stamp linux (Rebuild name) = rebuild_request name
+request_of_line slots stamp linux (Change wish) = request_for slots stamp wish linux
+request_of_line slots stamp linux other = no_change
 
 -- by it another group joins
 abbrev pub is_join : Command → Bool
@@ -47,7 +47,9 @@ module _ {B : Type 0} (tells : Type 0) (disks : B → BayState B) (stamp : Stamp
   -- The line took the group that it found as a call of the program does, and was done where its status is 0.
   pub record LineTook (from to : Point B) (code : ℕ) : Type 0 where
     pub done : Bool
-    pub taken : TakesGroup (work_of tells (disks from.bay) (disks to.bay)) group (timestamp_of stamp) (request_of_line (length (disks from.bay).sizes) stamp command) done
+    pub linux : List ℕ
+    pub taken : TakesGroup (work_of tells (disks from.bay) (disks to.bay)) group (timestamp_of stamp) (request_of_line (length (disks from.bay).sizes) stamp linux command) done
+    pub are_its : linux ≡ linux_found (group_of taken.newest group)
     pub is_done : code ≡ 0 → done ≡ true
 
   -- The group that it found is that of a history, it wasn't refused, and the history admits it.
@@ -56,7 +58,7 @@ module _ {B : Type 0} (tells : Type 0) (disks : B → BayState B) (stamp : Stamp
     pub is_group : group_of took.taken.newest group ≡ Ok found
     pub same_group : found.config.group ≡ guid
     pub steps : List Step
-    pub are_asked : steps_of found (timestamp_of stamp) (request_of_line (length (disks old.bay).sizes) stamp command) ≡ Ok steps
+    pub are_asked : steps_of found (timestamp_of stamp) (request_of_line (length (disks old.bay).sizes) stamp took.linux command) ≡ Ok steps
     pub admitted : IsAdmitted guid old.past (disks old.bay) took.taken.left found
 
 -- what holds of what follows, or else of the end

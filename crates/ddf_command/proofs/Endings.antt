@@ -31,7 +31,7 @@ use Rattle.ddf_answer.proofs.Costs.{none_written, writes_most}
 use Rattle.ddf_disk_commands.specs.Label.{label_copy, label_sectors, label_slots, revision_of}
 use Rattle.ddf_disk_commands.specs.LabelRefusal.{label_layout}
 use Rattle.ddf_group_commands.proofs.Beside.{reads_beside}
-use Rattle.ddf_group_commands.proofs.ChangeEnds.{assembled_nothing, changed_nothing}
+use Rattle.ddf_group_commands.proofs.ChangeEnds.{assembled_nothing, wished_nothing}
 use Rattle.ddf_group_commands.proofs.Keeping.{reads_keep}
 use Rattle.ddf_group_commands.proofs.ShowEnds.{shown_nothing}
 use Rattle.ddf_group_commands.specs.Change.{Request, TakesGroup}
@@ -227,4 +227,4 @@ done_nothing old tells told before reads input stamp group (Resync name) = resyn
 done_nothing old tells told before reads input stamp group (Rebuild name) = rebuilt_nothing old tells told before group (timestamp_of stamp) name
 done_nothing old tells told before reads input stamp group (Write name start count) = wrote_nothing old tells told before group (timestamp_of stamp) name reads input start count
 done_nothing old tells told before reads input stamp group (Import other) = imported_nothing old tells told before group other (timestamp_of stamp) (none_looked old)
-done_nothing old tells told before reads input stamp group (Change wish) = changed_nothing old tells told before group (timestamp_of stamp) (none_looked old) (request_for (length old.sizes) stamp wish)
+done_nothing old tells told before reads input stamp group (Change wish) = wished_nothing old tells told before group (timestamp_of stamp) (none_looked old) (request_for (length old.sizes) stamp wish)

@@ -12,8 +12,7 @@ use Rattle.ddf_answer.specs.Call.{Answer, Input, Work}
 use Rattle.ddf_disk_commands.specs.Examine.{IsExamined}
 use Rattle.ddf_disk_commands.specs.Label.{IsLabelled, revision_of}
 use Rattle.ddf_group_commands.specs.Assemble.{IsAssembleDone}
-use Rattle.ddf_group_commands.specs.Change.{IsChangeDone}
-use Rattle.ddf_group_commands.specs.Requests.{request_for}
+use Rattle.ddf_group_commands.specs.Requests.{IsWished, request_for}
 use Rattle.ddf_group_commands.specs.Show.{IsShown}
 use Rattle.ddf_import_command.specs.Import.{IsImportDone}
 use Rattle.ddf_read_commands.specs.Read.{IsReadDone}
@@ -48,7 +47,7 @@ IsCommandDone work input stamp group (Resync name) answer = IsResyncDone work gr
 IsCommandDone work input stamp group (Rebuild name) answer = IsRebuildDone work group (timestamp_of stamp) name answer
 IsCommandDone work input stamp group (Write name start count) answer = IsWriteDone work input group (timestamp_of stamp) name start count answer
 IsCommandDone work input stamp group (Import other) answer = IsImportDone work group other (timestamp_of stamp) answer
-IsCommandDone work input stamp group (Change wish) answer = IsChangeDone work group (timestamp_of stamp) (request_for (length work.old.sizes) stamp wish) answer
+IsCommandDone work input stamp group (Change wish) answer = IsWished work group (timestamp_of stamp) (request_for (length work.old.sizes) stamp wish) answer
 
 abbrev pub IsDone : {D : Type 0} → Work D → Input → Stamp → Asked → Answer → Type 0
 IsDone work input stamp asked answer = IsCommandDone work input stamp asked.group asked.command answer

@@ -27,10 +27,10 @@ is_served_on members seats all array =
 
 -- the first of: a level isn't served; the numbers make no array, or its extents don't lie well; an element is
 -- unknown
-abbrev pub unusable : List (ℕ × Member) → List Seat → List Extent → Array → Option Refusal
-unusable members seats all array =
+abbrev pub unusable : List (ℕ × Member) → List Seat → List Extent → (guid : List ℕ) → Array → Option Refusal
+unusable members seats all guid array =
     first_refusal
-    (unserved_level array
+    (unserved_level guid array
     ∷ refuse_if (not (is_served_on members seats all array)) Shape
     ∷ refuse_if (not (is_complete array)) Lost
     ∷ [])

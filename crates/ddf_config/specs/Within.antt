@@ -30,7 +30,7 @@ has_enough (Neighbours spread) available places = one_of_each spread (map availa
 -- an element that no disk tells of is beyond its level
 abbrev pub is_part_within : (Position → Bool) → Option ElementValue → Bool
 is_part_within available part =
-    elim part [ None ↦ false | Some element ↦ has_enough (need_of element.level) available element.positions ]
+    elim part [ None ↦ false | Some element ↦ has_enough (need_of element.level element.qualifier) available element.positions ]
 
 -- that the elements of an array are copies of each other
 abbrev pub is_mirrored : Array → Bool

@@ -24,7 +24,7 @@ pub use by_disk::ExtentsByDisk;
 pub use config::Config;
 pub use element::{ElementPlan, Position};
 pub use extent::{Extent, array_extents, extents, ranges_on};
-pub use level::{is_level, unserved_level};
+pub use level::{is_disputed, is_level, unserved_level};
 pub use lookup::is_current;
 pub use member::{Member, SpareUse};
 pub use refusal::{FullTable, Refusal, first_refusal, refuse_if};

@@ -9,7 +9,7 @@ use crate::refusal::{first_refusal, refuse_if};
 use crate::seat::floor_of;
 use crate::served::is_served;
 use crate::{Array, Extent, ExtentsByDisk, Member, Refusal, Seat};
-use ddf_bytes::NoMemory;
+use ddf_bytes::{Guid, NoMemory};
 use indexmap::IndexMap;
 use std::alloc::Global;
 
@@ -47,8 +47,8 @@ fn is_served_on(
 
 /// Why an array can't be used, by the first cause that holds: `Level`, a primary level isn't served; `Shape`, the
 /// numbers make no array, or an extent ends past its disk's size or the floor of its seat or meets another;
-/// `Lost`, an element is unknown. `all` are the extents of the configuration. A member without a seat has no
-/// floor. None where the array can be used.
+/// `Lost`, an element is unknown. `all` are the extents of the configuration, and the GUID is the array's. A
+/// member without a seat has no floor. None where the array can be used.
 ///
 /// # Errors
 /// Memory ran out.
@@ -57,13 +57,14 @@ pub fn unusable(
     members: &IndexMap<u32, Member>,
     seats: &[Seat],
     all: &ExtentsByDisk,
+    guid: &Guid,
     array: &Array,
 ) -> Result<Option<Refusal>, NoMemory>
-    ensures { IfOk result (λ refusal. refusal ≡ unusable members.now.entries seats.now all.now array.now) }
+    ensures { IfOk result (λ refusal. refusal ≡ unusable members.now.entries seats.now all.now guid.now array.now) }
 {
     let served = is_served_on(alloc, members, seats, all, array)?;
     Ok(first_refusal(&[
-        unserved_level(array),
+        unserved_level(guid, array),
         refuse_if(!served, Refusal::Shape),
         refuse_if(!array.is_complete(), Refusal::Lost),
     ]))

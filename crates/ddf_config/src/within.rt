@@ -87,14 +87,14 @@ fn has_enough(members: &IndexMap<u32, Member>, need: Need, positions: &[Position
 }
 
 /// Whether an element is within its level: it can do without its positions that are out of sync or whose
-/// member isn't current. RAID 1 needs one position, RAID 4 and 5 all but one, every other level all. An
-/// element of which no disk tells isn't within its level.
+/// member isn't current. RAID 1 needs one position, RAID 4 and 5 all but one, RAID 1E one of each two that hold
+/// the same blocks, every other level all. An element of which no disk tells isn't within its level.
 pub fn is_part_within(members: &IndexMap<u32, Member>, part: &Option<ElementPlan>) -> bool
     ensures { result ≡ is_part_within (is_available members.now.entries) part.now }
 {
     match part {
         Some(element) => {
-            let need = Need::of_level(element.level);
+            let need = Need::of_level(element.level, element.qualifier);
             has_enough(members, need, element.positions.as_slice())
         }
         None => false,

@@ -182,7 +182,8 @@ module _ {B : Type 0} {tells : Type 0} (told : tells) (disks : B → BayState B)
   abbrev pub Takes : (command : Command) (answer : Answer) → Came command answer → Type 0
   Takes commands.Assemble answer came = TakesChange no_change came.outcome came.has
   Takes (commands.Change wish) answer came =
-      TakesChange (request_for (length (disks old.bay).sizes) stamp wish) came.outcome came.has ⊎ TakesAccept (request_for (length (disks old.bay).sizes) stamp wish) came.outcome came.has
+      TakesChange (request_for (length (disks old.bay).sizes) stamp wish came.wished.linux) came.outcome came.wished.has
+      ⊎ TakesAccept (request_for (length (disks old.bay).sizes) stamp wish came.wished.linux) came.outcome came.wished.has
   Takes (commands.Resync name) answer came = TakesResync name came.outcome came.has
   Takes (commands.Rebuild name) answer came = TakesRebuild name came.outcome came.has
   Takes (commands.Import other) answer came = TakesJoin other came.outcome came.has
@@ -190,8 +191,8 @@ module _ {B : Type 0} {tells : Type 0} (told : tells) (disks : B → BayState B)
 
   abbrev pub own_call : (command : Command) (answer : Answer) (came : Came command answer) → Takes command answer came → Call told disks tells_bytes streams guid old
   own_call commands.Assemble answer came takes = Changes (change_call no_change came.outcome came.has takes)
-  own_call (commands.Change wish) answer came (inl takes) = Changes (change_call (request_for (length (disks old.bay).sizes) stamp wish) came.outcome came.has takes)
-  own_call (commands.Change wish) answer came (inr accepts) = Accepts (accept_call (request_for (length (disks old.bay).sizes) stamp wish) came.outcome came.has accepts)
+  own_call (commands.Change wish) answer came (inl takes) = Changes (change_call (request_for (length (disks old.bay).sizes) stamp wish came.wished.linux) came.outcome came.wished.has takes)
+  own_call (commands.Change wish) answer came (inr accepts) = Accepts (accept_call (request_for (length (disks old.bay).sizes) stamp wish came.wished.linux) came.outcome came.wished.has accepts)
   own_call (commands.Resync name) answer came takes = Resyncs (resync_call name came.outcome came.has takes)
   own_call (commands.Rebuild name) answer came takes = Rebuilds (rebuild_call name came.outcome came.has takes)
   own_call (commands.Import other) answer came takes = Joins (join_call other came.outcome came.has takes)

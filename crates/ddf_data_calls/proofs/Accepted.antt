@@ -156,16 +156,16 @@ none_of_three None None (Some x) two one = absurd cc
 none_of_three None None None two one = refl
 
 -- One whose blocks nothing of its records refuses has a view.
-viewable : (access : Access) (config : Configuration) (seats : List Seat) (start count : ℕ) (entry : Entry) → first_refusal (array_refusals access config seats entry.1 start count) ≡ None
+viewable : (access : Access) (config : Configuration) (seats : List Seat) (start count : ℕ) (entry : Entry) → first_refusal (array_refusals access config seats entry.0 entry.1 start count) ≡ None
     → lookup (same_guid entry.0) config.arrays ≡ Some entry.1 → (v : Volume) × (view_of config entry.0 seats ≡ Ok v)
 viewable access config seats start count entry accepted there =
     let out : Option Refusal = refuse_if (is_out_of_range entry.1 start count) (Range (array_capacity entry.1)) in
     let unknown : Option Refusal = refuse_if (not (is_complete entry.1)) Lost in
     let forbidden : Option Refusal = refuse_if (is_forbidden access entry.1) Held in
-    let first : useless config seats entry.1 ≡ None = next_passes [] (useless config seats entry.1) (out ∷ bad_blocks seats entry.1 ∷ forbidden ∷ unknown ∷ []) accepted in
-    let last : refuse_if (not (is_complete entry.1)) Lost ≡ None = next_passes (useless config seats entry.1 ∷ out ∷ bad_blocks seats entry.1 ∷ forbidden ∷ []) unknown [] accepted in
+    let first : useless config seats entry.0 entry.1 ≡ None = next_passes [] (useless config seats entry.0 entry.1) (out ∷ bad_blocks seats entry.1 ∷ forbidden ∷ unknown ∷ []) accepted in
+    let last : refuse_if (not (is_complete entry.1)) Lost ≡ None = next_passes (useless config seats entry.0 entry.1 ∷ out ∷ bad_blocks seats entry.1 ∷ forbidden ∷ []) unknown [] accepted in
     view_there config entry.0 seats entry.1 there
-    (none_of_three (unserved_level entry.1) (refuse_if (not (is_served_on config.members seats (extents config.arrays) entry.1)) Shape) unknown first last)
+    (none_of_three (unserved_level entry.0 entry.1) (refuse_if (not (is_served_on config.members seats (extents config.arrays) entry.1)) Shape) unknown first last)
 
 -- ---- its view
 
@@ -176,7 +176,7 @@ pub record HasView (config : Configuration) (seats : List Seat) (entry : Entry) 
   pub within : is_within volume ≡ true
   pub whole : is_degraded volume ≡ false
 
-pub has_view : (access : Access) (config : Configuration) (seats : List Seat) (start count : ℕ) (word : List ℕ) (entry : Entry) → first_refusal (array_refusals access config seats entry.1 start count) ≡ None
+pub has_view : (access : Access) (config : Configuration) (seats : List Seat) (start count : ℕ) (word : List ℕ) (entry : Entry) → first_refusal (array_refusals access config seats entry.0 entry.1 start count) ≡ None
     → lookup (same_guid entry.0) config.arrays ≡ Some entry.1 → is_array_within seats entry.1 ≡ true → lacks_position (view_of config entry.0 seats) ≡ false → HasView config seats entry
 has_view access config seats start count word entry accepted there within whole =
     let view = viewable access config seats start count entry accepted there in

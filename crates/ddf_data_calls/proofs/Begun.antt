@@ -66,7 +66,7 @@ unfolding causes
 create_new most config disks guid array none =
     not_there (lookup (same_guid guid) config.arrays) guid
     (all_pass
-    (not_current config (disk_seats disks) (references array) ∷ refuse_if (is_taken config array.name) NameTaken ∷ unserved_level array
+    (not_current config (disk_seats disks) (references array) ∷ refuse_if (is_taken config array.name) NameTaken ∷ unserved_level guid array
     ∷ refuse_if (passes_most most array
     || is_no_shape array) Shape
     ∷ [])

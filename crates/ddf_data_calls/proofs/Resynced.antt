@@ -105,7 +105,7 @@ module _ {D : Type 0} (tells : Type 0) (told : tells) (old new : BayState D) (gr
 
   has : HasView (config_recovered found) found.seats plan.entry
   has =
-      let passed = two_pass (array_refusals Reads (config_recovered found) found.seats plan.entry.1 0 0) (is_array_within found.seats plan.entry.1)
+      let passed = two_pass (array_refusals Reads (config_recovered found) found.seats plan.entry.0 plan.entry.1 0 0) (is_array_within found.seats plan.entry.1)
       (lacks_position (view_of (config_recovered found) plan.entry.0 found.seats)) Lost Unsure (accepted_plan found timestamp word resync_refusals resync_behind plan).accepted in
       has_view Reads (config_recovered found) found.seats 0 0 word plan.entry passed.0 (named_is (config_recovered found).arrays word plan.entry plan.is_named) passed.1 passed.2
 

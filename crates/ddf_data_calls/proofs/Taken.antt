@@ -139,7 +139,7 @@ module _ {D : Type 0} (tells : Type 0) (told : tells) (old new : BayState D) (gr
 
   fit : IsFit
   fit =
-      let passed = three_pass (array_refusals Writes (config_recovered found) found.seats plan.entry.1 start count) (is_array_within found.seats plan.entry.1) (is_marked plan.entry.1)
+      let passed = three_pass (array_refusals Writes (config_recovered found) found.seats plan.entry.0 plan.entry.1 start count) (is_array_within found.seats plan.entry.1) (is_marked plan.entry.1)
       (lacks_position (view_of (config_recovered found) plan.entry.0 found.seats)) Lost Marked Degraded (accepted_plan found timestamp word (write_refusals start count) write_behind plan).accepted in
       record {
         has = has_view Writes (config_recovered found) found.seats start count word plan.entry passed.0 (named_is (config_recovered found).arrays word plan.entry plan.is_named) passed.1 passed.3;

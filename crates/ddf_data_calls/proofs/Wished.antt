@@ -23,33 +23,31 @@ use Rattle.ddf_words.specs.declared.command.Creation.{Creation}
 use Rattle.ddf_words.specs.declared.command.Wish.{Wish}
 use Rattle.ddf_words.specs.declared.command.Wish.TheVariants.{Accept, Create, Delete, Fail, Spare}
 use Rattle.ddf_request.specs.Named.{named_array, named_guid, with_array}
-use Rattle.ddf_request.specs.NewArray.{is_misfit, misfit_refusal, new_array, new_array_guid}
-use Rattle.ddf_request.specs.Request.{accept_array, accept_refusal, change_for, create_change, delete_change, one, request_of, slots_named, spare_change, unless}
+use Rattle.ddf_request.specs.NewArray.{new_array, new_array_guid, unfit}
+use Rattle.ddf_request.specs.Request.{accept_array, accept_refusal, change_for, create_change, delete_change, if_fits, one, request_of, slots_named, spare_change, unless}
 use Rattle.ddf_request.specs.Slots.{reference_on, slot_refusals}
 use Rattle.ddf_request.specs.Spare.{use_of}
 use Rattle.ddf_data_calls.specs.Calls.{MayAsk, MayWish}
 
-module _ (config : Configuration) (seats : List Seat) (stamp : Stamp) (image : Image) (promises : Promises) where
+module _ (config : Configuration) (seats : List Seat) (linux : List ℕ) (stamp : Stamp) (image : Image) (promises : Promises) where
   -- ---- a change that is asked for at any rate
 
   one_is : (made : Result Change Refusal) (asked : Option Change) → one made ≡ Ok asked → (change : Change) × (made ≡ Ok change) × (asked ≡ Some change)
   one_is (Ok change) asked is = (change, refl, let same : Some change ≡ asked = cc in sym same)
   one_is (Err refusal) asked is = absurd cc
 
-  by_create : (creation : Creation) (asked : Option Change) → change_for config seats stamp (Create creation) ≡ Ok asked → promises (new_array_guid config stamp) ≡ None → MayAsk config seats image promises asked
+  by_create : (creation : Creation) (asked : Option Change) → change_for config seats linux stamp (Create creation) ≡ Ok asked → promises (new_array_guid config stamp) ≡ None → MayAsk config seats image promises asked
   by_create creation asked is none =
-      let from = one_is (create_change config seats stamp creation) asked is in
-      subst (MayAsk config seats image promises) (sym from.2) (by (is_misfit creation) from.0 from.1)
+      let from = one_is (create_change config seats linux stamp creation) asked is in
+      subst (MayAsk config seats image promises) (sym from.2) (by (unfit linux seats creation) from.0 from.1)
     where
-      by : (misfit : Bool) (change : Change)
-          → (if misfit then Err (misfit_refusal config seats (changes.Create (new_array_guid config stamp) (new_array config seats creation)))
-          else Ok (changes.Create (new_array_guid config stamp) (new_array config seats creation))) ≡ Ok change → MayChange config seats image promises change
-      by true change is = absurd cc
-      by false change is =
+      by : (last : Option Refusal) (change : Change) → if_fits last config seats (changes.Create (new_array_guid config stamp) (new_array config seats creation)) ≡ Ok change → MayChange config seats image promises change
+      by (Some last) change is = absurd cc
+      by None change is =
           let same : changes.Create (new_array_guid config stamp) (new_array config seats creation) ≡ change = cc in
           subst (MayChange config seats image promises) same none
 
-  by_delete : (name : List ℕ) (asked : Option Change) → change_for config seats stamp (Delete name) ≡ Ok asked → MayAsk config seats image promises asked
+  by_delete : (name : List ℕ) (asked : Option Change) → change_for config seats linux stamp (Delete name) ≡ Ok asked → MayAsk config seats image promises asked
   by_delete name asked is =
       let from = one_is (delete_change config name) asked is in
       subst (MayAsk config seats image promises) (sym from.2) (by (named_guid config.arrays name) from.0 from.1)
@@ -63,7 +61,7 @@ module _ (config : Configuration) (seats : List Seat) (stamp : Stamp) (image : I
   by_spare reference (Ok use_as) asked is = let same : Some (changes.Spare reference use_as) ≡ asked = cc in subst (MayAsk config seats image promises) same tt
   by_spare reference (Err refusal) asked is = absurd cc
 
-  by_fail : (slot : ℕ) (asked : Option Change) → change_for config seats stamp (Fail slot) ≡ Ok asked → MayAsk config seats image promises asked
+  by_fail : (slot : ℕ) (asked : Option Change) → change_for config seats linux stamp (Fail slot) ≡ Ok asked → MayAsk config seats image promises asked
   by_fail slot asked is = let same : Some (changes.Fail (reference_on seats slot)) ≡ asked = cc in subst (MayAsk config seats image promises) same tt
 
   -- ---- an array that is accepted
@@ -83,7 +81,7 @@ module _ (config : Configuration) (seats : List Seat) (stamp : Stamp) (image : I
       by_guid None is = absurd cc
       by_guid (Some key) is = by_found key (lookup (same_guid key) config.arrays) refl is
 
-  by_accept : (name : List ℕ) (asked : Option Change) → change_for config seats stamp (Accept name) ≡ Ok asked → MayWish config seats stamp image promises (Accept name)
+  by_accept : (name : List ℕ) (asked : Option Change) → change_for config seats linux stamp (Accept name) ≡ Ok asked → MayWish config seats stamp image promises (Accept name)
       → MayAsk config seats image promises asked
   by_accept name asked is may = by_entry (named_array config.arrays name) refl is
     where
@@ -111,20 +109,20 @@ module _ (config : Configuration) (seats : List Seat) (stamp : Stamp) (image : I
       by_entry : (o : Option (List ℕ × Array)) → named_array config.arrays name ≡ o
           → ◌≡◌ {A = Result (Option Change) Refusal} (elim o [ None ↦ Err NoArray | Some entry ↦ accept_array config seats entry ]) (Ok asked) → MayAsk config seats image promises asked
       by_entry None named is = absurd cc
-      by_entry (Some entry) named is = by_refusal entry named (accept_refusal config seats entry.1) is
+      by_entry (Some entry) named is = by_refusal entry named (accept_refusal config seats entry.0 entry.1) is
 
   -- ---- each wish
 
-  by_change : (wish : Wish) (asked : Option Change) → change_for config seats stamp wish ≡ Ok asked → MayWish config seats stamp image promises wish → MayAsk config seats image promises asked
+  by_change : (wish : Wish) (asked : Option Change) → change_for config seats linux stamp wish ≡ Ok asked → MayWish config seats stamp image promises wish → MayAsk config seats image promises asked
   by_change (Create creation) asked is may = by_create creation asked is may
   by_change (Delete name) asked is may = by_delete name asked is
   by_change (Accept name) asked is may = by_accept name asked is may
   by_change (Spare slot word) asked is may = by_spare (reference_on seats slot) (use_of config word) asked is
   by_change (Fail slot) asked is may = by_fail slot asked is
 
-  pub wish_may : (slots : ℕ) (wish : Wish) (asked : Option Change) → request_of slots config seats stamp wish ≡ Ok asked → MayWish config seats stamp image promises wish → MayAsk config seats image promises asked
+  pub wish_may : (slots : ℕ) (wish : Wish) (asked : Option Change) → request_of slots config seats linux stamp wish ≡ Ok asked → MayWish config seats stamp image promises wish → MayAsk config seats image promises asked
   wish_may slots wish asked is may = by (first_refusal (slot_refusals slots seats (slots_named wish))) is
     where
-      by : (o : Option Refusal) → unless o (change_for config seats stamp wish) ≡ Ok asked → MayAsk config seats image promises asked
+      by : (o : Option Refusal) → unless o (change_for config seats linux stamp wish) ≡ Ok asked → MayAsk config seats image promises asked
       by None is = by_change wish asked is may
       by (Some refusal) is = absurd cc

@@ -70,9 +70,9 @@ pub fn the_changes_of_a_call_keep_the_data()
 
 /// What the program's words ask of a group for a change is what the change asks for.
 pub fn what_a_wish_asks_for()
-    ensures request { (slots : ℕ) (config : Configuration) (seats : List Seat) (stamp : Stamp) (wish : Wish) (asked : Option Change) → request_of slots config seats stamp wish ≡ Ok asked
-        → request_for slots stamp wish config seats ≡ Ok (option_to_list asked) }
-    ensures may { (slots : ℕ) (config : Configuration) (seats : List Seat) (stamp : Stamp) (wish : Wish) (asked : Option Change) → request_of slots config seats stamp wish ≡ Ok asked
+    ensures request { (slots : ℕ) (config : Configuration) (seats : List Seat) (linux : List ℕ) (stamp : Stamp) (wish : Wish) (asked : Option Change) → request_of slots config seats linux stamp wish ≡ Ok asked
+        → request_for slots stamp wish linux config seats ≡ Ok (option_to_list asked) }
+    ensures may { (slots : ℕ) (config : Configuration) (seats : List Seat) (linux : List ℕ) (stamp : Stamp) (wish : Wish) (asked : Option Change) → request_of slots config seats linux stamp wish ≡ Ok asked
         → (image : Image) (promises : Promises) → MayWish config seats stamp image promises wish → MayAsk config seats image promises asked }
 {}
 

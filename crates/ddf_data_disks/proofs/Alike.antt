@@ -41,10 +41,10 @@ module _ (one other : List Seat) (alike : AreAlikeSeats one other) where
       ap (λ (f : Option ℕ). elim f [ None ↦ None | Some floor ↦ if nat_le (e.start + e.blocks) floor then Some (slot_of one e.reference) else None ]) (alike.same_floors e.reference)
       ∙ ap (λ (s : ℕ). elim (floor_of other e.reference) [ None ↦ None | Some floor ↦ if nat_le (e.start + e.blocks) floor then Some s else None ]) (alike.same_slots e.reference))
 
-  unusable_same : (members : List (ℕ × Member)) (all : List Extent) (array : Array) → unusable members one all array ≡ unusable members other all array
-  unusable_same members all array =
+  unusable_same : (members : List (ℕ × Member)) (all : List Extent) (guid : List ℕ) (array : Array) → unusable members one all guid array ≡ unusable members other all guid array
+  unusable_same members all guid array =
       ap (λ (passes : Extent → Bool). first_refusal
-      (unserved_level array ∷ refuse_if (not (is_served members all array && not (list_any passes (array_extents array)))) Shape ∷ refuse_if (not (is_complete array)) Lost ∷ [])) passes_same
+      (unserved_level guid array ∷ refuse_if (not (is_served members all array && not (list_any passes (array_extents array)))) Shape ∷ refuse_if (not (is_complete array)) Lost ∷ [])) passes_same
 
   parts_same : (known : List (Option ElementValue)) → parts_of one known ≡ parts_of other known
   parts_same known =
@@ -61,11 +61,11 @@ module _ (one other : List Seat) (alike : AreAlikeSeats one other) where
   pub view_same : (config : Configuration) (guid : List ℕ) → view_of config guid one ≡ view_of config guid other
   view_same config guid = by (lookup (same_guid guid) config.arrays)
     where
-      by : (found : Option Array) → view_by config one found ≡ view_by config other found
+      by : (found : Option Array) → view_by config guid one found ≡ view_by config guid other found
       by None = refl
       by (Some array) =
-          ap (λ (refused : Option Refusal). elim refused [ None ↦ viewed one array | Some refusal ↦ Err refusal ]) (unusable_same config.members (extents config.arrays) array)
-          ∙ ap (λ (view : Result Volume Refusal). elim (unusable config.members other (extents config.arrays) array) [ None ↦ view | Some refusal ↦ Err refusal ]) (viewed_same array)
+          ap (λ (refused : Option Refusal). elim refused [ None ↦ viewed one array | Some refusal ↦ Err refusal ]) (unusable_same config.members (extents config.arrays) guid array)
+          ∙ ap (λ (view : Result Volume Refusal). elim (unusable config.members other (extents config.arrays) guid array) [ None ↦ view | Some refusal ↦ Err refusal ]) (viewed_same array)
 
   pub arrays_same : (config : Configuration) (image : Image) (promises : Promises) → KeepsArrays config one image promises → KeepsArrays config other image promises
   arrays_same config image promises kept guid allowed array promised found =

@@ -73,10 +73,10 @@ used config guid seats v e known =
         parts_are = view.parts_are;
         marked_is = view.marked_is;
         is_volume = known;
-        complete = complete config.members seats (extents config.arrays) view.array view.usable;
-        shapes = shapes config.members seats (extents config.arrays) view.array view.usable;
+        complete = complete config.members seats (extents config.arrays) guid view.array view.usable;
+        shapes = shapes config.members seats (extents config.arrays) guid view.array view.usable;
       };
-      well = lie_well config.members seats (extents config.arrays) view.array view.usable;
+      well = lie_well config.members seats (extents config.arrays) guid view.array view.usable;
     }
 
 module _ (config : Configuration) (guid : List ℕ) (seats : List Seat) (v : Volume) (use_of : IsUsed config guid seats v) (are : AreCurrentSeats config.members seats) (seated : AreSeats config.members seats) where

@@ -110,7 +110,7 @@ module _ (members : List (ℕ × Member)) (seats : List Seat) (are : AreCurrentS
   from = of_part seats (lost_array members references array) v over k part part_at
 
   module _ (element : ElementValue) (is_element : slice_get (lost_array members references array).elements k ≡ Some (Some element))
-      (need_is : need_by part.shape.layout ≡ need_of element.level) (places_are : part.places ≡ map (place_of seats element.blocks) element.positions) where
+      (need_is : need_by part.shape.layout ≡ need_of element.level element.qualifier) (places_are : part.places ≡ map (place_of seats element.blocks) element.positions) where
     -- by the members the element lacks no fewer
     no_fewer : 2 ≤ count_by (λ position. not (config.is_available members position)) element.positions
     no_fewer =
@@ -131,7 +131,7 @@ module _ (members : List (ℕ × Member)) (seats : List Seat) (are : AreCurrentS
       let few = leb-true (count_by (λ place. not (is_available place)) part.places) 1 (ap (λ (n : Need). has_enough n is_available part.places) (sym (parity_needs part.shape.layout parity)) ∙ e) in
       omega (arith, few, lacks)
 
-  need_of_part : need_by part.shape.layout ≡ need_of (from).element.level
+  need_of_part : need_by part.shape.layout ≡ need_of (from).element.level (from).element.qualifier
   need_of_part = (shape_coded (length (lost_array members references array).elements) (from).element part.shape (from).shape_is).need
 
   gone_by : (found : Option ElementValue) (b : Bool) → config.is_part_within (config.is_available members) found ≡ b → (if b then found else option_map wholly_out found) ≡ Some (from).element → NoneLeft part.places

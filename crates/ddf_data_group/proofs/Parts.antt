@@ -194,7 +194,7 @@ module _ (members : List (ℕ × Member)) (seats : List Seat) (are : AreCurrentS
   element_within : (element : ElementValue) (shape : Placement) → element_shape elements element ≡ Some shape
       → is_part_within (record { shape = shape; places = map (place_of seats element.blocks) element.positions }) ≡ true → config.is_part_within (config.is_available members) (Some element) ≡ true
   element_within element shape is e =
-      enough_up (place_of seats element.blocks) is_available (config.is_available members) (by_members members seats are element.blocks) (need_of element.level) element.positions
+      enough_up (place_of seats element.blocks) is_available (config.is_available members) (by_members members seats are element.blocks) (need_of element.level element.qualifier) element.positions
       (ap (λ (n : Need). has_enough n is_available (map (place_of seats element.blocks) element.positions)) (sym (shape_coded elements element shape is).need) ∙ e)
 
   or_right : (a b : Bool) → b ≡ true → (a || b) ≡ true

@@ -51,7 +51,7 @@ module _ (config : Configuration) (guid : List ℕ) (seats : List Seat) (v : Vol
   below =
       let from = from_view config guid seats v view in
       let same = same_array (lookup (same_guid guid) config.arrays) from.array array from.array_is found in
-      ap (λ (a : Array). list_any (passes_floor seats) (array_extents a)) (sym same) ∙ below_floors config.members seats (extents config.arrays) from.array from.usable
+      ap (λ (a : Array). list_any (passes_floor seats) (array_extents a)) (sym same) ∙ below_floors config.members seats (extents config.arrays) guid from.array from.usable
 
   module _ (e p : ℕ) (element : ElementValue) (position : Position) (is_element : slice_get array.elements e ≡ Some (Some element)) (is_position : slice_get element.positions p ≡ Some position) where
     abbrev one : Extent

@@ -31,8 +31,8 @@ view_over config guid seats v known e =
       parts_are = view.parts_are;
       marked_is = view.marked_is;
       is_volume = known;
-      complete = complete config.members seats (extents config.arrays) view.array view.usable;
-      shapes = shapes config.members seats (extents config.arrays) view.array view.usable;
+      complete = complete config.members seats (extents config.arrays) guid view.array view.usable;
+      shapes = shapes config.members seats (extents config.arrays) guid view.array view.usable;
     }
 
 pub read_since : (group : List ℕ) (floor : ℕ → ℕ) → ((slot : ℕ) → floor slot < 2 ^ 64) → (past : Past (groups group)) (number : ℕ) (config : Configuration) → IsSince past.changes number config

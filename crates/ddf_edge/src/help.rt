@@ -45,8 +45,9 @@ And:
   exercise SEED ROUNDS
                    try the commands on disks in memory; no image is touched
 
-LEVEL is raid0, raid1, raid4.first, raid4.last, raid5.r0, raid5.rn, raid5.rnc, jbod or concat.
-mdadm's right-asymmetric is raid5.r0, left-asymmetric raid5.rn, left-symmetric raid5.rnc.
+LEVEL is raid0, raid1, raid1e.adjacent, raid1e.offset, raid4.first, raid4.last, raid5.r0,
+raid5.rn, raid5.rnc, jbod or concat. mdadm's right-asymmetric is raid5.r0, left-asymmetric
+raid5.rn, left-symmetric raid5.rnc, and its RAID 10 of an odd number of disks raid1e.adjacent.
 CODE is n for strips of 2^n sectors: 7 is 64 KiB, 10 is 512 KiB. SECONDARY is single, or over
 several elements striped (RAID 10, 50), mirrored, concat or spanned. BLOCKS are those that each
 disk gives: 2048 are 1 MiB. Sizes with K, M, G or T are taken too, as 64K for CODE 7, and 100% for

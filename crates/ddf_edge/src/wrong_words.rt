@@ -111,7 +111,7 @@ fn wanted_of_array(offset: usize) -> &'static str {
     match offset {
         1 => "a name of 1 to 16 printable ASCII characters without space",
         2 => {
-            "a level: raid0, raid1, raid4.first, raid4.last, raid5.r0, raid5.rn, raid5.rnc, jbod or concat"
+            "a level: raid0, raid1, raid1e.adjacent, raid1e.offset, raid4.first, raid4.last, raid5.r0, raid5.rn, raid5.rnc, jbod or concat"
         }
         3 => "a number n from 0 to 15, for strips of 2^n sectors, or their size as 64K",
         4 => "single, striped, mirrored, concat or spanned",

@@ -47,15 +47,15 @@ use Rattle.ddf_exercise_config.proofs.Wishes as wished
 -- ---- wishes
 
 module _ (group : List ℕ) (disks : Disks) (sequence : ℕ) (stamp : Stamp) where
-  pub creation_is : request_for 5 stamp (wishes.Create creation) (founded group disks sequence) (seats_at disks Opening)
+  pub creation_is : (linux : List ℕ) → request_for 5 stamp (wishes.Create creation) linux (founded group disks sequence) (seats_at disks Opening)
       ≡ Ok (changes.Create (new_array_guid (founded group disks sequence) stamp) (array (positions_at disks Opening) 0 0) ∷ [])
-  creation_is = ap at_most_one (wished.creation_asked group disks sequence stamp)
+  creation_is linux = ap at_most_one (wished.creation_asked group disks sequence stamp linux)
 
-  pub first_spare_is : (guid : List ℕ) → request_for 5 stamp (wishes.Spare 3 spare_words.Global) (resynced group disks guid sequence) (seats_at disks Opening) ≡ Ok (changes.Spare disks.fourth.reference Global ∷ [])
-  first_spare_is guid = ap at_most_one (wished.first_asked group disks sequence stamp guid)
+  pub first_spare_is : (guid linux : List ℕ) → request_for 5 stamp (wishes.Spare 3 spare_words.Global) linux (resynced group disks guid sequence) (seats_at disks Opening) ≡ Ok (changes.Spare disks.fourth.reference Global ∷ [])
+  first_spare_is guid linux = ap at_most_one (wished.first_asked group disks sequence stamp guid linux)
 
-  pub second_spare_is : (guid : List ℕ) → request_for 5 stamp (wishes.Spare 4 spare_words.Global) (with_spare group disks guid sequence) (seats_at disks Opening) ≡ Ok (changes.Spare disks.fifth.reference Global ∷ [])
-  second_spare_is guid = ap at_most_one (wished.second_asked group disks sequence stamp guid)
+  pub second_spare_is : (guid linux : List ℕ) → request_for 5 stamp (wishes.Spare 4 spare_words.Global) linux (with_spare group disks guid sequence) (seats_at disks Opening) ≡ Ok (changes.Spare disks.fifth.reference Global ∷ [])
+  second_spare_is guid linux = ap at_most_one (wished.second_asked group disks sequence stamp guid linux)
 
 -- ---- the range
 
@@ -114,7 +114,7 @@ module _ (group : List ℕ) (disks : Disks) (apart : AreApart disks) (guid : Lis
     pub scrubs : scrub_refusal config (seats_at disks turn) (named_array config.arrays word) ≡ None
     scrubs =
         ap (scrub_refusal config (seats_at disks turn)) (used.is_named guid (positions_at disks turn) 0 2)
-        ∙ pass_five_more (useless config (seats_at disks turn) one) (refuse_if (is_out_of_range one 0 0) (refusals.Range (array_capacity one))) (bad_blocks (seats_at disks turn) one) None None
+        ∙ pass_five_more (useless config (seats_at disks turn) guid one) (refuse_if (is_out_of_range one 0 0) (refusals.Range (array_capacity one))) (bad_blocks (seats_at disks turn) one) None None
         (refuse_if (not (is_array_within (seats_at disks turn) one)) refusals.Lost ∷ [])
         (used.turn_useful group disks apart guid 0 2 sequence turn) (turn_range disks 0 2 0 0 (lit≤ tt) turn) (used.none_is_bad disks turn one) refl refl
         (pass_more (refuse_if (not (is_array_within (seats_at disks turn) one)) refusals.Lost) [] level_is refl)
@@ -125,7 +125,7 @@ module _ (group : List ℕ) (disks : Disks) (apart : AreApart disks) (guid : Lis
     pub reads : (start count : ℕ) → start + count ≤ 8192 → read_refusal config (seats_at disks turn) (named_array config.arrays word) start count ≡ None
     reads start count within =
         ap (λ (entry : Option (List ℕ × Array)). read_refusal config (seats_at disks turn) entry start count) (used.is_named guid (positions_at disks turn) 0 2)
-        ∙ pass_five_more (useless config (seats_at disks turn) one) (refuse_if (is_out_of_range one start count) (refusals.Range (array_capacity one))) (bad_blocks (seats_at disks turn) one) None None
+        ∙ pass_five_more (useless config (seats_at disks turn) guid one) (refuse_if (is_out_of_range one start count) (refusals.Range (array_capacity one))) (bad_blocks (seats_at disks turn) one) None None
         (block_refusals config (seats_at disks turn) (guid, one) start count)
         (used.turn_useful group disks apart guid 0 2 sequence turn) (turn_range disks 0 2 start count within turn) (used.none_is_bad disks turn one) refl refl
         (pass_more (refuse_if (not (is_array_within (seats_at disks turn) one)) refusals.Lost) (refuse_if (needs_parity (view_of config guid (seats_at disks turn)) start count) refusals.Unsure ∷ []) level_is
@@ -137,7 +137,7 @@ module _ (group : List ℕ) (disks : Disks) (apart : AreApart disks) (guid : Lis
     writes start count within =
         ap (asked_of (write_refusals start count) write_behind config (seats_at disks turn)) (used.is_named guid (positions_at disks turn) 0 2)
         ∙ ap (unless_refused (changes.Mark guid ∷ changes.Unmark guid 2 ∷ []))
-        (pass_five_more (useless config (seats_at disks turn) one) (refuse_if (is_out_of_range one start count) (refusals.Range (array_capacity one))) (bad_blocks (seats_at disks turn) one) None None
+        (pass_five_more (useless config (seats_at disks turn) guid one) (refuse_if (is_out_of_range one start count) (refusals.Range (array_capacity one))) (bad_blocks (seats_at disks turn) one) None None
         (refuse_if (not (is_array_within (seats_at disks turn) one)) refusals.Lost ∷ None ∷ refuse_if (lacks_position (view_of config guid (seats_at disks turn))) refusals.Degraded ∷ [])
         (used.turn_useful group disks apart guid 0 2 sequence turn) (turn_range disks 0 2 start count within turn) (used.none_is_bad disks turn one) refl refl
         (pass_three (refuse_if (not (is_array_within (seats_at disks turn) one)) refusals.Lost) None (refuse_if (lacks_position (view_of config guid (seats_at disks turn))) refusals.Degraded) level_is refl
@@ -155,7 +155,7 @@ module _ (group : List ℕ) (disks : Disks) (apart : AreApart disks) (guid : Lis
   resyncs =
       ap (asked_of resync_refusals resync_behind before (seats_at disks Opening)) (used.is_named guid (positions_at disks Opening) 16 0)
       ∙ ap (unless_refused (changes.Mark guid ∷ changes.Unmark guid 2 ∷ []))
-      (pass_five_more (useless before (seats_at disks Opening) new) (refuse_if (is_out_of_range new 0 0) (refusals.Range (array_capacity new))) (bad_blocks (seats_at disks Opening) new) None None
+      (pass_five_more (useless before (seats_at disks Opening) guid new) (refuse_if (is_out_of_range new 0 0) (refusals.Range (array_capacity new))) (bad_blocks (seats_at disks Opening) new) None None
       (refuse_if (not (is_array_within (seats_at disks Opening) new)) refusals.Lost ∷ refuse_if (lacks_position (view_of before guid (seats_at disks Opening))) refusals.Unsure ∷ [])
       (used.early_useful group disks apart guid 16 0 sequence false false No No) (turn_range disks 16 0 0 0 (lit≤ tt) Opening) (used.none_is_bad disks Opening new) refl refl
       (pass_more (refuse_if (not (is_array_within (seats_at disks Opening) new)) refusals.Lost) (refuse_if (lacks_position (view_of before guid (seats_at disks Opening))) refusals.Unsure ∷ [])
@@ -174,7 +174,7 @@ module _ (group : List ℕ) (disks : Disks) (apart : AreApart disks) (guid : Lis
 
     none_refuses : first_refusal (rebuild_refusals behind (seats_at disks (turn_behind loss)) (guid, left)) ≡ None
     none_refuses =
-        pass_five_more (useless behind (seats_at disks (turn_behind loss)) left) (refuse_if (is_out_of_range left 0 0) (refusals.Range (array_capacity left))) (bad_blocks (seats_at disks (turn_behind loss)) left) None None
+        pass_five_more (useless behind (seats_at disks (turn_behind loss)) guid left) (refuse_if (is_out_of_range left 0 0) (refusals.Range (array_capacity left))) (bad_blocks (seats_at disks (turn_behind loss)) left) None None
         (refuse_if (not (is_array_within (seats_at disks (turn_behind loss)) left)) refusals.Lost ∷ None ∷ [])
         (used.lost_useful group disks apart guid 1 2 sequence loss) (lost_range disks 1 2 0 0 (lit≤ tt) loss) (used.none_is_bad disks (turn_behind loss) left) refl refl
         (pass_more (refuse_if (not (is_array_within (seats_at disks (turn_behind loss)) left)) refusals.Lost) (None ∷ [])

@@ -98,7 +98,7 @@ module _ (group : List ℕ) (sequence : ℕ) (table : List (ℕ × Member)) (gui
     pub is_there : is_served_on table seats (extents ((guid, one) ∷ [])) one ≡ true
     is_there = simp (is, below)
 
-    pub usable : unusable table seats (extents ((guid, one) ∷ [])) one ≡ None
+    pub usable : unusable table seats (extents ((guid, one) ∷ [])) guid one ≡ None
     usable = simp (is_there)
 
     pub view : (i j k : ℕ) → seat_slot seats (extent 4096 (position x sx)) ≡ Some i → seat_slot seats (extent 4096 (position y sy)) ≡ Some j → seat_slot seats (extent 4096 (position z sz)) ≡ Some k

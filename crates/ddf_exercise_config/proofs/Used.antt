@@ -83,18 +83,18 @@ module _ (group : List ℕ) (disks : Disks) (apart : AreApart disks) (guid : Lis
     -- ---- useful
 
     useful : (table : List (ℕ × Member)) (seats : List Seat) (sequence : ℕ) (p q r : Position) → is_served_on table seats (extents ((guid, array (p ∷ q ∷ r ∷ []) state init) ∷ [])) (array (p ∷ q ∷ r ∷ []) state init) ≡ true
-        → useless (group_with group sequence table guid (array (p ∷ q ∷ r ∷ []) state init)) seats (array (p ∷ q ∷ r ∷ []) state init) ≡ None
+        → useless (group_with group sequence table guid (array (p ∷ q ∷ r ∷ []) state init)) seats guid (array (p ∷ q ∷ r ∷ []) state init) ≡ None
     useful table seats sequence p q r is = simp is
 
-    pub early_useful : (sequence : ℕ) (sm tm : Bool) (fu hu : SpareUse) → useless (group_with group sequence (members disks sm tm fu hu) guid (array (positions_at disks Opening) state init)) (seats_at disks Opening) (array (positions_at disks Opening) state init) ≡ None
+    pub early_useful : (sequence : ℕ) (sm tm : Bool) (fu hu : SpareUse) → useless (group_with group sequence (members disks sm tm fu hu) guid (array (positions_at disks Opening) state init)) (seats_at disks Opening) guid (array (positions_at disks Opening) state init) ≡ None
     early_useful sequence sm tm fu hu = useful (members disks sm tm fu hu) (seats_at disks Opening) sequence (position disks.first true) (position disks.second true) (position disks.third true) (opening_there sm tm fu hu)
 
-    pub turn_useful : (sequence : ℕ) (turn : Turn) → useless (group_with group sequence (members_at disks turn) guid (array (positions_at disks turn) state init)) (seats_at disks turn) (array (positions_at disks turn) state init) ≡ None
+    pub turn_useful : (sequence : ℕ) (turn : Turn) → useless (group_with group sequence (members_at disks turn) guid (array (positions_at disks turn) state init)) (seats_at disks turn) guid (array (positions_at disks turn) state init) ≡ None
     turn_useful sequence Opening = early_useful sequence false false Global Global
     turn_useful sequence Middle = useful (members_at disks Middle) (seats_at disks Middle) sequence (position disks.first true) (position disks.fourth true) (position disks.third true) (middle_there true false No Global true)
     turn_useful sequence Closing = useful (members_at disks Closing) (seats_at disks Closing) sequence (position disks.first true) (position disks.fourth true) (position disks.fifth true) (closing_there true true No No true)
 
-    pub lost_useful : (sequence : ℕ) (loss : Loss) → useless (group_with group sequence (members_lost disks loss) guid (array (positions_lost disks loss) state init)) (seats_at disks (turn_behind loss)) (array (positions_lost disks loss) state init) ≡ None
+    pub lost_useful : (sequence : ℕ) (loss : Loss) → useless (group_with group sequence (members_lost disks loss) guid (array (positions_lost disks loss) state init)) (seats_at disks (turn_behind loss)) guid (array (positions_lost disks loss) state init) ≡ None
     lost_useful sequence OfSecond = useful (members_lost disks OfSecond) (seats_at disks Middle) sequence (position disks.first true) (position disks.second false) (position disks.third true) (lost_there OfSecond)
     lost_useful sequence OfThird = useful (members_lost disks OfThird) (seats_at disks Closing) sequence (position disks.first true) (position disks.fourth true) (position disks.third false) (lost_there OfThird)
 

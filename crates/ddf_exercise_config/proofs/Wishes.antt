@@ -18,13 +18,13 @@ least : 0 ≡ least_number []
 least = least_is [] 0 (lit< tt) (λ k below. absurd (omega arith)) refl
 
 module _ (group : List ℕ) (disks : Disks) (sequence : ℕ) (stamp : Stamp) where
-  pub creation_asked : request_of 5 (founded group disks sequence) (seats_at disks Opening) stamp (wishes.Create creation)
+  pub creation_asked : (linux : List ℕ) → request_of 5 (founded group disks sequence) (seats_at disks Opening) linux stamp (wishes.Create creation)
       ≡ Ok (Some (changes.Create (new_array_guid (founded group disks sequence) stamp) (array (positions_at disks Opening) 0 0)))
-  creation_asked =
+  creation_asked linux =
       ap (λ (number : ℕ). Ok (Some (changes.Create (new_array_guid (founded group disks sequence) stamp) (record (array (positions_at disks Opening) 0 0) { number = number })))) (sym least)
 
-  pub first_asked : (guid : List ℕ) → request_of 5 (resynced group disks guid sequence) (seats_at disks Opening) stamp (wishes.Spare 3 spares.Global) ≡ Ok (Some (changes.Spare disks.fourth.reference uses.Global))
-  first_asked guid = refl
+  pub first_asked : (guid linux : List ℕ) → request_of 5 (resynced group disks guid sequence) (seats_at disks Opening) linux stamp (wishes.Spare 3 spares.Global) ≡ Ok (Some (changes.Spare disks.fourth.reference uses.Global))
+  first_asked guid linux = refl
 
-  pub second_asked : (guid : List ℕ) → request_of 5 (with_spare group disks guid sequence) (seats_at disks Opening) stamp (wishes.Spare 4 spares.Global) ≡ Ok (Some (changes.Spare disks.fifth.reference uses.Global))
-  second_asked guid = refl
+  pub second_asked : (guid linux : List ℕ) → request_of 5 (with_spare group disks guid sequence) (seats_at disks Opening) linux stamp (wishes.Spare 4 spares.Global) ≡ Ok (Some (changes.Spare disks.fifth.reference uses.Global))
+  second_asked guid linux = refl

@@ -53,7 +53,7 @@ pub fn a_label_founds_the_group()
 
 /// A creation makes the array, marked.
 pub fn a_creation_makes_the_array()
-    ensures asks { (group : List ℕ) (disks : Disks) (sequence : ℕ) (stamp : Stamp) → request_for 5 stamp (wishes.Create creation) (founded group disks sequence) (seats_at disks Opening)
+    ensures asks { (group : List ℕ) (disks : Disks) (sequence : ℕ) (stamp : Stamp) (linux : List ℕ) → request_for 5 stamp (wishes.Create creation) linux (founded group disks sequence) (seats_at disks Opening)
         ≡ Ok (Create (new_array_guid (founded group disks sequence) stamp) (array (positions_at disks Opening) optimal not_at_all) ∷ []) }
     ensures makes { (group : List ℕ) (disks : Disks) (guid : List ℕ) (sequence : ℕ) → AreApart disks → sequence + 1 ≤ greatest_sequence
         → Makes (seats_at disks Opening) (founded group disks sequence) (Create guid (array (positions_at disks Opening) optimal not_at_all)) (created group disks guid (sequence + 1)) }
@@ -71,10 +71,10 @@ pub fn a_resync_clears_the_mark()
 
 /// Two disks become spares, one after the other.
 pub fn two_disks_become_spares()
-    ensures asks_first { (group : List ℕ) (disks : Disks) (guid : List ℕ) (sequence : ℕ) (stamp : Stamp)
-        → request_for 5 stamp (wishes.Spare 3 words.Global) (resynced group disks guid sequence) (seats_at disks Opening) ≡ Ok (Spare disks.fourth.reference Global ∷ []) }
-    ensures asks_second { (group : List ℕ) (disks : Disks) (guid : List ℕ) (sequence : ℕ) (stamp : Stamp)
-        → request_for 5 stamp (wishes.Spare 4 words.Global) (with_spare group disks guid sequence) (seats_at disks Opening) ≡ Ok (Spare disks.fifth.reference Global ∷ []) }
+    ensures asks_first { (group : List ℕ) (disks : Disks) (guid : List ℕ) (sequence : ℕ) (stamp : Stamp) (linux : List ℕ)
+        → request_for 5 stamp (wishes.Spare 3 words.Global) linux (resynced group disks guid sequence) (seats_at disks Opening) ≡ Ok (Spare disks.fourth.reference Global ∷ []) }
+    ensures asks_second { (group : List ℕ) (disks : Disks) (guid : List ℕ) (sequence : ℕ) (stamp : Stamp) (linux : List ℕ)
+        → request_for 5 stamp (wishes.Spare 4 words.Global) linux (with_spare group disks guid sequence) (seats_at disks Opening) ≡ Ok (Spare disks.fifth.reference Global ∷ []) }
     ensures first { (group : List ℕ) (disks : Disks) (guid : List ℕ) (sequence : ℕ) → AreApart disks → sequence + 1 ≤ greatest_sequence
         → Makes (seats_at disks Opening) (resynced group disks guid sequence) (Spare disks.fourth.reference Global) (with_spare group disks guid (sequence + 1)) }
     ensures second { (group : List ℕ) (disks : Disks) (guid : List ℕ) (sequence : ℕ) → AreApart disks → sequence + 1 ≤ greatest_sequence

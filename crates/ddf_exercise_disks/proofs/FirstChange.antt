@@ -23,7 +23,7 @@ use Rattle.ddf_text.specs.Done.{sequence_line}
 use Rattle.ddf_answer.specs.Call.{answer_of, work_of}
 use Rattle.ddf_request.specs.NewArray.{new_array_guid}
 use Rattle.ddf_group_commands.specs.Change.{IsChangeDone}
-use Rattle.ddf_group_commands.specs.Requests.{request_for}
+use Rattle.ddf_group_commands.specs.Requests.{IsWished, request_for}
 use Rattle.ddf_uncut_group.specs.Asking.{AreNext}
 use Rattle.ddf_uncut_group.specs.Plain.{HasRoom}
 use Rattle.ddf_uncut_data.proofs.Held.{holds_same}
@@ -50,12 +50,12 @@ use Rattle.ddf_exercise_disks.proofs.Standing.{StaysLow, change_leaves, ends_the
 -- What is asked on the slots of the disks is asked on five.
 on_five_slots : (total asked : ℕ) (out : List Bool) (config : Configuration) (seats : List Seat) (name : List ℕ) (stamp : Stamp) (wish : Wish) (old new : MemoryBay) → StandsAt name total asked out config seats old
     → (timestamp : ℕ) (after : SinkState) (status : ℕ)
-    → IsChangeDone (work_of (Unit {0}) (disks_of old) (disks_of new)) (Some name) timestamp (request_for (length (disks_of old).sizes) stamp wish) (answer_of (Unit {0}) unused after status)
-    → IsChangeDone (work_of (Unit {0}) (disks_of old) (disks_of new)) (Some name) timestamp (request_for 5 stamp wish) (answer_of (Unit {0}) unused after status)
+    → (done : IsWished (work_of (Unit {0}) (disks_of old) (disks_of new)) (Some name) timestamp (request_for (length (disks_of old).sizes) stamp wish) (answer_of (Unit {0}) unused after status))
+    → IsChangeDone (work_of (Unit {0}) (disks_of old) (disks_of new)) (Some name) timestamp (request_for 5 stamp wish done.wished.linux) (answer_of (Unit {0}) unused after status)
 on_five_slots total asked out config seats name stamp wish old new stands timestamp after status done =
     subst
-    (λ (slots : ℕ). IsChangeDone (work_of (Unit {0}) (disks_of old) (disks_of new)) (Some name) timestamp (request_for slots stamp wish) (answer_of (Unit {0}) unused after status))
-    (ap (λ (sizes : List ℕ). length sizes) stands.well.sizes_are) done
+    (λ (slots : ℕ). IsChangeDone (work_of (Unit {0}) (disks_of old) (disks_of new)) (Some name) timestamp (request_for slots stamp wish done.wished.linux) (answer_of (Unit {0}) unused after status))
+    (ap (λ (sizes : List ℕ). length sizes) stands.well.sizes_are) (record { outcome = done.outcome; has = done.wished.has; ends = done.ends })
 
 -- New disks have room for the group with its array, whatever its fourth and fifth disk may stand in for.
 module _ (name : List ℕ) (disks : Disks) (guid : List ℕ) (state init sequence : ℕ) where
@@ -126,13 +126,13 @@ module _ (stamp : Stamp) where
 
   module _ (total asked : ℕ) (old new : MemoryBay) (stands : StandsAt first_name total asked none_out (founded first_name first_disks 1) (seats_at first_disks Opening) old) (empty : IsZero old)
       (goes : GoesOn (disks_of old) (disks_of new)) (timestamp : ℕ) (time : timestamp < 2 ^ 32) (enough : asked + 415 ≤ total) (after : SinkState) (status : ℕ)
-      (done : IsChangeDone (work_of (Unit {0}) (disks_of old) (disks_of new)) (Some first_name) timestamp (request_for (length (disks_of old).sizes) stamp (wishes.Create creation)) (answer_of (Unit {0}) unused after status)) where
+      (done : IsWished (work_of (Unit {0}) (disks_of old) (disks_of new)) (Some first_name) timestamp (request_for (length (disks_of old).sizes) stamp (wishes.Create creation)) (answer_of (Unit {0}) unused after status)) where
     pub creation_stands : EndsWell (answer_of (Unit {0}) unused after status) (sequence_line 2)
         (StandsAt first_name total (asked + 415) none_out (created first_name first_disks first_guid 2) (seats_at first_disks Opening) new × IsZero new)
     creation_stands =
         ends_then (answer_of (Unit {0}) unused after status) (sequence_line 2) (λ both. (both.0, λ slot l low. both.1 slot l low ∙ empty slot l low))
-        (change_leaves first_name total asked none_out (founded first_name first_disks 1) (seats_at first_disks Opening) old new stands goes timestamp time (request_for 5 stamp (wishes.Create creation))
-        (Create first_guid (array (positions_at first_disks Opening) optimal not_at_all) ∷ []) (created first_name first_disks first_guid 2) (wanted.creation_is first_name first_disks 1 stamp) creation_next refl enough after status
+        (change_leaves first_name total asked none_out (founded first_name first_disks 1) (seats_at first_disks Opening) old new stands goes timestamp time (request_for 5 stamp (wishes.Create creation) done.wished.linux)
+        (Create first_guid (array (positions_at first_disks Opening) optimal not_at_all) ∷ []) (created first_name first_disks first_guid 2) (wanted.creation_is first_name first_disks 1 stamp done.wished.linux) creation_next refl enough after status
         (on_five_slots total asked none_out (founded first_name first_disks 1) (seats_at first_disks Opening) first_name stamp (wishes.Create creation) old new stands timestamp after status done))
 
 -- ---- spares
@@ -149,26 +149,26 @@ module _ (name : List ℕ) (total asked : ℕ) (out : List Bool) (disks : Disks)
   }
 
   pub first_spare_stores : StoresAt name total asked out (resynced name disks guid sequence) (seats_at disks Opening) (view_at Opening false) bytes old
-      → IsChangeDone (work_of (Unit {0}) (disks_of old) (disks_of new)) (Some name) timestamp (request_for (length (disks_of old).sizes) stamp (wishes.Spare 3 spare_words.Global)) (answer_of (Unit {0}) unused after status)
+      → IsWished (work_of (Unit {0}) (disks_of old) (disks_of new)) (Some name) timestamp (request_for (length (disks_of old).sizes) stamp (wishes.Spare 3 spare_words.Global)) (answer_of (Unit {0}) unused after status)
       → EndsWell (answer_of (Unit {0}) unused after status) (sequence_line (sequence + 1))
       (StoresAt name total (asked + 415) out (with_spare name disks guid (sequence + 1)) (seats_at disks Opening) (view_at Opening false) bytes new)
   first_spare_stores stores done =
       ends_then (answer_of (Unit {0}) unused after status) (sequence_line (sequence + 1)) (stores_then (resynced name disks guid sequence) stores (with_spare name disks guid (sequence + 1)))
-      (change_leaves name total asked out (resynced name disks guid sequence) (seats_at disks Opening) old new stores.stands goes timestamp time (request_for 5 stamp (wishes.Spare 3 spare_words.Global))
-      (Spare disks.fourth.reference Global ∷ []) (with_spare name disks guid (sequence + 1)) (wanted.first_spare_is name disks sequence stamp guid)
+      (change_leaves name total asked out (resynced name disks guid sequence) (seats_at disks Opening) old new stores.stands goes timestamp time (request_for 5 stamp (wishes.Spare 3 spare_words.Global) done.wished.linux)
+      (Spare disks.fourth.reference Global ∷ []) (with_spare name disks guid (sequence + 1)) (wanted.first_spare_is name disks sequence stamp guid done.wished.linux)
       (makes_next (seats_at disks Opening) (resynced name disks guid sequence) (Spare disks.fourth.reference Global) (with_spare name disks guid (sequence + 1)) (made.first_spare name disks apart guid sequence within) tt within
       (readable.early_current name disks apart guid (sequence + 1) Global No (array (positions_at disks Opening) 0 2)).seats_are (room_one name disks guid 0 2 (sequence + 1)))
       refl enough after status
       (on_five_slots total asked out (resynced name disks guid sequence) (seats_at disks Opening) name stamp (wishes.Spare 3 spare_words.Global) old new stores.stands timestamp after status done))
 
   pub second_spare_stores : StoresAt name total asked out (with_spare name disks guid sequence) (seats_at disks Opening) (view_at Opening false) bytes old
-      → IsChangeDone (work_of (Unit {0}) (disks_of old) (disks_of new)) (Some name) timestamp (request_for (length (disks_of old).sizes) stamp (wishes.Spare 4 spare_words.Global)) (answer_of (Unit {0}) unused after status)
+      → IsWished (work_of (Unit {0}) (disks_of old) (disks_of new)) (Some name) timestamp (request_for (length (disks_of old).sizes) stamp (wishes.Spare 4 spare_words.Global)) (answer_of (Unit {0}) unused after status)
       → EndsWell (answer_of (Unit {0}) unused after status) (sequence_line (sequence + 1))
       (StoresAt name total (asked + 415) out (whole name disks guid Opening (sequence + 1)) (seats_at disks Opening) (view_at Opening false) bytes new)
   second_spare_stores stores done =
       ends_then (answer_of (Unit {0}) unused after status) (sequence_line (sequence + 1)) (stores_then (with_spare name disks guid sequence) stores (whole name disks guid Opening (sequence + 1)))
-      (change_leaves name total asked out (with_spare name disks guid sequence) (seats_at disks Opening) old new stores.stands goes timestamp time (request_for 5 stamp (wishes.Spare 4 spare_words.Global))
-      (Spare disks.fifth.reference Global ∷ []) (whole name disks guid Opening (sequence + 1)) (wanted.second_spare_is name disks sequence stamp guid)
+      (change_leaves name total asked out (with_spare name disks guid sequence) (seats_at disks Opening) old new stores.stands goes timestamp time (request_for 5 stamp (wishes.Spare 4 spare_words.Global) done.wished.linux)
+      (Spare disks.fifth.reference Global ∷ []) (whole name disks guid Opening (sequence + 1)) (wanted.second_spare_is name disks sequence stamp guid done.wished.linux)
       (makes_next (seats_at disks Opening) (with_spare name disks guid sequence) (Spare disks.fifth.reference Global) (whole name disks guid Opening (sequence + 1)) (made.second_spare name disks apart guid sequence within) tt within
       (readable.early_current name disks apart guid (sequence + 1) Global Global (array (positions_at disks Opening) 0 2)).seats_are (room_both name disks guid 0 2 (sequence + 1)))
       refl enough after status

@@ -14,8 +14,7 @@ ghost use Rattle.ddf_text.specs.Done.{sequence_line};
 ghost use Rattle.ddf_request.specs.NewArray.{new_array_guid};
 ghost use Rattle.ddf_answer.specs.Call.{answer_of, work_of};
 ghost use Rattle.ddf_disk_commands.specs.Label.{IsLabelled};
-ghost use Rattle.ddf_group_commands.specs.Change.{IsChangeDone};
-ghost use Rattle.ddf_group_commands.specs.Requests.{request_for};
+ghost use Rattle.ddf_group_commands.specs.Requests.{IsWished, request_for};
 ghost use Rattle.ddf_write_commands.specs.Resync.{IsResyncDone};
 ghost use Rattle.ddf_exercise_config.specs.Disks.{AreApart, Disks};
 ghost use Rattle.ddf_exercise_config.specs.Founded.{new_disks};
@@ -42,7 +41,7 @@ pub fn a_new_array_is_created()
     ensures { (stamp : Stamp) (total asked : ℕ) (old new : MemoryBay)
         → StandsAt (group_of stamp) total asked none_out (founded (group_of stamp) (new_disks stamp) 1) (seats_at (new_disks stamp) Opening) old → IsZero old → GoesOn (disks_of old) (disks_of new)
         → (timestamp : ℕ) → timestamp < 2 ^ 32 → asked + 415 ≤ total → (after : SinkState) (status : ℕ)
-        → IsChangeDone (work_of (Unit {0}) (disks_of old) (disks_of new)) (Some (group_of stamp)) timestamp (request_for (length (disks_of old).sizes) stamp (wishes.Create creation)) (answer_of (Unit {0}) unused after status)
+        → IsWished (work_of (Unit {0}) (disks_of old) (disks_of new)) (Some (group_of stamp)) timestamp (request_for (length (disks_of old).sizes) stamp (wishes.Create creation)) (answer_of (Unit {0}) unused after status)
         → EndsWell (answer_of (Unit {0}) unused after status) (sequence_line 2)
         (StandsAt (group_of stamp) total (asked + 415) none_out
         (created (group_of stamp) (new_disks stamp) (new_array_guid (founded (group_of stamp) (new_disks stamp) 1) stamp) 2) (seats_at (new_disks stamp) Opening) new × IsZero new) }
@@ -63,13 +62,13 @@ pub fn spares_leave_the_blocks()
     ensures first { (name : List ℕ) (total asked : ℕ) (out : List Bool) (disks : Disks) → AreApart disks → (guid : List ℕ) (sequence : ℕ) → sequence + 1 ≤ greatest_sequence → (bytes : List ℕ) (old new : MemoryBay)
         → GoesOn (disks_of old) (disks_of new) → (stamp : Stamp) (timestamp : ℕ) → timestamp < 2 ^ 32 → asked + 415 ≤ total → (after : SinkState) (status : ℕ)
         → StoresAt name total asked out (resynced name disks guid sequence) (seats_at disks Opening) (view_at Opening false) bytes old
-        → IsChangeDone (work_of (Unit {0}) (disks_of old) (disks_of new)) (Some name) timestamp (request_for (length (disks_of old).sizes) stamp (wishes.Spare 3 spare_words.Global)) (answer_of (Unit {0}) unused after status)
+        → IsWished (work_of (Unit {0}) (disks_of old) (disks_of new)) (Some name) timestamp (request_for (length (disks_of old).sizes) stamp (wishes.Spare 3 spare_words.Global)) (answer_of (Unit {0}) unused after status)
         → EndsWell (answer_of (Unit {0}) unused after status) (sequence_line (sequence + 1))
         (StoresAt name total (asked + 415) out (with_spare name disks guid (sequence + 1)) (seats_at disks Opening) (view_at Opening false) bytes new) }
     ensures second { (name : List ℕ) (total asked : ℕ) (out : List Bool) (disks : Disks) → AreApart disks → (guid : List ℕ) (sequence : ℕ) → sequence + 1 ≤ greatest_sequence → (bytes : List ℕ) (old new : MemoryBay)
         → GoesOn (disks_of old) (disks_of new) → (stamp : Stamp) (timestamp : ℕ) → timestamp < 2 ^ 32 → asked + 415 ≤ total → (after : SinkState) (status : ℕ)
         → StoresAt name total asked out (with_spare name disks guid sequence) (seats_at disks Opening) (view_at Opening false) bytes old
-        → IsChangeDone (work_of (Unit {0}) (disks_of old) (disks_of new)) (Some name) timestamp (request_for (length (disks_of old).sizes) stamp (wishes.Spare 4 spare_words.Global)) (answer_of (Unit {0}) unused after status)
+        → IsWished (work_of (Unit {0}) (disks_of old) (disks_of new)) (Some name) timestamp (request_for (length (disks_of old).sizes) stamp (wishes.Spare 4 spare_words.Global)) (answer_of (Unit {0}) unused after status)
         → EndsWell (answer_of (Unit {0}) unused after status) (sequence_line (sequence + 1))
         (StoresAt name total (asked + 415) out (whole name disks guid Opening (sequence + 1)) (seats_at disks Opening) (view_at Opening false) bytes new) }
 {}

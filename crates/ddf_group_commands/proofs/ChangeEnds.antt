@@ -17,6 +17,7 @@ use Rattle.ddf_answer.specs.Answers.{IsToldFailure}
 use Rattle.ddf_group_commands.specs.Assemble.{IsAssembleDone, IsTold, no_change}
 use Rattle.ddf_answer.specs.Call.{Answer, Work, answer_of, work_of}
 use Rattle.ddf_group_commands.specs.Change.{HasChanged, IsChangeDone, IsChangedIn, IsToldChange, Request}
+use Rattle.ddf_group_commands.specs.Requests.{IsWished, linux_found}
 use Rattle.ddf_answer.specs.Ends.{Ends, HasCause, is_unwritten}
 use Rattle.ddf_steps.specs.Committed.{slots_of}
 use Rattle.ddf_group_commands.proofs.Beside.{reads_beside}
@@ -84,6 +85,11 @@ module _ {D : Type 0} (traits : Traits) (may : traits.may_refuse ≡ true) (take
     pub change_ends : IsChangeDone work named timestamp request answer → Ends traits work answer
     change_ends done = ends_by done.outcome (group_of done.has.taken.newest named) done.has.gives (change_closes done.outcome answer done.ends)
 
+  -- so one that was wished,
+  pub wish_ends : (request : (linux : List ℕ) → Request) → IsWished work named timestamp request answer → Ends traits work answer
+  wish_ends request done =
+      change_ends (request done.wished.linux) (record { outcome = done.outcome; has = done.wished.has; ends = done.ends })
+
   -- and so does `assemble`.
   pub assemble_ends : IsAssembleDone work named timestamp answer → Ends traits work answer
   assemble_ends done = ends_by no_change done.outcome (group_of done.has.taken.newest named) done.has.gives (assemble_closes (group_of done.has.taken.newest named) done.outcome answer done.ends)
@@ -118,8 +124,15 @@ spent_first old tells named timestamp request looked = record {
 }
 
 module _ {D : Type 0} (old : BayState D) (tells told : Type 0) (before : SinkState) (named : Option (List ℕ)) (timestamp : ℕ) (looked : IsLooked old old) where
-  pub changed_nothing : (request : Request) → IsChangeDone (work_of tells old old) named timestamp request (answer_of told before before 5)
-  changed_nothing request = record { outcome = Err Memory; has = spent_first old tells named timestamp request looked; ends = (refl, λ told. refl) }
+  pub wished_nothing : (request : (linux : List ℕ) → Request) → IsWished (work_of tells old old) named timestamp request (answer_of told before before 5)
+  unfolding spent_first
+  wished_nothing request =
+      let linux = linux_found (group_of (newest_from old 0 looked.left) named) in
+      record {
+        outcome = Err Memory;
+        wished = record { linux = linux; has = spent_first old tells named timestamp (request linux) looked; are_its = refl };
+        ends = (refl, λ told. refl);
+      }
 
   pub assembled_nothing : IsAssembleDone (work_of tells old old) named timestamp (answer_of told before before 5)
   assembled_nothing =

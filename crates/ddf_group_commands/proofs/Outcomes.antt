@@ -31,7 +31,7 @@ use Rattle.ddf_answer.specs.Call.{Work, work_of}
 use Rattle.ddf_group_commands.specs.Costs.{CostsOfAsked}
 use Rattle.ddf_group_commands.specs.Change.{CostsOfSteps, HasChanged, IsChanged, IsChangedIn, KeepsHistories, Request, TakesGroup, failure_of_group, is_done, steps_asked, steps_of, steps_or}
 use Rattle.ddf_group_commands.specs.GroupRead.{IsFoundBy, IsGroupRead, IsReadFrom, group_or}
-use Rattle.ddf_group_commands.specs.Requests.{at_most_one}
+use Rattle.ddf_group_commands.specs.Requests.{HasWished, at_most_one, linux_found, linux_members}
 use Rattle.ddf_group_commands.specs.Others.{LeavesOthers}
 use Rattle.ddf_group_commands.specs.Writing.{IsLeftWriting}
 use Rattle.ddf_group_commands.proofs.Beside.{beside_since, reads_beside}
@@ -165,7 +165,7 @@ none_read work named timestamp request failure read reads = record {
 
 module _ {D : Type 0} (work : Work D) (named : Option (List ℕ)) (timestamp : ℕ) (request : Request) (group : GroupValue) (read : IsGroupRead work named (Ok group)) (reads : ReadsOnly work.old work.new) where
   -- what a command came to that wrote nothing
-  unwritten : (failure : Failure) → IsChanged work group (steps_of group timestamp request) (Err failure) → HasChanged work named timestamp request (Err failure)
+  pub unwritten : (failure : Failure) → IsChanged work group (steps_of group timestamp request) (Err failure) → HasChanged work named timestamp request (Err failure)
   unfolding takes_reading
   unwritten failure is = record {
     taken = takes_reading work named timestamp request (Ok group) read reads;
@@ -190,11 +190,6 @@ module _ {D : Type 0} (work : Work D) (named : Option (List ℕ)) (timestamp : �
   pub not_asked : (meaning : Result (Option Change) Refusal) (fault : PlanFault) → request (config_recovered group) group.seats ≡ at_most_one meaning → IsRequested meaning (Err fault)
       → HasChanged work named timestamp request (Err (failure_of_plan fault))
   not_asked meaning fault same is = unwritten (failure_of_plan fault) (refused_by meaning fault same is)
-
--- What is asked of the same slots, configuration and seats is the same.
-pub same_asked : {slots : ℕ} {old now : List ℕ} {config same_config : Configuration} {seats same_seats : List Seat} (ask : (slots : ℕ) → Configuration → List Seat → Result (Option Change) Refusal)
-    → slots ≡ length now → now ≡ old → config ≡ same_config → seats ≡ same_seats → at_most_one (ask (length old) same_config same_seats) ≡ at_most_one (ask slots config seats)
-same_asked ask one sizes two three = rw (one, sizes, two, three) refl
 
 -- ---- changes are asked
 
@@ -294,3 +289,52 @@ module _ {D : Type 0} (tells : Type 0) (old middle new : BayState D) (reads : Re
       → group_of (has_changed named timestamp request group changes outcome read is written).taken.newest named ≡ Ok group
   unfolding has_changed
   changed_group named timestamp request group changes outcome read is written = group_read (work_of tells old middle) named group read
+
+-- ---- what is asked by the disks that Linux reads
+
+-- What is asked of the same slots, configuration, seats and such disks is the same.
+pub linux_asked : {slots : ℕ} {old now linux same_linux : List ℕ} {config same_config : Configuration} {seats same_seats : List Seat}
+    (ask : (slots : ℕ) → Configuration → List Seat → List ℕ → Result (Option Change) Refusal)
+    → slots ≡ length now → now ≡ old → config ≡ same_config → seats ≡ same_seats → linux ≡ same_linux
+    → at_most_one (ask (length old) same_config same_seats same_linux) ≡ at_most_one (ask slots config seats linux)
+linux_asked ask one sizes two three four = rw (one, sizes, two, three, four) refl
+
+module _ {D : Type 0} (work : Work D) (named : Option (List ℕ)) (timestamp : ℕ) (request : (linux : List ℕ) → Request) (reads : ReadsOnly work.old work.new) where
+  -- where there is no group, or memory ran out
+  pub none_wished : (failure : Failure) → IsGroupRead work named (Err failure) → HasWished work named timestamp request (Err failure)
+  unfolding none_read takes_reading
+  none_wished failure read =
+      let linux = linux_found (group_of read.newest named) in
+      record { linux = linux; has = none_read work named timestamp (request linux) failure read reads; are_its = refl }
+
+  module _ (group : GroupValue) (read : IsGroupRead work named (Ok group)) where
+    -- where memory ran out
+    pub memory_wished : HasWished work named timestamp request (Err Memory)
+    unfolding memory_spent unwritten takes_reading
+    memory_wished = record {
+      linux = linux_members group;
+      has = memory_spent work named timestamp (request (linux_members group)) group read reads;
+      are_its = sym (ap linux_found (group_read work named group read));
+    }
+
+    -- where there is nothing that the words ask for, or memory ran out
+    pub not_wished : (meaning : Result (Option Change) Refusal) (fault : PlanFault) → request (linux_members group) (config_recovered group) group.seats ≡ at_most_one meaning → IsRequested meaning (Err fault)
+        → HasWished work named timestamp request (Err (failure_of_plan fault))
+    unfolding not_asked unwritten takes_reading
+    not_wished meaning fault same is = record {
+      linux = linux_members group;
+      has = not_asked work named timestamp (request (linux_members group)) group read reads meaning fault same is;
+      are_its = sym (ap linux_found (group_read work named group read));
+    }
+
+-- what came of the changes that the words ask of the group
+pub has_wished : {D : Type 0} (tells : Type 0) (old middle new : BayState D) (reads : ReadsOnly old middle)
+    (reads_rise : (slot : ℕ) → old.failed_reads slot ≤ middle.failed_reads slot) (writes_rise : (slot : ℕ) → old.failed_writes slot ≤ middle.failed_writes slot)
+    (named : Option (List ℕ)) (timestamp : ℕ) (request : (linux : List ℕ) → Request) (group : GroupValue) (changes : List Change) (outcome : Result ℕ Failure)
+    → IsGroupRead (work_of tells old middle) named (Ok group) → request (linux_members group) (config_recovered group) group.seats ≡ Ok changes → HasWritten tells middle new group changes timestamp outcome
+    → HasWished (work_of tells old new) named timestamp request outcome
+has_wished tells old middle new reads reads_rise writes_rise named timestamp request group changes outcome read is written = record {
+  linux = linux_members group;
+  has = has_changed tells old middle new reads reads_rise writes_rise named timestamp (request (linux_members group)) group changes outcome read is written;
+  are_its = sym (ap linux_found (changed_group tells old middle new reads reads_rise writes_rise named timestamp (request (linux_members group)) group changes outcome read is written));
+}

@@ -28,8 +28,8 @@ use Rattle.ddf_words.specs.declared.command.Wish.TheVariants.{Create, Delete, Ac
 use Rattle.ddf_words.specs.Commands.{FitsCreation, FitsElement, FitsSpare, FitsWish}
 use Rattle.ddf_repair.specs.Accept.{accepted}
 use Rattle.ddf_request.specs.Named.{named_array, named_guid}
-use Rattle.ddf_request.specs.NewArray.{is_misfit, misfit_refusal, new_array, new_array_guid, new_element, new_position, padded, qualifier_of}
-use Rattle.ddf_request.specs.Request.{IsWish, accept_change, accept_refusal, change_for, create_change, delete_change, one, request_of, slots_named, spare_change, unless}
+use Rattle.ddf_request.specs.NewArray.{new_array, new_array_guid, new_element, new_position, padded, qualifier_of, unfit}
+use Rattle.ddf_request.specs.Request.{IsWish, accept_change, accept_refusal, change_for, create_change, delete_change, if_fits, one, request_of, slots_named, spare_change, unless}
 use Rattle.ddf_request.specs.Spare.{served_guid, served_guids, use_of, with_guid}
 use Rattle.ddf_request.specs.Slots.{is_on, reference_on, slot_refusals}
 use Rattle.ddf_request.proofs.Numbers.{least_fits}
@@ -144,15 +144,12 @@ module _ (seats : List Seat) (creation : Creation) (bounds : HasBounds seats cre
   }
 
   -- the change that `create` gives
-  create_asked : (config : Configuration) (stamp : Stamp) (change : Change) → create_change config seats stamp creation ≡ Ok change → CanBeAsked change
-  create_asked config stamp change is = by (is_misfit creation) is
+  create_asked : (config : Configuration) (linux : List ℕ) (stamp : Stamp) (change : Change) → create_change config seats linux stamp creation ≡ Ok change → CanBeAsked change
+  create_asked config linux stamp change is = by (unfit linux seats creation) is
     where
-      by : (misfit : Bool)
-          → ◌≡◌ {A = Result Change Refusal} (if misfit then Err (misfit_refusal config seats (changes.Create (new_array_guid config stamp) (new_array config seats creation)))
-          else Ok (changes.Create (new_array_guid config stamp) (new_array config seats creation))) (Ok change)
-          → CanBeAsked change
-      by true is = absurd cc
-      by false is =
+      by : (last : Option Refusal) → if_fits last config seats (changes.Create (new_array_guid config stamp) (new_array config seats creation)) ≡ Ok change → CanBeAsked change
+      by (Some last) is = absurd cc
+      by None is =
           let same : changes.Create (new_array_guid config stamp) (new_array config seats creation) ≡ change = cc in
           subst CanBeAsked same (array_is config stamp)
 
@@ -217,16 +214,16 @@ accept_asked config seats word change is = by (named_array config.arrays word) i
     taken entry (Some refusal) is = absurd cc
 
     by : (found : Option (List ℕ × Array)) → ◌≡◌ {A = Result (Option Change) Refusal}
-        (elim found [ None ↦ Err NoArray | Some entry ↦ elim (accept_refusal config seats entry.1) [ None ↦ Ok (accepted config entry.0) | Some refusal ↦ Err refusal ] ]) (Ok change) → AreAsked change
+        (elim found [ None ↦ Err NoArray | Some entry ↦ elim (accept_refusal config seats entry.0 entry.1) [ None ↦ Ok (accepted config entry.0) | Some refusal ↦ Err refusal ] ]) (Ok change) → AreAsked change
     by None is = absurd cc
-    by (Some entry) is = taken entry (accept_refusal config seats entry.1) is
+    by (Some entry) is = taken entry (accept_refusal config seats entry.0 entry.1) is
 
 -- ---- every wish
 
-module _ (seats : List Seat) (config : Configuration) (stamp : Stamp) (small : AllByRecursion (λ (seat : Seat). seat.reference < 2 ^ 32) seats) where
-  wished : (wish : Wish) (change : Option Change) → FitsWish wish → HasByteCodes wish → change_for config seats stamp wish ≡ Ok change → AreAsked change
+module _ (seats : List Seat) (config : Configuration) (linux : List ℕ) (stamp : Stamp) (small : AllByRecursion (λ (seat : Seat). seat.reference < 2 ^ 32) seats) where
+  wished : (wish : Wish) (change : Option Change) → FitsWish wish → HasByteCodes wish → change_for config seats linux stamp wish ≡ Ok change → AreAsked change
   wished (Create creation) change fits codes is =
-      one_asked (create_change config seats stamp creation) change (create_asked seats creation (record { words = fits; codes = codes; references = small }) config stamp) is
+      one_asked (create_change config seats linux stamp creation) change (create_asked seats creation (record { words = fits; codes = codes; references = small }) config linux stamp) is
   wished (Delete name) change fits codes is = one_asked (delete_change config name) change (delete_asked config name) is
   wished (Accept name) change fits codes is = accept_asked config seats name change is
   wished (Spare slot word) change fits codes is =
@@ -234,6 +231,6 @@ module _ (seats : List Seat) (config : Configuration) (stamp : Stamp) (small : A
   wished (Fail slot) change fits codes is = let same : Some (changes.Fail (reference_on seats slot)) ≡ change = cc in subst AreAsked same (tt, tt)
 
   -- the changes that are asked for
-  pub request_asked : (slots : ℕ) (wish : Wish) (change : Option Change) → FitsWish wish → HasByteCodes wish → request_of slots config seats stamp wish ≡ Ok change → AreAsked change
+  pub request_asked : (slots : ℕ) (wish : Wish) (change : Option Change) → FitsWish wish → HasByteCodes wish → request_of slots config seats linux stamp wish ≡ Ok change → AreAsked change
   request_asked slots wish change fits codes is =
-      wished wish change fits codes (change_of (first_refusal (slot_refusals slots seats (slots_named wish))) (change_for config seats stamp wish) change is)
+      wished wish change fits codes (change_of (first_refusal (slot_refusals slots seats (slots_named wish))) (change_for config seats linux stamp wish) change is)

@@ -9,9 +9,9 @@ ghost use Rattle.ddf_answer.specs.Status.{code_of};
 ghost use Rattle.ddf_words.specs.Commands.{FitsWish};
 ghost use Rattle.ddf_words.specs.Traits.{traits_of};
 ghost use Rattle.ddf_words.specs.declared.command.Command.{Command};
-ghost use Rattle.ddf_group_commands.specs.Change.{HasChanged, IsChangeDone};
-ghost use Rattle.ddf_group_commands.specs.Requests.{HasByteCodes, request_for};
+ghost use Rattle.ddf_group_commands.specs.Requests.{HasByteCodes, HasWished, IsWished, request_for};
 
+use crate::linux::linux_members;
 use crate::writing::{read_group, recovered, write_changes};
 use ddf_answer::{Failure, Status, tell, tell_failure};
 use ddf_bay::Bay;
@@ -35,7 +35,7 @@ pub fn change<B: Bay, K: Sink>(
 ) -> Status
     requires { FitsWish wish.now }
     // promise:unread, promise:raised, promise:extents, promise:unmarked
-    ensures done { IsChangeDone (work_of B.tells (B.disks bay.old) (B.disks bay.new)) named (timestamp_of stamp.now) (request_for (length (B.disks bay.old).sizes) stamp.now wish.now) (answer_of K.tells (K.output sink.old) (K.output sink.new) (code_of result)) }
+    ensures done { IsWished (work_of B.tells (B.disks bay.old) (B.disks bay.new)) named (timestamp_of stamp.now) (request_for (length (B.disks bay.old).sizes) stamp.now wish.now) (answer_of K.tells (K.output sink.old) (K.output sink.new) (code_of result)) }
     ensures ends { Ends (traits_of (Command.Change wish.now)) (work_of B.tells (B.disks bay.old) (B.disks bay.new)) (answer_of K.tells (K.output sink.old) (K.output sink.new) (code_of result)) }
 {
     match changed(alloc, named, wish, bay, stamp) {
@@ -53,18 +53,20 @@ fn changed<B: Bay>(
     stamp: &Stamp,
 ) -> Result<u32, Failure>
     requires { FitsWish wish.now }
-    ensures changed { HasChanged (work_of B.tells (B.disks bay.old) (B.disks bay.new)) named (timestamp_of stamp.now) (request_for (length (B.disks bay.old).sizes) stamp.now wish.now) result }
+    ensures changed { HasWished (work_of B.tells (B.disks bay.old) (B.disks bay.new)) named (timestamp_of stamp.now) (request_for (length (B.disks bay.old).sizes) stamp.now wish.now) result }
     ensures goes_on { GoesOn (B.disks bay.old) (B.disks bay.new) }
     ensures same_sizes { (B.disks bay.new).sizes ≡ (B.disks bay.old).sizes }
 {
     have_byte_codes(wish);
     let mut group = read_group(alloc, named, bay)?;
     let loss = loss(alloc, &group)?;
+    let linux = linux_members(alloc, &group)?;
     let change = request(
         alloc,
         bay.slots(),
         recovered(&group, &loss),
         group.seats(),
+        linux.as_slice(),
         stamp,
         wish,
     )?;

@@ -3,6 +3,7 @@
 
 mod assembling;
 mod changing;
+mod linux;
 mod showing;
 mod writing;
 

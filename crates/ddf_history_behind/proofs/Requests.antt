@@ -28,8 +28,8 @@ use Rattle.ddf_words.specs.declared.command.Creation.{Creation}
 use Rattle.ddf_words.specs.declared.command.Wish.{Wish}
 use Rattle.ddf_words.specs.declared.command.Wish.TheVariants.{Accept, Create, Delete, Fail, Spare}
 use Rattle.ddf_request.specs.Named.{named_array, named_guid}
-use Rattle.ddf_request.specs.NewArray.{is_misfit, misfit_refusal, new_array, new_array_guid}
-use Rattle.ddf_request.specs.Request.{accept_change, accept_refusal, change_for, create_change, delete_change, one, request_of, slots_named, spare_change, unless}
+use Rattle.ddf_request.specs.NewArray.{new_array, new_array_guid, unfit}
+use Rattle.ddf_request.specs.Request.{accept_change, accept_refusal, change_for, create_change, delete_change, if_fits, one, request_of, slots_named, spare_change, unless}
 use Rattle.ddf_request.specs.Slots.{reference_on, slot_refusals}
 use Rattle.ddf_request.specs.Spare.{use_of}
 use Rattle.ddf_group_commands.specs.Assemble.{no_change}
@@ -52,14 +52,13 @@ one_some : (asked : Result Change Refusal) (change : Option Change) → ((only :
 one_some (Ok only) change some is = let same : Some only ≡ change = cc in subst IsSome same (some only refl, tt)
 one_some (Err refusal) change some is = absurd cc
 
-module _ (config : Configuration) (seats : List Seat) (stamp : Stamp) where
-  created : (creation : Creation) (change : Change) → create_change config seats stamp creation ≡ Ok change → LosesSome change
-  created creation change is = by (is_misfit creation) is
+module _ (config : Configuration) (seats : List Seat) (linux : List ℕ) (stamp : Stamp) where
+  created : (creation : Creation) (change : Change) → create_change config seats linux stamp creation ≡ Ok change → LosesSome change
+  created creation change is = by (unfit linux seats creation) is
     where
-      by : (misfit : Bool) → ◌≡◌ {A = Result Change Refusal} (if misfit then Err (misfit_refusal config seats (changes.Create (new_array_guid config stamp) (new_array config seats creation)))
-          else Ok (changes.Create (new_array_guid config stamp) (new_array config seats creation))) (Ok change) → LosesSome change
-      by true e = absurd cc
-      by false e = let same : changes.Create (new_array_guid config stamp) (new_array config seats creation) ≡ change = cc in subst LosesSome same tt
+      by : (refused : Option Refusal) → if_fits refused config seats (changes.Create (new_array_guid config stamp) (new_array config seats creation)) ≡ Ok change → LosesSome change
+      by (Some refusal) e = absurd cc
+      by None e = let same : changes.Create (new_array_guid config stamp) (new_array config seats creation) ≡ change = cc in subst LosesSome same tt
 
   deleted : (word : List ℕ) (change : Change) → delete_change config word ≡ Ok change → LosesSome change
   deleted word change is = by (named_guid config.arrays word) is
@@ -92,18 +91,18 @@ module _ (config : Configuration) (seats : List Seat) (stamp : Stamp) where
       unless_out entry (Some refusal) e = absurd cc
 
       by : (found : Option (List ℕ × Array)) → ◌≡◌ {A = Result (Option Change) Refusal}
-          (elim found [ None ↦ Err NoArray | Some entry ↦ elim (accept_refusal config seats entry.1) [ None ↦ Ok (accepted config entry.0) | Some refusal ↦ Err refusal ] ]) (Ok change) → IsSome change
+          (elim found [ None ↦ Err NoArray | Some entry ↦ elim (accept_refusal config seats entry.0 entry.1) [ None ↦ Ok (accepted config entry.0) | Some refusal ↦ Err refusal ] ]) (Ok change) → IsSome change
       by None e = absurd cc
-      by (Some entry) e = unless_out entry (accept_refusal config seats entry.1) e
+      by (Some entry) e = unless_out entry (accept_refusal config seats entry.0 entry.1) e
 
-  wished : (wish : Wish) (change : Option Change) → change_for config seats stamp wish ≡ Ok change → IsSome change
-  wished (Create creation) change is = one_some (create_change config seats stamp creation) change (created creation) is
+  wished : (wish : Wish) (change : Option Change) → change_for config seats linux stamp wish ≡ Ok change → IsSome change
+  wished (Create creation) change is = one_some (create_change config seats linux stamp creation) change (created creation) is
   wished (Delete name) change is = one_some (delete_change config name) change (deleted name) is
   wished (Accept name) change is = taken name change is
   wished (Spare slot word) change is = one_some (spare_change (reference_on seats slot) (use_of config word)) change (spared (reference_on seats slot) (use_of config word)) is
   wished (Fail slot) change is = let same : Some (changes.Fail (reference_on seats slot)) ≡ change = cc in subst IsSome same (tt, tt)
 
-  asked_for : (refusal : Option Refusal) (wish : Wish) (change : Option Change) → unless refusal (change_for config seats stamp wish) ≡ Ok change → IsSome change
+  asked_for : (refusal : Option Refusal) (wish : Wish) (change : Option Change) → unless refusal (change_for config seats linux stamp wish) ≡ Ok change → IsSome change
   asked_for None wish change is = wished wish change is
   asked_for (Some refusal) wish change is = absurd cc
 
@@ -112,9 +111,9 @@ module _ (config : Configuration) (seats : List Seat) (stamp : Stamp) where
   at_most (Ok change) all some is = let same : option_to_list change ≡ all = cc in subst (AllByRecursion LosesSome) same (some change refl)
   at_most (Err refusal) all some is = absurd cc
 
-pub changes_lose : (slots : ℕ) (stamp : Stamp) (wish : Wish) → LosesNone (request_for slots stamp wish)
-changes_lose slots stamp wish config seats all is =
-    at_most config seats stamp (request_of slots config seats stamp wish) all (λ change. asked_for config seats stamp (first_refusal (slot_refusals slots seats (slots_named wish))) wish change) is
+pub changes_lose : (slots : ℕ) (stamp : Stamp) (wish : Wish) (linux : List ℕ) → LosesNone (request_for slots stamp wish linux)
+changes_lose slots stamp wish linux config seats all is =
+    at_most config seats linux stamp (request_of slots config seats linux stamp wish) all (λ change. asked_for config seats linux stamp (first_refusal (slot_refusals slots seats (slots_named wish))) wish change) is
 
 pub none_lose : LosesNone no_change
 none_lose config seats all is = let same : ◌≡◌ {A = List Change} [] all = cc in subst (AllByRecursion LosesSome) same tt

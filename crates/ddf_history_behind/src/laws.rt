@@ -72,7 +72,7 @@ pub fn no_moment_of_a_history_has_a_disk_that_is_taken_for_an_older_image<B: Bay
 
 /// What the words of a command ask of a group is no loss of no member.
 pub fn no_command_loses_nothing()
-    ensures changes { (slots : ℕ) (stamp : Stamp) (wish : Wish) → LosesNone (request_for slots stamp wish) }
+    ensures changes { (slots : ℕ) (stamp : Stamp) (wish : Wish) (linux : List ℕ) → LosesNone (request_for slots stamp wish linux) }
     ensures assembles { LosesNone no_change }
     ensures resyncs { (word : List ℕ) → LosesNone (resync_request word) }
     ensures writes { (word : List ℕ) (start count : ℕ) → LosesNone (write_request word start count) }

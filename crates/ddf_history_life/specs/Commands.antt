@@ -28,7 +28,7 @@ Means group newest (Some name) = name ≡ group
 Means group newest None = (slot : ℕ) (other : List ℕ) → group_shown (slot_at (map shown_of newest) slot) ≡ Some other → other ≡ group
 
 -- A command that takes the group, which its words mean: `assemble`, and each that changes a group and writes no blocks. It came to this (`has`, which
--- `IsAssembleDone` and `IsChangeDone` hold of the program's calls), over disks in memory of which no call is listed to fail.
+-- `IsAssembleDone` and `IsWished` hold of the program's calls), over disks in memory of which no call is listed to fail.
 pub record IsCommand (group : List ℕ) (old exit : MemoryBay) : Type 0 where
   pub timestamp : ℕ
   pub request : Request

@@ -46,11 +46,11 @@ last_pass (Some refusal ∷ checks) others e = absurd (cc)
 pub room_left : (sequence steps : ℕ) → spent sequence steps ≡ None → sequence + steps ≤ greatest_sequence
 room_left sequence steps e = grind arith
 
-abbrev pub checks_before_clash : Configuration → List Seat → Array → List (Option Refusal)
-checks_before_clash config seats array =
+abbrev pub checks_before_clash : Configuration → List Seat → (guid : List ℕ) → Array → List (Option Refusal)
+checks_before_clash config seats guid array =
     (not_current config seats (references array)
     ∷ refuse_if (is_taken config array.name) NameTaken
-    ∷ unserved_level array
+    ∷ unserved_level guid array
     ∷ refuse_if (is_no_shape array) Shape
     ∷ [])
 
@@ -62,7 +62,7 @@ is_new (Some x) refusal e = absurd (cc)
 pub new_guid : (config : Configuration) (change : Change) (seats : List Seat) → refusal_of config change seats ≡ None → HasNewGuid config.arrays change
 new_guid config (Create guid array) seats e =
     is_new (lookup (same_guid guid) config.arrays) (Clash guid)
-    (all_pass (checks_before_clash config seats array) (refuse_if (is_some (lookup (same_guid guid) config.arrays)) (Clash guid))
+    (all_pass (checks_before_clash config seats guid array) (refuse_if (is_some (lookup (same_guid guid) config.arrays)) (Clash guid))
     (refuse_first seats (is_spare_disk config) InUse (references array)
     ∷ extents_refusal config (Create guid array) [] seats
     ∷ spent config.sequence 1

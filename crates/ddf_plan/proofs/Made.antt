@@ -100,7 +100,7 @@ module _ (config next : Configuration) (guid : List ℕ) (array made : Array) (s
       (all_pass
       (not_current config seats (references array)
       ∷ refuse_if (is_taken config array.name) NameTaken
-      ∷ unserved_level array
+      ∷ unserved_level guid array
       ∷ refuse_if (is_no_shape array) Shape
       ∷ refuse_if (is_some (lookup (same_guid guid) config.arrays)) (Clash guid)
       ∷ refuse_first seats (is_spare_disk config) InUse (references array)
@@ -117,7 +117,7 @@ module _ (config next : Configuration) (guid : List ℕ) (array made : Array) (s
       (all_pass
       (not_current config seats (references array)
       ∷ refuse_if (is_taken config array.name) NameTaken
-      ∷ unserved_level array
+      ∷ unserved_level guid array
       ∷ [])
       (refuse_if (is_no_shape array) Shape)
       (refuse_if (is_some (lookup (same_guid guid) config.arrays)) (Clash guid)

@@ -68,7 +68,7 @@ abbrev pub create_causes : Option ℕ → Configuration → List Seat → List �
 create_causes most config seats guid array =
     not_current config seats (references array)
     ∷ refuse_if (is_taken config array.name) NameTaken
-    ∷ unserved_level array
+    ∷ unserved_level guid array
     ∷ refuse_if (passes_most most array || is_no_shape array) Shape
     ∷ refuse_if (is_some (lookup (same_guid guid) config.arrays)) (Clash guid)
     ∷ refuse_first seats (is_spare_disk config) InUse (references array)

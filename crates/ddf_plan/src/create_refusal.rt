@@ -165,7 +165,7 @@ fn first_of_create(
     first_refusal(&[
         not_current(config, seats, named),
         refuse_if(is_taken(config, &array.name), Refusal::NameTaken),
-        unserved_level(array),
+        unserved_level(&guid, array),
         refuse_if(no_shape, Refusal::Shape),
         refuse_if(has_array(config, guid), Refusal::Clash(guid)),
         spare_in_use(config, seats, named),

@@ -1,6 +1,7 @@
 -- The codes of the primary levels and qualifiers (the standard's tables of RAID levels), and what
 -- each level takes.
 use Rattle.std.specs.Prelude.{ℕ, ◌^◌, ◌*◌, ◌==◌, nat_le, Bool, ◌&&◌, IsTrue, ◌<◌, ◌≤◌, if◌then◌else◌, Result, Ok, Err}
+use Rattle.ddf_mirror1e.specs.declared.spread.Spread.TheVariants.{Adjacent, Offset}
 use Rattle.ddf_primary.specs.declared.layout.Layout.{Layout}
 use Rattle.ddf_primary.specs.declared.layout.Layout.TheVariants.{Raid0, Raid1, Parity, Jbod, Concatenation, Mirror}
 use Rattle.ddf_primary.specs.declared.parity.ParityLayout.TheVariants.{Raid4First, Raid4Last, Raid5ZeroRestart, Raid5LastRestart, Raid5LastContinuation}
@@ -28,6 +29,13 @@ raid_5 qualifier =
     else (if qualifier == 3 then Ok (Parity Raid5LastContinuation)
     else Err (Qualifier qualifier)))
 
+-- 00 adjacent, 01 offset
+abbrev pub raid_1e : ℕ → Result Layout ShapeFault
+raid_1e qualifier =
+    if qualifier == 0 then Ok (Mirror Adjacent)
+    else (if qualifier == 1 then Ok (Mirror Offset)
+    else Err (Qualifier qualifier))
+
 -- the layout that a primary level and its qualifier name; RAID 0, JBOD and concatenation take any
 abbrev pub served_layout : ℕ → ℕ → Result Layout ShapeFault
 served_layout level qualifier =
@@ -36,8 +44,9 @@ served_layout level qualifier =
     else (if level == 0x04 then raid_4 qualifier
     else (if level == 0x05 then raid_5 qualifier
     else (if level == 0x0F then Ok Jbod
+    else (if level == 0x11 then raid_1e qualifier
     else (if level == 0x1F then Ok Concatenation
-    else Err (Level level))))))
+    else Err (Level level)))))))
 
 -- how many members a layout has; that RAID 1 has two or more, and RAID 1E three, is profile
 abbrev pub takes_members : Layout → ℕ → Bool

@@ -3,6 +3,7 @@
 use Rattle.std.specs.Prelude.{ℕ, Bool, true, false, not, ◌||◌, ◌==◌, List, length, get_or, Option, Some, None, is_some, if◌then◌else◌}
 use Rattle.std.specs.List.{list_all, range_with_len}
 use Rattle.ddf_mirror1e.specs.declared.spread.Spread.{Spread}
+use Rattle.ddf_mirror1e.specs.declared.spread.Spread.TheVariants.{Adjacent, Offset}
 use Rattle.ddf_mirror1e.specs.Copies.{begins_pairs, following}
 use Rattle.ddf_primary.specs.declared.layout.Layout.{Layout}
 use Rattle.ddf_primary.specs.declared.layout.Layout.TheVariants.{Raid0, Raid1, Parity, Jbod, Concatenation, Mirror}
@@ -67,12 +68,20 @@ one_of_two spread there member =
 abbrev pub one_of_each : Spread → List Bool → Bool
 one_of_each spread there = list_all (one_of_two spread there) (range_with_len 0 (length there))
 
--- the same by the code of the level, whatever its qualifier; of one that isn't served, all
-abbrev pub need_of : ℕ → Need
-need_of level =
+-- what an element needs by the codes of its level and qualifier, of which the qualifier tells only how RAID 1E spreads its copies; of a
+-- level that isn't served, all
+abbrev pub need_of_1e : ℕ → Need
+need_of_1e qualifier =
+    if qualifier == 0 then Neighbours Adjacent
+    else (if qualifier == 1 then Neighbours Offset
+    else All)
+
+abbrev pub need_of : (level qualifier : ℕ) → Need
+need_of level qualifier =
     if level == 0x01 then One
     else (if level == 0x04 || level == 0x05 then AllButOne
-    else All)
+    else (if level == 0x11 then need_of_1e qualifier
+    else All))
 
 -- the codes of the levels that keep data in more than one place: RAID 1, 4, 5 and 1E
 abbrev pub keeps_more_of : ℕ → Bool

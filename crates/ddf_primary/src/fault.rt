@@ -9,6 +9,6 @@ pub enum ShapeFault {
     Qualifier(u8),
     /// The level takes another number of members.
     MemberCount(u16),
-    /// The blocks per member are none, over 2^48, or for a level with rows fewer than one strip.
+    /// The blocks per member are none, over 2^48, or for a level with rows fewer than one strip, in RAID 1E two.
     Blocks(u64),
 }

@@ -50,10 +50,11 @@ pub fn a_member_has_the_blocks_that_lie_on_it()
         → Holds shape member sector block → sector_on shape member block ≡ Some sector }
 {}
 
-/// What an element of a served layout needs, and whether it keeps data in more than one place, is what the code of its level says.
+/// What an element of a served layout needs is what the codes of its level and qualifier say, and whether it keeps data in more than one
+/// place what that of its level says.
 pub fn a_served_layout_needs_what_its_level_says()
     ensures need { (level qualifier : ℕ) (layout : Layout)
-        → served_layout level qualifier ≡ Ok layout → need_by layout ≡ need_of level }
+        → served_layout level qualifier ≡ Ok layout → need_by layout ≡ need_of level qualifier }
     ensures more { (level qualifier : ℕ) (layout : Layout)
         → served_layout level qualifier ≡ Ok layout
         → (keeps_copies layout || keeps_parity layout) ≡ keeps_more_of level }

@@ -20,13 +20,15 @@ pub enum Need {
 }
 
 impl Need {
-    /// What the elements of a primary level need, by the standard's code. Of one that isn't served, all.
-    pub fn of_level(level: u8) -> Need
-        ensures { result ≡ need_of level }
+    /// What the elements of a primary level and qualifier need, by the standard's codes. Of a level that isn't served, all.
+    pub fn of_level(level: u8, qualifier: u8) -> Need
+        ensures { result ≡ need_of level qualifier }
     {
-        match level {
-            0x01 => Need::One,
-            0x04 | 0x05 => Need::AllButOne,
+        match (level, qualifier) {
+            (0x01, _) => Need::One,
+            (0x04 | 0x05, _) => Need::AllButOne,
+            (0x11, 0) => Need::Neighbours(Spread::Adjacent),
+            (0x11, 1) => Need::Neighbours(Spread::Offset),
             _ => Need::All,
         }
     }

@@ -73,10 +73,10 @@ named_in arrays entry (Some guid) e = named_by arrays guid entry (lookup (same_g
 pub named_is : (arrays : List (List ℕ × Array)) (word : List ℕ) (entry : List ℕ × Array) → named_array arrays word ≡ Some entry → lookup (same_guid entry.0) arrays ≡ Some entry.1
 named_is arrays word entry e = named_in arrays entry (named_guid arrays word) e
 
-module _ (access : Access) (config : Configuration) (seats : List Seat) (start count : ℕ) (array : Array) (accepted : first_refusal (array_refusals access config seats array start count) ≡ None) where
-  passed : (useless config seats array ≡ None) × (refuse_if (is_out_of_range array start count) (Range (array_capacity array)) ≡ None) × (refuse_if (not (is_complete array)) Lost ≡ None)
+module _ (access : Access) (config : Configuration) (seats : List Seat) (start count : ℕ) (guid : List ℕ) (array : Array) (accepted : first_refusal (array_refusals access config seats guid array start count) ≡ None) where
+  passed : (useless config seats guid array ≡ None) × (refuse_if (is_out_of_range array start count) (Range (array_capacity array)) ≡ None) × (refuse_if (not (is_complete array)) Lost ≡ None)
   passed =
-      none_of_five (useless config seats array) (refuse_if (is_out_of_range array start count) (Range (array_capacity array))) (bad_blocks seats array)
+      none_of_five (useless config seats guid array) (refuse_if (is_out_of_range array start count) (Range (array_capacity array))) (bad_blocks seats array)
       (refuse_if (is_forbidden access array) Held) (refuse_if (not (is_complete array)) Lost) accepted
 
   -- its blocks don't pass the capacity
@@ -84,22 +84,22 @@ module _ (access : Access) (config : Configuration) (seats : List Seat) (start c
   range_of = within_range (is_complete array) (nat_lt (array_capacity array) (start + count)) (array_capacity array) passed.1 passed.2
 
   -- it has a view
-  pub viewable : (guid : List ℕ) → lookup (same_guid guid) config.arrays ≡ Some array → (v : Volume) × (view_of config guid seats ≡ Ok v)
-  viewable guid there =
+  pub viewable : lookup (same_guid guid) config.arrays ≡ Some array → (v : Volume) × (view_of config guid seats ≡ Ok v)
+  viewable there =
       let ill : Option Refusal = refuse_if (not (is_served_on config.members seats (extents config.arrays) array)) Shape in
       let unknown : Option Refusal = refuse_if (not (is_complete array)) Lost in
-      has_view config guid seats array there (none_of_three (unserved_level array) ill unknown passed.0 passed.2)
+      has_view config guid seats array there (none_of_three (unserved_level guid array) ill unknown passed.0 passed.2)
 
 module _ (access : Access) (config : Configuration) (seats : List Seat) (word : List ℕ) (start count : ℕ) (entry : List ℕ × Array) (named : named_array config.arrays word ≡ Some entry) where
-  pub may_not_view : first_refusal (array_refusals access config seats entry.1 start count) ≡ None → (failure : Failure) → IsViewed (view_of config entry.0 seats) (Err failure)
+  pub may_not_view : first_refusal (array_refusals access config seats entry.0 entry.1 start count) ≡ None → (failure : Failure) → IsViewed (view_of config entry.0 seats) (Err failure)
       → MayUse access config seats word start count (Err failure)
-  may_not_view accepted (Refused refusal) is = let view = viewable access config seats start count entry.1 accepted entry.0 (named_is config.arrays word entry named) in absurd cc
+  may_not_view accepted (Refused refusal) is = let view = viewable access config seats start count entry.0 entry.1 accepted (named_is config.arrays word entry named) in absurd cc
   may_not_view accepted Memory is = tt
   may_not_view accepted (Disk slot) is = absurd is
   may_not_view accepted (Conflict i j sequence differ) is = absurd is
   may_not_view accepted (Split i j) is = absurd is
 
   -- one that something refuses is refused for it
-  pub may_refuse_for : (refusal : Refusal) → first_refusal (array_refusals access config seats entry.1 start count) ≡ Some refusal
+  pub may_refuse_for : (refusal : Refusal) → first_refusal (array_refusals access config seats entry.0 entry.1 start count) ≡ Some refusal
       → use_refusal access config seats (named_array config.arrays word) start count ≡ Some refusal
   may_refuse_for refusal first = ap (λ (one : Option (List ℕ × Array)). use_refusal access config seats one start count) named ∙ first

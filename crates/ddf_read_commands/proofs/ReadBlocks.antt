@@ -136,14 +136,14 @@ module _ (config : Configuration) (seats : List Seat) (word : List ℕ) (start c
       ≡ first_refusal (refuse_if (not (is_within v)) Lost ∷ refuse_if (is_unsure v start count) Unsure ∷ [])
   then_blocks =
       ap (λ (one : Option (List ℕ × Array)). read_refusal config seats one start count) usable.is_named
-      ∙ first_append (array_refusals Reads config seats entry.1 start count) (block_refusals config seats entry start count)
+      ∙ first_append (array_refusals Reads config seats entry.0 entry.1 start count) (block_refusals config seats entry start count)
       ∙ ap (λ (r : Option Refusal). option_or r (first_refusal (block_refusals config seats entry start count))) usable.accepted
       ∙ ap (λ (b : Bool). first_refusal (refuse_if (not b) Lost ∷ refuse_if (needs_parity (view_of config entry.0 seats) start count) Unsure ∷ [])) (sym within_is)
       ∙ ap (λ (b : Bool). first_refusal (refuse_if (not (is_within v)) Lost ∷ refuse_if b Unsure ∷ [])) unsure_is
 
   -- the range lies within the capacity
   in_capacity : nat_lt (capacity v) (start + count) ≡ false
-  in_capacity = ap (λ (n : ℕ). nat_lt n (start + count)) capacity_is ∙ range_of Reads config seats start count entry.1 usable.accepted
+  in_capacity = ap (λ (n : ℕ). nat_lt n (start + count)) capacity_is ∙ range_of Reads config seats start count entry.0 entry.1 usable.accepted
 
   by_tests : (past within unsure : Bool) → past ≡ false → (fault : Option VolumeFault)
       → (if past then Some (faults.Range (capacity v)) else (if not within then Some faults.Lost else (if unsure then Some faults.Unsure else None))) ≡ fault
@@ -179,7 +179,7 @@ module _ (config : Configuration) (seats : List Seat) (word : List ℕ) (start c
       by : (found : Option (List ℕ × Array)) → use_refusal Reads config seats found start count ≡ Some refusal → read_refusal config seats found start count ≡ Some refusal
       by None e = e
       by (Some entry) e =
-          first_append (array_refusals Reads config seats entry.1 start count) (block_refusals config seats entry start count)
+          first_append (array_refusals Reads config seats entry.0 entry.1 start count) (block_refusals config seats entry start count)
           ∙ ap (λ (r : Option Refusal). option_or r (first_refusal (block_refusals config seats entry start count))) e
 
   pub may_not_use : (failure : Failure) → MayUse Reads config seats word start count (Err failure) → MayRead config seats word start count (Err failure)

@@ -53,7 +53,7 @@ module _ (config : Configuration) (seats : List Seat) (word : List ℕ) where
       by : (found : Option (List ℕ × Array)) → use_refusal Reads config seats found 0 0 ≡ Some refusal → scrub_refusal config seats found ≡ Some refusal
       by None e = e
       by (Some entry) e =
-          first_append (array_refusals Reads config seats entry.1 0 0) (refuse_if (not (is_array_within seats entry.1)) Lost ∷ [])
+          first_append (array_refusals Reads config seats entry.0 entry.1 0 0) (refuse_if (not (is_array_within seats entry.1)) Lost ∷ [])
           ∙ ap (λ (r : Option Refusal). option_or r (first_refusal (refuse_if (not (is_array_within seats entry.1)) Lost ∷ []))) e
 
   module _ (used : List ℕ × Volume) (usable : IsUsable Reads config seats word 0 0 used) where
@@ -66,7 +66,7 @@ module _ (config : Configuration) (seats : List Seat) (word : List ℕ) where
     pub then_within : scrub_refusal config seats (named_array config.arrays word) ≡ first_refusal (refuse_if (not (is_within used.1)) Lost ∷ [])
     then_within =
         ap (scrub_refusal config seats) usable.is_named
-        ∙ first_append (array_refusals Reads config seats usable.array 0 0) (refuse_if (not (is_array_within seats usable.array)) Lost ∷ [])
+        ∙ first_append (array_refusals Reads config seats used.0 usable.array 0 0) (refuse_if (not (is_array_within seats usable.array)) Lost ∷ [])
         ∙ ap (λ (r : Option Refusal). option_or r (first_refusal (refuse_if (not (is_array_within seats usable.array)) Lost ∷ []))) usable.accepted
         ∙ ap (λ (b : Bool). first_refusal (refuse_if (not b) Lost ∷ [])) (sym within_is)
 

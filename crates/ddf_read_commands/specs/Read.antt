@@ -46,7 +46,7 @@ block_refusals config seats entry start count =
 -- the first of all: no array has the name, or the array can't be read
 abbrev pub read_refusal : Configuration → List Seat → Option (List ℕ × Array) → (start count : ℕ) → Option Refusal
 read_refusal config seats None start count = Some NoArray
-read_refusal config seats (Some entry) start count = first_refusal (array_refusals Reads config seats entry.1 start count ++ block_refusals config seats entry start count)
+read_refusal config seats (Some entry) start count = first_refusal (array_refusals Reads config seats entry.0 entry.1 start count ++ block_refusals config seats entry start count)
 
 -- ---- what it gives
 

@@ -33,7 +33,7 @@ use Rattle.ddf_read_commands.specs.Use.{IsUsable, array_refusals}
 -- the first of all: no array has the name, its blocks can't be used, or it isn't within its level
 abbrev pub scrub_refusal : Configuration → List Seat → Option (List ℕ × Array) → Option Refusal
 scrub_refusal config seats None = Some NoArray
-scrub_refusal config seats (Some entry) = first_refusal (array_refusals Reads config seats entry.1 0 0 ++ refuse_if (not (is_array_within seats entry.1)) Lost ∷ [])
+scrub_refusal config seats (Some entry) = first_refusal (array_refusals Reads config seats entry.0 entry.1 0 0 ++ refuse_if (not (is_array_within seats entry.1)) Lost ∷ [])
 
 -- An array was scrubbed: what was found is what the disks hold.
 pub record IsArrayScrubbed {D : Type 0} (work : Work D) (config : Configuration) (seats : List Seat) (word : List ℕ) (found : Scrub) : Type 0 where

@@ -30,9 +30,9 @@ is_forbidden Writes array = is_held_from_writes array
 
 -- In order: a level isn't served, or the numbers make no array, or its extents don't lie well; the range passes the capacity; a disk of it has bad
 -- blocks; its state or its access bits forbid it; an element of it is unknown.
-abbrev pub array_refusals : Access → Configuration → List Seat → Array → (start count : ℕ) → List (Option Refusal)
-array_refusals access config seats array start count =
-    useless config seats array
+abbrev pub array_refusals : Access → Configuration → List Seat → (guid : List ℕ) → Array → (start count : ℕ) → List (Option Refusal)
+array_refusals access config seats guid array start count =
+    useless config seats guid array
     ∷ refuse_if (is_out_of_range array start count) (Range (array_capacity array))
     ∷ bad_blocks seats array
     ∷ refuse_if (is_forbidden access array) Held
@@ -42,14 +42,14 @@ array_refusals access config seats array start count =
 -- the first of all: no array has the name, or the array's blocks can't be used so
 abbrev pub use_refusal : Access → Configuration → List Seat → Option (List ℕ × Array) → (start count : ℕ) → Option Refusal
 use_refusal access config seats None start count = Some NoArray
-use_refusal access config seats (Some entry) start count = first_refusal (array_refusals access config seats entry.1 start count)
+use_refusal access config seats (Some entry) start count = first_refusal (array_refusals access config seats entry.0 entry.1 start count)
 
 -- The word names an array, and nothing of its records refuses that these blocks of it are used so.
 pub record IsUsable (access : Access) (config : Configuration) (seats : List Seat) (word : List ℕ) (start count : ℕ) (used : List ℕ × Volume) : Type 0 where
   pub array : Array
   pub is_named : named_array config.arrays word ≡ Some (used.0, array)
   pub is_view : view_of config used.0 seats ≡ Ok used.1
-  pub accepted : first_refusal (array_refusals access config seats array start count) ≡ None
+  pub accepted : first_refusal (array_refusals access config seats used.0 array start count) ≡ None
 
 -- they may be used, why they may not, or want of memory
 abbrev pub MayUse : Access → Configuration → List Seat → (word : List ℕ) → (start count : ℕ) → Result (List ℕ × Volume) Failure → Type 0

@@ -85,7 +85,8 @@ fn usable_array(
 ) -> Result<(Guid, View), Failure>
     ensures may { (word : List ℕ) → named_array config.now.arrays word ≡ Some (guid, array.now) → MayUse access config.now seats.now word start count result }
 {
-    if let Some(refusal) = array_refusal(alloc, config, seats, array, start, count, access)? {
+    let refusal = array_refusal(alloc, config, seats, &guid, array, start, count, access)?;
+    if let Some(refusal) = refusal {
         return Err(Failure::Refused(refusal));
     }
     let view = view_of(alloc, config, seats, &guid)?;
@@ -108,14 +109,15 @@ fn array_refusal(
     alloc: Global,
     config: &Config,
     seats: &[Seat],
+    guid: &Guid,
     array: &Array,
     start: u64,
     count: u64,
     access: Access,
 ) -> Result<Option<Refusal>, NoMemory>
-    ensures { IfOk result (λ refusal. refusal ≡ first_refusal (array_refusals access config.now seats.now array.now start count)) }
+    ensures { IfOk result (λ refusal. refusal ≡ first_refusal (array_refusals access config.now seats.now guid.now array.now start count)) }
 {
-    let useless = useless(alloc, config, seats, array)?;
+    let useless = useless(alloc, config, seats, guid, array)?;
     let capacity = array_capacity(alloc, array)?;
     let bad = bad_blocks(alloc, seats, array)?;
     let is_out = is_out_of_range(array, capacity, start, count);

@@ -121,7 +121,7 @@ module _ (config : Configuration) (seats : List Seat) (word : List ℕ) (plan : 
   within : is_array_within seats entry.1 ≡ true
   within =
       within_by (is_array_within seats entry.1) (is_marked entry.1)
-      (none_of_both (array_refusals Reads config seats entry.1 0 0) (refuse_if (not (is_array_within seats entry.1)) Lost ∷ refuse_if (is_marked entry.1) Marked ∷ []) is.accepted)
+      (none_of_both (array_refusals Reads config seats entry.0 entry.1 0 0) (refuse_if (not (is_array_within seats entry.1)) Lost ∷ refuse_if (is_marked entry.1) Marked ∷ []) is.accepted)
 
   rises : RiseTo (rows_in entry.1 target.element) filling.from filling.rows
   rises =

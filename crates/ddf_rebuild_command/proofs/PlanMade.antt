@@ -260,7 +260,7 @@ module _ (config : Configuration) (seats : List Seat) (word : List ℕ) where
   refused_by refusal None e = ap (λ (one : Refusal). Err one) (some_is e)
   refused_by refusal (Some entry) e =
       ap (rebuild_unless config seats entry)
-      (first_append (array_refusals Reads config seats entry.1 0 0) (more (is_array_within seats entry.1) (is_marked entry.1))
+      (first_append (array_refusals Reads config seats entry.0 entry.1 0 0) (more (is_array_within seats entry.1) (is_marked entry.1))
       ∙ ap (λ (r : Option Refusal). option_or r (first_refusal (more (is_array_within seats entry.1) (is_marked entry.1)))) e)
 
   -- One that can't be used isn't rebuilt.
@@ -288,7 +288,7 @@ module _ (config : Configuration) (seats : List Seat) (word : List ℕ) where
 
     more_is : first_refusal (rebuild_refusals config seats own) ≡ first_refusal (more (is_within used.1) used.1.marked)
     more_is =
-        first_append (array_refusals Reads config seats usable.array 0 0) (more (is_array_within seats usable.array) (is_marked usable.array))
+        first_append (array_refusals Reads config seats used.0 usable.array 0 0) (more (is_array_within seats usable.array) (is_marked usable.array))
         ∙ ap (λ (r : Option Refusal). option_or r (first_refusal (more (is_array_within seats usable.array) (is_marked usable.array)))) usable.accepted
         ∙ ap (λ (b : Bool). first_refusal (more b (is_marked usable.array))) within_is ∙ ap (λ (b : Bool). first_refusal (more (is_within used.1) b)) marked_is
 

@@ -85,9 +85,9 @@ module _ (config : Configuration) (guid : List ℕ) (element position reference 
 
   same_plan : is_part_within (is_seated seats) (Some (element_after change before.plan)) ≡ is_part_within (is_seated seats) (Some before.plan)
   same_plan =
-      enough_map (need_of before.plan.level) (is_seated seats) (map (λ pair. begun position reference start pair.0 pair.1) (enumerate_from 0 before.plan.positions))
-      ∙ ap (has_enough (need_of before.plan.level) (λ b. b)) (numbered_same (is_seated seats) (λ pair. begun position reference start pair.0 pair.1) 0 before.plan.positions same_position)
-      ∙ sym (enough_map (need_of before.plan.level) (is_seated seats) before.plan.positions)
+      enough_map (need_of before.plan.level before.plan.qualifier) (is_seated seats) (map (λ pair. begun position reference start pair.0 pair.1) (enumerate_from 0 before.plan.positions))
+      ∙ ap (has_enough (need_of before.plan.level before.plan.qualifier) (λ b. b)) (numbered_same (is_seated seats) (λ pair. begun position reference start pair.0 pair.1) 0 before.plan.positions same_position)
+      ∙ sym (enough_map (need_of before.plan.level before.plan.qualifier) (is_seated seats) before.plan.positions)
 
   same_part : (k : ℕ) (part : Option ElementValue) → slice_get before.array.elements k ≡ Some part
       → is_part_within (is_seated seats) (part_after change element (0 + k, part)) ≡ is_part_within (is_seated seats) part

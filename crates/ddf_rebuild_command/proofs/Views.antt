@@ -138,10 +138,10 @@ module _ (config : Configuration) (guid : List ℕ) (seats : List Seat) (volume 
   known = view.array.elements
 
   all_known : list_all (λ (part : Option ElementValue). is_some part) known ≡ true
-  all_known = complete config.members seats (extents config.arrays) view.array view.usable
+  all_known = complete config.members seats (extents config.arrays) guid view.array view.usable
 
   all_shaped : list_all (has_shape (length known)) known ≡ true
-  all_shaped = shapes config.members seats (extents config.arrays) view.array view.usable
+  all_shaped = shapes config.members seats (extents config.arrays) guid view.array view.usable
 
   -- Its elements are few, and it has each of them.
   pub few_elements : IsVolume volume → (array : Array) → lookup (same_guid guid) config.arrays ≡ Some array → length array.elements ≤ 16
@@ -165,7 +165,7 @@ module _ (config : Configuration) (guid : List ℕ) (seats : List Seat) (volume 
     below : passes_floor seats (extent before.plan.blocks held) ≡ false
     below =
         none_of (passes_floor seats) (map (extent before.plan.blocks) before.plan.positions) position (extent before.plan.blocks held)
-        (none_in (passes_floor seats) known element before.plan (below_floors config.members seats (extents config.arrays) view.array view.usable) there)
+        (none_in (passes_floor seats) known element before.plan (below_floors config.members seats (extents config.arrays) guid view.array view.usable) there)
         (slice_get-map (extent before.plan.blocks) before.plan.positions position ∙ ap (option_map (extent before.plan.blocks)) before.is_held)
 
     pub is_at : IsAt config guid seats volume element position held before

@@ -33,7 +33,7 @@ use Rattle.ddf_rebuild_command.specs.Notes.{notes}
 -- Behind what any use of its blocks is refused for: the array isn't within its level; it is marked, so that nothing tells which of its copies are right.
 abbrev pub rebuild_refusals : Configuration → List Seat → Entry → List (Option Refusal)
 rebuild_refusals config seats entry =
-    array_refusals Reads config seats entry.1 0 0
+    array_refusals Reads config seats entry.0 entry.1 0 0
     ++ refuse_if (not (is_array_within seats entry.1)) refusals.Lost
     ∷ refuse_if (is_marked entry.1) refusals.Marked
     ∷ []

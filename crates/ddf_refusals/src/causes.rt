@@ -22,7 +22,7 @@ pub fn cause_of(number: u16, command: &str) -> Option<(&'static str, &'static st
     found
 }
 
-const CAUSES: [Cause; 43] = [
+const CAUSES: [Cause; 44] = [
     Cause {
         number: 10,
         command: "any",
@@ -79,14 +79,20 @@ const CAUSES: [Cause; 43] = [
     },
     Cause {
         number: 18,
+        command: "create",
+        why: "The RAID level isn't served; or it is raid1e.offset on a disk that Linux reads: Linux keeps blocks at other places under its number.",
+        way: "Take a level that ddf --help lists, and on disks of Linux's kind another one than raid1e.offset.",
+    },
+    Cause {
+        number: 18,
         command: "any",
-        why: "The array's RAID level isn't served.",
-        way: "Create an array of a level that ddf --help lists. What another controller made with this level can't be read here.",
+        why: "The array's RAID level isn't served; or it is RAID 1E with the number of offset copies, and ddf hasn't made it: Linux keeps blocks at other places under it.",
+        way: "What another controller made with this level can't be read here.",
     },
     Cause {
         number: 19,
         command: "create",
-        why: "The numbers make no array: the level wants another number of disks, the blocks are less than a strip, a disk is named twice, the elements don't go together, or SECONDARY doesn't fit their number.",
+        why: "The numbers make no array: the level wants another number of disks, the blocks are less than a strip, or two in RAID 1E, a disk is named twice, the elements don't go together, or SECONDARY doesn't fit their number.",
         way: "Check the numbers by PLACING.md.",
     },
     Cause {

@@ -102,13 +102,13 @@ module _ (config : Configuration) (guid : List ℕ) (element position reference 
           array_replaced guid element position reference start config low_all key array plan (ap (λ (one : Array). element_at one element) equal ∙ known)
       by false other = same found (array_extents array) (array_extents (one_after config change low_all key array)) (ap (λ (b : Bool). array_extents (if b then named_after change array else array)) other)
 
-  pub begun_usable : (asked : List ℕ) (array : Array) → lookup (same_guid asked) config.arrays ≡ Some array → unusable config.members seats (extents config.arrays) array ≡ None
-      → (next : Array) × (lookup (same_guid asked) (arrays_after config change) ≡ Some next) × (unusable (members_after config change) seats (extents (arrays_after config change)) next ≡ None)
+  pub begun_usable : (asked : List ℕ) (array : Array) → lookup (same_guid asked) config.arrays ≡ Some array → unusable config.members seats (extents config.arrays) asked array ≡ None
+      → (next : Array) × (lookup (same_guid asked) (arrays_after config change) ≡ Some next) × (unusable (members_after config change) seats (extents (arrays_after config change)) asked next ≡ None)
   begun_usable asked array there usable =
       let at = looked_up (one_after config change low_all) (same_guid asked) config.arrays array there in
       let next = one_after config change low_all at.0 array in
       let keeps = one_numbers config change low_all at.0 array in
-      let before = three_none (unserved_level array) (not (is_served_on config.members seats (extents config.arrays) array)) (not (is_complete array)) usable in
+      let before = three_none (unserved_level asked array) (not (is_served_on config.members seats (extents config.arrays) array)) (not (is_complete array)) usable in
       let served = and_parts (is_served config.members (extents config.arrays) array) (not (list_any (passes_floor seats) (array_extents array))) (not_not (is_served_on config.members seats (extents config.arrays) array) before.1) in
       let lying = and_parts (has_shapes array && has_tiers array) (list_all (lies_well config.members (extents config.arrays)) (array_extents array)) served.0 in
       let shaped = and_parts (has_shapes array) (has_tiers array) lying.0 in
@@ -125,15 +125,15 @@ module _ (config : Configuration) (guid : List ℕ) (element position reference 
       (and_from (has_shapes next) (has_tiers next) (keeps.shapes ∙ shaped.0) (tiers_kept array next keeps ∙ shaped.1)) lie) floors in (
         next,
         ap (lookup (same_guid asked)) begun_table ∙ at.2,
-        ap (λ (level : Option Refusal). first_refusal (level ∷ refuse_if (not (is_served_on (members_after config change) seats (extents (arrays_after config change)) next)) Shape ∷ refuse_if (not (is_complete next)) Lost ∷ [])) (keeps.levels ∙ before.0)
+        ap (λ (level : Option Refusal). first_refusal (level ∷ refuse_if (not (is_served_on (members_after config change) seats (extents (arrays_after config change)) next)) Shape ∷ refuse_if (not (is_complete next)) Lost ∷ [])) (keeps.levels asked ∙ before.0)
             ∙ ap (λ (b : Bool). first_refusal (None ∷ refuse_if (not b) Shape ∷ refuse_if (not (is_complete next)) Lost ∷ [])) now
             ∙ ap (λ (b : Bool). first_refusal (None ∷ None ∷ refuse_if (not b) Lost ∷ [])) (keeps.complete ∙ not_not (is_complete array) before.2),
       )
 
 -- the same of the change that `begin` gives
 pub fresh_usable : (config : Configuration) (guid : List ℕ) (seats : List Seat) (one : Change) (fresh : IsFresh config guid seats one) → IsDistinct same_guid (keys_of config.arrays)
-    → (asked : List ℕ) (array : Array) → lookup (same_guid asked) config.arrays ≡ Some array → unusable config.members seats (extents config.arrays) array ≡ None
-    → (next : Array) × (lookup (same_guid asked) (arrays_after config one) ≡ Some next) × (unusable (members_after config one) seats (extents (arrays_after config one)) next ≡ None)
+    → (asked : List ℕ) (array : Array) → lookup (same_guid asked) config.arrays ≡ Some array → unusable config.members seats (extents config.arrays) asked array ≡ None
+    → (next : Array) × (lookup (same_guid asked) (arrays_after config one) ≡ Some next) × (unusable (members_after config one) seats (extents (arrays_after config one)) asked next ≡ None)
 fresh_usable config guid seats one fresh apart asked array there usable =
     let element = fresh.out.target.element in
     let position = fresh.out.target.position in
@@ -144,7 +144,7 @@ fresh_usable config guid seats one fresh apart asked array there usable =
     let free = found_free config guid seats one fresh in
     let same_extent : fresh.found ≡ extent plan.blocks (new_position reference start) = extent_is config guid seats one fresh element position reference start fresh.array plan (sym fresh.change_is) fresh.is_array known in
     subst
-    (λ (it : Change). (next : Array) × (lookup (same_guid asked) (arrays_after config it) ≡ Some next) × (unusable (members_after config it) seats (extents (arrays_after config it)) next ≡ None))
+    (λ (it : Change). (next : Array) × (lookup (same_guid asked) (arrays_after config it) ≡ Some next) × (unusable (members_after config it) seats (extents (arrays_after config it)) asked next ≡ None))
     fresh.change_is
     (begun_usable config guid element position reference start seats fresh.array plan fresh.is_array known apart
     (ap (λ (it : Extent). lies_clear config.members (extents config.arrays) it) (sym same_extent) ∙ free.clear)

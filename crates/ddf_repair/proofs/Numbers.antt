@@ -66,11 +66,11 @@ part_has_shape elements None (Some next) is = absurd is
 part_has_shape elements (Some plan) None is = absurd is
 part_has_shape elements (Some plan) (Some next) is = ap is_some (same_shape elements plan next is)
 
-part_level : (part next : Option ElementValue) → IsSamePart part next → level_refusal next ≡ level_refusal part
-part_level None None is = refl
-part_level None (Some next) is = absurd is
-part_level (Some plan) None is = absurd is
-part_level (Some plan) (Some next) is = ap (λ (one : ElementValue). level_refusal (Some one)) is.is
+part_level : (guid : List ℕ) (part next : Option ElementValue) → IsSamePart part next → level_refusal guid next ≡ level_refusal guid part
+part_level guid None None is = refl
+part_level guid None (Some next) is = absurd is
+part_level guid (Some plan) None is = absurd is
+part_level guid (Some plan) (Some next) is = ap (λ (one : ElementValue). level_refusal guid (Some one)) is.is
 
 -- ---- all of them
 
@@ -96,15 +96,16 @@ all_known (part ∷ parts) (next ∷ nexts) are =
     ap (λ b. b && list_all (λ (one : Option ElementValue). is_some one) nexts) (part_known part next are.0)
     ∙ ap (λ b. is_some part && b) (all_known parts nexts are.1)
 
-all_levels : (parts nexts : List (Option ElementValue)) → AreSame parts nexts → first_refusal (map level_refusal nexts) ≡ first_refusal (map level_refusal parts)
-all_levels [] [] are = refl
-all_levels [] (next ∷ nexts) are = absurd are
-all_levels (part ∷ parts) [] are = absurd are
-all_levels (part ∷ parts) (next ∷ nexts) are =
-    ap (λ (check : Option Refusal). first_refusal (check ∷ map level_refusal nexts)) (part_level part next are.0)
-    ∙ behind (level_refusal part) (all_levels parts nexts are.1)
+all_levels : (guid : List ℕ) (parts nexts : List (Option ElementValue)) → AreSame parts nexts → first_refusal (map (level_refusal guid) nexts) ≡ first_refusal (map (level_refusal guid) parts)
+all_levels guid [] [] are = refl
+all_levels guid [] (next ∷ nexts) are = absurd are
+all_levels guid (part ∷ parts) [] are = absurd are
+all_levels guid (part ∷ parts) (next ∷ nexts) are =
+    ap (λ (check : Option Refusal). first_refusal (check ∷ map (level_refusal guid) nexts)) (part_level guid part next are.0)
+    ∙ behind (level_refusal guid part) (all_levels guid parts nexts are.1)
   where
-    behind : (check : Option Refusal) → first_refusal (map level_refusal nexts) ≡ first_refusal (map level_refusal parts) → first_refusal (check ∷ map level_refusal nexts) ≡ first_refusal (check ∷ map level_refusal parts)
+    behind : (check : Option Refusal) → first_refusal (map (level_refusal guid) nexts) ≡ first_refusal (map (level_refusal guid) parts)
+        → first_refusal (check ∷ map (level_refusal guid) nexts) ≡ first_refusal (check ∷ map (level_refusal guid) parts)
     behind None rest = rest
     behind (Some refusal) rest = refl
 
@@ -120,7 +121,7 @@ all_sizes elements (part ∷ parts) (next ∷ nexts) are =
 
 -- What an array is by its numbers stays.
 pub record KeepsNumbers (array next : Array) : Type 0 where
-  pub levels : unserved_level next ≡ unserved_level array
+  pub levels : (guid : List ℕ) → unserved_level guid next ≡ unserved_level guid array
   pub shapes : has_shapes next ≡ has_shapes array
   pub tiers : array_tiers next ≡ array_tiers array
   pub complete : is_complete next ≡ is_complete array
@@ -133,7 +134,7 @@ numbers_kept array next secondary are =
     let level : secondary_level next ≡ secondary_level array =
     ap (λ (n : ℕ). if n == 1 then 0x00 else next.secondary) count ∙ ap (λ (n : ℕ). if length array.elements == 1 then 0x00 else n) secondary in
     record {
-      levels = all_levels array.elements next.elements are;
+      levels = λ guid. all_levels guid array.elements next.elements are;
       shapes = ap (λ (n : ℕ). list_all (has_shape n) next.elements) count ∙ all_shapes (length array.elements) array.elements next.elements are;
       tiers = ap (λ (n : ℕ). result_ok (tiers_of n (sizes next))) level ∙ ap (λ (all : List ElementSize). result_ok (tiers_of (secondary_level array) all)) size;
       complete = all_known array.elements next.elements are;

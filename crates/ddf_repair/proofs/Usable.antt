@@ -187,14 +187,14 @@ module _ (config : Configuration) (change : Change) (is : keeps_places change �
 
   pub usable_kept : (guid : List ℕ) (array : Array) → lookup (same_guid guid) config.arrays ≡ Some array
       → (next : Array) × (lookup (same_guid guid) (arrays_after config change) ≡ Some next)
-      × (unusable (members_after config change) seats (extents (arrays_after config change)) next ≡ unusable config.members seats (extents config.arrays) array)
+      × (unusable (members_after config change) seats (extents (arrays_after config change)) guid next ≡ unusable config.members seats (extents config.arrays) guid array)
   usable_kept guid array there =
       let found = looked_up made (same_guid guid) config.arrays array there in
       let next = made found.0 array in
       let keeps = one_numbers config change (extents (kept_and_added config change)) found.0 array in (
         next,
         ap (lookup (same_guid guid)) (table_is config change is) ∙ found.2,
-        ap (λ (level : Option Refusal). first_refusal (level ∷ refuse_if (not (is_served_on (members_after config change) seats (extents (arrays_after config change)) next)) Shape ∷ refuse_if (not (is_complete next)) Lost ∷ [])) keeps.levels
-            ∙ ap (λ (b : Bool). first_refusal (unserved_level array ∷ refuse_if (not b) Shape ∷ refuse_if (not (is_complete next)) Lost ∷ [])) (served_is found.0 array)
-            ∙ ap (λ (b : Bool). first_refusal (unserved_level array ∷ refuse_if (not (is_served_on config.members seats (extents config.arrays) array)) Shape ∷ refuse_if (not b) Lost ∷ [])) keeps.complete,
+        ap (λ (level : Option Refusal). first_refusal (level ∷ refuse_if (not (is_served_on (members_after config change) seats (extents (arrays_after config change)) next)) Shape ∷ refuse_if (not (is_complete next)) Lost ∷ [])) (keeps.levels guid)
+            ∙ ap (λ (b : Bool). first_refusal (unserved_level guid array ∷ refuse_if (not b) Shape ∷ refuse_if (not (is_complete next)) Lost ∷ [])) (served_is found.0 array)
+            ∙ ap (λ (b : Bool). first_refusal (unserved_level guid array ∷ refuse_if (not (is_served_on config.members seats (extents config.arrays) array)) Shape ∷ refuse_if (not b) Lost ∷ [])) keeps.complete,
       )

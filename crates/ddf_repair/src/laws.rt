@@ -49,17 +49,17 @@ pub fn an_array_stays_usable()
     ensures { (config : Configuration) (change : Change) (sequence : ℕ) (seats : List Seat) (guid : List ℕ) (array : Array)
         → keeps_places change ≡ true → lookup (same_guid guid) config.arrays ≡ Some array
         → (next : Array) × (lookup (same_guid guid) (changed_at config change sequence).arrays ≡ Some next)
-        × (unusable (changed_at config change sequence).members seats (extents (changed_at config change sequence).arrays) next
-        ≡ unusable config.members seats (extents config.arrays) array) }
+        × (unusable (changed_at config change sequence).members seats (extents (changed_at config change sequence).arrays) guid next
+        ≡ unusable config.members seats (extents config.arrays) guid array) }
 {}
 
 /// Every array that can be used over some seats can be used over them once a rebuild has begun on a spare.
 pub fn arrays_stay_usable_where_a_rebuild_begins()
     ensures { (config : Configuration) (guid : List ℕ) (seats : List Seat) (target : Target) (change : Change) (sequence : ℕ) (asked : List ℕ) (array : Array)
         → IsDistinct same_guid (keys_of config.arrays) → begun config guid seats ≡ Ok (Fresh target change)
-        → lookup (same_guid asked) config.arrays ≡ Some array → unusable config.members seats (extents config.arrays) array ≡ None
+        → lookup (same_guid asked) config.arrays ≡ Some array → unusable config.members seats (extents config.arrays) asked array ≡ None
         → (next : Array) × (lookup (same_guid asked) (changed_at config change sequence).arrays ≡ Some next)
-        × (unusable (changed_at config change sequence).members seats (extents (changed_at config change sequence).arrays) next ≡ None) }
+        × (unusable (changed_at config change sequence).members seats (extents (changed_at config change sequence).arrays) asked next ≡ None) }
 {}
 
 /// An array is marked after the change that marks it, and isn't after the one that clears its mark.

@@ -3,7 +3,7 @@ use Rattle.std.proofs.Common.{◌≡◌, ℕ, Bool, true, false, not, List, [], 
 use Rattle.ddf_config.specs.declared.refusal.Refusal.{Refusal}
 use Rattle.ddf_config.specs.declared.refusal.Refusal.TheVariants.{Level, Lost, Shape}
 use Rattle.ddf_config.specs.ElementValue.{ElementValue}
-use Rattle.ddf_config.specs.Levels.{is_level, level_refusal}
+use Rattle.ddf_config.specs.Levels.{is_level_of, level_refusal}
 use Rattle.ddf_config.specs.Refusals.{first_refusal, refuse_if}
 use Rattle.ddf_request.specs.FirstCauses.{is_useless}
 
@@ -14,10 +14,10 @@ level_first : (served : Bool) (code : ℕ) (checks : List (Option Refusal)) (ref
 level_first true code checks refusal later h = later refusal h
 level_first false code checks refusal later h = let same : Level code ≡ refusal = cc in rw (← same) refl
 
-pub levels_useless : (parts : List (Option ElementValue)) (refusal : Refusal) → first_refusal (map level_refusal parts) ≡ Some refusal → is_useless (Some refusal) ≡ true
-levels_useless [] refusal h = absurd cc
-levels_useless (None ∷ parts) refusal h = levels_useless parts refusal h
-levels_useless (Some element ∷ parts) refusal h = level_first (is_level element.level) element.level (map level_refusal parts) refusal (levels_useless parts) h
+pub levels_useless : (guid : List ℕ) (parts : List (Option ElementValue)) (refusal : Refusal) → first_refusal (map (level_refusal guid) parts) ≡ Some refusal → is_useless (Some refusal) ≡ true
+levels_useless guid [] refusal h = absurd cc
+levels_useless guid (None ∷ parts) refusal h = levels_useless guid parts refusal h
+levels_useless guid (Some element ∷ parts) refusal h = level_first (is_level_of guid element) element.level (map (level_refusal guid) parts) refusal (levels_useless guid parts) h
 
 -- ---- the first of three
 

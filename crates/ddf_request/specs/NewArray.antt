@@ -1,5 +1,5 @@
 -- The array that `create` asks for.
-use Rattle.std.specs.Prelude.{ℕ, ◌+◌, ◌≤◌, Bool, true, not, ◌==◌, nat_lt, List, ◌++◌, find, length, map, min, replicate, take, Option, Some, None, unwrap_or, if◌then◌else◌}
+use Rattle.std.specs.Prelude.{ℕ, ◌+◌, ◌≤◌, Bool, true, not, ◌&&◌, ◌==◌, nat_lt, List, [], ◌∷◌, ◌++◌, find, length, map, min, replicate, take, Option, Some, None, unwrap_or, if◌then◌else◌}
 use Rattle.std.specs.List.{AllByRecursion, list_any, flat_map, range_with_len}
 use Rattle.ddf_bytes.specs.declared.stamp.Stamp.{Stamp}
 use Rattle.ddf_bytes.specs.declared.guid.GuidKind.TheVariants as kinds
@@ -10,10 +10,13 @@ use Rattle.ddf_config.specs.declared.seat.Seat.{Seat}
 use Rattle.ddf_config.specs.declared.refusal.Refusal.{Refusal}
 use Rattle.ddf_config.specs.declared.refusal.Refusal.TheVariants.{Level, NameTaken, NotMember, Shape}
 use Rattle.ddf_config.specs.Configuration.{Configuration}
+use Rattle.ddf_config.specs.Levels.{is_disputed}
+use Rattle.ddf_config.specs.Refusals.{first_refusal, refuse_if}
 use Rattle.ddf_config.specs.ElementValue.{ElementValue}
 use Rattle.ddf_plan.specs.declared.change.Change.{Change}
 use Rattle.ddf_plan.specs.Causes.{causes}
 use Rattle.ddf_plan.specs.Refusals.{greatest_sequence}
+use Rattle.ddf_plan.specs.Lose.{is_among}
 use Rattle.ddf_words.specs.declared.command.CreateElement.{CreateElement}
 use Rattle.ddf_words.specs.declared.command.Creation.{Creation}
 use Rattle.ddf_request.specs.Slots.{reference_on}
@@ -87,14 +90,30 @@ slots_of elements = flat_map (λ (element : CreateElement). element.slots) eleme
 abbrev pub is_misfit : Creation → Bool
 is_misfit creation = elim creation.secondary [ None ↦ not (length creation.elements == 1) | Some code ↦ not (nat_lt 1 (length creation.elements)) ]
 
--- A refusal of the plan that comes before that of the shape: a disk is no current member, the name is taken, or a level isn't served. Behind
--- these the word doesn't fit.
-abbrev pub before_shape : Option Refusal → Refusal
-before_shape (Some (NotMember slot)) = NotMember slot
-before_shape (Some NameTaken) = NameTaken
-before_shape (Some (Level code)) = Level code
-before_shape other = Shape
+-- ---- the disks that Linux reads
 
--- what an array is refused for of which the word doesn't fit
-abbrev pub misfit_refusal : Configuration → List Seat → Change → Refusal
-misfit_refusal config seats change = before_shape (causes None config change seats)
+-- a slot of it has one of these disks
+abbrev pub lies_on_one : (linux : List ℕ) → List Seat → Creation → Bool
+lies_on_one linux seats creation = list_any (λ slot. is_among linux (reference_on seats slot)) (slots_of creation.elements)
+
+-- Linux would take its level for another one, on a disk that it reads
+abbrev pub is_misread : (linux : List ℕ) → List Seat → Creation → Bool
+is_misread linux seats creation = is_disputed creation.level creation.qualifier && lies_on_one linux seats creation
+
+-- ---- what refuses it beside the plan
+
+-- In order: Linux would read it as something else; the word for its secondary level doesn't fit.
+abbrev pub unfit : (linux : List ℕ) → List Seat → Creation → Option Refusal
+unfit linux seats creation =
+    first_refusal (refuse_if (is_misread linux seats creation) (Level creation.level) ∷ refuse_if (is_misfit creation) Shape ∷ [])
+
+-- A refusal of the plan that comes before both: a disk is no current member, the name is taken, or a level isn't served.
+abbrev pub refused_before : (fallback : Refusal) → Option Refusal → Refusal
+refused_before fallback (Some (NotMember slot)) = NotMember slot
+refused_before fallback (Some NameTaken) = NameTaken
+refused_before fallback (Some (Level code)) = Level code
+refused_before fallback other = fallback
+
+-- what an array is refused for that is refused beside the plan
+abbrev pub unfit_refusal : (fallback : Refusal) → Configuration → List Seat → Change → Refusal
+unfit_refusal fallback config seats change = refused_before fallback (causes None config change seats)

@@ -14,13 +14,13 @@ use Rattle.ddf_config.specs.States.{is_deleted}
 use Rattle.ddf_config.specs.Unusable.{is_served_on}
 
 -- In order: a level isn't served; the numbers make no array, or its extents don't lie well.
-abbrev pub useless_refusals : Configuration → List Seat → Array → List (Option Refusal)
-useless_refusals config seats array =
-    unserved_level array ∷ refuse_if (not (is_served_on config.members seats (extents config.arrays) array)) Shape ∷ []
+abbrev pub useless_refusals : Configuration → List Seat → (guid : List ℕ) → Array → List (Option Refusal)
+useless_refusals config seats guid array =
+    unserved_level guid array ∷ refuse_if (not (is_served_on config.members seats (extents config.arrays) array)) Shape ∷ []
 
 -- the first of them
-abbrev pub useless : Configuration → List Seat → Array → Option Refusal
-useless config seats array = first_refusal (useless_refusals config seats array)
+abbrev pub useless : Configuration → List Seat → (guid : List ℕ) → Array → Option Refusal
+useless config seats guid array = first_refusal (useless_refusals config seats guid array)
 
 -- one of these extents lies on a disk
 abbrev pub lies_on : List Extent → (reference : ℕ) → Bool

@@ -14,30 +14,33 @@ use ddf_plan::{Change, PlanFault};
 use ddf_words::Wish;
 use std::alloc::Global;
 
-/// The change of a group that a wish asks for, where it asks for one, of a group of this configuration and these seats, on so many slots.
+/// The change of a group that a wish asks for, where it asks for one, of a group of this configuration and these seats, on so many slots. `linux` are the
+/// members on disks that Linux reads.
 ///
 /// # Errors
 /// `Refused` with the first of these. `NoSlot` with the first slot that isn't there, in the order of the words. `NotMember` with the
 /// first slot whose disk is no current member. To delete: `NoArray` where the word names no array. For a spare: `NoArray` where a word
-/// names no array, or one of which the disks tell no element. To accept: `NoArray`, or what the array can't be used for. To create, where the word
-/// for the secondary level doesn't fit the count of elements: what the plan refuses such an array for, where that comes before `Shape`, and `Shape`
-/// otherwise. What the change itself is refused for comes behind. `Memory` where memory ran out.
+/// names no array, or one of which the disks tell no element. To accept: `NoArray`, or what the array can't be used for. To create, where Linux would
+/// read the array as something else: what the plan refuses such an array for, where that comes before `Shape`, and `Level` otherwise; where the word for
+/// the secondary level doesn't fit the count of elements: the same, and `Shape` otherwise. What the change itself is refused for comes behind. `Memory`
+/// where memory ran out.
 pub fn request(
     alloc: Global,
     slots: usize,
     config: &Config,
     seats: &[Seat],
+    linux: &[u32],
     stamp: &Stamp,
     wish: &Wish,
 ) -> Result<Option<Change>, PlanFault>
     requires { IsWish wish.now }
-    ensures { IsRequested (request_of slots config.now seats.now stamp.now wish.now) result }
+    ensures { IsRequested (request_of slots config.now seats.now linux.now stamp.now wish.now) result }
 {
     let named = slots_named(alloc, wish)?;
     if let Some(refusal) = slots_refusal(slots, seats, named.as_slice()) {
         return Err(PlanFault::Refused(refusal));
     }
-    change_for(alloc, config, seats, stamp, wish)
+    change_for(alloc, config, seats, linux, stamp, wish)
 }
 
 /// The slots that a wish names, in the order of its words.
@@ -56,15 +59,16 @@ fn change_for(
     alloc: Global,
     config: &Config,
     seats: &[Seat],
+    linux: &[u32],
     stamp: &Stamp,
     wish: &Wish,
 ) -> Result<Option<Change>, PlanFault>
     requires { IsWish wish.now }
-    ensures { IsRequested (change_for config.now seats.now stamp.now wish.now) result }
+    ensures { IsRequested (change_for config.now seats.now linux.now stamp.now wish.now) result }
 {
     match wish {
         Wish::Create(creation) => {
-            let change = create_change(alloc, config, seats, stamp, creation)?;
+            let change = create_change(alloc, config, seats, linux, stamp, creation)?;
             Ok(Some(change))
         }
         Wish::Delete { name } => {

@@ -5,7 +5,7 @@ ghost use Rattle.ddf_request.specs.Usable.{bad_blocks, is_bad, is_held, is_held_
 ghost use Rattle.ddf_request.specs.FirstCauses.{is_useless};
 
 use ddf_array::use_refusal;
-use ddf_bytes::NoMemory;
+use ddf_bytes::{Guid, NoMemory};
 use ddf_config::{Array, Config, Extent, Refusal, Seat, array_extents};
 use std::alloc::Global;
 
@@ -60,16 +60,17 @@ fn is_useless(refusal: &Option<Refusal>) -> bool
     matches!(refusal, Some(Refusal::Level(_) | Refusal::Shape))
 }
 
-/// Why an array can't be used at all: a level isn't served, or the numbers make no array or its extents don't lie well.
+/// Why the array of a GUID can't be used at all: a level isn't served, or the numbers make no array or its extents don't lie well.
 pub fn useless(
     alloc: Global,
     config: &Config,
     seats: &[Seat],
+    guid: &Guid,
     array: &Array,
 ) -> Result<Option<Refusal>, NoMemory>
-    ensures { IfOk result (λ refusal. refusal ≡ useless config.now seats.now array.now) }
+    ensures { IfOk result (λ refusal. refusal ≡ useless config.now seats.now guid.now array.now) }
 {
-    let refusal = use_refusal(alloc, config, seats, array)?;
+    let refusal = use_refusal(alloc, config, seats, guid, array)?;
     if is_useless(&refusal) {
         return Ok(refusal);
     }

@@ -101,7 +101,7 @@ fn of_resync(array: &Array) -> u64 {
 fn of_element(element: &ElementPlan, is_mirrored: bool) -> u64 {
     let count = element.positions.as_slice().len() as u64;
     let cells = element.blocks.saturating_mul(count);
-    match Need::of_level(element.level) {
+    match Need::of_level(element.level, element.qualifier) {
         Need::One | Need::Neighbours(_) => cells,
         _ if is_mirrored => cells,
         Need::AllButOne => element.blocks,

@@ -39,13 +39,20 @@ fn name_element<R: Eprint>(rt: &R, creation: &Creation, element: &CreateElement)
     let least = least_disks(creation.level);
     if count < least || (creation.level == 0x0F && count > 1) {
         let _ = eprintln!(rt;
-            "ddf: an element has {count} disks: raid1, raid4 and raid5 want 2 at least, jbod wants 1"
+            "ddf: an element has {count} disks: raid1, raid4 and raid5 want 2 at least, raid1e wants 3, jbod wants 1"
         );
         return true;
     }
-    if has_strips(creation.level) && blocks < strip {
+    let strips = least_strips(creation.level);
+    let wanted = strip.saturating_mul(strips);
+    if blocks < wanted {
+        let strips = if strips == 1 {
+            "one strip"
+        } else {
+            "two strips"
+        };
         let _ = eprintln!(rt;
-            "ddf: BLOCKS are {blocks}, less than the {strip} of one strip: take {strip} or more, or a smaller CODE"
+            "ddf: BLOCKS are {blocks}, less than the {wanted} of {strips}: take {wanted} or more, or a smaller CODE"
         );
         return true;
     }
@@ -66,11 +73,16 @@ fn twice_in(slots: &[u8]) -> Option<u8> {
 fn least_disks(level: u8) -> usize {
     match level {
         0x01 | 0x04 | 0x05 => 2,
+        0x11 => 3,
         _ => 1,
     }
 }
 
-/// Whether a level cuts its blocks into strips.
-fn has_strips(level: u8) -> bool {
-    matches!(level, 0x00 | 0x04 | 0x05)
+/// The least number of strips that the blocks of a disk make, where the level cuts them into strips.
+fn least_strips(level: u8) -> u64 {
+    match level {
+        0x00 | 0x04 | 0x05 => 1,
+        0x11 => 2,
+        _ => 0,
+    }
 }

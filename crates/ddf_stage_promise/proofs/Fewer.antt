@@ -75,10 +75,10 @@ module _ (seats fewer : List Seat) (few : AreFewer seats fewer) where
   pub view_fewer : (config : Configuration) (guid : List ℕ) (v : Volume) → view_of config guid seats ≡ Ok v → (w : Volume) × (view_of config guid fewer ≡ Ok w)
   view_fewer config guid v view =
       let from = from_view config guid seats v view in
-      let low = below_floors config.members seats (extents config.arrays) from.array from.usable in
+      let low = below_floors config.members seats (extents config.arrays) guid from.array from.usable in
       let low' = none_passes (array_extents from.array) low in
-      let usable : unusable config.members fewer (extents config.arrays) from.array ≡ None =
-      ap (λ (b : Bool). first_refusal (unserved_level from.array ∷ refuse_if (not (is_served config.members (extents config.arrays) from.array && not b)) Shape ∷ refuse_if (not (is_complete from.array)) Lost ∷ [])) (low' ∙ sym low)
+      let usable : unusable config.members fewer (extents config.arrays) guid from.array ≡ None =
+      ap (λ (b : Bool). first_refusal (unserved_level guid from.array ∷ refuse_if (not (is_served config.members (extents config.arrays) from.array && not b)) Shape ∷ refuse_if (not (is_complete from.array)) Lost ∷ [])) (low' ∙ sym low)
       ∙ from.usable in
       has_view config guid fewer from.array from.array_is usable
 

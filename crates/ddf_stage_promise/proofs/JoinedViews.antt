@@ -257,11 +257,11 @@ module _ (config joining next : Configuration) (free : join_cause config joining
         ∙ ap (λ (l : List Extent). has_shapes one && has_tiers one && list_all well l && not (list_any (passes_floor seats) l)) own_extents
         ∙ ap (λ (b : Bool). has_shapes one && has_tiers one && b && not (list_any (passes_floor seats) (array_extents one))) all_well
 
-    usable_same : unusable next.members other (extents next.arrays) after ≡ unusable joining.members seats (extents joining.arrays) one
+    usable_same : unusable next.members other (extents next.arrays) guid after ≡ unusable joining.members seats (extents joining.arrays) guid one
     usable_same =
-        ap (λ (level : Option Refusal). first_refusal (level ∷ refuse_if (not (is_served_on next.members other (extents next.arrays) after)) Shape ∷ refuse_if (not (is_complete after)) Lost ∷ [])) numbers.levels
-        ∙ ap (λ (b : Bool). first_refusal (unserved_level one ∷ refuse_if (not b) Shape ∷ refuse_if (not (is_complete after)) Lost ∷ [])) served
-        ∙ ap (λ (b : Bool). first_refusal (unserved_level one ∷ refuse_if (not (is_served_on joining.members seats (extents joining.arrays) one)) Shape ∷ refuse_if (not b) Lost ∷ [])) numbers.complete
+        ap (λ (level : Option Refusal). first_refusal (level ∷ refuse_if (not (is_served_on next.members other (extents next.arrays) after)) Shape ∷ refuse_if (not (is_complete after)) Lost ∷ [])) (numbers.levels guid)
+        ∙ ap (λ (b : Bool). first_refusal (unserved_level guid one ∷ refuse_if (not b) Shape ∷ refuse_if (not (is_complete after)) Lost ∷ [])) served
+        ∙ ap (λ (b : Bool). first_refusal (unserved_level guid one ∷ refuse_if (not (is_served_on joining.members seats (extents joining.arrays) one)) Shape ∷ refuse_if (not b) Lost ∷ [])) numbers.complete
 
     -- ---- its parts
 
@@ -299,7 +299,7 @@ module _ (config joining next : Configuration) (free : join_cause config joining
 
     pub view_joined : view_of next guid other ≡ view_of joining guid seats
     view_joined =
-        ap (view_by next other) is_after
+        ap (view_by next guid other) is_after
         ∙ ap (λ (r : Option Refusal). elim r [ None ↦ viewed other after | Some refusal ↦ Err refusal ]) usable_same
-        ∙ ap (λ (v : Result Volume Refusal). elim (unusable joining.members seats (extents joining.arrays) one) [ None ↦ v | Some refusal ↦ Err refusal ]) viewed_same
-        ∙ sym (ap (view_by joining seats) is_one)
+        ∙ ap (λ (v : Result Volume Refusal). elim (unusable joining.members seats (extents joining.arrays) guid one) [ None ↦ v | Some refusal ↦ Err refusal ]) viewed_same
+        ∙ sym (ap (view_by joining guid seats) is_one)

@@ -202,15 +202,15 @@ module _ (before : Configuration) (references : List ℕ) (sequence : ℕ) where
         ∙ ap (λ (l : List Extent). has_shapes array && has_tiers array && list_all (lies_well after_members (extents before.arrays)) l && not (list_any (passes_floor seats) l)) own
         ∙ ap (λ (b : Bool). has_shapes array && has_tiers array && b && not (list_any (passes_floor seats) (array_extents array))) (all_lie_kept before (Lose references) (extents before.arrays) (array_extents array))
 
-    usable_is : (guid : List ℕ) (array : Array)
-        → unusable (members_after before (Lose references)) seats (extents (arrays_after before (Lose references))) (made guid array) ≡ unusable before.members seats (extents before.arrays) array
-    usable_is guid array =
-        let keeps = made_numbers guid array in
-        let next = made guid array in
+    usable_is : (guid key : List ℕ) (array : Array)
+        → unusable (members_after before (Lose references)) seats (extents (arrays_after before (Lose references))) guid (made key array) ≡ unusable before.members seats (extents before.arrays) guid array
+    usable_is guid key array =
+        let keeps = made_numbers key array in
+        let next = made key array in
         ap (λ (level : Option Refusal). first_refusal
-        (level ∷ refuse_if (not (is_served_on (members_after before (Lose references)) seats (extents (arrays_after before (Lose references))) next)) Shape ∷ refuse_if (not (config.is_complete next)) Lost ∷ [])) keeps.levels
-        ∙ ap (λ (b : Bool). first_refusal (unserved_level array ∷ refuse_if (not b) Shape ∷ refuse_if (not (config.is_complete next)) Lost ∷ [])) (served_is guid array)
-        ∙ ap (λ (b : Bool). first_refusal (unserved_level array ∷ refuse_if (not (is_served_on before.members seats (extents before.arrays) array)) Shape ∷ refuse_if (not b) Lost ∷ [])) keeps.complete
+        (level ∷ refuse_if (not (is_served_on (members_after before (Lose references)) seats (extents (arrays_after before (Lose references))) next)) Shape ∷ refuse_if (not (config.is_complete next)) Lost ∷ [])) (keeps.levels guid)
+        ∙ ap (λ (b : Bool). first_refusal (unserved_level guid array ∷ refuse_if (not b) Shape ∷ refuse_if (not (config.is_complete next)) Lost ∷ [])) (served_is key array)
+        ∙ ap (λ (b : Bool). first_refusal (unserved_level guid array ∷ refuse_if (not (is_served_on before.members seats (extents before.arrays) array)) Shape ∷ refuse_if (not b) Lost ∷ [])) keeps.complete
 
     -- both have a view, or neither has
     pub record BothViewed (guid : List ℕ) : Type 0 where
@@ -244,27 +244,27 @@ module _ (before : Configuration) (references : List ℕ) (sequence : ℕ) where
     seen array refused = elim refused [ None ↦ viewed seats array | Some refusal ↦ Err refusal ]
 
     by_refusal : (guid : List ℕ) (array next : Array) → lookup (same_guid guid) before.arrays ≡ Some array → lookup (same_guid guid) (arrays_after before (Lose references)) ≡ Some next → array_tiers next ≡ array_tiers array
-        → (r : Option Refusal) → unusable before.members seats (extents before.arrays) array ≡ r
-        → unusable (members_after before (Lose references)) seats (extents (arrays_after before (Lose references))) next ≡ r → BothViewed guid ⊎ NoneViewed guid
+        → (r : Option Refusal) → unusable before.members seats (extents before.arrays) guid array ≡ r
+        → unusable (members_after before (Lose references)) seats (extents (arrays_after before (Lose references))) guid next ≡ r → BothViewed guid ⊎ NoneViewed guid
     by_refusal guid array next found there tiers (Some refusal) is is' = inr (record {
       refusal = refusal;
       after_refusal = refusal;
-      view = ap (view_by before seats) found ∙ ap (seen array) is;
-      after_view = ap (view_by (changed_at before (Lose references) sequence) seats) there ∙ ap (seen next) is';
+      view = ap (view_by before guid seats) found ∙ ap (seen array) is;
+      after_view = ap (view_by (changed_at before (Lose references) sequence) guid seats) there ∙ ap (seen next) is';
     })
     by_refusal guid array next found there tiers None is is' =
         ⊎_elim
         (λ both. inl (record {
           v = both.0;
           w = both.1;
-          view = ap (view_by before seats) found ∙ ap (seen array) is ∙ both.2;
-          after_view = ap (view_by (changed_at before (Lose references) sequence) seats) there ∙ ap (seen next) is' ∙ both.3;
+          view = ap (view_by before guid seats) found ∙ ap (seen array) is ∙ both.2;
+          after_view = ap (view_by (changed_at before (Lose references) sequence) guid seats) there ∙ ap (seen next) is' ∙ both.3;
         }))
         (λ none. inr (record {
           refusal = Shape;
           after_refusal = Shape;
-          view = ap (view_by before seats) found ∙ ap (seen array) is ∙ none.0;
-          after_view = ap (view_by (changed_at before (Lose references) sequence) seats) there ∙ ap (seen next) is' ∙ none.1;
+          view = ap (view_by before guid seats) found ∙ ap (seen array) is ∙ none.0;
+          after_view = ap (view_by (changed_at before (Lose references) sequence) guid seats) there ∙ ap (seen next) is' ∙ none.1;
         }))
         (by_tiers array next (array_tiers array) (array_tiers next) refl refl tiers)
 
@@ -272,13 +272,13 @@ module _ (before : Configuration) (references : List ℕ) (sequence : ℕ) where
     by_array guid None is = inr (record {
       refusal = _;
       after_refusal = _;
-      view = ap (view_by before seats) is;
-      after_view = ap (view_by (changed_at before (Lose references) sequence) seats) (ap (lookup (same_guid guid)) table_is ∙ lookup_none made (same_guid guid) before.arrays is);
+      view = ap (view_by before guid seats) is;
+      after_view = ap (view_by (changed_at before (Lose references) sequence) guid seats) (ap (lookup (same_guid guid)) table_is ∙ lookup_none made (same_guid guid) before.arrays is);
     })
     by_array guid (Some array) is =
         let next = looked_up made (same_guid guid) before.arrays array is in
         by_refusal guid array (made next.0 array) is (ap (lookup (same_guid guid)) table_is ∙ next.2) (made_numbers next.0 array).tiers
-        (unusable before.members seats (extents before.arrays) array) refl (usable_is next.0 array)
+        (unusable before.members seats (extents before.arrays) guid array) refl (usable_is guid next.0 array)
 
     pub views_agree : (guid : List ℕ) → BothViewed guid ⊎ NoneViewed guid
     views_agree guid = by_array guid (lookup (same_guid guid) before.arrays) refl

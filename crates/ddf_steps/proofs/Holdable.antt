@@ -76,7 +76,7 @@ create_allowed bound config seats guid array h =
     (all_pass
     (not_current config seats (references array)
     ∷ refuse_if (is_taken config array.name) NameTaken
-    ∷ unserved_level array
+    ∷ unserved_level guid array
     ∷ [])
     (refuse_if (passes_most (Some bound) array || is_no_shape array) Shape)
     (refuse_if (is_some (lookup (same_guid guid) config.arrays)) (Clash guid)
@@ -91,7 +91,7 @@ create_allowed bound config seats guid array h =
           (all_pass
           (not_current config seats (references array)
           ∷ refuse_if (is_taken config array.name) NameTaken
-          ∷ unserved_level array
+          ∷ unserved_level guid array
           ∷ refuse_if (passes_most (Some bound) array || is_no_shape array) Shape
           ∷ [])
           (refuse_if (is_some (lookup (same_guid guid) config.arrays)) (Clash guid))

@@ -114,7 +114,7 @@ module _ (config : Configuration) (seats : List Seat) where
       without_bound
       (not_current config seats (references array)
       ∷ refuse_if (is_taken config array.name) NameTaken
-      ∷ unserved_level array
+      ∷ unserved_level guid array
       ∷ [])
       (passes_most (Some bound) array) (is_no_shape array) Shape
       (refuse_if (is_some (lookup (same_guid guid) config.arrays)) (Clash guid)

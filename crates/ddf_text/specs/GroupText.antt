@@ -85,10 +85,10 @@ abbrev pub unusable_line : Array → Refusal → List ℕ
 unusable_line array refusal =
     codes "array " ++ name_text array.name ++ codes " unusable " ++ decimal (unusable_number refusal) ++ codes "\n"
 
--- an array, among the extents of all
-abbrev pub array_line : Basis → List (ℕ × Member) → List Seat → List Extent → Array → List ℕ
-array_line basis members seats all array =
-    elim (unusable members seats all array) [
+-- the array of a GUID, among the extents of all
+abbrev pub array_line : Basis → List (ℕ × Member) → List Seat → List Extent → (guid : List ℕ) → Array → List ℕ
+array_line basis members seats all guid array =
+    elim (unusable members seats all guid array) [
       | None ↦ usable_line array (state_by basis members seats array)
       | Some refusal ↦ unusable_line array refusal
     ]
@@ -99,7 +99,7 @@ abbrev pub member_lines : List Seat → (lagging : List ℕ) → List (ℕ × Me
 member_lines seats lagging members = flat_map (λ entry. member_line seats lagging entry.0 entry.1) members
 
 abbrev pub array_lines : Basis → List (ℕ × Member) → List Seat → List Extent → List (List ℕ × Array) → List ℕ
-array_lines basis members seats all arrays = flat_map (λ entry. array_line basis members seats all entry.1) arrays
+array_lines basis members seats all arrays = flat_map (λ entry. array_line basis members seats all entry.0 entry.1) arrays
 
 -- the group, then its members and its arrays in table order
 abbrev pub text_by : Basis → Configuration → List Seat → (lagging : List ℕ) → List ℕ

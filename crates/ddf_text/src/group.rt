@@ -181,13 +181,13 @@ fn push_each(
     ensures { IfOk result (λ done. string_bytes text.new
         ≡ string_bytes text.old ++ array_lines basis members.now.entries seats.now all.now arrays.now.entries) }
 {
-    for (_guid, array) in arrays {
-        push_array(alloc, text, basis, seats, members, all, array)?;
+    for (guid, array) in arrays {
+        push_array(alloc, text, basis, seats, members, all, guid, array)?;
     }
     Ok(())
 }
 
-/// Adds the line of an array. `all` are the extents of all arrays.
+/// Adds the line of the array of a GUID. `all` are the extents of all arrays.
 fn push_array(
     alloc: Global,
     text: &mut String,
@@ -195,11 +195,12 @@ fn push_array(
     seats: &[Seat],
     members: &IndexMap<u32, Member>,
     all: &ExtentsByDisk,
+    guid: &Guid,
     array: &Array,
 ) -> Result<(), NoMemory>
-    ensures { IfOk result (λ done. string_bytes text.new ≡ string_bytes text.old ++ array_line basis members.now.entries seats.now all.now array.now) }
+    ensures { IfOk result (λ done. string_bytes text.new ≡ string_bytes text.old ++ array_line basis members.now.entries seats.now all.now guid.now array.now) }
 {
-    match unusable(alloc, members, seats, all, array)? {
+    match unusable(alloc, members, seats, all, guid, array)? {
         Some(refusal) => push_unusable(alloc, text, array, refusal),
         None => push_usable(alloc, text, array, state_by(basis, members, seats, array)),
     }

@@ -85,7 +85,7 @@ fn is_part_within(seats: &[Seat], part: &Option<ElementPlan>) -> bool
 {
     match part {
         Some(element) => {
-            let need = Need::of_level(element.level);
+            let need = Need::of_level(element.level, element.qualifier);
             has_enough(seats, need, element.positions.as_slice())
         }
         None => false,

@@ -198,11 +198,11 @@ module _ (config : Configuration) (guid : List ℕ) (seats : List Seat) (volume 
       ap (lookup (same_guid guid)) (table_is config (Mark guid) refl) ∙ found.2
       ∙ ap (λ (b : Bool). Some (array_with_low (members_after config (Mark guid)) all (if b then marked before.array else before.array))) found.1
 
-  next_usable : unusable next_config.members seats (extents next_config.arrays) next ≡ None
+  next_usable : unusable next_config.members seats (extents next_config.arrays) guid next ≡ None
   next_usable =
       let kept = usable_kept config (Mark guid) refl seats guid before.array before.array_is in
       let same : kept.0 ≡ next = some_is (sym kept.1 ∙ next_is) in
-      subst (λ (one : Array). unusable next_config.members seats (extents next_config.arrays) one ≡ None) same (kept.2 ∙ before.usable)
+      subst (λ (one : Array). unusable next_config.members seats (extents next_config.arrays) guid one ≡ None) same (kept.2 ∙ before.usable)
 
   next_marked : is_marked next ≡ true
   next_marked =

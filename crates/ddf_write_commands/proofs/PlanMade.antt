@@ -54,14 +54,14 @@ same_ok e = cc
 module _ (access : Access) (start count : ℕ) (more : Configuration → List Seat → Entry → List (Option Refusal)) (behind : Entry → List Change) where
   -- what a command is refused for that uses blocks so
   abbrev refusing : Configuration → List Seat → Entry → List (Option Refusal)
-  refusing config seats entry = array_refusals access config seats entry.1 start count ++ more config seats entry
+  refusing config seats entry = array_refusals access config seats entry.0 entry.1 start count ++ more config seats entry
 
   module _ (config : Configuration) (seats : List Seat) (word : List ℕ) where
     refused_by : (refusal : Refusal) (found : Option Entry) → use_refusal access config seats found start count ≡ Some refusal → asked_of refusing behind config seats found ≡ Err refusal
     refused_by refusal None e = ap (λ (one : Refusal). Err one) (some_is e)
     refused_by refusal (Some entry) e =
         ap (unless_refused (changes_around behind entry))
-        (first_append (array_refusals access config seats entry.1 start count) (more config seats entry) ∙ ap (λ (r : Option Refusal). option_or r (first_refusal (more config seats entry))) e)
+        (first_append (array_refusals access config seats entry.0 entry.1 start count) (more config seats entry) ∙ ap (λ (r : Option Refusal). option_or r (first_refusal (more config seats entry))) e)
 
     pub not_usable : (failure : Failure) → MayUse access config seats word start count (Err failure) → MayPlan refusing behind config seats word (Err failure)
     not_usable (Refused refusal) may = refused_by refusal (named_array config.arrays word) may
@@ -77,7 +77,7 @@ module _ (access : Access) (start count : ℕ) (more : Configuration → List Se
       -- of one that can be used the others decide
       pub then_more : first_refusal (refusing config seats entry) ≡ first_refusal (more config seats entry)
       then_more =
-          first_append (array_refusals access config seats usable.array start count) (more config seats entry)
+          first_append (array_refusals access config seats used.0 usable.array start count) (more config seats entry)
           ∙ ap (λ (r : Option Refusal). option_or r (first_refusal (more config seats entry))) usable.accepted
 
       pub refused_more : (refusal : Refusal) → first_refusal (more config seats entry) ≡ Some refusal → MayPlan refusing behind config seats word (Err (Refused refusal))
@@ -152,7 +152,7 @@ pub resync_accepted : (config : Configuration) (seats : List Seat) (word : List 
 resync_accepted config seats word plan is =
     let entry = is.entry in
     let found = named_is config.arrays word entry is.is_named in
-    let more = none_of_more (array_refusals Reads config seats entry.1 0 0) (more_of_resync config seats entry) is.accepted in
+    let more = none_of_more (array_refusals Reads config seats entry.0 entry.1 0 0) (more_of_resync config seats entry) is.accepted in
     let within = told_within config entry.0 seats is.is_for.before entry.1 is.is_for.is_before found in
     let before : resync_refusal is.is_for.before ≡ None =
     none_back (is_within is.is_for.before) (is_degraded is.is_for.before)

@@ -139,12 +139,12 @@ module _ (start count : ℕ) (config : Configuration) (seats : List Seat) (word 
   abbrev entry : Entry
   entry = is.entry
 
-  both : (first_refusal (array_refusals Writes config seats entry.1 start count) ≡ None) × (first_refusal (more_of_write config seats entry) ≡ None)
-  both = none_of_both (array_refusals Writes config seats entry.1 start count) (more_of_write config seats entry) is.accepted
+  both : (first_refusal (array_refusals Writes config seats entry.0 entry.1 start count) ≡ None) × (first_refusal (more_of_write config seats entry) ≡ None)
+  both = none_of_both (array_refusals Writes config seats entry.0 entry.1 start count) (more_of_write config seats entry) is.accepted
 
   range : nat_lt (array_capacity entry.1) (start + count) ≡ false
   range =
-      let some = second_of (useless config seats entry.1) (refuse_if (is_out_of_range entry.1 start count) (Range (array_capacity entry.1))) (bad_blocks seats entry.1)
+      let some = second_of (useless config seats entry.0 entry.1) (refuse_if (is_out_of_range entry.1 start count) (Range (array_capacity entry.1))) (bad_blocks seats entry.1)
       (refuse_if (is_forbidden Writes entry.1) Held) (refuse_if (not (is_complete entry.1)) Lost) both.0 in
       in_range (is_complete entry.1) (nat_lt (array_capacity entry.1) (start + count)) (array_capacity entry.1) some.0 some.1
 

@@ -55,7 +55,7 @@ resync_behind entry = Unmark entry.0 wholly ∷ []
 -- Behind what any use of its blocks is refused for: the array isn't within its level; an element that keeps parity lacks a position.
 abbrev pub resync_refusals : Configuration → List Seat → Entry → List (Option Refusal)
 resync_refusals config seats entry =
-    array_refusals Reads config seats entry.1 0 0
+    array_refusals Reads config seats entry.0 entry.1 0 0
     ++ refuse_if (not (is_array_within seats entry.1)) Lost
     ∷ refuse_if (lacks_position (view_of config entry.0 seats)) Unsure
     ∷ []

@@ -66,7 +66,7 @@ write_behind entry = if is_array_redundant entry.1 then Unmark entry.0 entry.1.i
 -- Behind what any use of its blocks is refused for: the array isn't within its level; it is marked; an element that keeps parity lacks a position.
 abbrev pub write_refusals : (start count : ℕ) → Refusing
 write_refusals start count config seats entry =
-    array_refusals Writes config seats entry.1 start count
+    array_refusals Writes config seats entry.0 entry.1 start count
     ++ refuse_if (not (is_array_within seats entry.1)) Lost
     ∷ refuse_if (is_marked entry.1) Marked
     ∷ refuse_if (lacks_position (view_of config entry.0 seats)) Degraded

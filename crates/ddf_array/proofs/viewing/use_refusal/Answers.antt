@@ -8,6 +8,6 @@ use Rattle.ddf_array.proofs.viewing.use_refusal.Goals as goal
 pub returns : goal.returns
 returns c =
     let inside = c.config.inside in
-    subst (λ (config : Configuration). c.in_ok-refusal.refusal ≡ unusable config.members c.args.seats.now (extents config.arrays) c.args.array.now) c.config.view_is
+    subst (λ (config : Configuration). c.in_ok-refusal.refusal ≡ unusable config.members c.args.seats.now (extents config.arrays) c.args.guid.now c.args.array.now) c.config.view_is
     (c.in_ok-refusal.ensures
-    ∙ ap (λ (l : List Extent). unusable inside.members.entries c.args.seats.now l c.args.array.now) c.in_ok-all.ensures)
+    ∙ ap (λ (l : List Extent). unusable inside.members.entries c.args.seats.now l c.args.guid.now c.args.array.now) c.in_ok-all.ensures)

@@ -6,11 +6,13 @@ use Rattle.ddf_config.proofs.level.first_of.Goals as goal
 pub returns-in-Some : goal.returns-in-Some
 returns-in-Some c =
     let part = c.part-item.result in
-    sym (first_here level_refusal c.args.parts.now c.loop-part.part-index part c.loop-part-test.true c.loop-part.invariant c.in-Some.refusal
-    (ap level_refusal (sym c.part-item.is) ∙ sym c.level_refusal.ensures ∙ c.in-Some.is))
+    let guid = c.args.guid.now in
+    sym (first_here (level_refusal guid) c.args.parts.now c.loop-part.part-index part c.loop-part-test.true c.loop-part.invariant c.in-Some.refusal
+    (ap (level_refusal guid) (sym c.part-item.is) ∙ sym c.level_refusal.ensures ∙ c.in-Some.is))
 
 pub loop-part-preserved : goal.loop-part-preserved
 loop-part-preserved c =
     let part = c.part-item.result in
-    first_not_here level_refusal c.args.parts.now c.loop-part.part-index part c.loop-part-test.true c.loop-part.invariant
-    (ap level_refusal (sym c.part-item.is) ∙ sym c.in_default.ensures)
+    let guid = c.args.guid.now in
+    first_not_here (level_refusal guid) c.args.parts.now c.loop-part.part-index part c.loop-part-test.true c.loop-part.invariant
+    (ap (level_refusal guid) (sym c.part-item.is) ∙ sym c.in_default.ensures)

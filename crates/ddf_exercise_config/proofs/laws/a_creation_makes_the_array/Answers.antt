@@ -6,4 +6,4 @@ pub returns-clause-makes : goal.returns-clause-makes
 returns-clause-makes c = λ group disks guid sequence apart within. made.creation group disks apart guid sequence within
 
 pub returns-clause-asks : goal.returns-clause-asks
-returns-clause-asks c = λ group disks sequence stamp. asked.creation_is group disks sequence stamp
+returns-clause-asks c = λ group disks sequence stamp linux. asked.creation_is group disks sequence stamp linux

@@ -9,7 +9,7 @@ pub returns-clause-second : goal.returns-clause-second
 returns-clause-second c = λ group disks guid sequence apart within. made.second_spare group disks apart guid sequence within
 
 pub returns-clause-asks_first : goal.returns-clause-asks_first
-returns-clause-asks_first c = λ group disks guid sequence stamp. asked.first_spare_is group disks sequence stamp guid
+returns-clause-asks_first c = λ group disks guid sequence stamp linux. asked.first_spare_is group disks sequence stamp guid linux
 
 pub returns-clause-asks_second : goal.returns-clause-asks_second
-returns-clause-asks_second c = λ group disks guid sequence stamp. asked.second_spare_is group disks sequence stamp guid
+returns-clause-asks_second c = λ group disks guid sequence stamp linux. asked.second_spare_is group disks sequence stamp guid linux

@@ -22,5 +22,5 @@ returns c =
     let unknown : c.refuse_if-3.result ≡ refuse_if (not (is_complete array)) Lost = c.refuse_if-3.ensures ∙ ap (λ (b : Bool). refuse_if (not b) Lost) c.is_complete.ensures in
     c.first_refusal.ensures
     ∙ five_same c.in_ok-useless.useless c.refuse_if.result c.in_ok-bad.bad c.refuse_if-2.result c.refuse_if-3.result
-    (useless config seats array) out (bad_blocks seats array) (refuse_if (is_forbidden c.args.access array) Held) (refuse_if (not (is_complete array)) Lost)
+    (useless config seats c.args.guid.now array) out (bad_blocks seats array) (refuse_if (is_forbidden c.args.access array) Held) (refuse_if (not (is_complete array)) Lost)
     c.in_ok-useless.ensures range c.in_ok-bad.ensures held unknown
