@@ -47,7 +47,10 @@ fn by_logs<B: Bay + Drop>(
     if let Command::Examine = command {
         return Ok(Honoured::as_written(alloc, inner));
     }
-    Ok(Honoured::new(alloc, inner)?)
+    match Honoured::new(alloc, inner) {
+        Ok(disks) => Ok(disks),
+        Err(_) => Err(Failure::Memory),
+    }
 }
 
 /// How far the records of each disk reach.

@@ -14,4 +14,5 @@ mod Other
 mod Newest
 mod Counts
 mod Seen
+mod GivenBack
 mod Honouring

@@ -1,6 +1,6 @@
 -- The slots of a bay, looked at one after another.
 use Rattle.std.proofs.Common.{◌≡◌, ℕ, ◌+◌, ◌<◌, ◌≤◌, List, [], ◌∷◌, ◌++◌, length, get_or, Bool, false, refl, sym, ap, ⊎_elim, ◌∙◌, arith, length-append, add-zero}
-use Rattle.std.specs.Prelude.{Option, None, Result, Ok, Err, IfOk, OnOk}
+use Rattle.std.specs.Prelude.{Option, None, Result, Ok, Err, IfErr, IfOk}
 use Rattle.std.proofs.lemmas.Bool.{cases_lt}
 use Rattle.std.proofs.lemmas.List.{get_or_append_left, get_or-append-add}
 use Rattle.ddf_bay.specs.State.{BayState}
@@ -11,13 +11,14 @@ use Rattle.ddf_hidden_logs.specs.Looks.{AreLooks}
 use Rattle.ddf_hidden_logs.specs.Shown.{mask_or}
 
 -- what holds at Ok, by what does
-pub on_ok_then : {T E P Q : Type 0} (r : Result T E) → (P → Q) → OnOk r P → OnOk r Q
-on_ok_then (Ok x) f p = f p
-on_ok_then (Err e) f p = p
-
 pub if_ok_then : {T E : Type 0} {P Q : T → Type 0} (r : Result T E) → ((x : T) → P x → Q x) → IfOk r P → IfOk r Q
 if_ok_then (Ok x) f p = f x p
 if_ok_then (Err e) f p = p
+
+-- so at Err
+pub if_err_then : {T E : Type 0} {P Q : E → Type 0} (r : Result T E) → ((e : E) → P e → Q e) → IfErr r P → IfErr r Q
+if_err_then (Ok x) f p = p
+if_err_then (Err e) f p = f e p
 
 -- ---- the last of a list with one more
 

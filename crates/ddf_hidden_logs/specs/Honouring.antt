@@ -1,6 +1,8 @@
 -- Disks whose bad block logs are honoured: what such a bay tells of its slots, and what the looks for the logs make of it.
-use Rattle.std.specs.Prelude.{◌≡◌, ℕ, ◌+◌, ◌*◌, ◌<◌, ◌≤◌, Bool, true, false, List, length, Option, slice_index}
+use Rattle.std.specs.Prelude.{◌≡◌, ◌⊎◌, ℕ, ◌+◌, ◌*◌, ◌<◌, ◌≤◌, Bool, true, false, List, length, Option, slice_index}
+use Rattle.ddf_bay.specs.Moments.{Keeps, StopsLeave}
 use Rattle.ddf_bay.specs.ReadsOnly.{LookFailed, ReadsOnly, SlotSame}
+use Rattle.ddf_bay.specs.Sectors.{IsLeft}
 use Rattle.ddf_bay.specs.State.{BayState}
 use Rattle.ddf_fenced.specs.declared.fenced.Fenced.{Fenced}
 use Rattle.ddf_badblocks.specs.declared.range.Range.{Range}
@@ -93,3 +95,31 @@ pub record IsHonoured {B : Type 0} (tells : Type 0) (disks : B → BayState B) (
   pub hides : Hides tells disks between bay
   pub same_ranges : (s : ℕ) → ranges_of bay s ≡ seen.ranges_of between s
   pub same_unread : (s : ℕ) → is_unread bay s ≡ seen.is_fenced between s
+
+-- ---- where memory runs out
+
+-- The second look ran out of memory, and the bay below all comes back: nothing was written of the bay of exchanged sectors, and at most 15 calls a slot were
+-- made of it.
+pub record LooksBehind {B : Type 0} (disks : B → BayState B) (between : Remapped (Fenced B)) (back : B) : Type 0 where
+  pub looked : Remapped (Fenced B)
+  pub is_below : back ≡ seen.below looked
+  pub reads : ReadsOnly (seen.disks_of disks between) (seen.disks_of disks looked)
+  pub calls : (seen.disks_of disks looked).calls ≤ (seen.disks_of disks between).calls + 15 * length (disks (seen.below between)).sizes
+
+-- the first look made at most 15 calls a slot, and the one behind it as many of a bay of exchanged sectors, whose count began at 0
+pub record LooksTwice {B : Type 0} (disks : B → BayState B) (old back : B) : Type 0 where
+  pub between : Remapped (Fenced B)
+  pub calls : (disks (seen.below between)).calls ≤ (disks old).calls + 15 * length (disks old).sizes
+  pub made : (seen.disks_of disks between).calls ≡ 0
+  pub behind : LooksBehind disks between back
+
+-- The bay that comes back is one that calls may make of the old one, of which nothing was written, nor was a write asked for. One look was made, or both.
+pub record IsGivenBack {B : Type 0} (disks : B → BayState B) (old back : B) : Type 0 where
+  pub leads : (disks old).leads_to back
+  pub same_sizes : (disks back).sizes ≡ (disks old).sizes
+  pub same_held : (disks back).held ≡ (disks old).held
+  pub keeps : Keeps (disks old).may_hold (disks back).may_hold
+  pub any_moment : StopsLeave (disks old) (disks back) (IsLeft (disks old).may_hold)
+  pub none_written : (disks back).sectors_written ≡ (disks old).sectors_written
+  pub none_asked : (disks back).sectors_asked ≡ (disks old).sectors_asked
+  pub looks : ((disks back).calls ≤ (disks old).calls + 15 * length (disks old).sizes) ⊎ LooksTwice disks old back

@@ -1,5 +1,5 @@
 //! A bay whose disks' bad block logs show what counts against the disk, by one look at each.
-ghost use Rattle.std.specs.Prelude.{◌≡◌, ◌+◌, ◌*◌, ◌<◌, ◌≤◌, ℕ, true, false, length, IfOk};
+ghost use Rattle.std.specs.Prelude.{◌≡◌, ◌+◌, ◌*◌, ◌<◌, ◌≤◌, ℕ, true, false, length, IfErr, IfOk};
 ghost use Rattle.ddf_bay.specs.ReadsOnly.{LookFailed, ReadsOnly, SlotSame};
 ghost use Rattle.ddf_hidden_logs.specs.Looks.{below, disks_of, is_fenced, mask_of};
 ghost use Rattle.ddf_hidden_logs.specs.Shown.{mask_or};
@@ -15,11 +15,13 @@ use std::alloc::Global;
 /// whose copies could not be read fails each call: what counts against it isn't known.
 ///
 /// # Errors
-/// Memory ran out.
-pub fn hide_logs<B: Bay + Drop>(alloc: Global, inner: B) -> Result<Hidden<Fenced<B>>, NoMemory>
-    // Nothing is written, and at most 15 calls are made a slot.
+/// The bay itself, where memory ran out.
+pub fn hide_logs<B: Bay + Drop>(alloc: Global, inner: B) -> Result<Hidden<Fenced<B>>, B>
+    // Nothing is written, and at most 15 calls are made a slot. So it is where memory ran out, too.
     ensures reads { IfOk result (λ bay. ReadsOnly (B.disks inner) (B.disks (below bay))) }
     ensures calls { IfOk result (λ bay. (B.disks (below bay)).calls ≤ (B.disks inner).calls + 15 * length (B.disks inner).sizes) }
+    ensures reads_failed { IfErr result (λ back. ReadsOnly (B.disks inner) (B.disks back)) }
+    ensures calls_failed { IfErr result (λ back. (B.disks back).calls ≤ (B.disks inner).calls + 15 * length (B.disks inner).sizes) }
 
     // A slot is fenced exactly where a call of this look failed on it.
     ensures failed { IfOk result (λ bay. (s : ℕ) → s < length (B.disks inner).sizes → is_fenced bay s ≡ true → LookFailed (B.disks inner) (B.disks (below bay)) s) }
@@ -33,6 +35,9 @@ pub fn hide_logs<B: Bay + Drop>(alloc: Global, inner: B) -> Result<Hidden<Fenced
     ensures faults { IfOk result (λ bay. (s : ℕ) → is_fenced bay s ≡ true → ((disks_of B.disks bay).failed_reads s ≡ 0) × ((disks_of B.disks bay).failed_writes s ≡ 0)) }
 {
     let mut inner = inner;
-    let looks = look_at_all(alloc, &mut inner)?;
+    let looks = match look_at_all(alloc, &mut inner) {
+        Ok(looks) => looks,
+        Err(NoMemory) => return Err(inner),
+    };
     Ok(Hidden::new(Fenced::new(inner, looks.failed), looks.masks))
 }

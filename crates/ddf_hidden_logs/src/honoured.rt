@@ -1,5 +1,5 @@
 //! Disks whose bad block logs are honoured: one bay, of those that read and write where the logs say and that hide what is honoured.
-ghost use Rattle.std.specs.Prelude.{◌≡◌, ℕ, [], false, None, IfOk};
+ghost use Rattle.std.specs.Prelude.{◌≡◌, ℕ, [], false, None, IfErr, IfOk};
 ghost use Rattle.ddf_badblocks.specs.State.{place};
 ghost use Rattle.ddf_hidden_logs.specs.Masks.{hidden, turn};
 
@@ -7,7 +7,6 @@ use crate::hidden::Hidden;
 use crate::hiding::hide_logs;
 use ddf_badblocks::Remapped;
 use ddf_bay::Bay;
-use ddf_bytes::NoMemory;
 use ddf_fenced::Fenced;
 use ddf_logs::seen_through;
 use std::alloc::Global;
@@ -20,28 +19,32 @@ pub struct Honoured<B: Bay + Drop> {
 }
 
 impl<B: Bay + Drop> Honoured<B> {
-    ghost use Rattle.ddf_hidden_logs.specs.Honouring.{Hides, IsHonoured, disks_of, inner_of, is_unread, is_unshown, logs_of, mask_of, ranges_of};
+    ghost use Rattle.ddf_hidden_logs.specs.Honouring.{Hides, IsGivenBack, IsHonoured, LooksBehind, disks_of, inner_of, is_unread, is_unshown, logs_of, mask_of, ranges_of};
 
     /// Looks at the copies of each slot twice: for its bad sectors, which are exchanged with their spare ones from then on where its log is
     /// honoured (`ddf_logs::log_of`), and, as they are then seen, for the entries of its log that count against it, which alone are shown.
     ///
     /// # Errors
-    /// Memory ran out.
-    pub fn new(alloc: Global, inner: B) -> Result<Honoured<B>, NoMemory>
-        ensures { IfOk result (IsHonoured B.tells B.disks inner) }
+    /// The bay below, where memory ran out: nothing was written of it.
+    pub fn new(alloc: Global, inner: B) -> Result<Honoured<B>, B>
+        ensures made { IfOk result (IsHonoured B.tells B.disks inner) }
+        ensures given_back { IfErr result (IsGivenBack B.disks inner) }
     {
         match seen_through(alloc, inner) {
             Ok(exchanged) => Honoured::hiding(alloc, exchanged),
-            Err(_) => Err(NoMemory),
+            Err(back) => Err(back),
         }
     }
 
-    /// Hides the logs of disks whose bad sectors are exchanged.
-    fn hiding(alloc: Global, exchanged: Remapped<Fenced<B>>) -> Result<Honoured<B>, NoMemory>
-        ensures { IfOk result (Hides B.tells B.disks exchanged) }
+    /// Hides the logs of disks whose bad sectors are exchanged. Where memory ran out the bay below all comes back.
+    fn hiding(alloc: Global, exchanged: Remapped<Fenced<B>>) -> Result<Honoured<B>, B>
+        ensures hides { IfOk result (Hides B.tells B.disks exchanged) }
+        ensures given_back { IfErr result (LooksBehind B.disks exchanged) }
     {
-        let inner = hide_logs(alloc, exchanged)?;
-        Ok(Honoured { inner })
+        match hide_logs(alloc, exchanged) {
+            Ok(inner) => Ok(Honoured { inner }),
+            Err(looked) => Err(looked.into_inner().into_inner()),
+        }
     }
 
     /// Sees sectors and logs as they are written, without a look.

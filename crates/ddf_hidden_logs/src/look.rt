@@ -56,9 +56,9 @@ fn look_under<B: Bay>(
     requires some { 0 < slice_index (B.disks bay.old).sizes slot }
     requires anchor { IsAnchor anchor.now }
     ensures mask { B.tells → IfOk result (λ look. look.mask ≡ (if look.failed then None else mask_in (slice_index (B.disks bay.old).sizes slot - 1) anchor.now (on_slot copies_of (B.disks bay.old) slot anchor.now))) }
-    ensures reads { OnOk result (ReadsOnly (B.disks bay.old) (B.disks bay.new)) }
+    ensures reads { ReadsOnly (B.disks bay.old) (B.disks bay.new) }
     ensures look { IfOk result (λ look. LooksAt (B.disks bay.old) (B.disks bay.new) slot look.failed) }
-    ensures calls { OnOk result ((B.disks bay.new).calls ≤ (B.disks bay.old).calls + 14) }
+    ensures calls { (B.disks bay.new).calls ≤ (B.disks bay.old).calls + 14 }
 {
     let last = bay.size(slot) - 1;
     match copies_of(alloc, bay, slot, anchor) {
@@ -82,9 +82,9 @@ fn look_under<B: Bay>(
 fn look_at<B: Bay>(alloc: Global, bay: &mut B, slot: usize) -> Result<Look, NoMemory>
     requires { slot < length (B.disks bay.old).sizes }
     ensures mask { B.tells → IfOk result (λ look. look.mask ≡ mask_or (B.disks bay.old) slot look.failed) }
-    ensures reads { OnOk result (ReadsOnly (B.disks bay.old) (B.disks bay.new)) }
+    ensures reads { ReadsOnly (B.disks bay.old) (B.disks bay.new) }
     ensures look { IfOk result (λ look. LooksAt (B.disks bay.old) (B.disks bay.new) slot look.failed) }
-    ensures calls { OnOk result ((B.disks bay.new).calls ≤ (B.disks bay.old).calls + 15) }
+    ensures calls { (B.disks bay.new).calls ≤ (B.disks bay.old).calls + 15 }
 {
     if bay.size(slot) == 0 {
         return Ok(Look {
@@ -129,8 +129,8 @@ pub(crate) fn look_at_all<B: Bay>(alloc: Global, bay: &mut B) -> Result<Looks, N
     ensures looks { IfOk result (λ looks. AreLooks B.tells (B.disks bay.old) looks.failed.items looks.masks.items) }
     ensures every_slot { IfOk result (λ looks. length looks.failed.items ≡ length (B.disks bay.old).sizes) }
     ensures failed { IfOk result (λ looks. AreFailed (B.disks bay.old) (B.disks bay.new) looks.failed.items) }
-    ensures reads { OnOk result (ReadsOnly (B.disks bay.old) (B.disks bay.new)) }
-    ensures calls { OnOk result ((B.disks bay.new).calls ≤ (B.disks bay.old).calls + 15 * length (B.disks bay.old).sizes) }
+    ensures reads { ReadsOnly (B.disks bay.old) (B.disks bay.new) }
+    ensures calls { (B.disks bay.new).calls ≤ (B.disks bay.old).calls + 15 * length (B.disks bay.old).sizes }
 {
     let mut looks = Looks {
         masks: Vec::new(alloc),

@@ -1,4 +1,4 @@
-use Rattle.std.proofs.Common.{◌≡◌, ◌∙◌, ◌≤◌, ◌+◌, ◌-◌, Ok, ap, refl, sym, arith, ⊎_elim}
+use Rattle.std.proofs.Common.{◌≡◌, ◌∙◌, ◌-◌, Ok, ap, refl, sym, arith, ⊎_elim}
 use Rattle.std.specs.Prelude.{Option, None, if◌then◌else◌, slice_index}
 use Rattle.ddf_bay.specs.State.{on_slot}
 use Rattle.ddf_bay.proofs.Looks.{looks_then, reads_then}
@@ -8,7 +8,7 @@ use Rattle.ddf_hidden_logs.specs.declared.look.Look.{Look}
 use Rattle.ddf_hidden_logs.specs.declared.mask.Mask.{Mask}
 use Rattle.ddf_hidden_logs.specs.Shown.{mask_at, mask_in}
 use Rattle.ddf_hidden_logs.proofs.Anchored.{mask_is, none_on_empty}
-use Rattle.ddf_hidden_logs.proofs.Looking.{if_ok_then, on_ok_then}
+use Rattle.ddf_hidden_logs.proofs.Looking.{if_ok_then}
 use Rattle.ddf_hidden_logs.proofs.look.look_at.Goals as goal
 
 pub returns-then-size-eq0-clause-mask : goal.returns-then-size-eq0-clause-mask
@@ -29,13 +29,10 @@ returns-in-Ok-clause-mask g c = λ tells.
     if_ok_then c.look_under.result (λ (look : Look) is. is ∙ ap (λ (mask : Option Mask). if look.failed then None else mask) here) (c.look_under.ensures.mask tells)
 
 pub returns-in-Ok-clause-reads : goal.returns-in-Ok-clause-reads
-returns-in-Ok-clause-reads g c = on_ok_then c.look_under.result (λ more. reads_then c.in-Ok.ensures.reads more) c.look_under.ensures.reads
+returns-in-Ok-clause-reads g c = reads_then c.in-Ok.ensures.reads c.look_under.ensures.reads
 
 pub returns-in-Ok-clause-look : goal.returns-in-Ok-clause-look
 returns-in-Ok-clause-look g c = if_ok_then c.look_under.result (λ (look : Look) more. looks_then c.args.slot look.failed c.in-Ok.ensures.look more) c.look_under.ensures.look
 
 pub returns-in-Ok-clause-calls : goal.returns-in-Ok-clause-calls
-returns-in-Ok-clause-calls g c =
-    on_ok_then c.look_under.result
-    (λ (more : (g.B.Bay.disks c.look_under.new.bay).calls ≤ (g.B.Bay.disks c.anchor_of.new.bay).calls + 14). omega (arith, more, c.in-Ok.ensures.calls))
-    c.look_under.ensures.calls
+returns-in-Ok-clause-calls g c = let more = c.look_under.ensures.calls in let before = c.in-Ok.ensures.calls in omega (arith, more, before)
