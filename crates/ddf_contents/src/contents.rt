@@ -18,6 +18,8 @@ pub enum Content {
     EarlyAnchor,
     /// One there in the other byte order.
     OtherPlace,
+    /// One in its place that names no second copy of the records.
+    OneCopy,
     /// A header so many sectors before the end.
     Moved(u64),
     /// A file system or the like, by its name.
@@ -111,6 +113,10 @@ impl fmt::Display for Content {
             Content::OtherPlace => write!(
                 f,
                 "DDF records of a controller, 257 sectors before the end, which this program doesn't read"
+            ),
+            Content::OneCopy => write!(
+                f,
+                "one copy of its DDF records, and this program reads disks with two: mdadm -E reads it, if mdadm wrote it"
             ),
             Content::Moved(distance) => write!(
                 f,

@@ -56,7 +56,7 @@ fn is_filled<B: Bay>(bay: &mut B, slot: usize) -> bool {
 }
 
 /// Whether a slot has sectors and no anchor, so that it can be labelled.
-pub fn is_blank<B: Bay>(bay: &mut B, slot: usize) -> bool {
+fn is_blank<B: Bay>(bay: &mut B, slot: usize) -> bool {
     size_of(bay, slot) > 0
         && slot < bay.slots()
         && matches!(anchor_of(bay, slot), Err(AnchorFault::Blank))

@@ -1,4 +1,5 @@
 //! Disks of a group that must not be written over, and are no source of a read. docs/REFUSALS.md#39-in-full
+use crate::adaptec::name_adaptec;
 use ddf_arrays_left::group_shown;
 use ddf_assembly::Group;
 use ddf_bay::Bay;
@@ -8,7 +9,8 @@ use ddf_copy::{anchor_of, newest};
 use ddf_edge::OneLine;
 use ddf_recovery::trusted_seats;
 
-/// Names on standard error each disk of a group that recovery must not write over, and why.
+/// Names on standard error each disk of a group that recovery must not write over, and why; and each array that another tool reads
+/// otherwise.
 pub fn name_strays<R, B: Bay>(
     rt: &R,
     bay: &mut B,
@@ -19,7 +21,10 @@ where
     R: Eprint + AllocGlobal,
 {
     match group_shown(rt, bay, named)? {
-        Some(group) => name_strays_of(rt, bay, paths, &group),
+        Some(group) => {
+            name_adaptec(rt, &group);
+            name_strays_of(rt, bay, paths, &group)
+        }
         None => Ok(()),
     }
 }
