@@ -26,8 +26,9 @@ ghost use Rattle.ddf_history_memory.specs.Histories.{GoesWell};
 ghost use Rattle.ddf_data_events.specs.Beginnings.{none_promised};
 ghost use Rattle.ddf_data_events.specs.Moments.{KeepsAll, Moment};
 ghost use Rattle.ddf_data_life.specs.Commands.{IsRead};
-ghost use Rattle.ddf_data_life.specs.Histories.{FindsOn};
-ghost use Rattle.ddf_data_lives.specs.Standing.{Stands, StandsOn};
+ghost use Rattle.ddf_data_life.specs.Histories.{CallOn, FindsOn, exit_on};
+ghost use Rattle.ddf_data_lives.specs.Sparing.{FailsNot, LastsFor};
+ghost use Rattle.ddf_data_lives.specs.Standing.{KeepsDisk, Stands, StandsOn};
 
 /// A `label` of all disks leaves the disk of each slot standing, of which nothing is unplugged: nothing is promised of any array yet.
 pub fn a_label_of_all_disks_leaves_each_standing()
@@ -50,6 +51,19 @@ pub fn a_command_is_admitted_where_a_disk_stands()
 /// and for however many turns, it stands at each moment, all is kept, and what was acknowledged stays.
 pub fn a_disk_stands_however_its_history_goes_on()
     ensures { (group : List ℕ) (kept : ℕ) (disk : Disk) (start : Moment group MemoryBay) → Stands group kept disk start → (turns : ℕ) → StandsOn group kept disk turns start }
+{}
+
+/// Each call that doesn't fail a disk keeps it where it stands: each configuration that the call issues lists it as a current member, the recovery's too. `fail` alone asks for a
+/// change that fails a disk, so that this holds of each `create`, `delete`, `spare`, `accept`, `resync`, `write`, `rebuild`, `import` and assembly.
+pub fn a_call_keeps_a_disk_that_it_doesnt_fail()
+    ensures { (group : List ℕ) (kept : ℕ) (disk : Disk) (old : Moment group MemoryBay) → Stands group kept disk old → (call : CallOn group old) → GoesWell old.bay (exit_on group old call)
+        → (disks_of (exit_on group old call)).tells_left → FailsNot group disk old call → KeepsDisk group kept disk old call }
+{}
+
+/// So a disk that no call fails stands however its history goes on from a moment at which it does, and for however many calls of each kind, stops within them and between them,
+/// slots that are unplugged and disks that come back: nothing else is asked of what the calls issue.
+pub fn a_disk_that_no_call_fails_stands_however_its_history_goes_on()
+    ensures { (group : List ℕ) (kept : ℕ) (disk : Disk) (start : Moment group MemoryBay) → Stands group kept disk start → (times : ℕ) → LastsFor group kept disk times start }
 {}
 
 /// A read at such a moment prints of each block bytes that it may have by what is promised then.

@@ -1,0 +1,3 @@
+mod Accepted
+mod Giving
+mod Unfailing

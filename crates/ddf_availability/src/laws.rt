@@ -1,0 +1,45 @@
+//! Laws of availability: functions that do nothing, whose contracts are the laws. docs/PROOF.md#proved
+ghost use Rattle.std.specs.Prelude.{◌≡◌, ◌⊎◌, ℕ, List, Option, None, Ok};
+ghost use Rattle.ddf_bytes.specs.Streams.{SinkState};
+ghost use Rattle.ddf_bay.specs.Memory.{disks_of};
+ghost use Rattle.ddf_bay.specs.declared.memory.MemoryBay.{MemoryBay};
+ghost use Rattle.ddf_config.specs.declared.seat.Seat.{Seat};
+ghost use Rattle.ddf_config.specs.Configuration.{Configuration};
+ghost use Rattle.ddf_read.specs.Reading.{NoneFailed};
+ghost use Rattle.ddf_seats.specs.Group.{GroupValue};
+ghost use Rattle.ddf_assembly.specs.Group.{group_of};
+ghost use Rattle.ddf_recovery.specs.Recovery.{trusted_seats};
+ghost use Rattle.ddf_request.specs.Named.{named_array};
+ghost use Rattle.ddf_answer.specs.Call.{answer_of, work_of};
+ghost use Rattle.ddf_read_commands.specs.Read.{HasRead, IsReadDone, Outcome, read_refusal};
+ghost use Rattle.ddf_history_memory.specs.Histories.{GoesWell};
+ghost use Rattle.ddf_availability.specs.Serving.{GivesBlocks, IsServing, IsToldAll};
+
+use ddf_bay::Bay;
+
+/// Nothing refuses a read of blocks of an array that its disks serve: as it is recorded it can be used, the blocks lie within its capacity, none of its disks lists bad blocks, its
+/// state forbids nothing, it is within its level by the seats, and it isn't marked.
+pub fn a_read_of_an_array_that_is_served_is_not_refused()
+    ensures { (config : Configuration) (seats : List Seat) (word : List ℕ) (start count : ℕ) → IsServing config seats word start count
+        → read_refusal config seats (named_array config.arrays word) start count ≡ None }
+{}
+
+/// Such a read gives each block with its value where no read fails of a disk of the array, by the seats that blocks may be read from: all of them, unless memory runs out before
+/// any is printed, or the output gives out.
+pub fn a_read_of_an_array_that_is_served_gives_its_blocks<B: Bay>()
+    ensures gives { (told : B.tells) (old new : B) (named : Option (List ℕ)) (word : List ℕ) (start count : ℕ) (outcome : Outcome)
+        → (read : HasRead (work_of B.tells (B.disks old) (B.disks new)) named word start count outcome) → (found : GroupValue) → group_of read.newest named ≡ Ok found
+        → (serving : IsServing found.config (trusted_seats found) word start count) → NoneFailed serving.volume (B.disks old) (B.disks new)
+        → GivesBlocks (B.disks old).held serving.volume start count outcome }
+    ensures tells { (told : B.tells) (old new : B) (named : Option (List ℕ)) (word : List ℕ) (start count : ℕ) (before after : SinkState) (status : ℕ)
+        → (done : IsReadDone (work_of B.tells (B.disks old) (B.disks new)) named word start count (answer_of (Unit {0}) before after status)) → (found : GroupValue)
+        → group_of done.has.newest named ≡ Ok found → (serving : IsServing found.config (trusted_seats found) word start count) → NoneFailed serving.volume (B.disks old) (B.disks new)
+        → (status ≡ 5) ⊎ (status ≡ 6) ⊎ IsToldAll (B.disks old).held serving.volume start count (answer_of (Unit {0}) before after status) }
+{}
+
+/// So does one over disks in memory of which no call is listed to fail, whichever of them are unplugged: none of these counts as a disk that serves the array.
+pub fn a_read_over_disks_in_memory_gives_its_blocks()
+    ensures { (old exit : MemoryBay) → GoesWell old exit → (disks_of exit).tells_left → (named : Option (List ℕ)) (word : List ℕ) (start count : ℕ) (outcome : Outcome)
+        → (read : HasRead (work_of (Unit {0}) (disks_of old) (disks_of exit)) named word start count outcome) → (found : GroupValue) → group_of read.newest named ≡ Ok found
+        → (serving : IsServing found.config (trusted_seats found) word start count) → GivesBlocks (disks_of old).held serving.volume start count outcome }
+{}

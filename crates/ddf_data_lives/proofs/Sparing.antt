@@ -1,0 +1,205 @@
+-- A disk that no change fails is a current member of each configuration that steps give, the recovery's too.
+use Rattle.std.proofs.Common.{◌≡◌, ◌∙◌, ℕ, zero, suc, ◌+◌, ◌++◌, ◌||◌, ◌==◌, nat_eq, not, cond, Bool, true, false, List, [], ◌∷◌, map, filter, Option, Some, None, Result, Ok, Err, if◌then◌else◌, refl, sym, ap, subst}
+use Rattle.std.proofs.lemmas.Bool.{eqb-true}
+use Rattle.std.specs.Prelude.{option_to_list, slice_get}
+use Rattle.std.specs.List.{AllByRecursion}
+use Rattle.ddf_config.specs.declared.member.Member.{Member}
+use Rattle.ddf_config.specs.declared.refusal.Refusal.{Refusal}
+use Rattle.ddf_config.specs.Configuration.{Configuration}
+use Rattle.ddf_config.specs.Entries.{changed_entries}
+use Rattle.ddf_config.specs.Members.{is_current}
+use Rattle.ddf_config.specs.Refusals.{first_refusal}
+use Rattle.ddf_plan.specs.declared.change.Change.{Change}
+use Rattle.ddf_plan.specs.declared.change.Change.TheVariants.{Finish, Progress}
+use Rattle.ddf_plan.specs.Lose.{is_among}
+use Rattle.ddf_plan.specs.Members.{lost_by, member_after}
+use Rattle.ddf_plan.specs.Same.{is_step}
+use Rattle.ddf_repair.specs.declared.first.Target.{Target}
+use Rattle.ddf_repair.specs.declared.beginning.Begun.{Begun}
+use Rattle.ddf_repair.specs.declared.beginning.Begun.TheVariants.{Again, Fresh, Nothing}
+use Rattle.ddf_repair.specs.declared.beginning.RebuildFault.{RebuildFault}
+use Rattle.ddf_repair.specs.declared.beginning.RebuildFault.TheVariants as faults
+use Rattle.ddf_repair.specs.Begin.{begun}
+use Rattle.ddf_rewrite.proofs.Lists.{some_same}
+use Rattle.ddf_history.specs.Groups.{Disk, has_current}
+use Rattle.ddf_seats.specs.declared.seated.Seated.{Seated}
+use Rattle.ddf_seats.specs.Group.{GroupValue}
+use Rattle.ddf_seats.specs.Leading.{some}
+use Rattle.ddf_seats.specs.Seated.{levelled}
+use Rattle.ddf_steps.specs.Ready.{steps_from, with_step}
+use Rattle.ddf_steps.specs.Refusing.{step_refusal}
+use Rattle.ddf_steps.specs.Steps.{Step, config_after, step_of}
+use Rattle.ddf_recovery.specs.Ready.{readied}
+use Rattle.ddf_recovery.specs.Recovery.{config_lost, config_recovered, disks_recovered, lost_step, mending_step, recovery_of}
+use Rattle.ddf_recovery.proofs.ReadiedSteps.{are_tried, behind, steps_are}
+use Rattle.ddf_history_steps.specs.Going.{changes_in}
+use Rattle.ddf_history_steps.proofs.ChangingStays.{stays_current}
+use Rattle.ddf_history_steps.proofs.RecoveringLoss.{listed_current}
+use Rattle.ddf_request.specs.Named.{named_array}
+use Rattle.ddf_group_commands.specs.Change.{Request, steps_asked, steps_of}
+use Rattle.ddf_group_commands.proofs.Outcomes.{asked_of as asked_readied}
+use Rattle.ddf_write_commands.specs.Planned.{Entry, unless_refused}
+use Rattle.ddf_rebuild_command.specs.Asked.{bad_spare, changes_behind, kept_in, rebuild_asked, rebuild_changes, rebuild_refusals, rebuild_request, rebuild_unless, rows_in}
+use Rattle.ddf_rebuild_command.specs.Notes.{notes}
+use Rattle.ddf_rebuild_command.proofs.Targets.{is_fresh_at}
+use Rattle.ddf_history_life.specs.Commands.{KeepDisk}
+
+-- ---- members that a change doesn't lose
+
+spared_in : (config : Configuration) (change : Change) (reference : ℕ) → is_among (lost_by change) reference ≡ false → (members : List (ℕ × Member)) → is_current members reference ≡ true
+    → is_current (map (λ (entry : ℕ × Member). (entry.0, member_after config change entry.0 entry.1)) members) reference ≡ true
+spared_in config change reference free [] is = is
+spared_in config change reference free (entry ∷ members) is = go (spared_in config change reference free members) (nat_eq reference entry.0) refl
+  where
+    go : (is_current members reference ≡ true → is_current (map (λ (entry : ℕ × Member). (entry.0, member_after config change entry.0 entry.1)) members) reference ≡ true)
+        → (b : Bool) → nat_eq reference entry.0 ≡ b
+        → is_current (map (λ (entry : ℕ × Member). (entry.0, member_after config change entry.0 entry.1)) (entry ∷ members)) reference ≡ true
+    go later true here =
+        let none : is_among (lost_by change) entry.0 ≡ false = ap (is_among (lost_by change)) (sym (eqb-true reference entry.0 here)) ∙ free in
+        let same : (member_after config change entry.0 entry.1).missing ≡ entry.1.missing = ap (λ (b : Bool). b || entry.1.missing) none in
+        rw (here, is_current) (ap (λ (b : Bool). not b) same ∙ rw (here, is_current) at is)
+    go later false here = rw (here, is_current) (later (rw (here, is_current) at is))
+
+changed_map : (g : ℕ → Member → Member) (entries : List (ℕ × Member)) → changed_entries (λ k m. Some (g k m)) entries ≡ map (λ (entry : ℕ × Member). (entry.0, g entry.0 entry.1)) entries
+changed_map g [] = refl
+changed_map g (entry ∷ entries) = ap (λ (l : List (ℕ × Member)). (entry.0, g entry.0 entry.1) ∷ l) (changed_map g entries)
+
+-- a disk by its reference isn't among those that a change loses
+abbrev pub IsSpared : Disk → Change → Type 0
+IsSpared disk change = is_among (lost_by change) disk.reference ≡ false
+
+module _ (disk : Disk) where
+  spared : (config : Configuration) (change : Change) → IsSpared disk change → has_current config disk ≡ true → has_current (config_after config change) disk ≡ true
+  spared config change free was =
+      stays_current config change (config_after config change).sequence disk was
+      (ap (λ (members : List (ℕ × Member)). is_current members disk.reference) (changed_map (member_after config change) config.members)
+      ∙ spared_in config change disk.reference free config.members (listed_current disk config config.members was))
+
+  -- ---- steps
+
+  cons_keep : (step : Step) (others : List Step) → has_current step.config disk ≡ true → KeepDisk others disk → KeepDisk (step ∷ others) disk
+  cons_keep step others here rest zero one at = let same : step ≡ one = some_same refl at in subst (λ (each : Step). has_current each.config disk ≡ true) same here
+  cons_keep step others here rest (suc place) one at = rest place one at
+
+  none_keep : KeepDisk [] disk
+  none_keep place step at = absurd cc
+
+  made_keep : (made : Step) (rest : Result (List Step) Refusal) (steps : List Step) → has_current made.config disk ≡ true
+      → ((others : List Step) → rest ≡ Ok others → KeepDisk others disk) → with_step made rest ≡ Ok steps → KeepDisk steps disk
+  made_keep made (Err refusal) steps here all is = absurd cc
+  made_keep made (Ok others) steps here all is = let same : made ∷ others ≡ steps = cc in subst (λ (each : List Step). KeepDisk each disk) same (cons_keep made others here (all others refl))
+
+  next_keep : (refusal : Option Refusal) (alters : Bool) (made : Step) (rest stay : Result (List Step) Refusal) (steps : List Step) → has_current made.config disk ≡ true
+      → ((others : List Step) → rest ≡ Ok others → KeepDisk others disk) → ((others : List Step) → stay ≡ Ok others → KeepDisk others disk)
+      → ◌≡◌ {A = Result (List Step) Refusal} (elim refusal [ Some one ↦ Err one | None ↦ if alters then with_step made rest else stay ]) (Ok steps) → KeepDisk steps disk
+  next_keep (Some one) alters made rest stay steps here all same is = absurd cc
+  next_keep None true made rest stay steps here all same is = made_keep made rest steps here all is
+  next_keep None false made rest stay steps here all same is = same steps is
+
+  steps_keep : (timestamp : ℕ) (changes : List Change) → AllByRecursion (IsSpared disk) changes → (config : Configuration) (disks : List Seated) (steps : List Step) → has_current config disk ≡ true
+      → steps_from timestamp None changes config disks ≡ Ok steps → KeepDisk steps disk
+  steps_keep timestamp [] free config disks steps from is = let same : [] ≡ steps = cc in subst (λ (each : List Step). KeepDisk each disk) same none_keep
+  steps_keep timestamp (change ∷ changes) free config disks steps from is =
+      let made = step_of timestamp config disks change in
+      next_keep (step_refusal timestamp None config disks change) (is_step config change) made (steps_from timestamp None changes made.config (map levelled made.disks))
+      (steps_from timestamp None changes config disks) steps (spared config change free.0 from)
+      (λ others are. steps_keep timestamp changes free.1 made.config (map levelled made.disks) others (spared config change free.0 from) are)
+      (λ others are. steps_keep timestamp changes free.1 config disks others from are)
+      is
+
+  -- ---- what is issued with steps
+
+  pub issued_keep : (found : GroupValue) (steps : List Step) → KeepDisk steps disk → (place : ℕ) (config : Configuration) → slice_get (changes_in found steps) place ≡ Some config
+      → has_current config disk ≡ true
+  issued_keep found [] keep place config at = absurd cc
+  issued_keep found (step ∷ steps) keep place config at =
+      go (issued_keep found steps (λ i one is. keep (suc i) one is)) (not (step.config.sequence == found.config.sequence)) place at
+    where
+      go : ((k : ℕ) (other : Configuration) → slice_get (changes_in found steps) k ≡ Some other → has_current other disk ≡ true) → (b : Bool) (k : ℕ)
+          → slice_get (map (λ (one : Step). one.config) (cond b (step ∷ filter (λ (one : Step). not (one.config.sequence == found.config.sequence)) steps)
+          (filter (λ (one : Step). not (one.config.sequence == found.config.sequence)) steps))) k ≡ Some config → has_current config disk ≡ true
+      go later true zero here = let same : step.config ≡ config = cc in subst (λ (one : Configuration). has_current one disk ≡ true) same (keep 0 step refl)
+      go later true (suc k) there = later k config there
+      go later false k there = later k config there
+
+  -- ---- what is readied
+
+  module _ (found : GroupValue) (timestamp : ℕ) (current : has_current (config_recovered found) disk ≡ true) where
+    recovery_keeps : (step : Step) → recovery_of timestamp found ≡ Some step → has_current step.config disk ≡ true
+    unfolding recovery_of config_recovered
+    recovery_keeps step is = by (some found.absent) (some found.lagging) current is
+      where
+        by : (absent lagging : Bool) → has_current (if absent then config_lost found else found.config) disk ≡ true
+            → (if absent then Some (lost_step timestamp found) else if lagging then Some (mending_step timestamp found) else None) ≡ Some step → has_current step.config disk ≡ true
+        by true lagging now at = subst (λ (one : Step). has_current one.config disk ≡ true) (some_same refl at) now
+        by false true now at = subst (λ (one : Step). has_current one.config disk ≡ true) (some_same refl at) now
+        by false false now at = absurd cc
+
+    with_recovery : (next : Option Step) (others : List Step) → ((step : Step) → next ≡ Some step → has_current step.config disk ≡ true) → KeepDisk others disk
+        → KeepDisk (option_to_list next ++ others) disk
+    with_recovery None others first rest = rest
+    with_recovery (Some step) others first rest = cons_keep step others (first step refl) rest
+
+    pub recovered_keep : KeepDisk (option_to_list (recovery_of timestamp found)) disk
+    recovered_keep = by (recovery_of timestamp found) recovery_keeps
+      where
+        by : (next : Option Step) → ((step : Step) → next ≡ Some step → has_current step.config disk ≡ true) → KeepDisk (option_to_list next) disk
+        by None first = none_keep
+        by (Some step) first = cons_keep step [] (first step refl) none_keep
+
+    pub readied_keep : (changes : List Change) → AllByRecursion (IsSpared disk) changes → (steps : List Step) → readied found changes timestamp ≡ Ok steps → KeepDisk steps disk
+    readied_keep changes free steps are =
+        subst (λ (each : List Step). KeepDisk each disk) (sym (steps_are found changes timestamp steps are))
+        (with_recovery (recovery_of timestamp found) (behind found changes timestamp steps are) recovery_keeps
+        (steps_keep timestamp changes free (config_recovered found) (disks_recovered timestamp found) (behind found changes timestamp steps are) current (are_tried found changes timestamp steps are)))
+
+    -- ---- what commands ask for
+
+    answered_keep : (changes : List Change) → AllByRecursion (IsSpared disk) changes → (steps : List Step) → steps_asked found timestamp (Ok changes) ≡ Ok steps → KeepDisk steps disk
+    answered_keep changes free steps are = readied_keep changes free steps (asked_readied (readied found changes timestamp) steps are)
+
+    optional : (change : Option Change) → ((one : Change) → change ≡ Some one → IsSpared disk one) → AllByRecursion (IsSpared disk) (option_to_list change)
+    optional None spares = tt
+    optional (Some one) spares = (spares one refl, tt)
+
+    pub change_keeps : (request : Request) (change : Option Change) → ((one : Change) → change ≡ Some one → IsSpared disk one) → request (config_recovered found) found.seats ≡ Ok (option_to_list change)
+        → (steps : List Step) → steps_of found timestamp request ≡ Ok steps → KeepDisk steps disk
+    change_keeps request change spares is steps are =
+        answered_keep (option_to_list change) (optional change spares) steps (sym (ap (steps_asked found timestamp) is) ∙ are)
+
+    -- ---- a rebuild
+
+    noted_spare : (guid : List ℕ) (target : Target) (rows : List ℕ)
+        → AllByRecursion (IsSpared disk) (map (λ row. Progress guid target.element target.position row) rows ++ Finish guid target.element target.position ∷ [])
+    noted_spare guid target [] = (refl, tt)
+    noted_spare guid target (row ∷ rows) = (refl, noted_spare guid target rows)
+
+    module _ (steps : List Step) where
+      fresh_keeps : (entry : Entry) (target : Target) (change : Change) → begun (config_recovered found) entry.0 found.seats ≡ Ok (Fresh target change) → (refusal : Option Refusal)
+          → steps_asked found timestamp (unless_refused (change ∷ changes_behind entry target 0) refusal) ≡ Ok steps → KeepDisk steps disk
+      fresh_keeps entry target change is None are =
+          answered_keep (change ∷ changes_behind entry target 0)
+          (subst (IsSpared disk) (sym (is_fresh_at (config_recovered found) entry.0 found.seats target change is).change_is) refl, noted_spare entry.0 target (notes 0 (rows_in entry.1 target.element)))
+          steps are
+      fresh_keeps entry target change is (Some refusal) are = absurd cc
+
+      begun_keep : (entry : Entry) (answer : Result Begun RebuildFault) → begun (config_recovered found) entry.0 found.seats ≡ answer
+          → steps_asked found timestamp (rebuild_changes found.seats entry answer) ≡ Ok steps → KeepDisk steps disk
+      begun_keep entry (Ok Nothing) is are = answered_keep [] tt steps are
+      begun_keep entry (Ok (Again target)) is are =
+          answered_keep (changes_behind entry target (kept_in entry.1 target)) (noted_spare entry.0 target (notes (kept_in entry.1 target) (rows_in entry.1 target.element))) steps are
+      begun_keep entry (Ok (Fresh target change)) is are = fresh_keeps entry target change is (bad_spare found.seats change) are
+      begun_keep entry (Err faults.NoSpare) is are = absurd cc
+      begun_keep entry (Err (faults.Small needed has)) is are = absurd cc
+      begun_keep entry (Err faults.Memory) is are = answered_keep [] tt steps are
+
+      unless_keep : (entry : Entry) (refusal : Option Refusal) → steps_asked found timestamp (rebuild_unless (config_recovered found) found.seats entry refusal) ≡ Ok steps → KeepDisk steps disk
+      unless_keep entry None are = begun_keep entry (begun (config_recovered found) entry.0 found.seats) refl are
+      unless_keep entry (Some refusal) are = absurd cc
+
+      entry_keeps : (named : Option Entry) → steps_asked found timestamp (rebuild_asked (config_recovered found) found.seats named) ≡ Ok steps → KeepDisk steps disk
+      entry_keeps None are = absurd cc
+      entry_keeps (Some entry) are = unless_keep entry (first_refusal (rebuild_refusals (config_recovered found) found.seats entry)) are
+
+      pub rebuild_keeps : (word : List ℕ) → steps_of found timestamp (rebuild_request word) ≡ Ok steps → KeepDisk steps disk
+      rebuild_keeps word are = entry_keeps (named_array (config_recovered found).arrays word) are
