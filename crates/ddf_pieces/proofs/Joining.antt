@@ -1,9 +1,8 @@
 -- Writes of neighbouring ranges of blocks, one after another, are one of both.
-use Rattle.std.proofs.Common.{◌≡◌, ◌∙◌, inl, inr, ⊎_elim, ℕ, ◌+◌, ◌-◌, ◌<◌, ◌≤◌, false, List, [], ◌++◌, Some, refl, sym, ap, subst, arith, length, slice_get, length-append}
+use Rattle.std.proofs.Common.{◌≡◌, ◌∙◌, ◌⊎◌, inl, inr, ⊎_elim, ℕ, ◌+◌, ◌-◌, ◌<◌, ◌≤◌, Bool, false, List, [], ◌++◌, Some, refl, sym, ap, subst, arith, length, slice_get, length-append}
 use Rattle.std.specs.Prelude.{slice_index_or}
 use Rattle.std.proofs.lemmas.Bool.{cases_lt}
 use Rattle.std.proofs.lemmas.List.{get_or_append_left, get_or-append_right}
-use Rattle.ddf_bay.specs.Moments.{IsSettled}
 use Rattle.ddf_bay.specs.State.{BayState}
 use Rattle.ddf_bay.proofs.Steps.{stops_start, stops_then}
 use Rattle.ddf_array.specs.declared.part.Part.{Part}
@@ -16,6 +15,7 @@ use Rattle.ddf_array.specs.Volume.{Volume, IsVolume}
 use Rattle.ddf_array.proofs.Consistent.{position_within}
 use Rattle.ddf_cells.specs.CellsOn.{copy_cells}
 use Rattle.ddf_cells.specs.Degraded.{is_degraded}
+use Rattle.ddf_cells.specs.Touching.{IsTouchedSlot}
 use Rattle.ddf_cells.proofs.CopiesOn.{block_at_sits}
 use Rattle.ddf_cells.proofs.OnCells.{block_below}
 use Rattle.ddf_write.specs.Keeping.{AreTheirValues, Keeping, KeepsNone}
@@ -24,9 +24,9 @@ use Rattle.ddf_write.specs.Writing.{IsAmongWrites, IsParityAt, IsTouched, IsWrit
 use Rattle.ddf_write.proofs.KeptValues.{values_stay}
 use Rattle.ddf_write.proofs.RowsUntouched.{IsUntouched, never_touched, sum_untouched, touched_or_not, untouched_stays}
 use Rattle.ddf_write.proofs.WriteLeaves.{cell_stays}
-use Rattle.ddf_pieces.specs.Writing.{AreWritten, LeaveWrites}
+use Rattle.ddf_pieces.specs.Writing.{ArePut, LeaveWrites}
 use Rattle.ddf_pieces.proofs.Costs.{copy_cells_joined, row_cells_joined}
-use Rattle.ddf_pieces.proofs.Ranges.{give_behind, give_front, parity_with, touched_split, written_split}
+use Rattle.ddf_pieces.proofs.Ranges.{give_behind, give_front, longer, parity_with, touched_split, written_behind, written_split, written_wider}
 
 some_is : {X : Type 0} {a b : X} → Some a ≡ Some b → a ≡ b
 some_is e = cc
@@ -66,7 +66,7 @@ module _ {D : Type 0} (tells : Type 0) (v : Volume) (start : ℕ) (xs ys : List 
 
   -- ---- and what is written by both
 
-  module _ (known : IsVolume v) (apart : IsApart v) (whole : is_degraded v ≡ false) (kept : Keeping) (none : KeepsNone v start (length xs) kept) (is : AreWritten tells a b v start xs kept) (was : AreWritten tells b c v (start + length xs) ys kept) where
+  module _ (known : IsVolume v) (apart : IsApart v) (whole : is_degraded v ≡ false) (kept : Keeping) (none : KeepsNone v start (length xs) kept) (t u w : List Bool) (is : ArePut tells a b v start xs kept t u) (was : ArePut tells b c v (start + length xs) ys kept u w) where
     values_next : tells → AreTheirValues v a.held kept → AreTheirValues v b.held kept
     values_next tell values = values_stay v known apart whole start xs a.held b.held (first.held tell) kept none values
 
@@ -106,15 +106,22 @@ module _ {D : Type 0} (tells : Type 0) (v : Volume) (start : ℕ) (xs ys : List 
           (λ not. parity_stays values element sector part one at not)
           (touched_or_not v (start + length xs) (length ys) element sector (length part.places))
 
-      durable_both : (slot : ℕ) → IsWritten v start (length (xs ++ ys)) slot → IsSettled c.may_hold c.held slot
-      durable_both slot written =
-          ⊎_elim (λ front. was.settled tell slot (is.durable tell slot front)) (λ behind. was.durable tell slot behind)
+      noted_both : (slot : ℕ) → IsWritten v start (length (xs ++ ys)) slot → IsTouchedSlot w slot
+      noted_both slot written =
+          ⊎_elim (λ front. was.notes.stays slot (is.are_noted tell slot front)) (λ behind. was.are_noted tell slot behind)
           (written_split v start (length xs) (length ys) slot (subst (λ n. IsWritten v start n slot) (length-append xs ys) written))
 
-    pub written_both : AreWritten tells a c v start (xs ++ ys) kept
-    written_both = record {
+    only_both : (slot : ℕ) → IsTouchedSlot w slot → IsTouchedSlot t slot ⊎ IsWritten v start (length (xs ++ ys)) slot
+    only_both slot noted =
+        ⊎_elim
+        (λ earlier. ⊎_elim inl (λ front. inr (written_wider v start (length xs) (length (xs ++ ys)) slot (longer v start xs ys) front)) (is.notes.only slot earlier))
+        (λ behind. inr (subst (λ n. IsWritten v start n slot) (sym (length-append xs ys)) (written_behind v start (length xs) (length ys) slot behind)))
+        (was.notes.only slot noted)
+
+    pub put_both : ArePut tells a c v start (xs ++ ys) kept t w
+    put_both = record {
       written = λ tell. record { cells = λ k i one below at. cell_both tell k i one below at; parity = λ values element sector part one at. parity_both tell values element sector part one at };
-      durable = λ tell slot written. durable_both tell slot written;
-      settled = λ tell slot settled. was.settled tell slot (is.settled tell slot settled);
+      are_noted = λ tell slot written. noted_both tell slot written;
+      notes = record { stays = λ slot noted. was.notes.stays slot (is.notes.stays slot noted); only = only_both };
       unfailed = was.unfailed ∙ is.unfailed;
     }

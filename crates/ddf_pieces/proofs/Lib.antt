@@ -6,3 +6,4 @@ pub mod PieceCounts
 pub mod ReadSteps
 pub mod WriteParts
 pub mod PieceWrites
+pub mod Syncing

@@ -9,6 +9,7 @@ use Rattle.ddf_bay.proofs.Steps.{rose_since, stops_start}
 use Rattle.ddf_array.specs.Apart.{IsApart}
 use Rattle.ddf_array.specs.Volume.{Volume, IsVolume}
 use Rattle.ddf_read.specs.declared.fault.VolumeFault.TheVariants.{Range, Lost, Unsure, Degraded, Disk}
+use Rattle.ddf_cells.specs.CellsOn.{write_stretches}
 use Rattle.ddf_cells.specs.Touching.{GoesBetween}
 use Rattle.ddf_write.specs.RowWrites.{keeps_parity_anywhere}
 use Rattle.ddf_write.specs.WriteRefused.{IsStopped, write_refusal}
@@ -21,8 +22,8 @@ use Rattle.ddf_write.specs.Keeping.{Keeping, KeepsNone}
 use Rattle.ddf_write.specs.Looking.{piece_of}
 use Rattle.ddf_pieces.specs.Pieces as sizes
 use Rattle.ddf_pieces.specs.Pieces.{EndWithPiece, bytes_of, over_pieces}
-use Rattle.ddf_pieces.specs.Writing.{AreGivenBlocks, ArePiecesWritten, AreWritten, IsPieceStopped, IsWrittenTo, LeaveWrites, piece_calls}
-use Rattle.ddf_pieces.proofs.Joining.{leave_both, written_both}
+use Rattle.ddf_pieces.specs.Writing.{AreGivenBlocks, ArePiecesPut, ArePut, EndsAt, IsPieceStopped, LeaveWrites}
+use Rattle.ddf_pieces.proofs.Joining.{leave_both, put_both}
 use Rattle.ddf_pieces.proofs.PieceCounts.{AreDone, done_more, done_start, ends_more, ends_start, over_more, plain_size, size_some}
 use Rattle.ddf_pieces.proofs.Ranges.{written_behind}
 use Rattle.ddf_pieces.proofs.ReadSteps.{bytes_joined}
@@ -89,15 +90,15 @@ module _ (tells : Type 0) (old now new : SourceState) (first : List ℕ) (xs ys 
 pub record IsPlain {D : Type 0} (old now : BayState D) (v : Volume) (start count each ahead at : ℕ) : Type 0 where
   pub none_ahead : ahead ≡ 0
   pub done : AreDone each count at
-  pub calls : now.calls ≤ old.calls + over_pieces (piece_calls old v) each start count done.pieces
+  pub calls : now.calls ≤ old.calls + over_pieces (write_stretches v) each start count done.pieces
 
-pub record HaveBeenWritten {D : Type 0} (tells : Type 0) (old now : BayState D) (v : Volume) (start count each ahead : ℕ) (kept : Keeping) (source_tells : Type 0) (before mid : SourceState) (first : List ℕ) (at : ℕ) : Type 0 where
+pub record HaveBeenWritten {D : Type 0} (tells : Type 0) (old now : BayState D) (v : Volume) (start count each ahead : ℕ) (kept : Keeping) (noted_before noted : List Bool) (source_tells : Type 0) (before mid : SourceState) (first : List ℕ) (at : ℕ) : Type 0 where
   pub sectors : List (List ℕ)
   pub long : length sectors ≡ at
   pub ends : EndWithPiece each ahead count at
   pub come : IsCome source_tells before mid first sectors at
   pub leave : LeaveWrites tells old now v start sectors
-  pub is_written : AreWritten tells old now v start sectors kept
+  pub is_written : ArePut tells old now v start sectors kept noted_before noted
   pub goes : GoesBetween old now
   pub plain : keeps_parity_anywhere v ≡ false → IsPlain old now v start count each ahead at
 
@@ -105,8 +106,8 @@ none_written : (v : Volume) (start slot : ℕ) → IsWritten v start 0 slot → 
 none_written v start slot (lba, inl cell) = omega (arith, cell.below)
 none_written v start slot (lba, inr of) = omega (arith, of.is_at.touched.below)
 
-module _ {D : Type 0} (tells : Type 0) (v : Volume) (start count each ahead : ℕ) (kept : Keeping) (source_tells : Type 0) (before : SourceState) (first : List ℕ) where
-  pub written_start : (old : BayState D) → 0 < each → (keeps_parity_anywhere v ≡ false → ahead ≡ 0) → HaveBeenWritten tells old old v start count each ahead kept source_tells before before first 0
+module _ {D : Type 0} (tells : Type 0) (v : Volume) (start count each ahead : ℕ) (kept : Keeping) (noted_before : List Bool) (source_tells : Type 0) (before : SourceState) (first : List ℕ) where
+  pub written_start : (old : BayState D) → 0 < each → (keeps_parity_anywhere v ≡ false → ahead ≡ 0) → HaveBeenWritten tells old old v start count each ahead kept noted_before noted_before source_tells before before first 0
   written_start old some none_ahead = record {
     sectors = [];
     long = refl;
@@ -124,27 +125,30 @@ module _ {D : Type 0} (tells : Type 0) (v : Volume) (start count each ahead : �
         cells = λ k i one below at. absurd (omega (arith, below));
         parity = λ values element sector part one at. absurd (omega (arith, at.touched.below));
       };
-      durable = λ told slot written. absurd (none_written v start slot written);
-      settled = λ told slot settled. settled;
+      are_noted = λ told slot written. absurd (none_written v start slot written);
+      notes = record { stays = λ slot is. is; only = λ slot is. inl is };
       unfailed = refl;
     };
     goes = record { goes_on = λ bay leads. leads; same_sizes = refl; reads_rise = λ s. omega arith; writes_rise = λ s. omega arith };
     plain = λ none. record { none_ahead = none_ahead none; done = done_start each count some; calls = omega arith };
   }
 
-  module _ (old now : BayState D) (mid : SourceState) (at : ℕ) (so_far : HaveBeenWritten tells old now v start count each ahead kept source_tells before mid first at) (accepted : write_refusal v start count ≡ None) where
+  module _ (old now : BayState D) (mid : SourceState) (noted : List Bool) (at : ℕ) (so_far : HaveBeenWritten tells old now v start count each ahead kept noted_before noted source_tells before mid first at) (accepted : write_refusal v start count ≡ None) where
+    abbrev Put : List (List ℕ) → Type 0
+    Put sectors = ArePut tells old now v start sectors kept noted_before noted
+
     -- the blocks that were given, once there are any
-    given_blocks : (after : SourceState) → 0 < at → AreGivenBlocks tells old now v start count each ahead kept source_tells before after first so_far.sectors mid.left
+    given_blocks : (after : SourceState) → 0 < at → AreGivenBlocks tells old now v start count each ahead 0 Put source_tells before after first so_far.sectors mid.left
     given_blocks after some = record {
       accepted = accepted;
       whole = subst (EndWithPiece each ahead count) (sym so_far.long) so_far.ends;
       come = so_far.come.come some;
       leave = so_far.leave;
-      calls = λ none. let plain = so_far.plain none in record { pieces = plain.done.pieces; few = plain.done.few; grew = plain.calls };
+      calls = λ none. let plain = so_far.plain none in record { pieces = plain.done.pieces; few = plain.done.few; grew = omega (arith, plain.calls) };
     }
 
     -- all of them are written
-    pub written_all : count ≤ at → (count ≡ 0 → first ≡ []) → IsWrittenTo tells old now v start count each ahead kept source_tells before mid first at
+    pub written_all : count ≤ at → (count ≡ 0 → first ≡ []) → EndsAt tells old now v start count each ahead 0 Put source_tells before mid first at
     written_all all none = record {
       sectors = so_far.sectors;
       many = so_far.long;
@@ -155,7 +159,7 @@ module _ {D : Type 0} (tells : Type 0) (v : Volume) (start count each ahead : �
       ends = inl (omega (arith, all, so_far.ends.within), λ told. refl);
     }
       where
-        no_blocks : at ≡ 0 → AreGivenBlocks tells old now v start count each ahead kept source_tells before mid first so_far.sectors mid.left
+        no_blocks : at ≡ 0 → AreGivenBlocks tells old now v start count each ahead 0 Put source_tells before mid first so_far.sectors mid.left
         no_blocks zero_at =
             let empty : so_far.sectors ≡ [] = none_long so_far.sectors (omega (arith, so_far.long, zero_at)) in
             let nothing : count ≡ 0 = omega (arith, all, zero_at) in
@@ -169,12 +173,12 @@ module _ {D : Type 0} (tells : Type 0) (v : Volume) (start count each ahead : �
                 from = λ told. sym (so_far.come.none zero_at);
               };
               leave = so_far.leave;
-              calls = λ never. let plain = so_far.plain never in record { pieces = plain.done.pieces; few = plain.done.few; grew = plain.calls };
+              calls = λ never. let plain = so_far.plain never in record { pieces = plain.done.pieces; few = plain.done.few; grew = omega (arith, plain.calls) };
             }
 
     -- the source ended before the next piece was full
     pub written_cut : at < count → 0 < at → (after : SourceState) (piece : List ℕ) → length piece ≡ 512 * piece_of each ahead at (count - at) → IsFilled source_tells mid after piece (Ok false)
-        → IsWrittenTo tells old now v start count each ahead kept source_tells before after first at
+        → EndsAt tells old now v start count each ahead 0 Put source_tells before after first at
     written_cut more some after piece long filled = record {
       sectors = so_far.sectors;
       many = so_far.long;
@@ -187,7 +191,7 @@ module _ {D : Type 0} (tells : Type 0) (v : Volume) (start count each ahead : �
 
     -- a read of it failed
     pub source_failed : at < count → 0 < at → (after : SourceState) (piece : List ℕ) (fault : PieceFault) → IsFilled source_tells mid after piece (Err fault)
-        → ArePiecesWritten tells old now v start count each ahead kept source_tells before after first (Err fault)
+        → ArePiecesPut tells old now v start count each ahead kept noted_before noted source_tells before after first (Err fault)
     source_failed more some after piece (faults.Volume fault) filled = absurd filled
     source_failed more some after piece faults.Source filled = record {
       sectors = so_far.sectors;
@@ -203,8 +207,8 @@ module _ {D : Type 0} (tells : Type 0) (v : Volume) (start count each ahead : �
     -- ---- one piece more
 
     module _ (more : at < count) (some : 0 < each) (size : ℕ) (is : size ≡ piece_of each ahead at (count - at)) (after : SourceState) (ys : List (List ℕ)) (many : length ys ≡ size) (whole : AreSectorsOf512 ys)
-        (next : IsNext source_tells mid after first (bytes_of ys) at) (new : BayState D) (leave : LeaveWrites tells now new v (start + at) ys) (goes : GoesBetween now new)
-        (calls : keeps_parity_anywhere v ≡ false → new.calls ≤ now.calls + piece_calls now v (start + at) (length ys)) where
+        (next : IsNext source_tells mid after first (bytes_of ys) at) (new : BayState D) (noted_more : List Bool) (leave : LeaveWrites tells now new v (start + at) ys) (goes : GoesBetween now new)
+        (calls : keeps_parity_anywhere v ≡ false → new.calls ≤ now.calls + write_stretches v (start + at) (length ys)) where
       here : start + at ≡ start + length so_far.sectors
       here = ap (λ n. start + n) (sym so_far.long)
 
@@ -231,17 +235,16 @@ module _ {D : Type 0} (tells : Type 0) (v : Volume) (start count each ahead : �
       plain_both : keeps_parity_anywhere v ≡ false → IsPlain old new v start count each ahead (at + size)
       plain_both none =
           let plain = so_far.plain none in
-          let slots : piece_calls now v (start + at) (length ys) ≡ piece_calls old v (start + at) size =
-          ap (λ (sizes : List ℕ). piece_calls (record now { sizes = sizes }) v (start + at) (length ys)) so_far.goes.same_sizes ∙ ap (piece_calls old v (start + at)) many in
+          let here_calls : write_stretches v (start + at) (length ys) ≡ write_stretches v (start + at) size = ap (write_stretches v (start + at)) many in
           let full : size ≡ sizes.piece_of each (count - at) =
           plain_size each count at size plain.done.pieces (plain.done.are more) more (is ∙ ap (λ n. piece_of each n at (count - at)) plain.none_ahead) in
           record {
             none_ahead = plain.none_ahead;
             done = done_more each count at plain.done more size full;
-            calls = omega (arith, plain.calls, calls none, slots, over_more each count at plain.done more size full (piece_calls old v) start);
+            calls = omega (arith, plain.calls, calls none, here_calls, over_more each count at plain.done more size full (write_stretches v) start);
           }
 
-      pub written_more : IsVolume v → IsApart v → KeepsNone v start count kept → AreWritten tells now new v (start + at) ys kept → HaveBeenWritten tells old new v start count each ahead kept source_tells before after first (at + size)
+      pub written_more : IsVolume v → IsApart v → KeepsNone v start count kept → ArePut tells now new v (start + at) ys kept noted noted_more → HaveBeenWritten tells old new v start count each ahead kept noted_before noted_more source_tells before after first (at + size)
       written_more known apart none is_written = record {
         sectors = so_far.sectors ++ ys;
         long = long;
@@ -249,9 +252,9 @@ module _ {D : Type 0} (tells : Type 0) (v : Volume) (start count each ahead : �
         come = come;
         leave = both;
         is_written =
-            written_both tells v start so_far.sectors ys so_far.leave leave_here known apart (not_refused v start count accepted).1 kept
-            (λ element position sector bytes there k below. none element position sector bytes there k (omega (arith, below, so_far.long, more))) so_far.is_written
-            (subst (λ n. AreWritten tells now new v n ys kept) here is_written);
+            put_both tells v start so_far.sectors ys so_far.leave leave_here known apart (not_refused v start count accepted).1 kept
+            (λ element position sector bytes there k below. none element position sector bytes there k (omega (arith, below, so_far.long, more))) noted_before noted noted_more so_far.is_written
+            (subst (λ n. ArePut tells now new v n ys kept noted noted_more) here is_written);
         goes = goes_both;
         plain = plain_both;
       }
@@ -263,7 +266,7 @@ module _ {D : Type 0} (tells : Type 0) (v : Volume) (start count each ahead : �
             rose_since (old.failed_writes slot) (now.failed_writes slot) (new.failed_writes slot) (so_far.goes.writes_rise slot) failed.1,
           )
 
-      pub write_failed : (fault : PieceFault) → IsPieceStopped now new v (start + at) (length ys) fault → ArePiecesWritten tells old new v start count each ahead kept source_tells before after first (Err fault)
+      pub write_failed : (fault : PieceFault) → IsPieceStopped now new v (start + at) (length ys) fault → ArePiecesPut tells old new v start count each ahead kept noted_before noted_more source_tells before after first (Err fault)
       write_failed (faults.Volume (Range most)) stopped = absurd stopped
       write_failed (faults.Volume Lost) stopped = absurd stopped
       write_failed (faults.Volume Unsure) stopped = absurd stopped
@@ -276,11 +279,10 @@ module _ {D : Type 0} (tells : Type 0) (v : Volume) (start count each ahead : �
           whole = subst (EndWithPiece each ahead count) (sym long) (ends_more each ahead count at size some more is);
           come = come.come (omega (arith, size_some each ahead count at size some more is));
           leave = both;
-          calls = λ none. let plain = plain_both none in record { pieces = plain.done.pieces; few = plain.done.few; grew = plain.calls };
+          calls = λ none. let plain = plain_both none in record { pieces = plain.done.pieces; few = plain.done.few; grew = omega (arith, plain.calls) };
         };
         stopped = stopped_here slot stopped;
-        same_faults = come.same_faults;
-        rest = λ told. refl;
+        rest = inl (come.same_faults, λ told. refl);
       }
       write_failed faults.Source stopped = absurd stopped
       write_failed (faults.Sink fault) stopped = absurd stopped

@@ -15,3 +15,4 @@ pub mod Gathered
 pub mod Marking
 mod Wholly
 pub mod Looked
+pub mod Noting

@@ -1,5 +1,5 @@
 -- What a write of neighbouring blocks sets, and what a stop on the way leaves (profile).
-use Rattle.std.specs.Prelude.{◌≡◌, ◌⊎◌, ℕ, ◌+◌, ◌/◌, ◌<◌, List, [], Some, slice_get, slice_index_or, length}
+use Rattle.std.specs.Prelude.{◌≡◌, ◌⊎◌, ℕ, ◌+◌, ◌/◌, ◌<◌, List, [], Bool, Some, slice_get, slice_index_or, length}
 use Rattle.ddf_bay.specs.Sectors.{Image, Outcomes}
 use Rattle.ddf_primary.specs.Cells.{parity_member}
 use Rattle.ddf_array.specs.declared.part.Part.{Part}
@@ -10,7 +10,7 @@ use Rattle.ddf_array.specs.Sources.{copies}
 use Rattle.ddf_array.specs.Rows.{block_at, row_sum}
 use Rattle.ddf_array.specs.Values.{bytes_at}
 use Rattle.ddf_cells.specs.CellsOn.{GivesCells, IsCellOf}
-use Rattle.ddf_cells.specs.Touching.{IsAmongGiven}
+use Rattle.ddf_cells.specs.Touching.{IsAmongGiven, IsTouchedSlot}
 
 -- a row of an element is touched: a data cell of it holds one of these blocks
 pub record IsTouched (volume : Volume) (start count element sector : ℕ) : Type 0 where
@@ -64,3 +64,8 @@ pub record HasWritten (volume : Volume) (start : ℕ) (sectors : List (List ℕ)
 -- a slot has a sector that the write gives bytes
 abbrev pub IsWritten : Volume → (start count slot : ℕ) → Type 0
 IsWritten volume start count slot = (lba : ℕ) × (IsCellOf volume start count slot lba ⊎ IsParityOf volume start count slot lba)
+
+-- of slots that are noted, none is lost, and none is new but such slots
+pub record NotesWrites (volume : Volume) (start count : ℕ) (before after : List Bool) : Type 0 where
+  pub stays : (slot : ℕ) → IsTouchedSlot before slot → IsTouchedSlot after slot
+  pub only : (slot : ℕ) → IsTouchedSlot after slot → IsTouchedSlot before slot ⊎ IsWritten volume start count slot

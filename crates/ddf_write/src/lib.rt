@@ -23,4 +23,4 @@ pub use laws::{
     the_mark_is_no_part_of_redundancy,
 };
 pub use pieces::piece_of;
-pub use write::{write_blocks, write_refusal};
+pub use write::{write_blocks, write_refusal, write_unsynced};

@@ -212,7 +212,11 @@ module _ {D : Type 0} (tells : Type 0) (old : BayState D) (group : GroupValue) (
       blocks_failed (volumes.Disk slot) is = (
         is.sectors,
         blocks_stopped is.sectors is.are.leave slot is.stopped after
-            (inr (is.left, record { ends = is.are.whole; come = is.are.come }, λ told. record { count = 0; enough = omega arith; others = is.rest told })),
+            (inr (
+              is.left,
+              record { ends = is.are.whole; come = is.are.come },
+              λ told. ⊎_elim (λ none. record { count = 0; enough = omega arith; others = none.1 told }) (λ more. more.1 told) is.rest,
+            )),
       )
 
       pub blocks_cut_off : ArePiecesWritten tells opened behind plan.view start count pieces.each pieces.ahead kept source_tells before after first (Err piece_faults.Source)

@@ -11,7 +11,7 @@ use Rattle.ddf_pieces.proofs.writing.write_each.Goals as goal
 pub loop-at-init : goal.loop-at-init
 loop-at-init g c = record {
   so_far =
-      written_start g.B.Bay.tells c.args.view.now c.args.start c.args.count c.args.beside.now.each c.args.beside.now.ahead c.args.beside.now.kept g.S.Source.tells (g.S.Source.input c.args.source.now)
+      written_start g.B.Bay.tells c.args.view.now c.args.start c.args.count c.args.beside.now.each c.args.beside.now.ahead c.args.beside.now.kept c.args.touched.now g.S.Source.tells (g.S.Source.input c.args.source.now)
       (take (512 * piece_of c.args.beside.now.each c.args.beside.now.ahead 0 c.args.count) c.args.work.now) (g.B.Bay.disks c.args.bay.now) c.requires.beside.some (λ none. (c.requires.beside.plain none).1);
   pieces = c.requires.beside.all_kept;
   reads = refl;
@@ -51,10 +51,10 @@ returns-in_err-write_piece-clause-done g c =
     (there.1 ∙ ap (take (512 * c.piece_of-size.result)) (c.loop-at.invariant.room none) ∙ ap (λ n. take n c.args.work.now) size, there.2))
     c.in_ok-has_piece.field-0 c.if-not-branch.false c.in_ok-has_piece.ensures.later in
     rw (p.1, p.2)
-    (write_failed g.B.Bay.tells c.args.view.now c.args.start c.args.count each ahead c.args.beside.now.kept g.S.Source.tells (g.S.Source.input c.args.source.now) first (g.B.Bay.disks c.args.bay.now) (g.B.Bay.disks c.loop-at.bay)
-    (g.S.Source.input c.loop-at.source) c.loop-at.at
+    (write_failed g.B.Bay.tells c.args.view.now c.args.start c.args.count each ahead c.args.beside.now.kept c.args.touched.now g.S.Source.tells (g.S.Source.input c.args.source.now) first (g.B.Bay.disks c.args.bay.now) (g.B.Bay.disks c.loop-at.bay)
+    (g.S.Source.input c.loop-at.source) c.loop-at.touched c.loop-at.at
     c.loop-at.invariant.so_far c.requires.accepted c.loop-at-test.true c.requires.beside.some c.piece_of-size.result is (g.S.Source.input c.has_piece.new.source) c.sectors_in.result.now many c.sectors_in.ensures.whole
-    next (g.B.Bay.disks c.write_piece.new.bay) c.write_piece.ensures.leave c.write_piece.ensures.goes c.write_piece.ensures.calls _ c.in_err-write_piece.ensures.stopped)
+    next (g.B.Bay.disks c.write_piece.new.bay) c.write_piece.new.touched c.write_piece.ensures.leave c.write_piece.ensures.goes c.write_piece.ensures.calls _ c.in_err-write_piece.ensures.stopped)
 
 pub returns-in_err-write_piece-clause-reads : goal.returns-in_err-write_piece-clause-reads
 returns-in_err-write_piece-clause-reads g c = c.write_piece.ensures.reads ∙ c.loop-at.invariant.reads
@@ -80,9 +80,9 @@ loop-at-preserved g c =
     c.in_ok-has_piece.field-0 c.if-not-branch.false c.in_ok-has_piece.ensures.later in
     record {
       so_far =
-          written_more g.B.Bay.tells v c.args.start c.args.count each ahead kept g.S.Source.tells (g.S.Source.input c.args.source.now) first (g.B.Bay.disks c.args.bay.now) (g.B.Bay.disks c.loop-at.bay) (g.S.Source.input c.loop-at.source)
-          c.loop-at.at c.loop-at.invariant.so_far c.requires.accepted c.loop-at-test.true c.requires.beside.some c.piece_of-size.result is (g.S.Source.input c.has_piece.new.source) c.sectors_in.result.now many
-          c.sectors_in.ensures.whole next (g.B.Bay.disks c.write_piece.new.bay) c.write_piece.ensures.leave c.write_piece.ensures.goes c.write_piece.ensures.calls c.requires.known c.requires.apart c.requires.beside.keeps_none
+          written_more g.B.Bay.tells v c.args.start c.args.count each ahead kept c.args.touched.now g.S.Source.tells (g.S.Source.input c.args.source.now) first (g.B.Bay.disks c.args.bay.now) (g.B.Bay.disks c.loop-at.bay) (g.S.Source.input c.loop-at.source)
+          c.loop-at.touched c.loop-at.at c.loop-at.invariant.so_far c.requires.accepted c.loop-at-test.true c.requires.beside.some c.piece_of-size.result is (g.S.Source.input c.has_piece.new.source) c.sectors_in.result.now many
+          c.sectors_in.ensures.whole next (g.B.Bay.disks c.write_piece.new.bay) c.write_piece.new.touched c.write_piece.ensures.leave c.write_piece.ensures.goes c.write_piece.ensures.calls c.requires.known c.requires.apart c.requires.beside.keeps_none
           c.in_ok-write_piece.ensures.written;
       pieces =
           subst (λ n. ArePiecesKept v c.args.start c.args.count each ahead kept (c.loop-at.at + n)) (sym is)
@@ -95,7 +95,7 @@ pub returns-clause-done : goal.returns-clause-done
 returns-clause-done g c =
     let each = c.args.beside.now.each in
     let ahead = c.args.beside.now.ahead in
-    written_all g.B.Bay.tells c.args.view.now c.args.start c.args.count each ahead c.args.beside.now.kept g.S.Source.tells (g.S.Source.input c.args.source.now) (take (512 * piece_of each ahead 0 c.args.count) c.args.work.now)
+    written_all g.B.Bay.tells c.args.view.now c.args.start c.args.count each ahead c.args.beside.now.kept c.args.touched.now g.S.Source.tells (g.S.Source.input c.args.source.now) (take (512 * piece_of each ahead 0 c.args.count) c.args.work.now)
     (g.B.Bay.disks c.args.bay.now) (g.B.Bay.disks c.loop-at.bay)
-    (g.S.Source.input c.loop-at.source) c.loop-at.at c.loop-at.invariant.so_far c.requires.accepted c.loop-at-test.false
+    (g.S.Source.input c.loop-at.source) c.loop-at.touched c.loop-at.at c.loop-at.invariant.so_far c.requires.accepted c.loop-at-test.false
     (λ none. let nothing : 512 * piece_of each ahead 0 c.args.count ≡ 0 = omega (arith, none) in ap (λ n. take n c.args.work.now) nothing)

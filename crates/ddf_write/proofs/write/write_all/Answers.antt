@@ -1,166 +1,74 @@
-use Rattle.std.proofs.Common.{◌∙◌, length, ap, arith}
-use Rattle.std.proofs.lemmas.Result.{err_from_is_err_and, IfErr-weaker, on_ok_weaker}
+use Rattle.std.proofs.Common.{◌∙◌, length, ap, arith, subst, sym}
+use Rattle.std.proofs.lemmas.Result.{IfErr-weaker, on_ok_weaker}
+use Rattle.ddf_bay.specs.Sectors.{Image}
 use Rattle.ddf_bay.proofs.Steps.{rose_since}
 use Rattle.ddf_write.specs.Keeping.{AreTheirValues}
-use Rattle.ddf_write.specs.RowWrites.{AllSet}
-use Rattle.ddf_write.proofs.CellsCount.{cells_are_copies}
-use Rattle.ddf_write.proofs.RowLoops.{filled_then, stopped_since}
-use Rattle.ddf_write.proofs.WriteEnds.{filled_by, given_there, noted_written, written_end, written_noted, written_there}
-use Rattle.ddf_write.specs.Writing.{MayGive}
-use Rattle.ddf_write.proofs.Gives.{both_written, cells_written, may_cell}
-use Rattle.ddf_cells.proofs.Ends.{both_of_err, goes_by, goes_end, held_by, held_end, left_by, left_end, moments_end, settled_end}
-use Rattle.ddf_cells.proofs.WriteSteps.{none_touched, set_stays, writes_then}
+use Rattle.ddf_write.specs.Writing.{HasWritten, MayGive}
+use Rattle.ddf_write.proofs.WriteEnds.{given_there, noted_written, written_there}
+use Rattle.ddf_cells.proofs.Ends.{both_of_err, goes_end, held_end, left_end, moments_end, settled_end}
+use Rattle.ddf_cells.proofs.WriteSteps.{none_touched}
 use Rattle.ddf_write.proofs.write.write_all.Goals as goal
 
-pub set_rows-requires-clause-fits : goal.set_rows-requires-clause-fits
-set_rows-requires-clause-fits g c = rw (cells_written c.args.view.now c.args.start c.args.from.now g.B.Bay.tells c.in_ok-write_cells.ensures.writes).same_sizes c.requires.fits
-
--- the cells couldn't be written
-pub returns-in_err-write_cells-clause-held : goal.returns-in_err-write_cells-clause-held
-returns-in_err-write_cells-clause-held g c = λ tells. held_by (MayGive c.args.view.now c.args.start c.args.from.now) g.B.Bay.tells (cells_written c.args.view.now c.args.start c.args.from.now g.B.Bay.tells c.in_err-write_cells.ensures.writes) tells
-
-pub returns-in_err-write_cells-clause-left : goal.returns-in_err-write_cells-clause-left
-returns-in_err-write_cells-clause-left g c = left_by (MayGive c.args.view.now c.args.start c.args.from.now) g.B.Bay.tells (cells_written c.args.view.now c.args.start c.args.from.now g.B.Bay.tells c.in_err-write_cells.ensures.writes)
-
-pub returns-in_err-write_cells-clause-goes : goal.returns-in_err-write_cells-clause-goes
-returns-in_err-write_cells-clause-goes g c = goes_by (MayGive c.args.view.now c.args.start c.args.from.now) g.B.Bay.tells (cells_written c.args.view.now c.args.start c.args.from.now g.B.Bay.tells c.in_err-write_cells.ensures.writes)
-
-pub returns-in_err-write_cells-clause-cause : goal.returns-in_err-write_cells-clause-cause
-returns-in_err-write_cells-clause-cause g c =
-    let p = err_from_is_err_and c.from_residual.result c.from_residual.ensures.1 in
-    let v = c.args.view.now in
-    let w = cells_written v c.args.start c.args.from.now g.B.Bay.tells c.in_err-write_cells.ensures.writes in
-    rw (p.1, p.2) (noted_written v c.requires.known c.args.start c.args.from.now g.B.Bay.tells w (none_touched 64) _ c.in_err-write_cells.ensures.touched, c.in_err-write_cells.ensures.failed)
-
--- the parity couldn't
-pub returns-in_err-set_rows-clause-any_moment : goal.returns-in_err-set_rows-clause-any_moment
-returns-in_err-set_rows-clause-any_moment g c = (both_written c.args.view.now c.args.start c.args.from.now g.B.Bay.tells c.in_ok-write_cells.ensures.writes c.in_err-set_rows.ensures.writes).any_moment
-
-pub returns-in_err-set_rows-clause-held : goal.returns-in_err-set_rows-clause-held
-returns-in_err-set_rows-clause-held g c = λ tells.
-    held_by (MayGive c.args.view.now c.args.start c.args.from.now) g.B.Bay.tells (both_written c.args.view.now c.args.start c.args.from.now g.B.Bay.tells c.in_ok-write_cells.ensures.writes c.in_err-set_rows.ensures.writes) tells
-
-pub returns-in_err-set_rows-clause-left : goal.returns-in_err-set_rows-clause-left
-returns-in_err-set_rows-clause-left g c =
-    left_by (MayGive c.args.view.now c.args.start c.args.from.now) g.B.Bay.tells (both_written c.args.view.now c.args.start c.args.from.now g.B.Bay.tells c.in_ok-write_cells.ensures.writes c.in_err-set_rows.ensures.writes)
-
-pub returns-in_err-set_rows-clause-goes : goal.returns-in_err-set_rows-clause-goes
-returns-in_err-set_rows-clause-goes g c =
-    goes_by (MayGive c.args.view.now c.args.start c.args.from.now) g.B.Bay.tells (both_written c.args.view.now c.args.start c.args.from.now g.B.Bay.tells c.in_ok-write_cells.ensures.writes c.in_err-set_rows.ensures.writes)
-
-pub returns-in_err-set_rows-clause-cause : goal.returns-in_err-set_rows-clause-cause
-returns-in_err-set_rows-clause-cause g c =
-    let p = err_from_is_err_and c.from_residual-in_err-set_rows.result c.from_residual-in_err-set_rows.ensures.1 in
-    rw (p.1, p.2) (stopped_since c.args.view.now c.args.start c.args.from.now g.B.Bay.tells (cells_written c.args.view.now c.args.start c.args.from.now g.B.Bay.tells c.in_ok-write_cells.ensures.writes) c.in_err-set_rows.ensures.writes (length c.args.from.now) _ c.in_err-set_rows.ensures.cause)
-
-pub returns-in_err-set_rows-clause-asked : goal.returns-in_err-set_rows-clause-asked
-returns-in_err-set_rows-clause-asked g c = omega (arith, cells_are_copies c.args.view.now c.requires.known c.args.start (length c.args.from.now), c.in_ok-write_cells.ensures.costs.asked, c.in_err-set_rows.ensures.asked)
-
-pub returns-in_err-set_rows-clause-sectors : goal.returns-in_err-set_rows-clause-sectors
-returns-in_err-set_rows-clause-sectors g c = omega (arith, cells_are_copies c.args.view.now c.requires.known c.args.start (length c.args.from.now), c.in_ok-write_cells.ensures.costs.written, c.in_err-set_rows.ensures.written)
-
-pub returns-in_err-set_rows-clause-calls : goal.returns-in_err-set_rows-clause-calls
-returns-in_err-set_rows-clause-calls g c = λ none. omega (arith, c.in_ok-write_cells.ensures.costs.calls_most, c.in_err-set_rows.ensures.calls none)
-
--- all was written
 pub returns-clause-any_moment : goal.returns-clause-any_moment
-returns-clause-any_moment g c =
-    moments_end (MayGive c.args.view.now c.args.start c.args.from.now) g.B.Bay.tells (both_written c.args.view.now c.args.start c.args.from.now g.B.Bay.tells c.in_ok-write_cells.ensures.writes c.in_ok-set_rows.ensures.writes)
-    (g.B.Bay.disks c.sync_touched.new.bay) c.sync_touched.ensures.left c.sync_touched.ensures.held c.sync_touched.ensures.any_moment
+returns-clause-any_moment g c = moments_end (MayGive c.args.view.now c.args.start c.args.from.now) g.B.Bay.tells c.in_ok-touched.ensures.writes (g.B.Bay.disks c.sync_touched.new.bay) c.sync_touched.ensures.left c.sync_touched.ensures.held c.sync_touched.ensures.any_moment
 
 pub returns-clause-held : goal.returns-clause-held
-returns-clause-held g c =
-    held_end (MayGive c.args.view.now c.args.start c.args.from.now) g.B.Bay.tells (both_written c.args.view.now c.args.start c.args.from.now g.B.Bay.tells c.in_ok-write_cells.ensures.writes c.in_ok-set_rows.ensures.writes)
-    (g.B.Bay.disks c.sync_touched.new.bay) c.sync_touched.ensures.left c.sync_touched.ensures.held
+returns-clause-held g c = held_end (MayGive c.args.view.now c.args.start c.args.from.now) g.B.Bay.tells c.in_ok-touched.ensures.writes (g.B.Bay.disks c.sync_touched.new.bay) c.sync_touched.ensures.left c.sync_touched.ensures.held
 
 pub returns-clause-left : goal.returns-clause-left
-returns-clause-left g c =
-    left_end (MayGive c.args.view.now c.args.start c.args.from.now) g.B.Bay.tells (both_written c.args.view.now c.args.start c.args.from.now g.B.Bay.tells c.in_ok-write_cells.ensures.writes c.in_ok-set_rows.ensures.writes)
-    (g.B.Bay.disks c.sync_touched.new.bay) c.sync_touched.ensures.left c.sync_touched.ensures.held
+returns-clause-left g c = left_end (MayGive c.args.view.now c.args.start c.args.from.now) g.B.Bay.tells c.in_ok-touched.ensures.writes (g.B.Bay.disks c.sync_touched.new.bay) c.sync_touched.ensures.left c.sync_touched.ensures.held
 
 pub returns-clause-goes : goal.returns-clause-goes
-returns-clause-goes g c =
-    goes_end (MayGive c.args.view.now c.args.start c.args.from.now) g.B.Bay.tells (both_written c.args.view.now c.args.start c.args.from.now g.B.Bay.tells c.in_ok-write_cells.ensures.writes c.in_ok-set_rows.ensures.writes)
-    (g.B.Bay.disks c.sync_touched.new.bay) c.sync_touched.ensures.left c.sync_touched.ensures.held c.sync_touched.ensures.spends
+returns-clause-goes g c = goes_end (MayGive c.args.view.now c.args.start c.args.from.now) g.B.Bay.tells c.in_ok-touched.ensures.writes (g.B.Bay.disks c.sync_touched.new.bay) c.sync_touched.ensures.left c.sync_touched.ensures.held c.sync_touched.ensures.spends
 
 pub returns-clause-cause : goal.returns-clause-cause
 returns-clause-cause g c =
-    let w = both_written c.args.view.now c.args.start c.args.from.now g.B.Bay.tells c.in_ok-write_cells.ensures.writes c.in_ok-set_rows.ensures.writes in
-    let known = c.requires.known in
+    let w = c.in_ok-touched.ensures.writes in
     IfErr-weaker c.sync_touched.result _ _
-    (λ slot both. (noted_written c.args.view.now known c.args.start c.args.from.now g.B.Bay.tells w (none_touched 64) slot both.0, rose_since _ _ _ (w.writes_rise slot) both.1))
+    (λ slot both. (noted_written c.args.view.now c.requires.known c.args.start c.args.from.now g.B.Bay.tells w (none_touched 64) slot both.0, rose_since _ _ _ (w.writes_rise slot) both.1))
     (both_of_err c.sync_touched.result _ _ c.sync_touched.ensures.touched c.sync_touched.ensures.failed)
 
 pub returns-clause-written : goal.returns-clause-written
 returns-clause-written g c = λ tells.
-    let v = c.args.view.now in
     let old = g.B.Bay.disks c.args.bay.now in
-    let a = g.B.Bay.disks c.write_cells.new.bay in
-    let first = (cells_written c.args.view.now c.args.start c.args.from.now g.B.Bay.tells c.in_ok-write_cells.ensures.writes) in
-    let next = c.in_ok-set_rows.ensures.writes in
-    let w = writes_then (MayGive v c.args.start c.args.from.now) g.B.Bay.tells first next in
-    let set : AllSet v c.args.start c.args.from.now a.held = λ element position k one below cell. (c.in_ok-write_cells.ensures.set tells element position k one (omega arith) below cell).0 in
-    let filled = filled_by v c.requires.known c.args.start c.args.from.now g.B.Bay.tells first tells set in
-    let all = filled_then v c.requires.known c.requires.apart c.args.start c.args.from.now g.B.Bay.tells old.held tells filled next in
     on_ok_weaker c.sync_touched.result
     (λ settled.
-    written_end v c.requires.known c.args.start c.args.from.now g.B.Bay.tells w (g.B.Bay.disks c.sync_touched.new.bay) c.sync_touched.ensures.held (AreTheirValues v old.held c.args.kept.now) tells all.cells
-    (λ values. c.in_ok-set_rows.ensures.summed tells old.held filled values))
+    subst (λ (f : Image). HasWritten c.args.view.now c.args.start c.args.from.now (AreTheirValues c.args.view.now old.held c.args.kept.now) f) (sym c.sync_touched.ensures.held) (c.in_ok-touched.ensures.written tells))
     c.sync_touched.ensures.settled
 
 pub returns-clause-durable : goal.returns-clause-durable
 returns-clause-durable g c = λ tells.
-    let v = c.args.view.now in
-    let first = (cells_written c.args.view.now c.args.start c.args.from.now g.B.Bay.tells c.in_ok-write_cells.ensures.writes) in
-    let next = c.in_ok-set_rows.ensures.writes in
-    let w = writes_then (MayGive v c.args.start c.args.from.now) g.B.Bay.tells first next in
-    let len = length c.args.from.now in
+    let w = c.in_ok-touched.ensures.writes in
     on_ok_weaker c.sync_touched.result
     (λ synced slot written.
-    let there = written_there v c.requires.known c.args.start c.args.from.now (g.B.Bay.disks c.args.bay.now).sizes c.requires.fits slot written in
-    let noted =
-    written_noted v c.requires.known c.args.start c.args.from.now (g.B.Bay.disks c.set_rows.new.bay).held c.set_rows.new.touched
-    (λ element position. set_stays v c.requires.known c.args.start c.args.from.now (MayGive v c.args.start c.args.from.now) (may_cell v c.requires.known c.requires.apart c.args.start c.args.from.now) g.B.Bay.tells element position 0 len tells next (c.in_ok-write_cells.ensures.set tells element position))
-    c.in_ok-set_rows.ensures.noted slot written in
-    (rw w.same_sizes at synced) slot there noted)
+    let there = written_there c.args.view.now c.requires.known c.args.start c.args.from.now (g.B.Bay.disks c.args.bay.now).sizes c.requires.fits slot written in
+    (rw w.same_sizes at synced) slot there (c.in_ok-touched.ensures.noted tells slot written))
     c.sync_touched.ensures.settled
 
 pub returns-clause-settled : goal.returns-clause-settled
 returns-clause-settled g c = λ tells.
     let v = c.args.view.now in
-    let w = both_written v c.args.start c.args.from.now g.B.Bay.tells c.in_ok-write_cells.ensures.writes c.in_ok-set_rows.ensures.writes in
+    let w = c.in_ok-touched.ensures.writes in
     on_ok_weaker c.sync_touched.result
     (λ synced slot settled.
-    settled_end (MayGive v c.args.start c.args.from.now) g.B.Bay.tells w (g.B.Bay.disks c.sync_touched.new.bay) c.sync_touched.ensures.left c.sync_touched.ensures.held tells (given_there v c.requires.known c.args.start c.args.from.now (g.B.Bay.disks c.args.bay.now).sizes c.requires.fits) (rw w.same_sizes at synced) slot settled)
+    settled_end (MayGive v c.args.start c.args.from.now) g.B.Bay.tells w (g.B.Bay.disks c.sync_touched.new.bay) c.sync_touched.ensures.left c.sync_touched.ensures.held tells
+    (given_there v c.requires.known c.args.start c.args.from.now (g.B.Bay.disks c.args.bay.now).sizes c.requires.fits) (rw w.same_sizes at synced) slot settled)
     c.sync_touched.ensures.settled
 
 pub returns-clause-asked : goal.returns-clause-asked
-returns-clause-asked g c = omega (arith, cells_are_copies c.args.view.now c.requires.known c.args.start (length c.args.from.now), c.in_ok-write_cells.ensures.costs.asked, c.in_ok-set_rows.ensures.asked, c.sync_touched.ensures.spends.costs.asked)
+returns-clause-asked g c = omega (arith, c.in_ok-touched.ensures.asked, c.sync_touched.ensures.spends.costs.asked)
 
 pub returns-clause-sectors : goal.returns-clause-sectors
-returns-clause-sectors g c = omega (arith, cells_are_copies c.args.view.now c.requires.known c.args.start (length c.args.from.now), c.in_ok-write_cells.ensures.costs.written, c.in_ok-set_rows.ensures.written, c.sync_touched.ensures.spends.costs.written)
+returns-clause-sectors g c = omega (arith, c.in_ok-touched.ensures.sectors, c.sync_touched.ensures.spends.costs.written)
 
 pub returns-clause-calls : goal.returns-clause-calls
 returns-clause-calls g c = λ none.
-    let w = both_written c.args.view.now c.args.start c.args.from.now g.B.Bay.tells c.in_ok-write_cells.ensures.writes c.in_ok-set_rows.ensures.writes in
+    let w = c.in_ok-touched.ensures.writes in
     let sizes = ap length w.same_sizes in
-    omega (arith, c.in_ok-write_cells.ensures.costs.calls_most, c.in_ok-set_rows.ensures.calls none, c.sync_touched.ensures.spends.costs.calls_most, sizes)
-
-pub returns-in_err-write_cells-clause-asked : goal.returns-in_err-write_cells-clause-asked
-returns-in_err-write_cells-clause-asked g c = omega (arith, cells_are_copies c.args.view.now c.requires.known c.args.start (length c.args.from.now), c.in_err-write_cells.ensures.costs.asked)
-
-pub returns-in_err-write_cells-clause-sectors : goal.returns-in_err-write_cells-clause-sectors
-returns-in_err-write_cells-clause-sectors g c = omega (arith, cells_are_copies c.args.view.now c.requires.known c.args.start (length c.args.from.now), c.in_err-write_cells.ensures.costs.written)
-
-pub returns-in_err-write_cells-clause-any_moment : goal.returns-in_err-write_cells-clause-any_moment
-returns-in_err-write_cells-clause-any_moment g c = (cells_written c.args.view.now c.args.start c.args.from.now g.B.Bay.tells c.in_err-write_cells.ensures.writes).any_moment
+    omega (arith, c.in_ok-touched.ensures.calls none, c.sync_touched.ensures.spends.costs.calls_most, sizes)
 
 pub returns-clause-unfailed : goal.returns-clause-unfailed
-returns-clause-unfailed g c =
-    on_ok_weaker c.sync_touched.result (λ same. same ∙ c.in_ok-set_rows.ensures.unfailed ∙ c.in_ok-write_cells.ensures.unfailed) c.sync_touched.ensures.unfailed
-
-pub returns-in_err-set_rows-clause-reads : goal.returns-in_err-set_rows-clause-reads
-returns-in_err-set_rows-clause-reads g c = c.in_err-set_rows.ensures.reads ∙ c.in_ok-write_cells.ensures.reads
+returns-clause-unfailed g c = on_ok_weaker c.sync_touched.result (λ same. same ∙ c.in_ok-touched.ensures.unfailed) c.sync_touched.ensures.unfailed
 
 pub returns-clause-reads : goal.returns-clause-reads
-returns-clause-reads g c = c.sync_touched.ensures.reads ∙ c.in_ok-set_rows.ensures.reads ∙ c.in_ok-write_cells.ensures.reads
+returns-clause-reads g c = c.sync_touched.ensures.reads ∙ c.in_ok-touched.ensures.reads
