@@ -80,7 +80,7 @@ module _ {B : Type 0} (tells : Type 0) (disks : B → BayState B) (told : Type 0
   line_took (Resync name) line writes joins done =
       record { done = is_done done.outcome; linux = linux_found (group_of done.has.taken.newest group); taken = done.has.taken; are_its = refl; is_done = changed_done done.outcome (answer_of told from.output to.output code) done.ends }
   line_took (Rebuild name) line writes joins done =
-      record { done = is_done done.outcome; linux = linux_found (group_of done.has.taken.newest group); taken = done.has.taken; are_its = refl; is_done = changed_done done.outcome (answer_of told from.output to.output code) done.ends }
+      record { done = is_done done.outcome; linux = done.has.linux; taken = done.has.taken; are_its = done.has.are_its; is_done = changed_done done.outcome (answer_of told from.output to.output code) done.ends }
   line_took (Change wish) line writes joins done =
       record {
         done = is_done done.outcome;

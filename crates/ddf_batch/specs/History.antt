@@ -28,7 +28,7 @@ use Rattle.ddf_batch.specs.Line.{Point}
 -- the changes that the command of a line asks of a group, on so many slots, of which Linux reads these members' disks
 abbrev pub request_of_line : (slots : ℕ) → Stamp → (linux : List ℕ) → Command → Request
 request_of_line slots stamp linux (Resync name) = resync_request name
-request_of_line slots stamp linux (Rebuild name) = rebuild_request name
+request_of_line slots stamp linux (Rebuild name) = rebuild_request name linux
 request_of_line slots stamp linux (Change wish) = request_for slots stamp wish linux
 request_of_line slots stamp linux other = no_change
 

@@ -36,7 +36,7 @@ use Rattle.ddf_group_commands.proofs.Keeping.{reads_keep}
 use Rattle.ddf_group_commands.proofs.ShowEnds.{shown_nothing}
 use Rattle.ddf_group_commands.specs.Change.{Request, TakesGroup}
 use Rattle.ddf_group_commands.specs.Costs.{steps_sectors}
-use Rattle.ddf_group_commands.specs.Requests.{request_for}
+use Rattle.ddf_group_commands.specs.Requests.{linux_found, request_for}
 use Rattle.ddf_import_command.proofs.Ending.{imported_nothing}
 use Rattle.ddf_read_commands.proofs.LeftOut.{has_no_place}
 use Rattle.ddf_read_commands.proofs.ReadBlocks.{memory_in}
@@ -161,12 +161,16 @@ module _ {D : Type 0} (old : BayState D) (tells told : Type 0) (before : SinkSta
       }
 
   rebuilt_nothing : IsRebuildDone (work_of tells old old) named timestamp word (answer_of told before before 5)
+  unfolding taken_nothing none_looked
   rebuilt_nothing =
-      let taken = taken_nothing old tells named timestamp (rebuild_request word) in
+      let linux = linux_found (group_of (newest_from old 0 (none_looked old).left) named) in
+      let taken = taken_nothing old tells named timestamp (rebuild_request word linux) in
       record {
         outcome = Err Memory;
         has = record {
+          linux = linux;
           taken = taken;
+          are_its = refl;
           gone = λ given. absurd (given refl);
           gives = none_rebuilt old tells timestamp word (group_of taken.newest named);
           leaves = λ tells found is steps asked. stops_start old _;

@@ -29,6 +29,7 @@ use Rattle.ddf_import_command.specs.Import.{HasImported, import_asked}
 use Rattle.ddf_write_commands.specs.Planned.{IsPlanned}
 use Rattle.ddf_write_commands.specs.Resync.{HasResyncedArray, resync_request}
 use Rattle.ddf_write_commands.specs.Write.{is_written}
+use Rattle.ddf_group_commands.specs.Requests.{linux_members}
 use Rattle.ddf_rebuild_command.specs.Asked.{rebuild_request}
 use Rattle.ddf_rebuild_command.specs.Rebuilt.{HasRebuiltArray}
 use Rattle.ddf_command.specs.Run.{IsCommandDone}
@@ -122,7 +123,7 @@ module _ {B : Type 0} {tells : Type 0} (told : tells) (disks : B → BayState B)
   pub record TakesRebuild (name : List ℕ) (outcome : Result ℕ Failure) (has : HasRebuiltArray work group (timestamp_of stamp) name outcome) : Type 0 where
     pub finds : Finds told disks tells_bytes streams guid old has.taken.left has.taken.newest group
     pub steps : List Step
-    pub are_asked : steps_of finds.found (timestamp_of stamp) (rebuild_request name) ≡ Ok steps
+    pub are_asked : steps_of finds.found (timestamp_of stamp) (rebuild_request name (linux_members finds.found)) ≡ Ok steps
 
   abbrev pub rebuild_call : (name : List ℕ) (outcome : Result ℕ Failure) (has : HasRebuiltArray work group (timestamp_of stamp) name outcome) → TakesRebuild name outcome has
       → RebuildCall told disks tells_bytes streams guid old

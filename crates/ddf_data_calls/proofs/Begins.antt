@@ -29,6 +29,8 @@ use Rattle.ddf_read_commands.proofs.ArrayUse.{named_is}
 use Rattle.ddf_rebuild_command.specs.Asked.{changes_behind}
 use Rattle.ddf_rebuild_command.specs.Planned.{IsPlanned}
 use Rattle.ddf_rebuild_command.specs.Rounds.{steps_of}
+use Rattle.ddf_group_commands.specs.Requests.{linux_members}
+use Rattle.ddf_rebuild_command.specs.PassedOver.{passed_over}
 use Rattle.ddf_rebuild_command.proofs.Beginnings.{Beginning, beginning, goes_on, spares}
 use Rattle.ddf_rebuild_command.proofs.Begun.{fresh_out, fresh_steps}
 use Rattle.ddf_rebuild_command.proofs.PlanMade.{kept_is}
@@ -59,10 +61,10 @@ module _ (group : List ℕ) (found : GroupValue) (timestamp : ℕ) (word : List 
   asked = changes_behind plan.entry plan.target plan.kept
 
   abbrev Begins : Type 0
-  Begins = Beginning (config_recovered found) found.seats plan.entry plan.target plan.kept plan.before
+  Begins = Beginning (config_recovered found) found.seats (passed_over (linux_members found) plan.entry.1) plan.entry plan.target plan.kept plan.before
 
   begins : Begins
-  begins = beginning (config_recovered found) found.seats plan.entry plan.target plan.kept plan.before plan.begins
+  begins = beginning (config_recovered found) found.seats (passed_over (linux_members found) plan.entry.1) plan.entry plan.target plan.kept plan.before plan.begins
 
   before_is : plan.before ≡ option_to_list (mark_in plan.before)
   before_is = by begins
@@ -123,7 +125,7 @@ module _ (group : List ℕ) (found : GroupValue) (timestamp : ℕ) (word : List 
       by : Begins → HasBegun
       by (goes_on h kept before) =
           let same = again before in
-          let first = (is_again (config_recovered found) plan.entry.0 found.seats plan.target h).first in
+          let first = (is_again (config_recovered found) plan.entry.0 found.seats _ plan.target h).first in
           let view : view_of (config_recovered found) plan.entry.0 found.seats ≡ Ok plan.volume = ap (λ (c : Configuration). view_of c plan.entry.0 found.seats) (sym same) ∙ is_view in
           let row = kept_is (config_recovered found) plan.entry.0 found.seats plan.volume view plan.target first plan.entry.1 found_entry in
           let out : IsOutAt (config_recovered found) plan.entry.0 plan.target.element plan.target.position plan.kept =
@@ -134,17 +136,17 @@ module _ (group : List ℕ) (found : GroupValue) (timestamp : ℕ) (word : List 
             members = λ reference. ap (λ (c : Configuration). is_current c.members reference) same;
             out = subst (λ (c : Configuration). IsOutAt c plan.entry.0 plan.target.element plan.target.position plan.kept) (sym same) out;
             first = λ array there.
-                first_again (config_recovered found) plan.entry.0 found.seats plan.target array (ap (λ (c : Configuration). lookup (same_guid plan.entry.0) c.arrays) (sym same) ∙ there) h;
+                first_again (config_recovered found) plan.entry.0 found.seats (passed_over (linux_members found) plan.entry.1) plan.target array (ap (λ (c : Configuration). lookup (same_guid plan.entry.0) c.arrays) (sym same) ∙ there) h;
           }
       by (spares change h kept before) =
-          let fresh = is_fresh_at (config_recovered found) plan.entry.0 found.seats plan.target change h in
+          let fresh = is_fresh_at (config_recovered found) plan.entry.0 found.seats _ plan.target change h in
           let same = begun_by change before (fresh_steps (config_recovered found) plan.entry.0 found.seats plan.target change fresh) in
           let sequence = (config_after (config_recovered found) change).sequence in
           let started : between ≡ changed_at (config_recovered found) (Begin plan.entry.0 plan.target.element plan.target.position fresh.reference fresh.start) sequence =
           same ∙ ap (λ (one : Change). changed_at (config_recovered found) one sequence) fresh.change_is in
           record {
             may = λ seats image promises. subst (λ (changes : List Change). MayAsk (config_recovered found) seats image promises (mark_in changes)) (sym before)
-                (asks_for (config_recovered found) plan.entry.0 found.seats plan.target change seats image promises h);
+                (asks_for (config_recovered found) plan.entry.0 found.seats (passed_over (linux_members found) plan.entry.1) plan.target change seats image promises h);
             current = λ disk. ap (λ (c : Configuration). has_current c disk) started
                 ∙ kept_current group (config_recovered found) (Begin plan.entry.0 plan.target.element plan.target.position fresh.reference fresh.start) (λ reference member. refl) sequence disk;
             members = λ reference. ap (λ (c : Configuration). is_current c.members reference) started
@@ -155,5 +157,5 @@ module _ (group : List ℕ) (found : GroupValue) (timestamp : ℕ) (word : List 
             first = λ array there.
                 first_begun (config_recovered found) plan.entry.0 plan.target.element plan.target.position fresh.reference fresh.start sequence plan.entry.1 array found_entry
                 (ap (λ (c : Configuration). lookup (same_guid plan.entry.0) c.arrays) (sym started) ∙ there)
-                (first_fresh (config_recovered found) plan.entry.0 found.seats plan.target change plan.entry.1 found_entry h);
+                (first_fresh (config_recovered found) plan.entry.0 found.seats (passed_over (linux_members found) plan.entry.1) plan.target change plan.entry.1 found_entry h);
           }

@@ -36,7 +36,9 @@ use Rattle.ddf_data_calls.specs.Calls.{AdmitsCall, KeepsBoth}
 use Rattle.ddf_data_calls.specs.Floors.{AllHaveFloors, HaveFloorsIn}
 use Rattle.ddf_data_calls.proofs.Called.{TookGroup, keeps_both as keeps_unchanged}
 use Rattle.ddf_rebuild_command.specs.Along.{ComesAlong, HasCome, IsOverRounds}
+use Rattle.ddf_group_commands.specs.Requests.{linux_found, linux_members}
 use Rattle.ddf_rebuild_command.specs.Asked.{rebuild_asked, rebuild_changes, rebuild_refusals, rebuild_request, rebuild_unless}
+use Rattle.ddf_rebuild_command.specs.PassedOver.{passed_over}
 use Rattle.ddf_rebuild_command.specs.Planned.{BeginsAt, IsIdle, IsPlanned}
 use Rattle.ddf_rebuild_command.specs.Rebuilt.{HasRebuiltArray}
 use Rattle.ddf_rebuild_command.specs.Rounds.{Round, steps_of}
@@ -177,18 +179,18 @@ module _ {D : Type 0} (group : List ℕ) (old new : BayState D) (past : Past (gr
 never_idle : (found : GroupValue) (timestamp : ℕ) (word : List ℕ) → IsPlanned found timestamp word → IsIdle found timestamp word → ⊥
 never_idle found timestamp word plan idle =
     let same : plan.entry ≡ idle.entry = same_entry (sym plan.is_named ∙ idle.is_named) in
-    subst (BeginsAt plan.entry plan.target plan.kept plan.before) (ap (λ (entry : Entry). begun (config_recovered found) entry.0 found.seats) same ∙ idle.nothing) plan.begins
+    subst (BeginsAt plan.entry plan.target plan.kept plan.before) (ap (λ (entry : Entry). begun (config_recovered found) entry.0 found.seats (passed_over (linux_members found) entry.1)) same ∙ idle.nothing) plan.begins
 
 -- where each is nothing is asked of the group
-idle_asks : (found : GroupValue) (timestamp : ℕ) (word : List ℕ) (idle : IsIdle found timestamp word) (steps : List Step) → steps_asked found timestamp (rebuild_request word) ≡ Ok steps
-    → rebuild_request word (config_recovered found) found.seats ≡ Ok []
+idle_asks : (found : GroupValue) (timestamp : ℕ) (word : List ℕ) (idle : IsIdle found timestamp word) (steps : List Step) → steps_asked found timestamp (rebuild_request word (linux_members found)) ≡ Ok steps
+    → rebuild_request word (linux_members found) (config_recovered found) found.seats ≡ Ok []
 idle_asks found timestamp word idle steps are_asked =
-    ap (rebuild_asked (config_recovered found) found.seats) idle.is_named
+    ap (rebuild_asked (config_recovered found) found.seats (linux_members found)) idle.is_named
     ∙ by (first_refusal (rebuild_refusals (config_recovered found) found.seats idle.entry))
-    (subst (λ (entry : Option Entry). steps_by found timestamp (rebuild_asked (config_recovered found) found.seats entry) ≡ Ok steps) idle.is_named are_asked)
+    (subst (λ (entry : Option Entry). steps_by found timestamp (rebuild_asked (config_recovered found) found.seats (linux_members found) entry) ≡ Ok steps) idle.is_named are_asked)
   where
-    by : (refusal : Option Refusal) → steps_by found timestamp (rebuild_unless (config_recovered found) found.seats idle.entry refusal) ≡ Ok steps
-        → rebuild_unless (config_recovered found) found.seats idle.entry refusal ≡ Ok []
+    by : (refusal : Option Refusal) → steps_by found timestamp (rebuild_unless (config_recovered found) found.seats (linux_members found) idle.entry refusal) ≡ Ok steps
+        → rebuild_unless (config_recovered found) found.seats (linux_members found) idle.entry refusal ≡ Ok []
     by None is = ap (rebuild_changes found.seats idle.entry) idle.nothing
     by (Some refusal) is = absurd cc
 
@@ -208,7 +210,7 @@ module _ {D : Type 0} (tells : Type 0) (told : tells) (old new : BayState D) (gr
     (only_now : (image : Image) → old.left_since old.moment image → IsLeft old.may_hold image) (counts_old : (t : ℕ) (image : Image) → t ≤ old.moment → IsLeft old.may_hold image → old.left_since t image)
     (counts_new : (t : ℕ) (image : Image) → t ≤ new.moment → IsLeft new.may_hold image → new.left_since t image)
     (whole : (image : Image) → IsLeft new.may_hold image → AreSectors image) (told_since : (t : ℕ) (image : Image) → new.left_since t image → new.tells_left)
-    (steps : List Step) (are_asked : steps_asked found timestamp (rebuild_request word) ≡ Ok steps) where
+    (steps : List Step) (are_asked : steps_asked found timestamp (rebuild_request word (linux_members found)) ≡ Ok steps) where
   called : IsCalled group old past floor promises rebuilt.taken.left rebuilt.taken.newest named found
   called = record {
     small = small;
@@ -253,6 +255,9 @@ module _ {D : Type 0} (tells : Type 0) (told : tells) (old new : BayState D) (gr
 
   -- where the group was recovered, no more
   module _ (idle : IsIdle found timestamp word) where
+    taken_asks : steps_asked found timestamp (rebuild_request word rebuilt.linux) ≡ Ok steps
+    taken_asks = subst (λ (linux : List ℕ). steps_asked found timestamp (rebuild_request word linux) ≡ Ok steps) (sym (rebuilt.are_its ∙ ap linux_found is_found)) are_asked
+
     idle_took : TookGroup old new rebuilt.taken.left rebuilt.taken.newest named found steps outcome
     idle_took = record {
       every_slot = rebuilt.taken.every_slot;
@@ -267,18 +272,18 @@ module _ {D : Type 0} (tells : Type 0) (told : tells) (old new : BayState D) (gr
                 (⊎_elim (λ writing. inr writing.1) (λ way. absurd (never_idle found timestamp word way.plan idle))) may)
                 (left_of.since t image le was_left);
           };
-      keeps = rebuilt.taken.keeps told found is_found steps are_asked;
+      keeps = rebuilt.taken.keeps told found is_found steps taken_asks;
     }
 
     idle_both : Both steps
     idle_both =
         keeps_unchanged group old new past floor small rebuilt.taken.left rebuilt.taken.newest named found steps outcome idle_took own admits.admitted admits.have_floors
-        timestamp (rebuild_request word) are_asked None (idle_asks found timestamp word idle steps are_asked) promises admits.all_data (λ image left. tt) admits.all_kept only_now
+        timestamp (rebuild_request word (linux_members found)) are_asked None (idle_asks found timestamp word idle steps are_asked) promises admits.all_data (λ image left. tt) admits.all_kept only_now
         (λ image later left. counts_new old.moment image later left) whole
 
     idle_floors : AllHaveFloors group past old floor → StopsLeave old new (λ image. HaveFloorsIn group past old.sizes image floor)
     idle_floors all =
-        let changes = asked_changes found timestamp (rebuild_request word) steps are_asked in
+        let changes = asked_changes found timestamp (rebuild_request word (linux_members found)) steps are_asked in
         stops_weaken (idle_took).leaves (λ image writing slot number config since stays current.
         writing_own group old past floor promises rebuilt.taken.left rebuilt.taken.newest named found called all slot number config since stays current steps
         (readied_floors found timestamp changes.0 steps changes.1) old image refl writing (all slot number config since stays current (writing.before slot) (λ l. writing.is_left slot l)))

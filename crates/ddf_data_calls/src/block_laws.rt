@@ -20,6 +20,7 @@ ghost use Rattle.ddf_group_commands.specs.Change.{HasChanged, Request, is_done, 
 ghost use Rattle.ddf_write_commands.specs.Planned.{IsPlanned};
 ghost use Rattle.ddf_write_commands.specs.Resync.{HasResyncedArray, resync_request};
 ghost use Rattle.ddf_write_commands.specs.Write.{HasWrittenArray, Outcome, is_written, write_request};
+ghost use Rattle.ddf_group_commands.specs.Requests.{linux_members};
 ghost use Rattle.ddf_rebuild_command.specs.Asked.{rebuild_request};
 ghost use Rattle.ddf_rebuild_command.specs.Planned.{IsPlanned as IsRebuildPlanned};
 ghost use Rattle.ddf_rebuild_command.specs.Rebuilt.{HasRebuiltArray};
@@ -140,7 +141,7 @@ pub fn a_rebuild_keeps_its_history_and_its_data<B: Bay>()
         → (old new : B) → (B.disks old).tells_left → (named : Option (List ℕ)) (timestamp : ℕ) (word : List ℕ) (outcome : Result ℕ Failure)
         → (called : HasRebuiltArray (work_of B.tells (B.disks old) (B.disks new)) named timestamp word outcome)
         → (found : GroupValue) → group_of called.taken.newest named ≡ Ok found → found.config.group ≡ group → AdmitsCall group past floor promises (B.disks old) called.taken.left found
-        → (steps : List Step) → steps_asked found timestamp (rebuild_request word) ≡ Ok steps
+        → (steps : List Step) → steps_asked found timestamp (rebuild_request word (linux_members found)) ≡ Ok steps
         → KeepsBoth group (B.disks old) (B.disks new) floor (Goes group past (is_read called.taken.left) found (changes_in found steps))
         (Ends group past (is_read called.taken.left) found (changes_in found steps) (is_done outcome)) (Stays promises) (Stays promises) }
 {}

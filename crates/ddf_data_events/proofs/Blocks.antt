@@ -18,6 +18,7 @@ use Rattle.ddf_write_commands.specs.Planned.{IsPlanned}
 use Rattle.ddf_write_commands.specs.Resync.{HasResyncedArray, resync_request}
 use Rattle.ddf_data_calls.specs.Calls.{AdmitsCall, AreBoth, KeepsBoth}
 use Rattle.ddf_data_calls.specs.Promised.{IsWrittenOf, MayBeWritten, counted}
+use Rattle.ddf_group_commands.specs.Requests.{linux_members}
 use Rattle.ddf_rebuild_command.specs.Asked.{rebuild_request}
 use Rattle.ddf_data_calls.proofs.Rebuilt as rebuilds
 use Rattle.ddf_data_calls.proofs.Rebuilt.{asked_changes}
@@ -161,4 +162,4 @@ module _ {B : Type 0} {tells : Type 0} (told : tells) (disks : B → BayState B)
         call.steps call.are_asked all.floored
 
     pub rebuild_readied : (changes : List Change) × (readied call.finds.found changes call.timestamp ≡ Ok call.steps)
-    rebuild_readied = asked_changes call.finds.found call.timestamp (rebuild_request call.word) call.steps call.are_asked
+    rebuild_readied = asked_changes call.finds.found call.timestamp (rebuild_request call.word (linux_members call.finds.found)) call.steps call.are_asked

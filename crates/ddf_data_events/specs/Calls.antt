@@ -26,6 +26,7 @@ use Rattle.ddf_group_commands.specs.Change.{HasChanged, Request, is_done, steps_
 use Rattle.ddf_write_commands.specs.Planned.{IsPlanned}
 use Rattle.ddf_write_commands.specs.Resync.{HasResyncedArray, resync_request}
 use Rattle.ddf_write_commands.specs.Write.{HasWrittenArray, Outcome, is_written, write_request}
+use Rattle.ddf_group_commands.specs.Requests.{linux_members}
 use Rattle.ddf_rebuild_command.specs.Asked.{rebuild_request}
 use Rattle.ddf_rebuild_command.specs.Rebuilt.{HasRebuiltArray}
 use Rattle.ddf_data_calls.specs.Calls.{MayAsk}
@@ -125,7 +126,7 @@ module _ {B : Type 0} {tells : Type 0} (told : tells) (disks : B → BayState B)
     pub rebuilt : HasRebuiltArray (work_of tells (disks old.bay) (disks exit)) named timestamp word outcome
     pub finds : Finds old rebuilt.taken.left rebuilt.taken.newest named
     pub steps : List Step
-    pub are_asked : steps_of finds.found timestamp (rebuild_request word) ≡ Ok steps
+    pub are_asked : steps_of finds.found timestamp (rebuild_request word (linux_members finds.found)) ≡ Ok steps
 
   -- ---- a command by which another group joins
 

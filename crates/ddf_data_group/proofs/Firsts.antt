@@ -1,5 +1,5 @@
 -- A rebuild takes the positions of an element in order: the one that it rebuilds is the first that is out of sync.
-use Rattle.std.proofs.Common.{◌≡◌, ◌∙◌, ⊎_elim, ℕ, zero, suc, ◌+◌, ◌<◌, ◌≤◌, Bool, true, false, List, [], ◌∷◌, Option, Some, None, Result, Ok, Err, refl, sym, ap, subst, arith, map, length, slice_get, nat_eq, if◌then◌else◌}
+use Rattle.std.proofs.Common.{◌≡◌, ◌∙◌, ⊎_elim, ℕ, zero, suc, ◌+◌, ◌<◌, ◌≤◌, Bool, true, false, List, [], ◌∷◌, ◌++◌, Option, Some, None, Result, Ok, Err, refl, sym, ap, subst, arith, map, length, slice_get, nat_eq, if◌then◌else◌}
 use Rattle.std.specs.Prelude.{option_map}
 use Rattle.std.specs.List.{enumerate_from}
 use Rattle.std.specs.Map.{lookup}
@@ -59,7 +59,7 @@ target_of (Ok (Fresh target change)) = Some target
 target_of (Ok (Again target)) = Some target
 target_of (Err fault) = None
 
-module _ (config : Configuration) (guid : List ℕ) (seats : List Seat) (target : Target) where
+module _ (config : Configuration) (guid : List ℕ) (seats : List Seat) (aside : List ℕ) (target : Target) where
   out_is : (used : List ℕ) (out : _) → target_of (begun_at config guid seats used out) ≡ Some target → out.target ≡ target
   unfolding target_of
   out_is used out h = by (is_current config.members out.reference) (spares_for guid seats used config.members) h
@@ -75,29 +75,29 @@ module _ (config : Configuration) (guid : List ℕ) (seats : List Seat) (target 
           by_extent None h = absurd (cc)
           by_extent (Some one) h = some_is h
 
-  first_taken : (arr : Array) → lookup (same_guid guid) config.arrays ≡ Some arr → target_of (begun config guid seats) ≡ Some target → IsFirstOf arr target.element target.position
+  first_taken : (arr : Array) → lookup (same_guid guid) config.arrays ≡ Some arr → target_of (begun config guid seats aside) ≡ Some target → IsFirstOf arr target.element target.position
   unfolding begun target_of
   first_taken arr found h =
       in_array (first_out arr) refl
-      (ap (λ (o : Option Array). target_of (elim o [ None ↦ Ok Nothing | Some array ↦ begun_in config guid seats (references array) (first_out array) ])) (sym found) ∙ h)
+      (ap (λ (o : Option Array). target_of (elim o [ None ↦ Ok Nothing | Some array ↦ begun_in config guid seats (aside ++ references array) (first_out array) ])) (sym found) ∙ h)
     where
-      in_array : (o : _) → first_out arr ≡ o → target_of (begun_in config guid seats (references arr) o) ≡ Some target → IsFirstOf arr target.element target.position
+      in_array : (o : _) → first_out arr ≡ o → target_of (begun_in config guid seats (aside ++ references arr) o) ≡ Some target → IsFirstOf arr target.element target.position
       in_array None is h = absurd (cc)
       in_array (Some out) is h =
           let place : Place = (out.target.element, out.target.position, out.reference) in
           let is_place : first_place (length arr.elements) 0 arr.elements ≡ Some place = rw (is, first_place, first_out) refl in
-          let same = out_is (references arr) out h in
+          let same = out_is (aside ++ references arr) out h in
           subst (λ (t : Target). IsFirstOf arr t.element t.position) same (placed_first arr place is_place)
 
-pub first_again : (config : Configuration) (guid : List ℕ) (seats : List Seat) (target : Target) (arr : Array) → lookup (same_guid guid) config.arrays ≡ Some arr → begun config guid seats ≡ Ok (Again target)
+pub first_again : (config : Configuration) (guid : List ℕ) (seats : List Seat) (aside : List ℕ) (target : Target) (arr : Array) → lookup (same_guid guid) config.arrays ≡ Some arr → begun config guid seats aside ≡ Ok (Again target)
     → IsFirstOf arr target.element target.position
 unfolding target_of
-first_again config guid seats target arr found h = first_taken config guid seats target arr found (ap target_of h)
+first_again config guid seats aside target arr found h = first_taken config guid seats aside target arr found (ap target_of h)
 
-pub first_fresh : (config : Configuration) (guid : List ℕ) (seats : List Seat) (target : Target) (change : Change) (arr : Array) → lookup (same_guid guid) config.arrays ≡ Some arr
-    → begun config guid seats ≡ Ok (Fresh target change) → IsFirstOf arr target.element target.position
+pub first_fresh : (config : Configuration) (guid : List ℕ) (seats : List Seat) (aside : List ℕ) (target : Target) (change : Change) (arr : Array) → lookup (same_guid guid) config.arrays ≡ Some arr
+    → begun config guid seats aside ≡ Ok (Fresh target change) → IsFirstOf arr target.element target.position
 unfolding target_of
-first_fresh config guid seats target change arr found h = first_taken config guid seats target arr found (ap target_of h)
+first_fresh config guid seats aside target change arr found h = first_taken config guid seats aside target arr found (ap target_of h)
 
 -- ---- it stays the first as its rebuild begins and goes on
 

@@ -1,5 +1,5 @@
 -- The position at which a rebuild begins is out of sync, on a disk that is no current member's.
-use Rattle.std.proofs.Common.{◌≡◌, ◌∙◌, ℕ, zero, suc, ◌+◌, ◌<◌, Bool, true, false, not, List, [], ◌∷◌, Option, Some, None, Result, Ok, cond, find, refl, sym, ap, subst, arith, length, slice_get}
+use Rattle.std.proofs.Common.{◌≡◌, ◌∙◌, ℕ, zero, suc, ◌+◌, ◌<◌, Bool, true, false, not, List, [], ◌∷◌, ◌++◌, Option, Some, None, Result, Ok, cond, find, refl, sym, ap, subst, arith, length, slice_get}
 use Rattle.std.specs.List.{enumerate_from}
 use Rattle.std.specs.Map.{lookup}
 use Rattle.ddf_bay.specs.Sectors.{Image}
@@ -126,16 +126,16 @@ out_first elements n (Some plan ∷ parts) at h = by (out_in plan) refl (out_fir
           same_reference = ap (λ (p : Place). p.2) (sym same);
         }
 
-module _ (config : Configuration) (guid : List ℕ) (seats : List Seat) (target : Target) (change : Change) where
+module _ (config : Configuration) (guid : List ℕ) (seats : List Seat) (aside : List ℕ) (target : Target) (change : Change) where
   other_by : (b : Bool) (again : Target) (rest : Result Begun RebuildFault) → ◌≡◌ {A = Result Begun RebuildFault} (cond b (Ok (Again again)) rest) (Ok (Fresh target change)) → b ≡ false
   other_by true again rest h = absurd (cc)
   other_by false again rest h = refl
 
-  not_current : (h : begun config guid seats ≡ Ok (Fresh target change)) → is_current config.members (is_fresh config guid seats target change h).out.reference ≡ false
+  not_current : (h : begun config guid seats aside ≡ Ok (Fresh target change)) → is_current config.members (is_fresh config guid seats aside target change h).out.reference ≡ false
   unfolding begun
   not_current h =
-      let fresh = is_fresh config guid seats target change h in
-      other_by (is_current config.members fresh.out.reference) fresh.out.target (onto_any config guid seats fresh.out (spares_for guid seats (references fresh.array) config.members)) (rw (fresh.is_array, fresh.is_out, begun, begun_in, begun_at) at h)
+      let fresh = is_fresh config guid seats aside target change h in
+      other_by (is_current config.members fresh.out.reference) fresh.out.target (onto_any config guid seats fresh.out (spares_for guid seats (aside ++ references fresh.array) config.members)) (rw (fresh.is_array, fresh.is_out, begun, begun_in, begun_at) at h)
 
   same_array : (o : Option Array) (one other : Array) → o ≡ Some one → o ≡ Some other → one ≡ other
   same_array None one other a b = absurd (cc)
@@ -145,9 +145,9 @@ module _ (config : Configuration) (guid : List ℕ) (seats : List Seat) (target 
   same_item None one other a b = absurd (cc)
   same_item (Some x) one other a b = cc
 
-  pub asks_for : (all : List Seat) (image : Image) (promises : Promises) → begun config guid seats ≡ Ok (Fresh target change) → MayChange config all image promises change
+  pub asks_for : (all : List Seat) (image : Image) (promises : Promises) → begun config guid seats aside ≡ Ok (Fresh target change) → MayChange config all image promises change
   asks_for all image promises h =
-      let fresh = is_fresh config guid seats target change h in
+      let fresh = is_fresh config guid seats aside target change h in
       let place : Place = (fresh.out.target.element, fresh.out.target.position, fresh.out.reference) in
       let is_place : first_place (length fresh.array.elements) 0 fresh.array.elements ≡ Some place = rw (fresh.is_out, first_place, first_out) refl in
       let first = out_first (length fresh.array.elements) 0 fresh.array.elements place is_place in

@@ -146,16 +146,16 @@ pub fn a_view_over_all_members_lacks_no_disk()
 
 /// The change by which a rebuild begins has what it asks for: its position is out of sync, on a disk that is no current member's.
 pub fn a_rebuild_that_begins_has_what_it_asks_for()
-    ensures { (config : Configuration) (guid : List ℕ) (seats : List Seat) (target : Target) (change : Change) (all : List Seat) (image : Image) (promises : Promises)
-        → begun config guid seats ≡ Ok (Fresh target change) → MayChange config all image promises change }
+    ensures { (config : Configuration) (guid : List ℕ) (seats : List Seat) (aside : List ℕ) (target : Target) (change : Change) (all : List Seat) (image : Image) (promises : Promises)
+        → begun config guid seats aside ≡ Ok (Fresh target change) → MayChange config all image promises change }
 {}
 
 /// A rebuild takes the positions of an element in order: no earlier one is out of sync, neither as it begins nor as it goes on.
 pub fn a_rebuild_takes_the_first_position()
-    ensures fresh { (config : Configuration) (guid : List ℕ) (seats : List Seat) (target : Target) (change : Change) (array : Array)
-        → lookup (same_guid guid) config.arrays ≡ Some array → begun config guid seats ≡ Ok (Fresh target change) → IsFirstOf array target.element target.position }
-    ensures again { (config : Configuration) (guid : List ℕ) (seats : List Seat) (target : Target) (array : Array)
-        → lookup (same_guid guid) config.arrays ≡ Some array → begun config guid seats ≡ Ok (Again target) → IsFirstOf array target.element target.position }
+    ensures fresh { (config : Configuration) (guid : List ℕ) (seats : List Seat) (aside : List ℕ) (target : Target) (change : Change) (array : Array)
+        → lookup (same_guid guid) config.arrays ≡ Some array → begun config guid seats aside ≡ Ok (Fresh target change) → IsFirstOf array target.element target.position }
+    ensures again { (config : Configuration) (guid : List ℕ) (seats : List Seat) (aside : List ℕ) (target : Target) (array : Array)
+        → lookup (same_guid guid) config.arrays ≡ Some array → begun config guid seats aside ≡ Ok (Again target) → IsFirstOf array target.element target.position }
     ensures begins { (config : Configuration) (guid : List ℕ) (element position reference start sequence : ℕ) (before after : Array)
         → lookup (same_guid guid) config.arrays ≡ Some before
         → lookup (same_guid guid) (changed_at config (Begin guid element position reference start) sequence).arrays ≡ Some after

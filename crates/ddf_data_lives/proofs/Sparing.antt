@@ -39,7 +39,9 @@ use Rattle.ddf_request.specs.Named.{named_array}
 use Rattle.ddf_group_commands.specs.Change.{Request, steps_asked, steps_of}
 use Rattle.ddf_group_commands.proofs.Outcomes.{asked_of as asked_readied}
 use Rattle.ddf_write_commands.specs.Planned.{Entry, unless_refused}
+use Rattle.ddf_group_commands.specs.Requests.{linux_members}
 use Rattle.ddf_rebuild_command.specs.Asked.{bad_spare, changes_behind, kept_in, rebuild_asked, rebuild_changes, rebuild_refusals, rebuild_request, rebuild_unless, rows_in}
+use Rattle.ddf_rebuild_command.specs.PassedOver.{passed_over}
 use Rattle.ddf_rebuild_command.specs.Notes.{notes}
 use Rattle.ddf_rebuild_command.proofs.Targets.{is_fresh_at}
 use Rattle.ddf_history_life.specs.Commands.{KeepDisk}
@@ -175,15 +177,18 @@ module _ (disk : Disk) where
     noted_spare guid target (row ∷ rows) = (refl, noted_spare guid target rows)
 
     module _ (steps : List Step) where
-      fresh_keeps : (entry : Entry) (target : Target) (change : Change) → begun (config_recovered found) entry.0 found.seats ≡ Ok (Fresh target change) → (refusal : Option Refusal)
+      abbrev aside_of : Entry → List ℕ
+      aside_of entry = passed_over (linux_members found) entry.1
+
+      fresh_keeps : (entry : Entry) (target : Target) (change : Change) → begun (config_recovered found) entry.0 found.seats (aside_of entry) ≡ Ok (Fresh target change) → (refusal : Option Refusal)
           → steps_asked found timestamp (unless_refused (change ∷ changes_behind entry target 0) refusal) ≡ Ok steps → KeepDisk steps disk
       fresh_keeps entry target change is None are =
           answered_keep (change ∷ changes_behind entry target 0)
-          (subst (IsSpared disk) (sym (is_fresh_at (config_recovered found) entry.0 found.seats target change is).change_is) refl, noted_spare entry.0 target (notes 0 (rows_in entry.1 target.element)))
+          (subst (IsSpared disk) (sym (is_fresh_at (config_recovered found) entry.0 found.seats _ target change is).change_is) refl, noted_spare entry.0 target (notes 0 (rows_in entry.1 target.element)))
           steps are
       fresh_keeps entry target change is (Some refusal) are = absurd cc
 
-      begun_keep : (entry : Entry) (answer : Result Begun RebuildFault) → begun (config_recovered found) entry.0 found.seats ≡ answer
+      begun_keep : (entry : Entry) (answer : Result Begun RebuildFault) → begun (config_recovered found) entry.0 found.seats (aside_of entry) ≡ answer
           → steps_asked found timestamp (rebuild_changes found.seats entry answer) ≡ Ok steps → KeepDisk steps disk
       begun_keep entry (Ok Nothing) is are = answered_keep [] tt steps are
       begun_keep entry (Ok (Again target)) is are =
@@ -193,13 +198,13 @@ module _ (disk : Disk) where
       begun_keep entry (Err (faults.Small needed has)) is are = absurd cc
       begun_keep entry (Err faults.Memory) is are = answered_keep [] tt steps are
 
-      unless_keep : (entry : Entry) (refusal : Option Refusal) → steps_asked found timestamp (rebuild_unless (config_recovered found) found.seats entry refusal) ≡ Ok steps → KeepDisk steps disk
-      unless_keep entry None are = begun_keep entry (begun (config_recovered found) entry.0 found.seats) refl are
+      unless_keep : (entry : Entry) (refusal : Option Refusal) → steps_asked found timestamp (rebuild_unless (config_recovered found) found.seats (linux_members found) entry refusal) ≡ Ok steps → KeepDisk steps disk
+      unless_keep entry None are = begun_keep entry (begun (config_recovered found) entry.0 found.seats (aside_of entry)) refl are
       unless_keep entry (Some refusal) are = absurd cc
 
-      entry_keeps : (named : Option Entry) → steps_asked found timestamp (rebuild_asked (config_recovered found) found.seats named) ≡ Ok steps → KeepDisk steps disk
+      entry_keeps : (named : Option Entry) → steps_asked found timestamp (rebuild_asked (config_recovered found) found.seats (linux_members found) named) ≡ Ok steps → KeepDisk steps disk
       entry_keeps None are = absurd cc
       entry_keeps (Some entry) are = unless_keep entry (first_refusal (rebuild_refusals (config_recovered found) found.seats entry)) are
 
-      pub rebuild_keeps : (word : List ℕ) → steps_of found timestamp (rebuild_request word) ≡ Ok steps → KeepDisk steps disk
+      pub rebuild_keeps : (word : List ℕ) → steps_of found timestamp (rebuild_request word (linux_members found)) ≡ Ok steps → KeepDisk steps disk
       rebuild_keeps word are = entry_keeps (named_array (config_recovered found).arrays word) are

@@ -186,10 +186,10 @@ module _ (group : List ℕ) (disks : Disks) (apart : AreApart disks) (guid : Lis
   changes_are OfSecond = ap (λ (rows : List ℕ). Ok (changes.Begin guid 0 1 disks.fourth.reference 0 ∷ map (λ row. changes.Progress guid 0 1 row) rows ++ changes.Finish guid 0 1 ∷ [])) no_notes
   changes_are OfThird = ap (λ (rows : List ℕ). Ok (changes.Begin guid 0 2 disks.fifth.reference 0 ∷ map (λ row. changes.Progress guid 0 2 row) rows ++ changes.Finish guid 0 2 ∷ [])) no_notes
 
-  pub rebuilds : (loss : Loss) → rebuild_request word (lost group disks guid loss sequence) (seats_at disks (turn_behind loss))
+  pub rebuilds : (linux : List ℕ) (loss : Loss) → rebuild_request word linux (lost group disks guid loss sequence) (seats_at disks (turn_behind loss))
       ≡ Ok (changes.Begin guid 0 (lost_position loss) (spare_disk disks loss) 0 ∷ changes.Finish guid 0 (lost_position loss) ∷ [])
-  rebuilds loss =
-      ap (rebuild_asked (lost group disks guid loss sequence) (seats_at disks (turn_behind loss))) (used.is_named guid (positions_lost disks loss) 1 2)
-      ∙ ap (rebuild_unless (lost group disks guid loss sequence) (seats_at disks (turn_behind loss)) (guid, array (positions_lost disks loss) 1 2)) (none_refuses loss)
-      ∙ ap (rebuild_changes (seats_at disks (turn_behind loss)) (guid, array (positions_lost disks loss) 1 2)) (spares.begins_so group disks apart guid sequence loss)
+  rebuilds linux loss =
+      ap (rebuild_asked (lost group disks guid loss sequence) (seats_at disks (turn_behind loss)) linux) (used.is_named guid (positions_lost disks loss) 1 2)
+      ∙ ap (rebuild_unless (lost group disks guid loss sequence) (seats_at disks (turn_behind loss)) linux (guid, array (positions_lost disks loss) 1 2)) (none_refuses loss)
+      ∙ ap (rebuild_changes (seats_at disks (turn_behind loss)) (guid, array (positions_lost disks loss) 1 2)) (spares.begins_beside group disks apart guid sequence linux loss)
       ∙ changes_are loss

@@ -22,6 +22,7 @@ use Rattle.ddf_repair.specs.declared.beginning.RebuildFault.TheVariants.{Small}
 use Rattle.ddf_repair.specs.Begin.{begun as begins, begun_in, onto_any}
 use Rattle.ddf_repair.specs.First.{first_out, out_at}
 use Rattle.ddf_repair.specs.Spares.{can_stand_in, extent_on, first_extent, is_spare_of, limit_on, most_of, spares_for, taken_on}
+use Rattle.ddf_rebuild_command.specs.PassedOver.{passed_over}
 use Rattle.ddf_exercise_config.specs.Disks.{AreApart, Disks, room}
 use Rattle.ddf_exercise_config.specs.Stages.{array, element, group_with, lost, lost_position, member, members, position, positions_lost, seats_at, spare_disk}
 use Rattle.ddf_exercise_config.specs.Turns.{Loss, turn_behind}
@@ -66,7 +67,7 @@ module _ (group guid : List ℕ) (sequence : ℕ) (table : List (ℕ × Member))
 
   pub begins_on_spare : first_out one ≡ Some (out_at 1 0 (element (p ∷ q ∷ r ∷ [])) (number, out)) → is_current table out.reference ≡ false → spares_for guid seats (p.reference ∷ q.reference ∷ r.reference ∷ []) table ≡ reference ∷ others
       → first_extent table (extents ((guid, one) ∷ [])) seats 8 4096 (reference ∷ others) ≡ Some (record { reference = reference; start = 0; blocks = 4096 })
-      → begins config guid seats ≡ Ok (Fresh (record { element = 0; position = number }) (Begin guid 0 number reference 0))
+      → begins config guid seats [] ≡ Ok (Fresh (record { element = 0; position = number }) (Begin guid 0 number reference 0))
   unfolding begins
   begins_on_spare first missing spares found =
       ap (λ (l : Option Array). elim l [ None ↦ Ok Nothing | Some it ↦ begun_in config guid seats (references it) (first_out it) ]) is_there
@@ -120,7 +121,7 @@ module _ (group : List ℕ) (disks : Disks) (apart : AreApart disks) (guid : Lis
   was_lost : is_current table disks.second.reference ≡ false
   was_lost = simp (is_current, tables.at_second disks apart true false Global Global)
 
-  begins_first : begins (lost group disks guid OfSecond sequence) guid (seats_at disks Middle) ≡ Ok (Fresh (record { element = 0; position = 1 }) (Begin guid 0 1 disks.fourth.reference 0))
+  begins_first : begins (lost group disks guid OfSecond sequence) guid (seats_at disks Middle) [] ≡ Ok (Fresh (record { element = 0; position = 1 }) (Begin guid 0 1 disks.fourth.reference 0))
   begins_first = begins_on_spare group guid sequence table (seats_at disks Middle) (position disks.first true) (position disks.second false) (position disks.third true) 1 (position disks.second false) used disks.fourth.reference (disks.fifth.reference ∷ []) refl was_lost spares_are found
 
   -- ---- the third disk is lost
@@ -164,9 +165,17 @@ module _ (group : List ℕ) (disks : Disks) (apart : AreApart disks) (guid : Lis
   was_lost_then : is_current table_then disks.third.reference ≡ false
   was_lost_then = simp (is_current, tables.at_third disks apart true true No Global)
 
-  begins_second : begins (lost group disks guid OfThird sequence) guid (seats_at disks Closing) ≡ Ok (Fresh (record { element = 0; position = 2 }) (Begin guid 0 2 disks.fifth.reference 0))
+  begins_second : begins (lost group disks guid OfThird sequence) guid (seats_at disks Closing) [] ≡ Ok (Fresh (record { element = 0; position = 2 }) (Begin guid 0 2 disks.fifth.reference 0))
   begins_second = begins_on_spare group guid sequence table_then (seats_at disks Closing) (position disks.first true) (position disks.fourth true) (position disks.third false) 2 (position disks.third false) used_then disks.fifth.reference [] refl was_lost_then spares_then found_then
 
-  pub begins_so : (loss : Loss) → begins (lost group disks guid loss sequence) guid (seats_at disks (turn_behind loss)) ≡ Ok (Fresh (record { element = 0; position = lost_position loss }) (Begin guid 0 (lost_position loss) (spare_disk disks loss) 0))
+  begins_so : (loss : Loss) → begins (lost group disks guid loss sequence) guid (seats_at disks (turn_behind loss)) [] ≡ Ok (Fresh (record { element = 0; position = lost_position loss }) (Begin guid 0 (lost_position loss) (spare_disk disks loss) 0))
   begins_so OfSecond = begins_first
   begins_so OfThird = begins_second
+
+  -- Linux takes the array for no other layout: no disk is passed over
+  none_passed : (linux : List ℕ) (positions : List Position) → passed_over linux (array positions 1 2) ≡ []
+  unfolding passed_over
+  none_passed linux positions = refl
+
+  pub begins_beside : (linux : List ℕ) (loss : Loss) → begins (lost group disks guid loss sequence) guid (seats_at disks (turn_behind loss)) (passed_over linux (array (positions_lost disks loss) 1 2)) ≡ Ok (Fresh (record { element = 0; position = lost_position loss }) (Begin guid 0 (lost_position loss) (spare_disk disks loss) 0))
+  begins_beside linux loss = ap (begins (lost group disks guid loss sequence) guid (seats_at disks (turn_behind loss))) (none_passed linux (positions_lost disks loss)) ∙ begins_so loss

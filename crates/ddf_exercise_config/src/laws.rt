@@ -34,6 +34,7 @@ ghost use Rattle.ddf_write_commands.specs.Resync.{resync_request};
 ghost use Rattle.ddf_write_commands.specs.Write.{write_request};
 ghost use Rattle.ddf_rebuild_command.specs.Notes.{notes};
 ghost use Rattle.ddf_rebuild_command.specs.Asked.{rebuild_request, rows_in};
+ghost use Rattle.ddf_rebuild_command.specs.PassedOver.{passed_over};
 ghost use Rattle.ddf_exercise_config.specs.Disks.{AreApart, AreNamed, Disks};
 ghost use Rattle.ddf_exercise_config.specs.Founded.{new_disks};
 ghost use Rattle.ddf_exercise_config.specs.Makes.{Makes};
@@ -104,10 +105,10 @@ pub fn a_loss_leaves_the_array_degraded()
 
 /// A rebuild puts the spare in the place of the lost disk, and at its end the array is whole.
 pub fn a_rebuild_makes_the_array_whole()
-    ensures asks { (group : List ℕ) (disks : Disks) (guid : List ℕ) (loss : Loss) (sequence : ℕ) → AreApart disks → rebuild_request word (lost group disks guid loss sequence) (seats_at disks (turn_behind loss))
+    ensures asks { (linux : List ℕ) (group : List ℕ) (disks : Disks) (guid : List ℕ) (loss : Loss) (sequence : ℕ) → AreApart disks → rebuild_request word linux (lost group disks guid loss sequence) (seats_at disks (turn_behind loss))
         ≡ Ok (Begin guid 0 (lost_position loss) (spare_disk disks loss) 0 ∷ Finish guid 0 (lost_position loss) ∷ []) }
-    ensures takes { (group : List ℕ) (disks : Disks) (guid : List ℕ) (loss : Loss) (sequence : ℕ) → AreApart disks → begins (lost group disks guid loss sequence) guid (seats_at disks (turn_behind loss))
-        ≡ Ok (Fresh (record { element = 0; position = lost_position loss }) (Begin guid 0 (lost_position loss) (spare_disk disks loss) 0)) }
+    ensures takes { (linux : List ℕ) (group : List ℕ) (disks : Disks) (guid : List ℕ) (loss : Loss) (sequence : ℕ) → AreApart disks
+        → begins (lost group disks guid loss sequence) guid (seats_at disks (turn_behind loss)) (passed_over linux (array (positions_lost disks loss) degraded wholly)) ≡ Ok (Fresh (record { element = 0; position = lost_position loss }) (Begin guid 0 (lost_position loss) (spare_disk disks loss) 0)) }
     ensures rows { (disks : Disks) (loss : Loss) → rows_in (array (positions_lost disks loss) degraded wholly) 0 ≡ 512 }
     ensures no_notes { notes 0 512 ≡ [] }
     ensures begins { (group : List ℕ) (disks : Disks) (guid : List ℕ) (loss : Loss) (sequence : ℕ) → AreApart disks → sequence + 1 ≤ greatest_sequence

@@ -41,6 +41,7 @@ use Rattle.ddf_read_commands.specs.Read.{AreBlocks, IsReadDone, IsReadIn, IsRead
 use Rattle.ddf_read_commands.specs.Read.{Outcome as ReadOutcome}
 use Rattle.ddf_read_commands.specs.Read.Outcome.{CutShort, NotRead, Stopped, Whole}
 use Rattle.ddf_read_commands.specs.Scrub.{IsArrayScrubbed, IsScrubDone, IsScrubIn, IsScrubOf, IsScrubTold, scrub_refusal, scrub_text}
+use Rattle.ddf_group_commands.specs.Requests.{linux_members}
 use Rattle.ddf_rebuild_command.specs.Asked.{rebuild_request}
 use Rattle.ddf_rebuild_command.specs.Rounds.{steps_of as steps_in_rounds}
 use Rattle.ddf_rebuild_command.specs.Rebuilt.{IsRebuildDone, IsRebuiltIn, IsRebuiltOf, IsArrayRebuilt, IsArrayInSync}
@@ -244,22 +245,22 @@ module _ {D : Type 0} (work : Work D) (answer : Answer) (told : answer.tells) (f
   HasFilled =
       IsArrayRebuilt work found timestamp word (last_sequence found.config.sequence steps) ⊎ IsArrayInSync work found timestamp word (last_sequence found.config.sequence steps)
 
-  module _ (are : steps_of found timestamp (rebuild_request word) ≡ Ok steps) where
+  module _ (are : steps_of found timestamp (rebuild_request word (linux_members found)) ≡ Ok steps) where
     abbrev filled_text : List ℕ
     filled_text = sequence_line (last_sequence found.config.sequence steps)
 
     filled_last : (sequence : ℕ) → IsArrayRebuilt work found timestamp word sequence ⊎ IsArrayInSync work found timestamp word sequence → sequence ≡ last_sequence found.config.sequence steps
     filled_last sequence (inl rebuilt) =
         rebuilt.is_last
-        ∙ ap (last_sequence found.config.sequence) (same_steps (steps_of found timestamp (rebuild_request word)) steps (rebuilt.plan.first ++ steps_in_rounds rebuilt.plan.rounds) are rebuilt.plan.are_asked)
-    filled_last sequence (inr idle) = done_last work answer told found timestamp (rebuild_request word) steps are calm sequence idle.recovered
+        ∙ ap (last_sequence found.config.sequence) (same_steps (steps_of found timestamp (rebuild_request word (linux_members found))) steps (rebuilt.plan.first ++ steps_in_rounds rebuilt.plan.rounds) are rebuilt.plan.are_asked)
+    filled_last sequence (inr idle) = done_last work answer told found timestamp (rebuild_request word (linux_members found)) steps are calm sequence idle.recovered
 
     rebuild_by : (outcome : Result ℕ Failure) → IsRebuiltOf work found timestamp word outcome → IsToldChange outcome answer → EndsWell answer filled_text HasFilled
     rebuild_by (Ok sequence) rebuilt ends =
         let last = filled_last sequence rebuilt in
         closes answer told filled_text (subst (λ (number : ℕ). IsArrayRebuilt work found timestamp word number ⊎ IsArrayInSync work found timestamp word number) last rebuilt)
         (subst (λ (number : ℕ). ClosesWith 0 (sequence_line number) answer) last ends)
-    rebuild_by (Err (Refused refusal)) rebuilt ends = absurd (not_refused (steps_of found timestamp (rebuild_request word)) steps (Refused refusal) are rebuilt.0)
+    rebuild_by (Err (Refused refusal)) rebuilt ends = absurd (not_refused (steps_of found timestamp (rebuild_request word (linux_members found))) steps (Refused refusal) are rebuilt.0)
     rebuild_by (Err (Disk slot)) (inl fault) ends = absurd (calm slot fault.is_seat (inr fault.rose))
     rebuild_by (Err (Disk slot)) (inr stopped) ends = absurd (calm slot stopped.is_seat (inl stopped.none_left.none_left.this_failed))
     rebuild_by (Err (Conflict i j sequence differ)) rebuilt ends = absurd rebuilt

@@ -31,7 +31,9 @@ use Rattle.ddf_request.specs.Named.{named_array}
 use Rattle.ddf_group_commands.specs.Costs.{steps_sectors}
 use Rattle.ddf_write_commands.specs.Around.{config_behind}
 use Rattle.ddf_write_commands.specs.Planned.{Entry}
+use Rattle.ddf_group_commands.specs.Requests.{linux_members}
 use Rattle.ddf_rebuild_command.specs.Asked.{rebuild_request, rows_in}
+use Rattle.ddf_rebuild_command.specs.PassedOver.{passed_over}
 use Rattle.ddf_rebuild_command.specs.Costs.{sectors_from}
 use Rattle.ddf_rebuild_command.specs.Notes.{notes}
 use Rattle.ddf_rebuild_command.specs.Planned.{BeginsAt, IsIdle, IsPlanned, first_row}
@@ -300,11 +302,11 @@ module _ {name : List ℕ} {disks : Disks} {guid : List ℕ} {loss : Loss} {sequ
   all_ready : readied without (begins ∷ ends ∷ []) timestamp ≡ Ok all_steps
   all_ready = behind_loss (begins ∷ ends ∷ []) (both.first.steps ++ both.second.steps) both.together
 
-  pub asks : steps_of without timestamp (rebuild_request word) ≡ Ok all_steps
+  pub asks : steps_of without timestamp (rebuild_request word (linux_members without)) ≡ Ok all_steps
   asks =
-      ap (λ (config : Configuration). steps_asked without timestamp (rebuild_request word config without.seats)) recovered
-      ∙ ap (λ (all : List Seat). steps_asked without timestamp (rebuild_request word is_lost all)) without_seats
-      ∙ ap (steps_asked without timestamp) (asked.rebuilds name disks losing.apart guid (sequence + 2) loss)
+      ap (λ (config : Configuration). steps_asked without timestamp (rebuild_request word (linux_members without) config without.seats)) recovered
+      ∙ ap (λ (all : List Seat). steps_asked without timestamp (rebuild_request word (linux_members without) is_lost all)) without_seats
+      ∙ ap (steps_asked without timestamp) (asked.rebuilds name disks losing.apart guid (sequence + 2) (linux_members without) loss)
       ∙ ap steps_or all_ready
 
   -- ---- what they cost
@@ -355,12 +357,12 @@ module _ {name : List ℕ} {disks : Disks} {guid : List ℕ} {loss : Loss} {sequ
   its_entry : (entry : Entry) → named_array (config_recovered without).arrays word ≡ Some entry → entry ≡ (guid, left)
   its_entry entry named = some_same entry (guid, left) (sym named ∙ ap (λ (config : Configuration). named_array config.arrays word) recovered ∙ used.is_named guid (stages.positions_lost disks loss) 1 2)
 
-  it_begins : (entry : Entry) → named_array (config_recovered without).arrays word ≡ Some entry → begun_at (config_recovered without) entry.0 without.seats ≡ Ok (Fresh its_target begins)
+  it_begins : (entry : Entry) → named_array (config_recovered without).arrays word ≡ Some entry → begun_at (config_recovered without) entry.0 without.seats (passed_over (linux_members without) entry.1) ≡ Ok (Fresh its_target begins)
   it_begins entry named =
-      ap (λ (config : Configuration). begun_at config entry.0 without.seats) recovered
-      ∙ ap (λ (one : Entry). begun_at is_lost one.0 without.seats) (its_entry entry named)
-      ∙ ap (λ (all : List Seat). begun_at is_lost guid all) without_seats
-      ∙ spares.begins_so name disks losing.apart guid (sequence + 2) loss
+      ap (λ (config : Configuration). begun_at config entry.0 without.seats (passed_over (linux_members without) entry.1)) recovered
+      ∙ ap (λ (one : Entry). begun_at is_lost one.0 without.seats (passed_over (linux_members without) one.1)) (its_entry entry named)
+      ∙ ap (λ (all : List Seat). begun_at is_lost guid all (passed_over (linux_members without) left)) without_seats
+      ∙ spares.begins_beside name disks losing.apart guid (sequence + 2) (linux_members without) loss
 
   pub not_idle : IsIdle without timestamp word → ⊥
   not_idle idle = let both : ◌≡◌ {A = Result Begun RebuildFault} (Ok (Fresh its_target begins)) (Ok Nothing) = sym (it_begins idle.entry idle.is_named) ∙ idle.nothing in absurd (cc)

@@ -9,5 +9,6 @@ mod writing;
 
 pub use assembling::assemble_disks;
 pub use changing::change;
+pub use linux::linux_members;
 pub use showing::show;
 pub use writing::{failure_of, read_group, read_with_left_out, recovered};

@@ -52,8 +52,8 @@ fn members_on(
     Ok(members)
 }
 
-/// The members of a group on disks that Linux reads.
-pub(crate) fn linux_members(alloc: Global, group: &Group) -> Result<Vec<u32>, NoMemory>
+/// The references of those members of a group whose disks Linux reads: the copy that stands for their slot is of revision 01.02.00.
+pub fn linux_members(alloc: Global, group: &Group) -> Result<Vec<u32>, NoMemory>
     ensures { IfOk result (λ members. members.items ≡ linux_members group.now) }
 {
     let members = members_on(alloc, group.newest(), group.seats())?;

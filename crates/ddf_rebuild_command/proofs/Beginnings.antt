@@ -12,15 +12,15 @@ use Rattle.ddf_write_commands.specs.Planned.{Entry}
 use Rattle.ddf_rebuild_command.specs.Asked.{kept_in}
 use Rattle.ddf_rebuild_command.specs.Planned.{BeginsAt}
 
-pub data Beginning (config : Configuration) (seats : List Seat) (entry : Entry) (target : Target) (kept : ℕ) (before : List Change) : Type 0 where
-  goes_on : begun config entry.0 seats ≡ Ok (Again target) → kept ≡ kept_in entry.1 target → before ≡ [] → Beginning config seats entry target kept before
-  spares : (change : Change) → begun config entry.0 seats ≡ Ok (Fresh target change) → kept ≡ 0 → before ≡ change ∷ [] → Beginning config seats entry target kept before
+pub data Beginning (config : Configuration) (seats : List Seat) (aside : List ℕ) (entry : Entry) (target : Target) (kept : ℕ) (before : List Change) : Type 0 where
+  goes_on : begun config entry.0 seats aside ≡ Ok (Again target) → kept ≡ kept_in entry.1 target → before ≡ [] → Beginning config seats aside entry target kept before
+  spares : (change : Change) → begun config entry.0 seats aside ≡ Ok (Fresh target change) → kept ≡ 0 → before ≡ change ∷ [] → Beginning config seats aside entry target kept before
 
-pub beginning : (config : Configuration) (seats : List Seat) (entry : Entry) (target : Target) (kept : ℕ) (before : List Change) → BeginsAt entry target kept before (begun config entry.0 seats)
-    → Beginning config seats entry target kept before
-beginning config seats entry target kept before is = by (begun config entry.0 seats) refl is
+pub beginning : (config : Configuration) (seats : List Seat) (aside : List ℕ) (entry : Entry) (target : Target) (kept : ℕ) (before : List Change) → BeginsAt entry target kept before (begun config entry.0 seats aside)
+    → Beginning config seats aside entry target kept before
+beginning config seats aside entry target kept before is = by (begun config entry.0 seats aside) refl is
   where
-    by : (result : Result Begun RebuildFault) → begun config entry.0 seats ≡ result → BeginsAt entry target kept before result → Beginning config seats entry target kept before
+    by : (result : Result Begun RebuildFault) → begun config entry.0 seats aside ≡ result → BeginsAt entry target kept before result → Beginning config seats aside entry target kept before
     by (Ok Nothing) e h = absurd h
     by (Ok (Again at)) e h =
         goes_on (e ∙ ap (λ (one : Target). Ok (Again one)) (sym h.0)) (h.1 ∙ ap (kept_in entry.1) (sym h.0)) h.2

@@ -84,9 +84,9 @@ module _ (config : Configuration) (guid : List ℕ) (seats : List Seat) (target 
         ∙ ap is_marked (sym same) ∙ sym view.marked_is
 
 -- The view behind it exists.
-pub fresh_viewed : (config : Configuration) (guid : List ℕ) (seats : List Seat) (target : Target) (change : Change) (volume : Volume) (sequence : ℕ) → IsDistinct same_guid (keys_of config.arrays)
-    → begun config guid seats ≡ Ok (Fresh target change) → view_of config guid seats ≡ Ok volume → (next : Volume) × (view_of (changed_at config change sequence) guid seats ≡ Ok next)
-fresh_viewed config guid seats target change volume sequence apart h is =
+pub fresh_viewed : (config : Configuration) (guid : List ℕ) (seats : List Seat) (aside : List ℕ) (target : Target) (change : Change) (volume : Volume) (sequence : ℕ) → IsDistinct same_guid (keys_of config.arrays)
+    → begun config guid seats aside ≡ Ok (Fresh target change) → view_of config guid seats ≡ Ok volume → (next : Volume) × (view_of (changed_at config change sequence) guid seats ≡ Ok next)
+fresh_viewed config guid seats aside target change volume sequence apart h is =
     let view = from_view config guid seats volume is in
-    let usable = fresh_usable config guid seats change (is_fresh config guid seats target change h) apart guid view.array view.array_is view.usable in
+    let usable = fresh_usable config guid seats aside change (is_fresh config guid seats aside target change h) apart guid view.array view.array_is view.usable in
     has_view (changed_at config change sequence) guid seats usable.0 usable.1 usable.2

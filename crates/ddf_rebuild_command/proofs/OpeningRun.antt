@@ -24,6 +24,7 @@ use Rattle.ddf_answer.specs.declared.failure.Failure.TheVariants.{Conflict, Disk
 use Rattle.ddf_answer.specs.Call.{Work, work_of}
 use Rattle.ddf_answer.proofs.Rises.{rose_later}
 use Rattle.ddf_group_commands.specs.Change.{steps_of as steps_asked}
+use Rattle.ddf_group_commands.specs.Requests.{linux_members}
 use Rattle.ddf_group_commands.specs.GroupRead.{IsFoundBy}
 use Rattle.ddf_group_commands.specs.Others.{LeavesOthers}
 use Rattle.ddf_group_commands.specs.Writing.{IsLeftWriting}
@@ -109,7 +110,7 @@ module _ {D : Type 0} (tells : Type 0) (entry start new : BayState D) (reads : R
 
   -- ---- they failed
 
-  pub open_fault : (steps : List Step) → steps_asked found timestamp (rebuild_request word) ≡ Ok steps → (failure : Failure) → IsSlotFault start new slots failure
+  pub open_fault : (steps : List Step) → steps_asked found timestamp (rebuild_request word (linux_members found)) ≡ Ok steps → (failure : Failure) → IsSlotFault start new slots failure
       → IsRebuiltOf work found timestamp word (Err failure)
   open_fault steps asked (Disk slot) fault = inl (record {
     steps = steps;
@@ -165,7 +166,7 @@ module _ {D : Type 0} (tells : Type 0) (entry start new : BayState D) (reads : R
 
   -- ---- where nothing is to be filled
 
-  module _ (idle : IsIdle found timestamp word) (asked : steps_asked found timestamp (rebuild_request word) ≡ Ok first) where
+  module _ (idle : IsIdle found timestamp word) (asked : steps_asked found timestamp (rebuild_request word (linux_members found)) ≡ Ok first) where
     pub idle_leaves : tells → StopsLeave entry new (MayBeLeft work found timestamp word first)
     idle_leaves told = open_leaves (MayBeLeft work found timestamp word first) (λ image left. inl left) (λ image writing. inr (inl (idle, writing))) told
 

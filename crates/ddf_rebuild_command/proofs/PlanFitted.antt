@@ -38,6 +38,7 @@ use Rattle.ddf_rebuild_command.specs.declared.planning.Plan.{Plan}
 use Rattle.ddf_rebuild_command.specs.Asked.{rows_in}
 use Rattle.ddf_rebuild_command.specs.Filled.{RiseTo}
 use Rattle.ddf_rebuild_command.specs.Notes.{notes}
+use Rattle.ddf_rebuild_command.specs.PassedOver.{passed_over}
 use Rattle.ddf_rebuild_command.specs.Plans.{IsFillingIn, IsFillingOf, IsPlanOf, begun_config}
 use Rattle.ddf_rebuild_command.proofs.Beginnings.{Beginning, beginning, goes_on, spares}
 use Rattle.ddf_rebuild_command.proofs.Noting.{Rise, notes_below, notes_rise}
@@ -104,13 +105,16 @@ none_of_both xs ys none = by (first_refusal xs) refl
 
 -- ---- a plan
 
-module _ (config : Configuration) (seats : List Seat) (word : List ℕ) (plan : Plan) (is : IsPlanOf config seats word plan) (members : AreMembers config seats) (slots : SlotsRise seats) (filling : Filling)
+module _ (config : Configuration) (seats : List Seat) (linux : List ℕ) (word : List ℕ) (plan : Plan) (is : IsPlanOf config seats linux word plan) (members : AreMembers config seats) (slots : SlotsRise seats) (filling : Filling)
     (e : plan.filling ≡ Some filling) where
   abbrev entry : Entry
   entry = is.entry
 
-  fills : IsFillingOf config seats entry plan.changes filling
-  fills = subst (IsFillingIn config seats entry plan.changes) e is.fills
+  abbrev aside : List ℕ
+  aside = passed_over linux is.entry.1
+
+  fills : IsFillingOf config seats aside entry plan.changes filling
+  fills = subst (IsFillingIn config seats aside entry plan.changes) e is.fills
 
   abbrev target : Target
   target = filling.target
@@ -131,10 +135,10 @@ module _ (config : Configuration) (seats : List Seat) (word : List ℕ) (plan : 
       (subst (λ (n : ℕ). RiseTo end n (notes fills.kept end ++ end ∷ [])) (sym fills.from_is)
       (rise_to end (min fills.kept end) fills.kept (notes fills.kept end) (notes_rise fills.kept end) (notes_below fills.kept end) low.0 low.1))
 
-  by : Beginning config seats entry target fills.kept fills.before → CanFill config seats entry filling
+  by : Beginning config seats aside entry target fills.kept fills.before → CanFill config seats entry filling
   by (goes_on h kept before) =
       let is_view = subst (λ (some : List Change). view_of (begun_config config some) entry.0 seats ≡ Ok filling.view) before fills.is_view in
-      let first = (is_again config entry.0 seats target h).first in
+      let first = (is_again config entry.0 seats _ target h).first in
       let place = place_at config entry.0 seats filling.view is_view target first entry.1 found in
       let same = rows_are config entry.0 seats filling.view is_view target first entry.1 found in
       record {
@@ -147,7 +151,7 @@ module _ (config : Configuration) (seats : List Seat) (word : List ℕ) (plan : 
             same ∙ ap (λ (one : Part). row_count one.shape) equal;
       }
   by (spares change h kept before) =
-      let fresh = is_fresh_at config entry.0 seats target change h in
+      let fresh = is_fresh_at config entry.0 seats _ target change h in
       let held = fresh.first.is_held in
       let some_view = subst (λ (some : List Change). view_of (begun_config config some) entry.0 seats ≡ Ok filling.view) before fills.is_view in
       let is_view = subst (λ (one : Change). view_of (changed_at config one config.sequence) entry.0 seats ≡ Ok filling.view) fresh.change_is some_view in
@@ -168,4 +172,4 @@ module _ (config : Configuration) (seats : List Seat) (word : List ℕ) (plan : 
       }
 
   pub can_fill : CanFill config seats entry filling
-  can_fill = by (beginning config seats entry target fills.kept fills.before fills.begins)
+  can_fill = by (beginning config seats aside entry target fills.kept fills.before fills.begins)

@@ -28,6 +28,7 @@ use Rattle.ddf_seats.specs.Seated.{levelled}
 use Rattle.ddf_recovery.proofs.ReadiedParts.{are_tried, has_room, none_spent, none_stray}
 use Rattle.ddf_recovery.proofs.RecoveredGroup.{is_recovered}
 use Rattle.ddf_group_commands.specs.Change.{steps_asked, steps_of as steps_wanted, steps_or}
+use Rattle.ddf_group_commands.specs.Requests.{linux_members}
 use Rattle.ddf_group_commands.proofs.StepsWritten.{steps_in}
 use Rattle.ddf_write_commands.specs.Around.{config_behind, rest}
 use Rattle.ddf_write_commands.specs.Opened.{AreMembers}
@@ -38,6 +39,7 @@ use Rattle.ddf_rebuild_command.specs.Asked.{changes_behind, rebuild_asked, rebui
 use Rattle.ddf_rebuild_command.specs.Filled.{rounds_in}
 use Rattle.ddf_rebuild_command.specs.Notes.{notes}
 use Rattle.ddf_rebuild_command.specs.Opened.{steps_before}
+use Rattle.ddf_rebuild_command.specs.PassedOver.{passed_over}
 use Rattle.ddf_rebuild_command.specs.Planned.{IsIdle, IsPlanned}
 use Rattle.ddf_rebuild_command.specs.Plans.{IsFillingIn, IsFillingOf, IsPlanOf, are_any, begun_config, notes_and_end}
 use Rattle.ddf_rebuild_command.specs.Rounds.{rows_of, steps_of}
@@ -208,21 +210,24 @@ none_lost : (guid : List ℕ) (target : Target) (rows : List ℕ) → AllByRecur
 none_lost guid target [] = (refl, tt)
 none_lost guid target (row ∷ rows) = (refl, none_lost guid target rows)
 
-module _ (found : GroupValue) (word : List ℕ) (plan : Plan) (timestamp : ℕ) (is : IsPlanOf (config_recovered found) found.seats word plan) where
+module _ (found : GroupValue) (word : List ℕ) (plan : Plan) (timestamp : ℕ) (is : IsPlanOf (config_recovered found) found.seats (linux_members found) word plan) where
   abbrev config : Configuration
   config = config_recovered found
 
   abbrev entry : Entry
   entry = is.entry
 
-  filled_in : (filling : Option Filling) → plan.filling ≡ filling → IsFillingIn config found.seats entry plan.changes filling
-  filled_in filling e = subst (IsFillingIn config found.seats entry plan.changes) e is.fills
+  abbrev aside : List ℕ
+  aside = passed_over (linux_members found) is.entry.1
 
-  changes_by : (filling : Option Filling) → IsFillingIn config found.seats entry plan.changes filling → rebuild_changes found.seats entry (begun config entry.0 found.seats) ≡ Ok plan.changes
+  filled_in : (filling : Option Filling) → plan.filling ≡ filling → IsFillingIn config found.seats aside entry plan.changes filling
+  filled_in filling e = subst (IsFillingIn config found.seats aside entry plan.changes) e is.fills
+
+  changes_by : (filling : Option Filling) → IsFillingIn config found.seats aside entry plan.changes filling → rebuild_changes found.seats entry (begun config entry.0 found.seats aside) ≡ Ok plan.changes
   changes_by None fills = ap (rebuild_changes found.seats entry) fills.nothing ∙ ap (λ (all : List Change). Ok all) (sym fills.no_changes)
-  changes_by (Some filling) fills = by (beginning config found.seats entry filling.target fills.kept fills.before fills.begins)
+  changes_by (Some filling) fills = by (beginning config found.seats aside entry filling.target fills.kept fills.before fills.begins)
     where
-      by : Beginning config found.seats entry filling.target fills.kept fills.before → rebuild_changes found.seats entry (begun config entry.0 found.seats) ≡ Ok plan.changes
+      by : Beginning config found.seats aside entry filling.target fills.kept fills.before → rebuild_changes found.seats entry (begun config entry.0 found.seats aside) ≡ Ok plan.changes
       by (goes_on h kept before) =
           ap (rebuild_changes found.seats entry) h
           ∙ ap (λ (n : ℕ). Ok (changes_behind entry filling.target n)) (sym kept)
@@ -235,39 +240,39 @@ module _ (found : GroupValue) (word : List ℕ) (plan : Plan) (timestamp : ℕ) 
           ∙ ap (λ (first : List Change). Ok (first ++ changes_behind entry filling.target fills.kept)) (sym before)
           ∙ ap (λ (all : List Change). Ok all) (sym fills.changes_are)
 
-  request_is : rebuild_request word config found.seats ≡ Ok plan.changes
+  request_is : rebuild_request word (linux_members found) config found.seats ≡ Ok plan.changes
   request_is =
-      ap (rebuild_asked config found.seats) is.is_named ∙ ap (rebuild_unless config found.seats entry) is.accepted ∙ changes_by plan.filling is.fills
+      ap (rebuild_asked config found.seats (linux_members found)) is.is_named ∙ ap (rebuild_unless config found.seats (linux_members found) entry) is.accepted ∙ changes_by plan.filling is.fills
 
   -- The steps that are asked for are those that are readied for its changes.
-  pub steps_are : steps_wanted found timestamp (rebuild_request word) ≡ steps_or (readied found plan.changes timestamp)
+  pub steps_are : steps_wanted found timestamp (rebuild_request word (linux_members found)) ≡ steps_or (readied found plan.changes timestamp)
   steps_are = ap (steps_asked found timestamp) request_is
 
   pub can_be_asked : AllByRecursion CanBeAsked plan.changes
   can_be_asked = by plan.filling is.fills
     where
-      by : (filling : Option Filling) → IsFillingIn config found.seats entry plan.changes filling → AllByRecursion CanBeAsked plan.changes
+      by : (filling : Option Filling) → IsFillingIn config found.seats aside entry plan.changes filling → AllByRecursion CanBeAsked plan.changes
       by None fills = subst (AllByRecursion CanBeAsked) (sym fills.no_changes) tt
       by (Some filling) fills = fills.can_be_asked
 
   lose_none : AllByRecursion LosesNone plan.changes
   lose_none = by plan.filling is.fills
     where
-      one : (filling : Filling) (fills : IsFillingOf config found.seats entry plan.changes filling) → Beginning config found.seats entry filling.target fills.kept fills.before
+      one : (filling : Filling) (fills : IsFillingOf config found.seats aside entry plan.changes filling) → Beginning config found.seats aside entry filling.target fills.kept fills.before
           → AllByRecursion LosesNone (fills.before ++ changes_behind entry filling.target fills.kept)
       one filling fills (goes_on h kept before) =
           subst (λ (first : List Change). AllByRecursion LosesNone (first ++ changes_behind entry filling.target fills.kept)) (sym before)
           (none_lost entry.0 filling.target (notes fills.kept (rows_in entry.1 filling.target.element)))
       one filling fills (spares change h kept before) =
           subst (λ (first : List Change). AllByRecursion LosesNone (first ++ changes_behind entry filling.target fills.kept)) (sym before) (
-            subst LosesNone (sym (is_fresh_at config entry.0 found.seats filling.target change h).change_is) refl,
+            subst LosesNone (sym (is_fresh_at config entry.0 found.seats _ filling.target change h).change_is) refl,
             none_lost entry.0 filling.target (notes fills.kept (rows_in entry.1 filling.target.element)),
           )
 
-      by : (filling : Option Filling) → IsFillingIn config found.seats entry plan.changes filling → AllByRecursion LosesNone plan.changes
+      by : (filling : Option Filling) → IsFillingIn config found.seats aside entry plan.changes filling → AllByRecursion LosesNone plan.changes
       by None fills = subst (AllByRecursion LosesNone) (sym fills.no_changes) tt
       by (Some filling) fills =
-          subst (AllByRecursion LosesNone) (sym fills.changes_are) (one filling fills (beginning config found.seats entry filling.target fills.kept fills.before fills.begins))
+          subst (AllByRecursion LosesNone) (sym fills.changes_are) (one filling fills (beginning config found.seats aside entry filling.target fills.kept fills.before fills.begins))
 
   module _ (members : AreMembers config found.seats) (ready : ReadyValue) (was : WasReadied found plan.changes timestamp ready) where
     -- No step loses a seat.
@@ -287,7 +292,7 @@ module _ (found : GroupValue) (word : List ℕ) (plan : Plan) (timestamp : ℕ) 
         empty (one ∷ others) e = absurd cc
 
     module _ (filling : Filling) (e : plan.filling ≡ Some filling) where
-      abbrev fills : IsFillingOf config found.seats entry plan.changes filling
+      abbrev fills : IsFillingOf config found.seats aside entry plan.changes filling
       fills = filled_in (Some filling) e
 
       abbrev target : Target
@@ -312,9 +317,9 @@ module _ (found : GroupValue) (word : List ℕ) (plan : Plan) (timestamp : ℕ) 
       begins_as : (before : List Change) → fills.before ≡ before → filling.begins ≡ are_any before
       begins_as before same = fills.begins_is ∙ ap are_any same
 
-      are_steps : Beginning config found.seats entry target fills.kept fills.before → AreSteps
+      are_steps : Beginning config found.seats aside entry target fills.kept fills.before → AreSteps
       are_steps (goes_on h kept before) =
-          let first = (is_again config entry.0 found.seats target h).first in
+          let first = (is_again config entry.0 found.seats _ target h).first in
           let no : false ≡ filling.begins = sym (begins_as [] before) in
           let is_view = subst (λ (front : List Change). view_of (begun_config config front) entry.0 found.seats ≡ Ok filling.view) before fills.is_view in
           let row : first.held.row ≡ fills.kept = sym (kept ∙ kept_is config entry.0 found.seats filling.view is_view target first entry.1 (named_is config.arrays word entry is.is_named)) in
@@ -327,7 +332,7 @@ module _ (found : GroupValue) (word : List ℕ) (plan : Plan) (timestamp : ℕ) 
             shown = subst (λ (b : Bool). view_of (config_behind config (next_if b ready.steps)) entry.0 found.seats ≡ Ok filling.view) no is_view;
           }
       are_steps (spares change h kept before) =
-          let fresh = is_fresh_at config entry.0 found.seats target change h in
+          let fresh = is_fresh_at config entry.0 found.seats _ target change h in
           let yes : true ≡ filling.begins = sym (begins_as (change ∷ []) before) in
           let all = ap (λ (front : List Change). steps_from timestamp None (front ++ notes_and_end entry.0 target noted) config (disks_recovered timestamp found)) (sym before) ∙ tried in
           let first =
@@ -354,7 +359,7 @@ module _ (found : GroupValue) (word : List ℕ) (plan : Plan) (timestamp : ℕ) 
               (ap (λ (step : Step). step ∷ []) here, later)
 
       steps : AreSteps
-      steps = are_steps (beginning config found.seats entry target fills.kept fills.before fills.begins)
+      steps = are_steps (beginning config found.seats aside entry target fills.kept fills.before fills.begins)
 
       many : length (rest filling.begins ready.steps) ≡ length filling.rows
       many = steps.many ∙ sym (ap length fills.rows_are ∙ length-append noted (rows ∷ []))
@@ -365,7 +370,7 @@ module _ (found : GroupValue) (word : List ℕ) (plan : Plan) (timestamp : ℕ) 
           ∙ ap (λ (behind : List Step). Ok (steps_before filling.begins ready ++ behind)) (sym (steps_zipped filling.rows (rest filling.begins ready.steps) many))
 
       fit : CanFill config found.seats entry filling
-      fit = can_fill config found.seats word plan is members was.assembled.slots_rise filling e
+      fit = can_fill config found.seats (linux_members found) word plan is members was.assembled.slots_rise filling e
 
       plan_is : IsPlanned found timestamp word
       plan_is = record {

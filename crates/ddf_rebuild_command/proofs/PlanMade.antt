@@ -42,6 +42,7 @@ use Rattle.ddf_write_commands.specs.Planned.{Entry, unless_refused}
 use Rattle.ddf_rebuild_command.specs.declared.planning.Plan.{Plan}
 use Rattle.ddf_rebuild_command.specs.Asked.{bad_spare, kept_in, part_kept, rebuild_asked, rebuild_changes, rebuild_refusals, rebuild_unless, rows_in}
 use Rattle.ddf_rebuild_command.specs.Notes.{notes}
+use Rattle.ddf_rebuild_command.specs.PassedOver.{passed_over}
 use Rattle.ddf_rebuild_command.specs.Planned.{BeginsAt}
 use Rattle.ddf_rebuild_command.specs.Plans.{FitsBegin, HaveSeats, IsFillingIn, IsFillingOf, MayPlan, MayPlanFor, filled, notes_and_end, spare_view}
 use Rattle.ddf_rebuild_command.proofs.Noting.{notes_below}
@@ -116,33 +117,33 @@ pub behind_asked : (guid : List ℕ) (target : Target) (kept rows : ℕ) → row
 behind_asked guid target kept rows few = notes_asked guid target rows (notes kept rows) few (notes_below kept rows)
 
 -- A change that gives a position a spare adds no array.
-pub has_new : (config : Configuration) (guid : List ℕ) (seats : List Seat) (target : Target) (change : Change) → begun config guid seats ≡ Ok (Fresh target change) → HasNewGuid config.arrays change
-has_new config guid seats target change h = subst (HasNewGuid config.arrays) (sym (is_fresh_at config guid seats target change h).change_is) tt
+pub has_new : (config : Configuration) (guid : List ℕ) (seats : List Seat) (aside : List ℕ) (target : Target) (change : Change) → begun config guid seats aside ≡ Ok (Fresh target change) → HasNewGuid config.arrays change
+has_new config guid seats aside target change h = subst (HasNewGuid config.arrays) (sym (is_fresh_at config guid seats aside target change h).change_is) tt
 
 -- ---- an array that nothing refuses so far
 
-module _ (config : Configuration) (seats : List Seat) (guid : List ℕ) (array : Array) (found : lookup (same_guid guid) config.arrays ≡ Some array) where
+module _ (config : Configuration) (seats : List Seat) (aside : List ℕ) (guid : List ℕ) (array : Array) (found : lookup (same_guid guid) config.arrays ≡ Some array) where
   abbrev entry : Entry
   entry = (guid, array)
 
   -- Every position is in sync.
-  pub nothing_planned : begun config guid seats ≡ Ok Nothing → IsFillingIn config seats entry [] None
+  pub nothing_planned : begun config guid seats aside ≡ Ok Nothing → IsFillingIn config seats aside entry [] None
   nothing_planned h = record { nothing = h; no_changes = refl }
 
   -- why none is filled
-  pub not_begun : (refusal : Refusal) (fault : RebuildFault) → begun config guid seats ≡ Err fault → rebuild_changes seats entry (Err fault) ≡ Err refusal
-      → rebuild_changes seats entry (begun config guid seats) ≡ Err refusal
+  pub not_begun : (refusal : Refusal) (fault : RebuildFault) → begun config guid seats aside ≡ Err fault → rebuild_changes seats entry (Err fault) ≡ Err refusal
+      → rebuild_changes seats entry (begun config guid seats aside) ≡ Err refusal
   not_begun refusal fault h is = ap (rebuild_changes seats entry) h ∙ is
 
   -- One is filled where it is.
-  pub again_planned : (view : Volume) → view_of config guid seats ≡ Ok view → IsVolume view → view.marked ≡ false → HaveSeats config seats → (target : Target) → begun config guid seats ≡ Ok (Again target)
+  pub again_planned : (view : Volume) → view_of config guid seats ≡ Ok view → IsVolume view → view.marked ≡ false → HaveSeats config seats → (target : Target) → begun config guid seats aside ≡ Ok (Again target)
       → (rows kept : ℕ) → rows ≡ rows_in array target.element → kept ≡ kept_in array target → rows ≤ 2 ^ 48
-      → (plan : Plan) → plan ≡ filled None guid target kept rows view → IsFillingIn config seats entry plan.changes plan.filling
+      → (plan : Plan) → plan ≡ filled None guid target kept rows view → IsFillingIn config seats aside entry plan.changes plan.filling
   again_planned view is known unmarked seated target h rows kept rows_is kept_are few plan made =
-      let again = is_again config guid seats target h in
+      let again = is_again config guid seats aside target h in
       let first = again.first in
-      subst (λ (one : Plan). IsFillingIn config seats entry one.changes one.filling) (sym made)
-      (subst (λ (n : ℕ). IsFillingOf config seats entry (notes_and_end guid target (notes kept n))
+      subst (λ (one : Plan). IsFillingIn config seats aside entry one.changes one.filling) (sym made)
+      (subst (λ (n : ℕ). IsFillingOf config seats aside entry (notes_and_end guid target (notes kept n))
       (record { begins = false; target = target; from = min kept n; rows = notes kept n ++ n ∷ []; view = view })) (sym rows_is) (record {
         kept = kept;
         before = [];
@@ -161,38 +162,38 @@ module _ (config : Configuration) (seats : List Seat) (guid : List ℕ) (array :
 
   -- ---- on a spare
 
-  module _ (target : Target) (change : Change) (h : begun config guid seats ≡ Ok (Fresh target change)) where
+  module _ (target : Target) (change : Change) (h : begun config guid seats aside ≡ Ok (Fresh target change)) where
     abbrev fresh : IsFreshAt config guid seats target change
-    fresh = is_fresh_at config guid seats target change h
+    fresh = is_fresh_at config guid seats aside target change h
 
     -- One whose spare has bad blocks isn't.
-    spoilt : (refusal : Refusal) → bad_spare seats change ≡ Some refusal → rebuild_changes seats entry (begun config guid seats) ≡ Err refusal
+    spoilt : (refusal : Refusal) → bad_spare seats change ≡ Some refusal → rebuild_changes seats entry (begun config guid seats aside) ≡ Err refusal
     spoilt refusal bad = ap (rebuild_changes seats entry) h ∙ ap (unless_refused _) bad
 
     module _ (view : Volume) (is : view_of config guid seats ≡ Ok view) (unmarked : view.marked ≡ false) (apart : IsDistinct same_guid (keys_of config.arrays)) where
       viewed : (next : Volume) × (view_of (changed_at config change config.sequence) guid seats ≡ Ok next)
-      viewed = fresh_viewed config guid seats target change view config.sequence apart h is
+      viewed = fresh_viewed config guid seats aside target change view config.sequence apart h is
 
-      viewed_by : (failure : Failure) → IsViewed (view_of (changed_at config change config.sequence) guid seats) (Err failure) → MayPlanFor config seats entry (Err failure)
+      viewed_by : (failure : Failure) → IsViewed (view_of (changed_at config change config.sequence) guid seats) (Err failure) → MayPlanFor config seats aside entry (Err failure)
       viewed_by (Refused refusal) e = let none = sym viewed.1 ∙ e in absurd cc
       viewed_by Memory e = tt
       viewed_by (Disk slot) e = e
       viewed_by (Conflict i j sequence differ) e = e
       viewed_by (Split i j) e = e
 
-      bad_by : (failure : Failure) (refusal : Refusal) → bad_spare seats change ≡ Some refusal → IsViewed (Err refusal) (Err failure) → MayPlanFor config seats entry (Err failure)
-      bad_by (Refused other) refusal bad e = let same : refusal ≡ other = cc in subst (λ (one : Refusal). rebuild_changes seats entry (begun config guid seats) ≡ Err one) same (spoilt refusal bad)
+      bad_by : (failure : Failure) (refusal : Refusal) → bad_spare seats change ≡ Some refusal → IsViewed (Err refusal) (Err failure) → MayPlanFor config seats aside entry (Err failure)
+      bad_by (Refused other) refusal bad e = let same : refusal ≡ other = cc in subst (λ (one : Refusal). rebuild_changes seats entry (begun config guid seats aside) ≡ Err one) same (spoilt refusal bad)
       bad_by Memory refusal bad e = tt
       bad_by (Disk slot) refusal bad e = e
       bad_by (Conflict i j sequence differ) refusal bad e = e
       bad_by (Split i j) refusal bad e = e
 
       -- The view of its array exists once it has its spare.
-      pub not_fresh : (failure : Failure) → IsViewed (spare_view config guid seats change) (Err failure) → MayPlanFor config seats entry (Err failure)
+      pub not_fresh : (failure : Failure) → IsViewed (spare_view config guid seats change) (Err failure) → MayPlanFor config seats aside entry (Err failure)
       not_fresh failure e = by (bad_spare seats change) refl e
         where
           by : (bad : Option Refusal) → bad_spare seats change ≡ bad
-              → IsViewed (elim bad [ None ↦ view_of (changed_at config change config.sequence) guid seats | Some refusal ↦ Err refusal ]) (Err failure) → MayPlanFor config seats entry (Err failure)
+              → IsViewed (elim bad [ None ↦ view_of (changed_at config change config.sequence) guid seats | Some refusal ↦ Err refusal ]) (Err failure) → MayPlanFor config seats aside entry (Err failure)
           by None is_bad e = viewed_by failure e
           by (Some refusal) is_bad e = bad_by failure refusal is_bad e
 
@@ -207,11 +208,11 @@ module _ (config : Configuration) (seats : List Seat) (guid : List ℕ) (array :
 
       -- One is filled there.
       pub fresh_planned : FitsBegin change → (next : Volume) → spare_view config guid seats change ≡ Ok next → IsVolume next → (rows : ℕ) → rows ≡ rows_in array target.element → rows ≤ 2 ^ 48
-          → (plan : Plan) → plan ≡ filled (Some change) guid target 0 rows next → IsFillingIn config seats entry plan.changes plan.filling
+          → (plan : Plan) → plan ≡ filled (Some change) guid target 0 rows next → IsFillingIn config seats aside entry plan.changes plan.filling
       fresh_planned fits next made known rows rows_is few plan plan_is =
           let both = good next made in
-          subst (λ (one : Plan). IsFillingIn config seats entry one.changes one.filling) (sym plan_is)
-          (subst (λ (n : ℕ). IsFillingOf config seats entry (change ∷ notes_and_end guid target (notes 0 n))
+          subst (λ (one : Plan). IsFillingIn config seats aside entry one.changes one.filling) (sym plan_is)
+          (subst (λ (n : ℕ). IsFillingOf config seats aside entry (change ∷ notes_and_end guid target (notes 0 n))
           (record { begins = true; target = target; from = min 0 n; rows = notes 0 n ++ n ∷ []; view = next })) (sym rows_is) (record {
             kept = 0;
             before = change ∷ [];
@@ -255,16 +256,16 @@ unmarked_by false marked none = absurd cc
 unmarked_by true true none = absurd cc
 unmarked_by true false none = refl
 
-module _ (config : Configuration) (seats : List Seat) (word : List ℕ) where
-  refused_by : (refusal : Refusal) (found : Option Entry) → use_refusal Reads config seats found 0 0 ≡ Some refusal → rebuild_asked config seats found ≡ Err refusal
+module _ (config : Configuration) (seats : List Seat) (linux : List ℕ) (word : List ℕ) where
+  refused_by : (refusal : Refusal) (found : Option Entry) → use_refusal Reads config seats found 0 0 ≡ Some refusal → rebuild_asked config seats linux found ≡ Err refusal
   refused_by refusal None e = ap (λ (one : Refusal). Err one) (some_is e)
   refused_by refusal (Some entry) e =
-      ap (rebuild_unless config seats entry)
+      ap (rebuild_unless config seats linux entry)
       (first_append (array_refusals Reads config seats entry.0 entry.1 0 0) (more (is_array_within seats entry.1) (is_marked entry.1))
       ∙ ap (λ (r : Option Refusal). option_or r (first_refusal (more (is_array_within seats entry.1) (is_marked entry.1)))) e)
 
   -- One that can't be used isn't rebuilt.
-  pub not_usable : (failure : Failure) → MayUse Reads config seats word 0 0 (Err failure) → MayPlan config seats word (Err failure)
+  pub not_usable : (failure : Failure) → MayUse Reads config seats word 0 0 (Err failure) → MayPlan config seats linux word (Err failure)
   not_usable (Refused refusal) may = refused_by refusal (named_array config.arrays word) may
   not_usable (Disk slot) may = absurd may
   not_usable (Conflict i j sequence differ) may = absurd may
@@ -293,16 +294,16 @@ module _ (config : Configuration) (seats : List Seat) (word : List ℕ) where
         ∙ ap (λ (b : Bool). first_refusal (more b (is_marked usable.array))) within_is ∙ ap (λ (b : Bool). first_refusal (more (is_within used.1) b)) marked_is
 
     -- Of one that can be used the view decides.
-    pub refused_more : (refusal : Refusal) → first_refusal (more (is_within used.1) used.1.marked) ≡ Some refusal → MayPlan config seats word (Err (Refused refusal))
-    refused_more refusal e = ap (rebuild_asked config seats) usable.is_named ∙ ap (rebuild_unless config seats own) (more_is ∙ e)
+    pub refused_more : (refusal : Refusal) → first_refusal (more (is_within used.1) used.1.marked) ≡ Some refusal → MayPlan config seats linux word (Err (Refused refusal))
+    refused_more refusal e = ap (rebuild_asked config seats linux) usable.is_named ∙ ap (rebuild_unless config seats linux own) (more_is ∙ e)
 
     module _ (none : first_refusal (more (is_within used.1) used.1.marked) ≡ None) where
       pub is_unmarked : used.1.marked ≡ false
       is_unmarked = unmarked_by (is_within used.1) used.1.marked none
 
-      pub plan_of : (result : Result Plan Failure) → MayPlanFor config seats own result → MayPlan config seats word result
+      pub plan_of : (result : Result Plan Failure) → MayPlanFor config seats (passed_over linux usable.array) own result → MayPlan config seats linux word result
       plan_of (Ok plan) is = record { entry = own; is_named = usable.is_named; accepted = more_is ∙ none; fills = is }
-      plan_of (Err (Refused refusal)) is = ap (rebuild_asked config seats) usable.is_named ∙ ap (rebuild_unless config seats own) (more_is ∙ none) ∙ is
+      plan_of (Err (Refused refusal)) is = ap (rebuild_asked config seats linux) usable.is_named ∙ ap (rebuild_unless config seats linux own) (more_is ∙ none) ∙ is
       plan_of (Err (Disk slot)) is = absurd is
       plan_of (Err (Conflict i j sequence differ)) is = absurd is
       plan_of (Err (Split i j)) is = absurd is

@@ -25,6 +25,7 @@ use Rattle.ddf_answer.proofs.Costs.{writes_most}
 use Rattle.ddf_group_commands.specs.Change.{steps_of as steps_asked, steps_or}
 use Rattle.ddf_group_commands.specs.Costs.{CostsOfAsked, ready_sectors, steps_sectors}
 use Rattle.ddf_group_commands.specs.GroupRead.{IsReadFrom}
+use Rattle.ddf_group_commands.specs.Requests.{linux_members}
 use Rattle.ddf_group_commands.proofs.Costs.{readied_costs, ready_count, recovery_within}
 use Rattle.ddf_group_commands.proofs.StepsWritten.{steps_in}
 use Rattle.ddf_write_commands.specs.Opened.{AreMembers}
@@ -35,6 +36,7 @@ use Rattle.ddf_rebuild_command.specs.Asked.{changes_behind, rebuild_request, row
 use Rattle.ddf_rebuild_command.specs.Costs.{CostsOf, sectors_from}
 use Rattle.ddf_rebuild_command.specs.Filled.{CanFill}
 use Rattle.ddf_rebuild_command.specs.Opened.{CanOpen}
+use Rattle.ddf_rebuild_command.specs.PassedOver.{passed_over}
 use Rattle.ddf_rebuild_command.specs.Planned.{first_row}
 use Rattle.ddf_rebuild_command.specs.Plans.{IsFillingIn, IsFillingOf, IsPlanOf, begun_config}
 use Rattle.ddf_rebuild_command.specs.Rounds.{steps_of}
@@ -47,13 +49,13 @@ use Rattle.ddf_rebuild_command.proofs.Ran.{ran_filling, ran_idle}
 use Rattle.ddf_rebuild_command.proofs.Recovery.{alone}
 use Rattle.ddf_rebuild_command.proofs.RunCame.{HasRun}
 
-module _ (found : GroupValue) (word : List ℕ) (plan : Plan) (timestamp : ℕ) (is : IsPlanOf (config_recovered found) found.seats word plan) (members : AreMembers (config_recovered found) found.seats)
+module _ (found : GroupValue) (word : List ℕ) (plan : Plan) (timestamp : ℕ) (is : IsPlanOf (config_recovered found) found.seats (linux_members found) word plan) (members : AreMembers (config_recovered found) found.seats)
     (ready : ReadyValue) (was : WasReadied found plan.changes timestamp ready) where
   planned : (filling : Filling) → plan.filling ≡ Some filling → IsPlannedFor found timestamp word filling ready
   planned filling e = plans.planned found word plan timestamp is members ready was filling e
 
   -- the steps, where none is left behind the recovery
-  recovery_asked : ready.steps ≡ [] → steps_asked found timestamp (rebuild_request word) ≡ Ok (recovery_in ready.recovery)
+  recovery_asked : ready.steps ≡ [] → steps_asked found timestamp (rebuild_request word (linux_members found)) ≡ Ok (recovery_in ready.recovery)
   recovery_asked none =
       plans.steps_are found word plan timestamp is ∙ ap steps_or was.is_readied
       ∙ ap (λ (steps : List ReadyStep). Ok (map (λ (one : ReadyStep). one.step) (option_to_list ready.recovery ++ steps))) none ∙ ap (λ (steps : List Step). Ok steps) (alone ready.recovery)
@@ -62,7 +64,7 @@ module _ (found : GroupValue) (word : List ℕ) (plan : Plan) (timestamp : ℕ) 
     can_fill : (filling : Filling) (e : plan.filling ≡ Some filling)
         → CanFill sizes found.seats filling.view filling.target (rows_in (planned filling e).planned.entry.1 (planned filling e).planned.target.element) filling.from filling.rows
     can_fill filling e =
-        let fills : IsFillingOf (config_recovered found) found.seats is.entry plan.changes filling = subst (IsFillingIn (config_recovered found) found.seats is.entry plan.changes) e is.fills in
+        let fills : IsFillingOf (config_recovered found) found.seats (passed_over (linux_members found) is.entry.1) is.entry plan.changes filling = subst (IsFillingIn (config_recovered found) found.seats (passed_over (linux_members found) is.entry.1) is.entry plan.changes) e is.fills in
         let for = planned filling e in
         record {
           config = begun_config (config_recovered found) fills.before;

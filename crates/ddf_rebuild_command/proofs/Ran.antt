@@ -17,6 +17,7 @@ use Rattle.ddf_history_steps.specs.Going.{KeepsHistory, changes_in}
 use Rattle.ddf_answer.specs.declared.failure.Failure.{Failure}
 use Rattle.ddf_answer.specs.Call.{work_of}
 use Rattle.ddf_group_commands.specs.Change.{is_done, steps_of as steps_asked}
+use Rattle.ddf_group_commands.specs.Requests.{linux_members}
 use Rattle.ddf_write_commands.specs.Around.{rest}
 use Rattle.ddf_write_commands.proofs.Arrays.{goes_then}
 use Rattle.ddf_rebuild_command.specs.declared.planning.Filling.{Filling}
@@ -145,7 +146,7 @@ module _ {D : Type 0} (tells : Type 0) (entry start new : BayState D) (reads : R
 
   -- ---- nothing was to be filled
 
-  module _ (idle : IsIdle found timestamp word) (first : List Step) (asked : steps_asked found timestamp (rebuild_request word) ≡ Ok first) (opens : GoesOpening tells start new found first) where
+  module _ (idle : IsIdle found timestamp word) (first : List Step) (asked : steps_asked found timestamp (rebuild_request word (linux_members found)) ≡ Ok first) (opens : GoesOpening tells start new found first) where
     idle_done : (now_found : GroupValue) (now_ready : ReadyValue) → IsOpened tells start new found first now_found now_ready → (sequence : ℕ) → sequence ≡ now_found.config.sequence
         → HasRun tells entry start new found timestamp word (Ok sequence)
     idle_done now_found now_ready opened sequence is = record {
@@ -197,7 +198,7 @@ module _ {B : Type 0} (disks : B → BayState B) (tells : Type 0) (entry start n
       (not_opened tells entry start new reads reads_rise writes_rise told_since found timestamp word fit ready filling for none.failure none.opens none.failed)
 
   -- and of none
-  pub ran_idle : IsIdle found timestamp word → steps_asked found timestamp (rebuild_request word) ≡ Ok (recovery_in ready.recovery) → (outcome : Result ℕ Failure)
+  pub ran_idle : IsIdle found timestamp word → steps_asked found timestamp (rebuild_request word (linux_members found)) ≡ Ok (recovery_in ready.recovery) → (outcome : Result ℕ Failure)
       → IsRecoveryRun disks tells start new found ready outcome → HasRun tells entry start new found timestamp word outcome
   ran_idle idle asked (Ok sequence) run =
       idle_done tells entry start new reads reads_rise writes_rise told_since found timestamp word fit ready idle (recovery_in ready.recovery) asked run.opens run.outcome.0 run.outcome.1 run.outcome.2 sequence

@@ -27,6 +27,7 @@ use Rattle.ddf_answer.proofs.Rises.{look_still}
 use Rattle.ddf_group_commands.specs.Change.{KeepsHistories, is_done, steps_asked as asked_by, steps_of as steps_asked, steps_or}
 use Rattle.ddf_group_commands.specs.GroupRead.{IsFoundBy, IsGroupRead, group_or}
 use Rattle.ddf_group_commands.specs.Others.{LeavesOthers}
+use Rattle.ddf_group_commands.specs.Requests.{linux_found, linux_members}
 use Rattle.ddf_group_commands.proofs.Beside.{reads_beside}
 use Rattle.ddf_group_commands.proofs.Keeping.{reads_keep}
 use Rattle.ddf_group_commands.proofs.Outcomes.{group_read, memory_told, unsynced_in, where_done}
@@ -42,7 +43,7 @@ use Rattle.ddf_rebuild_command.proofs.Costs.{none_cost}
 -- What came of a group that was read, since the entry.
 pub record HasRun {D : Type 0} (tells : Type 0) (entry start new : BayState D) (found : GroupValue) (timestamp : ℕ) (word : List ℕ) (outcome : Result ℕ Failure) : Type 0 where
   pub steps : List Step
-  pub are_asked : steps_asked found timestamp (rebuild_request word) ≡ Ok steps
+  pub are_asked : steps_asked found timestamp (rebuild_request word (linux_members found)) ≡ Ok steps
   pub goes : GoesBetween start new
   pub gives : IsRebuiltOf (work_of tells entry new) found timestamp word outcome
   pub leaves : tells → StopsLeave entry new (MayBeLeft (work_of tells entry new) found timestamp word steps)
@@ -84,6 +85,8 @@ module _ {D : Type 0} (work : Work D) (named : Option (List ℕ)) (timestamp : �
   -- There is no group, or memory ran out.
   pub none_come : (failure : Failure) → IsGroupRead work named (Err failure) → HasRebuiltArray work named timestamp word (Err failure)
   none_come failure read = record {
+    linux = linux_found (group_of read.newest named);
+    are_its = refl;
     taken = record {
       left = read.left;
       every_slot = read.every_slot;
@@ -105,6 +108,8 @@ module _ {D : Type 0} (work : Work D) (named : Option (List ℕ)) (timestamp : �
   pub unwritten_come : (group : GroupValue) (failure : Failure) → IsGroupRead work named (Ok group) → IsRebuiltOf work group timestamp word (Err failure)
       → HasRebuiltArray work named timestamp word (Err failure)
   unwritten_come group failure read is = record {
+    linux = linux_found (group_of read.newest named);
+    are_its = refl;
     taken = record {
       left = read.left;
       every_slot = read.every_slot;
@@ -123,14 +128,14 @@ module _ {D : Type 0} (work : Work D) (named : Option (List ℕ)) (timestamp : �
   }
 
   -- what it was refused for
-  pub not_planned : (group : GroupValue) (failure : Failure) → MayPlan (config_recovered group) group.seats word (Err failure) → IsRebuiltOf work group timestamp word (Err failure)
+  pub not_planned : (group : GroupValue) (failure : Failure) → MayPlan (config_recovered group) group.seats (linux_members group) word (Err failure) → IsRebuiltOf work group timestamp word (Err failure)
   not_planned group (Refused refusal) is = (ap (asked_by group timestamp) is, reads)
   not_planned group (Disk slot) is = absurd is
   not_planned group (Conflict i j sequence differ) is = absurd is
   not_planned group (Split i j) is = absurd is
   not_planned group Memory is = reads
 
-  pub not_ready : (group : GroupValue) (failure : Failure) (answer : Result (List Step) GroupFault) → steps_asked group timestamp (rebuild_request word) ≡ steps_or answer → IsNotReadied answer failure
+  pub not_ready : (group : GroupValue) (failure : Failure) (answer : Result (List Step) GroupFault) → steps_asked group timestamp (rebuild_request word (linux_members group)) ≡ steps_or answer → IsNotReadied answer failure
       → IsRebuiltOf work group timestamp word (Err failure)
   not_ready group (Refused refusal) answer same is = (same ∙ is, reads)
   not_ready group (Disk slot) answer same is = absurd is
@@ -165,11 +170,13 @@ module _ {D : Type 0} (tells : Type 0) (entry start new : BayState D) (reads : R
   of_found : (P : GroupValue → Type 0) → P group → (found : GroupValue) → group_of read.newest named ≡ Ok found → P found
   of_found P is found found_is = subst P (found_same group found (sym is_group ∙ found_is)) is
 
-  asked_same : (steps : List Step) → steps_asked group timestamp (rebuild_request word) ≡ Ok steps → has.steps ≡ steps
+  asked_same : (steps : List Step) → steps_asked group timestamp (rebuild_request word (linux_members group)) ≡ Ok steps → has.steps ≡ steps
   asked_same steps asked = steps_same has.steps steps (sym has.are_asked ∙ asked)
 
   pub come : HasRebuiltArray work named timestamp word outcome
   come = record {
+    linux = linux_members group;
+    are_its = sym (ap linux_found is_group);
     taken = record {
       left = read.left;
       every_slot = read.every_slot;
@@ -177,15 +184,15 @@ module _ {D : Type 0} (tells : Type 0) (entry start new : BayState D) (reads : R
       newest = read.newest;
       read = read.read;
       beside = λ told. of_found (λ found. LeavesOthers entry new (slots_of found.seats)) (has.beside told);
-      keeps = λ told. of_found (λ found. (steps : List Step) → steps_asked found timestamp (rebuild_request word) ≡ Ok steps → KeepsHistories entry new read.left found steps (is_done outcome))
+      keeps = λ told. of_found (λ found. (steps : List Step) → steps_asked found timestamp (rebuild_request word (linux_members group)) ≡ Ok steps → KeepsHistories entry new read.left found steps (is_done outcome))
           (λ steps asked. subst (λ (all : List Step). KeepsHistories entry new read.left group all (is_done outcome)) (asked_same steps asked) (has.keeps told read.left named (found_by told)));
       unfailed = λ done slot below kept. ap (λ (counts : ℕ → ℕ). counts slot) (where_done outcome unfailed done) ∙ unsynced_in (work_of tells entry start) named (Ok group) read slot below kept;
     };
     gone = λ given. read.gone (λ spent. absurd cc);
     gives = subst (λ (one : Result GroupValue Assembly). IsRebuiltIn work timestamp word one outcome) (sym is_group) has.gives;
-    leaves = λ told. of_found (λ found. (steps : List Step) → steps_asked found timestamp (rebuild_request word) ≡ Ok steps → StopsLeave entry new (MayBeLeft work found timestamp word steps))
+    leaves = λ told. of_found (λ found. (steps : List Step) → steps_asked found timestamp (rebuild_request word (linux_members found)) ≡ Ok steps → StopsLeave entry new (MayBeLeft work found timestamp word steps))
         (λ steps asked. subst (λ (all : List Step). StopsLeave entry new (MayBeLeft work group timestamp word all)) (asked_same steps asked) (has.leaves told));
-    along = λ told. of_found (λ found. (steps : List Step) → steps_asked found timestamp (rebuild_request word) ≡ Ok steps → (own : List ℕ) → found.config.group ≡ own → (past : Past (groups own))
+    along = λ told. of_found (λ found. (steps : List Step) → steps_asked found timestamp (rebuild_request word (linux_members found)) ≡ Ok steps → (own : List ℕ) → found.config.group ≡ own → (past : Past (groups own))
         → AreAllKept own past entry → IsAdmitted own past entry read.left found
         → ((is_done outcome ≡ false) × ReadsOnly entry new) ⊎ IsIdle found timestamp word ⊎ ((plan : IsPlanned found timestamp word) × ComesAlong own work past read.left found plan (is_done outcome)))
         (λ steps asked own same past kept admitted. inr (has.along told read.left named (found_by told) own same past kept admitted));

@@ -1,5 +1,5 @@
 -- The position that a rebuild is of: the first of its array that is out of sync, where it is or on a spare.
-use Rattle.std.proofs.Common.{◌≡◌, ◌∙◌, ℕ, suc, ◌+◌, Bool, true, false, not, ◌&&◌, cond, List, [], ◌∷◌, length, Option, Some, None, Result, Ok, Err, find, refl, sym, ap, subst, arith}
+use Rattle.std.proofs.Common.{◌≡◌, ◌∙◌, ℕ, suc, ◌+◌, Bool, true, false, not, ◌&&◌, cond, List, [], ◌∷◌, ◌++◌, length, Option, Some, None, Result, Ok, Err, find, refl, sym, ap, subst, arith}
 use Rattle.std.proofs.lemmas.Bool.{and_parts, false≢true}
 use Rattle.std.specs.Prelude.{is_some, slice_get}
 use Rattle.std.specs.List.{enumerate_from}
@@ -156,7 +156,7 @@ pub record IsFreshAt (config : Configuration) (guid : List ℕ) (seats : List Se
   pub here : is_current config.members reference ≡ true
   pub has_seat : is_some (floor_of seats reference) ≡ true
 
-module _ (config : Configuration) (guid : List ℕ) (seats : List Seat) where
+module _ (config : Configuration) (guid : List ℕ) (seats : List Seat) (aside : List ℕ) where
   never_again : (out : _) (spares : List ℕ) (target : Target) → onto_any config guid seats out spares ≡ Ok (Again target) → ⊥
   never_again out [] target h = cc
   never_again out (spare ∷ spares) target h = by (first_extent config.members (extents config.arrays) seats out.strip out.blocks (spare ∷ spares)) h
@@ -168,43 +168,43 @@ module _ (config : Configuration) (guid : List ℕ) (seats : List Seat) where
       by (Some it) h = cc
 
   again_by : (target : Target) (array : Array) → lookup (same_guid guid) config.arrays ≡ Some array → (out : _) → first_out array ≡ Some out → (b : Bool) → is_current config.members out.reference ≡ b
-      → ◌≡◌ {A = Result Begun RebuildFault} (cond b (Ok (Again out.target)) (onto_any config guid seats out (spares_for guid seats (references array) config.members))) (Ok (Again target))
+      → ◌≡◌ {A = Result Begun RebuildFault} (cond b (Ok (Again out.target)) (onto_any config guid seats out (spares_for guid seats (aside ++ references array) config.members))) (Ok (Again target))
       → IsAgain config guid target
   again_by target array found out is true here h =
       let own = first_of config guid array found out is in
       let same : out.target ≡ target = cc in
       subst (IsAgain config guid) same (record { first = own.0; here = ap (is_current config.members) (sym own.1) ∙ here })
-  again_by target array found out is false here h = absurd (never_again out (spares_for guid seats (references array) config.members) target h)
+  again_by target array found out is false here h = absurd (never_again out (spares_for guid seats (aside ++ references array) config.members) target h)
 
-  again_at : (target : Target) (array : Array) → lookup (same_guid guid) config.arrays ≡ Some array → (out : Option _) → first_out array ≡ out → begun_in config guid seats (references array) out ≡ Ok (Again target)
+  again_at : (target : Target) (array : Array) → lookup (same_guid guid) config.arrays ≡ Some array → (out : Option _) → first_out array ≡ out → begun_in config guid seats (aside ++ references array) out ≡ Ok (Again target)
       → IsAgain config guid target
   again_at target array found None is h = absurd cc
   again_at target array found (Some out) is h = again_by target array found out is (is_current config.members out.reference) refl h
 
   -- What goes on is rebuilt where it is,
-  pub is_again : (target : Target) → begun config guid seats ≡ Ok (Again target) → IsAgain config guid target
+  pub is_again : (target : Target) → begun config guid seats aside ≡ Ok (Again target) → IsAgain config guid target
   unfolding begun
   is_again target h = by (lookup (same_guid guid) config.arrays) refl h
     where
       by : (found : Option Array) → lookup (same_guid guid) config.arrays ≡ found
-          → ◌≡◌ {A = Result Begun RebuildFault} (elim found [ None ↦ Ok Nothing | Some array ↦ begun_in config guid seats (references array) (first_out array) ]) (Ok (Again target))
+          → ◌≡◌ {A = Result Begun RebuildFault} (elim found [ None ↦ Ok Nothing | Some array ↦ begun_in config guid seats (aside ++ references array) (first_out array) ]) (Ok (Again target))
           → IsAgain config guid target
       by None e h = absurd cc
       by (Some array) e h = again_at target array e (first_out array) refl h
 
-  module _ (target : Target) (change : Change) (h : begun config guid seats ≡ Ok (Fresh target change)) where
-    fresh : IsFresh config guid seats change
-    fresh = is_fresh config guid seats target change h
+  module _ (target : Target) (change : Change) (h : begun config guid seats aside ≡ Ok (Fresh target change)) where
+    fresh : IsFresh config guid seats aside change
+    fresh = is_fresh config guid seats aside target change h
 
     other_by : (b : Bool) (again : Target) (rest : Result Begun RebuildFault) → ◌≡◌ {A = Result Begun RebuildFault} (cond b (Ok (Again again)) rest) (Ok (Fresh target change))
         → (b ≡ false) × (rest ≡ Ok (Fresh target change))
     other_by true again rest e = absurd cc
     other_by false again rest e = (refl, e)
 
-    other : (is_current config.members fresh.out.reference ≡ false) × (onto_any config guid seats fresh.out (spares_for guid seats (references fresh.array) config.members) ≡ Ok (Fresh target change))
+    other : (is_current config.members fresh.out.reference ≡ false) × (onto_any config guid seats fresh.out (spares_for guid seats (aside ++ references fresh.array) config.members) ≡ Ok (Fresh target change))
     unfolding begun
     other =
-        other_by (is_current config.members fresh.out.reference) fresh.out.target (onto_any config guid seats fresh.out (spares_for guid seats (references fresh.array) config.members))
+        other_by (is_current config.members fresh.out.reference) fresh.out.target (onto_any config guid seats fresh.out (spares_for guid seats (aside ++ references fresh.array) config.members))
         (rw (fresh.is_array, fresh.is_out, begun, begun_in, begun_at) at h)
 
     target_by : (spares : List ℕ) → onto_any config guid seats fresh.out spares ≡ Ok (Fresh target change) → fresh.out.target ≡ target
@@ -218,22 +218,22 @@ module _ (config : Configuration) (guid : List ℕ) (seats : List Seat) where
         by (Some it) e = cc
 
     target_is : fresh.out.target ≡ target
-    target_is = target_by (spares_for guid seats (references fresh.array) config.members) other.1
+    target_is = target_by (spares_for guid seats (aside ++ references fresh.array) config.members) other.1
 
     -- and what is fresh on a spare.
     pub is_fresh_at : IsFreshAt config guid seats target change
     is_fresh_at =
         let own = first_of config guid fresh.array fresh.is_array fresh.out fresh.is_out in
-        let spare = seated config guid seats change fresh in
-        let stands = and_parts (is_current config.members spare.0 && is_some (floor_of seats spare.0)) (not (is_among (references fresh.array) spare.0)) spare.1 in
+        let spare = seated config guid seats aside change fresh in
+        let stands = and_parts (is_current config.members spare.0 && is_some (floor_of seats spare.0)) (not (is_among (aside ++ references fresh.array) spare.0)) spare.1 in
         subst (λ (one : Target). IsFreshAt config guid seats one change) target_is (record {
           first = own.0;
           lost = ap (is_current config.members) (sym own.1) ∙ other.0;
           reference = fresh.found.reference;
           start = fresh.found.start;
           change_is = sym fresh.change_is;
-          here = is_here config guid seats change fresh;
+          here = is_here config guid seats aside change fresh;
           has_seat =
-              ap (λ (n : ℕ). is_some (floor_of seats n)) (found_free config guid seats change fresh).on
+              ap (λ (n : ℕ). is_some (floor_of seats n)) (found_free config guid seats aside change fresh).on
               ∙ (and_parts (is_current config.members spare.0) (is_some (floor_of seats spare.0)) stands.0).1;
         })

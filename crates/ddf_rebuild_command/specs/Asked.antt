@@ -27,6 +27,7 @@ use Rattle.ddf_read_commands.specs.declared.using.Access.TheVariants.{Reads}
 use Rattle.ddf_read_commands.specs.Use.{array_refusals}
 use Rattle.ddf_write_commands.specs.Planned.{Entry, unless_refused}
 use Rattle.ddf_rebuild_command.specs.Notes.{notes}
+use Rattle.ddf_rebuild_command.specs.PassedOver.{passed_over}
 
 -- ---- what it is refused for
 
@@ -80,14 +81,15 @@ rebuild_changes seats entry (Err NoSpare) = Err refusals.NoSpare
 rebuild_changes seats entry (Err (Small needed found)) = Err (refusals.Small needed found)
 rebuild_changes seats entry (Err Memory) = Ok []
 
-abbrev pub rebuild_unless : Configuration → List Seat → Entry → Option Refusal → Result (List Change) Refusal
-rebuild_unless config seats entry None = rebuild_changes seats entry (begun config entry.0 seats)
-rebuild_unless config seats entry (Some refusal) = Err refusal
+-- of the members whose disks Linux reads, where it takes the array for another layout, none is the spare
+abbrev pub rebuild_unless : Configuration → List Seat → (linux : List ℕ) → Entry → Option Refusal → Result (List Change) Refusal
+rebuild_unless config seats linux entry None = rebuild_changes seats entry (begun config entry.0 seats (passed_over linux entry.1))
+rebuild_unless config seats linux entry (Some refusal) = Err refusal
 
-abbrev pub rebuild_asked : Configuration → List Seat → Option Entry → Result (List Change) Refusal
-rebuild_asked config seats None = Err refusals.NoArray
-rebuild_asked config seats (Some entry) = rebuild_unless config seats entry (first_refusal (rebuild_refusals config seats entry))
+abbrev pub rebuild_asked : Configuration → List Seat → (linux : List ℕ) → Option Entry → Result (List Change) Refusal
+rebuild_asked config seats linux None = Err refusals.NoArray
+rebuild_asked config seats linux (Some entry) = rebuild_unless config seats linux entry (first_refusal (rebuild_refusals config seats entry))
 
--- the changes that a rebuild of the array is that a word names, or why there are none
-abbrev pub rebuild_request : (word : List ℕ) → Request
-rebuild_request word config seats = rebuild_asked config seats (named_array config.arrays word)
+-- the changes that a rebuild of the array is that a word names, or why there are none, of a group of which Linux reads these members' disks
+abbrev pub rebuild_request : (word : List ℕ) → (linux : List ℕ) → Request
+rebuild_request word linux config seats = rebuild_asked config seats linux (named_array config.arrays word)

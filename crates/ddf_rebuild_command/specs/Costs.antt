@@ -8,6 +8,7 @@ use Rattle.ddf_answer.specs.Call.{Work}
 use Rattle.ddf_answer.specs.Costs.{WritesAtMost}
 use Rattle.ddf_group_commands.specs.Change.{steps_of as steps_asked}
 use Rattle.ddf_group_commands.specs.Costs.{CostsOfAsked, steps_sectors}
+use Rattle.ddf_group_commands.specs.Requests.{linux_members}
 use Rattle.ddf_rebuild_command.specs.Asked.{rebuild_request}
 use Rattle.ddf_rebuild_command.specs.Planned.{IsIdle, IsPlanned, first_row}
 use Rattle.ddf_rebuild_command.specs.Rounds.{steps_of}
@@ -19,7 +20,7 @@ sectors_from shape row = depth_of shape - row * height_of shape
 -- Every position is in sync: no more than the steps that are asked, each once, and these are the recovery's.
 pub record CostsOfRecovery {D : Type 0} (work : Work D) (found : GroupValue) (timestamp : ℕ) (word : List ℕ) : Type 0 where
   pub idle : IsIdle found timestamp word
-  pub most : CostsOfAsked work (steps_asked found timestamp (rebuild_request word))
+  pub most : CostsOfAsked work (steps_asked found timestamp (rebuild_request word (linux_members found)))
 
 -- A position is filled: no more than the steps of the plan, each once, the recovery too, and each sector of the position once, from the row on from which it fills.
 pub record CostsOfFilling {D : Type 0} (work : Work D) (found : GroupValue) (timestamp : ℕ) (word : List ℕ) : Type 0 where

@@ -1,4 +1,5 @@
 pub mod Notes
+pub mod PassedOver
 pub mod Asked
 pub mod Rounds
 pub mod Planned

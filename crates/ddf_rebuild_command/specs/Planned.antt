@@ -18,10 +18,12 @@ use Rattle.ddf_recovery.specs.Recovery.{config_recovered}
 use Rattle.ddf_steps.specs.Steps.{Step}
 use Rattle.ddf_request.specs.Named.{named_array}
 use Rattle.ddf_group_commands.specs.Change.{steps_of as steps_asked}
+use Rattle.ddf_group_commands.specs.Requests.{linux_members}
 use Rattle.ddf_write_commands.specs.Around.{config_behind}
 use Rattle.ddf_write_commands.specs.Planned.{Entry}
 use Rattle.ddf_rebuild_command.specs.Asked.{changes_behind, kept_in, rebuild_request, rows_in}
 use Rattle.ddf_rebuild_command.specs.Notes.{notes}
+use Rattle.ddf_rebuild_command.specs.PassedOver.{passed_over}
 use Rattle.ddf_rebuild_command.specs.Rounds.{Round, rows_of, steps_of}
 
 -- It begins so: it goes on at a position whose disk is here, behind the rows that are kept; or the position first gets a spare, by this change.
@@ -39,11 +41,11 @@ pub record IsPlanned (found : GroupValue) (timestamp : ℕ) (word : List ℕ) : 
   pub target : Target
   pub kept : ℕ
   pub before : List Change
-  pub begins : BeginsAt entry target kept before (begun (config_recovered found) entry.0 found.seats)
+  pub begins : BeginsAt entry target kept before (begun (config_recovered found) entry.0 found.seats (passed_over (linux_members found) entry.1))
   pub first : List Step
   pub are_first : readied found before timestamp ≡ Ok first
   pub rounds : List Round
-  pub are_asked : steps_asked found timestamp (rebuild_request word) ≡ Ok (first ++ steps_of rounds)
+  pub are_asked : steps_asked found timestamp (rebuild_request word (linux_members found)) ≡ Ok (first ++ steps_of rounds)
   pub are_readied : readied found (before ++ changes_behind entry target kept) timestamp ≡ Ok (first ++ steps_of rounds)
   pub rows_are : rows_of rounds ≡ notes kept (rows_in entry.1 target.element) ++ rows_in entry.1 target.element ∷ []
   pub volume : Volume
@@ -59,7 +61,7 @@ pub record IsPlanned (found : GroupValue) (timestamp : ℕ) (word : List ℕ) : 
 pub record IsIdle (found : GroupValue) (timestamp : ℕ) (word : List ℕ) : Type 0 where
   pub entry : Entry
   pub is_named : named_array (config_recovered found).arrays word ≡ Some entry
-  pub nothing : begun (config_recovered found) entry.0 found.seats ≡ Ok Nothing
+  pub nothing : begun (config_recovered found) entry.0 found.seats (passed_over (linux_members found) entry.1) ≡ Ok Nothing
 
 -- the row from which it fills: kept rows past the last count as all
 abbrev pub first_row : {found : GroupValue} {timestamp : ℕ} {word : List ℕ} → IsPlanned found timestamp word → ℕ

@@ -27,6 +27,7 @@ use Rattle.ddf_rebuild_command.specs.declared.planning.Filling.{Filling}
 use Rattle.ddf_rebuild_command.specs.declared.planning.Plan.{Plan}
 use Rattle.ddf_rebuild_command.specs.Asked.{bad_spare, changes_behind, rebuild_changes, rebuild_refusals, rebuild_request, rows_in}
 use Rattle.ddf_rebuild_command.specs.Notes.{notes}
+use Rattle.ddf_rebuild_command.specs.PassedOver.{passed_over}
 use Rattle.ddf_rebuild_command.specs.Planned.{BeginsAt}
 
 -- each current member has a seat
@@ -70,11 +71,11 @@ filled before guid target kept rows view = record {
   });
 }
 
--- A position of the array of a configuration is to be filled, over these seats.
-pub record IsFillingOf (config : Configuration) (seats : List Seat) (entry : Entry) (changes : List Change) (filling : Filling) : Type 0 where
+-- A position of the array of a configuration is to be filled, over these seats, on none of the disks that are set aside.
+pub record IsFillingOf (config : Configuration) (seats : List Seat) (aside : List ℕ) (entry : Entry) (changes : List Change) (filling : Filling) : Type 0 where
   pub kept : ℕ
   pub before : List Change
-  pub begins : BeginsAt entry filling.target kept before (begun config entry.0 seats)
+  pub begins : BeginsAt entry filling.target kept before (begun config entry.0 seats aside)
   pub unspoilt : (change : Change) → before ≡ change ∷ [] → bad_spare seats change ≡ None
   pub begins_is : filling.begins ≡ are_any before
   pub changes_are : changes ≡ before ++ changes_behind entry filling.target kept
@@ -87,35 +88,35 @@ pub record IsFillingOf (config : Configuration) (seats : List Seat) (entry : Ent
   pub unmarked : filling.view.marked ≡ false
 
 -- every position of it is in sync
-pub record IsNothingTo (config : Configuration) (seats : List Seat) (entry : Entry) (changes : List Change) : Type 0 where
-  pub nothing : begun config entry.0 seats ≡ Ok Nothing
+pub record IsNothingTo (config : Configuration) (seats : List Seat) (aside : List ℕ) (entry : Entry) (changes : List Change) : Type 0 where
+  pub nothing : begun config entry.0 seats aside ≡ Ok Nothing
   pub no_changes : changes ≡ []
 
-abbrev pub IsFillingIn : Configuration → List Seat → Entry → List Change → Option Filling → Type 0
-IsFillingIn config seats entry changes None = IsNothingTo config seats entry changes
-IsFillingIn config seats entry changes (Some filling) = IsFillingOf config seats entry changes filling
+abbrev pub IsFillingIn : Configuration → List Seat → (aside : List ℕ) → Entry → List Change → Option Filling → Type 0
+IsFillingIn config seats aside entry changes None = IsNothingTo config seats aside entry changes
+IsFillingIn config seats aside entry changes (Some filling) = IsFillingOf config seats aside entry changes filling
 
--- This is planned of the array that a word names: nothing refuses it.
-pub record IsPlanOf (config : Configuration) (seats : List Seat) (word : List ℕ) (plan : Plan) : Type 0 where
+-- This is planned of the array that a word names, where Linux reads these members' disks: nothing refuses it.
+pub record IsPlanOf (config : Configuration) (seats : List Seat) (linux : List ℕ) (word : List ℕ) (plan : Plan) : Type 0 where
   pub entry : Entry
   pub is_named : named_array config.arrays word ≡ Some entry
   pub accepted : first_refusal (rebuild_refusals config seats entry) ≡ None
-  pub fills : IsFillingIn config seats entry plan.changes plan.filling
+  pub fills : IsFillingIn config seats (passed_over linux entry.1) entry plan.changes plan.filling
 
 -- what is planned of it, why nothing is, or want of memory
-abbrev pub MayPlan : Configuration → List Seat → (word : List ℕ) → Result Plan Failure → Type 0
-MayPlan config seats word (Ok plan) = IsPlanOf config seats word plan
-MayPlan config seats word (Err (Refused refusal)) = rebuild_request word config seats ≡ Err refusal
-MayPlan config seats word (Err Memory) = Unit {0}
-MayPlan config seats word (Err (Disk slot)) = ⊥
-MayPlan config seats word (Err (Conflict i j sequence differ)) = ⊥
-MayPlan config seats word (Err (Split i j)) = ⊥
+abbrev pub MayPlan : Configuration → List Seat → (linux : List ℕ) → (word : List ℕ) → Result Plan Failure → Type 0
+MayPlan config seats linux word (Ok plan) = IsPlanOf config seats linux word plan
+MayPlan config seats linux word (Err (Refused refusal)) = rebuild_request word linux config seats ≡ Err refusal
+MayPlan config seats linux word (Err Memory) = Unit {0}
+MayPlan config seats linux word (Err (Disk slot)) = ⊥
+MayPlan config seats linux word (Err (Conflict i j sequence differ)) = ⊥
+MayPlan config seats linux word (Err (Split i j)) = ⊥
 
 -- the same of an array that nothing refuses so far
-abbrev pub MayPlanFor : Configuration → List Seat → Entry → Result Plan Failure → Type 0
-MayPlanFor config seats entry (Ok plan) = IsFillingIn config seats entry plan.changes plan.filling
-MayPlanFor config seats entry (Err (Refused refusal)) = rebuild_changes seats entry (begun config entry.0 seats) ≡ Err refusal
-MayPlanFor config seats entry (Err Memory) = Unit {0}
-MayPlanFor config seats entry (Err (Disk slot)) = ⊥
-MayPlanFor config seats entry (Err (Conflict i j sequence differ)) = ⊥
-MayPlanFor config seats entry (Err (Split i j)) = ⊥
+abbrev pub MayPlanFor : Configuration → List Seat → (aside : List ℕ) → Entry → Result Plan Failure → Type 0
+MayPlanFor config seats aside entry (Ok plan) = IsFillingIn config seats aside entry plan.changes plan.filling
+MayPlanFor config seats aside entry (Err (Refused refusal)) = rebuild_changes seats entry (begun config entry.0 seats aside) ≡ Err refusal
+MayPlanFor config seats aside entry (Err Memory) = Unit {0}
+MayPlanFor config seats aside entry (Err (Disk slot)) = ⊥
+MayPlanFor config seats aside entry (Err (Conflict i j sequence differ)) = ⊥
+MayPlanFor config seats aside entry (Err (Split i j)) = ⊥

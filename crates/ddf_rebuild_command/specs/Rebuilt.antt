@@ -21,6 +21,7 @@ use Rattle.ddf_answer.specs.declared.failure.Failure.TheVariants.{Conflict, Disk
 use Rattle.ddf_answer.specs.Answers.{failure_of}
 use Rattle.ddf_answer.specs.Call.{Answer, Work}
 use Rattle.ddf_group_commands.specs.Change.{IsDoneTo, IsFaultOn, IsToldChange, TakesGroup, is_done, last_sequence, steps_of as steps_asked}
+use Rattle.ddf_group_commands.specs.Requests.{linux_found, linux_members}
 use Rattle.ddf_group_commands.specs.Writing.{IsLeftWriting}
 use Rattle.ddf_group_commands.specs.Written.{AreWritten}
 use Rattle.ddf_rebuild_command.specs.Along.{ComesAlong}
@@ -48,7 +49,7 @@ pub record IsArrayRebuilt {D : Type 0} (work : Work D) (found : GroupValue) (tim
 -- None was out of sync: the group was recovered, no more.
 pub record IsArrayInSync {D : Type 0} (work : Work D) (found : GroupValue) (timestamp : ℕ) (word : List ℕ) (sequence : ℕ) : Type 0 where
   pub idle : IsIdle found timestamp word
-  pub recovered : IsDoneTo work found (steps_asked found timestamp (rebuild_request word)) sequence
+  pub recovered : IsDoneTo work found (steps_asked found timestamp (rebuild_request word (linux_members found))) sequence
 
 -- A read failed, and no source is left at this slot, a seat's, of a cell that a row of the position needs.
 pub record IsFillStopped {D : Type 0} (work : Work D) (found : GroupValue) (timestamp : ℕ) (word : List ℕ) (slot : ℕ) : Type 0 where
@@ -61,9 +62,9 @@ pub record IsFillStopped {D : Type 0} (work : Work D) (found : GroupValue) (time
 -- what came of a group: a position is in sync again, or each was; it is refused, or memory ran out, and nothing was written; or a slot failed
 abbrev pub IsRebuiltOf : {D : Type 0} → Work D → GroupValue → (timestamp : ℕ) → (word : List ℕ) → Result ℕ Failure → Type 0
 IsRebuiltOf work found timestamp word (Ok sequence) = IsArrayRebuilt work found timestamp word sequence ⊎ IsArrayInSync work found timestamp word sequence
-IsRebuiltOf work found timestamp word (Err (Refused refusal)) = (steps_asked found timestamp (rebuild_request word) ≡ Err (Refused refusal)) × ReadsOnly work.old work.new
+IsRebuiltOf work found timestamp word (Err (Refused refusal)) = (steps_asked found timestamp (rebuild_request word (linux_members found)) ≡ Err (Refused refusal)) × ReadsOnly work.old work.new
 IsRebuiltOf work found timestamp word (Err (Disk slot)) =
-    IsFaultOn work found (steps_asked found timestamp (rebuild_request word)) slot ⊎ IsFillStopped work found timestamp word slot
+    IsFaultOn work found (steps_asked found timestamp (rebuild_request word (linux_members found))) slot ⊎ IsFillStopped work found timestamp word slot
 IsRebuiltOf work found timestamp word (Err Memory) = ReadsOnly work.old work.new
 IsRebuiltOf work found timestamp word (Err (Conflict i j sequence differ)) = ⊥
 IsRebuiltOf work found timestamp word (Err (Split i j)) = ⊥
@@ -81,21 +82,24 @@ MayBeLeft work found timestamp word steps image =
 
 abbrev pub LeavesRebuilding : {D : Type 0} → Work D → (timestamp : ℕ) → (word : List ℕ) → Result GroupValue Assembly → Type 0
 LeavesRebuilding work timestamp word meaning =
-    (found : GroupValue) → meaning ≡ Ok found → (steps : List Step) → steps_asked found timestamp (rebuild_request word) ≡ Ok steps
+    (found : GroupValue) → meaning ≡ Ok found → (steps : List Step) → steps_asked found timestamp (rebuild_request word (linux_members found)) ≡ Ok steps
     → StopsLeave work.old work.new (MayBeLeft work found timestamp word steps)
 
 -- Each history of the group that admits the call comes along with a rebuild, unless memory ran out before anything was written.
 abbrev pub GoesAlong : {D : Type 0} → Work D → (timestamp : ℕ) → (word : List ℕ) → (left : List Bool) → Result GroupValue Assembly → (done : Bool) → Type 0
 GoesAlong work timestamp word left meaning done =
-    (found : GroupValue) → meaning ≡ Ok found → (steps : List Step) → steps_asked found timestamp (rebuild_request word) ≡ Ok steps
+    (found : GroupValue) → meaning ≡ Ok found → (steps : List Step) → steps_asked found timestamp (rebuild_request word (linux_members found)) ≡ Ok steps
     → (group : List ℕ) → found.config.group ≡ group → (past : Past (groups group)) → AreAllKept group past work.old → IsAdmitted group past work.old left found
     → ((done ≡ false) × ReadsOnly work.old work.new) ⊎ IsIdle found timestamp word ⊎ ((plan : IsPlanned found timestamp word) × ComesAlong group work past left found plan done)
 
 -- ---- the command
 
--- A call came to this: what it made of the group that it took. A slot of which every call fails is left out, but where memory ran out.
+-- A call came to this: what it made of the group that it took, by those of its disks that Linux reads. A slot of which every call fails is left out, but where
+-- memory ran out.
 pub record HasRebuiltArray {D : Type 0} (work : Work D) (named : Option (List ℕ)) (timestamp : ℕ) (word : List ℕ) (outcome : Result ℕ Failure) : Type 0 where
-  pub taken : TakesGroup work named timestamp (rebuild_request word) (is_done outcome)
+  pub linux : List ℕ
+  pub taken : TakesGroup work named timestamp (rebuild_request word linux) (is_done outcome)
+  pub are_its : linux ≡ linux_found (group_of taken.newest named)
   pub gone : (outcome ≡ Err Memory → ⊥) → AreOut work.old taken.left
   pub gives : IsRebuiltIn work timestamp word (group_of taken.newest named) outcome
   pub leaves : work.tells → LeavesRebuilding work timestamp word (group_of taken.newest named)

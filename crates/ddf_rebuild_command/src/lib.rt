@@ -3,6 +3,7 @@
 
 mod filling;
 mod notes;
+mod passing;
 mod planning;
 mod rebuilding;
 mod stepping;

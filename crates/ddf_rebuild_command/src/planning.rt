@@ -1,6 +1,6 @@
 //! What is planned of the rebuild of an array before anything is written: the changes of its group, the rows between these, and what refuses it.
 //! docs/GROUPS.md#orders-of-refusal
-ghost use Rattle.std.specs.Prelude.{◌≡◌, ◌≤◌, ◌^◌, ◌==◌, ◌&&◌, ◌++◌, ◌∷◌, [], false, not, nat_lt, find, slice_get, option_to_list, Some, Ok, IfOk};
+ghost use Rattle.std.specs.Prelude.{◌≡◌, ℕ, List, ◌≤◌, ◌^◌, ◌==◌, ◌&&◌, ◌++◌, ◌∷◌, [], false, not, nat_lt, find, slice_get, option_to_list, Some, Ok, IfOk};
 ghost use Rattle.std.specs.Map.{lookup};
 ghost use Rattle.std.specs.Option.{option_copied};
 ghost use Rattle.ddf_array.specs.Viewing.{view_of};
@@ -19,16 +19,18 @@ ghost use Rattle.ddf_plan.specs.declared.change.Change.{Change};
 ghost use Rattle.ddf_repair.specs.Begin.{begun};
 ghost use Rattle.ddf_repair.specs.declared.beginning.Begun.{Begun};
 ghost use Rattle.ddf_recovery.specs.Recovery.{config_recovered};
+ghost use Rattle.ddf_group_commands.specs.Requests.{linux_members};
 ghost use Rattle.ddf_read_commands.specs.Use.{IsViewed};
 ghost use Rattle.ddf_rebuild_command.specs.Asked.{bad_spare, rows_in};
 ghost use Rattle.ddf_rebuild_command.specs.Plans.{FitsBegin, HaveSeats, MayPlan, MayPlanFor, filled, notes_and_end, spare_view};
 
 use crate::notes::notes;
+use crate::passing::passed_over;
 use ddf_answer::Failure;
 use ddf_assembly::Group;
 use ddf_bytes::{Guid, NoMemory, Seq};
 use ddf_config::{Config, Refusal, Seat, first_refusal, refuse_if};
-use ddf_group_commands::recovered;
+use ddf_group_commands::{linux_members, recovered};
 use ddf_plan::{Change, changed_at};
 use ddf_read::{View, ViewFault};
 use ddf_read_commands::{Access, usable};
@@ -68,26 +70,35 @@ pub(crate) struct Plan {
 /// where memory ran out.
 pub(crate) fn plan_rebuild(alloc: Global, group: &Group, name: &[u8]) -> Result<Plan, Failure>
     requires { HaveSeats (config_recovered group.now) group.now.seats }
-    ensures { MayPlan (config_recovered group.now) group.now.seats name.now result }
+    ensures { MayPlan (config_recovered group.now) group.now.seats (linux_members group.now) name.now result }
 {
+    let linux = linux_members(alloc, group)?;
     let loss = loss(alloc, group)?;
-    rebuild_plan(alloc, recovered(group, &loss), group.seats(), name)
+    rebuild_plan(
+        alloc,
+        recovered(group, &loss),
+        group.seats(),
+        linux.as_slice(),
+        name,
+    )
 }
 
 fn rebuild_plan(
     alloc: Global,
     config: &Config,
     seats: &[Seat],
+    linux: &[u32],
     name: &[u8],
 ) -> Result<Plan, Failure>
     requires { HaveSeats config.now seats.now }
-    ensures { MayPlan config.now seats.now name.now result }
+    ensures { MayPlan config.now seats.now linux.now name.now result }
 {
     let (guid, view) = usable(alloc, config, seats, name, 0, 0, Access::Reads)?;
     if let Some(refusal) = rebuild_cause(&view) {
         return Err(Failure::Refused(refusal));
     }
-    planned(alloc, config, seats, guid, view)
+    let aside = passed_over(config, &guid, linux);
+    planned(alloc, config, seats, aside, guid, view)
 }
 
 /// Why an array isn't rebuilt, behind what any use of its blocks is refused for.
@@ -100,22 +111,23 @@ fn rebuild_cause(view: &View) -> Option<Refusal>
     ])
 }
 
-/// What is planned of an array that nothing refuses so far, by its view.
+/// What is planned of an array that nothing refuses so far, by its view. It isn't put on the disks that are set aside.
 fn planned(
     alloc: Global,
     config: &Config,
     seats: &[Seat],
+    aside: &[u32],
     guid: Guid,
     view: View,
 ) -> Result<Plan, Failure>
     requires seated { HaveSeats config.now seats.now }
     requires viewed { view_of config.now guid seats.now ≡ Ok view }
     requires unmarked { view.marked ≡ false }
-    ensures { (array : Array) → lookup (same_guid guid) config.now.arrays ≡ Some array → MayPlanFor config.now seats.now (guid, array) result }
+    ensures { (array : Array) → lookup (same_guid guid) config.now.arrays ≡ Some array → MayPlanFor config.now seats.now aside.now (guid, array) result }
 {
     // A view is of a volume, as its type says.
     let _parts = view.parts();
-    match begin(alloc, config, &guid, seats) {
+    match begin(alloc, config, &guid, seats, aside) {
         Ok(Begun::Nothing) => Ok(Plan {
             changes: Seq::new(Vec::new(alloc)),
             filling: None,
@@ -161,10 +173,10 @@ fn fresh(
     rows: u64,
 ) -> Result<Plan, Failure>
     requires few { rows ≤ 2 ^ 48 }
-    requires begun { begun config.now guid seats.now ≡ Ok (Begun.Fresh target change) }
+    requires begun { (aside : List ℕ) × (begun config.now guid seats.now aside ≡ Ok (Begun.Fresh target change)) }
     requires viewed { (view : Volume) × (view_of config.now guid seats.now ≡ Ok view) × (view.marked ≡ false) }
-    ensures { (array : Array) → lookup (same_guid guid) config.now.arrays ≡ Some array → rows ≡ rows_in array target.element
-        → MayPlanFor config.now seats.now (guid, array) result }
+    ensures { (aside : List ℕ) (array : Array) → lookup (same_guid guid) config.now.arrays ≡ Some array → rows ≡ rows_in array target.element
+        → begun config.now guid seats.now aside ≡ Ok (Begun.Fresh target change) → MayPlanFor config.now seats.now aside (guid, array) result }
 {
     // No two arrays have the same GUID, and a view is of a volume, as their types say.
     let _arrays = config.arrays.len();

@@ -1,5 +1,5 @@
 -- A rebuild that begins on a spare: its change isn't refused, and its extent is free.
-use Rattle.std.proofs.Common.{◌≡◌, ℕ, ◌+◌, ◌<◌, Bool, true, false, not, ◌&&◌, List, [], ◌∷◌, ◌++◌, length, map, filter, min, Option, Some, None, is_none, is_some, option_map, option_and_then, nat_eq, nat_le, nat_lt, Result, Ok, Err, cond, refl, sym, ap, subst, ◌∙◌, arith}
+use Rattle.std.proofs.Common.{◌≡◌, ℕ, ◌+◌, ◌<◌, Bool, true, false, not, ◌&&◌, ◌||◌, List, [], ◌∷◌, ◌++◌, length, map, filter, min, Option, Some, None, is_none, is_some, option_map, option_and_then, nat_eq, nat_le, nat_lt, Result, Ok, Err, cond, refl, sym, ap, subst, ◌∙◌, arith}
 use Rattle.std.proofs.lemmas.Bool.{and_parts, and_from}
 use Rattle.std.specs.Prelude.{slice_get}
 use Rattle.std.specs.Map.{lookup}
@@ -132,16 +132,16 @@ free_on members all seats strip blocks reference found h = at_member (lookup (na
 
 -- ---- what a fresh rebuild is of
 
-pub record IsFresh (config : Configuration) (guid : List ℕ) (seats : List Seat) (change : Change) : Type 0 where
+pub record IsFresh (config : Configuration) (guid : List ℕ) (seats : List Seat) (aside : List ℕ) (change : Change) : Type 0 where
   pub array : Array
   pub out : Out
   pub found : Extent
   pub is_array : lookup (same_guid guid) config.arrays ≡ Some array
   pub is_out : first_out array ≡ Some out
-  pub is_found : first_extent config.members (extents config.arrays) seats out.strip out.blocks (spares_for guid seats (references array) config.members) ≡ Some found
+  pub is_found : first_extent config.members (extents config.arrays) seats out.strip out.blocks (spares_for guid seats (aside ++ references array) config.members) ≡ Some found
   pub change_is : begin_change guid out found ≡ change
 
-module _ (config : Configuration) (guid : List ℕ) (seats : List Seat) (target : Target) (change : Change) where
+module _ (config : Configuration) (guid : List ℕ) (seats : List Seat) (aside : List ℕ) (target : Target) (change : Change) where
   one_found : (out : Out) (spares : List ℕ) → onto_one config.members (extents config.arrays) guid seats out spares ≡ Ok (Fresh target change)
       → (found : Extent) × (first_extent config.members (extents config.arrays) seats out.strip out.blocks spares ≡ Some found) × (begin_change guid out found ≡ change)
   one_found out spares h = by (first_extent config.members (extents config.arrays) seats out.strip out.blocks spares) h
@@ -166,18 +166,18 @@ module _ (config : Configuration) (guid : List ℕ) (seats : List Seat) (target 
       by true h = absurd cc
       by false h = any_found out (spares_for guid seats used config.members) h
 
-  in_found : (array : Array) → lookup (same_guid guid) config.arrays ≡ Some array → (out : Option Out) → first_out array ≡ out → begun_in config guid seats (references array) out ≡ Ok (Fresh target change) → IsFresh config guid seats change
+  in_found : (array : Array) → lookup (same_guid guid) config.arrays ≡ Some array → (out : Option Out) → first_out array ≡ out → begun_in config guid seats (aside ++ references array) out ≡ Ok (Fresh target change) → IsFresh config guid seats aside change
   in_found array is None e h = absurd cc
   in_found array is (Some out) e h =
-      let at = at_found (references array) out h in
+      let at = at_found (aside ++ references array) out h in
       record { array = array; out = out; found = at.0; is_array = is; is_out = e; is_found = at.1; change_is = at.2 }
 
-  pub is_fresh : begun config guid seats ≡ Ok (Fresh target change) → IsFresh config guid seats change
+  pub is_fresh : begun config guid seats aside ≡ Ok (Fresh target change) → IsFresh config guid seats aside change
   unfolding begun
   is_fresh h = by (lookup (same_guid guid) config.arrays) refl h
     where
-      by : (found : Option Array) → lookup (same_guid guid) config.arrays ≡ found → ◌≡◌ {A = Result Begun RebuildFault} (elim found [ None ↦ Ok Nothing | Some array ↦ begun_in config guid seats (references array) (first_out array) ]) (Ok (Fresh target change))
-          → IsFresh config guid seats change
+      by : (found : Option Array) → lookup (same_guid guid) config.arrays ≡ found → ◌≡◌ {A = Result Begun RebuildFault} (elim found [ None ↦ Ok Nothing | Some array ↦ begun_in config guid seats (aside ++ references array) (first_out array) ]) (Ok (Fresh target change))
+          → IsFresh config guid seats aside change
       by None e h = absurd cc
       by (Some array) e h = in_found array e (first_out array) refl h
 
@@ -193,10 +193,22 @@ is_not : (b : Bool) → not b ≡ true → b ≡ false
 is_not true h = absurd cc
 is_not false h = refl
 
+neither : (a b : Bool) → (a || b) ≡ false → (a ≡ false) × (b ≡ false)
+neither true b h = absurd cc
+neither false b h = (refl, h)
+
+-- what isn't in two lists together is in neither
+apart_among : (xs ys : List ℕ) (n : ℕ) → is_among (xs ++ ys) n ≡ false → (is_among xs n ≡ false) × (is_among ys n ≡ false)
+apart_among [] ys n h = (refl, h)
+apart_among (x ∷ xs) ys n h =
+    let parts = neither (nat_eq n x) (is_among (xs ++ ys) n) h in
+    let rest = apart_among xs ys n parts.1 in
+    (ap (λ (b : Bool). b || is_among xs n) parts.0 ∙ rest.0, rest.1)
+
 within_test : (a b : ℕ) → a < b → nat_lt a b ≡ true
 within_test a b less = grind arith
 
-module _ (config : Configuration) (guid : List ℕ) (seats : List Seat) (change : Change) (fresh : IsFresh config guid seats change) where
+module _ (config : Configuration) (guid : List ℕ) (seats : List Seat) (aside : List ℕ) (change : Change) (fresh : IsFresh config guid seats aside change) where
   pub placed : IsPlaced (length fresh.array.elements) 0 fresh.array.elements fresh.out
   placed = out_placed (length fresh.array.elements) 0 fresh.array.elements fresh.out fresh.is_out
 
@@ -214,7 +226,7 @@ module _ (config : Configuration) (guid : List ℕ) (seats : List Seat) (change 
       ∙ within_test fresh.out.target.position (length placed.plan.positions) (got_within placed.plan.positions fresh.out.target.position placed.held placed.position)
 
   abbrev used : List ℕ
-  used = references fresh.array
+  used = aside ++ references fresh.array
 
   pub seated : (reference : ℕ) × (can_stand_in config.members seats used reference ≡ true) × (extent_on config.members (extents config.arrays) seats fresh.out.strip fresh.out.blocks reference ≡ Some fresh.found)
   seated =
@@ -231,9 +243,16 @@ module _ (config : Configuration) (guid : List ℕ) (seats : List Seat) (change 
       ap (is_current config.members) found_free.on
       ∙ (and_parts (is_current config.members seated.0) (is_some (floor_of seats seated.0)) stands.0).0
 
+  is_unused : (is_among aside fresh.found.reference ≡ false) × (is_among (references fresh.array) fresh.found.reference ≡ false)
+  is_unused = apart_among aside (references fresh.array) fresh.found.reference (ap (is_among used) found_free.on ∙ is_not (is_among used seated.0) stands.1)
+
+  -- it's none of the disks that are set aside
+  pub is_passed_over : is_among aside fresh.found.reference ≡ false
+  is_passed_over = is_unused.0
+
   -- the array has no other position on that disk
-  pub is_elsewhere : is_among used fresh.found.reference ≡ false
-  is_elsewhere = ap (is_among used) found_free.on ∙ is_not (is_among used seated.0) stands.1
+  pub is_elsewhere : is_among (references fresh.array) fresh.found.reference ≡ false
+  is_elsewhere = is_unused.1
 
   begun_allowed : causes None config (begin_change guid fresh.out fresh.found) seats ≡ None
   unfolding causes

@@ -131,18 +131,18 @@ module _ (config : Configuration) (guid : List ℕ) (element position reference 
       )
 
 -- the same of the change that `begin` gives
-pub fresh_usable : (config : Configuration) (guid : List ℕ) (seats : List Seat) (one : Change) (fresh : IsFresh config guid seats one) → IsDistinct same_guid (keys_of config.arrays)
+pub fresh_usable : (config : Configuration) (guid : List ℕ) (seats : List Seat) (aside : List ℕ) (one : Change) (fresh : IsFresh config guid seats aside one) → IsDistinct same_guid (keys_of config.arrays)
     → (asked : List ℕ) (array : Array) → lookup (same_guid asked) config.arrays ≡ Some array → unusable config.members seats (extents config.arrays) asked array ≡ None
     → (next : Array) × (lookup (same_guid asked) (arrays_after config one) ≡ Some next) × (unusable (members_after config one) seats (extents (arrays_after config one)) asked next ≡ None)
-fresh_usable config guid seats one fresh apart asked array there usable =
+fresh_usable config guid seats aside one fresh apart asked array there usable =
     let element = fresh.out.target.element in
     let position = fresh.out.target.position in
     let reference = fresh.found.reference in
     let start = fresh.found.start in
-    let plan = (placed config guid seats one fresh).plan in
-    let known = element_is config guid seats one fresh in
-    let free = found_free config guid seats one fresh in
-    let same_extent : fresh.found ≡ extent plan.blocks (new_position reference start) = extent_is config guid seats one fresh element position reference start fresh.array plan (sym fresh.change_is) fresh.is_array known in
+    let plan = (placed config guid seats aside one fresh).plan in
+    let known = element_is config guid seats aside one fresh in
+    let free = found_free config guid seats aside one fresh in
+    let same_extent : fresh.found ≡ extent plan.blocks (new_position reference start) = extent_is config guid seats aside one fresh element position reference start fresh.array plan (sym fresh.change_is) fresh.is_array known in
     subst
     (λ (it : Change). (next : Array) × (lookup (same_guid asked) (arrays_after config it) ≡ Some next) × (unusable (members_after config it) seats (extents (arrays_after config it)) asked next ≡ None))
     fresh.change_is

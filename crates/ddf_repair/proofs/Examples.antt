@@ -43,11 +43,11 @@ small = record {
   arrays = ((1 ∷ []), array (mirror 0 152 (at 7 0 true ∷ at 8 0 false ∷ [])) 1) ∷ [];
 }
 
-row_small : begun small (1 ∷ []) (seat 7 0 32687 ∷ seat 9 2 32687 ∷ []) ≡ Err (Small 152 151)
+row_small : begun small (1 ∷ []) (seat 7 0 32687 ∷ seat 9 2 32687 ∷ []) [] ≡ Err (Small 152 151)
 unfolding begun least_start_of small mirror array seat member at
 row_small = refl
 
-no_seat : begun small (1 ∷ []) (seat 7 0 32687 ∷ []) ≡ Err NoSpare
+no_seat : begun small (1 ∷ []) (seat 7 0 32687 ∷ []) [] ≡ Err NoSpare
 unfolding begun least_start_of small mirror array seat member at
 no_seat = refl
 
@@ -60,19 +60,19 @@ other = record {
   arrays = ((1 ∷ []), array (mirror 2 10 (at 7 0 true ∷ at 8 0 false ∷ [])) 1) ∷ ((2 ∷ []), array (mirror 0 9 (at 10 0 true ∷ at 11 0 true ∷ [])) 0) ∷ [];
 }
 
-takes_global : begun other (1 ∷ []) (seat 7 0 100 ∷ seat 9 1 100 ∷ seat 10 2 22 ∷ []) ≡ Ok (Fresh (record { element = 0; position = 1 }) (Begin (1 ∷ []) 0 1 10 12))
+takes_global : begun other (1 ∷ []) (seat 7 0 100 ∷ seat 9 1 100 ∷ seat 10 2 22 ∷ []) [] ≡ Ok (Fresh (record { element = 0; position = 1 }) (Begin (1 ∷ []) 0 1 10 12))
 unfolding begun least_start_of other mirror array seat member at
 takes_global = refl
 
-takes_own : begun other (1 ∷ []) (seat 7 0 100 ∷ seat 9 1 100 ∷ seat 10 2 22 ∷ seat 11 3 100 ∷ []) ≡ Ok (Fresh (record { element = 0; position = 1 }) (Begin (1 ∷ []) 0 1 11 12))
+takes_own : begun other (1 ∷ []) (seat 7 0 100 ∷ seat 9 1 100 ∷ seat 10 2 22 ∷ seat 11 3 100 ∷ []) [] ≡ Ok (Fresh (record { element = 0; position = 1 }) (Begin (1 ∷ []) 0 1 11 12))
 unfolding begun least_start_of other mirror array seat member at
 takes_own = refl
 
-floor_too_low : begun other (1 ∷ []) (seat 7 0 100 ∷ seat 10 2 21 ∷ []) ≡ Err (Small 10 9)
+floor_too_low : begun other (1 ∷ []) (seat 7 0 100 ∷ seat 10 2 21 ∷ []) [] ≡ Err (Small 10 9)
 unfolding begun least_start_of other mirror array seat member at
 floor_too_low = refl
 
-none_out : begun other (2 ∷ []) (seat 7 0 100 ∷ []) ≡ Ok Nothing
+none_out : begun other (2 ∷ []) (seat 7 0 100 ∷ []) [] ≡ Ok Nothing
 unfolding begun least_start_of other mirror array seat member at
 none_out = refl
 
@@ -121,6 +121,15 @@ twice = record {
   arrays = ((1 ∷ []), array (mirror 0 10 (at 7 0 true ∷ at 8 0 false ∷ [])) 1) ∷ [];
 }
 
-not_twice : begun twice (1 ∷ []) (seat 7 0 100 ∷ []) ≡ Err NoSpare
+not_twice : begun twice (1 ∷ []) (seat 7 0 100 ∷ []) [] ≡ Err NoSpare
 unfolding begun least_start_of twice mirror array seat member at
 not_twice = refl
+
+-- a spare that is set aside is passed over: the array's own one gives way to the global one, and where no other is left there is none
+sets_own_aside : begun other (1 ∷ []) (seat 7 0 100 ∷ seat 9 1 100 ∷ seat 10 2 22 ∷ seat 11 3 100 ∷ []) (11 ∷ []) ≡ Ok (Fresh (record { element = 0; position = 1 }) (Begin (1 ∷ []) 0 1 10 12))
+unfolding begun least_start_of other mirror array seat member at
+sets_own_aside = refl
+
+sets_both_aside : begun other (1 ∷ []) (seat 7 0 100 ∷ seat 9 1 100 ∷ seat 10 2 22 ∷ seat 11 3 100 ∷ []) (10 ∷ 11 ∷ []) ≡ Err NoSpare
+unfolding begun least_start_of other mirror array seat member at
+sets_both_aside = refl

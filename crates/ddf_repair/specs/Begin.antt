@@ -1,5 +1,5 @@
 -- How the rebuild of an array begins.
-use Rattle.std.specs.Prelude.{◌≡◌, ℕ, List, [], ◌∷◌, Option, Some, None, Result, Ok, Err, if◌then◌else◌}
+use Rattle.std.specs.Prelude.{◌≡◌, ℕ, List, [], ◌∷◌, ◌++◌, Option, Some, None, Result, Ok, Err, if◌then◌else◌}
 use Rattle.std.specs.Map.{lookup}
 use Rattle.ddf_config.specs.declared.member.Member.{Member}
 use Rattle.ddf_config.specs.declared.extent.Extent.{Extent}
@@ -43,10 +43,10 @@ abbrev pub begun_in : Configuration → List ℕ → List Seat → (used : List 
 begun_in config guid seats used None = Ok Nothing
 begun_in config guid seats used (Some out) = begun_at config guid seats used out
 
--- what there is to do for the first position out of sync
-unfoldable pub begun : Configuration → List ℕ → List Seat → Result Begun RebuildFault
-begun config guid seats =
-    elim (lookup (same_guid guid) config.arrays) [ None ↦ Ok Nothing | Some array ↦ begun_in config guid seats (references array) (first_out array) ]
+-- what there is to do for the first position out of sync, where an array isn't put on some disks either
+unfoldable pub begun : Configuration → List ℕ → List Seat → (aside : List ℕ) → Result Begun RebuildFault
+begun config guid seats aside =
+    elim (lookup (same_guid guid) config.arrays) [ None ↦ Ok Nothing | Some array ↦ begun_in config guid seats (aside ++ references array) (first_out array) ]
 
 -- want of memory says nothing
 abbrev pub IsBegun : Result Begun RebuildFault → Result Begun RebuildFault → Type 0

@@ -25,7 +25,8 @@ is_global No = false
 is_global Global = true
 is_global (Dedicated guids) = false
 
--- that a member is current, its disk is here, and the array has no position on it: two parts of one array on one disk would be lost together
+-- that a member is current, its disk is here, and it isn't among those that are passed over. A disk on which the array has a position is one of them: two
+-- parts of one array on one disk would be lost together
 abbrev pub can_stand_in : List (ℕ × Member) → List Seat → (used : List ℕ) → ℕ → Bool
 can_stand_in members seats used reference = is_current members reference && is_some (floor_of seats reference) && not (is_among used reference)
 
@@ -37,7 +38,7 @@ is_spare_of test members seats used entry = can_stand_in members seats used entr
 abbrev pub spares_of : (SpareUse → Bool) → List (ℕ × Member) → List Seat → (used : List ℕ) → List (ℕ × Member) → List ℕ
 spares_of test members seats used some = map (λ (entry : ℕ × Member). entry.0) (filter (is_spare_of test members seats used) some)
 
--- those for an array that uses these disks: its own ones before the global ones
+-- those for an array that passes over these disks: its own ones before the global ones
 abbrev pub spares_for : List ℕ → List Seat → (used : List ℕ) → List (ℕ × Member) → List ℕ
 spares_for guid seats used members = spares_of (is_dedicated_to guid) members seats used members ++ spares_of is_global members seats used members
 

@@ -1,5 +1,5 @@
 //! How the rebuild of an array begins and ends.
-ghost use Rattle.std.specs.Prelude.{◌≡◌, ◌≤◌, ◌^◌, length, Some, IfOk};
+ghost use Rattle.std.specs.Prelude.{◌≡◌, ◌≤◌, ◌^◌, ◌++◌, length, Some, IfOk};
 ghost use Rattle.std.specs.Map.{lookup};
 ghost use Rattle.ddf_config.specs.declared.array.Array as arrays;
 ghost use Rattle.ddf_config.specs.Extents.{extents};
@@ -164,19 +164,30 @@ fn begun_at(
     onto_any(alloc, config, guid, seats, out, spares.as_slice())
 }
 
+/// The disks that an array isn't put on: these, and those on which it has a position.
+fn passed_over(alloc: Global, aside: &[u32], array: &Array) -> Result<Vec<u32>, NoMemory>
+    ensures { IfOk result (λ used. used.items ≡ aside.now ++ references array.now) }
+{
+    let mut used = Vec::new(alloc);
+    used.extend_from_slice(aside)?;
+    used.extend_from_slice(references(alloc, array)?.as_slice())?;
+    Ok(used)
+}
+
 fn begun_in(
     alloc: Global,
     config: &Config,
     guid: &Guid,
     seats: &[Seat],
+    aside: &[u32],
     array: &Array,
 ) -> Result<Begun, RebuildFault>
     requires { length array.now.elements ≤ 2 ^ 8 }
-    ensures { IsBegun (begun_in config.now guid.now seats.now (references array.now) (first_out array.now)) result }
+    ensures { IsBegun (begun_in config.now guid.now seats.now (aside.now ++ references array.now) (first_out array.now)) result }
 {
     match first_out(array) {
         Some(out) => {
-            let used = references(alloc, array)?;
+            let used = passed_over(alloc, aside, array)?;
             begun_at(alloc, config, guid, seats, used.as_slice(), out)
         }
         None => Ok(Begun::Nothing),
@@ -185,8 +196,8 @@ fn begun_in(
 
 /// How the rebuild of an array begins: for its first position that is out of sync, by element and position. Where the disk of
 /// that position is no current member it gets the first spare with room, the array's own ones before the global ones, each in
-/// table order. A spare is a current member with a seat, on whose disk the array has no position. It has room where the least start ends the extent within its
-/// configured size and at or below its seat's floor.
+/// table order. A spare is a current member with a seat, on whose disk the array has no position, and none of the disks that are set
+/// aside. It has room where the least start ends the extent within its configured size and at or below its seat's floor.
 ///
 /// # Errors
 /// `NoSpare` exactly where there is no such spare, and `Small` exactly where none of them has room. `Memory` where memory ran
@@ -197,13 +208,14 @@ pub fn begin(
     config: &Config,
     array: &Guid,
     seats: &[Seat],
+    aside: &[u32],
 ) -> Result<Begun, RebuildFault>
     requires { (found : arrays.Array) → lookup (same_guid array.now) config.now.arrays ≡ Some found → length found.elements ≤ 2 ^ 8 }
     // promise:chosen
-    ensures { IsBegun (begun config.now array.now seats.now) result }
+    ensures { IsBegun (begun config.now array.now seats.now aside.now) result }
 {
     match config.arrays.get(array) {
-        Some(found) => begun_in(alloc, config, array, seats, found),
+        Some(found) => begun_in(alloc, config, array, seats, aside, found),
         None => Ok(Begun::Nothing),
     }
 }

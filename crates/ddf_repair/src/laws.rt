@@ -25,22 +25,24 @@ ghost use Rattle.ddf_repair.specs.Places.{keeps_places};
 
 /// The change by which a rebuild begins is refused for nothing but its sequence number.
 pub fn a_rebuild_that_begins_is_not_refused()
-    ensures { (config : Configuration) (guid : List ℕ) (seats : List Seat) (target : Target) (change : Change)
-        → begun config guid seats ≡ Ok (Fresh target change) → causes None config change seats ≡ None }
+    ensures { (config : Configuration) (guid : List ℕ) (seats : List Seat) (aside : List ℕ) (target : Target) (change : Change)
+        → begun config guid seats aside ≡ Ok (Fresh target change) → causes None config change seats ≡ None }
 {}
 
 /// The extent that a position gets has no sector of an extent that was there, and ends within its disk's configured size and at
-/// or below the floor of its seat. The array has no other position on that disk.
+/// or below the floor of its seat. The array has no other position on that disk, and it's none of those that are set aside.
 pub fn the_extent_of_a_rebuild_is_free()
-    ensures clear { (config : Configuration) (guid : List ℕ) (seats : List Seat) (target : Target) (element position reference start : ℕ) (array : Array) (plan : ElementValue)
-        → begun config guid seats ≡ Ok (Fresh target (Begin guid element position reference start)) → lookup (same_guid guid) config.arrays ≡ Some array
+    ensures clear { (config : Configuration) (guid : List ℕ) (seats : List Seat) (aside : List ℕ) (target : Target) (element position reference start : ℕ) (array : Array) (plan : ElementValue)
+        → begun config guid seats aside ≡ Ok (Fresh target (Begin guid element position reference start)) → lookup (same_guid guid) config.arrays ≡ Some array
         → element_at array element ≡ Some plan → lies_clear config.members (extents config.arrays) (extent plan.blocks (new_position reference start)) ≡ true }
-    ensures below { (config : Configuration) (guid : List ℕ) (seats : List Seat) (target : Target) (element position reference start : ℕ) (array : Array) (plan : ElementValue)
-        → begun config guid seats ≡ Ok (Fresh target (Begin guid element position reference start)) → lookup (same_guid guid) config.arrays ≡ Some array
+    ensures below { (config : Configuration) (guid : List ℕ) (seats : List Seat) (aside : List ℕ) (target : Target) (element position reference start : ℕ) (array : Array) (plan : ElementValue)
+        → begun config guid seats aside ≡ Ok (Fresh target (Begin guid element position reference start)) → lookup (same_guid guid) config.arrays ≡ Some array
         → element_at array element ≡ Some plan → passes_floor seats (extent plan.blocks (new_position reference start)) ≡ false }
-    ensures elsewhere { (config : Configuration) (guid : List ℕ) (seats : List Seat) (target : Target) (element position reference start : ℕ) (array : Array)
-        → begun config guid seats ≡ Ok (Fresh target (Begin guid element position reference start)) → lookup (same_guid guid) config.arrays ≡ Some array
+    ensures elsewhere { (config : Configuration) (guid : List ℕ) (seats : List Seat) (aside : List ℕ) (target : Target) (element position reference start : ℕ) (array : Array)
+        → begun config guid seats aside ≡ Ok (Fresh target (Begin guid element position reference start)) → lookup (same_guid guid) config.arrays ≡ Some array
         → is_among (references array) reference ≡ false }
+    ensures passed_over { (config : Configuration) (guid : List ℕ) (seats : List Seat) (aside : List ℕ) (target : Target) (element position reference start : ℕ)
+        → begun config guid seats aside ≡ Ok (Fresh target (Begin guid element position reference start)) → is_among aside reference ≡ false }
 {}
 
 /// An array that can be used over some seats can be used over them after a change that leaves each position its disk and its
@@ -55,8 +57,8 @@ pub fn an_array_stays_usable()
 
 /// Every array that can be used over some seats can be used over them once a rebuild has begun on a spare.
 pub fn arrays_stay_usable_where_a_rebuild_begins()
-    ensures { (config : Configuration) (guid : List ℕ) (seats : List Seat) (target : Target) (change : Change) (sequence : ℕ) (asked : List ℕ) (array : Array)
-        → IsDistinct same_guid (keys_of config.arrays) → begun config guid seats ≡ Ok (Fresh target change)
+    ensures { (config : Configuration) (guid : List ℕ) (seats : List Seat) (aside : List ℕ) (target : Target) (change : Change) (sequence : ℕ) (asked : List ℕ) (array : Array)
+        → IsDistinct same_guid (keys_of config.arrays) → begun config guid seats aside ≡ Ok (Fresh target change)
         → lookup (same_guid asked) config.arrays ≡ Some array → unusable config.members seats (extents config.arrays) asked array ≡ None
         → (next : Array) × (lookup (same_guid asked) (changed_at config change sequence).arrays ≡ Some next)
         × (unusable (changed_at config change sequence).members seats (extents (changed_at config change sequence).arrays) asked next ≡ None) }

@@ -1,5 +1,5 @@
-//! The spares that may stand in for a disk of an array, the array's own before those for all, and the room on them. One on which the array has
-//! another position is passed over: both would be lost with one disk. docs/COMMANDS.md#rebuild
+//! The spares that may stand in for a disk of an array, the array's own before those for all, and the room on them. Some disks are passed over, among
+//! them one on which the array has another position: both would be lost with one disk. docs/COMMANDS.md#rebuild
 ghost use Rattle.std.specs.Prelude.{◌≡◌, ◌≤◌, ◌++◌, IfOk, OnOk};
 ghost use Rattle.std.specs.List.{list_any};
 ghost use Rattle.ddf_config.specs.Members.{same_guid};
@@ -34,7 +34,7 @@ fn is_global(use_as: &SpareUse) -> bool
     matches!(use_as, SpareUse::Global)
 }
 
-/// Whether a member is current, its disk is here, and the array has no position on it.
+/// Whether a member is current, its disk is here, and it isn't passed over.
 fn can_stand_in(
     members: &IndexMap<u32, Member>,
     seats: &[Seat],
@@ -81,7 +81,7 @@ fn push_global(
     Ok(())
 }
 
-/// The references of the spares for an array that uses these disks, its own ones before the global ones, each in table order.
+/// The references of the spares for an array that passes over these disks, its own ones before the global ones, each in table order.
 pub(crate) fn spares_for(
     alloc: Global,
     guid: &Guid,

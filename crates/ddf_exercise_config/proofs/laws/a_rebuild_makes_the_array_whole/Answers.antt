@@ -14,10 +14,10 @@ pub returns-clause-seen : goal.returns-clause-seen
 returns-clause-seen c = λ group disks guid loss sequence apart. used.begun_view group disks apart guid 1 2 sequence loss
 
 pub returns-clause-asks : goal.returns-clause-asks
-returns-clause-asks c = λ group disks guid loss sequence apart. asked.rebuilds group disks apart guid sequence loss
+returns-clause-asks c = λ linux group disks guid loss sequence apart. asked.rebuilds group disks apart guid sequence linux loss
 
 pub returns-clause-takes : goal.returns-clause-takes
-returns-clause-takes c = λ group disks guid loss sequence apart. spares.begins_so group disks apart guid sequence loss
+returns-clause-takes c = λ linux group disks guid loss sequence apart. spares.begins_beside group disks apart guid sequence linux loss
 
 pub returns-clause-rows : goal.returns-clause-rows
 returns-clause-rows c = λ disks loss. asked.rows_are disks loss

@@ -1,4 +1,4 @@
-use Rattle.std.proofs.Common.{◌≡◌, Option, Some, None, Ok, sym, ap, subst, ◌∙◌}
+use Rattle.std.proofs.Common.{◌≡◌, ◌++◌, Option, Some, None, Ok, sym, ap, subst, ◌∙◌}
 use Rattle.std.specs.Map.{lookup}
 use Rattle.ddf_config.specs.declared.array.Array.{Array}
 use Rattle.ddf_config.specs.Configuration.{Configuration}
@@ -22,4 +22,4 @@ returns-in-Some c =
     let seats = c.args.seats.now in
     let there : lookup (same_guid guid) config.arrays ≡ Some c.in-Some.found.now =
     sym (ap (λ (one : Configuration). lookup (same_guid guid) one.arrays) c.config.view_is) ∙ sym c.in-Some.ensures.value in
-    subst (λ (found : Option Array). IsBegun (elim found [ None ↦ Ok Nothing | Some array ↦ begun_in config guid seats (references array) (first_out array) ]) c.begun_in.result) (sym there) c.begun_in.ensures
+    subst (λ (found : Option Array). IsBegun (elim found [ None ↦ Ok Nothing | Some array ↦ begun_in config guid seats (c.args.aside.now ++ references array) (first_out array) ]) c.begun_in.result) (sym there) c.begun_in.ensures
