@@ -4,7 +4,7 @@ use crate::shown::group_shown;
 use ddf_assembly::Group;
 use ddf_bay::Bay;
 use ddf_bytes::{Guid, Hex32};
-use ddf_config::{Array, ElementPlan, Position, slot_of, strip_sectors};
+use ddf_config::{Array, ElementPlan, Position, element_shape, slot_of};
 use ddf_edge::OneLine;
 use ddf_name::NameText;
 
@@ -32,7 +32,9 @@ fn name_in_element<R: Eprint>(
     array: &Array,
     element: &ElementPlan,
 ) {
-    let rows = rows_of(array, element);
+    let Some(rows) = rows_of(array, element) else {
+        return;
+    };
     for position in element.positions.as_slice() {
         if is_filled(group.config(), position) {
             tell_filling(rt, paths, group, array, position, rows);
@@ -40,13 +42,11 @@ fn name_in_element<R: Eprint>(
     }
 }
 
-/// How many rows of strips an element has.
-fn rows_of(array: &Array, element: &ElementPlan) -> u64 {
-    let strip = match strip_sectors(array.elements.items().len(), element) {
-        Some(strip) => strip.max(1),
-        None => 1,
-    };
-    element.blocks.saturating_add(strip.saturating_sub(1)) / strip.max(1)
+/// How many rows a rebuild of a position of an element fills, as its notes count them. None where the element's numbers make no shape.
+fn rows_of(array: &Array, element: &ElementPlan) -> Option<u64> {
+    let shape = element_shape(array.elements.items().len(), element)?;
+    let height = shape.height();
+    Some(shape.depth().saturating_add(height - 1) / height)
 }
 
 /// Says that the disk of a position is being filled.
