@@ -12,7 +12,9 @@ pub mod WrittenValues
 pub mod CellsCount
 pub mod KeptValues
 pub mod Gathered
+pub mod Splitting
 pub mod Marking
 mod Wholly
 pub mod Looked
 pub mod Noting
+pub mod TwoFailed

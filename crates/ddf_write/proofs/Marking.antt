@@ -1,12 +1,12 @@
 -- What is known of what lies beside blocks doesn't depend on the mark of their array.
-use Rattle.std.proofs.Common.{◌+◌, ◌-◌, ◌<◌, ℕ, Bool, arith}
+use Rattle.std.proofs.Common.{◌≡◌, ◌+◌, ◌-◌, ◌%◌, ◌<◌, ⊎_elim, inl, inr, ℕ, Bool, arith, max}
 use Rattle.ddf_bay.specs.Sectors.{Image}
 use Rattle.ddf_array.specs.declared.part.Part.{Part}
 use Rattle.ddf_array.specs.Volume.{Volume, volume}
 use Rattle.ddf_write.specs.declared.beside.Beside.{Beside}
 use Rattle.ddf_write.specs.Beside.{IsDataCell, NoneLeftBeside}
 use Rattle.ddf_write.specs.Keeping.{AllAreKept, AreTheirValues, Keeping}
-use Rattle.ddf_write.specs.Looking.{ArePiecesKept, LiesBeside, no_more, one_more, piece_of}
+use Rattle.ddf_write.specs.Looking.{ArePiecesKept, EndWithStripes, IsSplit, LiesBeside, no_more, one_more, piece_blocks, piece_of}
 use Rattle.ddf_write.specs.Writing.{IsTouched}
 
 -- ---- pieces, one after another
@@ -26,7 +26,7 @@ module _ (v : Volume) (marked : Bool) where
   touched_back : (start count element sector : ℕ) → IsTouched other start count element sector → IsTouched v start count element sector
   touched_back start count element sector is = record { position = is.position; k = is.k; below = is.below; holds_it = is.holds_it }
 
-  touched_on : (start count element sector : ℕ) → IsTouched v start count element sector → IsTouched other start count element sector
+  abbrev touched_on : (start count element sector : ℕ) → IsTouched v start count element sector → IsTouched other start count element sector
   touched_on start count element sector is = record { position = is.position; k = is.k; below = is.below; holds_it = is.holds_it }
 
   cell_back : (element : ℕ) (part : Part) (position sector : ℕ) → IsDataCell other element part position sector → IsDataCell v element part position sector
@@ -49,12 +49,30 @@ module _ (v : Volume) (marked : Bool) where
   pieces_marked start count each ahead kept at (one_more n some all rest) =
       one_more n some (kept_marked (start + n) (piece_of each ahead n (count - n)) kept all) (pieces_marked start count each ahead kept (n + piece_of each ahead n (count - n)) rest)
 
+  split_marked : (start count each ahead : ℕ) → IsSplit v start count each ahead → IsSplit other start count each ahead
+  split_marked start count each ahead split = record {
+    element = split.element;
+    part = split.part;
+    is_part = split.is_part;
+    keeps = split.keeps;
+    sector = split.sector;
+    one = touched_on start count split.element split.sector split.one;
+    other = touched_on start count split.element split.sector split.other;
+    differ = split.differ;
+  }
+
+  ends_marked : (start count each ahead : ℕ) → EndWithStripes v start count each ahead → EndWithStripes other start count each ahead
+  ends_marked start count each ahead ends =
+      ⊎_elim inl
+      (λ (whole : IsSplit v start count (piece_blocks v) (start % piece_blocks v) × (each ≡ max 1 count) × (ahead ≡ 0)).
+      inr (split_marked start count (piece_blocks v) (start % piece_blocks v) whole.0, whole.1, whole.2)) ends
+
   pub beside_marked : (start count : ℕ) (beside : Beside) → LiesBeside v start count beside → LiesBeside other start count beside
   beside_marked start count beside lies = record {
     some = lies.some;
     some_first = lies.some_first;
     plain = lies.plain;
-    stripes = lies.stripes;
+    stripes = λ keeps. ends_marked start count beside.each beside.ahead (lies.stripes keeps);
     all_kept = pieces_marked start count beside.each beside.ahead beside.kept 0 lies.all_kept;
     keeps_none = lies.keeps_none;
   }

@@ -2,6 +2,7 @@
 use Rattle.std.specs.Prelude.{◌≡◌, ◌≢◌, ℕ, ◌+◌, ◌/◌, ◌<◌, true, List, Some, None, slice_get, length}
 use Rattle.ddf_primary.specs.Cells.{depth_of, parity_member}
 use Rattle.ddf_array.specs.declared.part.Part.{Part}
+use Rattle.ddf_array.specs.declared.place.Place.{Place}
 use Rattle.ddf_array.specs.Levels.{keeps_parity}
 use Rattle.ddf_array.specs.Rows.{block_at, sources_without_block}
 use Rattle.ddf_array.specs.Sources.{Source, every_source}
@@ -44,3 +45,9 @@ pub record NoneLeftBeside (failed : ℕ → Type 0) (volume : Volume) (start cou
   pub sector : ℕ
   pub is_beside : IsBeside volume start count element part position sector
   pub none_left : NoneLeft failed (sources_beside volume element part position sector) slot
+
+-- no two positions of an element that keeps parity are on one disk
+abbrev pub AreOnOwnDisks : Volume → Type 0
+AreOnOwnDisks volume =
+    (element position other slot : ℕ) (part : Part) (first second : Place) → slice_get volume.parts element ≡ Some part → keeps_parity part.shape.layout ≡ true
+    → slice_get part.places position ≡ Some first → slice_get part.places other ≡ Some second → first.slot ≡ Some slot → second.slot ≡ Some slot → position ≡ other

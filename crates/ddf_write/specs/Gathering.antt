@@ -1,9 +1,10 @@
 -- What a look at the cells beside blocks keeps, cell by cell and row by row (profile).
-use Rattle.std.specs.Prelude.{◌≡◌, ◌≢◌, ◌⊎◌, ℕ, ◌+◌, ◌/◌, ◌<◌, ◌≤◌, List, [], Some, slice_get, slice_index_or, length}
+use Rattle.std.specs.Prelude.{◌≡◌, ◌≢◌, ◌⊎◌, ℕ, ◌+◌, ◌/◌, ◌<◌, ◌≤◌, true, List, [], Some, slice_get, slice_index_or, length}
 use Rattle.ddf_bay.specs.State.{BayState}
 use Rattle.ddf_primary.specs.Cells.{parity_member}
 use Rattle.ddf_array.specs.declared.part.Part.{Part}
 use Rattle.ddf_array.specs.declared.site.Site.{Site}
+use Rattle.ddf_array.specs.Levels.{keeps_parity}
 use Rattle.ddf_array.specs.Rows.{block_at}
 use Rattle.ddf_array.specs.Volume.{Volume}
 use Rattle.ddf_read.specs.Reading.{Failed, NoneLeft, OnlyReads}
@@ -18,6 +19,7 @@ use Rattle.ddf_write.specs.declared.looking.Piece.{Piece}
 use Rattle.ddf_write.specs.Beside.{HoldsNone}
 use Rattle.ddf_write.specs.Keeping.{Keeping, kept_of}
 use Rattle.ddf_write.specs.WriteRefused.{IsOther}
+use Rattle.ddf_write.specs.Writing.{IsTouched}
 
 -- what may be kept of a cell: it holds no block of the range, and was read as this
 pub record MayKeep {D : Type 0} (tells : Type 0) (old new : BayState D) (volume : Volume) (start count element position sector : ℕ) (bytes : List ℕ) : Type 0 where
@@ -76,9 +78,25 @@ pub record IsInRange (piece : Piece) : Type 0 where
   pub from : piece.start ≤ piece.first
   pub to : piece.first + piece.blocks ≤ piece.start + piece.count
 
--- a block of the range is none of the piece
-abbrev pub IsOfAnother : Piece → Type 0
-IsOfAnother piece = (k : ℕ) × (k < piece.count) × IsOther piece.first piece.blocks (piece.start + k)
+-- one of so many neighbouring cells holds a block of the range that is none of the piece
+pub record IsOfAnother (volume : Volume) (piece : Piece) (element position sector many : ℕ) : Type 0 where
+  pub cell : ℕ
+  pub is_in : cell < many
+  pub k : ℕ
+  pub below : k < piece.count
+  pub holds_it : block_at volume element position (sector + cell) ≡ Some (piece.start + k)
+  pub other : IsOther piece.first piece.blocks (piece.start + k)
+
+-- a row of an element that keeps parity has a block of the piece, and one of the range that is none of the piece
+pub record IsSplitRow (volume : Volume) (piece : Piece) : Type 0 where
+  pub element : ℕ
+  pub part : Part
+  pub is_part : slice_get volume.parts element ≡ Some part
+  pub keeps : keeps_parity part.shape.layout ≡ true
+  pub sector : ℕ
+  pub touched : IsTouched volume piece.first piece.blocks element sector
+  pub row : IsTouched volume piece.start piece.count element sector
+  pub other : IsOther piece.first piece.blocks (piece.start + row.k)
 
 -- why cells aren't kept
 abbrev pub IsMissed : (left : ℕ → Type 0) → (split : Type 0) → Missed → Type 0

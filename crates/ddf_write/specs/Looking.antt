@@ -1,5 +1,5 @@
 -- What is known, before blocks are written piece by piece, of what lies beside each piece (profile).
-use Rattle.std.specs.Prelude.{◌≡◌, ◌⊎◌, ℕ, ◌+◌, ◌-◌, ◌*◌, ◌/◌, ◌%◌, ◌^◌, ◌<◌, ◌≤◌, ◌==◌, nat_lt, nat_le, min, max, true, false, fold, Some, None, if◌then◌else◌}
+use Rattle.std.specs.Prelude.{◌≡◌, ◌≢◌, ◌⊎◌, ℕ, ◌+◌, ◌-◌, ◌*◌, ◌/◌, ◌%◌, ◌^◌, ◌<◌, ◌≤◌, ◌==◌, nat_lt, nat_le, min, max, true, false, fold, Some, None, slice_get, if◌then◌else◌}
 use Rattle.ddf_bay.specs.State.{BayState}
 use Rattle.ddf_primary.specs.Cells.{unit_of}
 use Rattle.ddf_array.specs.declared.part.Part.{Part}
@@ -14,6 +14,7 @@ use Rattle.ddf_write.specs.Beside.{NoneLeftBeside}
 use Rattle.ddf_write.specs.Keeping.{AllAreKept, Keeping, KeepsNone}
 use Rattle.ddf_write.specs.RowWrites.{keeps_parity_anywhere}
 use Rattle.ddf_write.specs.WriteRefused.{write_refusal}
+use Rattle.ddf_write.specs.Writing.{IsTouched}
 
 -- ---- pieces
 
@@ -57,9 +58,27 @@ pub data ArePiecesKept (volume : Volume) (start count each ahead : ℕ) (kept : 
   one_more : (at : ℕ) → at < count → AllAreKept volume (start + at) (piece_of each ahead at (count - at)) kept
       → ArePiecesKept volume start count each ahead kept (at + piece_of each ahead at (count - at)) → ArePiecesKept volume start count each ahead kept at
 
--- Pieces end where stripes end: all of them, from the array's first block on, are as long as they are to be. Or the range is one piece.
+-- the number of the piece in which a block of a range lies, of which so many blocks come before it
+abbrev pub piece_number : (each ahead at : ℕ) → ℕ
+piece_number each ahead at = (ahead + at) / each
+
+-- A row of an element that keeps parity is split by pieces of so many blocks: it has two blocks of the range, and these lie in two pieces.
+pub record IsSplit (volume : Volume) (start count each ahead : ℕ) : Type 0 where
+  pub element : ℕ
+  pub part : Part
+  pub is_part : slice_get volume.parts element ≡ Some part
+  pub keeps : keeps_parity part.shape.layout ≡ true
+  pub sector : ℕ
+  pub one : IsTouched volume start count element sector
+  pub other : IsTouched volume start count element sector
+  pub differ : piece_number each ahead one.k ≢ piece_number each ahead other.k
+
+-- Pieces end where stripes end: all of them, from the array's first block on, are as long as they are to be. Or the range is one piece, since these would split
+-- a row.
 abbrev pub EndWithStripes : Volume → (start count each ahead : ℕ) → Type 0
-EndWithStripes volume start count each ahead = ((each ≡ piece_blocks volume) × (ahead ≡ start % each)) ⊎ ((each ≡ max 1 count) × (ahead ≡ 0))
+EndWithStripes volume start count each ahead =
+    ((each ≡ piece_blocks volume) × (ahead ≡ start % each))
+    ⊎ (IsSplit volume start count (piece_blocks volume) (start % piece_blocks volume) × (each ≡ max 1 count) × (ahead ≡ 0))
 
 -- What is known of what lies beside a range: how its pieces go, and beside each of them every cell. What is kept holds no block of the range, so it stays what it is
 -- while they are written; and a row that one piece touches has no block of another one.

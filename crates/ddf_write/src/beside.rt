@@ -9,7 +9,7 @@ ghost use Rattle.ddf_cells.specs.Degraded.{is_degraded};
 ghost use Rattle.ddf_write.specs.Beside.{NoneLeftBeside};
 ghost use Rattle.ddf_write.specs.Gathering.{Gathers, IsMissed, IsUnkept};
 ghost use Rattle.ddf_write.specs.Keeping.{AllAreKept, AreGivenThem, AreTheirValues};
-ghost use Rattle.ddf_write.specs.Looking.{ArePiecesKept, IsLookFault, LiesBeside};
+ghost use Rattle.ddf_write.specs.Looking.{ArePiecesKept, IsLookFault, IsSplit, LiesBeside};
 ghost use Rattle.ddf_write.specs.RowWrites.{IsSure, keeps_parity_anywhere, keeps_parity_in};
 ghost use Rattle.ddf_write.specs.WriteRefused as refused;
 
@@ -79,7 +79,7 @@ fn keep_pieces<B: Bay>(
     requires ahead { ahead ≤ start }
     ensures all { IfOk result (λ kept. ArePiecesKept view.now start count each ahead kept 0) }
     ensures gathers { IfOk result (λ kept. Gathers B.tells (B.disks bay.old) (B.disks bay.new) view.now start count [] kept) }
-    ensures left { IfErr result (IsMissed (NoneLeftBeside (Failed (B.disks bay.old) (B.disks bay.new)) view.now start count) Unit) }
+    ensures left { IfErr result (IsMissed (NoneLeftBeside (Failed (B.disks bay.old) (B.disks bay.new)) view.now start count) (IsSplit view.now start count each ahead)) }
     ensures reads { OnlyReads (B.disks bay.old) (B.disks bay.new) }
 {
     let mut kept = Kept::new(alloc);

@@ -10,9 +10,10 @@ ghost use Rattle.ddf_array.specs.Values.{bytes_at, value};
 ghost use Rattle.ddf_array.specs.Volume.{Fits, Volume, IsVolume, volume, capacity};
 ghost use Rattle.ddf_cells.specs.CellsOn.{copy_cells, write_cells};
 ghost use Rattle.ddf_array.specs.Within.{is_within};
-ghost use Rattle.ddf_read.specs.Reading.{IsOn};
+ghost use Rattle.ddf_read.specs.Reading.{Failed, IsOn};
 ghost use Rattle.ddf_cells.specs.Degraded.{is_degraded};
 ghost use Rattle.ddf_array.specs.Apart.{IsApart};
+ghost use Rattle.ddf_write.specs.Beside.{AreOnOwnDisks, NoneLeftBeside};
 ghost use Rattle.ddf_write.specs.WriteRefused.{IsStopped};
 ghost use Rattle.ddf_write.specs.Writing.{HasWritten, IsAmongWrites, IsLeftByWrite};
 
@@ -86,6 +87,15 @@ pub fn a_fault_of_a_write_names_a_disk_of_the_array<B: Bay>(old: &B, new: &B)
     ensures on { (volume : Volume) (start count slot : ℕ) → IsVolume volume → IsStopped (B.disks old.now) (B.disks new.now) volume start count slot → IsOn volume slot }
     ensures there { (volume : Volume) (start count slot : ℕ) → IsVolume volume → Fits (B.disks old.now).sizes volume
         → IsStopped (B.disks old.now) (B.disks new.now) volume start count slot → slot < length (B.disks old.now).sizes }
+{}
+
+/// A look at what lies beside blocks finds no source left of a cell only where reads of two disks failed: that which it names, and another. So no single
+/// disk keeps blocks from being written, however many of its sectors can't be read. The array lacks no position of an element that keeps parity, and has no
+/// two of them on one disk.
+pub fn a_look_ends_only_where_two_disks_failed<B: Bay>(old: &B, new: &B)
+    ensures { (volume : Volume) (start count slot : ℕ) → IsVolume volume → is_degraded volume ≡ false → AreOnOwnDisks volume
+        → NoneLeftBeside (Failed (B.disks old.now) (B.disks new.now)) volume start count slot
+        → Failed (B.disks old.now) (B.disks new.now) slot × ((other : ℕ) × (Failed (B.disks old.now) (B.disks new.now) other × (other ≢ slot))) }
 {}
 
 /// A redundant array of which no element that keeps parity lacks a position is sound, whatever its mark.

@@ -10,7 +10,7 @@ ghost use Rattle.ddf_cells.specs.CellSources.{IsReadable};
 ghost use Rattle.ddf_cells.specs.Degraded.{is_degraded};
 ghost use Rattle.ddf_cells.specs.RowSums.{HoldsParityAlong};
 ghost use Rattle.ddf_write.specs.Beside.{NoneLeftBeside};
-ghost use Rattle.ddf_write.specs.Gathering.{AreKnownAlong, Gathers, IsKnownAt, IsMissed, IsOfAnother, NoneLeftOfOthers, RowIsKnown};
+ghost use Rattle.ddf_write.specs.Gathering.{AreKnownAlong, Gathers, IsKnownAt, IsMissed, IsOfAnother, IsSplitRow, NoneLeftOfOthers, RowIsKnown};
 ghost use Rattle.ddf_write.specs.Keeping.{AllAreKept};
 ghost use Rattle.ddf_write.specs.RowWrites.{AreTouched, RowsIn};
 
@@ -44,7 +44,7 @@ fn keep_position<B: Bay>(
     ensures known { OnOk result ((position ≡ parity → ⊥) → AreKnownAlong view.now piece.first piece.blocks kept.new element position sector rows) }
     ensures gathers { OnOk result (Gathers B.tells (B.disks bay.old) (B.disks bay.new) view.now piece.start piece.count kept.old kept.new) }
     ensures left { IfErr result (λ missed. (part : Part) → slice_get view.now.parts element ≡ Some part → (position ≡ parity → ⊥)
-        × IsMissed (NoneLeftOfOthers (Failed (B.disks bay.old) (B.disks bay.new)) view.now piece.start piece.count element part position sector rows) (IsOfAnother piece) missed) }
+        × IsMissed (NoneLeftOfOthers (Failed (B.disks bay.old) (B.disks bay.new)) view.now piece.start piece.count element part position sector rows) (IsOfAnother view.now piece element position sector rows) missed) }
     ensures reads { OnlyReads (B.disks bay.old) (B.disks bay.new) }
 {
     if position == parity {
@@ -81,7 +81,7 @@ fn keep_run_of_rows<B: Bay>(
     ensures known { OnOk result ((j position : ℕ) → j < rows → position < length part.now.places → (position ≡ parity → ⊥)
         → IsKnownAt view.now piece.first piece.blocks kept.new element position (sector + j)) }
     ensures gathers { OnOk result (Gathers B.tells (B.disks bay.old) (B.disks bay.new) view.now piece.start piece.count kept.old kept.new) }
-    ensures left { IfErr result (IsMissed (NoneLeftBeside (Failed (B.disks bay.old) (B.disks bay.new)) view.now piece.start piece.count) (IsOfAnother piece)) }
+    ensures left { IfErr result (IsMissed (NoneLeftBeside (Failed (B.disks bay.old) (B.disks bay.new)) view.now piece.start piece.count) (IsSplitRow view.now piece)) }
     ensures reads { OnlyReads (B.disks bay.old) (B.disks bay.new) }
 {
     for position in 0..part.places.items().len() {
@@ -119,7 +119,7 @@ fn keep_rows_from<B: Bay>(
     ensures known { IfOk result (λ count. RowsIn view.now piece.first k element (RowIsKnown view.now piece.first piece.blocks kept.old)
         → RowsIn view.now piece.first (k + count) element (RowIsKnown view.now piece.first piece.blocks kept.new)) }
     ensures gathers { OnOk result (Gathers B.tells (B.disks bay.old) (B.disks bay.new) view.now piece.start piece.count kept.old kept.new) }
-    ensures left { IfErr result (IsMissed (NoneLeftBeside (Failed (B.disks bay.old) (B.disks bay.new)) view.now piece.start piece.count) (IsOfAnother piece)) }
+    ensures left { IfErr result (IsMissed (NoneLeftBeside (Failed (B.disks bay.old) (B.disks bay.new)) view.now piece.start piece.count) (IsSplitRow view.now piece)) }
     ensures reads { OnlyReads (B.disks bay.old) (B.disks bay.new) }
 {
     let block = piece.first + k as u64;
@@ -168,7 +168,7 @@ fn keep_rows_in<B: Bay>(
     requires blocks { piece.start + piece.count ≤ capacity view.now }
     ensures known { OnOk result (RowsIn view.now piece.first piece.blocks element (RowIsKnown view.now piece.first piece.blocks kept.new)) }
     ensures gathers { OnOk result (Gathers B.tells (B.disks bay.old) (B.disks bay.new) view.now piece.start piece.count kept.old kept.new) }
-    ensures left { IfErr result (IsMissed (NoneLeftBeside (Failed (B.disks bay.old) (B.disks bay.new)) view.now piece.start piece.count) (IsOfAnother piece)) }
+    ensures left { IfErr result (IsMissed (NoneLeftBeside (Failed (B.disks bay.old) (B.disks bay.new)) view.now piece.start piece.count) (IsSplitRow view.now piece)) }
     ensures reads { OnlyReads (B.disks bay.old) (B.disks bay.new) }
 {
     let Some(part) = view.part(element) else {
@@ -202,7 +202,7 @@ pub(crate) fn keep_piece<B: Bay>(
     requires blocks { piece.start + piece.count ≤ capacity view.now }
     ensures all { OnOk result (AllAreKept view.now piece.first piece.blocks kept.new) }
     ensures gathers { OnOk result (Gathers B.tells (B.disks bay.old) (B.disks bay.new) view.now piece.start piece.count kept.old kept.new) }
-    ensures left { IfErr result (IsMissed (NoneLeftBeside (Failed (B.disks bay.old) (B.disks bay.new)) view.now piece.start piece.count) (IsOfAnother piece)) }
+    ensures left { IfErr result (IsMissed (NoneLeftBeside (Failed (B.disks bay.old) (B.disks bay.new)) view.now piece.start piece.count) (IsSplitRow view.now piece)) }
     ensures reads { OnlyReads (B.disks bay.old) (B.disks bay.new) }
 {
     for element in 0..view.parts().len() {

@@ -164,7 +164,7 @@ fn keep_others<B: Bay>(
     ensures known { IfOk result (AreKnownAlong view.now piece.first piece.blocks kept.new element position sector) }
     ensures gathers { OnOk result (Gathers B.tells (B.disks bay.old) (B.disks bay.new) view.now piece.start piece.count kept.old kept.new) }
     ensures left { IfErr result (λ missed. (part : Part) → slice_get view.now.parts element ≡ Some part
-        → IsMissed (NoneLeftOfOthers (Failed (B.disks bay.old) (B.disks bay.new)) view.now piece.start piece.count element part position sector most) (IsOfAnother piece) missed) }
+        → IsMissed (NoneLeftOfOthers (Failed (B.disks bay.old) (B.disks bay.new)) view.now piece.start piece.count element part position sector most) (IsOfAnother view.now piece element position sector most) missed) }
     ensures reads { OnlyReads (B.disks bay.old) (B.disks bay.new) }
 {
     match place_among(view, element, position, sector, piece.start, piece.count) {
@@ -209,7 +209,7 @@ fn keep_first<B: Bay>(
     ensures known { IfOk result (AreKnownAlong view.now piece.first piece.blocks kept.new element position sector) }
     ensures gathers { OnOk result (Gathers B.tells (B.disks bay.old) (B.disks bay.new) view.now piece.start piece.count kept.old kept.new) }
     ensures left { IfErr result (λ missed. (part : Part) → slice_get view.now.parts element ≡ Some part
-        → IsMissed (NoneLeftOfOthers (Failed (B.disks bay.old) (B.disks bay.new)) view.now piece.start piece.count element part position sector most) (IsOfAnother piece) missed) }
+        → IsMissed (NoneLeftOfOthers (Failed (B.disks bay.old) (B.disks bay.new)) view.now piece.start piece.count element part position sector most) (IsOfAnother view.now piece element position sector most) missed) }
     ensures reads { OnlyReads (B.disks bay.old) (B.disks bay.new) }
 {
     match place_among(view, element, position, sector, piece.first, piece.blocks) {
@@ -246,7 +246,7 @@ pub(crate) fn keep_cells<B: Bay>(
     ensures known { OnOk result (AreKnownAlong view.now piece.first piece.blocks kept.new element position sector count) }
     ensures gathers { OnOk result (Gathers B.tells (B.disks bay.old) (B.disks bay.new) view.now piece.start piece.count kept.old kept.new) }
     ensures left { IfErr result (λ missed. (part : Part) → slice_get view.now.parts element ≡ Some part
-        → IsMissed (NoneLeftOfOthers (Failed (B.disks bay.old) (B.disks bay.new)) view.now piece.start piece.count element part position sector count) (IsOfAnother piece) missed) }
+        → IsMissed (NoneLeftOfOthers (Failed (B.disks bay.old) (B.disks bay.new)) view.now piece.start piece.count element part position sector count) (IsOfAnother view.now piece element position sector count) missed) }
     ensures reads { OnlyReads (B.disks bay.old) (B.disks bay.new) }
 {
     let mut at = 0;

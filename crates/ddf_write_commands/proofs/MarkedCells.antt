@@ -1,5 +1,5 @@
 -- What lies beside blocks, and what an array gives of it, doesn't depend on its mark, nor on the rows that were rebuilt.
-use Rattle.std.proofs.Common.{◌≡◌, ◌∙◌, ◌⊎◌, inl, inr, ⊎_elim, ℕ, zero, suc, ◌+◌, ◌-◌, ◌<◌, Bool, false, List, [], ◌∷◌, ◌++◌, Option, Some, None, refl, sym, ap, subst, length, map, find, slice_get}
+use Rattle.std.proofs.Common.{◌≡◌, ◌∙◌, ◌⊎◌, inl, inr, ⊎_elim, ℕ, zero, suc, ◌+◌, ◌-◌, ◌%◌, ◌<◌, Bool, false, List, [], ◌∷◌, ◌++◌, Option, Some, None, refl, sym, ap, subst, length, map, find, max, slice_get}
 use Rattle.std.proofs.Math.Path.{fun_ext}
 use Rattle.std.proofs.lemmas.List.{length-map}
 use Rattle.std.specs.Prelude.{◌&&◌, ◌==◌, ◌||◌, filter_map, fold, option_map, option_to_list, unwrap_or, if◌then◌else◌}
@@ -24,7 +24,7 @@ use Rattle.ddf_cells.specs.Alike.{IsCell}
 use Rattle.ddf_write.specs.declared.beside.Beside.{Beside}
 use Rattle.ddf_write.specs.Beside.{HoldsNone, IsDataCell, NoneLeftBeside, sources_beside}
 use Rattle.ddf_write.specs.Keeping.{AllAreKept, AreTheirValues, Keeping}
-use Rattle.ddf_write.specs.Looking.{ArePiecesKept, EndWithStripes, LiesBeside, blocks_of_stripes, in_stripes_of, no_more, one_more, piece_blocks, piece_of}
+use Rattle.ddf_write.specs.Looking.{ArePiecesKept, EndWithStripes, IsSplit, LiesBeside, blocks_of_stripes, in_stripes_of, no_more, one_more, piece_blocks, piece_of}
 use Rattle.ddf_write.specs.RowWrites.{IsSure, keeps_parity_anywhere, keeps_parity_in}
 use Rattle.ddf_write.specs.Writing.{IsTouched}
 use Rattle.ddf_rewrite.proofs.Lists.{get_map, map_get}
@@ -199,7 +199,7 @@ module _ (v : Volume) where
   touched_back : (start count element sector : ℕ) → IsTouched w start count element sector → IsTouched v start count element sector
   touched_back start count element sector is = record { position = is.position; k = is.k; below = is.below; holds_it = sym (block_same element is.position sector) ∙ is.holds_it }
 
-  touched_on : (start count element sector : ℕ) → IsTouched v start count element sector → IsTouched w start count element sector
+  abbrev touched_on : (start count element sector : ℕ) → IsTouched v start count element sector → IsTouched w start count element sector
   touched_on start count element sector is = record { position = is.position; k = is.k; below = is.below; holds_it = block_same element is.position sector ∙ is.holds_it }
 
   none_back : (start count element position sector : ℕ) → HoldsNone w start count element position sector → HoldsNone v start count element position sector
@@ -224,10 +224,24 @@ module _ (v : Volume) where
   pub parity_same : keeps_parity_anywhere w ≡ keeps_parity_anywhere v
   parity_same = any_parity v.parts
 
+  split_marked : (start count each ahead : ℕ) → IsSplit v start count each ahead → IsSplit w start count each ahead
+  split_marked start count each ahead split = record {
+    element = split.element;
+    part = cleared split.part;
+    is_part = get_map cleared v.parts split.element split.part split.is_part;
+    keeps = split.keeps;
+    sector = split.sector;
+    one = touched_on start count split.element split.sector split.one;
+    other = touched_on start count split.element split.sector split.other;
+    differ = split.differ;
+  }
+
   ends_marked : (start count each ahead : ℕ) → EndWithStripes v start count each ahead → EndWithStripes w start count each ahead
   ends_marked start count each ahead ends =
       let same : piece_blocks w ≡ piece_blocks v = ap blocks_of_stripes (stripes_same 1 v.parts) in
-      ⊎_elim (λ (stripes : (each ≡ piece_blocks v) × _). inl (stripes.0 ∙ sym same, stripes.1)) inr ends
+      ⊎_elim (λ (stripes : (each ≡ piece_blocks v) × _). inl (stripes.0 ∙ sym same, stripes.1))
+      (λ (one : IsSplit v start count (piece_blocks v) (start % piece_blocks v) × (each ≡ max 1 count) × (ahead ≡ 0)).
+      inr (subst (λ (n : ℕ). IsSplit w start count n (start % n)) (sym same) (split_marked start count (piece_blocks v) (start % piece_blocks v) one.0), one.1, one.2)) ends
 
   pub lies_marked : (start count : ℕ) (beside : Beside) → LiesBeside v start count beside → LiesBeside w start count beside
   lies_marked start count beside lies = record {

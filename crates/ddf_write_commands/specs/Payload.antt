@@ -24,7 +24,8 @@ pub record Pieces : Type 0 where
 abbrev pub pieces_of : Beside → Pieces
 pieces_of beside = record { each = beside.each; ahead = beside.ahead }
 
--- Those of a range of an array: of one that keeps no parity 2048 blocks each; of one that does they end where stripes end, or all of it is one.
+-- Those of a range of an array: of one that keeps no parity 2048 blocks each; of one that does they end where stripes end, or all of it is one, since these
+-- would split a row.
 pub record ArePiecesOf (volume : Volume) (start count : ℕ) (pieces : Pieces) : Type 0 where
   pub some : 0 < pieces.each
   pub some_first : pieces.ahead < pieces.each

@@ -3,15 +3,17 @@ use Rattle.std.proofs.lemmas.Result.{err_from_is_err_and}
 use Rattle.ddf_read.specs.Reading.{Failed}
 use Rattle.ddf_read.proofs.OnlyReading.{failed_before, only_reads_then}
 use Rattle.ddf_write.specs.Beside.{NoneLeftBeside}
-use Rattle.ddf_write.specs.Gathering.{Gathers, IsOfAnother}
+use Rattle.ddf_write.specs.Gathering.{Gathers, IsSplitRow}
 use Rattle.ddf_write.specs.Keeping.{AllAreKept, Keeping}
-use Rattle.ddf_write.specs.Looking.{ArePiecesKept, no_more, one_more, piece_of}
+use Rattle.ddf_write.specs.Looking.{ArePiecesKept, IsSplit, no_more, one_more, piece_of}
 use Rattle.ddf_write.proofs.Gathered.{all_grows, beside_wider, gathers_start, gathers_then, grows_start, grows_then, missed_by}
+use Rattle.ddf_write.proofs.Splitting.{next_starts, splits_pieces}
 use Rattle.ddf_write.proofs.beside.keep_pieces.Goals as goal
 
 pub loop-at-init : goal.loop-at-init
 loop-at-init g c = record {
   inside = omega arith;
+  starts = λ some more. absurd (omega (arith, some));
   pieces = λ kept grows pieces. pieces;
   gathers =
       subst (λ (kept : Keeping). Gathers g.B.Bay.tells (g.B.Bay.disks c.args.bay.now) (g.B.Bay.disks c.args.bay.now) c.args.view.now c.args.start c.args.count [] kept) (sym c.new-kept.ensures)
@@ -29,6 +31,7 @@ loop-at-preserved g c =
     let next = c.in_ok-keep_piece.ensures in
     record {
       inside = omega (arith, c.piece_of-blocks.ensures.within, c.loop-at-test.true);
+      starts = λ some more. next_starts c.args.each c.args.ahead at c.piece_of-blocks.result c.args.count c.requires.some size more;
       pieces = λ kept grows pieces.
           let all : AllAreKept v (c.args.start + at) (piece_of c.args.each c.args.ahead at (c.args.count - at)) kept =
           subst (λ n. AllAreKept v (c.args.start + at) n kept) size (all_grows v (c.args.start + at) c.piece_of-blocks.result c.keep_piece.new.kept kept grows next.all) in
@@ -47,8 +50,9 @@ returns-in_err-keep_piece-clause-left g c =
     let new = g.B.Bay.disks c.keep_piece.new.bay in
     rw (p.1, p.2)
     (missed_by (NoneLeftBeside (Failed now new) v c.args.start c.args.count) (NoneLeftBeside (Failed old new) v c.args.start c.args.count)
-    (IsOfAnother (record { start = c.args.start; count = c.args.count; first = c.args.start + c.loop-at.at; blocks = c.piece_of-blocks.result })) (Unit {0})
-    (λ slot left. beside_wider (failed_before c.loop-at.invariant.gathers.reads c.in_err-keep_piece.ensures.reads) v c.args.start c.args.count slot left) (λ split. tt) _ c.in_err-keep_piece.ensures.left)
+    (IsSplitRow v (record { start = c.args.start; count = c.args.count; first = c.args.start + c.loop-at.at; blocks = c.piece_of-blocks.result })) (IsSplit v c.args.start c.args.count c.args.each c.args.ahead)
+    (λ slot left. beside_wider (failed_before c.loop-at.invariant.gathers.reads c.in_err-keep_piece.ensures.reads) v c.args.start c.args.count slot left) (λ split. splits_pieces c.args.each c.args.ahead c.loop-at.at c.piece_of-blocks.result c.args.count c.requires.some c.piece_of-blocks.ensures.value c.loop-at-test.true
+    (λ some. c.loop-at.invariant.starts some c.loop-at-test.true) v c.args.start split) _ c.in_err-keep_piece.ensures.left)
 
 pub returns-in_err-keep_piece-clause-reads : goal.returns-in_err-keep_piece-clause-reads
 returns-in_err-keep_piece-clause-reads g c = only_reads_then c.loop-at.invariant.gathers.reads c.in_err-keep_piece.ensures.reads

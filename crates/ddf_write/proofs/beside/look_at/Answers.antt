@@ -1,4 +1,4 @@
-use Rattle.std.proofs.Common.{◌≡◌, ◌∙◌, inl, inr, [], true, false, refl, sym, subst, arith, max}
+use Rattle.std.proofs.Common.{◌≡◌, ◌∙◌, ◌%◌, inl, inr, [], true, false, refl, sym, subst, arith, max}
 use Rattle.std.proofs.Math.Nat.{mod-le}
 use Rattle.std.proofs.lemmas.Nat.{mod_below}
 use Rattle.std.proofs.lemmas.Result.{err_from_is_err_and}
@@ -7,7 +7,7 @@ use Rattle.ddf_read.proofs.OnlyReading.{failed_before, only_reads_then}
 use Rattle.ddf_write.specs.declared.looking.Missed.{Missed}
 use Rattle.ddf_write.specs.Beside.{NoneLeftBeside}
 use Rattle.ddf_write.specs.Gathering.{IsMissed}
-use Rattle.ddf_write.specs.Looking.{ArePiecesKept}
+use Rattle.ddf_write.specs.Looking.{ArePiecesKept, IsSplit}
 use Rattle.ddf_write.proofs.Gathered.{gathers_reads, gathers_then}
 use Rattle.ddf_write.proofs.Looked.{none_kept, unkept_fault, whole_kept}
 use Rattle.ddf_write.proofs.beside.look_at.Goals as goal
@@ -31,7 +31,7 @@ returns-in-Ok-clause-beside g c = record {
 pub returns-in-Err-Disk-clause-fault : goal.returns-in-Err-Disk-clause-fault
 returns-in-Err-Disk-clause-fault g c = (
   c.requires.accepted,
-  subst (λ (m : Missed). IsMissed (NoneLeftBeside (Failed (g.B.Bay.disks c.args.bay.now) (g.B.Bay.disks c.keep_pieces.new.bay)) c.args.view.now c.args.start c.args.count) (Unit {0}) m) c.in-Err-Disk.field-0-is c.in-Err-Disk.ensures.left,
+  subst (λ (m : Missed). IsMissed (NoneLeftBeside (Failed (g.B.Bay.disks c.args.bay.now) (g.B.Bay.disks c.keep_pieces.new.bay)) c.args.view.now c.args.start c.args.count) (IsSplit c.args.view.now c.args.start c.args.count c.piece_blocks-each.result (c.args.start % c.piece_blocks-each.result)) m) c.in-Err-Disk.field-0-is c.in-Err-Disk.ensures.left,
 )
 
 pub keep_whole-requires-clause-fits : goal.keep_whole-requires-clause-fits
@@ -57,7 +57,13 @@ returns-in_ok-kept-in-Err-Split-clause-beside g c = record {
   some = omega arith;
   some_first = omega arith;
   plain = λ none. absurd (never (sym c.requires.keeps ∙ none));
-  stripes = λ keeps. inr (omega arith, refl);
+  stripes = λ keeps.
+      let v = c.args.view.now in
+      let each = c.piece_blocks-each.result in
+      let split : IsSplit v c.args.start c.args.count each (c.args.start % each) =
+      subst (λ (m : Missed). IsMissed (NoneLeftBeside (Failed (g.B.Bay.disks c.args.bay.now) (g.B.Bay.disks c.keep_pieces.new.bay)) v c.args.start c.args.count) (IsSplit v c.args.start c.args.count each (c.args.start % each)) m)
+      c.in-Err-Split.field-0-is c.in-Err-Split.ensures.left in
+      inr (subst (λ n. IsSplit v c.args.start c.args.count n (c.args.start % n)) c.piece_blocks-each.ensures.value split, omega arith, refl);
   all_kept =
       let same : max 1 c.args.count ≡ c.max.result = omega (arith, c.max.ensures) in
       subst (λ each. ArePiecesKept c.args.view.now c.args.start c.args.count each 0 c.in_ok-kept-in-Err-Split.kept 0) same (whole_kept c.args.view.now c.args.start c.args.count c.in_ok-kept-in-Err-Split.kept c.in_ok-kept-in-Err-Split.ensures.all);

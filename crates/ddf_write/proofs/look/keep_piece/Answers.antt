@@ -3,7 +3,7 @@ use Rattle.std.proofs.lemmas.Result.{err_from_is_err_and}
 use Rattle.ddf_read.specs.Reading.{Failed}
 use Rattle.ddf_read.proofs.OnlyReading.{failed_before, only_reads_then}
 use Rattle.ddf_write.specs.Beside.{NoneLeftBeside}
-use Rattle.ddf_write.specs.Gathering.{IsOfAnother, RowIsKnown}
+use Rattle.ddf_write.specs.Gathering.{IsSplitRow, RowIsKnown}
 use Rattle.ddf_write.proofs.Gathered.{all_known, beside_wider, gathers_start, gathers_then, missed_by, row_grows}
 use Rattle.ddf_write.proofs.RowLoops.{rows_all, rows_more}
 use Rattle.ddf_write.proofs.look.keep_piece.Goals as goal
@@ -36,7 +36,7 @@ returns-in_err-keep_rows_in-clause-left g c =
     let now = g.B.Bay.disks c.loop-element.bay in
     let new = g.B.Bay.disks c.keep_rows_in.new.bay in
     rw (p.1, p.2)
-    (missed_by (NoneLeftBeside (Failed now new) v c.args.piece.start c.args.piece.count) (NoneLeftBeside (Failed old new) v c.args.piece.start c.args.piece.count) (IsOfAnother c.args.piece) (IsOfAnother c.args.piece)
+    (missed_by (NoneLeftBeside (Failed now new) v c.args.piece.start c.args.piece.count) (NoneLeftBeside (Failed old new) v c.args.piece.start c.args.piece.count) (IsSplitRow v c.args.piece) (IsSplitRow v c.args.piece)
     (λ slot left. beside_wider (failed_before c.loop-element.invariant.gathers.reads c.in_err-keep_rows_in.ensures.reads) v c.args.piece.start c.args.piece.count slot left) (λ split. split) _ c.in_err-keep_rows_in.ensures.left)
 
 pub returns-in_err-keep_rows_in-clause-reads : goal.returns-in_err-keep_rows_in-clause-reads

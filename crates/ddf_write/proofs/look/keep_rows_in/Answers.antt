@@ -4,7 +4,7 @@ use Rattle.ddf_array.specs.Levels.{keeps_parity}
 use Rattle.ddf_read.specs.Reading.{Failed}
 use Rattle.ddf_read.proofs.OnlyReading.{failed_before, only_reads_then}
 use Rattle.ddf_write.specs.Beside.{NoneLeftBeside}
-use Rattle.ddf_write.specs.Gathering.{IsOfAnother, RowIsKnown}
+use Rattle.ddf_write.specs.Gathering.{IsSplitRow, RowIsKnown}
 use Rattle.ddf_write.proofs.Gathered.{beside_wider, gathers_start, gathers_then, missed_by}
 use Rattle.ddf_write.proofs.RowLoops.{parity_within, rows_no_part, rows_no_parity}
 use Rattle.ddf_write.proofs.look.keep_rows_in.Goals as goal
@@ -53,7 +53,7 @@ returns-in_err-k-clause-left g c =
     let now = g.B.Bay.disks c.loop-k.bay in
     let new = g.B.Bay.disks c.keep_rows_from.new.bay in
     rw (p.1, p.2)
-    (missed_by (NoneLeftBeside (Failed now new) v c.args.piece.start c.args.piece.count) (NoneLeftBeside (Failed old new) v c.args.piece.start c.args.piece.count) (IsOfAnother c.args.piece) (IsOfAnother c.args.piece)
+    (missed_by (NoneLeftBeside (Failed now new) v c.args.piece.start c.args.piece.count) (NoneLeftBeside (Failed old new) v c.args.piece.start c.args.piece.count) (IsSplitRow v c.args.piece) (IsSplitRow v c.args.piece)
     (λ slot left. beside_wider (failed_before c.loop-k.invariant.gathers.reads c.in_err-k.ensures.reads) v c.args.piece.start c.args.piece.count slot left) (λ split. split) _ c.in_err-k.ensures.left)
 
 pub returns-in_err-k-clause-reads : goal.returns-in_err-k-clause-reads

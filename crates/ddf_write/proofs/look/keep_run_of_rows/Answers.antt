@@ -9,8 +9,9 @@ use Rattle.ddf_read.specs.Reading.{Failed}
 use Rattle.ddf_read.proofs.OnlyReading.{failed_before, only_reads_then}
 use Rattle.ddf_cells.proofs.Depths.{blocks_small}
 use Rattle.ddf_write.specs.Beside.{NoneLeftBeside}
-use Rattle.ddf_write.specs.Gathering.{IsKnownAt, IsOfAnother, NoneLeftOfOthers}
+use Rattle.ddf_write.specs.Gathering.{IsKnownAt, IsOfAnother, IsSplitRow, NoneLeftOfOthers}
 use Rattle.ddf_write.proofs.Gathered.{gathers_start, gathers_then, known_grows, left_beside, missed_by, unmarked}
+use Rattle.ddf_write.proofs.Splitting.{splits_row}
 use Rattle.ddf_write.proofs.look.keep_run_of_rows.Goals as goal
 
 some_is : {X : Type 0} {a b : X} → Some a ≡ Some b → a ≡ b
@@ -66,9 +67,9 @@ returns-in_err-keep_position-clause-left g c =
     let left = c.in_err-keep_position.ensures.left c.args.part.now c.requires.is_part in
     rw (p.1, p.2)
     (missed_by (NoneLeftOfOthers (Failed now new) v c.args.piece.start c.args.piece.count c.args.element c.args.part.now c.loop-position.position c.args.sector c.args.rows)
-    (NoneLeftBeside (Failed old new) v c.args.piece.start c.args.piece.count) (IsOfAnother c.args.piece) (IsOfAnother c.args.piece)
+    (NoneLeftBeside (Failed old new) v c.args.piece.start c.args.piece.count) (IsOfAnother v c.args.piece c.args.element c.loop-position.position c.args.sector c.args.rows) (IsSplitRow v c.args.piece)
     (λ slot none. left_beside (failed_before c.loop-position.invariant.gathers.reads c.in_err-keep_position.ensures.reads) v c.requires.known (unmarked v c.requires.trusted) c.args.piece (record { from = c.requires.begins; to = c.requires.ends }) c.args.element c.args.part.now
-    c.requires.is_part c.requires.keeps c.args.parity c.args.sector c.args.rows c.requires.is_parity c.requires.touched c.loop-position.position slot (omega (arith, n, c.loop-position-test.true)) left.0 none) (λ split. split) _ left.1)
+    c.requires.is_part c.requires.keeps c.args.parity c.args.sector c.args.rows c.requires.is_parity c.requires.touched c.loop-position.position slot (omega (arith, n, c.loop-position-test.true)) left.0 none) (λ split. splits_row v c.args.piece c.args.element c.args.part.now c.requires.is_part c.requires.keeps c.loop-position.position c.args.sector c.args.rows c.requires.touched split) _ left.1)
 
 pub returns-in_err-keep_position-clause-reads : goal.returns-in_err-keep_position-clause-reads
 returns-in_err-keep_position-clause-reads g c = only_reads_then c.loop-position.invariant.gathers.reads c.in_err-keep_position.ensures.reads

@@ -4,6 +4,7 @@ use Rattle.ddf_read.specs.Reading.{Failed}
 use Rattle.ddf_read.proofs.OnlyReading.{failed_before, only_reads_then}
 use Rattle.ddf_write.specs.Gathering.{IsOfAnother, NoneLeftOfOthers}
 use Rattle.ddf_write.proofs.Gathered.{along_more, gathers_start, gathers_then, left_further, missed_by}
+use Rattle.ddf_write.proofs.Splitting.{another_further}
 use Rattle.ddf_write.proofs.looking.keep_cells.Goals as goal
 
 pub loop-at-init : goal.loop-at-init
@@ -39,9 +40,11 @@ returns-in_err-at-clause-left g c =
     rw (p.1, p.2)
     (λ part part_at.
     missed_by (NoneLeftOfOthers (Failed now new) v c.args.piece.start c.args.piece.count c.args.element part c.args.position (c.args.sector + c.loop-at.at) (c.args.count - c.loop-at.at))
-    (NoneLeftOfOthers (Failed old new) v c.args.piece.start c.args.piece.count c.args.element part c.args.position c.args.sector c.args.count) (IsOfAnother c.args.piece) (IsOfAnother c.args.piece)
+    (NoneLeftOfOthers (Failed old new) v c.args.piece.start c.args.piece.count c.args.element part c.args.position c.args.sector c.args.count) (IsOfAnother v c.args.piece c.args.element c.args.position (c.args.sector + c.loop-at.at) (c.args.count - c.loop-at.at))
+    (IsOfAnother v c.args.piece c.args.element c.args.position c.args.sector c.args.count)
     (λ slot left. left_further (failed_before c.loop-at.invariant.gathers.reads c.in_err-at.ensures.reads) v c.args.piece.start c.args.piece.count c.args.element part c.args.position c.args.sector c.loop-at.at
-    (c.args.count - c.loop-at.at) c.args.count slot (omega (arith, c.loop-at-test.true)) left) (λ split. split) _ (c.in_err-at.ensures.left part part_at))
+    (c.args.count - c.loop-at.at) c.args.count slot (omega (arith, c.loop-at-test.true)) left) (λ split. another_further v c.args.piece c.args.element c.args.position c.args.sector c.loop-at.at (c.args.count - c.loop-at.at) c.args.count
+    (omega (arith, c.loop-at-test.true)) split) _ (c.in_err-at.ensures.left part part_at))
 
 pub returns-in_err-at-clause-reads : goal.returns-in_err-at-clause-reads
 returns-in_err-at-clause-reads g c = only_reads_then c.loop-at.invariant.gathers.reads c.in_err-at.ensures.reads
