@@ -5,8 +5,9 @@
 
 Of logs of one entry, of 1,025 and of 65,535, which is as many as a log can count, or of so many ENTRIES each: `read` gives each block what was put at its place, or at the
 spare place of its log, by each disk alone; behind a `write` each sector of each disk, the bad ones too, has what it had or the block that belongs there, and both copies'
-logs have the bytes that they had. A log that breaks a rule by one sector is refused (31), and without its disk all is read. Of small logs by chance, near each bound, those are
-served that docs/FORMAT.md says fit, and no others.
+logs have the bytes that they had. A log that breaks a rule by one sector is refused (31), standard error says which rule and by which entry, and without its disk all is read.
+So it is where a disk's two copies carry different logs, until its group is assembled, and where such a disk is to join a group. Of small logs by chance, near each bound, those
+are served that docs/FORMAT.md says fit, and no others.
 
 The disks, their logs and the places of blocks are counted here (handmade.py), by docs/FORMAT.md, and not by `ddf`. DDF names a built program. Where an image differs it
 tells the first sector that does.
@@ -20,7 +21,7 @@ from dataclasses import replace
 from pathlib import Path
 from struct import pack
 
-from handmade import LOG, SECTOR, UNSPARED, Disk, Entry, Group, log_of
+from handmade import GROUP, LOG, SECTOR, UNSPARED, Disk, Entry, Group, log_of
 
 TOP = Path(__file__).resolve().parent.parent
 PROGRAM = os.environ.get("DDF", str(TOP / "ddf"))
@@ -196,8 +197,57 @@ def broken(disk):
     yield "a spare area that ends in the workspace", replace(disk, spares=disk.spares + 1)
 
 
+def meets(first, many, other, length):
+    return first < other + length and other < first + many
+
+
+def stretches_of(disk):
+    """The sectors that are kept, the bad ones of each entry and its spare ones: the first and how many."""
+    kept = [(disk.workspace, 18)] + [(header, LOG + disk.log_sectors) for header in (disk.primary, disk.secondary)]
+    bad = [(entry.start, entry.count) for entry in disk.entries]
+    spare = [(disk.first_spare + entry.spare, entry.count) for entry in disk.entries]
+    return kept, bad, spare
+
+
+def wrong_with(disk, entry):
+    """What is wrong with an entry by itself."""
+    kept = stretches_of(disk)[0]
+    if entry.spare == UNSPARED or entry.count == 0:
+        return "has no spare sectors"
+    if entry.start + entry.count > disk.size:
+        return "has sectors behind those of arrays"
+    if any(meets(entry.start, entry.count, *other) for other in kept):
+        return "has sectors among the disk's records"
+    return "has spare sectors behind the spare area" if entry.spare + entry.count > disk.spares else None
+
+
+def unfit(disk):
+    """What is to be said of the log of a disk that can't be honoured: of its spare area, or else of the first entry that breaks a rule by itself, or else of the first that has
+    a sector of one before it."""
+    kept, bad, spare = stretches_of(disk)
+    area = (disk.first_spare, disk.spares)
+    if disk.first_spare < disk.size or sum(area) > disk.anchor or any(meets(*area, *other) for other in kept):
+        return "the spare area of its bad block log lies among the sectors of arrays or of records, or passes the anchor"
+    wrong = [(place, wrong_with(disk, entry)) for place, entry in enumerate(disk.entries)]
+    shared = [(place, "has a sector in common with one before it") for runs in (bad, spare) for place in range(len(runs)) if any(meets(*runs[place], *run) for run in runs[:place])]
+    place, what = next((pair for pair in wrong if pair[1]), None) or min(shared)
+    return f"entry {place} of its bad block log, counted from 0, {what}"
+
+
+def says(said, slot, path, what):
+    """Standard error has a line of the disk in a slot."""
+    if f"ddf: slot {slot} ({path}): {what}\n" not in said:
+        stop(f"of slot {slot} it is to be said: {what}, and what is said is {said}")
+
+
+# The way out of a log that doesn't fit, where it does by now, and of copies that carry different ones.
+LEAVE_OUT = "read without this image, where the array can do without its disk, loses nothing"
+AGAIN = "its bad block log can be served by now; give the command again"
+DIFFER = "its two copies carry different bad block logs; assemble its own group first: that makes them alike"
+
+
 def refuse(folder):
-    """Logs that don't fit are refused, and without their disk all is read. How many."""
+    """Logs that don't fit are refused, which is said of the entry, and without their disk all is read. How many."""
     group = mirror(1025, 10000)
     first, second = group.disks
     writings = [(0, group.blocks)]
@@ -208,23 +258,66 @@ def refuse(folder):
         status, printed, said = ddf(*paths, "--", "read", "pair", "0", str(group.blocks))
         if (status, printed) != (1, b"refused 31 bad blocks on slot 0\n"):
             stop(f"of a log with {what} read ended with {status} and printed {printed[:80]!r}; it said {said}")
+        says(said, 0, paths[0], f"{unfit(disk)}; {LEAVE_OUT}")
         wants([paths[1], "--", "read", "pair", "0", str(group.blocks)], data(writings, 0, group.blocks))
     return len(logs)
+
+
+def lag(group, disk, path):
+    """Writes the secondary copy of a disk of a group as an update that was stopped would leave it: of the sequence number before, and here with an entry less."""
+    with open(path, "r+b") as image:
+        image.seek(SECTOR * disk.secondary)
+        image.write(replace(group, sequence=group.sequence - 1).copy(replace(disk, entries=disk.entries[:-1]), 2))
+
+
+def differ(folder):
+    """A disk whose two copies carry different logs is refused until its group is assembled; in a batch to its end, and then the command is to be given again."""
+    group = replace(mirror(4), sequence=2)
+    writings = [(0, group.blocks)]
+    paths = group.write(folder, lambda disk: placed(group, disk, writings))
+    lag(group, group.disks[0], paths[0])
+    status, printed, said = ddf(*paths, "--", "read", "pair", "0", "1")
+    if (status, printed) != (1, b"refused 31 bad blocks on slot 0\n"):
+        stop(f"of copies that differ read ended with {status} and printed {printed[:80]!r}; it said {said}")
+    says(said, 0, paths[0], DIFFER)
+    for words, given, ending in ((["assemble"], b"", 0), (["batch"], b"assemble\nscrub pair\n", 1)):
+        group.write(folder, lambda disk: placed(group, disk, writings))
+        lag(group, group.disks[0], paths[0])
+        status, printed, said = ddf(*paths, "--", *words, given=given)
+        if status != ending or ending == 1 and not printed.endswith(b"\nrefused 31 bad blocks on slot 0\n"):
+            stop(f"of copies that differ {words[0]} ended with {status} and printed {printed[-80:]!r}; it said {said}")
+        if ending == 1:
+            says(said, 0, paths[0], AGAIN)
+        compare(group, paths, writings)
+        reads(group, paths, writings)
+
+
+def join(folder):
+    """A disk whose log can't be honoured joins no group, which is said of its entry, nor does one whose copies carry different logs."""
+    disk = Disk(0, 200, 10, 8, [Entry(20, 0, 2), Entry(30, 1, 1)])
+    group = Group([disk], 100, 2)
+    (path,) = group.write(folder)
+    home = os.path.join(folder, "home.img")
+    with open(home, "wb") as image:
+        image.truncate(SECTOR * 70000)
+    wants([home, "--", "label"], b"ok sequence 1\n")
+    name = ddf(home, "--", "show")[1].split()[1].decode()
+    words = [home, path, "--", f"@{name}", "import", GROUP.hex()]
+    for what in (f"{unfit(disk)}; {LEAVE_OUT}", DIFFER):
+        status, printed, said = ddf(*words)
+        if (status, printed) != (1, b"refused 31 bad blocks on slot 1\n"):
+            stop(f"import ended with {status} and printed {printed[:80]!r}, where {what}; it said {said}")
+        says(said, 1, path, what)
+        lag(group, disk, path)
 
 
 # ---- logs by chance
 
 
-def meets(first, many, other, length):
-    return first < other + length and other < first + many
-
-
 def fits(disk):
     """Whether the log of a disk can be honoured."""
     spares = (disk.first_spare, disk.spares)
-    kept = [(disk.workspace, 18)] + [(header, LOG + disk.log_sectors) for header in (disk.primary, disk.secondary)]
-    bad = [(entry.start, entry.count) for entry in disk.entries]
-    stand_in = [(disk.first_spare + entry.spare, entry.count) for entry in disk.entries]
+    kept, bad, stand_in = stretches_of(disk)
     return not disk.entries or (
         all(entry.spare != UNSPARED and entry.count > 0 and entry.spare + entry.count <= disk.spares for entry in disk.entries)
         and all(first + many <= disk.size for first, many in bad)
@@ -265,6 +358,8 @@ def try_chances(folder, count):
         found = ddf(path, "--", "read", "pair", "0", str(group.blocks))
         if found[:2] != wanted:
             stop(f"the log {number} of {count}, {disk}, {'fits' if fits(disk) else 'does not fit'}; read ended with {found[0]} and printed {found[1][:80]!r}")
+        if not fits(disk):
+            says(found[2], 0, path, f"{unfit(disk)}; {LEAVE_OUT}")
         fitting += fits(disk) and bool(disk.entries)
     return fitting
 
@@ -278,7 +373,10 @@ def main():
         for entries in counts:
             serve(folder, entries)
             print(f"logs: {entries} entries are served at their spare places, and no other sector is touched", flush=True)
-        print(f"logs: {refuse(folder)} logs that break a rule are refused", flush=True)
+        print(f"logs: {refuse(folder)} logs that break a rule are refused, and which entry does is said", flush=True)
+        differ(folder)
+        join(folder)
+        print("logs: copies that carry different logs are refused until they are assembled, and a disk with a log that can't be honoured joins no group", flush=True)
         print(f"logs: of {CHANCES} small logs by chance those are served that fit, {try_chances(folder, CHANCES)} with entries")
 
 

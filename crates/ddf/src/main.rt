@@ -82,6 +82,9 @@ struct Ending {
     is_cut: bool,
 }
 
+/// The refusal of a disk whose bad block log can't be honoured.
+const BAD_BLOCKS: u16 = 31;
+
 /// When a batch loses what was named.
 const BATCH_LOSSES: &str =
     "ddf: a batch does so at its first line that changes the group, and else not at all\n";
@@ -251,12 +254,22 @@ where
     let disks = open(rt, paths, &asked.command, made_for_linux(&asked.command))?;
     name_ranges(rt, &disks, paths, &asked.command);
     let ends = ends_of(&disks);
-    let (disks, status, is_cut) = serve_on(rt, words, asked, kind, person, disks, ends, stamp)?;
-    name_failed_of(rt, disks, paths);
-    if is_cut {
+    let (disks, ending) = serve_on(rt, words, asked, kind, person, disks, ends, stamp)?;
+    let unserved = unserved_slot(ending.refused);
+    name_failed_of(rt, disks, paths, unserved);
+    if ending.is_cut {
         return Err(kind.input_failure());
     }
-    answered(status, asked.command.traits().may_write)
+    answered(ending.status, asked.command.traits().may_write)
+}
+
+/// The slot of the disk for whose bad block log a command was refused.
+fn unserved_slot(refused: Option<Refused>) -> Option<usize> {
+    let refused = refused?;
+    match refused.last {
+        Some(slot) if refused.number == BAD_BLOCKS => Some(usize::from(slot)),
+        _ => None,
+    }
 }
 
 /// What a command is given beside its disks.
@@ -270,7 +283,7 @@ struct Task<S> {
     length: Option<Length>,
 }
 
-/// Says what has to be known before the command, hands the disks to it, and says what it left. Answers the disks, the status, and whether the input failed.
+/// Says what has to be known before the command, hands the disks to it, and says what it left. Answers the disks, and how it ended.
 fn serve_on<R, B>(
     rt: &R,
     words: &[String],
@@ -280,7 +293,7 @@ fn serve_on<R, B>(
     bay: B,
     ends: Ends,
     stamp: Stamp,
-) -> Result<(B, u8, bool), Failure>
+) -> Result<(B, Ending), Failure>
 where
     R: Files<File = File> + Clock + Input + Print + Eprint + AllocGlobal + Clone + Drop,
     B: LinuxBay + Drop,
@@ -290,7 +303,7 @@ where
     let (mut bay, ending) = serve_disks(rt, words, bay, task, stamp);
     let paths = slot_paths(words);
     tell_served(rt, &mut bay, paths, asked, kind, person, ending, risks)?;
-    Ok((bay, ending.status, ending.is_cut))
+    Ok((bay, ending))
 }
 
 /// Says what has to be known before the command, asks, and takes the lines of a batch.

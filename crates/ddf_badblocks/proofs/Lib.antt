@@ -8,3 +8,4 @@ mod InRow
 mod Apart
 mod Straight
 mod LogFits
+mod Unfits

@@ -60,7 +60,11 @@ pub fn exchange_of(
 }
 
 /// The exchange of ranges where they can be exchanged on a slot of so many sectors, and else none.
-fn exchange_on(alloc: Global, ranges: Vec<Range>, size: u64) -> Result<Option<Exchange>, NoMemory>
+pub(crate) fn exchange_on(
+    alloc: Global,
+    ranges: Vec<Range>,
+    size: u64,
+) -> Result<Option<Exchange>, NoMemory>
     ensures { IfOk result (λ found. MatchOption found (are_exchangeable size ranges.items ≡ false) (λ exchange. (exchange ≡ ranges.items) × (are_exchangeable size ranges.items ≡ true))) }
 {
     match Exchange::new(alloc, ranges)? {
@@ -70,7 +74,7 @@ fn exchange_on(alloc: Global, ranges: Vec<Range>, size: u64) -> Result<Option<Ex
 }
 
 /// The ranges of the entries.
-fn ranges_of(alloc: Global, log: &BadBlockLog) -> Result<Vec<Range>, NoMemory>
+pub(crate) fn ranges_of(alloc: Global, log: &BadBlockLog) -> Result<Vec<Range>, NoMemory>
     requires { (k : ℕ) (block : BadBlock) → slice_get log.now.entries k ≡ Some block → log.now.first_spare + block.spare < 2 ^ 64 }
     ensures { IfOk result (λ ranges. ranges.items ≡ ranges_of log.now) }
 {
@@ -82,7 +86,7 @@ fn ranges_of(alloc: Global, log: &BadBlockLog) -> Result<Vec<Range>, NoMemory>
 }
 
 /// Whether the spare area lies where it may.
-fn area_fits(log: &BadBlockLog, size: u64, kept: &[Stretch], last: u64) -> bool
+pub(crate) fn area_fits(log: &BadBlockLog, size: u64, kept: &[Stretch], last: u64) -> bool
     ensures { result ≡ area_fits log.now size kept.now last }
 {
     let first = log.first_spare();
@@ -118,14 +122,14 @@ fn entry_fits(size: u64, spares: u32, kept: &[Stretch], block: &BadBlock) -> boo
         && u64::from(block.spare) + many <= u64::from(spares)
 }
 
-fn has_spare(block: &BadBlock) -> bool
+pub(crate) fn has_spare(block: &BadBlock) -> bool
     ensures { result ≡ has_spare block.now }
 {
     block.spare != NO_SPARE && block.count > 0
 }
 
 /// Whether sectors are among those that are kept.
-fn meets_any(kept: &[Stretch], first: u64, many: u64) -> bool
+pub(crate) fn meets_any(kept: &[Stretch], first: u64, many: u64) -> bool
     ensures { result ≡ meets_any kept.now first many }
 {
     kept.iter().any(|stretch| share(first, many, stretch.start, stretch.length))

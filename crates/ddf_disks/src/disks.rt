@@ -1,6 +1,7 @@
 //! The disks that a command gets, as one bay.
 ghost use Rattle.std.specs.Prelude.{◌≤◌, length};
 
+use crate::bad_log::name_log;
 use crate::opened::{Reached, reached_disks};
 use ddf_bay::Bay;
 use ddf_edge::{Failure, name_failed};
@@ -58,8 +59,17 @@ pub fn ends_of<R: Files>(disks: &Disks<R>) -> Ends {
     disks.inner().inner().inner().ends()
 }
 
-/// Closes the disks, and names on standard error each of which a call failed, and what the system said of the last one.
-pub fn name_failed_of<R: Files + Eprint>(rt: &R, disks: Disks<R>, paths: &[String]) {
-    let shortened = disks.into_inner().into_inner().into_inner();
+/// Says why the log of the disk in a slot isn't honoured, where the command was refused for it. Closes the disks, and names each of which a call
+/// failed, and what the system said of the last one. All of it on standard error.
+// argued: that the entry that is named is one of the slot's own log, for it is looked at below the bay that exchanges sectors and hides logs.
+pub fn name_failed_of<R>(rt: &R, disks: Disks<R>, paths: &[String], refused: Option<usize>)
+where
+    R: Files<File = File> + Clock + Eprint + AllocGlobal + Clone + Drop,
+{
+    let mut turned = disks.into_inner();
+    if let Some(slot) = refused {
+        name_log(rt, &mut turned, paths, slot);
+    }
+    let shortened = turned.into_inner().into_inner();
     name_failed(rt, &shortened.into_inner(), paths);
 }

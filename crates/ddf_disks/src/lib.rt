@@ -3,6 +3,7 @@
 //! docs/DISK-MODEL.md#the-bays
 #![tactic(auto)]
 
+mod bad_log;
 mod disks;
 mod opened;
 mod ranges;

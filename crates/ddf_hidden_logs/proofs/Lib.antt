@@ -16,3 +16,7 @@ mod Counts
 mod Seen
 mod GivenBack
 mod Honouring
+mod Unhidden
+mod Carries
+mod Lasts
+mod Changing

@@ -160,7 +160,7 @@ module _ (size : ℕ) (sector : ℕ → List ℕ) (whole : (l : ℕ) → IsWhole
         fits = subst (λ (section : List ℕ). LOG_ENTRIES_AT + LOG_ENTRY_BYTES * number_at w16 section LOG_COUNT_AT ≤ length section) (sym shown_bytes) here;
       }
 
-  either : IsEither mask section.length
+  pub either : IsEither mask section.length
   either = record { some = (there).some; after = after; after_size = sectors_size sector whole (front + 1) (section.length - 1); below_is = below_front; shown_is = shown_front }
 
   abbrev now : ℕ → List ℕ

@@ -1,5 +1,5 @@
 -- The other copy of a disk is seen whole where it is whole, and behind the same header: whether a log is sealed is the same with either sector of a mask in front of it.
-use Rattle.std.proofs.Common.{◌≡◌, ◌≢◌, ◌⊎◌, ◌∙◌, ℕ, zero, suc, ◌+◌, ◌*◌, ◌-◌, ◌<◌, ◌≤◌, ◌^◌, Bool, true, false, ltb, List, [], ◌∷◌, ◌++◌, length, take, map, replicate, Option, Some, None, Result, Ok, Err, refl, sym, ap, inl, inr, ⊎_elim, arith}
+use Rattle.std.proofs.Common.{◌≡◌, ◌≢◌, ◌⊎◌, ◌∙◌, ℕ, zero, suc, ◌+◌, ◌*◌, ◌-◌, ◌<◌, ◌≤◌, ◌^◌, true, false, ltb, List, [], ◌∷◌, ◌++◌, length, map, replicate, Option, Some, None, Result, Ok, Err, refl, sym, ap, inl, inr, ⊎_elim, arith}
 use Rattle.std.specs.List.{range_with_len}
 use Rattle.std.specs.Prelude.{◌==◌, ◌&&◌}
 use Rattle.std.specs.Str.{bytes_eq}
@@ -10,7 +10,7 @@ use Rattle.std.proofs.lemmas.List.{get_or_append_left, length-append}
 use Rattle.ddf_bay.specs.Sectors.{IsWhole}
 use Rattle.ddf_bytes.specs.Bytes.{number_at}
 use Rattle.ddf_bytes.specs.Choices.{first_of, ok_unless}
-use Rattle.ddf_seal.specs.Seal.{IsSealed, record_crc, seal_check}
+use Rattle.ddf_seal.specs.Seal.{IsSealed, record_crc}
 use Rattle.ddf_seal.specs.Unread.{AreBytes, placed}
 use Rattle.ddf_seal.specs.declared.sealing.TheConstants.{CRC_AT}
 use Rattle.ddf_seal.specs.declared.unread.Span.{Span}

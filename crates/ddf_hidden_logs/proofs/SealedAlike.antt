@@ -1,5 +1,5 @@
 -- Whether a record is sealed goes by what follows its first sector alike, whichever of two first sectors it has that are both sealed before one and the same rest.
-use Rattle.std.specs.Prelude.{◌≡◌, ◌⊎◌, ℕ, zero, suc, ◌+◌, ◌-◌, ◌/◌, ◌%◌, ◌^◌, ◌<◌, ◌≤◌, List, [], ◌∷◌, ◌++◌, length, take, drop, replicate, fold, bit_xor}
+use Rattle.std.specs.Prelude.{◌≡◌, ◌⊎◌, ℕ, zero, suc, ◌/◌, ◌%◌, ◌^◌, ◌<◌, ◌≤◌, List, [], ◌∷◌, ◌++◌, length, replicate, fold, bit_xor}
 use Rattle.std.specs.Int.Bits.{xor_self, xor_zero_r}
 use Rattle.std.specs.Int.{w32, from_be_bytes, to_be_bytes}
 use lib.Bits.{xor_assoc}
@@ -10,7 +10,6 @@ use Rattle.ddf_bytes.specs.Bytes.{bytes_at, with_bytes_at}
 use Rattle.ddf_seal.specs.declared.sealing.TheConstants.{SIGNATURE_AT, CRC_AT}
 use Rattle.ddf_seal.specs.Crc.{bit_step, bit_steps, byte_step, crc_of, all_ones}
 use Rattle.ddf_seal.specs.Seal.{IsSealed, record_crc}
-use Rattle.ddf_seal.specs.Unread.{AreBytes}
 
 -- (a + b) + (c + d) is (a + c) + (b + d), without carries
 four : (a b c d : ℕ) → bit_xor (bit_xor a b) (bit_xor c d) ≡ bit_xor (bit_xor a c) (bit_xor b d)

@@ -28,7 +28,7 @@ module _ (size : ℕ) (sector : ℕ → List ℕ) (anchor : Header) where
   count = bad_in (size - 1) anchor (copies_of size sector anchor)
 
   -- its mask is that of the copy that stands for it
-  mask_standing : anchor_at size sector ≡ Ok anchor → (standing : Option DiskCopy) → standing_copy (newest_of size sector anchor) ≡ standing → mask_at size sector ≡ mask_if anchor standing count
+  pub mask_standing : anchor_at size sector ≡ Ok anchor → (standing : Option DiskCopy) → standing_copy (newest_of size sector anchor) ≡ standing → mask_at size sector ≡ mask_if anchor standing count
   unfolding newest_of
   mask_standing anchored standing stands = mask_is size sector anchor anchored ∙ ap (λ (one : Option DiskCopy). mask_if anchor one count) stands
 
@@ -94,7 +94,7 @@ module _ (size : ℕ) (sector : ℕ → List ℕ) (anchor : Header) where
       ∙ last_of anchored (standing_copy (newest_of size sector anchor)) refl
 
 -- the anchor of a disk is what its last sector says
-same_last : (size : ℕ) (now before : ℕ → List ℕ) → now (size - 1) ≡ before (size - 1) → anchor_at size now ≡ anchor_at size before
+pub same_last : (size : ℕ) (now before : ℕ → List ℕ) → now (size - 1) ≡ before (size - 1) → anchor_at size now ≡ anchor_at size before
 unfolding anchor_at
 same_last size now before same = rw same refl
 

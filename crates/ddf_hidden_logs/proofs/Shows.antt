@@ -1,5 +1,5 @@
 -- A disk that is seen through the mask of a copy's log shows this copy with another count of entries.
-use Rattle.std.proofs.Common.{◌≡◌, ◌≢◌, ◌∙◌, ℕ, ◌+◌, ◌*◌, ◌-◌, ◌<◌, ◌≤◌, ◌^◌, Bool, true, false, List, ◌∷◌, ◌++◌, [], length, take, drop, map, Option, Some, None, Ok, refl, sym, ap, arith}
+use Rattle.std.proofs.Common.{◌≡◌, ◌≢◌, ◌∙◌, ℕ, ◌+◌, ◌*◌, ◌-◌, ◌<◌, ◌≤◌, ◌^◌, Bool, true, false, List, ◌∷◌, ◌++◌, [], length, take, map, Option, Some, None, Ok, refl, sym, ap, arith}
 use Rattle.std.specs.Prelude.{option_map, ◌==◌, if◌then◌else◌}
 use Rattle.std.specs.List.{range_with_len}
 use Rattle.std.proofs.lemmas.Bool.{eq-eqb, eqb-true, ne_eqb, or_left, or_right}
@@ -27,7 +27,7 @@ use Rattle.ddf_hidden_logs.proofs.Whole.{IsReadOf, drop_front, log_of_sectors, s
 
 -- ---- the places of a mask
 
-front_is_place : (anchor : Header) (section : Section) (log : LogValue) (count : ℕ) (which : Which) → is_place (mask_of_log anchor section log count) (place_of which anchor + section.offset) ≡ true
+pub front_is_place : (anchor : Header) (section : Section) (log : LogValue) (count : ℕ) (which : Which) → is_place (mask_of_log anchor section log count) (place_of which anchor + section.offset) ≡ true
 front_is_place anchor section log count Primary = or_left _ _ (eq-eqb (anchor.primary_lba + section.offset) (anchor.primary_lba + section.offset) refl)
 front_is_place anchor section log count Secondary = or_right _ _ (eq-eqb (anchor.secondary_lba + section.offset) (anchor.secondary_lba + section.offset) refl)
 

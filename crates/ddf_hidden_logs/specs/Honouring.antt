@@ -65,25 +65,29 @@ disks_of disks bay =
 
 -- ---- what the looks make of a bay
 
--- The look for bad sectors: nothing is written, and at most 15 calls are made a slot. A slot is unread exactly where a call of this look failed on it. Each
--- other one is exchanged by its own logs, and can be. Counts of the bay that is made begin at 0.
+-- The look for bad sectors: nothing is written, no slot that has a sector is synced, and at most 15 calls are made a slot. A slot is unread exactly where a
+-- call of this look failed on it. Each other one is exchanged by its own logs, and can be. Counts of the bay that is made begin at 0.
 pub record Exchanges {B : Type 0} (tells : Type 0) (disks : B → BayState B) (old : B) (bay : Remapped (Fenced B)) : Type 0 where
   pub reads : ReadsOnly (disks old) (disks (seen.below bay))
   pub calls : (disks (seen.below bay)).calls ≤ (disks old).calls + 15 * length (disks old).sizes
   pub failed : (s : ℕ) → s < length (disks old).sizes → seen.is_fenced bay s ≡ true → LookFailed (disks old) (disks (seen.below bay)) s
   pub read : (s : ℕ) → s < length (disks old).sizes → seen.is_fenced bay s ≡ false → SlotSame (disks old) (disks (seen.below bay)) s
+  pub unsynced : (s : ℕ) → s < length (disks old).sizes → 0 < slice_index (disks old).sizes s → (disks (seen.below bay)).failed_writes s ≡ (disks old).failed_writes s
   pub exchanged : tells → (s : ℕ) → s < length (disks old).sizes → seen.ranges_of bay s ≡ seen.exchange_or (disks old) s (seen.is_fenced bay s)
   pub can : (s : ℕ) → s < length (disks old).sizes → are_exchangeable (slice_index (disks old).sizes s) (seen.ranges_of bay s) ≡ true
   pub made : (seen.disks_of disks bay).calls ≡ 0
   pub faults : (s : ℕ) → seen.is_fenced bay s ≡ true → ((seen.disks_of disks bay).failed_reads s ≡ 0) × ((seen.disks_of disks bay).failed_writes s ≡ 0)
 
--- The look for the entries that count, at disks whose bad sectors are exchanged: nothing is written, and at most 15 calls are made a slot. A slot is not shown
--- exactly where a call of this look failed on it. Each other one is seen through the mask of its own copies. Counts of the bay that is made begin at 0.
+-- The look for the entries that count, at disks whose bad sectors are exchanged: nothing is written, no slot that has a sector is synced, and at most 15 calls
+-- are made a slot. A slot is not shown exactly where a call of this look failed on it. Each other one is seen through the mask of its own copies. Counts of
+-- the bay that is made begin at 0.
 pub record Hides {B : Type 0} (tells : Type 0) (disks : B → BayState B) (old : Remapped (Fenced B)) (bay : Honoured B) : Type 0 where
   pub reads : ReadsOnly (seen.disks_of disks old) (seen.disks_of disks (exchanged_of bay))
   pub calls : (seen.disks_of disks (exchanged_of bay)).calls ≤ (seen.disks_of disks old).calls + 15 * length (disks (seen.below old)).sizes
   pub failed : (s : ℕ) → s < length (disks (seen.below old)).sizes → is_unshown bay s ≡ true → LookFailed (seen.disks_of disks old) (seen.disks_of disks (exchanged_of bay)) s
   pub read : (s : ℕ) → s < length (disks (seen.below old)).sizes → is_unshown bay s ≡ false → SlotSame (seen.disks_of disks old) (seen.disks_of disks (exchanged_of bay)) s
+  pub unsynced : (s : ℕ) → s < length (disks (seen.below old)).sizes → 0 < slice_index (disks (seen.below old)).sizes s
+      → (seen.disks_of disks (exchanged_of bay)).failed_writes s ≡ (seen.disks_of disks old).failed_writes s
   pub masked : tells → (s : ℕ) → s < length (disks (seen.below old)).sizes → mask_of bay s ≡ mask_or (seen.disks_of disks old) s (is_unshown bay s)
   pub made : (disks_of disks bay).calls ≡ 0
   pub faults : (s : ℕ) → is_unshown bay s ≡ true → ((disks_of disks bay).failed_reads s ≡ 0) × ((disks_of disks bay).failed_writes s ≡ 0)

@@ -9,3 +9,4 @@ pub mod Looks
 pub mod WasShown
 pub mod Honouring
 pub mod HonouredLaws
+pub mod Lasting

@@ -23,6 +23,10 @@ recounted_log count log = if length log.entries == count then log else log_at (r
 abbrev pub recounted_copy : (count : ℕ) → DiskCopy → DiskCopy
 recounted_copy count copy = record copy { bad = option_map (recounted_log count) copy.bad }
 
+-- a copy with another log
+abbrev pub with_log : Option LogValue → DiskCopy → DiskCopy
+with_log bad copy = record copy { bad = bad }
+
 -- ---- the mask
 
 -- that of a log in this section, of a disk with this anchor: in front of both copies' logs

@@ -1,5 +1,5 @@
 //! A bay whose disks' bad block logs show what counts against the disk, by one look at each.
-ghost use Rattle.std.specs.Prelude.{◌≡◌, ◌+◌, ◌*◌, ◌<◌, ◌≤◌, ℕ, true, false, length, IfErr, IfOk};
+ghost use Rattle.std.specs.Prelude.{◌≡◌, ◌+◌, ◌*◌, ◌<◌, ◌≤◌, ℕ, true, false, length, IfErr, IfOk, slice_index};
 ghost use Rattle.ddf_bay.specs.ReadsOnly.{LookFailed, ReadsOnly, SlotSame};
 ghost use Rattle.ddf_hidden_logs.specs.Looks.{below, disks_of, is_fenced, mask_of};
 ghost use Rattle.ddf_hidden_logs.specs.Shown.{mask_or};
@@ -26,6 +26,8 @@ pub fn hide_logs<B: Bay + Drop>(alloc: Global, inner: B) -> Result<Hidden<Fenced
     // A slot is fenced exactly where a call of this look failed on it.
     ensures failed { IfOk result (λ bay. (s : ℕ) → s < length (B.disks inner).sizes → is_fenced bay s ≡ true → LookFailed (B.disks inner) (B.disks (below bay)) s) }
     ensures read { IfOk result (λ bay. (s : ℕ) → s < length (B.disks inner).sizes → is_fenced bay s ≡ false → SlotSame (B.disks inner) (B.disks (below bay)) s) }
+    // A slot that has a sector isn't synced.
+    ensures unsynced { IfOk result (λ bay. (s : ℕ) → s < length (B.disks inner).sizes → 0 < slice_index (B.disks inner).sizes s → (B.disks (below bay)).failed_writes s ≡ (B.disks inner).failed_writes s) }
 
     // Each other slot is seen through the mask of its own copies.
     ensures masked { B.tells → IfOk result (λ bay. (s : ℕ) → s < length (B.disks inner).sizes → mask_of bay s ≡ mask_or (B.disks inner) s (is_fenced bay s)) }

@@ -17,5 +17,7 @@ pub use hidden::Hidden;
 pub use hiding::hide_logs;
 pub use honoured::Honoured;
 pub use laws::{
-    a_bay_of_hidden_logs_goes_on_where_the_bay_below_does, a_disk_shows_what_counts_against_it,
+    a_bay_of_hidden_logs_goes_on_where_the_bay_below_does, a_change_keeps_the_log,
+    a_disk_shows_what_counts_against_it, what_is_written_keeps_the_log,
+    what_is_written_keeps_the_mask,
 };

@@ -2,12 +2,14 @@
 #![tactic(auto)]
 
 mod copies;
+mod defect;
 mod kept;
 mod laws;
 mod log;
 mod look;
 mod seen;
 
+pub use defect::{LogDefect, defect_at, defect_of};
 pub use laws::{
     a_change_leaves_the_exchange, a_disk_whose_log_fits_shows_the_same_copies,
     a_slot_shows_the_same_through_its_exchange,

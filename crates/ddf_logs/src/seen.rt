@@ -26,6 +26,8 @@ pub fn seen_through<B: Bay + Drop>(alloc: Global, inner: B) -> Result<Remapped<F
     // A slot is fenced exactly where a call of this look failed on it.
     ensures failed { IfOk result (λ bay. (s : ℕ) → s < length (B.disks inner).sizes → is_fenced bay s ≡ true → LookFailed (B.disks inner) (B.disks (below bay)) s) }
     ensures read { IfOk result (λ bay. (s : ℕ) → s < length (B.disks inner).sizes → is_fenced bay s ≡ false → SlotSame (B.disks inner) (B.disks (below bay)) s) }
+    // A slot that has a sector isn't synced.
+    ensures unsynced { IfOk result (λ bay. (s : ℕ) → s < length (B.disks inner).sizes → 0 < slice_index (B.disks inner).sizes s → (B.disks (below bay)).failed_writes s ≡ (B.disks inner).failed_writes s) }
 
     // Each other slot is exchanged by its own logs, and can be.
     ensures exchanged { B.tells → IfOk result (λ bay. (s : ℕ) → s < length (B.disks inner).sizes → ranges_of bay s ≡ exchange_or (B.disks inner) s (is_fenced bay s)) }

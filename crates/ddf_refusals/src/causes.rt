@@ -164,8 +164,8 @@ const CAUSES: [Cause; 44] = [
     Cause {
         number: 27,
         command: "rebuild",
-        why: "The array has lost a disk, and there is no spare for it, or only one on which it lies already.",
-        way: "Make a disk a spare: spare SLOT global. A new disk comes in by label and import.",
+        why: "The array has lost a disk, and there is no spare for it, or only one on which it lies already, or for raid1e.offset one that Linux reads: Linux keeps blocks at other places under its number.",
+        way: "Make a disk a spare: spare SLOT global; for raid1e.offset one of the standard's kind. A new disk comes in by label and import.",
     },
     Cause {
         number: 28,
@@ -176,7 +176,7 @@ const CAUSES: [Cause; 44] = [
     Cause {
         number: 28,
         command: "any",
-        why: "No spare has a free run of NEEDED sectors; the most that one has is FOUND.",
+        why: "No spare that may be taken has a free run of NEEDED sectors; the most that one has is FOUND.",
         way: "Make a larger disk a spare, or delete an array that lies on a spare.",
     },
     Cause {
@@ -201,7 +201,7 @@ const CAUSES: [Cause; 44] = [
         number: 31,
         command: "import",
         why: "A disk that joins lists bad blocks in its log that can't be served at spare places.",
-        way: "Within its own group fail its slot and rebuild first, or copy the data by read and write.",
+        way: "Where its two copies list different ones, assemble its own group first. Else fail its slot there and rebuild, or copy the data by read and write.",
     },
     Cause {
         number: 31,

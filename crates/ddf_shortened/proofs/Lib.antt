@@ -2,3 +2,4 @@ mod Seen
 mod Looked
 mod Below
 mod Behind
+mod Lasting

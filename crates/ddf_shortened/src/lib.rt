@@ -3,7 +3,9 @@
 
 mod calls;
 mod ends;
+mod laws;
 mod shortened;
 
 pub use ends::Ends;
+pub use laws::the_next_look_finds_the_same_end;
 pub use shortened::Shortened;

@@ -1,4 +1,4 @@
-use Rattle.std.proofs.Common.{◌≡◌, ◌∙◌, ℕ, length, arith}
+use Rattle.std.proofs.Common.{◌≡◌, ◌∙◌, length, arith}
 use Rattle.ddf_bay.proofs.Looks.{reads_then}
 use Rattle.ddf_logs.proofs.Looking.{partway_more}
 use Rattle.ddf_logs.proofs.look.look_at_all.Goals as goal
