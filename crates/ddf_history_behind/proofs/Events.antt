@@ -3,6 +3,7 @@ use Rattle.std.proofs.Common.{◌≡◌, ◌⊎◌, ℕ, ◌≤◌, Bool, true, 
 use Rattle.ddf_bay.specs.State.{BayState}
 use Rattle.ddf_config.specs.declared.refusal.Refusal.{Refusal}
 use Rattle.ddf_config.specs.Configuration.{Configuration}
+use Rattle.ddf_copy.specs.declared.newest_copy.Newest.{Newest}
 use Rattle.ddf_plan.specs.declared.change.Change.{Change}
 use Rattle.ddf_view.specs.View.{View}
 use Rattle.ddf_history.specs.Groups.{groups}
@@ -16,6 +17,7 @@ use Rattle.ddf_seats.specs.declared.fault.GroupFault.{GroupFault}
 use Rattle.ddf_steps.specs.Steps.{Step}
 use Rattle.ddf_recovery.specs.Ready.{readied}
 use Rattle.ddf_recovery.specs.Recovery.{config_recovered}
+use Rattle.ddf_assembly.specs.Group.{group_of}
 use Rattle.ddf_assembly.specs.Slots.{first_left_out}
 use Rattle.ddf_joining.specs.Importing.{first_causes}
 use Rattle.ddf_joining.specs.Joining.{Joining, joining}
@@ -30,6 +32,7 @@ use Rattle.ddf_import_command.specs.Import.{import_asked, joining_unless, keeps_
 use Rattle.ddf_command.specs.History.{GroupCall, IsCall, JoinCall, Leaves, joins_of, kept_by, kept_by_join, past_at}
 use Rattle.ddf_history_behind.specs.Behind.{AbsentAreCurrent, AreNear}
 use Rattle.ddf_history_behind.specs.Commands.{IsCommandCall, IsPlain, LosesNone, NoneStaleAt}
+use Rattle.ddf_history_behind.proofs.Absent.{disks_current}
 use Rattle.ddf_history_behind.proofs.Commands.{issued_loss, issued_near, join_loss, join_near}
 use Rattle.ddf_history_behind.proofs.InTurn.{ends_near}
 use Rattle.ddf_history_behind.proofs.Stale.{none_stale}
@@ -82,17 +85,30 @@ module _ {B : Type 0} {tells : Type 0} (told : tells) (disks : B → BayState B)
     moment_well scene (inr now) = ends_well false now.0 now.1
 
   module _ (old : Moment (groups group) B) (well : IsWell old.past) where
-    call_stays : (call : GroupCall told disks group old) → LosesNone call.request → AbsentAreCurrent call.group → (far : Bool) (now : Past (groups group))
+    -- What is absent of the group that a call found are current members, for it found it on these disks.
+    call_current : (call : GroupCall told disks group old) → AbsentAreCurrent call.group
+    call_current call =
+        disks_current (disks old.bay) call.taken.left call.named call.group
+        (subst (λ (newest : List (Option Newest)). group_of newest call.named ≡ Ok call.group) (call.taken.read told) call.is_group)
+
+    join_current : (call : JoinCall told disks group old) → AbsentAreCurrent call.group
+    join_current call =
+        disks_current (disks old.bay) call.imported.first.left call.named call.group
+        (subst (λ (newest : List (Option Newest)). group_of newest call.named ≡ Ok call.group) (call.imported.first.read told) call.is_group)
+
+    call_stays : (call : GroupCall told disks group old) → LosesNone call.request → (far : Bool) (now : Past (groups group))
         → Ends group old.past (is_read call.taken.left) call.group (changes_in call.group call.steps) far now → AreNear group now.changes
-    call_stays call lose current =
+    call_stays call lose =
+        let current = call_current call in
         let asked = are_asked_of (call.request (config_recovered call.group) call.group.seats) call.group call.timestamp call.steps call.are_asked in
         ends_near group old.past call.admitted.is_kept.chain call.group current well.near (is_read call.taken.left) (changes_in call.group call.steps)
         (issued_near call.group current asked.all call.timestamp call.steps asked.are (lose (config_recovered call.group) call.group.seats asked.all asked.is_asked))
         (issued_loss call.group current asked.all call.timestamp call.steps asked.are)
 
-    join_stays : (call : JoinCall told disks group old) → AbsentAreCurrent call.group → (far : Bool) (now : Past (groups group))
+    join_stays : (call : JoinCall told disks group old) → (far : Bool) (now : Past (groups group))
         → Ends group old.past (is_read call.imported.first.left) call.group (joins_of told disks group old call) far now → AreNear group now.changes
-    join_stays call current =
+    join_stays call =
+        let current = join_current call in
         let made = joins call.timestamp call.imported.first.left call.group call.joining call.made call.are_asked in
         ends_near group old.past call.admitted.is_kept.chain call.group current well.near (is_read call.imported.first.left) (joins_of told disks group old call)
         (join_near call.group current call.joining call.timestamp call.made made)
@@ -103,22 +119,22 @@ module _ {B : Type 0} {tells : Type 0} (told : tells) (disks : B → BayState B)
         let one = end.call in
         let keeps = (kept_by told disks group old one end.kept).ends end.tells_left in
         subst IsWell (sym end.is_past)
-        (ends_well old.past (is_read one.taken.left) one.group (changes_in one.group one.steps) (call_stays one plain.0 plain.1) well one.done keeps.0 keeps.1)
+        (ends_well old.past (is_read one.taken.left) one.group (changes_in one.group one.steps) (call_stays one plain) well one.done keeps.0 keeps.1)
     call_well new (inr (inl cut)) plain =
         let one = cut.call in
         subst IsWell (sym cut.is_past)
-        (moment_well old.past (is_read one.taken.left) one.group (changes_in one.group one.steps) (call_stays one plain.0 plain.1) well (scene_of (disks old.bay).sizes cut.image)
+        (moment_well old.past (is_read one.taken.left) one.group (changes_in one.group one.steps) (call_stays one plain) well (scene_of (disks old.bay).sizes cut.image)
         ((kept_by told disks group old one cut.kept).any_moment.since (disks old.bay).moment cut.image cut.since cut.was_left))
     call_well new (inr (inr (inl other))) plain = subst IsWell (sym other.same_past) well
     call_well new (inr (inr (inr (inl end)))) plain =
         let one = end.call in
         let keeps = (kept_by_join told disks group old one end.kept).ends end.tells_left in
         subst IsWell (sym end.is_past)
-        (ends_well old.past (is_read one.imported.first.left) one.group (joins_of told disks group old one) (join_stays one plain) well (is_done one.outcome) keeps.0 keeps.1)
+        (ends_well old.past (is_read one.imported.first.left) one.group (joins_of told disks group old one) (join_stays one) well (is_done one.outcome) keeps.0 keeps.1)
     call_well new (inr (inr (inr (inr cut)))) plain =
         let one = cut.call in
         subst IsWell (sym cut.is_past)
-        (moment_well old.past (is_read one.imported.first.left) one.group (joins_of told disks group old one) (join_stays one plain) well (scene_of (disks old.bay).sizes cut.image)
+        (moment_well old.past (is_read one.imported.first.left) one.group (joins_of told disks group old one) (join_stays one) well (scene_of (disks old.bay).sizes cut.image)
         ((kept_by_join told disks group old one cut.kept).any_moment.since (disks old.bay).moment cut.image cut.since cut.was_left))
 
   -- ---- a history

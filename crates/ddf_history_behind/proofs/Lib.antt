@@ -10,4 +10,6 @@ pub mod Stale
 pub mod Joining
 pub mod Importing
 pub mod Requests
+pub mod Named
+pub mod Absent
 pub mod Events

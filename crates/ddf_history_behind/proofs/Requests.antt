@@ -38,6 +38,7 @@ use Rattle.ddf_write_commands.specs.Planned.{Entry, Refusing, asked_of, changes_
 use Rattle.ddf_write_commands.specs.Resync.{resync_behind, resync_refusals, resync_request}
 use Rattle.ddf_write_commands.specs.Write.{write_behind, write_refusals, write_request}
 use Rattle.ddf_rebuild_command.specs.Asked.{bad_spare, changes_behind, kept_in, rebuild_asked, rebuild_changes, rebuild_refusals, rebuild_request, rebuild_unless, rows_in}
+use Rattle.ddf_rebuild_command.specs.PassedOver.{passed_over}
 use Rattle.ddf_rebuild_command.specs.Notes.{notes}
 use Rattle.ddf_history_behind.specs.Behind.{LosesSome}
 use Rattle.ddf_history_behind.specs.Commands.{LosesNone}
@@ -155,12 +156,12 @@ noted : (entry : Entry) (target : Target) (rows : List ℕ)
 noted entry target [] = (tt, tt)
 noted entry target (row ∷ rows) = (tt, noted entry target rows)
 
-module _ (config : Configuration) (seats : List Seat) (entry : Entry) where
+module _ (config : Configuration) (seats : List Seat) (aside : List ℕ) (entry : Entry) where
   -- The change that begins puts a spare in.
-  begins : (target : Target) (change : Change) → begun config entry.0 seats ≡ Ok (Fresh target change) → LosesSome change
-  begins target change is = subst LosesSome (is_fresh config entry.0 seats target change is).change_is tt
+  begins : (target : Target) (change : Change) → begun config entry.0 seats aside ≡ Ok (Fresh target change) → LosesSome change
+  begins target change is = subst LosesSome (is_fresh config entry.0 seats aside target change is).change_is tt
 
-  rebuilt : (answer : Result Begun RebuildFault) → begun config entry.0 seats ≡ answer → (all : List Change) → rebuild_changes seats entry answer ≡ Ok all → AllByRecursion LosesSome all
+  rebuilt : (answer : Result Begun RebuildFault) → begun config entry.0 seats aside ≡ answer → (all : List Change) → rebuild_changes seats entry answer ≡ Ok all → AllByRecursion LosesSome all
   rebuilt (Ok Nothing) found all is = let same : ◌≡◌ {A = List Change} [] all = cc in subst (AllByRecursion LosesSome) same tt
   rebuilt (Ok (Again target)) found all is =
       let same : changes_behind entry target (kept_in entry.1 target) ≡ all = cc in
@@ -176,13 +177,13 @@ module _ (config : Configuration) (seats : List Seat) (entry : Entry) where
   rebuilt (Err (Small needed most)) found all is = absurd cc
   rebuilt (Err Memory) found all is = let same : ◌≡◌ {A = List Change} [] all = cc in subst (AllByRecursion LosesSome) same tt
 
-pub rebuilds_lose : (word : List ℕ) → LosesNone (rebuild_request word)
-rebuilds_lose word config seats all is = by (named_array config.arrays word) is
+pub rebuilds_lose : (word : List ℕ) (linux : List ℕ) → LosesNone (rebuild_request word linux)
+rebuilds_lose word linux config seats all is = by (named_array config.arrays word) is
   where
-    unless_out : (entry : Entry) (refusal : Option Refusal) → rebuild_unless config seats entry refusal ≡ Ok all → AllByRecursion LosesSome all
-    unless_out entry None e = rebuilt config seats entry (begun config entry.0 seats) refl all e
+    unless_out : (entry : Entry) (refusal : Option Refusal) → rebuild_unless config seats linux entry refusal ≡ Ok all → AllByRecursion LosesSome all
+    unless_out entry None e = rebuilt config seats (passed_over linux entry.1) entry (begun config entry.0 seats (passed_over linux entry.1)) refl all e
     unless_out entry (Some refusal) e = absurd cc
 
-    by : (found : Option Entry) → rebuild_asked config seats found ≡ Ok all → AllByRecursion LosesSome all
+    by : (found : Option Entry) → rebuild_asked config seats linux found ≡ Ok all → AllByRecursion LosesSome all
     by None e = absurd cc
     by (Some entry) e = unless_out entry (first_refusal (rebuild_refusals config seats entry)) e

@@ -50,7 +50,7 @@ abbrev pub LosesSome : Change → Type 0
 LosesSome (Lose references) = references ≢ []
 LosesSome other = Unit {0}
 
--- What is absent of a group are current members, as of each that `assemble` finds.
+-- What is absent of a group are current members, as of each that is assembled from disks.
 abbrev pub AbsentAreCurrent : GroupValue → Type 0
 AbsentAreCurrent found = AllByRecursion (λ reference. is_current found.config.members reference ≡ true) found.absent
 

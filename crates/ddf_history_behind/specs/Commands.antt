@@ -11,7 +11,7 @@ use Rattle.ddf_history.specs.History.{Moment}
 use Rattle.ddf_history.specs.Scenes.{scene_of}
 use Rattle.ddf_group_commands.specs.Change.{Request}
 use Rattle.ddf_command.specs.History.{IsCall, Leaves}
-use Rattle.ddf_history_behind.specs.Behind.{AbsentAreCurrent, LosesSome, NoneStale}
+use Rattle.ddf_history_behind.specs.Behind.{LosesSome, NoneStale}
 
 -- Of what is asked of a group no loss is one of no member.
 abbrev pub LosesNone : Request → Type 0
@@ -19,13 +19,11 @@ LosesNone request = (config : Configuration) (seats : List Seat) (changes : List
 
 -- `disks` is what a bay of type B tells, and `told` that it tells what they hold.
 module _ {B : Type 0} {tells : Type 0} (told : tells) (disks : B → BayState B) (guid : List ℕ) where
-  -- What a call asks of the group that it found is so, and what is absent of that group are current members, as `assemble` finds it.
+  -- what a call asks of the group that it found is so
   abbrev pub IsPlain : (old new : Moment (groups guid) B) → IsCall told disks guid old new → Type 0
-  IsPlain old new (inl end) = LosesNone end.call.request × AbsentAreCurrent end.call.group
-  IsPlain old new (inr (inl cut)) = LosesNone cut.call.request × AbsentAreCurrent cut.call.group
-  IsPlain old new (inr (inr (inl other))) = Unit {0}
-  IsPlain old new (inr (inr (inr (inl end)))) = AbsentAreCurrent end.call.group
-  IsPlain old new (inr (inr (inr (inr cut)))) = AbsentAreCurrent cut.call.group
+  IsPlain old new (inl end) = LosesNone end.call.request
+  IsPlain old new (inr (inl cut)) = LosesNone cut.call.request
+  IsPlain old new (inr (inr other)) = Unit {0}
 
   -- a call of a command, at its end or cut by a stop
   abbrev pub IsCommandCall : Moment (groups guid) B → Moment (groups guid) B → Type 0

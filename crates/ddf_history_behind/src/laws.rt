@@ -14,6 +14,8 @@ ghost use Rattle.ddf_history.specs.Reading.{Each};
 ghost use Rattle.ddf_history.specs.Scenes.{scene_of};
 ghost use Rattle.ddf_seats.specs.Group.{GroupValue};
 ghost use Rattle.ddf_seats.specs.Seated.{seated};
+ghost use Rattle.ddf_assembly.specs.Group.{group_of};
+ghost use Rattle.ddf_assembly.specs.Slots.{newest_from};
 ghost use Rattle.ddf_recovery.specs.Committed.{group_next, group_recovered, left_behind};
 ghost use Rattle.ddf_recovery.specs.Ready.{ReadyValue, readied};
 ghost use Rattle.ddf_steps.specs.Steps.{Step};
@@ -76,7 +78,7 @@ pub fn no_command_loses_nothing()
     ensures assembles { LosesNone no_change }
     ensures resyncs { (word : List ℕ) → LosesNone (resync_request word) }
     ensures writes { (word : List ℕ) (start count : ℕ) → LosesNone (write_request word start count) }
-    ensures rebuilds { (word : List ℕ) → LosesNone (rebuild_request word) }
+    ensures rebuilds { (word : List ℕ) (linux : List ℕ) → LosesNone (rebuild_request word linux) }
 {}
 
 /// A history begins so, with one configuration, and stays so where a slot is lost, or comes back.
@@ -114,6 +116,11 @@ pub fn a_call_leaves_no_disk_far_behind<B: Bay>()
     ensures ends { (group : List ℕ) (past : Past (groups group)) (old new : B) (left : List Bool) (found : GroupValue) (changes : List Configuration)
         (now_found : GroupValue) (ready : ReadyValue) → IsNearWay group (B.disks old) (B.disks new) past left found changes now_found ready → ready.steps ≡ []
         → KeepsNear group (B.disks old) (B.disks new) past left found changes true }
+{}
+
+/// What is absent of a group that is assembled from disks are current members of it, whichever slots are left out, and whether a group is named or not.
+pub fn what_is_absent_is_a_current_member<B: Bay>()
+    ensures { (bay : B) (left : List Bool) (named : Option (List ℕ)) (found : GroupValue) → group_of (newest_from (B.disks bay) 0 left) named ≡ Ok found → AbsentAreCurrent found }
 {}
 
 /// A command that asks for changes of a group keeps each history that admits it so, however it ends and wherever a stop cuts it, by what its contract says of the
