@@ -34,6 +34,7 @@ sum_of() {
     r1-spare) echo 8192 36f12a3e2d182d648599a20824c410ad31a03248266e85d0d335f4a3d9ed11ce ;;
     r5-ra) echo 16384 873c3d422e22e41454f0116cccbb66724b5ee8dc8df2a5e3f6c03e7c91878ee6 ;;
     r10) echo 16384 500e083aa73794c37d4056ff9fa1f5bdcc45eb7e5733c54dcc88d3319405f035 ;;
+    r1e-near) echo 8192 7f2402d4748865d6af0568465cccf0ce909dce7c7f4ae7cae7eb31ad02c97064 ;;
     *) echo 0 none ;;
     esac
 }
@@ -97,6 +98,17 @@ write_blocks() {
     compare_all "a resynced $label" "$blocks" "$wanted" "$@"
 }
 
+# An array whose blocks Linux keeps at other places than its codes say: none is read, or written, or checked.
+refuse_blocks() {
+    label=$1
+    shift
+    for command in "read data 0 1" "write data 0 1" "scrub data" "resync data" "rebuild data"; do
+        # shellcheck disable=SC2086
+        told=$(head -c 512 /dev/zero | "$top/ddf" "$@" -- $command 2>/dev/null) || true
+        [ "$told" = "refused 18 level 11 RAID 1E" ] || fail "$command of $label says $told"
+    done
+}
+
 # The group that a set of images shows.
 group_of() {
     "$top/ddf" "$@" -- show 2>/dev/null | sed -n 's/^group \([0-9a-f]*\) .*/\1/p'
@@ -142,6 +154,7 @@ for text in "$disks"/*.examine.txt; do
         compare_copies "$name" "$work/$name"/*.img
         compare_all "$name" "$blocks" "${sums#* }" "$work/$name"/*.img
     fi
+    [ "$name" != r1e-far ] || refuse_blocks "$name" "$work/$name"/*.img
     sha256sum "$work/$name"/*.img >"$work/after"
     cmp -s "$work/before" "$work/after" || fail "an image of $name was written to"
     slots=$(grep -c "^ddf: slot [0-9]*: checksums as Linux's mdadm counts them$" "$work/notes" || true)

@@ -27,6 +27,7 @@ FORCED = "Linux doesn't start it without --force: nothing has made its parity ag
 # Arrays of the kinds that Linux starts: the words that make each, its state, and what mdadm tells of its element on these disks.
 PARITY = "0@18432K 1@18432K 2@16384K"
 FIXED = "0@26624K 1@26624K 2@24576K"
+ADJACENT = "0@28672K 1@28672K 2@26624K"
 STARTED = [
     ("str", "raid0 3 single 2,3@16384", "Optimal, Consistent", {"d2.img": "RAID0; single; 16384K; 2 (2@0K 3@0K)"}),
     (
@@ -52,6 +53,12 @@ STARTED = [
         "raid4.last 7 single 0,1,2@4096",
         "Optimal, Not Consistent",
         {disk: f"RAID4; single; 4096K; 3 ({FIXED})" for disk in ("d0.img", "d2.img")},
+    ),
+    (
+        "adj",
+        "raid1e.adjacent 7 single 0,1,2@8192",
+        "Optimal, Not Consistent",
+        {disk: f"RAID1E; single; 6144K; 3 ({ADJACENT})" for disk in ("d0.img", "d2.img")},
     ),
 ]
 
@@ -196,28 +203,28 @@ def follow_group():
         compare_arrays(group, sequence, arrays, held, states)
 
     # An array that is accepted is consistent, and nothing has initialised it.
-    change(disks, 8, "accept", "mir")
+    change(disks, 9, "accept", "mir")
     arrays["mir"] = "mir; Optimal, Consistent; Not Initialised"
-    compare_arrays(group, 8, arrays, held, states)
+    compare_arrays(group, 9, arrays, held, states)
 
     # A spare is a record on each disk that is one.
-    change(disks, 9, "spare", "4", "global")
+    change(disks, 10, "spare", "4", "global")
     states[4] = (size, "Global-Spare/Online")
-    compare_arrays(group, 9, arrays, held, states, spares=["d4.img"])
+    compare_arrays(group, 10, arrays, held, states, spares=["d4.img"])
 
     # A member fails: the arrays that have it are degraded, and it keeps its records of before.
-    before = (group, 9, dict(arrays), {"d1.img": held["d0.img"]}, list(states))
-    change(disks, 11, "fail", "1")
+    before = (group, 10, dict(arrays), {"d1.img": held["d0.img"]}, list(states))
+    change(disks, 12, "fail", "1")
     compare_arrays(*before)
     states[1] = (size, "active/Offline, Failed, Missing")
-    for name in ("mir", "ten", "two", "par", "fixed"):
+    for name in ("mir", "ten", "two", "par", "fixed", "adj"):
         arrays[name] = arrays[name].replace("Optimal", "Degraded")
-    compare_arrays(group, 11, arrays, held, states, spares=["d4.img"])
+    compare_arrays(group, 12, arrays, held, states, spares=["d4.img"])
 
-    change(disks, 12, "delete", "ten")
+    change(disks, 13, "delete", "ten")
     for of_disk in [arrays, *held.values()]:
         of_disk.pop("ten", None)
-    compare_arrays(group, 12, arrays, held, states, spares=["d4.img"])
+    compare_arrays(group, 13, arrays, held, states, spares=["d4.img"])
 
 
 def compare_arrays(group, sequence, arrays, held, states, spares=()):
@@ -230,7 +237,7 @@ def compare_arrays(group, sequence, arrays, held, states, spares=()):
 
 def name_untaken():
     """What Linux doesn't take is made, and named. What mdadm doesn't take for its size alone isn't."""
-    small, large = make(["small.img"], 32), make([f"l{number}.img" for number in range(5)])
+    small, large = make(["small.img"], 32), make([f"l{number}.img" for number in range(6)])
     printed, said = ddf(small, "label", "linux")
     if said != ["slot 0 (small.img): Linux doesn't take it: it has no more than 65536 sectors"]:
         stop(f"label of a small disk printed {printed} and said {said}")
@@ -241,6 +248,7 @@ def name_untaken():
         ("raid1 7 single 0,1,2,3@128", ": it has no RAID 1 of four disks and more"),
         ("jbod 0 single 0@128", ": it has no JBOD"),
         ("concat 0 single 0,1@128", ": it has no concatenation"),
+        ("raid1e.adjacent 7 striped 0,1,2@256 3,4,5@256", ": of several elements it has those of RAID 1 alone, striped or spanned"),
         ("raid0 7 striped 0,1@128 2,3@128", ": of several elements it has those of RAID 1 alone, striped or spanned"),
         ("raid1 7 concat 0,1@128 2,3@128", ": of several elements it has those of RAID 1 alone, striped or spanned"),
         ("raid0 7 mirrored 0,1@128 2,3@128", ": of several elements it has those of RAID 1 alone, striped or spanned"),
