@@ -4,9 +4,16 @@
 #
 #     scripts/quick.sh [NAME..]
 #
-# With names of folders and files of crates/ddf_rig/data, as `write` and `label/once`, those scenarios alone are played.
+# With names of folders and files of crates/ddf_rig/data, as `write` and `label/once`, those scenarios alone are played, and what the player
+# prints is printed.
+#
+# The kit's trial run makes code for clang of a crate, with checks of sums and of places, and has clang compile it as it stands, with a watch over
+# each access: a player of that takes hours. So the code is taken once clang has begun to read it, and compiled here without the watch. Programs are
+# kept in target/quick, and built again where a source is newer.
 set -eu
 top=$(cd "$(dirname "$0")/.." && pwd)
+data=$top/crates/ddf_rig/data
+keep=$top/target/quick
 work=$(mktemp -d)
 trap 'kill $(jobs -p) 2>/dev/null || true; rm -rf "$work"' EXIT
 trap 'exit 1' INT TERM
@@ -21,57 +28,86 @@ tell() {
     echo "quick: $* ($((($(date +%s) - begun) / 60)) min $((($(date +%s) - begun) % 60)) s)"
 }
 
-# Plays scenarios by a trial run of crates/ddf_rig, which copies all files of its data into its own folder.
-play() {
-    cd "$top/crates/ddf_rig"
-    files=$*
-    set --
-    for file in $(cd data && find . -name '*.txt' | sed 's#^\./##'); do set -- "$@" --data "$file=data/$file"; done
-    # shellcheck disable=SC2086
-    rt try --seconds 3600 "$@" -- $files
-}
-
-# The files that are played of the names of some, and of folders.
+# The files that are played of the names of some, which the list of all may lack as yet, and of folders.
 files_of() {
     for name; do
-        grep -x -e "${name%/}" -e "$name.txt" -e "${name%/}/.*" "$top/crates/ddf_rig/args" || fail "no scenario is $name, and no folder"
+        if [ -f "$data/$name" ]; then
+            echo "$name"
+        elif [ -f "$data/$name.txt" ]; then
+            echo "$name.txt"
+        else
+            grep "^${name%/}/" "$top/crates/ddf_rig/args" || fail "no scenario is $name, and no folder"
+        fi
     done
 }
 
-# Makes a copy of the program that a trial run of crates/ddf has built, while that runs: the kit keeps none.
+# Compiles the program of a crate without its proofs, unless that was done and no source is newer.
 build() {
-    mkdir "$work/trial"
-    (cd "$top/crates/ddf" && TMPDIR=$work/trial exec rt try --seconds 60 -- -- exercise 1 256) >/dev/null 2>"$work/build.log" &
+    program=$keep/$1
+    [ ! -x "$program" ] || [ -n "$(find "$top/crates.txt" "$top"/crates/*/src -newer "$program" -print -quit)" ] || return 0
+    room=$work/trial.$1
+    mkdir -p "$keep" "$room"
+    touch "$room/begun"
+    (cd "$top/crates/$1" && TMPDIR=$room exec rt try) >/dev/null 2>"$room/log" </dev/null &
     trial=$!
-    until [ -x "$work/ddf" ] && "$work/ddf" --version >/dev/null 2>&1; do
-        kill -0 "$trial" 2>/dev/null || fail "the program isn't built: $(tail -n 20 "$work/build.log")"
+    until code=$(find "$room" -name 'module*.o*' -printf '%h/module.bc' -quit 2>/dev/null) && [ -n "$code" ] && cp "$code" "$room/code.bc" 2>/dev/null; do
+        kill -0 "$trial" 2>/dev/null || fail "$1 isn't built: the trial run refuses it, or keeps its code elsewhere: $(tail -n 20 "$room/log")"
         sleep 0.2
-        find "$work/trial" -name program -type f -perm -100 -exec cp {} "$work/ddf" \; 2>/dev/null || true
     done
     kill "$trial" 2>/dev/null || true
     wait "$trial" 2>/dev/null || true
+    kit=$(dirname "$(rt doc)")
+    "$kit/toolchain/bin/clang" --target=x86_64-unknown-linux-gnu --no-default-config -O1 -fPIE -x ir -c "$room/code.bc" -o "$room/code.o"
+    "$kit/bin/rattle-link" --target x86_64-unknown-linux-gnu --toolchain "$kit/toolchain" -o "$room/program" "$room/code.o" \
+        "$kit/c/libos_c.a" "$kit/c/liblibc_c.a" 2>"$room/log" || fail "$1 isn't linked: $(cat "$room/log")"
+    touch -r "$room/begun" "$room/program"
+    mv "$room/program" "$program"
 }
 
+# Builds the player, and plays these scenarios, as many side by side as there are processors. What they print stands in their order.
+# shellcheck disable=SC2016
+play() {
+    build ddf_rig
+    mkdir "$work/played"
+    number=0
+    for file; do
+        number=$((number + 1))
+        printf '%s %04d\n' "$file" "$number"
+    done | (
+        cd "$data"
+        xargs -L 1 -P "$(nproc)" sh -c '"$0/ddf_rig" "$2" >"$1/played/$3" 2>>"$1/said" || echo "$2 ended with $?" >>"$1/failed"' "$keep" "$work"
+    )
+}
+
+command -v rt >/dev/null || fail "there is no rt on the PATH"
 if [ $# -gt 0 ]; then
     files=$(files_of "$@") || exit 1
     # shellcheck disable=SC2086
-    play $files 2>"$work/play.log" || fail "$(tail -n 20 "$work/play.log")"
+    play $files
+    cat "$work"/played/*
+    [ ! -e "$work/failed" ] || fail "$(cat "$work/said" "$work/failed")"
     tell "played"
     exit 0
 fi
 
 # shellcheck disable=SC2046
-play $(cat "$top/crates/ddf_rig/args") >"$work/played" 2>"$work/play.log" &
+(
+    trap 'kill $(jobs -p) 2>/dev/null || true' EXIT
+    trap 'exit 1' INT TERM
+    play $(cat "$top/crates/ddf_rig/args")
+) &
 player=$!
-build
+build ddf
 tell "the program is built, without proofs"
 status=0
-"$top/scripts/examples.py" "$work/ddf" || status=$?
+"$top/scripts/examples.py" "$keep/ddf" >"$work/examples" || status=$?
+cat "$work/examples"
 # 77: all that could be played here was answered as it should be.
 case $status in 0 | 77) ;; *) fail "an example of a page is answered otherwise" ;; esac
 tell "the examples of the pages are played"
-status=0
-wait "$player" || status=$?
-[ "$status" = "$(cat "$top/crates/ddf_rig/status")" ] || fail "the scenarios ended with $status: $(tail -n 20 "$work/play.log")"
-diff "$top/crates/ddf_rig/stdout" "$work/played" || fail "scenarios are answered otherwise than crates/ddf_rig/stdout says"
-tell "the scenarios are played: $(awk '/ steps, / { n += $2 } END { print n }' "$work/played") steps, answered as they should be"
+wait "$player" || exit 1
+cat "$work"/played/* >"$work/printed"
+diff "$top/crates/ddf_rig/stdout" "$work/printed" || fail "scenarios are answered otherwise than crates/ddf_rig/stdout says: $(cat "$work/said")"
+tell "the scenarios are played: $(awk '/ steps, / { n += $2 } END { print n }' "$work/printed") steps, answered as they should be"
+[ "$status" = 0 ] || echo "quick: $(tail -n 1 "$work/examples" | sed 's/^examples: //')"
+exit "$status"
