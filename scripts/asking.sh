@@ -356,6 +356,39 @@ if command -v python3 >/dev/null; then
     ends 0 "group" "" "./ddf f0.img f1.img f2.img -- show"
     silent 9005
     echo "asking: of a RAID 5 of PCI vendor 9005 it is told that dmraid reads it otherwise"
+
+    # RAID 6, which isn't served, in the place of RAID 5: what a loss means to it nothing tells, but that a disk of it goes.
+    make_group f
+    ends 0 "ok" "" "./ddf f0.img f1.img f2.img -- create w raid5.rnc 7 single 0,1,2@1024"
+    for image in f0.img f1.img f2.img; do
+        python3 - $image <<'END'
+import sys
+import zlib
+
+
+def seal(record):
+    record[4:8] = b"\xff" * 4
+    return zlib.crc32(record).to_bytes(4, "big")
+
+
+with open(sys.argv[1], "r+b") as image:
+    start = image.seek(-512 * 81, 2)
+    sectors = image.read()
+    for at in range(0, len(sectors), 512):
+        for end in range(at + 512, at + 8 * 512, 512):
+            record = bytearray(sectors[at:end])
+            if record[:4] == b"\xee" * 4 and record[67] == 5 and sectors[at + 4:at + 8] == seal(record):
+                record[67] = 6
+                record[4:8] = seal(record)
+                image.seek(start + at)
+                image.write(record)
+END
+    done
+    ends 0 "group" "" "./ddf f0.img f1.img f2.img -- show"
+    says_in out "array w unusable 18"
+    ends 1 "refused 22" "An array would be lost with the disk" "./ddf f0.img f1.img f2.img -- fail 2"
+    ends 0 "group" "after that, without a disk of it: array w unusable 18" "./ddf f0.img f1.img -- assemble"
+    echo "asking: an array that isn't served is named where a disk of it is lost"
 else
     lacks "a disk with one copy of its records, and RAID 5 of a vendor (python3)"
 fi
@@ -725,6 +758,12 @@ if gcc -O1 -shared -fPIC -o faults.so "$top/scripts/faults.c" -ldl 2>/dev/null; 
     ends 0 "ok" "" "./ddf $three -- rebuild v"
     ends 0 "group" "" "./ddf $three -- show"
     silent "is being filled"
+    # A row of RAID 1E is two strips, and a last one alone is one: 129 strips of each disk are 65 rows.
+    new_group "raid1e.adjacent 3 single 0,1,2@1035"
+    mv n1.img away
+    bad n0.img BAD_READS 800-801 3 "disk fault slot 0" "rebuild v: slot 0 (n0.img) has blocks that no other disk has, and a read of it failed" "$three -- rebuild v"
+    ends 0 "group" "array v: slot 2 (n3.img), member" "./ddf $three -- show"
+    says "is being filled and doesn't count yet: 0 of 65 rows are noted; rebuild v goes on"
     new_group "raid5.rnc 3 single 0,1,2@1024"
     mv n1.img away
     bad n2.img BAD_WRITES 34000-34815 3 "disk fault slot 1" "rebuild v: the records of slot 1 (n2.img) couldn't be written" "$three -- rebuild v"

@@ -16,7 +16,7 @@ from measuring import beside, measured, peak_of, row, spread
 from read_speed import read_rows
 from rebuild_speed import rebuild_rows
 from scrub_speed import scrub_rows
-from whole_speed import whole_rows
+from whole_speed import twice_rows, whole_rows
 from write_speed import write_rows
 
 SECTOR = 512
@@ -193,6 +193,7 @@ def main():
     write_rows(program, work, max(3, rounds // 8))
     rebuild_rows(program, work, max(3, rounds // 8))
     whole_rows(program, work, max(3, rounds // 8))
+    twice_rows(program, work, max(3, rounds // 4))
     logs_rows(program, work, max(3, rounds // 2))
     xor = work / "xor/crates/xor_speed/out/xor_speed"
     if xor.exists():

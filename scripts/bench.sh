@@ -17,7 +17,8 @@
 # - `resync` of the same arrays, beside cat of what their members hold; and `write` of 1 MiB, a piece of a call, with its start, the two changes of the group around
 #   it and their syncs, beside dd of as many bytes as reach the disks, with one sync.
 # - One `read` of 512 MiB of RAID 5, whole and without its first disk, beside cat of the same bytes, which were placed without `ddf`; and one `write` of 512 MiB beside dd of
-#   as many bytes as reach the disks, with one sync, and its peak of memory above that of a write of no block. It needs room for 3 GB in the folder of temporary files.
+#   as many bytes as reach the disks, with one sync, and its peak of memory above that of a write of no block.
+# - The same of RAID 10 of four disks, and of both kinds of RAID 1E of four beside that, all in the same rounds. It needs room for 6 GB in the folder of temporary files.
 # - One `read` of 512 MiB on a disk whose bad block log has 1,000 entries, beside the same on one without any: both disks are laid out without `ddf` (handmade.py).
 # - `rebuild` of the second disk of such arrays on a spare, with the loss, the notes of its progress and their syncs, beside cat of what it reads, to nowhere, and then dd
 #   of what it writes, with one sync.

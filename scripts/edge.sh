@@ -99,6 +99,13 @@ ends 2 "refused 10 word 3" "batch doesn't take the argument x: it wants nothing 
 ends 3 "" "nothing was done" "echo show | ./ddf d0.img missing.img -- batch"
 ends 6 "" "ddf: standard input failed: no line was run" "./ddf d0.img -- batch <&-"
 ends 6 "" "ddf: the output failed" "echo show | ./ddf d0.img -- batch >&-"
+# A byte past 7F of an input that is no text is no byte of an image's path, such as the 7F that it counted as once.
+cp --sparse=always d0.img "$(printf 'e\177.img')"
+for byte in 200 377; do
+    ends 1 "refused 10 word 1" "" "printf 'spare e\\$byte.img global\\n' | ./ddf e?.img -- batch"
+done
+ends 0 "ok sequence 2" "" "printf 'spare e\\177.img global\\n' | ./ddf e?.img -- batch"
+rm e?.img
 echo "edge: lines of a batch are run"
 
 # Root may write to everything, so that another user is asked for.

@@ -440,6 +440,8 @@ try_beside() {
 3 raid4.last 2 single 0,1,2@16
 3 raid5.rnc 2 single 0,1,2@16
 4 raid1 2 striped 0,1@16 2,3@16
+4 raid1 2 spanned 0,1@16 2,3@16
+3 raid1e.offset 2 single 0,1,2@16
 6 raid5.rnc 2 mirrored 0,1,2@16 3,4,5@16
 6 raid5.rn 2 striped 0,1,2@16 3,4,5@16
 6 raid4.first 2 concat 0,1,2@16 3,4,5@16
@@ -461,7 +463,7 @@ LEVELS
     over_bad a.img,b.img BAD_READS 1-1 0 "ok sequence 7" $images -- write v 0 8
     ends 0 "" $images -- read v 0 8
     cmp -s out input || fail "a stripe that was written over sectors that can't be read isn't there"
-    echo "faults: one range of sectors that can't be read, on each disk of seven arrays: $tried times, and no block was lost"
+    echo "faults: one range of sectors that can't be read, on each disk of nine arrays: $tried times, and no block was lost"
 }
 
 # group_of IMAGE: the GUID of the group that this image shows.

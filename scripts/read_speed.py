@@ -30,22 +30,31 @@ def turned(strips, number):
 
 @dataclass
 class Layout:
-    """An array: its first sector and its sectors on each member, the strips of data in a row, and the members' strips of it."""
+    """An array: its first sector and its sectors on each member, the strips of data in a row, and the members' strips of it; how many of these each member has, one below the other;
+    and the members of an element, where not all are of one."""
 
     level: str
     start: int
     blocks: int
     width: int
     cells: Callable
+    height: int = 1
+    members: int = 0
+
+    def elements(self, slots):
+        """The words of `create` for an array over so many slots."""
+        each = self.members or slots
+        places = [",".join(map(str, range(at, at + each))) for at in range(0, slots, each)]
+        return ["single" if len(places) == 1 else "striped", *(f"{place}@{self.blocks}" for place in places)]
 
     def fill(self, disks):
         """Writes random bytes to the members, and gives them back."""
-        data = os.urandom(SECTOR * self.blocks * self.width)
+        data = os.urandom(SECTOR * self.blocks // self.height * self.width)
         strips = [data[at : at + STRIP] for at in range(0, len(data), STRIP)]
         for number in range(len(strips) // self.width):
             cells = self.cells(strips[self.width * number :][: self.width], number)
             for disk, cell in zip(disks, cells):
-                disk.seek(SECTOR * self.start + STRIP * number)
+                disk.seek(SECTOR * self.start + STRIP * self.height * number)
                 disk.write(cell)
         return data
 

@@ -19,8 +19,7 @@ def filled(program, folder, layout, slots, whole=os.devnull):
         with open(image, "wb") as disk:
             disk.truncate(SECTOR * layout.blocks + (32 << 20))
     told([program, *images, "--", "label"])
-    members = ",".join(map(str, range(slots)))
-    told([program, *images, "--", "create", "array", layout.level, "7", "single", f"{members}@{layout.blocks}"])
+    told([program, *images, "--", "create", "array", layout.level, "7", *layout.elements(slots)])
     disks = [open(image, "r+b") for image in images]
     with open(whole, "wb") as data:
         data.write(layout.fill(disks))
