@@ -1,12 +1,13 @@
 -- What the words for a change ask of a group.
-use Rattle.std.specs.Prelude.{◌≡◌, ℕ, ◌^◌, ◌<◌, Bool, false, List, [], filter_map, Option, Some, None, unwrap_or, Result, Ok, Err, if◌then◌else◌}
+use Rattle.std.specs.Prelude.{◌≡◌, ℕ, ◌^◌, ◌<◌, Bool, true, false, List, [], filter_map, Option, Some, None, unwrap_or, Result, Ok, Err, if◌then◌else◌}
 use Rattle.std.specs.Option.{option_to_list}
 use Rattle.ddf_bytes.specs.declared.stamp.Stamp.{Stamp}
+use Rattle.ddf_header.specs.declared.kind.Revision.{Revision}
+use Rattle.ddf_header.specs.declared.kind.Revision.TheVariants.{R100, R120, R200}
 use Rattle.ddf_copy.specs.declared.newest_copy.Newest.{Newest}
 use Rattle.ddf_config.specs.declared.refusal.Refusal.{Refusal}
 use Rattle.ddf_config.specs.declared.seat.Seat.{Seat}
 use Rattle.ddf_plan.specs.declared.change.Change.{Change}
-use Rattle.ddf_rewrite.specs.Disks.{is_linux}
 use Rattle.ddf_group.specs.declared.answer.Assembly.{Assembly}
 use Rattle.ddf_seats.specs.Group.{GroupValue, copy_at}
 use Rattle.ddf_assembly.specs.Group.{group_of}
@@ -39,7 +40,13 @@ request_for slots stamp wish linux config seats = at_most_one (request_of slots 
 
 -- ---- the disks that Linux reads
 
--- the copy that stands for the slot of a seat is of their revision
+-- Linux takes disks of a revision for its own: by mdadm's source those of 01.00.00 too
+abbrev pub is_linux : Revision → Bool
+is_linux R100 = true
+is_linux R120 = true
+is_linux R200 = false
+
+-- the copy that stands for the slot of a seat is of such a revision
 abbrev pub is_for_linux : List (Option Newest) → Seat → Bool
 is_for_linux newest seat = elim (copy_at newest seat.slot) [ None ↦ false | Some copy ↦ is_linux copy.header.revision ]
 
