@@ -311,7 +311,9 @@ for words in "raid0 3 single 0,1@128" "raid1 0 single 0,1@128" "raid1 0 single 0
 done
 new_linux_group
 few_strips=": Linux doesn't start it: it has no strips of less than 4 KiB (code 3)"
-for words in "raid0 0 single 0,1@128" "raid0 2 single 0,1@128" "raid5.rn 2 single 0,1,2@128" "raid1 2 striped 0,1@128 2,3@128" "raid1e.adjacent 2 single 0,1,2@128"; do
+makes "raid0 2 single 0,1@128" ""
+makes "raid0 1 single 0,1@128" ": its strips are shorter than 2 KiB"
+for words in "raid5.rn 2 single 0,1,2@128" "raid1 2 striped 0,1@128 2,3@128" "raid1e.adjacent 2 single 0,1,2@128"; do
     makes "$words" "$few_strips"
 done
 makes "raid1 0 single 0,1,2,3@128" ": Linux doesn't start it: it has no RAID 1 of four disks and more"

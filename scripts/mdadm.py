@@ -243,7 +243,7 @@ def name_untaken():
         stop(f"label of a small disk printed {printed} and said {said}")
     change(large, 1, "label", "linux")
     untaken = [
-        ("raid0 0 single 0@128", ": it has no strips of less than 4 KiB (code 3)"),
+        ("raid5.rn 2 single 0,1,2@128", ": it has no strips of less than 4 KiB (code 3)"),
         ("raid4.first 7 single 0,1,2@128", ": it has no RAID 4 with its parity first"),
         ("raid1 7 single 0,1,2,3@128", ": it has no RAID 1 of four disks and more"),
         ("jbod 0 single 0@128", ": it has no JBOD"),

@@ -17,6 +17,9 @@ const TOO_SMALL: u64 = 65_536;
 /// The least stripe size code that Linux starts: strips of 4 KiB.
 const LEAST_CODE: u8 = 3;
 
+/// The least stripe size code of a RAID 0 whose blocks Linux finds where they are: strips of 2 KiB.
+const LEAST_STRIPED: u8 = 2;
+
 /// The most disks of a mirror that Linux starts.
 const MOST_MIRRORS: usize = 3;
 
@@ -118,6 +121,9 @@ fn misreading_of(creation: &Creation) -> Option<&'static str> {
         Some(0x00 | 0x03) if are_of_different_sizes(creation) => Some(
             "its elements give different BLOCKS, and Linux reads such an array as something else: what it writes there destroys blocks of this array and of others",
         ),
+        None if creation.level == 0x00 && creation.code < LEAST_STRIPED => Some(
+            "its strips are shorter than 2 KiB, and Linux reads such an array as something else; take code 3 or more",
+        ),
         None if creation.level == 0x01 && elements.iter().any(|one| one.blocks % 2 == 1) => Some(
             "its BLOCKS are an odd number, and Linux counts whole KiB: it neither serves nor rebuilds the last block; take an even number",
         ),
@@ -175,6 +181,7 @@ fn obstacle_of_shape(creation: &Creation) -> Option<&'static str> {
         _ if !is_single && is_uneven(creation) => {
             Some(": of several elements it has those of equally many disks alone")
         }
+        (0x00, _) => None,
         _ if creation.code < LEAST_CODE => Some(": it has no strips of less than 4 KiB (code 3)"),
         _ => None,
     }
