@@ -1,0 +1,5 @@
+mod Told
+mod Calm
+mod Turns
+mod Taken
+mod Exercised
