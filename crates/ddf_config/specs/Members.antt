@@ -4,7 +4,7 @@ use Rattle.std.specs.Map.{lookup}
 use Rattle.std.specs.Cmp.Lexicographic.{pointwise}
 use Rattle.ddf_config.specs.declared.member.Member.{Member}
 use Rattle.ddf_config.specs.declared.member.SpareUse.{SpareUse}
-use Rattle.ddf_config.specs.declared.member.SpareUse.TheVariants.{No, Global, Dedicated}
+use Rattle.ddf_config.specs.declared.member.SpareUse.TheVariants.{No, Global, Revertible, Dedicated}
 
 -- that two GUIDs have the same bytes
 abbrev pub same_guid : List ℕ → List ℕ → Bool
@@ -19,4 +19,5 @@ is_current members reference =
 abbrev pub is_spare : SpareUse → Bool
 is_spare No = false
 is_spare Global = true
+is_spare Revertible = true
 is_spare (Dedicated guids) = true

@@ -30,6 +30,9 @@ pub struct ElementPlan {
     pub strip: u8,
     /// The sectors that each member gives.
     pub blocks: u64,
+    /// The reference of the disk that stands in at one of the positions, a revertible spare: it gives the place back once another
+    /// disk is there. 0 where there is none.
+    pub stand_in: u32,
     /// The positions, in the order of the member list.
     pub positions: ArrayVec<Position, 64>,
 }
@@ -44,12 +47,13 @@ impl Model for ElementPlan {
       qualifier = element.qualifier;
       strip = element.strip;
       blocks = element.blocks;
+      stand_in = element.stand_in;
       positions = element.positions.items;
     } };
 }
 
 impl ElementPlan {
-    ghost use Rattle.ddf_config.specs.ElementValue.{with_positions};
+    ghost use Rattle.ddf_config.specs.ElementValue.{with_disks, with_positions};
 
     /// A second value that equals this one. An element takes no memory of its own, so there is always one.
     pub fn duplicate(&self, _alloc: Global) -> Result<ElementPlan, NoMemory>
@@ -67,6 +71,21 @@ impl ElementPlan {
             qualifier: self.qualifier,
             strip: self.strip,
             blocks: self.blocks,
+            stand_in: self.stand_in,
+            positions,
+        }
+    }
+
+    /// The element on other disks: another one that stands in, or 0 for none, and other positions.
+    pub fn with_disks(&self, stand_in: u32, positions: ArrayVec<Position, 64>) -> ElementPlan
+        ensures { result ≡ with_disks self.now stand_in positions.items }
+    {
+        ElementPlan {
+            level: self.level,
+            qualifier: self.qualifier,
+            strip: self.strip,
+            blocks: self.blocks,
+            stand_in,
             positions,
         }
     }

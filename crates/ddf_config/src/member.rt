@@ -25,6 +25,8 @@ pub enum SpareUse {
     No,
     /// A spare for every array of the group.
     Global,
+    /// A spare for every array of the group that gives its place back once another disk is there.
+    Revertible,
     /// A spare for these arrays, in table order.
     Dedicated(Seq<Guid>),
 }
@@ -58,6 +60,7 @@ impl SpareUse {
         match self {
             SpareUse::No => Ok(SpareUse::No),
             SpareUse::Global => Ok(SpareUse::Global),
+            SpareUse::Revertible => Ok(SpareUse::Revertible),
             SpareUse::Dedicated(arrays) => {
                 let arrays = Vec::from_slice(alloc, arrays.items())?;
                 Ok(SpareUse::Dedicated(Seq::new(arrays)))

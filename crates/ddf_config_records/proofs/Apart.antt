@@ -2,13 +2,13 @@
 use Rattle.std.proofs.Common.{◌≡◌, ℕ, zero, suc, ◌+◌, ◌<◌, ◌≤◌, Bool, true, false, ◌&&◌, eqb, leb, IsTrue, List, length, drop, refl, subst, arith}
 use Rattle.std.specs.Prelude.{slice_index}
 use Rattle.std.specs.List.{list_all, range_with_len}
-use Rattle.std.specs.Int.{w16, w32}
+use Rattle.std.specs.Int.{w16}
 use Rattle.std.proofs.lemmas.Bool.{eqb-true, leb-true}
 use Rattle.ddf_bytes.specs.Bytes.{number_at}
 use Rattle.ddf_seal.proofs.Placing.{get_or-bytes_at}
 use Rattle.ddf_seal.proofs.Same.{both_true}
 use Rattle.ddf_header.specs.declared.geometry.Geometry.{Geometry}
-use Rattle.ddf_config_records.specs.declared.layout.TheConstants.{MEMBERS_AT, NOTES_AT, NOTE_ZERO_AT, NOTE_ZEROS_AT}
+use Rattle.ddf_config_records.specs.declared.layout.TheConstants.{MEMBERS_AT, NOTES_AT, NOTE_ZERO_AT}
 use Rattle.ddf_config_records.specs.ElementValue.{ElementValue}
 use Rattle.ddf_config_records.specs.Elements.{IsElementOf}
 use Rattle.ddf_config_records.specs.NoteRecords.{note_place, is_note, is_headed, is_notes}
@@ -31,9 +31,8 @@ first_note most m bytes h =
     let notes = both_true each filled body.1 in
     let one = both_true (is_note bytes (note_place most 0)) (list_all (λ slot. is_note bytes (note_place most slot)) (range_with_len (0 + 1) m)) notes.0 in
     let first : IsTrue (is_note bytes NOTES_AT) = subst (λ (k : ℕ). IsTrue (is_note bytes k)) (first_place most) one.0 in
-    let flag = both_true (leb (slice_index bytes NOTES_AT) 1) (eqb (slice_index bytes (NOTES_AT + NOTE_ZERO_AT)) 0 && eqb (number_at w32 bytes (NOTES_AT + NOTE_ZEROS_AT)) 0) first in
-    let zeros = both_true (eqb (slice_index bytes (NOTES_AT + NOTE_ZERO_AT)) 0) (eqb (number_at w32 bytes (NOTES_AT + NOTE_ZEROS_AT)) 0) flag.1 in
-    (leb-true (slice_index bytes NOTES_AT) 1 flag.0, eqb-true (slice_index bytes (NOTES_AT + NOTE_ZERO_AT)) 0 zeros.0)
+    let flag = both_true (leb (slice_index bytes NOTES_AT) 1) (eqb (slice_index bytes (NOTES_AT + NOTE_ZERO_AT)) 0) first in
+    (leb-true (slice_index bytes NOTES_AT) 1 flag.0, eqb-true (slice_index bytes (NOTES_AT + NOTE_ZERO_AT)) 0 flag.1)
 
 pub element_no_notes : (signature : ℕ) (geometry : Geometry) (count : ℕ) (element : ElementValue) (bytes : List ℕ) → 0 < count → IsElementOf signature geometry element bytes → is_notes geometry.max_members count bytes ≡ false
 element_no_notes signature geometry zero element bytes some is = absurd (omega arith)

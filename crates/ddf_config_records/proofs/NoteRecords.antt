@@ -2,11 +2,10 @@
 use Rattle.std.proofs.Common.{◌≡◌, ℕ, zero, suc, ◌+◌, ◌*◌, ◌/◌, ◌<◌, ◌≤◌, Bool, true, false, ◌&&◌, cond, eqb, leb, IsTrue, List, [], ◌∷◌, ◌++◌, length, map, take, replicate, get_or, refl, sym, ◌∙◌, ap, subst, arith}
 use Rattle.std.specs.Prelude.{slice_index}
 use Rattle.std.specs.List.{AllByRecursion, list_all, range_with_len}
-use Rattle.std.specs.Int.{w32}
 use Rattle.std.proofs.lemmas.Bool.{eq-eqb, eqb-true, leb-true}
 use Rattle.std.proofs.lemmas.List.{append-nil, append_assoc, map-append, take_more, length-take-le}
 use Rattle.std.proofs.lemmas.List.FromFn.{length-map-range_with_len, map-range_with_len_more}
-use Rattle.ddf_bytes.specs.Bytes.{bytes_at, number_at}
+use Rattle.ddf_bytes.specs.Bytes.{bytes_at}
 use Rattle.ddf_seal.specs.declared.unread.Span.{Span}
 use Rattle.ddf_seal.specs.Seal.{seal_place}
 use Rattle.ddf_seal.specs.Unread.{AreBytes, Field, Stands, place_of, places, written}
@@ -15,7 +14,7 @@ use Rattle.ddf_seal.proofs.Same.{both_true}
 use Rattle.ddf_seal.proofs.Spelled.{AreBytes-bytes_at}
 use Rattle.ddf_config_records.specs.declared.notes.SlotNote.{SlotNote}
 use Rattle.ddf_config_records.specs.declared.notes.Notes.{Notes}
-use Rattle.ddf_config_records.specs.declared.layout.TheConstants.{NOTES_AT, NOTE_ZERO_AT, NOTE_ZEROS_AT, NOTE_BITS_AT}
+use Rattle.ddf_config_records.specs.declared.layout.TheConstants.{NOTES_AT, NOTE_ZERO_AT, NOTE_BITS_AT}
 use Rattle.ddf_config_records.specs.Bits.{positions, bits_of, IsRising}
 use Rattle.ddf_config_records.specs.NoteRecords.{note_size, note_place, note_fields, all_note_fields, filling, notes_fields, is_note, note_at, notes_of_slots}
 use Rattle.ddf_config_records.proofs.Bits.{positions_rise, positions_of_bits, bits_of_positions}
@@ -89,20 +88,19 @@ note_stands : (most : ℕ) (bytes : List ℕ) (at : ℕ) → IsTrue (is_note byt
 unfolding note_at
 note_stands most bytes at h within are whole =
     let flag = slice_index bytes at in
-    let first = both_true (leb flag 1) (eqb (slice_index bytes (at + NOTE_ZERO_AT)) 0 && eqb (number_at w32 bytes (at + NOTE_ZEROS_AT)) 0) h in
-    let second = both_true (eqb (slice_index bytes (at + NOTE_ZERO_AT)) 0) (eqb (number_at w32 bytes (at + NOTE_ZEROS_AT)) 0) first.1 in
+    let first = both_true (leb flag 1) (eqb (slice_index bytes (at + NOTE_ZERO_AT)) 0) h in
     let bits = bytes_at bytes (at + NOTE_BITS_AT) (most / 8) in
     let size : length bits ≡ most / 8 = length-bytes_at bytes (at + NOTE_BITS_AT) (most / 8) (omega arith) in
     let same : bits ≡ bits_of (most / 8) (positions most bits) = sym (bits_of_positions most bits whole size (AreBytes-bytes_at bytes (at + NOTE_BITS_AT) (most / 8) (omega arith) are)) in
-    (flag_is flag (leb-true flag 1 first.0), (eqb-true (slice_index bytes (at + NOTE_ZERO_AT)) 0 second.0, (refl, (eqb-true (number_at w32 bytes (at + NOTE_ZEROS_AT)) 0 second.1, (refl, (same, tt))))))
+    (flag_is flag (leb-true flag 1 first.0), (eqb-true (slice_index bytes (at + NOTE_ZERO_AT)) 0 first.1, (refl, (refl, (refl, (same, tt))))))
 
-make_note : (copied : Bool) (position row : ℕ) (out : List ℕ) → SlotNote
-make_note copied position row out = record { copied = copied; position = position; row = row; out = out }
+make_note : (copied : Bool) (position stand_in row : ℕ) (out : List ℕ) → SlotNote
+make_note copied position stand_in row out = record { copied = copied; position = position; stand_in = stand_in; row = row; out = out }
 
-same_note : (a b : SlotNote) → a.copied ≡ b.copied → a.position ≡ b.position → a.row ≡ b.row → a.out ≡ b.out → a ≡ b
+same_note : (a b : SlotNote) → a.copied ≡ b.copied → a.position ≡ b.position → a.stand_in ≡ b.stand_in → a.row ≡ b.row → a.out ≡ b.out → a ≡ b
 unfolding make_note
-same_note a b e1 e2 e3 e4 =
-    let all : make_note a.copied a.position a.row a.out ≡ make_note b.copied b.position b.row b.out = cc in
+same_note a b e1 e2 e3 e4 e5 =
+    let all : make_note a.copied a.position a.stand_in a.row a.out ≡ make_note b.copied b.position b.stand_in b.row b.out = cc in
     all
 
 note_read : (most : ℕ) (bytes : List ℕ) (at : ℕ) (note : SlotNote) → AllByRecursion (Stands bytes) (note_fields most at note) → IsRising most note.out → 8 * (most / 8) ≡ most → note_at most bytes at ≡ note
@@ -110,13 +108,13 @@ unfolding note_at
 note_read most bytes at note h rising whole =
     let copied : eqb (slice_index bytes at) 1 ≡ note.copied = ap (λ (n : ℕ). eqb n 1) h.0 ∙ flag_of note.copied in
     let out : positions most (bytes_at bytes (at + NOTE_BITS_AT) (most / 8)) ≡ note.out = ap (positions most) h.1.1.1.1.1.0 ∙ positions_of_bits most note.out whole rising in
-    same_note (note_at most bytes at) note copied h.1.1.0 h.1.1.1.1.0 out
+    same_note (note_at most bytes at) note copied h.1.1.0 h.1.1.1.0 h.1.1.1.1.0 out
 
 note_is_note : (most : ℕ) (bytes : List ℕ) (at : ℕ) (note : SlotNote) → AllByRecursion (Stands bytes) (note_fields most at note) → IsTrue (is_note bytes at)
 note_is_note most bytes at note h =
-    both (leb (slice_index bytes at) 1) (eqb (slice_index bytes (at + NOTE_ZERO_AT)) 0 && eqb (number_at w32 bytes (at + NOTE_ZEROS_AT)) 0)
+    both (leb (slice_index bytes at) 1) (eqb (slice_index bytes (at + NOTE_ZERO_AT)) 0)
     (ap (λ (n : ℕ). leb n 1) h.0 ∙ flag_small note.copied)
-    (both (eqb (slice_index bytes (at + NOTE_ZERO_AT)) 0) (eqb (number_at w32 bytes (at + NOTE_ZEROS_AT)) 0) (eq-eqb (slice_index bytes (at + NOTE_ZERO_AT)) 0 h.1.0) (eq-eqb (number_at w32 bytes (at + NOTE_ZEROS_AT)) 0 h.1.1.1.0))
+    (eq-eqb (slice_index bytes (at + NOTE_ZERO_AT)) 0 h.1.0)
 
 -- ---- all notes
 

@@ -9,7 +9,7 @@ use Rattle.ddf_seal.specs.Unread.{Field, Fits, u8_at, u16_at, u32_at, u64_at, pl
 use Rattle.ddf_header.specs.declared.geometry.Geometry.{Geometry}
 use Rattle.ddf_config_records.specs.declared.notes.SlotNote.{SlotNote}
 use Rattle.ddf_config_records.specs.declared.notes.Notes.{Notes}
-use Rattle.ddf_config_records.specs.declared.layout.TheConstants.{NOTES_GROUP_AT, NOTES_NAME_AT, NOTES_SEQUENCE_AT, NOTES_SLOTS_AT, NOTES_MEMBERS_AT, NOTES_ZEROS_AT, NOTES_AT, NOTE_POSITION_AT, NOTE_ZERO_AT, NOTE_ZEROS_AT, NOTE_ROW_AT, NOTE_BITS_AT}
+use Rattle.ddf_config_records.specs.declared.layout.TheConstants.{NOTES_GROUP_AT, NOTES_NAME_AT, NOTES_SEQUENCE_AT, NOTES_SLOTS_AT, NOTES_MEMBERS_AT, NOTES_ZEROS_AT, NOTES_AT, NOTE_POSITION_AT, NOTE_ZERO_AT, NOTE_STAND_IN_AT, NOTE_ROW_AT, NOTE_BITS_AT}
 use Rattle.ddf_config_records.specs.Bits.{positions, bits_of, IsRising}
 use Rattle.ddf_config_records.specs.Elements.{record_size}
 use Rattle.ddf_config_records.specs.Vendors.{vendor_signature}
@@ -29,7 +29,7 @@ note_fields most at note =
     u8_at at (if note.copied then 1 else 0)
     ∷ u8_at (at + NOTE_ZERO_AT) 0
     ∷ u16_at (at + NOTE_POSITION_AT) note.position
-    ∷ u32_at (at + NOTE_ZEROS_AT) 0
+    ∷ u32_at (at + NOTE_STAND_IN_AT) note.stand_in
     ∷ u64_at (at + NOTE_ROW_AT) note.row
     ∷ plain_at (at + NOTE_BITS_AT) (most / 8) (bits_of (most / 8) note.out)
     ∷ []
@@ -78,7 +78,7 @@ pub record IsNotesOf (geometry : Geometry) (count : ℕ) (notes : Notes) (bytes 
 
 -- a note may stand here
 abbrev pub is_note : List ℕ → (at : ℕ) → Bool
-is_note bytes at = nat_le (slice_index bytes at) 1 && (slice_index bytes (at + NOTE_ZERO_AT) == 0 && number_at w32 bytes (at + NOTE_ZEROS_AT) == 0)
+is_note bytes at = nat_le (slice_index bytes at) 1 && slice_index bytes (at + NOTE_ZERO_AT) == 0
 
 -- the name of a notes record
 unfoldable pub is_named : List ℕ → Bool
@@ -103,6 +103,7 @@ unfoldable pub note_at : (most : ℕ) → List ℕ → (at : ℕ) → SlotNote
 note_at most bytes at = record {
   copied = slice_index bytes at == 1;
   position = number_at w16 bytes (at + NOTE_POSITION_AT);
+  stand_in = number_at w32 bytes (at + NOTE_STAND_IN_AT);
   row = number_at w64 bytes (at + NOTE_ROW_AT);
   out = positions most (bytes_at bytes (at + NOTE_BITS_AT) (most / 8));
 }

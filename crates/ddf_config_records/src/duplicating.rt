@@ -124,6 +124,7 @@ fn second_note(alloc: Global, note: &SlotNote) -> Result<SlotNote, NoMemory>
     Ok(SlotNote {
         copied: note.copied,
         position: note.position,
+        stand_in: note.stand_in,
         row: note.row,
         out: Seq::new(out),
     })

@@ -192,8 +192,8 @@ pub const NOTE_ZERO_AT: usize = 1;
 /// Offset of the position that is rebuilt in a note, which begins with the byte that tells a copy.
 pub const NOTE_POSITION_AT: usize = 2;
 
-/// Offset of four bytes 00 in a note.
-pub const NOTE_ZEROS_AT: usize = 4;
+/// Offset of the reference of the disk that stands in, in a note.
+pub const NOTE_STAND_IN_AT: usize = 4;
 
 /// Offset of the row that the rebuild has come to in a note.
 pub const NOTE_ROW_AT: usize = 8;

@@ -19,6 +19,8 @@ pub struct SlotNote {
     pub copied: bool,
     /// The position that is rebuilt. FFFF is none.
     pub position: u16,
+    /// The reference of the disk that stands in at a position of the element, to give its place back. 0 is none.
+    pub stand_in: u32,
     /// The row that the rebuild has come to.
     pub row: u64,
     /// The positions that are out of sync, in rising order.

@@ -101,9 +101,7 @@ fn is_note(bytes: &[u8], at: usize) -> bool
     requires { at + NOTE_BITS_AT ≤ length bytes.now }
     ensures { result ≡ is_note bytes.now at }
 {
-    bytes[at] <= 1
-        && bytes[at + layout::NOTE_ZERO_AT] == 0
-        && be32(bytes, at + layout::NOTE_ZEROS_AT) == 0
+    bytes[at] <= 1 && bytes[at + layout::NOTE_ZERO_AT] == 0
 }
 
 fn is_filled(bytes: &[u8]) -> bool
@@ -162,6 +160,7 @@ fn read_note(alloc: Global, bytes: &[u8], at: usize, most: u16) -> Result<SlotNo
     Ok(SlotNote {
         copied: bytes[at] == 1,
         position: be16(bytes, at + layout::NOTE_POSITION_AT),
+        stand_in: be32(bytes, at + layout::NOTE_STAND_IN_AT),
         row: be64(bytes, at + layout::NOTE_ROW_AT),
         out: Seq::new(out),
     })

@@ -77,7 +77,7 @@ fn put_note(into: &mut [u8], at: usize, note: &SlotNote, most: u16)
     place(into, at, &[u8::from(note.copied)]);
     place(into, at + layout::NOTE_ZERO_AT, &[0]);
     put16(into, at + layout::NOTE_POSITION_AT, note.position);
-    put32(into, at + layout::NOTE_ZEROS_AT, 0);
+    put32(into, at + layout::NOTE_STAND_IN_AT, note.stand_in);
     put64(into, at + layout::NOTE_ROW_AT, note.row);
     put_out(into, at + layout::NOTE_BITS_AT, note.out.items(), most);
 }

@@ -78,9 +78,9 @@ module _ (config next : Configuration) (guid : List ℕ) (array made : Array) (s
   in_table : lookup (same_guid guid) (changed config (Create guid array)).arrays ≡ Some (low (created config.members (extents config.arrays) array))
   in_table =
       found_last (λ key value. low value) (same_guid guid)
-      (changed_entries (kept_array (members_after config (Create guid array)) (Create guid array)) config.arrays) guid
+      (changed_entries (kept_array false (members_after config (Create guid array)) (Create guid array)) config.arrays) guid
       (created config.members (extents config.arrays) array)
-      (absent_changed (kept_array (members_after config (Create guid array)) (Create guid array)) (same_guid guid) config.arrays
+      (absent_changed (kept_array false (members_after config (Create guid array)) (Create guid array)) (same_guid guid) config.arrays
       (new_guid config (Create guid array) seats (is_changed config next (Create guid array) seats e).0))
       (nat_list_eq_equiv.refl guid)
 

@@ -5,7 +5,7 @@ use Rattle.ddf_config.specs.declared.refusal.Refusal.{Refusal}
 use Rattle.ddf_config.specs.Configuration.{Configuration}
 use Rattle.ddf_config.specs.Refusals.{first_refusal}
 use Rattle.ddf_plan.specs.declared.change.Change.{Change}
-use Rattle.ddf_plan.specs.declared.change.Change.TheVariants.{Lose, Create, Delete, Spare, Fail, Mark, Unmark, Rewind, Begin, Progress, Finish}
+use Rattle.ddf_plan.specs.declared.change.Change.TheVariants.{Lose, Create, Delete, Spare, Fail, Mark, Unmark, Rewind, Begin, Progress, Finish, Return}
 use Rattle.ddf_plan.specs.Refusals.{no_array, not_current, spent}
 use Rattle.ddf_plan.specs.Lose.{lose_causes}
 use Rattle.ddf_plan.specs.CreateRefusal.{create_causes}
@@ -31,6 +31,8 @@ causes_of most config (Begin guid element position reference start) seats =
     position_causes config guid element position ++ not_current config seats (reference ∷ []) ∷ []
 causes_of most config (Progress guid element position row) seats = held_causes config seats guid element position
 causes_of most config (Finish guid element position) seats = held_causes config seats guid element position
+causes_of most config (Return guid element position reference start) seats =
+    position_causes config guid element position ++ not_current config seats (reference ∷ []) ∷ []
 
 -- the first of them
 unfoldable pub causes : Option ℕ → Configuration → Change → List Seat → Option Refusal

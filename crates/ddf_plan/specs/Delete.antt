@@ -1,7 +1,7 @@
 -- What is left of spares without an array, and why an array can't be deleted.
 use Rattle.std.specs.Prelude.{ℕ, not, List, [], ◌∷◌, Option, filter}
 use Rattle.ddf_config.specs.declared.member.SpareUse.{SpareUse}
-use Rattle.ddf_config.specs.declared.member.SpareUse.TheVariants.{No, Global, Dedicated}
+use Rattle.ddf_config.specs.declared.member.SpareUse.TheVariants.{No, Global, Revertible, Dedicated}
 use Rattle.ddf_config.specs.declared.refusal.Refusal.{Refusal}
 use Rattle.ddf_config.specs.Configuration.{Configuration}
 use Rattle.ddf_config.specs.Members.{same_guid}
@@ -16,6 +16,7 @@ dedicated (guid ∷ guids) = Dedicated (guid ∷ guids)
 abbrev pub use_without : List ℕ → SpareUse → SpareUse
 use_without guid No = No
 use_without guid Global = Global
+use_without guid Revertible = Revertible
 use_without guid (Dedicated guids) = dedicated (filter (λ other. not (same_guid guid other)) guids)
 
 -- the array is there

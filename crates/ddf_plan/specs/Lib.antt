@@ -5,6 +5,7 @@ pub mod Create
 pub mod CreateRefusal
 pub mod Delete
 pub mod Spare
+pub mod Standing
 pub mod Fail
 pub mod Rebuild
 pub mod Members

@@ -7,7 +7,7 @@ use Rattle.ddf_config.specs.declared.array.Array.{Array}
 use Rattle.ddf_config.specs.declared.seat.Seat.{Seat}
 use Rattle.ddf_config.specs.declared.refusal.Refusal.{Refusal}
 use Rattle.ddf_config.specs.Configuration.{Configuration}
-use Rattle.ddf_config.specs.ElementValue.{ElementValue, with_positions}
+use Rattle.ddf_config.specs.ElementValue.{ElementValue, with_disks, with_positions}
 use Rattle.ddf_config.specs.Within.{is_available, is_part_within, is_mirrored}
 use Rattle.ddf_plan.specs.Refusals.{not_current}
 
@@ -23,8 +23,13 @@ abbrev pub lost_position : List ℕ → Position → Position
 lost_position references position =
     if is_among references position.reference then out_of_sync position else position
 
+-- a disk that stands in stands in no more where it is lost
+abbrev pub lost_stand_in : List ℕ → ElementValue → ℕ
+lost_stand_in references element = if is_among references element.stand_in then 0 else element.stand_in
+
 abbrev pub lost_element : List ℕ → ElementValue → ElementValue
-lost_element references element = with_positions element (map (lost_position references) element.positions)
+lost_element references element =
+    with_disks element (lost_stand_in references element) (map (lost_position references) element.positions)
 
 abbrev pub lost_parts : List ℕ → Array → List (Option ElementValue)
 lost_parts references array = map (option_map (lost_element references)) array.elements

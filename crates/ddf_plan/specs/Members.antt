@@ -6,10 +6,11 @@ use Rattle.ddf_config.specs.declared.member.SpareUse.TheVariants.{No}
 use Rattle.ddf_config.specs.Configuration.{Configuration}
 use Rattle.ddf_config.specs.Entries.{changed_entries}
 use Rattle.ddf_plan.specs.declared.change.Change.{Change}
-use Rattle.ddf_plan.specs.declared.change.Change.TheVariants.{Lose, Delete, Spare, Fail, Begin}
+use Rattle.ddf_plan.specs.declared.change.Change.TheVariants.{Lose, Delete, Spare, Fail, Begin, Return}
 use Rattle.ddf_plan.specs.Lose.{is_among}
 use Rattle.ddf_plan.specs.Delete.{use_without}
 use Rattle.ddf_plan.specs.Spare.{use_in_order}
+use Rattle.ddf_plan.specs.Standing.{given_back, is_given_back, is_left_by}
 
 -- the members that a change loses
 abbrev pub lost_by : Change → List ℕ
@@ -17,11 +18,14 @@ lost_by (Lose references) = references
 lost_by (Fail failed) = failed ∷ []
 lost_by other = []
 
--- what a member may stand in for after a change; a disk that is rebuilt onto is no spare any more
+-- What a member may stand in for after a change. A disk that is rebuilt onto is no spare any more; one that stood in is a revertible
+-- spare again, where it has given its place back or its array is no more.
 abbrev pub use_after : Configuration → Change → ℕ → SpareUse → SpareUse
-use_after config (Delete guid) reference use_as = use_without guid use_as
+use_after config (Delete guid) reference use_as = use_without guid (given_back (is_left_by config guid reference) use_as)
 use_after config (Spare spare next) reference use_as = if nat_eq spare reference then use_in_order config.arrays next else use_as
 use_after config (Begin array element position spare start) reference use_as = if nat_eq spare reference then No else use_as
+use_after config (Return array element position disk start) reference use_as =
+    given_back (is_given_back config array element position disk reference) use_as
 use_after config other reference use_as = use_as
 
 -- A member keeps its place, its disk and its size. One that is lost stays in the table as missing.

@@ -31,6 +31,10 @@ progressed position row number old = record old { row = if nat_eq position numbe
 abbrev pub finished : ℕ → ℕ → Position → Position
 finished position number old = if nat_eq position number then record old { synced = true; row = 0 } else old
 
+-- it moves to a disk that holds what it holds: as a rebuild that begins and is done at once
+abbrev pub returned : ℕ → ℕ → ℕ → ℕ → Position → Position
+returned position reference start number old = finished position number (begun position reference start number old)
+
 -- ---- the position of an array
 
 -- an element of an array; none where the array has no such place, or no disk tells of it

@@ -5,7 +5,7 @@ use Rattle.std.specs.Str.{bytes_eq}
 use Rattle.std.specs.Cmp.Lexicographic.{pointwise}
 use Rattle.ddf_config.specs.declared.member.Member.{Member}
 use Rattle.ddf_config.specs.declared.member.SpareUse.{SpareUse}
-use Rattle.ddf_config.specs.declared.member.SpareUse.TheVariants.{No, Global, Dedicated}
+use Rattle.ddf_config.specs.declared.member.SpareUse.TheVariants.{No, Global, Revertible, Dedicated}
 use Rattle.ddf_config.specs.declared.element.Position.{Position}
 use Rattle.ddf_config.specs.declared.array.Array.{Array}
 use Rattle.ddf_config.specs.ElementValue.{ElementValue}
@@ -22,12 +22,19 @@ same_flag false other = not other
 abbrev pub same_use : SpareUse → SpareUse → Bool
 same_use No No = true
 same_use No Global = false
+same_use No Revertible = false
 same_use No (Dedicated others) = false
 same_use Global No = false
 same_use Global Global = true
+same_use Global Revertible = false
 same_use Global (Dedicated others) = false
+same_use Revertible No = false
+same_use Revertible Global = false
+same_use Revertible Revertible = true
+same_use Revertible (Dedicated others) = false
 same_use (Dedicated guids) No = false
 same_use (Dedicated guids) Global = false
+same_use (Dedicated guids) Revertible = false
 same_use (Dedicated guids) (Dedicated others) = pointwise bytes_eq guids others
 
 abbrev pub same_member : (ℕ × Member) → (ℕ × Member) → Bool
@@ -44,7 +51,7 @@ same_position one other =
 abbrev pub same_element : ElementValue → ElementValue → Bool
 same_element one other =
     one.level == other.level && one.qualifier == other.qualifier && one.strip == other.strip && one.blocks == other.blocks
-    && pointwise same_position one.positions other.positions
+    && one.stand_in == other.stand_in && pointwise same_position one.positions other.positions
 
 abbrev pub same_array : (List ℕ × Array) → (List ℕ × Array) → Bool
 same_array one other =

@@ -3,7 +3,7 @@ use Rattle.std.specs.Prelude.{ℕ, Bool, false, not, List, [], ◌∷◌, Option
 use Rattle.std.specs.Map.{lookup, keys_of}
 use Rattle.std.specs.List.{list_any, list_all}
 use Rattle.ddf_config.specs.declared.member.SpareUse.{SpareUse}
-use Rattle.ddf_config.specs.declared.member.SpareUse.TheVariants.{No, Global, Dedicated}
+use Rattle.ddf_config.specs.declared.member.SpareUse.TheVariants.{No, Global, Revertible, Dedicated}
 use Rattle.ddf_config.specs.declared.element.Position.{Position}
 use Rattle.ddf_config.specs.declared.array.Array.{Array}
 use Rattle.ddf_config.specs.declared.seat.Seat.{Seat}
@@ -20,6 +20,7 @@ use Rattle.ddf_plan.specs.Refusals.{not_current}
 abbrev pub use_in_order : List (List ℕ × Array) → SpareUse → SpareUse
 use_in_order arrays No = No
 use_in_order arrays Global = Global
+use_in_order arrays Revertible = Revertible
 use_in_order arrays (Dedicated guids) =
     Dedicated (filter (λ guid. list_any (same_guid guid) guids) (keys_of arrays))
 
@@ -34,6 +35,7 @@ can_have_spare config guid =
 abbrev pub lacks_array : Configuration → SpareUse → Bool
 lacks_array config No = false
 lacks_array config Global = false
+lacks_array config Revertible = false
 lacks_array config (Dedicated guids) = not (list_all (can_have_spare config) guids)
 
 abbrev pub position_refers : ℕ → Position → Bool

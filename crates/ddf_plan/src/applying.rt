@@ -24,7 +24,7 @@ use std::alloc::Global;
 /// - `Spare`: `NotMember`, `NoArray`, `InUse`, `SequenceSpent`
 /// - `Fail`: `NotMember`, `InUse`, `Lost`, `SequenceSpent`
 /// - `Mark`, `Unmark`, `Rewind`: `NoArray`, `SequenceSpent`
-/// - `Begin`, `Progress`, `Finish`: `NoArray`, `Shape`, `NotMember`, `SequenceSpent`
+/// - `Begin`, `Progress`, `Finish`, `Return`: `NoArray`, `Shape`, `NotMember`, `SequenceSpent`
 ///
 /// `Memory` where memory ran out.
 pub fn apply(

@@ -4,6 +4,7 @@ ghost use Rattle.ddf_config.specs.Entries.{changed_entries};
 ghost use Rattle.ddf_config.specs.Extents.{extents};
 ghost use Rattle.ddf_plan.specs.Create.{created};
 ghost use Rattle.ddf_plan.specs.Members.{members_after};
+ghost use Rattle.ddf_plan.specs.Standing.{takes_revertible};
 ghost use Rattle.ddf_plan.specs.Arrays.{names, named_after, array_after, is_dropped, kept_array, arrays_added, kept_and_added, arrays_after, HasNewGuid};
 
 use crate::Change;
@@ -11,6 +12,7 @@ use crate::create::created;
 use crate::lose::lost_array;
 use crate::mark::{marked, rewound, unmarked};
 use crate::rebuild::rebuilding;
+use crate::standing::takes_revertible;
 use ddf_bytes::{Guid, NoMemory};
 use ddf_config::{Array, Config, Member, extents, put_last, put_some, with_low_states};
 use indexmap::IndexMap;
@@ -25,7 +27,8 @@ fn names(change: &Change, guid: Guid) -> bool
         Change::Mark(named) | Change::Unmark(named, _) | Change::Rewind(named) => *named == guid,
         Change::Begin { array, .. }
         | Change::Progress { array, .. }
-        | Change::Finish { array, .. } => *array == guid,
+        | Change::Finish { array, .. }
+        | Change::Return { array, .. } => *array == guid,
         Change::Lose(_)
         | Change::Create(_, _)
         | Change::Delete(_)
@@ -34,17 +37,23 @@ fn names(change: &Change, guid: Guid) -> bool
     }
 }
 
-/// What a change of one array makes of it.
-fn named_after(alloc: Global, change: &Change, array: &Array) -> Result<Array, NoMemory>
-    ensures { IfOk result (λ next. next ≡ named_after change.now array.now) }
+/// What a change of one array makes of it. The flag tells that a rebuild begins on a revertible spare.
+fn named_after(
+    alloc: Global,
+    revertible: bool,
+    change: &Change,
+    array: &Array,
+) -> Result<Array, NoMemory>
+    ensures { IfOk result (λ next. next ≡ named_after revertible change.now array.now) }
 {
     match change {
         Change::Mark(_) => marked(alloc, array),
         Change::Unmark(_, init) => unmarked(alloc, *init, array),
         Change::Rewind(_) => rewound(alloc, array),
-        Change::Begin { element, .. } => rebuilding(alloc, change, *element, array),
-        Change::Progress { element, .. } => rebuilding(alloc, change, *element, array),
-        Change::Finish { element, .. } => rebuilding(alloc, change, *element, array),
+        Change::Begin { element, .. } => rebuilding(alloc, revertible, change, *element, array),
+        Change::Progress { element, .. } => rebuilding(alloc, revertible, change, *element, array),
+        Change::Finish { element, .. } => rebuilding(alloc, revertible, change, *element, array),
+        Change::Return { element, .. } => rebuilding(alloc, revertible, change, *element, array),
         Change::Lose(_)
         | Change::Create(_, _)
         | Change::Delete(_)
@@ -55,14 +64,15 @@ fn named_after(alloc: Global, change: &Change, array: &Array) -> Result<Array, N
 
 fn named_or_same(
     alloc: Global,
+    revertible: bool,
     change: &Change,
     guid: Guid,
     array: &Array,
 ) -> Result<Array, NoMemory>
-    ensures { IfOk result (λ next. next ≡ (if names change.now guid then named_after change.now array.now else array.now)) }
+    ensures { IfOk result (λ next. next ≡ (if names change.now guid then named_after revertible change.now array.now else array.now)) }
 {
     if names(change, guid) {
-        named_after(alloc, change, array)
+        named_after(alloc, revertible, change, array)
     } else {
         array.duplicate(alloc)
     }
@@ -71,12 +81,13 @@ fn named_or_same(
 /// What a change makes of an array that stays.
 fn array_after(
     alloc: Global,
+    revertible: bool,
     members: &IndexMap<u32, Member>,
     change: &Change,
     guid: Guid,
     array: &Array,
 ) -> Result<Array, NoMemory>
-    ensures { IfOk result (λ next. next ≡ array_after members.now.entries change.now guid array.now) }
+    ensures { IfOk result (λ next. next ≡ array_after revertible members.now.entries change.now guid array.now) }
 {
     match change {
         Change::Lose(references) => lost_array(alloc, members, references.items(), array),
@@ -89,7 +100,8 @@ fn array_after(
         | Change::Rewind(_)
         | Change::Begin { .. }
         | Change::Progress { .. }
-        | Change::Finish { .. } => named_or_same(alloc, change, guid, array),
+        | Change::Finish { .. }
+        | Change::Return { .. } => named_or_same(alloc, revertible, change, guid, array),
     }
 }
 
@@ -108,37 +120,40 @@ fn is_dropped(change: &Change, guid: Guid) -> bool
         | Change::Rewind(_)
         | Change::Begin { .. }
         | Change::Progress { .. }
-        | Change::Finish { .. } => false,
+        | Change::Finish { .. }
+        | Change::Return { .. } => false,
     }
 }
 
 fn kept_array(
     alloc: Global,
+    revertible: bool,
     members: &IndexMap<u32, Member>,
     change: &Change,
     guid: Guid,
     array: &Array,
 ) -> Result<Option<Array>, NoMemory>
-    ensures { IfOk result (λ next. next ≡ kept_array members.now.entries change.now guid array.now) }
+    ensures { IfOk result (λ next. next ≡ kept_array revertible members.now.entries change.now guid array.now) }
 {
     if is_dropped(change, guid) {
         return Ok(None);
     }
-    let next = array_after(alloc, members, change, guid, array)?;
+    let next = array_after(alloc, revertible, members, change, guid, array)?;
     Ok(Some(next))
 }
 
 fn kept_arrays(
     alloc: Global,
+    revertible: bool,
     members: &IndexMap<u32, Member>,
     change: &Change,
     arrays: &IndexMap<Guid, Array>,
 ) -> Result<IndexMap<Guid, Array>, NoMemory>
-    ensures { IfOk result (λ after. after.entries ≡ changed_entries (kept_array members.now.entries change.now) arrays.now.entries) }
+    ensures { IfOk result (λ after. after.entries ≡ changed_entries (kept_array revertible members.now.entries change.now) arrays.now.entries) }
 {
     let mut after = IndexMap::new(alloc);
     for (guid, array) in arrays {
-        let next = kept_array(alloc, members, change, *guid, array)?;
+        let next = kept_array(alloc, revertible, members, change, *guid, array)?;
         put_some(&mut after, *guid, next)?;
     }
     Ok(after)
@@ -187,7 +202,8 @@ fn put_added(
         | Change::Rewind(_)
         | Change::Begin { .. }
         | Change::Progress { .. }
-        | Change::Finish { .. } => Ok(()),
+        | Change::Finish { .. }
+        | Change::Return { .. } => Ok(()),
     }
 }
 
@@ -210,9 +226,15 @@ fn kept_of(
     members: &IndexMap<u32, Member>,
     change: &Change,
 ) -> Result<IndexMap<Guid, Array>, NoMemory>
-    ensures { IfOk result (λ kept. kept.entries ≡ changed_entries (kept_array members.now.entries change.now) config.now.arrays) }
+    ensures { IfOk result (λ kept. kept.entries ≡ changed_entries (kept_array (takes_revertible config.now change.now) members.now.entries change.now) config.now.arrays) }
 {
-    kept_arrays(alloc, members, change, &config.arrays)
+    kept_arrays(
+        alloc,
+        takes_revertible(config, change),
+        members,
+        change,
+        &config.arrays,
+    )
 }
 
 fn kept_and_added(

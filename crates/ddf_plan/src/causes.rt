@@ -35,7 +35,7 @@ fn failing_cause(
     Ok(fail_cause(config, &members, seats, failed))
 }
 
-/// Why a rebuild onto a disk can't begin.
+/// Why a position can't get another disk.
 fn begin_cause(
     config: &Config,
     seats: &[Seat],
@@ -62,7 +62,7 @@ fn begin_cause(
 /// - `Spare`: `NotMember`, `NoArray`, `InUse`
 /// - `Fail`: `NotMember`, `InUse`, `Lost`
 /// - `Mark`, `Unmark`, `Rewind`: `NoArray`
-/// - `Begin`, `Progress`, `Finish`: `NoArray`, `Shape`, `NotMember`
+/// - `Begin`, `Progress`, `Finish`, `Return`: `NoArray`, `Shape`, `NotMember`
 ///
 /// `Shape` holds also where an element of a new array has more members than `most`, the greatest number that a record of
 /// the group's disks has room for. With no bound that isn't asked.
@@ -106,6 +106,13 @@ pub fn cause(
             element,
             position,
         } => Ok(no_holder(config, seats, *array, *element, *position)),
+        Change::Return {
+            array,
+            element,
+            position,
+            reference,
+            ..
+        } => Ok(begin_cause(config, seats, *array, *element, *position, *reference)),
     }
 }
 
@@ -123,7 +130,8 @@ pub fn steps_of(change: &Change) -> u32
         | Change::Rewind(_)
         | Change::Begin { .. }
         | Change::Progress { .. }
-        | Change::Finish { .. } => 1,
+        | Change::Finish { .. }
+        | Change::Return { .. } => 1,
     }
 }
 

@@ -58,6 +58,20 @@ pub enum Change {
         /// The place of the position in the element.
         position: u16,
     },
+    /// A position of the array moves to another disk, which holds from this start on what the position holds. The disk that gives it
+    /// back is a revertible spare again, where it holds nothing else.
+    Return {
+        /// The GUID of the array.
+        array: Guid,
+        /// The place of the element in the array.
+        element: u8,
+        /// The place of the position in the element.
+        position: u16,
+        /// The reference of the disk that takes the position.
+        reference: u32,
+        /// The LBA of the extent's first sector on it.
+        start: u64,
+    },
 }
 
 impl Change {
@@ -118,6 +132,19 @@ impl Change {
                 array: *array,
                 element: *element,
                 position: *position,
+            }),
+            Change::Return {
+                array,
+                element,
+                position,
+                reference,
+                start,
+            } => Ok(Change::Return {
+                array: *array,
+                element: *element,
+                position: *position,
+                reference: *reference,
+                start: *start,
             }),
         }
     }

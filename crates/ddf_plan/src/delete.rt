@@ -29,6 +29,7 @@ pub(crate) fn use_without(
     match use_as {
         SpareUse::No => Ok(SpareUse::No),
         SpareUse::Global => Ok(SpareUse::Global),
+        SpareUse::Revertible => Ok(SpareUse::Revertible),
         SpareUse::Dedicated(guids) => {
             let left = guids_without(alloc, guid, guids.items())?;
             Ok(dedicated(left))

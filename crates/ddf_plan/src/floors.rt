@@ -167,6 +167,7 @@ pub fn extents_refusal(
         | Change::Rewind(_)
         | Change::Begin { .. }
         | Change::Progress { .. }
-        | Change::Finish { .. } => Ok(None),
+        | Change::Finish { .. }
+        | Change::Return { .. } => Ok(None),
     }
 }

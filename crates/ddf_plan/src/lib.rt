@@ -19,6 +19,7 @@ mod rebuild;
 mod refuse;
 mod same;
 mod spare;
+mod standing;
 
 pub use applying::{apply, changed_at};
 pub use causes::{cause, steps_of};

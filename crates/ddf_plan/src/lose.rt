@@ -1,7 +1,7 @@
 //! What the loss of disks makes of arrays: their positions are out of sync, with no row rebuilt, since what is written from now on isn't there.
 //! docs/GROUPS.md#changes
 ghost use Rattle.std.specs.Prelude.{◌≡◌, ◌≤◌, length, map, option_map, IfOk};
-ghost use Rattle.ddf_plan.specs.Lose.{is_among, out_of_sync, lost_position, lost_element, lost_parts, wholly_out, out_beyond, mirrored_parts, lost_array};
+ghost use Rattle.ddf_plan.specs.Lose.{is_among, out_of_sync, lost_position, lost_stand_in, lost_element, lost_parts, wholly_out, out_beyond, mirrored_parts, lost_array};
 
 use arrayvec::ArrayVec;
 use ddf_bytes::{NoMemory, Seq};
@@ -58,10 +58,22 @@ fn positions_out(positions: &[Position]) -> ArrayVec<Position, 64>
     out
 }
 
+/// The disk that stands in where these are lost, 0 for none.
+fn lost_stand_in(references: &[u32], element: &ElementPlan) -> u32
+    ensures { result ≡ lost_stand_in references.now element.now }
+{
+    if is_among(references, element.stand_in) {
+        0
+    } else {
+        element.stand_in
+    }
+}
+
 fn lost_element(references: &[u32], element: &ElementPlan) -> ElementPlan
     ensures { result ≡ lost_element references.now element.now }
 {
-    element.with_positions(lost_positions(references, element.positions.as_slice()))
+    let positions = lost_positions(references, element.positions.as_slice());
+    element.with_disks(lost_stand_in(references, element), positions)
 }
 
 fn lost_part(references: &[u32], part: &Option<ElementPlan>) -> Option<ElementPlan>

@@ -2,12 +2,14 @@
 ghost use Rattle.std.specs.Prelude.{◌≡◌, Some, IfOk};
 ghost use Rattle.ddf_config.specs.Entries.{changed_entries};
 ghost use Rattle.ddf_plan.specs.Members.{lost_by, use_after, member_after, members_after};
+ghost use Rattle.ddf_plan.specs.Standing.{given_back, is_given_back};
 
 use crate::Change;
 use crate::delete::use_without;
 use crate::lose::is_among;
 use crate::spare::use_in_order;
-use ddf_bytes::NoMemory;
+use crate::standing::{given_back, is_given_back, is_left_by};
+use ddf_bytes::{Guid, NoMemory};
 use ddf_config::{Config, Member, SpareUse, put_last};
 use indexmap::IndexMap;
 use std::alloc::Global;
@@ -28,8 +30,26 @@ fn lost_by(change: &Change) -> &[u32]
         | Change::Rewind(_)
         | Change::Begin { .. }
         | Change::Progress { .. }
-        | Change::Finish { .. } => &[],
+        | Change::Finish { .. }
+        | Change::Return { .. } => &[],
     }
+}
+
+/// What a member may stand in for after a position has moved to this disk.
+fn use_beside(
+    alloc: Global,
+    config: &Config,
+    array: Guid,
+    element: u8,
+    position: u16,
+    disk: u32,
+    reference: u32,
+    use_as: &SpareUse,
+) -> Result<SpareUse, NoMemory>
+    ensures { IfOk result (λ after. after ≡ given_back (is_given_back config.now array element position disk reference) use_as.now) }
+{
+    let gives = is_given_back(alloc, config, array, element, position, disk, reference)?;
+    Ok(given_back(gives, use_as.duplicate(alloc)?))
 }
 
 /// What a member may stand in for after a change.
@@ -43,7 +63,11 @@ fn use_after(
     ensures { IfOk result (λ after. after ≡ use_after config.now change.now reference use_as.now) }
 {
     match change {
-        Change::Delete(guid) => use_without(alloc, *guid, use_as),
+        Change::Delete(guid) => {
+            let gives = is_left_by(config, *guid, reference);
+            let left = given_back(gives, use_as.duplicate(alloc)?);
+            use_without(alloc, *guid, &left)
+        }
         Change::Spare(spare, next) => {
             if *spare == reference {
                 use_in_order(alloc, &config.arrays, next)
@@ -61,6 +85,15 @@ fn use_after(
                 use_as.duplicate(alloc)
             }
         }
+        Change::Return {
+            array,
+            element,
+            position,
+            reference: disk,
+            ..
+        } => use_beside(
+            alloc, config, *array, *element, *position, *disk, reference, use_as,
+        ),
         Change::Lose(_)
         | Change::Create(_, _)
         | Change::Fail(_)

@@ -2,11 +2,12 @@
 ghost use Rattle.std.specs.Prelude.{◌≡◌, ◌≤◌, length, map, IfOk};
 ghost use Rattle.std.specs.List.{enumerate_from};
 ghost use Rattle.ddf_config.specs.Refusals.{first_refusal};
-ghost use Rattle.ddf_plan.specs.Rebuild.{begun, progressed, finished, element_at, part_has, has_position, part_reference, reference_at, lost_holder, position_causes, held_causes};
+ghost use Rattle.ddf_plan.specs.Rebuild.{begun, progressed, finished, returned, element_at, part_has, has_position, part_reference, reference_at, lost_holder, position_causes, held_causes};
 ghost use Rattle.ddf_plan.specs.Arrays.{position_after, element_after, part_after, rebuilding};
 
 use crate::Change;
 use crate::refuse::{no_array, not_current};
+use crate::standing::stand_in_after;
 use arrayvec::ArrayVec;
 use ddf_bytes::{Guid, NoMemory, Seq};
 use ddf_config::{Array, Config, ElementPlan, Position, Refusal, Seat, refuse_if};
@@ -80,7 +81,7 @@ fn array_reference(array: &Array, element: u8, position: u16) -> Option<u32>
 }
 
 /// The reference of the disk that a position is on.
-fn reference_at(config: &Config, guid: Guid, element: u8, position: u16) -> Option<u32>
+pub(crate) fn reference_at(config: &Config, guid: Guid, element: u8, position: u16) -> Option<u32>
     ensures { result ≡ reference_at config.now guid element position }
 {
     match config.arrays.get(&guid) {
@@ -154,7 +155,14 @@ fn finished(position: u16, number: usize, old: Position) -> Position
     }
 }
 
-/// What a change of a rebuild makes of a position, by its number.
+fn returned(position: u16, reference: u32, start: u64, number: usize, old: Position) -> Position
+    ensures { result ≡ returned position reference start number old }
+{
+    let taken = begun(position, reference, start, number, old);
+    finished(position, number, taken)
+}
+
+/// What a change of one position makes of each, by its number.
 fn position_after(change: &Change, number: usize, old: Position) -> Position
     ensures { result ≡ position_after change.now number old }
 {
@@ -167,6 +175,12 @@ fn position_after(change: &Change, number: usize, old: Position) -> Position
         } => begun(*position, *reference, *start, number, old),
         Change::Progress { position, row, .. } => progressed(*position, *row, number, old),
         Change::Finish { position, .. } => finished(*position, number, old),
+        Change::Return {
+            position,
+            reference,
+            start,
+            ..
+        } => returned(*position, *reference, *start, number, old),
         Change::Lose(_)
         | Change::Create(_, _)
         | Change::Delete(_)
@@ -189,25 +203,27 @@ fn positions_after(change: &Change, positions: &[Position]) -> ArrayVec<Position
     after
 }
 
-fn element_after(change: &Change, element: &ElementPlan) -> ElementPlan
-    ensures { result ≡ element_after change.now element.now }
+fn element_after(revertible: bool, change: &Change, element: &ElementPlan) -> ElementPlan
+    ensures { result ≡ element_after revertible change.now element.now }
 {
-    element.with_positions(positions_after(change, element.positions.as_slice()))
+    let positions = positions_after(change, element.positions.as_slice());
+    element.with_disks(stand_in_after(revertible, change, element), positions)
 }
 
 fn part_after(
     alloc: Global,
+    revertible: bool,
     change: &Change,
     named: u8,
     number: usize,
     part: &Option<ElementPlan>,
 ) -> Result<Option<ElementPlan>, NoMemory>
-    ensures { IfOk result (λ after. after ≡ part_after change.now named (number, part.now)) }
+    ensures { IfOk result (λ after. after ≡ part_after revertible change.now named (number, part.now)) }
 {
     match part {
         Some(element) => {
             if usize::from(named) == number {
-                Ok(Some(element_after(change, element)))
+                Ok(Some(element_after(revertible, change, element)))
             } else {
                 let same = element.duplicate(alloc)?;
                 Ok(Some(same))
@@ -219,30 +235,32 @@ fn part_after(
 
 fn parts_after(
     alloc: Global,
+    revertible: bool,
     change: &Change,
     named: u8,
     parts: &[Option<ElementPlan>],
 ) -> Result<Vec<Option<ElementPlan>>, NoMemory>
-    ensures { IfOk result (λ after. after.items ≡ map (part_after change.now named) (enumerate_from 0 parts.now)) }
+    ensures { IfOk result (λ after. after.items ≡ map (part_after revertible change.now named) (enumerate_from 0 parts.now)) }
 {
     let mut after = Vec::with_capacity(alloc, parts.len())?;
     for (number, part) in parts.iter().enumerate() {
-        let next = part_after(alloc, change, named, number, part)?;
+        let next = part_after(alloc, revertible, change, named, number, part)?;
         after.push(next)?;
     }
     Ok(after)
 }
 
-/// The array after a change of a rebuild in this element of it.
+/// The array after a change of a position of this element. The flag tells that a rebuild begins on a revertible spare.
 pub(crate) fn rebuilding(
     alloc: Global,
+    revertible: bool,
     change: &Change,
     named: u8,
     array: &Array,
 ) -> Result<Array, NoMemory>
-    ensures { IfOk result (λ next. next ≡ rebuilding change.now named array.now) }
+    ensures { IfOk result (λ next. next ≡ rebuilding revertible change.now named array.now) }
 {
-    let parts = parts_after(alloc, change, named, array.elements.items())?;
+    let parts = parts_after(alloc, revertible, change, named, array.elements.items())?;
     Ok(Array {
         name: array.name,
         number: array.number,

@@ -23,8 +23,9 @@ fn same_use(one: &SpareUse, other: &SpareUse) -> bool
     match one {
         SpareUse::No => matches!(other, SpareUse::No),
         SpareUse::Global => matches!(other, SpareUse::Global),
+        SpareUse::Revertible => matches!(other, SpareUse::Revertible),
         SpareUse::Dedicated(guids) => match other {
-            SpareUse::No | SpareUse::Global => false,
+            SpareUse::No | SpareUse::Global | SpareUse::Revertible => false,
             SpareUse::Dedicated(others) => guids.items() == others.items(),
         },
     }
@@ -84,6 +85,7 @@ fn same_element(one: &ElementPlan, other: &ElementPlan) -> bool
         && one.qualifier == other.qualifier
         && one.strip == other.strip
         && one.blocks == other.blocks
+        && one.stand_in == other.stand_in
         && same_positions(one.positions.as_slice(), other.positions.as_slice())
 }
 

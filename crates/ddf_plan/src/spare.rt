@@ -29,6 +29,7 @@ pub(crate) fn use_in_order(
     match use_as {
         SpareUse::No => Ok(SpareUse::No),
         SpareUse::Global => Ok(SpareUse::Global),
+        SpareUse::Revertible => Ok(SpareUse::Revertible),
         SpareUse::Dedicated(guids) => {
             let ordered = guids_in_order(alloc, arrays, guids.items())?;
             Ok(SpareUse::Dedicated(Seq::new(ordered)))
@@ -78,12 +79,12 @@ fn lacks_array(config: &Config, use_as: &SpareUse) -> bool
     ensures { result ≡ lacks_array config.now use_as.now }
 {
     match use_as {
-        SpareUse::No | SpareUse::Global => false,
+        SpareUse::No | SpareUse::Global | SpareUse::Revertible => false,
         SpareUse::Dedicated(guids) => !all_can_have_spare(config, guids.items()),
     }
 }
 
-fn positions_refer(positions: &[Position], reference: u32) -> bool
+pub(crate) fn positions_refer(positions: &[Position], reference: u32) -> bool
     ensures { result ≡ list_any (position_refers reference) positions.now }
 {
     positions
@@ -100,7 +101,7 @@ fn part_refers(part: &Option<ElementPlan>, reference: u32) -> bool
     }
 }
 
-fn array_refers(array: &Array, reference: u32) -> bool
+pub(crate) fn array_refers(array: &Array, reference: u32) -> bool
     ensures { result ≡ array_refers reference array.now }
 {
     array

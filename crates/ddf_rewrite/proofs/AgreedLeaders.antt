@@ -1,5 +1,5 @@
 -- The copy that a recovery gives a disk agrees with each leader, where these agree with one another.
-use Rattle.std.proofs.Common.{◌≡◌, ℕ, ◌+◌, inl, inr, Bool, true, false, not, eqb, List, [], ◌∷◌, map, Option, Some, None, refl, ap, sym, ◌∙◌, subst}
+use Rattle.std.proofs.Common.{◌≡◌, ℕ, inl, inr, Bool, true, false, not, eqb, List, [], ◌∷◌, map, Option, Some, None, refl, ap, sym, ◌∙◌, subst}
 use Rattle.std.proofs.lemmas.Bool.{and_from, and_parts, cases_order}
 use Rattle.std.proofs.lemmas.Simd.{map-map}
 use Rattle.std.specs.Prelude.{slice_get, option_map}
@@ -20,8 +20,8 @@ use Rattle.ddf_config.specs.Configuration.{Configuration}
 use Rattle.ddf_config.specs.ElementValue.{ElementValue as ElementPlan}
 use Rattle.ddf_config.specs.declared.element.Position.{Position}
 use Rattle.ddf_view.specs.Differ.{difference, element_differs, held_differ, numbered_array, numbered_disk, same_array, same_disk, same_held, same_notes, same_record}
-use Rattle.ddf_view.specs.Reading.{array_in, arrays_in, disks_in, elements_in, plan_of, position_of, read}
-use Rattle.ddf_view.specs.Shows.{same_plan, same_position}
+use Rattle.ddf_view.specs.Reading.{array_in, arrays_in, disks_in, elements_in, plan_of, position_of, read, stand_in_of}
+use Rattle.ddf_view.specs.Shows.{same_plan}
 use Rattle.ddf_view.specs.View.{HeldRecord, View, find_held, find_note, view_of}
 use Rattle.ddf_view.proofs.Shown.{plan_same}
 use Rattle.ddf_rewrite.specs.Arrays.{array_on, arrays_after}
@@ -67,8 +67,9 @@ first_in (view ∷ views) k one at = (view, refl, refl, refl)
 
 -- ---- the plan of a record
 
-make_plan : (level qualifier strip blocks : ℕ) → List Position → ElementPlan
-make_plan level qualifier strip blocks positions = record { level = level; qualifier = qualifier; strip = strip; blocks = blocks; positions = positions }
+make_plan : (level qualifier strip blocks stand_in : ℕ) → List Position → ElementPlan
+make_plan level qualifier strip blocks stand_in positions =
+    record { level = level; qualifier = qualifier; strip = strip; blocks = blocks; stand_in = stand_in; positions = positions }
 
 -- records with the same fields give one plan
 plan_alike : (given : Option SlotNote) (one other : ElementValue) → AreSame one other → plan_of [] given one ≡ plan_of [] given other
@@ -81,8 +82,8 @@ plan_alike given one other same =
     let members = same.members in
     let positions : map (λ pair. position_of [] given pair.0 pair.1) (enumerate_from 0 one.members) ≡ map (λ pair. position_of [] given pair.0 pair.1) (enumerate_from 0 other.members) =
     ap (λ (list : List Place). map (λ pair. position_of [] given pair.0 pair.1) (enumerate_from 0 list)) members in
-    let made : make_plan one.level one.qualifier one.strip one.blocks (map (λ pair. position_of [] given pair.0 pair.1) (enumerate_from 0 one.members))
-    ≡ make_plan other.level other.qualifier other.strip other.blocks (map (λ pair. position_of [] given pair.0 pair.1) (enumerate_from 0 other.members)) = rw (level, qualifier, strip, blocks, positions) refl in
+    let made : make_plan one.level one.qualifier one.strip one.blocks (stand_in_of given) (map (λ pair. position_of [] given pair.0 pair.1) (enumerate_from 0 one.members))
+    ≡ make_plan other.level other.qualifier other.strip other.blocks (stand_in_of given) (map (λ pair. position_of [] given pair.0 pair.1) (enumerate_from 0 other.members)) = rw (level, qualifier, strip, blocks, positions) refl in
     made
 
 -- with a note the states of the disks don't count
@@ -158,7 +159,7 @@ module _ (old : DiskCopy) (group : List ℕ) (sequence : ℕ) (views : List View
           let plan : plan_of [] (note_if true holding) holding.element ≡ plan_of [] (Some given) mine.element =
           plan_noted holding.copied holding.wanted.plan holding.element rebuilt has ∙ ap (λ (w : Wanted). w.plan) led.wanted_is ∙ plan_led n wanted mine given at found e in
           ap (λ o. plans_alike (note_if true holding) o (plan_of [] (note_if true holding) holding.element) (plan_of [] o mine.element)) e
-          ∙ ap (λ (p : ElementPlan). same_plan same_position p (plan_of [] (Some given) mine.element)) plan ∙ plan_again (plan_of [] (Some given) mine.element)
+          ∙ ap (λ (p : ElementPlan). same_plan true p (plan_of [] (Some given) mine.element)) plan ∙ plan_again (plan_of [] (Some given) mine.element)
 
   -- what the disk holds of an element is as what the leader holds
   element_led : (n : ℕ) (wanted : Wanted) → slice_get (all_wanted config) n ≡ Some wanted → element_differs view.elements leader.elements (wanted.guid, wanted.index) ≡ false

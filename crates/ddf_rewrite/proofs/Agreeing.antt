@@ -16,7 +16,7 @@ use Rattle.ddf_config.specs.declared.array.Array.{Array}
 use Rattle.ddf_config.specs.declared.member.Member.{Member}
 use Rattle.ddf_view.specs.Differ.{difference, element_differs, numbered_array, numbered_disk, same_array, same_disk, same_held, same_record, told_kind}
 use Rattle.ddf_view.specs.Reading.{plan_of}
-use Rattle.ddf_view.specs.Shows.{same_plan, same_position}
+use Rattle.ddf_view.specs.Shows.{same_plan}
 use Rattle.ddf_view.specs.View.{view_of}
 use Rattle.ddf_view.proofs.Tests.{bytes_same}
 use Rattle.ddf_rewrite.specs.Arrays.{array_on, arrays_after}
@@ -88,8 +88,8 @@ arrays_alike config own other guid =
 pub held_alike : (plan : ElementPlan) (copied other_copied : Bool) (one other : ElementValue) → same_record one other ≡ true → plan_of [] (Some (note_of copied plan)) one ≡ plan → plan_of [] (Some (note_of other_copied plan)) other ≡ plan
     → same_held (record { element = one; note = Some (note_of copied plan) }) (record { element = other; note = Some (note_of other_copied plan) }) ≡ true
 held_alike plan copied other_copied one other same first second =
-    let plans : same_plan same_position (plan_of [] (Some (note_of copied plan)) one) (plan_of [] (Some (note_of other_copied plan)) other) ≡ true =
-    ap (λ (p : ElementPlan). same_plan same_position p (plan_of [] (Some (note_of other_copied plan)) other)) first ∙ ap (λ (p : ElementPlan). same_plan same_position plan p) second ∙ plan_again plan in
+    let plans : same_plan true (plan_of [] (Some (note_of copied plan)) one) (plan_of [] (Some (note_of other_copied plan)) other) ≡ true =
+    ap (λ (p : ElementPlan). same_plan true p (plan_of [] (Some (note_of other_copied plan)) other)) first ∙ ap (λ (p : ElementPlan). same_plan true plan p) second ∙ plan_again plan in
     rw (same, plans) refl
 
 changed_alike : (old other : DiskCopy) (leaders : Before) (config : Configuration) (timestamp : ℕ) → HasOwnNames config → AreRebuilt config

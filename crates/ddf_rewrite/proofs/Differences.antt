@@ -16,7 +16,7 @@ use Rattle.ddf_config.specs.Configuration.{Configuration}
 use Rattle.ddf_config.specs.ElementValue.{ElementValue as ElementPlan}
 use Rattle.ddf_view.specs.Differ.{array_differs, difference, differing_arrays, differing_disks, differing_elements, disk_differs, element_difference, element_differs, held_differ, key_cmp, key_of, least, same_array, same_disk, same_held, same_notes, same_record, told_kind}
 use Rattle.ddf_view.specs.Reading.{plan_of}
-use Rattle.ddf_view.specs.Shows.{same_plan, same_position}
+use Rattle.ddf_view.specs.Shows.{same_plan}
 use Rattle.ddf_view.specs.View.{HeldRecord, View, find_held, is_element}
 use Rattle.ddf_view.specs.declared.difference.Difference.TheVariants as differences
 use Rattle.ddf_view.proofs.Finds.{when_false, when_true}
@@ -173,14 +173,14 @@ array_back one other h =
 
 -- where both have notes they give one plan
 abbrev pub plans_alike : (o p : Option SlotNote) → (one other : ElementPlan) → Bool
-plans_alike o p one other = is_none o || is_none p || same_plan same_position one other
+plans_alike o p one other = is_none o || is_none p || same_plan true one other
 
 -- the other way round
 plans_back : (o p : Option SlotNote) (one other : ElementPlan) → plans_alike o p one other ≡ true → plans_alike p o other one ≡ true
 plans_back None None one other h = refl
 plans_back None (Some noted) one other h = refl
 plans_back (Some noted) None one other h = refl
-plans_back (Some first) (Some second) one other h = ap (λ (plan : ElementPlan). same_plan same_position other plan) (plan_same one other h) ∙ plan_again other
+plans_back (Some first) (Some second) one other h = ap (λ (plan : ElementPlan). same_plan true other plan) (plan_same one other h) ∙ plan_again other
 
 -- a plan and itself
 plans_self : (o : Option SlotNote) (one : ElementPlan) → plans_alike o o one one ≡ true

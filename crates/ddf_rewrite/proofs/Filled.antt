@@ -1,5 +1,5 @@
 -- Entries by which Linux knows the disks that are being filled say the same of their disks as those that they are made of.
-use Rattle.std.proofs.Common.{◌≡◌, ℕ, ◌+◌, Bool, true, false, ◌&&◌, cond, eqb, List, [], ◌∷◌, length, map, Option, Some, None, refl, ap, ◌∙◌, arith}
+use Rattle.std.proofs.Common.{◌≡◌, ℕ, ◌+◌, Bool, true, false, not, ◌&&◌, cond, eqb, List, [], ◌∷◌, length, map, Option, Some, None, refl, sym, ap, ◌∙◌, arith}
 use Rattle.std.proofs.lemmas.List.{length-map}
 use Rattle.std.proofs.lemmas.Nat.{and_or_apart}
 use Rattle.std.specs.Prelude.{filter, find}
@@ -15,9 +15,10 @@ use Rattle.ddf_tables.specs.declared.disks.DiskEntry.{DiskEntry}
 use Rattle.ddf_tables.specs.declared.disks.DiskRow.TheVariants as disk_rows
 use Rattle.ddf_config.specs.Configuration.{Configuration}
 use Rattle.ddf_config.specs.declared.member.Member.{Member}
+use Rattle.ddf_config.specs.declared.member.SpareUse.{SpareUse}
 use Rattle.ddf_config.specs.declared.member.SpareUse.TheVariants as uses
 use Rattle.ddf_view.specs.Differ.{numbered_disk, same_disk, told_kind}
-use Rattle.ddf_view.specs.Reading.{dedicated_or_not, is_dedicated, spare_in}
+use Rattle.ddf_view.specs.Reading.{dedicated_or_not, is_dedicated, spare_in, spare_of_kind}
 use Rattle.ddf_view.specs.Shows.{gives_member, gives_spare, same_spare}
 use Rattle.ddf_view.specs.View.{View, has_bit}
 use Rattle.ddf_rewrite.specs.Disks.{disks_for, filled, is_behind, is_filled, is_linux, with_flag}
@@ -30,18 +31,38 @@ told_flag : (test : Bool) (kind : ℕ) → bit_and (with_flag test spare kind) 0
 told_flag true kind = and_or_apart 0xFFF7 kind spare refl
 told_flag false kind = refl
 
-told_as : (rebuilt linux noted behind : Bool) (kind : ℕ)
-    → cond rebuilt (bit_and (with_flag (rebuilt && linux && noted && behind) spare kind) 0xFFF7) (with_flag (rebuilt && linux && noted && behind) spare kind) ≡ cond rebuilt (bit_and kind 0xFFF7) kind
-told_as true linux noted behind kind = told_flag (linux && noted && behind) kind
-told_as false linux noted behind kind = refl
-
--- the type is compared alike
-pub filled_told : (revision : Revision) (noted : Bool) (all : List Wanted) (disk : DiskEntry) → told_kind (filled revision noted all disk) ≡ told_kind disk
-filled_told revision noted all disk = told_as (has_bit disk.state.0 2) (is_linux revision) noted (is_behind all disk.reference) disk.kind.0
+told_as : (rebuilt global linux noted behind : Bool) (kind : ℕ)
+    → cond (rebuilt && not global) (bit_and (with_flag (rebuilt && not global && linux && noted && behind) spare kind) 0xFFF7) (with_flag (rebuilt && not global && linux && noted && behind) spare kind)
+    ≡ cond (rebuilt && not global) (bit_and kind 0xFFF7) kind
+told_as true true linux noted behind kind = refl
+told_as true false linux noted behind kind = told_flag (linux && noted && behind) kind
+told_as false global linux noted behind kind = refl
 
 -- it tells alike whether the disk is a spare for every array
 pub filled_global : (revision : Revision) (noted : Bool) (all : List Wanted) (disk : DiskEntry) → has_bit (filled revision noted all disk).kind.0 2 ≡ has_bit disk.kind.0 2
 filled_global revision noted all disk = ap (λ (n : ℕ). eqb n 1) (flag_other (is_filled revision noted all disk) spare disk.kind.0 2 refl)
+
+-- the type is compared alike
+pub filled_told : (revision : Revision) (noted : Bool) (all : List Wanted) (disk : DiskEntry) → told_kind (filled revision noted all disk) ≡ told_kind disk
+filled_told revision noted all disk =
+    let made = (filled revision noted all disk).kind.0 in
+    ap (λ (b : Bool). cond (has_bit disk.state.0 2 && not b) (bit_and made 0xFFF7) made) (filled_global revision noted all disk)
+    ∙ told_as (has_bit disk.state.0 2) (has_bit disk.kind.0 2) (is_linux revision) noted (is_behind all disk.reference) disk.kind.0
+
+-- and what the disk is a spare for
+kind_alike : (rebuilt global linux noted behind : Bool) (kind : ℕ) → has_bit kind 2 ≡ global → (otherwise : SpareUse)
+    → spare_of_kind (with_flag (rebuilt && not global && linux && noted && behind) spare kind) otherwise ≡ spare_of_kind kind otherwise
+kind_alike false global linux noted behind kind is otherwise = refl
+kind_alike true true linux noted behind kind is otherwise = refl
+kind_alike true false linux noted behind kind is otherwise =
+    let made = with_flag (linux && noted && behind) spare kind in
+    let bit : has_bit made 2 ≡ has_bit kind 2 = ap (λ (n : ℕ). eqb n 1) (flag_other (linux && noted && behind) spare kind 2 refl) in
+    ap (λ (b : Bool). cond b (cond (has_bit made 3) uses.Revertible uses.Global) otherwise) (bit ∙ is)
+    ∙ sym (ap (λ (b : Bool). cond b (cond (has_bit kind 3) uses.Revertible uses.Global) otherwise) is)
+
+pub filled_use : (revision : Revision) (noted : Bool) (all : List Wanted) (disk : DiskEntry) (otherwise : SpareUse) → spare_of_kind (filled revision noted all disk).kind.0 otherwise ≡ spare_of_kind disk.kind.0 otherwise
+filled_use revision noted all disk otherwise =
+    kind_alike (has_bit disk.state.0 2) (has_bit disk.kind.0 2) (is_linux revision) noted (is_behind all disk.reference) disk.kind.0 refl otherwise
 
 -- ---- what is given
 
@@ -57,7 +78,8 @@ filled_gives revision noted all (disk ∷ disks) (member ∷ members) = ap (λ (
 filled_spare : (revision : Revision) (noted : Bool) (all : List Wanted) (view : View) (disk : DiskEntry) (member : ℕ × Member) → gives_spare view (filled revision noted all disk) member ≡ gives_spare view disk member
 unfolding spare_in
 filled_spare revision noted all view disk member =
-    ap (λ (b : Bool). same_spare (cond b uses.Global (dedicated_or_not (map (λ row. row.guid) (filter (is_dedicated (view ∷ []) disk.reference) view.arrays)))) member.1.spare) (filled_global revision noted all disk)
+    let otherwise = dedicated_or_not (map (λ row. row.guid) (filter (is_dedicated (view ∷ []) disk.reference) view.arrays)) in
+    ap (λ (use_ : SpareUse). same_spare use_ member.1.spare) (filled_use revision noted all disk otherwise)
 
 pub filled_spares : (revision : Revision) (noted : Bool) (all : List Wanted) (view : View) (disks : List DiskEntry) (members : List (ℕ × Member))
     → pointwise (gives_spare view) (map (filled revision noted all) disks) members ≡ pointwise (gives_spare view) disks members

@@ -8,7 +8,7 @@ use Rattle.ddf_tables.specs.DiskFlags.{in_array, global_spare, spare, online, re
 use Rattle.ddf_config.specs.declared.member.Member.{Member}
 use Rattle.ddf_view.specs.View.{has_bit}
 use Rattle.ddf_rewrite.specs.Wanted.{Wanted}
-use Rattle.ddf_rewrite.specs.Disks.{is_global, is_dedicated, is_referred, is_behind, with_flag, kind_after, state_after}
+use Rattle.ddf_rewrite.specs.Disks.{has_spare_bit, is_global, is_referred, is_behind, with_flag, kind_after, state_after}
 
 max_none : (n : ℕ) → max n 0 ≡ n
 max_none n = omega arith
@@ -78,10 +78,24 @@ unfolding kind_after
 kind_global all entry kept =
     let low = with_flag (is_referred all entry.0) in_array (bit_and kept 0xFFF1) in
     let none : bit_at low 2 ≡ 0 = flag_other (is_referred all entry.0) in_array (bit_and kept 0xFFF1) 2 refl ∙ masked kept 0xFFF1 2 refl in
-    ap (λ (n : ℕ). eqb n 1) (flag_other (is_dedicated entry.1.spare) spare (with_flag (is_global entry.1.spare) global_spare low) 2 refl) ∙ one (is_global entry.1.spare) low none
+    ap (λ (n : ℕ). eqb n 1) (flag_other (has_spare_bit entry.1.spare) spare (with_flag (is_global entry.1.spare) global_spare low) 2 refl) ∙ one (is_global entry.1.spare) low none
   where
     one : (b : Bool) (bits : ℕ) → bit_at bits 2 ≡ 0 → eqb (bit_at (with_flag b global_spare bits) 2) 1 ≡ b
     one true bits none = ap (λ (n : ℕ). eqb n 1) (bit_at_or bits 4 2 ∙ ap (λ (n : ℕ). max n 1) none)
+    one false bits none = ap (λ (n : ℕ). eqb n 1) none
+
+-- And whether it is one for some, or gives its place back.
+pub kind_spare : (all : List Wanted) (entry : ℕ × Member) (kept : ℕ) → has_bit (kind_after all entry kept) 3 ≡ has_spare_bit entry.1.spare
+unfolding kind_after
+kind_spare all entry kept =
+    let low = with_flag (is_referred all entry.0) in_array (bit_and kept 0xFFF1) in
+    let global = with_flag (is_global entry.1.spare) global_spare low in
+    let none : bit_at global 3 ≡ 0 =
+    flag_other (is_global entry.1.spare) global_spare low 3 refl ∙ flag_other (is_referred all entry.0) in_array (bit_and kept 0xFFF1) 3 refl ∙ masked kept 0xFFF1 3 refl in
+    one (has_spare_bit entry.1.spare) global none
+  where
+    one : (b : Bool) (bits : ℕ) → bit_at bits 3 ≡ 0 → eqb (bit_at (with_flag b spare bits) 3) 1 ≡ b
+    one true bits none = ap (λ (n : ℕ). eqb n 1) (bit_at_or bits 8 3 ∙ ap (λ (n : ℕ). max n 1) none)
     one false bits none = ap (λ (n : ℕ). eqb n 1) none
 
 pub kind_fits : (all : List Wanted) (entry : ℕ × Member) (kept : ℕ) → kind_after all entry kept < 2 ^ 16
@@ -90,5 +104,5 @@ kind_fits all entry kept =
     let kept_fits = and_le_r kept 0xFFF1 in
     let referred = with_flag (is_referred all entry.0) in_array (bit_and kept 0xFFF1) in
     let global = with_flag (is_global entry.1.spare) global_spare referred in
-    flag_fits (is_dedicated entry.1.spare) spare global (omega arith)
+    flag_fits (has_spare_bit entry.1.spare) spare global (omega arith)
     (flag_fits (is_global entry.1.spare) global_spare referred (omega arith) (flag_fits (is_referred all entry.0) in_array (bit_and kept 0xFFF1) (omega arith) (omega (arith, kept_fits))))

@@ -1,5 +1,5 @@
 -- The copy that a change gives a disk shows the configuration fully.
-use Rattle.std.proofs.Common.{◌≡◌, ℕ, zero, suc, ◌+◌, ◌<◌, Bool, true, false, ◌&&◌, ◌||◌, cond, List, [], ◌∷◌, length, map, Option, Some, None, refl, ap, sym, ◌∙◌, arith, inl}
+use Rattle.std.proofs.Common.{◌≡◌, ℕ, zero, suc, ◌+◌, ◌<◌, Bool, true, false, ◌&&◌, ◌||◌, List, [], ◌∷◌, length, map, Option, Some, None, refl, ap, sym, ◌∙◌, arith, inl}
 use Rattle.std.proofs.lemmas.Bool.{and_from, or_from}
 use Rattle.std.specs.Prelude.{slice_get, filter, filter_map}
 use Rattle.std.specs.List.{AllByRecursion, list_any, list_all, cons_option, range_with_len}
@@ -15,7 +15,7 @@ use Rattle.ddf_config.specs.declared.member.Member.{Member}
 use Rattle.ddf_config.specs.declared.member.SpareUse.TheVariants as uses
 use Rattle.ddf_config.specs.declared.member.SpareUse.{SpareUse}
 use Rattle.ddf_view.specs.Readable.{HasNotes, IsReadable}
-use Rattle.ddf_view.specs.Reading.{dedicated_or_not, elements_in, is_associated, is_dedicated, read, spare_in}
+use Rattle.ddf_view.specs.Reading.{dedicated_or_not, elements_in, is_associated, is_dedicated, read, spare_in, spare_of_kind}
 use Rattle.ddf_view.specs.Shows.{gives_elements, gives_spare, holds_all, same_spare, shows, shows_fully}
 use Rattle.ddf_view.specs.View.{HeldRecord, View, find_held, has_bit, view_of}
 use Rattle.ddf_view.proofs.Agreement.{Gives, Holds, records_read, dedicated_noted, shown_from, read_together}
@@ -25,7 +25,7 @@ use Rattle.ddf_rewrite.specs.Arrays.{array_on, arrays_after}
 use Rattle.ddf_rewrite.specs.Before.{Before, leading_record}
 use Rattle.ddf_rewrite.specs.Changing.{CanChange, HasRoomFor}
 use Rattle.ddf_rewrite.specs.Copies.{changed_copy, changed_holdings, own_record}
-use Rattle.ddf_rewrite.specs.Disks.{block_size_of, changed_disks, disk_on, disks_for, is_global, kind_after, kind_in, member_entry}
+use Rattle.ddf_rewrite.specs.Disks.{block_size_of, changed_disks, disk_on, disks_for, has_spare_bit, is_global, kind_after, kind_in, member_entry}
 use Rattle.ddf_rewrite.specs.Elements.{contains, has_places, is_spare_for, spares_after}
 use Rattle.ddf_rewrite.specs.Readable.{HasOwnNames, HasSpares}
 use Rattle.ddf_rewrite.specs.Wanted.{Wanted, all_wanted}
@@ -34,7 +34,7 @@ use Rattle.ddf_rewrite.proofs.Given.{not_wanted}
 use Rattle.ddf_rewrite.proofs.Changed.{changed_apart, record_found, none_found, disks_are, arrays_are, changed_shows, changed_noted, changed_holds}
 use Rattle.ddf_rewrite.proofs.Made.{made_has_notes}
 use Rattle.ddf_rewrite.proofs.Filled.{filled_spares}
-use Rattle.ddf_rewrite.proofs.Flags.{kind_global}
+use Rattle.ddf_rewrite.proofs.Flags.{kind_global, kind_spare}
 use Rattle.ddf_rewrite.proofs.SpareLists.{spares_tell, base_spares, record_spares}
 use Rattle.ddf_rewrite.proofs.AllWanted.{is_wanted}
 use Rattle.ddf_rewrite.proofs.Lists.{some_same, or_true, all_at, list_all_get, match_made}
@@ -132,6 +132,7 @@ make_dedicated (x ∷ arrays) h = refl
 pub spare_again : (spare : SpareUse) → same_spare spare spare ≡ true
 spare_again uses.No = refl
 spare_again uses.Global = refl
+spare_again uses.Revertible = refl
 spare_again (uses.Dedicated arrays) = go arrays
   where
     go : (xs : List (List ℕ)) → pointwise bytes_eq xs xs ≡ true
@@ -139,16 +140,23 @@ spare_again (uses.Dedicated arrays) = go arrays
     go (x ∷ xs) = let first = bytes_same x in let rest = go xs in rw (first, rest) refl
 
 -- the use that the type and the associated spares give
-use_is : (config : Configuration) (k : ℕ) (member : ℕ × Member) (kind : ℕ) (listed : List (List ℕ)) → HasSpares config → slice_get config.members k ≡ Some member → has_bit kind 2 ≡ is_global member.1.spare
-    → listed ≡ filter (λ guid. is_spare_for guid member.1.spare) (map (λ entry. entry.0) config.arrays) → cond (has_bit kind 2) uses.Global (dedicated_or_not listed) ≡ member.1.spare
-use_is config k member kind listed has at bit are = go member.1.spare refl
+use_is : (config : Configuration) (k : ℕ) (member : ℕ × Member) (kind : ℕ) (listed : List (List ℕ)) → HasSpares config → slice_get config.members k ≡ Some member → has_bit kind 2 ≡ is_global member.1.spare → has_bit kind 3 ≡ has_spare_bit member.1.spare
+    → listed ≡ filter (λ guid. is_spare_for guid member.1.spare) (map (λ entry. entry.0) config.arrays) → spare_of_kind kind (dedicated_or_not listed) ≡ member.1.spare
+use_is config k member kind listed has at bit third are = go member.1.spare refl
   where
-    go : (spare : SpareUse) → member.1.spare ≡ spare → cond (has_bit kind 2) uses.Global (dedicated_or_not listed) ≡ member.1.spare
+    go : (spare : SpareUse) → member.1.spare ≡ spare → spare_of_kind kind (dedicated_or_not listed) ≡ member.1.spare
     go uses.No e =
         let none : has_bit kind 2 ≡ false = bit ∙ ap is_global e in
         let empty : listed ≡ [] = are ∙ ap (λ (s : SpareUse). filter (λ guid. is_spare_for guid s) (map (λ entry. entry.0) config.arrays)) e ∙ no_filter (map (λ entry. entry.0) config.arrays) in
         rw (none, empty) (sym e)
-    go uses.Global e = let one : has_bit kind 2 ≡ true = bit ∙ ap is_global e in rw one (sym e)
+    go uses.Global e =
+        let one : has_bit kind 2 ≡ true = bit ∙ ap is_global e in
+        let none : has_bit kind 3 ≡ false = third ∙ ap has_spare_bit e in
+        rw (one, none) (sym e)
+    go uses.Revertible e =
+        let one : has_bit kind 2 ≡ true = bit ∙ ap is_global e in
+        let also : has_bit kind 3 ≡ true = third ∙ ap has_spare_bit e in
+        rw (one, also) (sym e)
     go (uses.Dedicated arrays) e =
         let none : has_bit kind 2 ≡ false = bit ∙ ap is_global e in
         let is = has.listed k member arrays at e in
@@ -170,7 +178,7 @@ spare_given old leaders config timestamp can k member at =
     let listed : map (λ row. row.guid) (filter (is_dedicated (view ∷ []) member.0) view.arrays) ≡ filter (λ guid. is_spare_for guid member.1.spare) (map (λ entry. entry.0) config.arrays) =
     ap (λ (rows : List ArrayEntry). map (λ row. row.guid) (filter (is_dedicated (view ∷ []) member.0) rows)) arrays
     ∙ filter_alike (is_dedicated (view ∷ []) member.0) (λ guid. is_spare_for guid member.1.spare) (λ entry. array_on own entry) config.arrays (λ entry. refl) each in
-    let is = use_is config k member (kind_after (all_wanted config) member (kind_in leaders.disks member.0)) (map (λ row. row.guid) (filter (is_dedicated (view ∷ []) member.0) view.arrays)) can.spares at (kind_global (all_wanted config) member (kind_in leaders.disks member.0)) listed in
+    let is = use_is config k member (kind_after (all_wanted config) member (kind_in leaders.disks member.0)) (map (λ row. row.guid) (filter (is_dedicated (view ∷ []) member.0) view.arrays)) can.spares at (kind_global (all_wanted config) member (kind_in leaders.disks member.0)) (kind_spare (all_wanted config) member (kind_in leaders.disks member.0)) listed in
     ap (λ (s : SpareUse). same_spare s member.1.spare) is ∙ spare_again member.1.spare
   where
     or_nothing : (b : Bool) → (b || false) ≡ b

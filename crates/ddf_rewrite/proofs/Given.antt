@@ -40,13 +40,14 @@ positions_again : (xs : List Position) → pointwise same_position xs xs ≡ tru
 positions_again [] = refl
 positions_again (x ∷ xs) = let rest = positions_again xs in rw (position_again x, rest) refl
 
-pub plan_again : (p : ElementPlan) → same_plan same_position p p ≡ true
+pub plan_again : (p : ElementPlan) → same_plan true p p ≡ true
 plan_again p =
     let level : eqb p.level p.level ≡ true = eq-eqb p.level p.level refl in
     let qualifier : eqb p.qualifier p.qualifier ≡ true = eq-eqb p.qualifier p.qualifier refl in
     let strip : eqb p.strip p.strip ≡ true = eq-eqb p.strip p.strip refl in
     let blocks : eqb p.blocks p.blocks ≡ true = eq-eqb p.blocks p.blocks refl in
-    rw (level, qualifier, strip, blocks, positions_again p.positions) refl
+    let stand_in : eqb p.stand_in p.stand_in ≡ true = eq-eqb p.stand_in p.stand_in refl in
+    rw (level, qualifier, strip, blocks, stand_in, positions_again p.positions) refl
 
 -- ---- what a view has of a configuration
 
@@ -126,7 +127,7 @@ all_given config elements rebuilt has = record {
       let found = has.found n wanted at in
       let same : plan_of [] (Some (note_of found.0 wanted.plan)) found.1 ≡ wanted.plan = plan_noted found.0 wanted.plan found.1 (rebuilt n wanted at) (has_plan wanted found.1 found.3) in
       ap (λ o. option_map_or (λ (held : HeldRecord). gives_element held (Some wanted.plan)) o true) found.2
-      ∙ ap (λ (p : ElementPlan). same_plan same_position p wanted.plan) same ∙ plan_again wanted.plan;
+      ∙ ap (λ (p : ElementPlan). same_plan true p wanted.plan) same ∙ plan_again wanted.plan;
   none = has.none;
   numbers = λ a entry pair at e.
       let least = least_from 0 entry.1.elements pair e in

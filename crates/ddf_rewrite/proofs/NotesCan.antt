@@ -80,11 +80,12 @@ no_rise most = none_rise 0 most
 
 record IsNote (most : ℕ) (note : SlotNote) : Type 0 where
   position : note.position < 2 ^ 16
+  stand_in : note.stand_in < 2 ^ 32
   row : note.row < 2 ^ 64
   rises : IsRising most note.out
 
 no_note_is : (most : ℕ) → IsNote most no_note
-no_note_is most = record { position = omega arith; row = omega arith; rises = no_rise most }
+no_note_is most = record { position = omega arith; stand_in = omega arith; row = omega arith; rises = no_rise most }
 
 abbrev IsPair : ℕ × Position → Type 0
 IsPair pair = (pair.0 < 2 ^ 16) × (pair.1.row < 2 ^ 64)
@@ -93,10 +94,10 @@ pairs_fit : (n : ℕ) (positions : List Position) → n + length positions < 2 ^
 pairs_fit n [] few all = tt
 pairs_fit n (x ∷ positions) few all = ((omega (arith, few), all.0.row), pairs_fit (n + 1) positions (omega (arith, few)) all.1)
 
-note_is : (most : ℕ) (copied : Bool) (plan : ElementPlan) → length plan.positions ≤ most → length plan.positions ≤ 64 → AllByRecursion FitsPosition plan.positions → IsNote most (note_of copied plan)
-note_is most copied plan allowed few fit =
+note_is : (most : ℕ) (copied : Bool) (plan : ElementPlan) → length plan.positions ≤ most → length plan.positions ≤ 64 → plan.stand_in < 2 ^ 32 → AllByRecursion FitsPosition plan.positions → IsNote most (note_of copied plan)
+note_is most copied plan allowed few stands fit =
     let numbers = go (rebuilt plan) refl in
-    record { position = numbers.0; row = numbers.1; rises = out_rises most plan allowed }
+    record { position = numbers.0; stand_in = stands; row = numbers.1; rises = out_rises most plan allowed }
   where
     pairs : AllByRecursion IsPair (enumerate_from 0 plan.positions)
     pairs = pairs_fit 0 plan.positions (omega (arith, few)) fit
@@ -118,7 +119,7 @@ note_for_is most holdings (Some (kinds.Element array index)) all = go (find_hold
     go None e = no_note_is most
     go (Some holding) e =
         let fits = find_has (HasPlan most) (λ one. bytes_eq one.wanted.guid array && eqb one.wanted.index index) holdings holding all e in
-        note_is most holding.copied holding.wanted.plan fits.allowed fits.few fits.positions
+        note_is most holding.copied holding.wanted.plan fits.allowed fits.few fits.stand_in fits.positions
 
 all_notes : (most from count : ℕ) (holdings : List Holding) (placed : List Slotted) → AllByRecursion (HasPlan most) holdings → AllByRecursion (IsNote most) (map (λ slot. note_for holdings (item_at placed slot)) (range_with_len from count))
 all_notes most from zero holdings placed all = tt
@@ -131,7 +132,7 @@ copied_small true = omega arith
 copied_small false = omega arith
 
 note_fits : (most at : ℕ) (note : SlotNote) → IsNote most note → AllByRecursion Fits (note_fields most at note)
-note_fits most at note is = (copied_small note.copied, (omega arith, (is.position, (omega arith, (is.row, (length-bits_of (most / 8) note.out, tt))))))
+note_fits most at note is = (copied_small note.copied, (omega arith, (is.position, (is.stand_in, (is.row, (length-bits_of (most / 8) note.out, tt))))))
 
 notes_fit : (most at : ℕ) (notes : List SlotNote) → AllByRecursion (IsNote most) notes → AllByRecursion Fits (all_note_fields most at notes)
 notes_fit most at [] all = tt

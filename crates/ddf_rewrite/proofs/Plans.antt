@@ -154,8 +154,9 @@ pub record HasPlan (element : ElementValue) (plan : ElementPlan) : Type 0 where
   pub blocks : element.blocks ≡ plan.blocks
   pub members : element.members ≡ map place_in plan.positions
 
-make_plan : (level qualifier strip blocks : ℕ) → List Position → ElementPlan
-make_plan level qualifier strip blocks positions = record { level = level; qualifier = qualifier; strip = strip; blocks = blocks; positions = positions }
+make_plan : (level qualifier strip blocks stand_in : ℕ) → List Position → ElementPlan
+make_plan level qualifier strip blocks stand_in positions =
+    record { level = level; qualifier = qualifier; strip = strip; blocks = blocks; stand_in = stand_in; positions = positions }
 
 pub plan_noted : (copied : Bool) (plan : ElementPlan) (element : ElementValue) → OneRebuilt plan → HasPlan element plan → plan_of [] (Some (note_of copied plan)) element ≡ plan
 unfolding plan_of make_plan
@@ -168,6 +169,6 @@ plan_noted copied plan element one has =
     let qualifier = has.qualifier in
     let strip = has.strip in
     let blocks = has.blocks in
-    let made : make_plan element.level element.qualifier element.strip element.blocks (map (λ pair. f pair.0 pair.1) (enumerate_from 0 element.members)) ≡ make_plan plan.level plan.qualifier plan.strip plan.blocks plan.positions =
+    let made : make_plan element.level element.qualifier element.strip element.blocks plan.stand_in (map (λ pair. f pair.0 pair.1) (enumerate_from 0 element.members)) ≡ make_plan plan.level plan.qualifier plan.strip plan.blocks plan.stand_in plan.positions =
     rw (level, qualifier, strip, blocks, positions) refl in
     made

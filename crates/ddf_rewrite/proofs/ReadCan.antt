@@ -28,7 +28,7 @@ use Rattle.ddf_copy.specs.declared.copy.DiskCopy.{DiskCopy}
 use Rattle.ddf_copy.specs.Written.{CanBeCopy}
 use Rattle.ddf_config.specs.ElementValue.{ElementValue as ElementPlan}
 use Rattle.ddf_config.specs.declared.array.Array.{Array}
-use Rattle.ddf_view.specs.Reading.{array_in, arrays_in, count_in, disks_in, element_in, elements_in, member_in, naming_record, plan_of, position_of, read, row_of, secondary_in}
+use Rattle.ddf_view.specs.Reading.{array_in, arrays_in, count_in, disks_in, element_in, elements_in, member_in, naming_record, plan_of, position_of, read, row_of, secondary_in, stand_in_of}
 use Rattle.ddf_view.specs.View.{HeldRecord, View, element_of, find_held, find_note, held_from, is_element, note_at, notes_of, view_of}
 use Rattle.ddf_view.proofs.Finds.{find_has}
 use Rattle.ddf_rewrite.specs.Hold.{CanHold, FitsArray, FitsMember, FitsPlan, FitsPosition, IsLeader}
@@ -42,15 +42,20 @@ use Rattle.ddf_view.proofs.Names.{names_differ}
 
 -- ---- notes
 
+-- the numbers of a note fit their fields
+pub record IsSmallNote (note : SlotNote) : Type 0 where
+  pub stand_in : note.stand_in < 2 ^ 32
+  pub row : note.row < 2 ^ 64
+
 abbrev pub NoteFits : Option SlotNote → Type 0
 NoteFits None = Unit {0}
-NoteFits (Some note) = note.row < 2 ^ 64
+NoteFits (Some note) = IsSmallNote note
 
-rows_from : (most at : ℕ) (notes : List SlotNote) → AllByRecursion Fits (all_note_fields most at notes) → AllByRecursion (λ note. note.row < 2 ^ 64) notes
+rows_from : (most at : ℕ) (notes : List SlotNote) → AllByRecursion Fits (all_note_fields most at notes) → AllByRecursion IsSmallNote notes
 rows_from most at [] h = tt
-rows_from most at (note ∷ notes) h = (h.1.1.1.1.0, rows_from most (at + note_size most) notes h.1.1.1.1.1.1)
+rows_from most at (note ∷ notes) h = (record { stand_in = h.1.1.1.0; row = h.1.1.1.1.0 }, rows_from most (at + note_size most) notes h.1.1.1.1.1.1)
 
-rows_small : (geometry : Geometry) (count : ℕ) (notes : Notes) → CanBeNotes geometry count notes → AllByRecursion (λ note. note.row < 2 ^ 64) notes.slots
+rows_small : (geometry : Geometry) (count : ℕ) (notes : Notes) → CanBeNotes geometry count notes → AllByRecursion IsSmallNote notes.slots
 rows_small geometry count notes can =
     let parts = all-split Fits (head_fields geometry.max_members notes) (all_note_fields geometry.max_members NOTES_AT notes.slots ++ filling geometry.max_members (record_size geometry) (length notes.slots) ∷ []) can.fields_fit in
     let inner = all-split Fits (all_note_fields geometry.max_members NOTES_AT notes.slots) (filling geometry.max_members (record_size geometry) (length notes.slots) ∷ []) parts.1 in
@@ -88,14 +93,14 @@ copy_notes P copy n is has e =
 
 abbrev RowsFit : Option Notes → Type 0
 RowsFit None = Unit {0}
-RowsFit (Some n) = AllByRecursion (λ note. note.row < 2 ^ 64) n.slots
+RowsFit (Some n) = AllByRecursion IsSmallNote n.slots
 
 notes_rows : (copy : DiskCopy) → CanBeCopy copy → RowsFit (notes_of copy)
 notes_rows copy is = go (notes_of copy) refl
   where
     go : (o : Option Notes) → notes_of copy ≡ o → RowsFit o
     go None e = tt
-    go (Some n) e = copy_notes (λ (m : Notes). AllByRecursion (λ note. note.row < 2 ^ 64) m.slots) copy n is (λ notes can. rows_small copy.header.geometry (length copy.slots) notes can) e
+    go (Some n) e = copy_notes (λ (m : Notes). AllByRecursion IsSmallNote m.slots) copy n is (λ notes can. rows_small copy.header.geometry (length copy.slots) notes can) e
 
 note_fits : (notes : Option Notes) (at : ℕ) → RowsFit notes → NoteFits (note_at notes at)
 note_fits None at fit = tt
@@ -103,7 +108,7 @@ note_fits (Some n) at fit = go (slice_get n.slots at) refl
   where
     go : (o : Option SlotNote) → slice_get n.slots at ≡ o → NoteFits o
     go None e = tt
-    go (Some note) e = all_at (λ one. one.row < 2 ^ 64) n.slots at note fit e
+    go (Some note) e = all_at IsSmallNote n.slots at note fit e
 
 abbrev make_held : ElementValue → Option SlotNote → HeldRecord
 make_held element note = record { element = element; note = note }
@@ -141,8 +146,13 @@ row_fits None position fits = omega arith
 row_fits (Some note) position fits = go (eqb note.position position)
   where
     go : (b : Bool) → cond b note.row 0 < 2 ^ 64
-    go true = fits
+    go true = fits.row
     go false = omega arith
+
+-- the disk that stands in by a note
+stand_in_fits : (note : Option SlotNote) → NoteFits note → stand_in_of note < 2 ^ 32
+stand_in_fits None fits = omega arith
+stand_in_fits (Some note) fits = fits.stand_in
 
 positions_fit : (disks : List DiskEntry) (noted : Option SlotNote) (n : ℕ) (members : List Place) → NoteFits noted → AllByRecursion (λ k. k < 2 ^ 32) (map (λ (member : Place). member.reference) members) → AllByRecursion (λ k. k < 2 ^ 64) (map (λ (member : Place). member.start) members)
     → AllByRecursion FitsPosition (map (λ pair. position_of disks noted pair.0 pair.1) (enumerate_from n members))
@@ -224,6 +234,7 @@ read_plan most disks elements entry wanted all notes held at plan count within =
       level = subst (λ (p : ElementPlan). p.level < 2 ^ 8) (sym plan) fit.has.level;
       qualifier = subst (λ (p : ElementPlan). p.qualifier < 2 ^ 8) (sym plan) fit.has.qualifier;
       blocks = subst (λ (p : ElementPlan). p.blocks < 2 ^ 64) (sym plan) fit.has.blocks;
+      stand_in = subst (λ (p : ElementPlan). p.stand_in < 2 ^ 32) (sym plan) (stand_in_fits (find_note entry.guid wanted.index elements) note);
       positions = subst (λ (p : ElementPlan). AllByRecursion FitsPosition p.positions) (sym plan)
           (positions_fit disks (find_note entry.guid wanted.index elements) 0 members note fit.has.references fit.has.starts);
     }

@@ -211,12 +211,13 @@ dedicated_are (guid ∷ guids) arrays h = let same : (guid ∷ guids) ≡ arrays
 spare_is : (views : List View) (disk : DiskEntry) (arrays : List (List ℕ)) → spare_in views disk ≡ uses.Dedicated arrays
     → (map (λ (entry : ArrayEntry). entry.guid) (filter (is_dedicated views disk.reference) (arrays_in views)) ≡ arrays) × (arrays ≡ [] → ⊥)
 unfolding spare_in
-spare_is views disk arrays h = go (has_bit disk.kind.0 2) h
+spare_is views disk arrays h = go (has_bit disk.kind.0 2) (has_bit disk.kind.0 3) h
   where
-    go : (b : Bool) → cond b uses.Global (dedicated_or_not (map (λ (entry : ArrayEntry). entry.guid) (filter (is_dedicated views disk.reference) (arrays_in views)))) ≡ uses.Dedicated arrays
+    go : (b third : Bool) → cond b (cond third uses.Revertible uses.Global) (dedicated_or_not (map (λ (entry : ArrayEntry). entry.guid) (filter (is_dedicated views disk.reference) (arrays_in views)))) ≡ uses.Dedicated arrays
         → (map (λ (entry : ArrayEntry). entry.guid) (filter (is_dedicated views disk.reference) (arrays_in views)) ≡ arrays) × (arrays ≡ [] → ⊥)
-    go true h = absurd cc
-    go false h = dedicated_are (map (λ (entry : ArrayEntry). entry.guid) (filter (is_dedicated views disk.reference) (arrays_in views))) arrays h
+    go true true h = absurd cc
+    go true false h = absurd cc
+    go false third h = dedicated_are (map (λ (entry : ArrayEntry). entry.guid) (filter (is_dedicated views disk.reference) (arrays_in views))) arrays h
 
 any_some : {X : Type 0} (t : X → Bool) (xs : List X) → list_any t xs ≡ true → (i : ℕ) × (x : X) × (slice_get xs i ≡ Some x) × (t x ≡ true)
 any_some t [] h = absurd (false≢true h)
@@ -273,6 +274,7 @@ dedicated_there most disks views reference entry all h = go (is_associated (elem
 is_for : (array : List ℕ) (use_as : SpareUse) → is_spare_for array use_as ≡ true → (arrays : List (List ℕ)) × (use_as ≡ uses.Dedicated arrays) × (list_any (λ guid. bytes_eq array guid) arrays ≡ true)
 is_for array uses.No h = absurd (false≢true h)
 is_for array uses.Global h = absurd (false≢true h)
+is_for array uses.Revertible h = absurd (false≢true h)
 is_for array (uses.Dedicated arrays) h = (arrays, refl, h)
 
 abbrev make_member : List View → DiskEntry → ℕ × Member

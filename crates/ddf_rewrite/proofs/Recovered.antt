@@ -1,5 +1,5 @@
 -- The copy that a recovery gives a disk shows the configuration that the leaders give.
-use Rattle.std.proofs.Common.{◌≡◌, ℕ, zero, suc, ◌+◌, ◌<◌, ◌≤◌, Bool, true, false, ◌&&◌, ◌||◌, cond, eqb, List, [], ◌∷◌, length, map, Option, Some, None, refl, ap, sym, ◌∙◌, subst, arith, inl}
+use Rattle.std.proofs.Common.{◌≡◌, ℕ, zero, suc, ◌+◌, ◌<◌, ◌≤◌, Bool, true, false, ◌&&◌, ◌||◌, eqb, List, [], ◌∷◌, length, map, Option, Some, None, refl, ap, sym, ◌∙◌, subst, arith, inl}
 use Rattle.std.proofs.lemmas.Bool.{and_from, eq-eqb, false≢true}
 use Rattle.std.proofs.lemmas.List.{length-map}
 use Rattle.std.proofs.lemmas.Simd.{map-map}
@@ -22,10 +22,9 @@ use Rattle.ddf_config.specs.Configuration.{Configuration}
 use Rattle.ddf_config.specs.ElementValue.{ElementValue as ElementPlan}
 use Rattle.ddf_config.specs.declared.array.Array.{Array}
 use Rattle.ddf_config.specs.declared.element.Position.{Position}
-use Rattle.ddf_config.specs.declared.member.SpareUse.TheVariants as uses
-use Rattle.ddf_view.specs.Reading.{are_noted, array_in, arrays_in, count_in, dedicated_or_not, disks_in, element_in, elements_in, is_associated, is_dedicated, member_entry_in, naming_record, plan_of, position_of, read, spare_in}
-use Rattle.ddf_view.specs.Shows.{gives_element, gives_elements, gives_member, gives_spare, holds_all, least_element, names_numbers, same_place, same_plan, same_position, same_spare, shows, shows_fully}
-use Rattle.ddf_view.specs.View.{HeldRecord, View, find_held, find_note, has_bit, is_missing, view_of}
+use Rattle.ddf_view.specs.Reading.{are_noted, array_in, arrays_in, count_in, dedicated_or_not, disks_in, element_in, elements_in, is_associated, is_dedicated, member_entry_in, naming_record, plan_of, position_of, read, spare_in, spare_of_kind}
+use Rattle.ddf_view.specs.Shows.{gives_element, gives_elements, gives_member, gives_spare, holds_all, least_element, names_numbers, same_place, same_plan, same_spare, shows, shows_fully}
+use Rattle.ddf_view.specs.View.{HeldRecord, View, find_held, find_note, is_missing, view_of}
 use Rattle.ddf_view.specs.Readable.{HasNotes, IsReadable}
 use Rattle.ddf_view.proofs.Agreement.{Gives, Holds, dedicated_noted, records_read}
 use Rattle.ddf_view.proofs.Finds.{least_from}
@@ -87,7 +86,7 @@ same_places n (position ∷ positions) =
     rw (reference, start, rest) refl
 
 -- without a note the places of the members are given
-plan_placed : (plan : ElementPlan) (element : ElementValue) → HasPlan element plan → same_plan same_place (plan_of [] None element) plan ≡ true
+plan_placed : (plan : ElementPlan) (element : ElementValue) → HasPlan element plan → same_plan false (plan_of [] None element) plan ≡ true
 unfolding plan_of
 plan_placed plan element has =
     let level : eqb element.level plan.level ≡ true = eq-eqb element.level plan.level has.level in
@@ -105,7 +104,7 @@ held_as noted holding = record { element = holding.element; note = note_if noted
 -- what is held gives the plan of its element
 holding_gives : (noted : Bool) (holding : Holding) → OneRebuilt holding.wanted.plan → HasPlan holding.element holding.wanted.plan → gives_element (held_as noted holding) (Some holding.wanted.plan) ≡ true
 holding_gives true holding one has =
-    ap (λ (p : ElementPlan). same_plan same_position p holding.wanted.plan) (plan_noted holding.copied holding.wanted.plan holding.element one has) ∙ plan_again holding.wanted.plan
+    ap (λ (p : ElementPlan). same_plan true p holding.wanted.plan) (plan_noted holding.copied holding.wanted.plan holding.element one has) ∙ plan_again holding.wanted.plan
 holding_gives false holding one has = plan_placed holding.wanted.plan holding.element has
 
 -- ---- the least element of an array that is read
@@ -454,7 +453,7 @@ module _ (old : DiskCopy) (group : List ℕ) (sequence : ℕ) (views : List View
       ap (λ (rows : List ArrayEntry). map (λ row. row.guid) (filter (is_dedicated (view ∷ []) disk.reference) rows)) arrays
       ∙ names_alike (is_dedicated (view ∷ []) disk.reference) (is_dedicated views disk.reference) make_row (λ row. refl) (arrays_in views) (λ a row at.
       dedicated_noted (view ∷ []) disk.reference (make_row row) one_noted ∙ ap (λ (b : Bool). b || false) (associated_led noted disk.reference a row at) ∙ sym (dedicated_noted views disk.reference row noted)) in
-      ap (λ (names : List (List ℕ)). same_spare (cond (has_bit disk.kind.0 2) uses.Global (dedicated_or_not names)) (spare_in views disk)) listed ∙ spare_again (spare_in views disk)
+      ap (λ (names : List (List ℕ)). same_spare (spare_of_kind disk.kind.0 (dedicated_or_not names)) (spare_in views disk)) listed ∙ spare_again (spare_in views disk)
 
   -- Where a leader has valid notes it shows the configuration fully.
   pub recovered_fully : (before views).noted ≡ true → shows_fully config view ≡ true

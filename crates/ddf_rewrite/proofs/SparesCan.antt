@@ -39,6 +39,7 @@ spare_within spare size long room =
 kind_small : (use_as : SpareUse) → kind_of_spare use_as < 2 ^ 8
 kind_small uses.No = omega arith
 kind_small uses.Global = omega arith
+kind_small uses.Revertible = omega arith
 kind_small (uses.Dedicated arrays) = omega arith
 
 abbrev pub CanBeOwn : Geometry → Option SpareRecord → Type 0
@@ -112,6 +113,7 @@ spare_arrays_fit config reference spares fit = go (lookup (nat_eq reference) con
     by_use : (i : ℕ) (one : ℕ × Member) → slice_get config.members i ≡ Some one → (use_as : SpareUse) → one.1.spare ≡ use_as → AllByRecursion (λ guid. length guid ≡ 24) (arrays_of_spare use_as)
     by_use i one at uses.No e = tt
     by_use i one at uses.Global e = tt
+    by_use i one at uses.Revertible e = tt
     by_use i one at (uses.Dedicated arrays) e =
         subst (λ (l : List (List ℕ)). AllByRecursion (λ guid. length guid ≡ 24) l) (spares.listed i one arrays at e).0 (guids_long (λ guid. is_spare_for guid (uses.Dedicated arrays)) config.arrays fit)
 

@@ -36,15 +36,19 @@ block_size_of R200 = 512
 block_size_of R100 = 0xFFFF
 block_size_of R120 = 0xFFFF
 
+-- a spare for every array, be it one that gives its place back
 abbrev pub is_global : SpareUse → Bool
 is_global uses.No = false
 is_global uses.Global = true
+is_global uses.Revertible = true
 is_global (uses.Dedicated arrays) = false
 
-abbrev pub is_dedicated : SpareUse → Bool
-is_dedicated uses.No = false
-is_dedicated uses.Global = false
-is_dedicated (uses.Dedicated arrays) = true
+-- a spare for some arrays, or one for every array that gives its place back
+abbrev pub has_spare_bit : SpareUse → Bool
+has_spare_bit uses.No = false
+has_spare_bit uses.Global = false
+has_spare_bit uses.Revertible = true
+has_spare_bit (uses.Dedicated arrays) = true
 
 -- an element has a position on the disk
 abbrev pub is_referred : List Wanted → (reference : ℕ) → Bool
@@ -64,10 +68,11 @@ is_behind all reference = list_any (has_out_on reference) all
 abbrev pub with_flag : Bool → (flag : ℕ) → (bits : ℕ) → ℕ
 with_flag test flag bits = if test then bit_or bits flag else bits
 
--- The type tells whether the disk is in an array, a spare for every array, and a spare for some: bits 1, 2 and 3. All others are kept.
+-- The type tells whether the disk is in an array, a spare for every array, and a spare for some: bits 1, 2 and 3. Of a spare for every
+-- array bit 3 tells that it gives its place back (profile). All others are kept.
 unfoldable pub kind_after : List Wanted → (ℕ × Member) → (kept : ℕ) → ℕ
 kind_after all entry kept =
-    with_flag (is_dedicated entry.1.spare) spare (with_flag (is_global entry.1.spare) global_spare (with_flag (is_referred all entry.0) in_array (bit_and kept 0xFFF1)))
+    with_flag (has_spare_bit entry.1.spare) spare (with_flag (is_global entry.1.spare) global_spare (with_flag (is_referred all entry.0) in_array (bit_and kept 0xFFF1)))
 
 -- A missing disk is failed and missing, and nothing else. Another is online, and is being rebuilt where a position on it is out of
 -- sync; of its other bits 3, 4 and 5 are kept: in transition, a predicted failure, a read error that was not made good.
@@ -117,9 +122,11 @@ is_linux R120 = true
 is_linux R200 = false
 
 -- A disk is being filled: it is being rebuilt, and the notes call a position on it out of sync. Linux takes it for a disk with room, and
--- fills it at another place, unless its type has bit 3. Of a disk that is lost the state says no such thing.
+-- fills it at another place, unless its type has bit 3. Of a disk that is lost the state says no such thing, and of a spare for every array
+-- bit 3 says another.
 abbrev pub is_filled : Revision → (noted : Bool) → List Wanted → DiskEntry → Bool
-is_filled revision noted all disk = has_bit disk.state.0 2 && is_linux revision && noted && is_behind all disk.reference
+is_filled revision noted all disk =
+    has_bit disk.state.0 2 && not (has_bit disk.kind.0 2) && is_linux revision && noted && is_behind all disk.reference
 
 abbrev pub filled : Revision → (noted : Bool) → List Wanted → DiskEntry → DiskEntry
 filled revision noted all disk = record disk { kind = record { 0 = with_flag (is_filled revision noted all disk) spare disk.kind.0 } }

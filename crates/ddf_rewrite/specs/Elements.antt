@@ -31,6 +31,7 @@ contains references reference = list_any (λ other. other == reference) referenc
 abbrev pub is_spare_for : (array : List ℕ) → SpareUse → Bool
 is_spare_for array uses.No = false
 is_spare_for array uses.Global = false
+is_spare_for array uses.Revertible = false
 is_spare_for array (uses.Dedicated arrays) = list_any (bytes_eq array) arrays
 
 -- the dedicated spares of an array, in the order of the members

@@ -58,6 +58,7 @@ pub record FitsPlan (most : ℕ) (wanted : Wanted) : Type 0 where
   pub level : wanted.plan.level < 2 ^ 8
   pub qualifier : wanted.plan.qualifier < 2 ^ 8
   pub blocks : wanted.plan.blocks < 2 ^ 64
+  pub stand_in : wanted.plan.stand_in < 2 ^ 32
   pub positions : AllByRecursion FitsPosition wanted.plan.positions
 
 -- Copies of a geometry that allows so many members can hold a configuration.

@@ -31,7 +31,7 @@ find_holding array index holdings = find (is_holding array index) holdings
 
 -- the note of a slot that holds no element
 abbrev pub no_note : SlotNote
-no_note = record { copied = false; position = 0xFFFF; row = 0; out = [] }
+no_note = record { copied = false; position = 0xFFFF; stand_in = 0; row = 0; out = [] }
 
 -- the position that is being rebuilt, with its number
 abbrev pub rebuilt : ElementPlan → Option (ℕ × Position)
@@ -45,6 +45,7 @@ abbrev pub note_of : (copied : Bool) → ElementPlan → SlotNote
 note_of copied plan = record {
   copied = copied;
   position = option_map_or (λ pair. pair.0) (rebuilt plan) 0xFFFF;
+  stand_in = plan.stand_in;
   row = option_map_or (λ pair. pair.1.row) (rebuilt plan) 0;
   out = out_of_sync plan;
 }

@@ -14,15 +14,17 @@ use Rattle.ddf_config.specs.Configuration.{Configuration}
 abbrev pub spare_use : Configuration → (reference : ℕ) → SpareUse
 spare_use config reference = elim (lookup (nat_eq reference) config.members) [ None ↦ uses.No | Some member ↦ member.spare ]
 
--- Bit 0 of the type is set for a spare of some arrays.
+-- Bit 0 of the type is set for a spare of some arrays, bit 1 for one that gives its place back.
 abbrev pub kind_of_spare : SpareUse → ℕ
 kind_of_spare uses.No = 0
 kind_of_spare uses.Global = 0
+kind_of_spare uses.Revertible = 2
 kind_of_spare (uses.Dedicated arrays) = 1
 
 abbrev pub arrays_of_spare : SpareUse → List (List ℕ)
 arrays_of_spare uses.No = []
 arrays_of_spare uses.Global = []
+arrays_of_spare uses.Revertible = []
 arrays_of_spare (uses.Dedicated arrays) = arrays
 
 -- a record of this use and time, over the bytes of an old one or of a new one

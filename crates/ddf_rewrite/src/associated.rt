@@ -41,7 +41,7 @@ fn is_spare_for(array: &Guid, use_as: &SpareUse) -> bool
     ensures { result ≡ is_spare_for array.now use_as.now }
 {
     match use_as {
-        SpareUse::No | SpareUse::Global => false,
+        SpareUse::No | SpareUse::Global | SpareUse::Revertible => false,
         SpareUse::Dedicated(arrays) => is_among(arrays.items(), array),
     }
 }

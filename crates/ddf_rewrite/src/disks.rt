@@ -13,8 +13,8 @@ ghost use Rattle.ddf_rewrite.specs.Disks.{
   disks_for,
   filled,
   has_out_on,
+  has_spare_bit,
   is_behind,
-  is_dedicated,
   is_filled,
   is_global,
   is_linux,
@@ -35,7 +35,7 @@ use ddf_config::{Config, Member, Position, SpareUse};
 use ddf_header::Revision;
 use ddf_tables::layout::DISK_BLOCK_SIZE_AT;
 use ddf_tables::{DiskEntry, DiskRow, DiskState, DiskType};
-use ddf_view::{find_disk, is_rebuilding};
+use ddf_view::{find_disk, is_global as is_global_type, is_rebuilding};
 use indexmap::IndexMap;
 use std::alloc::Global;
 
@@ -59,14 +59,14 @@ pub(crate) fn block_size_of(revision: Revision) -> u16
 fn is_global(use_as: &SpareUse) -> bool
     ensures { result ≡ is_global use_as.now }
 {
-    matches!(use_as, SpareUse::Global)
+    matches!(use_as, SpareUse::Global | SpareUse::Revertible)
 }
 
-/// Whether a disk is a spare for some arrays.
-fn is_dedicated(use_as: &SpareUse) -> bool
-    ensures { result ≡ is_dedicated use_as.now }
+/// Whether a disk is a spare for some arrays, or one for every array that gives its place back.
+fn has_spare_bit(use_as: &SpareUse) -> bool
+    ensures { result ≡ has_spare_bit use_as.now }
 {
-    matches!(use_as, SpareUse::Dedicated(_))
+    matches!(use_as, SpareUse::Revertible | SpareUse::Dedicated(_))
 }
 
 /// Whether an element has a position on the disk.
@@ -119,7 +119,7 @@ fn kind_after(all: &[Wanted], reference: u32, member: &Member, kept: DiskType) -
     if is_global(&member.spare) {
         kind.insert(DiskType::GLOBAL_SPARE);
     }
-    if is_dedicated(&member.spare) {
+    if has_spare_bit(&member.spare) {
         kind.insert(DiskType::SPARE);
     }
     kind
@@ -273,7 +273,11 @@ fn is_linux(revision: Revision) -> bool
 fn is_filled(all: &[Wanted], revision: Revision, noted: bool, disk: &DiskEntry) -> bool
     ensures { result ≡ is_filled revision noted all.now disk.now }
 {
-    is_rebuilding(disk.state) && is_linux(revision) && noted && is_behind(all, disk.reference)
+    is_rebuilding(disk.state)
+        && !is_global_type(disk.kind)
+        && is_linux(revision)
+        && noted
+        && is_behind(all, disk.reference)
 }
 
 /// An entry as the table of a disk of a revision has it.

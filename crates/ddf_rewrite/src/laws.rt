@@ -16,7 +16,7 @@ ghost use Rattle.ddf_view.specs.Reading.{are_noted, read};
 ghost use Rattle.ddf_view.specs.Shows.{shows, shows_fully};
 ghost use Rattle.ddf_view.specs.Differ.{difference};
 ghost use Rattle.ddf_rewrite.specs.Before.{Before, before, leading_record};
-ghost use Rattle.ddf_rewrite.specs.Disks.{is_behind, is_linux};
+ghost use Rattle.ddf_rewrite.specs.Disks.{is_behind, is_global, is_linux};
 ghost use Rattle.ddf_rewrite.specs.Wanted.{Wanted, all_wanted};
 ghost use Rattle.ddf_rewrite.specs.Copies.{changed_copy, recovered_copy};
 ghost use Rattle.ddf_rewrite.specs.Readable.{HasOwnNames, AreRebuilt};
@@ -147,11 +147,12 @@ pub fn a_recovered_copy_agrees_with_the_leaders()
 {}
 
 /// The table that a change gives a disk that Linux reads tells of each current disk with a position out of sync that it is being filled:
-/// bit 3 of its type is set, which keeps Linux from it, and bit 2 of its state.
+/// bit 3 of its type is set, which keeps Linux from it, and bit 2 of its state. Of a spare for every array, on which only a group from
+/// elsewhere has a position, bit 3 tells whether it gives its place back.
 pub fn a_changed_copy_tells_linux_which_disks_are_filled()
     ensures kind { (old : DiskCopy) (leaders : Before) (config : Configuration) (timestamp : ℕ) (k : ℕ) (entry : ℕ × Member)
         → CanChange old leaders config timestamp → is_linux old.header.revision ≡ true → slice_get config.members k ≡ Some entry
-        → entry.1.missing ≡ false → is_behind (all_wanted config) entry.0 ≡ true
+        → entry.1.missing ≡ false → is_behind (all_wanted config) entry.0 ≡ true → is_global entry.1.spare ≡ false
         → option_map (λ disk. has_bit disk.kind.0 3) (slice_get (view_of (changed_copy old leaders config timestamp)).disks k) ≡ Some true }
     ensures state { (old : DiskCopy) (leaders : Before) (config : Configuration) (timestamp : ℕ) (k : ℕ) (entry : ℕ × Member)
         → CanChange old leaders config timestamp → is_linux old.header.revision ≡ true → slice_get config.members k ≡ Some entry

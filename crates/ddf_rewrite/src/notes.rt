@@ -49,6 +49,7 @@ fn no_note(alloc: Global) -> SlotNote
     SlotNote {
         copied: false,
         position: NO_POSITION,
+        stand_in: 0,
         row: 0,
         out: Seq::new(Vec::new(alloc)),
     }
@@ -67,6 +68,7 @@ fn note_of(alloc: Global, copied: bool, plan: &ElementPlan) -> Result<SlotNote, 
     Ok(SlotNote {
         copied,
         position,
+        stand_in: plan.stand_in,
         row,
         out: Seq::new(out),
     })

@@ -31,7 +31,7 @@ fn entries_needed(use_as: &SpareUse) -> usize
     ensures { result ≡ length (arrays_of_spare use_as.now) }
 {
     match use_as {
-        SpareUse::No | SpareUse::Global => 0,
+        SpareUse::No | SpareUse::Global | SpareUse::Revertible => 0,
         SpareUse::Dedicated(arrays) => arrays.items().len(),
     }
 }

@@ -40,12 +40,13 @@ pub(crate) fn spare_use(
     use_of(alloc, &config.members, reference)
 }
 
-/// The type of a spare record of this use: bit 0 is set for a spare of some arrays.
+/// The type of a spare record of this use: bit 0 is set for a spare of some arrays, bit 1 for one that gives its place back.
 fn kind_of_spare(use_as: &SpareUse) -> u8
     ensures { result ≡ kind_of_spare use_as.now }
 {
     match use_as {
         SpareUse::No | SpareUse::Global => 0,
+        SpareUse::Revertible => 2,
         SpareUse::Dedicated(_) => 1,
     }
 }
@@ -55,7 +56,7 @@ fn arrays_of_spare(use_as: &SpareUse) -> &[Guid]
     ensures { result.now ≡ arrays_of_spare use_as.now }
 {
     match use_as {
-        SpareUse::No | SpareUse::Global => &[],
+        SpareUse::No | SpareUse::Global | SpareUse::Revertible => &[],
         SpareUse::Dedicated(arrays) => arrays.items(),
     }
 }

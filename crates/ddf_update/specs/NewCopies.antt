@@ -165,7 +165,7 @@ new_log = blank_log 512
 
 -- the note of a slot that holds no element
 abbrev pub no_note : SlotNote
-no_note = record { copied = false; position = 0xFFFF; row = 0; out = [] }
+no_note = record { copied = false; position = 0xFFFF; stand_in = 0; row = 0; out = [] }
 
 -- a slot of FF, of so many bytes
 unfoldable pub unused_slot : (size : ℕ) → RecordSlot

@@ -412,6 +412,7 @@ fn no_note(alloc: Global) -> SlotNote
     SlotNote {
         copied: false,
         position: u16::MAX,
+        stand_in: 0,
         row: 0,
         out: Seq::new(Vec::new(alloc)),
     }

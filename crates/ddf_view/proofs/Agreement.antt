@@ -1,5 +1,5 @@
 -- Views that all show a configuration, the first of them fully, give it together.
-use Rattle.std.proofs.Common.{◌≡◌, ℕ, ◌+◌, ◌<◌, Bool, true, false, ◌&&◌, ◌||◌, cond, eqb, List, [], ◌∷◌, ◌++◌, length, map, Option, Some, None, refl, ap, sym, ◌∙◌, subst, arith}
+use Rattle.std.proofs.Common.{◌≡◌, ℕ, ◌+◌, ◌<◌, Bool, true, false, ◌&&◌, ◌||◌, eqb, List, [], ◌∷◌, ◌++◌, length, map, Option, Some, None, refl, ap, sym, ◌∙◌, subst, arith}
 use Rattle.std.proofs.lemmas.Bool.{and_parts, eqb-true, false≢true}
 use Rattle.std.proofs.lemmas.List.Folds.{find-append}
 use Rattle.std.specs.Prelude.{slice_get, filter_map, is_some, is_none, option_map}
@@ -16,11 +16,10 @@ use Rattle.ddf_config.specs.declared.member.Member.{Member}
 use Rattle.ddf_config.specs.ElementValue.{ElementValue as ElementPlan}
 use Rattle.ddf_config.specs.declared.array.Array.{Array}
 use Rattle.ddf_config.specs.Configuration.{Configuration}
-use Rattle.ddf_config.specs.declared.member.SpareUse.TheVariants as spares
 use Rattle.std.specs.Cmp.Lexicographic.{pointwise}
-use Rattle.ddf_view.specs.View.{View, HeldRecord, is_element, is_missing, find_held, find_note, has_bit}
-use Rattle.ddf_view.specs.Reading.{elements_in, are_noted, plan_of, element_in, naming_record, count_in, secondary_in, array_in, records_of, is_associated, is_dedicated, dedicated_or_not, spare_in, member_in, read}
-use Rattle.ddf_view.specs.Shows.{same_flag, same_position, same_plan, gives_member, gives_array, gives_element, gives_if_held, least_element, names_numbers, gives_numbers, gives_elements, shows, holds, holds_all, gives_spare, shows_fully}
+use Rattle.ddf_view.specs.View.{View, HeldRecord, is_element, is_missing, find_held, find_note}
+use Rattle.ddf_view.specs.Reading.{elements_in, are_noted, plan_of, element_in, naming_record, count_in, secondary_in, array_in, records_of, is_associated, is_dedicated, dedicated_or_not, spare_in, spare_of_kind, member_in, read}
+use Rattle.ddf_view.specs.Shows.{same_flag, same_plan, gives_member, gives_array, gives_element, gives_if_held, least_element, names_numbers, gives_numbers, gives_elements, shows, holds, holds_all, gives_spare, shows_fully}
 use Rattle.ddf_view.specs.Readable.{IsReadable, AreReadable, HasNotes}
 use Rattle.ddf_view.proofs.Tests.{same_bytes, and_four, and_five, each_passes, swap_all, all_map, all_both, map_matches, map_matches_both}
 use Rattle.ddf_view.proofs.Shown.{flag_same, plan_same, spare_same}
@@ -175,7 +174,7 @@ note_there (Some note) h = (note, refl)
 plan_noted : (disks : List DiskEntry) (note : SlotNote) (held : HeldRecord) → held.note ≡ Some note → (plan : ElementPlan) → gives_element held (Some plan) ≡ true → plan_of disks (Some note) held.element ≡ plan
 unfolding plan_of
 plan_noted disks note held has plan gives =
-    let same : same_plan same_position (plan_of [] (Some note) held.element) plan ≡ true = rw has at gives in
+    let same : same_plan true (plan_of [] (Some note) held.element) plan ≡ true = rw has at gives in
     plan_same (plan_of [] (Some note) held.element) plan same
 
 element_read : (disks : List DiskEntry) (entry : List ℕ × Array) (view : View) (views : List View) → HasNotes view → Gives entry view → Holds entry view → AllByRecursion (Gives entry) views
@@ -287,7 +286,7 @@ spare_read config view views disk noted arrays told =
     let same = filter_same (is_dedicated (view ∷ views) disk.reference) (is_dedicated (view ∷ []) disk.reference) view.arrays
     (each_first gives_array (AreTold view views) (λ row. is_dedicated (view ∷ views) disk.reference row ≡ is_dedicated (view ∷ []) disk.reference row)
     (λ row entry is tells. dedicated_same entry view views disk.reference row noted tells.can tells.gives tells.has tells.others is) view.arrays config.arrays arrays told) in
-    ap (λ (rows : List ArrayEntry). cond (has_bit disk.kind.0 2) spares.Global (dedicated_or_not (map (λ row. row.guid) rows))) same
+    ap (λ (rows : List ArrayEntry). spare_of_kind disk.kind.0 (dedicated_or_not (map (λ row. row.guid) rows))) same
 
 make_member : (guid : List ℕ) (size : ℕ) (missing : Bool) (spare : SpareUse) → Member
 make_member guid size missing spare = record { guid = guid; size = size; missing = missing; spare = spare }

@@ -1,5 +1,5 @@
 -- What follows where a view gives a part of a configuration.
-use Rattle.std.proofs.Common.{◌≡◌, ℕ, Bool, true, false, eqb, List, refl, ap}
+use Rattle.std.proofs.Common.{◌≡◌, ℕ, Bool, true, false, ◌&&◌, eqb, List, refl, ap}
 use Rattle.std.proofs.lemmas.Bool.{and_parts, eqb-true, false≢true}
 use Rattle.std.specs.Str.{bytes_eq}
 use Rattle.ddf_config.specs.declared.member.SpareUse.{SpareUse}
@@ -31,28 +31,38 @@ position_same a b h =
     let made : make_position a.reference a.start a.synced a.row ≡ make_position b.reference b.start b.synced b.row = rw (reference, start, synced, row) refl in
     made
 
-make_plan : (level qualifier strip blocks : ℕ) → List Position → ElementPlan
-make_plan level qualifier strip blocks positions = record { level = level; qualifier = qualifier; strip = strip; blocks = blocks; positions = positions }
+make_plan : (level qualifier strip blocks stand_in : ℕ) → List Position → ElementPlan
+make_plan level qualifier strip blocks stand_in positions =
+    record { level = level; qualifier = qualifier; strip = strip; blocks = blocks; stand_in = stand_in; positions = positions }
 
-pub plan_same : (a b : ElementPlan) → same_plan same_position a b ≡ true → a ≡ b
+pub plan_same : (a b : ElementPlan) → same_plan true a b ≡ true → a ≡ b
 unfolding make_plan
 plan_same a b h =
-    let parts = and_five (eqb a.level b.level) (eqb a.qualifier b.qualifier) (eqb a.strip b.strip) (eqb a.blocks b.blocks) (pointwise same_position a.positions b.positions) h in
+    let all = and_parts (eqb a.level b.level && eqb a.qualifier b.qualifier && eqb a.strip b.strip && eqb a.blocks b.blocks && eqb a.stand_in b.stand_in) (pointwise same_position a.positions b.positions) h in
+    let parts = and_five (eqb a.level b.level) (eqb a.qualifier b.qualifier) (eqb a.strip b.strip) (eqb a.blocks b.blocks) (eqb a.stand_in b.stand_in) all.0 in
     let level : a.level ≡ b.level = eqb-true a.level b.level parts.0 in
     let qualifier : a.qualifier ≡ b.qualifier = eqb-true a.qualifier b.qualifier parts.1 in
     let strip : a.strip ≡ b.strip = eqb-true a.strip b.strip parts.2 in
     let blocks : a.blocks ≡ b.blocks = eqb-true a.blocks b.blocks parts.3 in
-    let positions : a.positions ≡ b.positions = match_same same_position position_same a.positions b.positions parts.4 in
-    let made : make_plan a.level a.qualifier a.strip a.blocks a.positions ≡ make_plan b.level b.qualifier b.strip b.blocks b.positions = rw (level, qualifier, strip, blocks, positions) refl in
+    let stand_in : a.stand_in ≡ b.stand_in = eqb-true a.stand_in b.stand_in parts.4 in
+    let positions : a.positions ≡ b.positions = match_same same_position position_same a.positions b.positions all.1 in
+    let made : make_plan a.level a.qualifier a.strip a.blocks a.stand_in a.positions ≡ make_plan b.level b.qualifier b.strip b.blocks b.stand_in b.positions = rw (level, qualifier, strip, blocks, stand_in, positions) refl in
     made
 
 pub spare_same : (a b : SpareUse) → same_spare a b ≡ true → a ≡ b
 spare_same spares.No spares.No h = refl
 spare_same spares.No spares.Global h = absurd (false≢true h)
+spare_same spares.No spares.Revertible h = absurd (false≢true h)
 spare_same spares.No (spares.Dedicated others) h = absurd (false≢true h)
 spare_same spares.Global spares.No h = absurd (false≢true h)
 spare_same spares.Global spares.Global h = refl
+spare_same spares.Global spares.Revertible h = absurd (false≢true h)
 spare_same spares.Global (spares.Dedicated others) h = absurd (false≢true h)
+spare_same spares.Revertible spares.No h = absurd (false≢true h)
+spare_same spares.Revertible spares.Global h = absurd (false≢true h)
+spare_same spares.Revertible spares.Revertible h = refl
+spare_same spares.Revertible (spares.Dedicated others) h = absurd (false≢true h)
 spare_same (spares.Dedicated arrays) spares.No h = absurd (false≢true h)
 spare_same (spares.Dedicated arrays) spares.Global h = absurd (false≢true h)
+spare_same (spares.Dedicated arrays) spares.Revertible h = absurd (false≢true h)
 spare_same (spares.Dedicated arrays) (spares.Dedicated others) h = ap spares.Dedicated (match_same bytes_eq same_bytes arrays others h)

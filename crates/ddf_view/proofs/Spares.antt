@@ -7,9 +7,8 @@ use Rattle.ddf_tables.specs.declared.disks.DiskEntry.{DiskEntry}
 use Rattle.ddf_tables.specs.declared.arrays.ArrayEntry.{ArrayEntry}
 use Rattle.ddf_config.specs.declared.member.Member.{Member}
 use Rattle.ddf_config.specs.declared.member.SpareUse.{SpareUse}
-use Rattle.ddf_config.specs.declared.member.SpareUse.TheVariants as uses
-use Rattle.ddf_view.specs.View.{HeldRecord, View, find_held, has_bit}
-use Rattle.ddf_view.specs.Reading.{arrays_in, count_in, dedicated_or_not, elements_in, is_associated, is_dedicated, member_entry_in, names_array, spare_in}
+use Rattle.ddf_view.specs.View.{HeldRecord, View, find_held}
+use Rattle.ddf_view.specs.Reading.{arrays_in, count_in, dedicated_or_not, elements_in, is_associated, is_dedicated, member_entry_in, names_array, spare_in, spare_of_kind}
 use Rattle.ddf_view.specs.Spares.{dedicated_among, entry_with, held_spares, listed_in, member_entry_among, named_by, named_in, counts_own, spare_among, spare_names, spares_of}
 
 -- ---- an array
@@ -77,7 +76,7 @@ dedicated_alike views reference (entry ∷ entries) =
 -- its use
 spare_alike : (views : List View) (disk : DiskEntry) → spare_among (map (spares_of views) (arrays_in views)) disk ≡ spare_in views disk
 unfolding spare_in
-spare_alike views disk = ap (λ (list : List (List ℕ)). cond (has_bit disk.kind.0 2) uses.Global (dedicated_or_not list)) (dedicated_alike views disk.reference (arrays_in views))
+spare_alike views disk = ap (λ (list : List (List ℕ)). spare_of_kind disk.kind.0 (dedicated_or_not list)) (dedicated_alike views disk.reference (arrays_in views))
 
 -- Members are given alike.
 pub members_alike : (views : List View) (disks : List DiskEntry) → map (member_entry_among (map (spares_of views) (arrays_in views))) disks ≡ map (member_entry_in views) disks

@@ -18,7 +18,7 @@ use Rattle.ddf_config_records.specs.declared.place.Place.{Place}
 use Rattle.ddf_config_records.specs.ElementValue.{ElementValue}
 use Rattle.ddf_view.specs.View.{View, HeldRecord, has_bit, find_held}
 use Rattle.ddf_view.specs.Reading.{plan_of}
-use Rattle.ddf_view.specs.Shows.{same_position, same_plan}
+use Rattle.ddf_view.specs.Shows.{same_plan}
 use Rattle.ddf_view.specs.declared.difference.Difference.{Difference}
 use Rattle.ddf_view.specs.declared.difference.Difference.TheVariants as differences
 
@@ -28,10 +28,10 @@ least compare items = reduce (λ best item. min_by_ordering (compare best item) 
 
 -- ---- disks
 
--- The type as it is compared. Of a disk that is being rebuilt bit 3 isn't: there it tells Linux that the disk is being filled, and only
--- the disks that Linux reads have it.
+-- The type as it is compared. Of a disk that is being rebuilt, and is no spare for every array, bit 3 isn't: there it tells Linux that the
+-- disk is being filled, and only the disks that Linux reads have it.
 abbrev pub told_kind : DiskEntry → ℕ
-told_kind disk = if has_bit disk.state.0 2 then bit_and disk.kind.0 0xFFF7 else disk.kind.0
+told_kind disk = if has_bit disk.state.0 2 && not (has_bit disk.kind.0 2) then bit_and disk.kind.0 0xFFF7 else disk.kind.0
 
 abbrev pub same_disk : (ℕ × DiskEntry) → (ℕ × DiskEntry) → Bool
 same_disk one other =
@@ -90,9 +90,9 @@ same_record one other =
     && one.qualifier == other.qualifier && one.elements == other.elements && one.index == other.index && one.secondary == other.secondary
     && one.blocks == other.blocks && one.size == other.size && bytes_eq one.spares other.spares && pointwise same_member_place one.members other.members
 
--- Where both have valid notes, the positions in sync and the rebuild rows are compared too.
+-- Where both have valid notes, the positions in sync, the rebuild rows and the disk that stands in are compared too.
 abbrev pub same_notes : HeldRecord → HeldRecord → Bool
-same_notes one other = is_none one.note || is_none other.note || same_plan same_position (plan_of [] one.note one.element) (plan_of [] other.note other.element)
+same_notes one other = is_none one.note || is_none other.note || same_plan true (plan_of [] one.note one.element) (plan_of [] other.note other.element)
 
 abbrev pub same_held : HeldRecord → HeldRecord → Bool
 same_held one other = same_record one.element other.element && same_notes one other

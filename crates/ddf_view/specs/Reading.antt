@@ -59,6 +59,11 @@ position_of disks note position place = record {
   row = row_of note position;
 }
 
+-- Without notes no disk stands in.
+abbrev pub stand_in_of : Option SlotNote → ℕ
+stand_in_of None = 0
+stand_in_of (Some note) = note.stand_in
+
 -- the element of a record, by the states of the disks and by a note, where there is one
 unfoldable pub plan_of : List DiskEntry → Option SlotNote → ElementValue → ElementPlan
 plan_of disks note element = record {
@@ -66,6 +71,7 @@ plan_of disks note element = record {
   qualifier = element.qualifier;
   strip = element.strip;
   blocks = element.blocks;
+  stand_in = stand_in_of note;
   positions = map (λ pair. position_of disks note pair.0 pair.1) (enumerate_from 0 element.members);
 }
 
@@ -120,11 +126,14 @@ abbrev pub dedicated_or_not : List (List ℕ) → SpareUse
 dedicated_or_not [] = spares.No
 dedicated_or_not (array ∷ arrays) = spares.Dedicated (array ∷ arrays)
 
--- A spare for every array where the type says so (bit 2), else one for the arrays that it is dedicated to, in table order.
+-- A spare for every array where the type says so (bit 2), which gives its place back where bit 3 is set too (profile); else as else.
+abbrev pub spare_of_kind : (kind : ℕ) → (otherwise : SpareUse) → SpareUse
+spare_of_kind kind otherwise = if has_bit kind 2 then (if has_bit kind 3 then spares.Revertible else spares.Global) else otherwise
+
+-- what the type says, and of another disk the arrays that it is dedicated to, in table order
 unfoldable pub spare_in : List View → DiskEntry → SpareUse
 spare_in views disk =
-    if has_bit disk.kind.0 2 then spares.Global
-    else dedicated_or_not (map (λ entry. entry.guid) (filter (is_dedicated views disk.reference) (arrays_in views)))
+    spare_of_kind disk.kind.0 (dedicated_or_not (map (λ entry. entry.guid) (filter (is_dedicated views disk.reference) (arrays_in views))))
 
 -- ---- the configuration
 

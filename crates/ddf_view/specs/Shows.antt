@@ -7,7 +7,6 @@ use Rattle.std.specs.Str.{bytes_eq}
 use Rattle.std.specs.Cmp.Lexicographic.{pointwise}
 use Rattle.ddf_tables.specs.declared.disks.DiskEntry.{DiskEntry}
 use Rattle.ddf_tables.specs.declared.arrays.ArrayEntry.{ArrayEntry}
-use Rattle.ddf_config_records.specs.declared.notes.SlotNote.{SlotNote}
 use Rattle.ddf_config.specs.declared.member.SpareUse.{SpareUse}
 use Rattle.ddf_config.specs.declared.member.SpareUse.TheVariants as spares
 use Rattle.ddf_config.specs.declared.member.Member.{Member}
@@ -30,21 +29,33 @@ same_place one other = one.reference == other.reference && one.start == other.st
 abbrev pub same_position : Position → Position → Bool
 same_position one other = same_place one other && same_flag one.synced other.synced && one.row == other.row
 
--- elements, by a test of their positions
-abbrev pub same_plan : (Position → Position → Bool) → ElementPlan → ElementPlan → Bool
-same_plan same one other =
+-- Without valid notes a record tells nothing of the positions in sync, the rebuild rows and the disk that stands in.
+abbrev pub same_told : (noted : Bool) → Position → Position → Bool
+same_told false = same_place
+same_told true = same_position
+
+-- elements, by what is told of them
+abbrev pub same_plan : (noted : Bool) → ElementPlan → ElementPlan → Bool
+same_plan noted one other =
     one.level == other.level && one.qualifier == other.qualifier && one.strip == other.strip && one.blocks == other.blocks
-    && pointwise same one.positions other.positions
+    && (not noted || one.stand_in == other.stand_in) && pointwise (same_told noted) one.positions other.positions
 
 abbrev pub same_spare : SpareUse → SpareUse → Bool
 same_spare spares.No spares.No = true
 same_spare spares.No spares.Global = false
+same_spare spares.No spares.Revertible = false
 same_spare spares.No (spares.Dedicated others) = false
 same_spare spares.Global spares.No = false
 same_spare spares.Global spares.Global = true
+same_spare spares.Global spares.Revertible = false
 same_spare spares.Global (spares.Dedicated others) = false
+same_spare spares.Revertible spares.No = false
+same_spare spares.Revertible spares.Global = false
+same_spare spares.Revertible spares.Revertible = true
+same_spare spares.Revertible (spares.Dedicated others) = false
 same_spare (spares.Dedicated arrays) spares.No = false
 same_spare (spares.Dedicated arrays) spares.Global = false
+same_spare (spares.Dedicated arrays) spares.Revertible = false
 same_spare (spares.Dedicated arrays) (spares.Dedicated others) = pointwise bytes_eq arrays others
 
 -- ---- what is given
@@ -60,15 +71,10 @@ gives_array array entry =
     bytes_eq array.guid entry.0 && bytes_eq array.name entry.1.name && array.number == entry.1.number && array.state == entry.1.state
     && array.init == entry.1.init
 
--- Without valid notes a record tells nothing of the positions in sync and the rebuild rows.
-abbrev pub same_if_noted : Option SlotNote → Position → Position → Bool
-same_if_noted None = same_place
-same_if_noted (Some note) = same_position
-
 -- A record gives an element.
 abbrev pub gives_element : HeldRecord → Option ElementPlan → Bool
 gives_element held None = false
-gives_element held (Some plan) = same_plan (same_if_noted held.note) (plan_of [] held.note held.element) plan
+gives_element held (Some plan) = same_plan (is_some held.note) (plan_of [] held.note held.element) plan
 
 abbrev pub gives_if_held : List HeldRecord → (array : List ℕ) → (ℕ × Option ElementPlan) → Bool
 gives_if_held elements array pair = option_map_or (λ held. gives_element held pair.1) (find_held array pair.0 elements) true

@@ -6,11 +6,10 @@ use Rattle.std.specs.Str.{bytes_eq}
 use Rattle.ddf_tables.specs.declared.disks.DiskEntry.{DiskEntry}
 use Rattle.ddf_tables.specs.declared.arrays.ArrayEntry.{ArrayEntry}
 use Rattle.ddf_config.specs.declared.member.SpareUse.{SpareUse}
-use Rattle.ddf_config.specs.declared.member.SpareUse.TheVariants as uses
 use Rattle.ddf_config.specs.declared.member.Member.{Member}
 use Rattle.ddf_view.specs.declared.spare_reading.ArraySpares.{ArraySpares}
-use Rattle.ddf_view.specs.View.{View, HeldRecord, has_bit, is_missing, find_held}
-use Rattle.ddf_view.specs.Reading.{are_noted, count_in, dedicated_or_not, elements_in, naming_record}
+use Rattle.ddf_view.specs.View.{View, HeldRecord, is_missing, find_held}
+use Rattle.ddf_view.specs.Reading.{are_noted, count_in, dedicated_or_not, elements_in, naming_record, spare_of_kind}
 
 -- ---- an array
 
@@ -47,7 +46,7 @@ abbrev pub dedicated_among : List ArraySpares → (reference : ℕ) → List (Li
 dedicated_among all reference = flat_map (dedicated_by reference) all
 
 abbrev pub spare_among : List ArraySpares → DiskEntry → SpareUse
-spare_among all disk = if has_bit disk.kind.0 2 then uses.Global else dedicated_or_not (dedicated_among all disk.reference)
+spare_among all disk = spare_of_kind disk.kind.0 (dedicated_or_not (dedicated_among all disk.reference))
 
 abbrev pub member_with : DiskEntry → SpareUse → Member
 member_with disk spare = record { guid = disk.guid; size = disk.size; missing = is_missing disk; spare = spare }

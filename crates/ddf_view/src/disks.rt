@@ -7,11 +7,11 @@ ghost use Rattle.std.specs.Ordering.{nat_cmp};
 ghost use Rattle.ddf_view.specs.View.{find_disk, disk_of};
 ghost use Rattle.ddf_view.specs.Differ.{numbered_disk, same_disk, same_disk_row, disk_differs, least, differing_disks, told_kind};
 
-use crate::flags::is_rebuilding;
+use crate::flags::{is_global, is_rebuilding};
 use ddf_bytes::Guid;
 use ddf_tables::{DiskEntry, DiskRow};
 
-/// The bits of a type that are compared where a disk is being rebuilt: all but that of a spare for some arrays. There it tells Linux
+/// The bits of a type that are compared where a disk is being rebuilt and is no spare for every array: all but that of a spare for some. There it tells Linux
 /// that the disk is being filled, and only the disks that Linux reads have it.
 const TOLD_TYPE: u16 = 0xFFF7;
 
@@ -57,7 +57,7 @@ pub(crate) fn numbered_disk(rows: &[DiskRow], reference: u32) -> Option<(usize, 
 fn told_kind(disk: &DiskEntry) -> u16
     ensures { result ≡ told_kind disk.now }
 {
-    if is_rebuilding(disk.state) {
+    if is_rebuilding(disk.state) && !is_global(disk.kind) {
         disk.kind.0 & TOLD_TYPE
     } else {
         disk.kind.0

@@ -4,7 +4,7 @@ ghost use Rattle.std.specs.Option.{option_copied};
 ghost use Rattle.std.specs.List.{enumerate_from};
 ghost use Rattle.ddf_config_records.specs.Bits.{is_among};
 ghost use Rattle.ddf_view.specs.View.{disk_of};
-ghost use Rattle.ddf_view.specs.Reading.{element_in, elements_in, is_synced, plan_of, position_of, row_of};
+ghost use Rattle.ddf_view.specs.Reading.{element_in, elements_in, is_synced, plan_of, position_of, row_of, stand_in_of};
 
 use crate::View;
 use crate::disks::find_disk;
@@ -82,6 +82,16 @@ fn positions_of(
     positions
 }
 
+/// The disk that stands in, 0 for none: by a note alone.
+fn stand_in_of(note: Option<&SlotNote>) -> u32
+    ensures { result ≡ stand_in_of (option_copied note.entry) }
+{
+    match note {
+        Some(note) => note.stand_in,
+        None => 0,
+    }
+}
+
 /// The element of a record, by the states of the disks and by a note, where there is one.
 #[tactic(auto, unfolding(crate::specs::Reading::plan_of))]
 pub(crate) fn plan_of(rows: &[DiskRow], note: Option<&SlotNote>, element: &Element) -> ElementPlan
@@ -92,6 +102,7 @@ pub(crate) fn plan_of(rows: &[DiskRow], note: Option<&SlotNote>, element: &Eleme
         qualifier: element.qualifier,
         strip: element.strip,
         blocks: element.blocks,
+        stand_in: stand_in_of(note),
         positions: positions_of(rows, note, element.members.as_slice()),
     }
 }

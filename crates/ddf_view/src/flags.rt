@@ -32,10 +32,17 @@ pub fn is_rebuilding(state: DiskState) -> bool
 }
 
 /// Whether the type says that the disk is a spare for every array.
-pub(crate) fn is_global(kind: DiskType) -> bool
+pub fn is_global(kind: DiskType) -> bool
     ensures { result ≡ has_bit kind.0 2 }
 {
     kind.contains(DiskType::GLOBAL_SPARE)
+}
+
+/// Whether the type says that the disk is a spare for some arrays, or, of one for every array, that it gives its place back.
+pub(crate) fn is_spare(kind: DiskType) -> bool
+    ensures { result ≡ has_bit kind.0 3 }
+{
+    kind.contains(DiskType::SPARE)
 }
 
 /// Whether a disk is failed or missing.

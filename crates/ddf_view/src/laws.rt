@@ -1,5 +1,5 @@
 //! Laws of what copies say: functions that do nothing, whose contracts are the laws.
-ghost use Rattle.std.specs.Prelude.{◌≡◌, ◌∷◌, true, List};
+ghost use Rattle.std.specs.Prelude.{◌≡◌, ◌∷◌, false, true, List};
 ghost use Rattle.std.specs.List.{AllByRecursion};
 ghost use Rattle.std.specs.Int.RustNames.{bit_or};
 ghost use Rattle.ddf_tables.specs.DiskFlags.{spare};
@@ -8,7 +8,7 @@ ghost use Rattle.ddf_copy.specs.declared.copy.DiskCopy.{DiskCopy};
 ghost use Rattle.ddf_copy.specs.Shows.{IsSame};
 ghost use Rattle.ddf_copy.specs.Written.{CanBeCopy};
 ghost use Rattle.ddf_config.specs.Configuration.{Configuration};
-ghost use Rattle.ddf_view.specs.View.{View, view_of};
+ghost use Rattle.ddf_view.specs.View.{View, has_bit, view_of};
 ghost use Rattle.ddf_view.specs.Reading.{read, spare_in};
 ghost use Rattle.ddf_view.specs.Shows.{shows, shows_fully};
 ghost use Rattle.ddf_view.specs.Readable.{AreReadable, DoNamesDiffer, HasNotes};
@@ -25,10 +25,10 @@ pub fn names_differ()
     ensures { (copy : DiskCopy) (views : List View) → CanBeCopy copy → DoNamesDiffer (view_of copy ∷ views) }
 {}
 
-/// Bit 3 of the type makes no disk a spare: records alone tell for which arrays a disk stands in. So a disk that has the bit because it
-/// is being filled is no spare.
+/// Bit 3 of the type alone makes no disk a spare: records alone tell for which arrays a disk stands in. So a disk that has the bit because
+/// it is being filled is no spare.
 pub fn a_disk_that_is_being_filled_is_no_spare()
-    ensures { (views : List View) (disk : DiskEntry) → spare_in views (record disk { kind = record { 0 = bit_or disk.kind.0 spare } }) ≡ spare_in views disk }
+    ensures { (views : List View) (disk : DiskEntry) → has_bit disk.kind.0 2 ≡ false → spare_in views (record disk { kind = record { 0 = bit_or disk.kind.0 spare } }) ≡ spare_in views disk }
 {}
 
 /// Views of which the first shows a configuration fully, and the others show it, give it together.

@@ -22,7 +22,7 @@ pub use arrays::array_of;
 pub use difference::Difference;
 pub use differing::first_difference;
 pub use disks::find_disk;
-pub use flags::is_rebuilding;
+pub use flags::{is_global, is_rebuilding};
 pub use held::{HeldRecord, element_of};
 pub use laws::{
     a_disk_that_is_being_filled_is_no_spare, level_copies_have_one_view, names_differ,

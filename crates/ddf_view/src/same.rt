@@ -1,9 +1,9 @@
 //! Elements and records that are the same, field by field.
-ghost use Rattle.std.specs.Prelude.{◌≡◌, ◌==◌, ◌&&◌, length};
+ghost use Rattle.std.specs.Prelude.{◌≡◌, ◌==◌, ◌&&◌, is_some, length};
 ghost use Rattle.std.specs.List.{list_all, zip};
 ghost use Rattle.std.specs.Cmp.Lexicographic.{pointwise};
 ghost use Rattle.std.specs.Option.{option_copied};
-ghost use Rattle.ddf_view.specs.Shows.{same_if_noted, same_place, same_plan, same_position};
+ghost use Rattle.ddf_view.specs.Shows.{same_place, same_plan, same_position};
 ghost use Rattle.ddf_view.specs.Differ.{same_held, same_notes, same_record};
 
 use crate::HeldRecord;
@@ -62,15 +62,18 @@ fn have_same_level(one: &ElementPlan, other: &ElementPlan) -> bool
         && one.blocks == other.blocks
 }
 
-/// Whether two elements are the same. Without notes the positions in sync and the rebuild rows don't count.
+/// Whether two elements are the same. Without notes the positions in sync, the rebuild rows and the disk that stands in don't count.
 pub(crate) fn same_plan(note: Option<&SlotNote>, one: &ElementPlan, other: &ElementPlan) -> bool
-    ensures { result ≡ same_plan (same_if_noted (option_copied note.entry)) one.now other.now }
+    ensures { result ≡ same_plan (is_some (option_copied note.entry)) one.now other.now }
 {
     if !have_same_level(one, other) {
         return false;
     }
     match note {
-        Some(_) => same_positions(one.positions.as_slice(), other.positions.as_slice()),
+        Some(_) => {
+            one.stand_in == other.stand_in
+                && same_positions(one.positions.as_slice(), other.positions.as_slice())
+        }
         None => same_places(one.positions.as_slice(), other.positions.as_slice()),
     }
 }

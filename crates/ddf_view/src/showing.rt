@@ -223,7 +223,7 @@ fn gives_all_elements(view: &View, arrays: &IndexMap<Guid, Array>) -> bool
 
 /// Whether a copy shows a configuration (profile): it is of its group and its sequence, lists its members and arrays in their
 /// order, and each record that it holds gives the configuration's element. Without valid notes it tells nothing of the positions
-/// in sync and the rebuild rows. What disks may stand in for isn't compared.
+/// in sync, the rebuild rows and the disk that stands in. What disks may stand in for isn't compared.
 #[tactic(auto, unfolding(crate::specs::Shows::shows))]
 pub fn shows(view: &View, config: &Config) -> bool
     ensures { result ≡ shows config.now view.now }

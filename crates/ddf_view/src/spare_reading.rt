@@ -1,9 +1,10 @@
 //! What disks may stand in for. The spares of each array are gathered once, so that a disk is looked up by its reference.
 //! docs/FORMAT.md#spare-record
-ghost use Rattle.std.specs.Prelude.{◌≡◌, ◌==◌, ◌&&◌, ◌++◌, not, filter_map, is_some, map, option_map, IfOk, OnOk};
+ghost use Rattle.std.specs.Prelude.{◌≡◌, ◌==◌, ◌&&◌, ◌++◌, not, filter_map, is_some, map, option_map, IfOk, OnOk, if◌then◌else◌};
+ghost use Rattle.ddf_config.specs.declared.member.SpareUse.TheVariants as uses;
 ghost use Rattle.std.specs.Option.{option_to_list};
 ghost use Rattle.std.specs.List.{flat_map, list_any, range_with_len};
-ghost use Rattle.ddf_view.specs.View.{array_of, find_held};
+ghost use Rattle.ddf_view.specs.View.{array_of, find_held, has_bit};
 ghost use Rattle.ddf_view.specs.Reading.{are_noted, dedicated_or_not, elements_in, naming_record};
 ghost use Rattle.ddf_view.specs.Spares.{
   dedicated_among,
@@ -19,11 +20,11 @@ ghost use Rattle.ddf_view.specs.Spares.{
 
 use crate::View;
 use crate::arrays::array_of;
-use crate::flags::is_global;
+use crate::flags::{is_global, is_spare};
 use crate::together::{are_noted, count_in, find_held, naming_record};
 use ddf_bytes::{Guid, NoMemory, Seq};
 use ddf_config::SpareUse;
-use ddf_tables::{ArrayEntry, ArrayRow, DiskEntry};
+use ddf_tables::{ArrayEntry, ArrayRow, DiskEntry, DiskType};
 use std::alloc::Global;
 
 /// An array, and the references of the disks that stand in for it.
@@ -203,6 +204,17 @@ fn dedicated_or_not(arrays: Vec<Guid>) -> SpareUse
     }
 }
 
+/// The use of a spare for every array, by its type.
+fn global_use(kind: DiskType) -> SpareUse
+    ensures { result ≡ (if has_bit kind.0 3 then uses.Revertible else uses.Global) }
+{
+    if is_spare(kind) {
+        SpareUse::Revertible
+    } else {
+        SpareUse::Global
+    }
+}
+
 /// What a disk of the first view may stand in for, by the spares of all arrays.
 ///
 /// # Errors
@@ -215,7 +227,7 @@ pub(crate) fn spare_among(
     ensures { IfOk result (λ spare. spare ≡ spare_among all.now disk.now) }
 {
     if is_global(disk.kind) {
-        return Ok(SpareUse::Global);
+        return Ok(global_use(disk.kind));
     }
     let arrays = dedicated_among(alloc, all, disk.reference)?;
     Ok(dedicated_or_not(arrays))

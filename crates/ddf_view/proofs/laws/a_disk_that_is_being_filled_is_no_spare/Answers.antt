@@ -1,4 +1,4 @@
-use Rattle.std.proofs.Common.{◌≡◌, ◌∙◌, ℕ, Bool, cond, eqb, map, max, ap, arith}
+use Rattle.std.proofs.Common.{◌≡◌, ◌∙◌, ℕ, Bool, cond, eqb, map, max, ap, sym, arith}
 use Rattle.std.proofs.lemmas.Nat.Bits.{bit_at_or}
 use Rattle.std.specs.Prelude.{filter}
 use Rattle.std.specs.Int.{bit_at}
@@ -17,5 +17,7 @@ bit_kept kind = ap (λ (n : ℕ). eqb n 1) (bit_at_or kind spare 2 ∙ max_none 
 
 pub returns : goal.returns
 unfolding spare_in
-returns c = λ views disk.
-    ap (λ (b : Bool). cond b uses.Global (dedicated_or_not (map (λ entry. entry.guid) (filter (is_dedicated views disk.reference) (arrays_in views))))) (bit_kept disk.kind.0)
+returns c = λ views disk other.
+    let otherwise = dedicated_or_not (map (λ entry. entry.guid) (filter (is_dedicated views disk.reference) (arrays_in views))) in
+    ap (λ (b : Bool). cond b (cond (has_bit (bit_or disk.kind.0 spare) 3) uses.Revertible uses.Global) otherwise) (bit_kept disk.kind.0 ∙ other)
+    ∙ sym (ap (λ (b : Bool). cond b (cond (has_bit disk.kind.0 3) uses.Revertible uses.Global) otherwise) other)
