@@ -5,7 +5,8 @@ use Rattle.ddf_array.specs.Volume.{Volume}
 use Rattle.ddf_data_array.specs.Allowed.{Allowed, while_written, once_written, once_consistent}
 use Rattle.ddf_data_array.specs.Changing.{in_sync, noted, with_mark}
 use Rattle.ddf_data_array.specs.Kept.{IsKeptData}
-use Rattle.ddf_data_array.specs.History.{Moment, Keeps, IsOther, IsLess, IsUnmarked, IsCounted, IsWriting, IsWritten, IsResyncing, IsRebuilding, IsNoted, IsFinished, IsStep, IsHistory}
+use Rattle.ddf_data_array.specs.Moved.{moved}
+use Rattle.ddf_data_array.specs.History.{Moment, Keeps, IsOther, IsLess, IsUnmarked, IsCounted, IsWriting, IsWritten, IsResyncing, IsRebuilding, IsNoted, IsFinished, IsReturned, IsStep, IsHistory}
 use Rattle.ddf_data_array.proofs.Same.{kept_same}
 use Rattle.ddf_data_array.proofs.LessRows.{kept_less}
 use Rattle.ddf_data_array.proofs.Consistent.{kept_consistent, kept_unmarked}
@@ -13,6 +14,7 @@ use Rattle.ddf_data_array.proofs.Written.{kept_once, kept_while}
 use Rattle.ddf_data_array.proofs.Resynced.{kept_rebuilding, kept_resyncing}
 use Rattle.ddf_data_array.proofs.FinishedRows.{kept_finished}
 use Rattle.ddf_data_array.proofs.Noted.{kept_noted}
+use Rattle.ddf_data_array.proofs.MovedKept.{kept_moved}
 
 -- the same by equal parts
 transported : (absent absent' : ℕ → ℕ → Bool) (v v' : Volume) (image image' : Image) (allowed allowed' : Allowed) → absent' ≡ absent → v' ≡ v → image' ≡ image → allowed' ≡ allowed
@@ -71,10 +73,15 @@ module _ (old new : Moment) (kept : Keeps old) where
       transported old.is_absent new.is_absent (in_sync is.element is.position old.volume) new.volume old.image new.image old.allowed new.allowed is.same_absent is.is_synced is.same_image is.same_allowed
       (kept_finished old.is_absent old.volume old.image old.allowed is.element is.position is.is_volume is.unmarked is.within is.target is.all_read is.first is.rebuilt kept)
 
+  by_returned : IsReturned old new → Keeps new
+  by_returned is =
+      transported old.is_absent new.is_absent (moved is.element is.position is.slot is.start old.volume) new.volume old.image new.image old.allowed new.allowed is.same_absent is.is_moved is.same_image is.same_allowed
+      (kept_moved old.volume is.is_volume old.image is.element is.position is.slot is.start is.same old.is_absent old.allowed kept)
+
   pub by_step : IsStep old new → Keeps new
   by_step step =
-      ⊎_elim (λ a. by_other a) (λ b. ⊎_elim (λ a. by_less a) (λ b. ⊎_elim (λ a. by_unmarked a) (λ b. ⊎_elim (λ a. by_counted a) (λ b. ⊎_elim (λ a. by_writing a) (λ b. ⊎_elim (λ a. by_written a)
-      (λ b. ⊎_elim (λ a. by_resyncing a) (λ b. ⊎_elim (λ a. by_rebuilding a) (λ b. ⊎_elim (λ a. by_noted a) (λ a. by_finished a) b) b) b) b) b) b) b) b) step
+      ⊎_elim (λ a. by_other a) (λ b. ⊎_elim (λ a. by_less a) (λ b. ⊎_elim (λ a. by_unmarked a) (λ b. ⊎_elim (λ a. by_counted a) (λ b. ⊎_elim (λ a. by_writing a)
+      (λ b. ⊎_elim (λ a. by_written a) (λ b. ⊎_elim (λ a. by_resyncing a) (λ b. ⊎_elim (λ a. by_rebuilding a) (λ b. ⊎_elim (λ a. by_noted a) (λ b. ⊎_elim (λ a. by_finished a) (λ a. by_returned a) b) b) b) b) b) b) b) b) b) step
 
 pub at_every_moment : (start : Moment) (rest : List Moment) → IsHistory start rest → Keeps start → (k : ℕ) (moment : Moment) → slice_get (start ∷ rest) k ≡ Some moment → Keeps moment
 at_every_moment start rest history kept zero moment at = let same : start ≡ moment = cc in subst Keeps same kept

@@ -1,6 +1,6 @@
 -- An array of which a position is in sync again, once its cells hold what they should.
-use Rattle.std.proofs.Common.{◌≡◌, ◌≢◌, ◌∙◌, ◌⊎◌, inl, inr, ⊎_elim, ℕ, zero, suc, ◌+◌, ◌/◌, ◌<◌, ◌≤◌, Bool, true, false, not, List, [], ◌∷◌, ◌++◌, Option, Some, None, refl, sym, ap, subst, arith, map, length, slice_get, ◌&&◌}
-use Rattle.std.specs.Prelude.{is_some, option_map, option_to_list, unwrap_or, ◌==◌, if◌then◌else◌}
+use Rattle.std.proofs.Common.{◌≡◌, ◌≢◌, ◌∙◌, ◌⊎◌, inl, inr, ⊎_elim, ℕ, zero, suc, ◌+◌, ◌/◌, ◌<◌, ◌≤◌, Bool, true, false, not, List, [], ◌∷◌, Option, Some, None, refl, sym, ap, subst, arith, map, length, slice_get, ◌&&◌}
+use Rattle.std.specs.Prelude.{is_some, unwrap_or, ◌==◌, if◌then◌else◌}
 use Rattle.std.specs.List.{range_with_len}
 use Rattle.std.proofs.lemmas.Bool.{eq-eqb, eqb-true}
 use Rattle.std.proofs.lemmas.List.Sums.{sum_by-cons}
@@ -19,10 +19,10 @@ use Rattle.ddf_array.specs.Levels.{keeps_parity}
 use Rattle.ddf_array.specs.Volume.{Volume, IsVolume}
 use Rattle.ddf_array.specs.Cells.{block_spots, spots_like}
 use Rattle.ddf_array.specs.Within.{is_within}
-use Rattle.ddf_array.specs.Sources.{Source, copy, row, other_positions, row_without, every_source}
-use Rattle.ddf_array.specs.Values.{bytes_at, sum_at, given, value}
+use Rattle.ddf_array.specs.Sources.{other_positions, row_without}
+use Rattle.ddf_array.specs.Values.{bytes_at, sum_at, value}
 use Rattle.ddf_array.specs.Redundant.{IsRedundant, whole_row}
-use Rattle.ddf_array.specs.Rows.{block_at, cell_value, row_sum, sources_without_block, value_without_block}
+use Rattle.ddf_array.specs.Rows.{cell_value, row_sum, sources_without_block, value_without_block}
 use Rattle.ddf_array.specs.Sound.{AreSectors}
 use Rattle.ddf_array.proofs.Enough.{only_one, row_there}
 use Rattle.ddf_array.proofs.Losses.{some_value}
@@ -31,12 +31,13 @@ use Rattle.ddf_cells.specs.CellSources.{wanted}
 use Rattle.ddf_cells.proofs.Redundance.{held}
 use Rattle.ddf_rebuild.specs.Target.{IsOut}
 use Rattle.ddf_data_array.specs.Changing.{changed_item, place_in_sync, part_in_sync, in_sync}
-use Rattle.ddf_data_array.proofs.From.{HasCell, made_of, source_to}
+use Rattle.ddf_data_array.proofs.From.{HasCell}
 use Rattle.ddf_data_array.proofs.Fewer.{away}
 use Rattle.ddf_data_array.proofs.Consistent.{cell_below, some_item}
-use Rattle.ddf_data_array.proofs.Totals.{from_others, long_sum, long_zeros, parity_from, total, with_sum}
-use Rattle.ddf_data_array.proofs.Sitting.{block_at_is, held_from}
-use Rattle.ddf_data_array.proofs.Items.{changed_cases, changed_length, lies_at, own_none, site_cases}
+use Rattle.ddf_data_array.proofs.Totals.{from_others, total, with_sum}
+use Rattle.ddf_data_array.proofs.Sitting.{block_at_is}
+use Rattle.ddf_data_array.proofs.Items.{changed_cases, changed_length, lies_at, none_where, own_none, site_cases}
+use Rattle.ddf_data_array.proofs.RowRight.{long_cell, parity_right as right_without}
 
 pub true_false : (b : Bool) → b ≡ true → b ≡ false → ⊥
 true_false b a c = cc
@@ -84,32 +85,6 @@ row_is_there places p own own_at out few sector =
     not_back (is_available place) (only_one (λ (place : Place). not (is_available place)) places few p other own place own_at at (out_by own.synced own.slot out)
     (λ same. true_false (other == p) (eq-eqb other p same) apart)))
 
-long_sites : (image : Image) → AreSectors image → (sites : List Site) → length (sum_at image sites) ≡ 512
-long_sites image are sites = ap (λ l. length (xor_all l)) (sym (bytes sites)) ∙ long_sum (byte sites) (long_byte sites) (range_with_len 0 (length sites))
-  where
-    byte : List Site → ℕ → List ℕ
-    byte [] k = zeros
-    byte (one ∷ sites) zero = bytes_at image one
-    byte (one ∷ sites) (suc k) = byte sites k
-
-    long_byte : (sites : List Site) (k : ℕ) → length (byte sites k) ≡ 512
-    long_byte [] k = long_zeros
-    long_byte (one ∷ sites) zero = are one.slot one.lba
-    long_byte (one ∷ sites) (suc k) = long_byte sites k
-
-    shifted : (f g : ℕ → List ℕ) (a n : ℕ) → ((k : ℕ) → f (suc k) ≡ g k) → map f (range_with_len (a + 1) n) ≡ map g (range_with_len a n)
-    shifted f g a zero same = refl
-    shifted f g a (suc n) same =
-        ap (λ l. l ∷ map f (range_with_len (a + 1 + 1) n)) (ap f (let e : a + 1 ≡ suc a = omega arith in e) ∙ same a) ∙ ap (λ l. g a ∷ l) (shifted f g (a + 1) n same)
-
-    bytes : (sites : List Site) → map (byte sites) (range_with_len 0 (length sites)) ≡ map (bytes_at image) sites
-    bytes [] = refl
-    bytes (one ∷ sites) = ap (λ l. bytes_at image one ∷ l) (shifted (byte (one ∷ sites)) (byte sites) 0 (length sites) (λ k. refl) ∙ bytes sites)
-
-pub same_site : (o : Option Site) (one other : Site) → o ≡ Some one → o ≡ Some other → one ≡ other
-same_site None one other a b = absurd (cc)
-same_site (Some x) one other a b = cc
-
 -- ---- the array
 
 module _ (v : Volume) (known : IsVolume v) (image : Image) (are : AreSectors image) (is : IsRedundant v image) (within : is_within v ≡ true) (e p : ℕ) (target : IsOut v e p) where
@@ -147,16 +122,6 @@ module _ (v : Volume) (known : IsVolume v) (image : Image) (are : AreSectors ima
       ∙ ap (λ (o : Option ℕ). Some (elim o [ None ↦ value_without_block image (sources_without_block has.part has.cell.0 has.cell.1) | Some block ↦ unwrap_or (value v image block) zeros ]))
       (sym (block_at_is v known block has))
 
-  long_value : (o : Option Source) → length (unwrap_or (option_map (given image) o) zeros) ≡ 512
-  long_value None = long_zeros
-  long_value (Some (copy one)) = are one.slot one.lba
-  long_value (Some (row sites)) = long_sites image are sites
-
-  long_without : (l : List Source) → length (value_without_block image l) ≡ 512
-  long_without [] = long_zeros
-  long_without (copy one ∷ l) = are one.slot one.lba
-  long_without (row sites ∷ l) = long_sites image are sites
-
   -- ---- the rows of the element
 
   module _ (sector : ℕ) (deep : sector < depth_of target.part.shape) where
@@ -169,35 +134,11 @@ module _ (v : Volume) (known : IsVolume v) (image : Image) (are : AreSectors ima
     abbrev sum : List ℕ
     sum = row_sum v image e target.part sector
 
-    long_cell : (q : ℕ) → length (cell q) ≡ 512
-    long_cell q = by (block_at v e q sector)
-      where
-        by : (o : Option ℕ) → length {A = ℕ} (elim o [ None ↦ value_without_block image (sources_without_block target.part q sector) | Some block ↦ unwrap_or (value v image block) zeros ]) ≡ 512
-        by None = long_without (sources_without_block target.part q sector)
-        by (Some block) = long_value (slice_get (every_source v block) 0)
+    long_own : (q : ℕ) → length (cell q) ≡ 512
+    long_own q = long_cell v image are e target.part sector q
 
     pub count_is : length target.part.places ≡ target.part.shape.members
     count_is = (known.are_parts e target.part target.is_target.is_part).has_places
-
-    -- the target's cell of a row that is there without it
-    target_by : (sites : List Site) → keeps_parity target.part.shape.layout ≡ true → row_without target.part.places p sector ≡ Some sites → (o : Option ℕ) → block_at v e p sector ≡ o
-        → ◌≡◌ {A = List ℕ} (elim o [ None ↦ value_without_block image (sources_without_block target.part p sector) | Some block ↦ unwrap_or (value v image block) zeros ]) (sum_at image sites)
-    target_by sites parity at None found =
-        own_by (site_at target.part.places p sector) refl
-      where
-        own_by : (o : Option Site) → site_at target.part.places p sector ≡ o
-            → value_without_block image (map copy (option_to_list o) ++ (if keeps_parity target.part.shape.layout then map row (option_to_list (row_without target.part.places p sector)) else [])) ≡ sum_at image sites
-        own_by (Some one) there = absurd (own_none target.part.places p target.place target.is_target.is_place target.is_target.is_out sector one there)
-        own_by None there =
-            ap (λ (b : Bool). value_without_block image (if b then map row (option_to_list (row_without target.part.places p sector)) else [])) parity
-            ∙ ap (λ (o : Option (List Site)). value_without_block image (map row (option_to_list o))) at
-    target_by sites parity at (Some block) found =
-        let found_cell = held_from v known e target.part p sector block target.is_target.is_part found in
-        let gives : row_without found_cell.has.part.places found_cell.has.cell.0 found_cell.has.cell.1 ≡ Some sites =
-        ap (λ (c : ℕ × ℕ). row_without found_cell.has.part.places c.0 c.1) found_cell.same_cell ∙ ap (λ (q : Part). row_without q.places p sector) found_cell.same_part ∙ at in
-        let from = made_of v block (row sites) found_cell.has (ap (λ (q : Part). keeps_parity q.shape.layout) found_cell.same_part ∙ parity, gives) in
-        let there = source_to v block (row sites) from in
-        ap (λ (o : Option (List ℕ)). unwrap_or o zeros) (is.agree block there.0 (row sites) there.1)
 
     module _ (par : ℕ) (par_is : parity_member target.part.shape number ≡ Some par) where
       keeps_it : keeps_parity target.part.shape.layout ≡ true
@@ -212,22 +153,11 @@ module _ (v : Volume) (known : IsVolume v) (image : Image) (are : AreSectors ima
       p_below : p < target.part.shape.members
       p_below = subst (λ (n : ℕ). p < n) count_is (slice_get_within target.part.places p target.place target.is_target.is_place)
 
-      -- what each available position holds, with the parity's as it is
-      holds_by : (own : List ℕ) → ((one : Site) → site_at target.part.places par sector ≡ Some one → bytes_at image one ≡ own) → (q : ℕ) (one : Site) → site_at target.part.places q sector ≡ Some one
-          → (b : Bool) → (par == q) ≡ b → (if b then own else cell q) ≡ bytes_at image one
-      holds_by own right q one at true same = sym (right one (ap (λ (n : ℕ). site_at target.part.places n sector) (eqb-true par q same) ∙ at))
-      holds_by own right q one at false same = cell_value_is v image is e target.part target.is_target.is_part q sector one at
-
       -- the parity of a row of which the target alone lacks is the row's sum
       pub parity_right : (sites : List Site) → row_without target.part.places p sector ≡ Some sites → par ≢ p → (one : Site) → site_at target.part.places par sector ≡ Some one → bytes_at image one ≡ sum
       parity_right sites there apart one at =
-          let own = bytes_at image one in
-          let right : (other : Site) → site_at target.part.places par sector ≡ Some other → bytes_at image other ≡ own = λ other is_at. ap (bytes_at image) (same_site (site_at target.part.places par sector) other one is_at at) in
-          let by_sites : map (with_sum own cell par) (other_positions (length target.part.places) p) ≡ map (bytes_at image) sites =
-          held image (λ q. site_at target.part.places q sector) (with_sum own cell par) (λ q site is_at. holds_by own right q site is_at (par == q) refl) (other_positions (length target.part.places) p) sites there in
-          let own_cell : cell p ≡ xor_all (map (with_sum own cell par) (other_positions target.part.shape.members p)) =
-          target_by sites keeps_it there (block_at v e p sector) refl ∙ ap xor_all (sym by_sites) ∙ ap (λ (n : ℕ). xor_all (map (with_sum own cell par) (other_positions n p))) count_is in
-          parity_from cell long_cell target.part.shape.members par par_below target.part.shape.layout number par_is own p (are one.slot one.lba) p_below (λ same. apart (sym same)) own_cell
+          right_without v known image are is e target.part target.is_target.is_part p sector
+          (none_where (site_at target.part.places p sector) (own_none target.part.places p target.place target.is_target.is_place target.is_target.is_out sector)) par par_is p_below sites there one at
 
       -- ---- once the target's cells hold what they should
 
@@ -255,7 +185,7 @@ module _ (v : Volume) (known : IsVolume v) (image : Image) (are : AreSectors ima
         -- what a row gives of a cell
         pub row_gives : (q : ℕ) → q < target.part.shape.members → (sites : List Site) → row_without new.places q sector ≡ Some sites → with_sum sum cell par q ≡ sum_at image sites
         row_gives q below sites at =
-            from_others cell long_cell target.part.shape.members par par_below target.part.shape.layout number par_is q below
+            from_others cell long_own target.part.shape.members par par_below target.part.shape.layout number par_is q below
             ∙ ap (λ (n : ℕ). xor_all (map (with_sum sum cell par) (other_positions n q))) (sym count_now)
             ∙ ap xor_all (held image (λ other. site_at new.places other sector) (with_sum sum cell par) holds_now (other_positions (length new.places) q) sites at)
 
@@ -263,4 +193,4 @@ module _ (v : Volume) (known : IsVolume v) (image : Image) (are : AreSectors ima
         whole_zero sites at =
             ap xor_all (sym (held image (λ other. site_at new.places other sector) (with_sum sum cell par) holds_now (range_with_len 0 (length new.places)) sites at))
             ∙ ap (λ (n : ℕ). xor_all (map (with_sum sum cell par) (range_with_len 0 n))) count_now
-            ∙ total cell long_cell target.part.shape.members par par_below target.part.shape.layout number par_is
+            ∙ total cell long_own target.part.shape.members par par_below target.part.shape.layout number par_is

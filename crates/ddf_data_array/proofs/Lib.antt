@@ -12,12 +12,15 @@ pub mod LessRows
 pub mod Consistent
 pub mod Written
 pub mod Resynced
+pub mod RowRight
 pub mod InSync
 pub mod Finished
 pub mod FinishedRows
 pub mod Noted
-pub mod Given
-pub mod Histories
 pub mod Mapped
+pub mod Idle
 pub mod Moved
 pub mod MovedKept
+pub mod Holding
+pub mod Given
+pub mod Histories

@@ -1,5 +1,5 @@
 -- Lists of which a function gives the same.
-use Rattle.std.proofs.Common.{◌≡◌, ◌∙◌, ℕ, zero, suc, ◌+◌, Bool, not, List, [], ◌∷◌, ◌++◌, Option, Some, None, refl, sym, ap, map, slice_get, ◌&&◌, ◌||◌}
+use Rattle.std.proofs.Common.{◌≡◌, ◌∙◌, ◌⊎◌, inl, inr, ⊎_elim, ℕ, zero, suc, ◌+◌, Bool, not, List, [], ◌∷◌, ◌++◌, Option, Some, None, refl, sym, ap, map, slice_get, ◌&&◌, ◌||◌}
 use Rattle.std.specs.Prelude.{filter_map, option_map, if◌then◌else◌}
 use Rattle.std.specs.List.{cons_option, count_by, flat_map, list_all, list_any}
 use Rattle.std.proofs.lemmas.List.{map-append}
@@ -62,9 +62,11 @@ module _ {Y Z : Type 0} (h : Y → Z) where
   all_cons (Some a) None xs ys first rest = absurd (none-some (h a) (sym first))
   all_cons (Some a) (Some b) xs ys first rest = before_same a b (all_of xs) (all_of ys) (some_is first) rest
 
-  pub all_same : (f g : ℕ → Option Y) (xs : List ℕ) → ((x : ℕ) → option_map h (f x) ≡ option_map h (g x)) → option_map (map h) (all_of (map f xs)) ≡ option_map (map h) (all_of (map g xs))
-  all_same f g [] same = refl
-  all_same f g (x ∷ xs) same = all_cons (f x) (g x) (map f xs) (map g xs) (same x) (all_same f g xs same)
+  -- the same, or else what holds of one of them
+  pub all_or : {P : Type 0} (f g : ℕ → Option Y) (xs : List ℕ) → ((x : ℕ) → (option_map h (f x) ≡ option_map h (g x)) ⊎ P) → (option_map (map h) (all_of (map f xs)) ≡ option_map (map h) (all_of (map g xs))) ⊎ P
+  all_or f g [] same = inl refl
+  all_or f g (x ∷ xs) same =
+      ⊎_elim (λ one. ⊎_elim (λ rest. inl (all_cons (f x) (g x) (map f xs) (map g xs) one rest)) (λ other. inr other) (all_or f g xs same)) (λ other. inr other) (same x)
 
   pub flat_same : {X : Type 0} (f g : X → List Y) (xs : List X) → ((x : X) → map h (f x) ≡ map h (g x)) → map h (flat_map f xs) ≡ map h (flat_map g xs)
   flat_same f g [] same = refl

@@ -1,5 +1,6 @@
 -- An array keeps what it keeps where a position of it lies elsewhere, where the same bytes stand.
 use Rattle.std.proofs.Common.{◌≡◌, ◌∙◌, inl, inr, ⊎_elim, ℕ, ◌/◌, ◌<◌, ◌≤◌, Bool, true, Some, sym, ap, subst, map, slice_get}
+use Rattle.std.proofs.lemmas.Bool.{false≢true}
 use Rattle.ddf_bay.specs.Sectors.{Image}
 use Rattle.ddf_parity.specs.Xor.{xor_all}
 use Rattle.ddf_primary.specs.Placement.{Placement}
@@ -35,7 +36,7 @@ module _ (v : Volume) (known : IsVolume v) (image : Image) (e p slot start : ℕ
     sum_to_zero = λ element sector part sites part_at parity below whole.
         let was = was_of v known image e p slot start is element part part_at in
         let deep : sector < depth_of was.0.shape = subst (λ (s : Placement). sector < depth_of s) was.2.shape_is below in
-        let own = some_of (map (bytes_at image)) (whole_row part sector) (whole_row was.0 sector) (whole_same image part was.0 was.2 sector deep) sites whole in
+        let own = some_of (map (bytes_at image)) (whole_row part sector) (whole_row was.0 sector) (whole_same v image element part was.0 was.2 sector deep) sites whole in
         ap xor_all own.2 ∙ old.sum_to_zero element sector was.0 own.0 was.1 (subst (λ (s : Placement). keeps_parity s.layout ≡ true) was.2.shape_is parity) deep own.1;
   }
 
@@ -43,9 +44,10 @@ module _ (v : Volume) (known : IsVolume v) (image : Image) (e p slot start : ℕ
   parity_now is_absent old element sector position part one part_at lacks none parity below site_is has =
       let was = was_of v known image e p slot start is element part part_at in
       let deep : sector < depth_of was.0.shape = subst (λ (s : Placement). sector < depth_of s) was.2.shape_is below in
-      let own = some_of (bytes_at image) (site_at part.places position sector) (site_at was.0.places position sector) (was.2.sites position sector deep) one site_is in
+      let here = ⊎_elim (λ same. same) (λ idle. absurd (false≢true (sym idle.empty ∙ sym (has_now v known image e p slot start is element part was.0 was.2 sector) ∙ has))) (was.2.sites position sector deep) in
+      let own = some_of (bytes_at image) (site_at part.places position sector) (site_at was.0.places position sector) here one site_is in
       own.2
-      ∙ old element sector position was.0 own.0 was.1 (subst (λ (n : ℕ). 2 ≤ n) (lacks_same image part was.0 was.2) lacks) none
+      ∙ old element sector position was.0 own.0 was.1 (subst (λ (n : ℕ). 2 ≤ n) (lacks_same v image element part was.0 was.2) lacks) none
       (subst (λ (s : Placement). parity_member s (sector / s.strip) ≡ Some position) was.2.shape_is parity) deep own.1 (sym (has_now v known image e p slot start is element part was.0 was.2 sector) ∙ has)
       ∙ sym (sum_now v known image e p slot start is element part was.0 was.2 sector deep)
 
@@ -62,7 +64,7 @@ module _ (v : Volume) (known : IsVolume v) (image : Image) (e p slot start : ℕ
   -- ---- rows that count as rebuilt: the place that moved has none
 
   module _ (f q : ℕ) (part : Part) (place : Place) (on : ℕ) (target : IsTarget now f q part place on) where
-    pub was : (was : Part) × (slice_get v.parts f ≡ Some was) × IsReadAlike image part was
+    pub was : (was : Part) × (slice_get v.parts f ≡ Some was) × IsReadAlike v image f part was
     was = was_of v known image e p slot start is f part target.is_part
 
     pub was_target : IsTarget v f q was.0 place on
@@ -70,7 +72,7 @@ module _ (v : Volume) (known : IsVolume v) (image : Image) (e p slot start : ℕ
 
     pub counts_then : (is_absent : ℕ → ℕ → Bool) → DoRowsCount is_absent f part → DoRowsCount is_absent f was.0
     counts_then is_absent counts parity =
-        ⊎_elim (λ within. inl (sym (within_same image part was.0 was.2) ∙ within)) (λ none. inr none) (counts (subst (λ (s : Placement). keeps_parity s.layout ≡ true) (sym was.2.shape_is) parity))
+        ⊎_elim (λ within. inl (sym (within_same v image f part was.0 was.2) ∙ within)) (λ none. inr none) (counts (subst (λ (s : Placement). keeps_parity s.layout ≡ true) (sym was.2.shape_is) parity))
 
   rebuilt_now : (f q row : ℕ) → HasRebuilt v f q 0 row image image → HasRebuilt now f q 0 row image image
   rebuilt_now f q row old part place on sector target in_rows =

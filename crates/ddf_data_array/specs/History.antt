@@ -14,6 +14,7 @@ use Rattle.ddf_data_array.specs.Allowed.{Allowed, while_written, once_written, o
 use Rattle.ddf_data_array.specs.Changing.{IsConsistentNow, IsRebuilt, IsWritable, ValuesMay, in_sync, noted, with_mark}
 use Rattle.ddf_data_array.specs.Fewer.{IsFewer, LeavesParity, LeavesRows}
 use Rattle.ddf_data_array.specs.Kept.{IsKeptData}
+use Rattle.ddf_data_array.specs.Moved.{HoldsTheSame, moved}
 use Rattle.ddf_data_array.specs.Rows.{AreAlikeThroughout, AreRowsKept, GoesOnBehind, IsFirstOut, NoneAbsent}
 
 -- One image of those that a stop may leave at a moment, the array as its configuration and the disks that aren't lost give it, and the bytes
@@ -139,10 +140,23 @@ pub record IsFinished (old new : Moment) : Type 0 where
   pub rebuilt : IsRebuilt old.volume element position old.image
   pub is_synced : new.volume ≡ in_sync element position old.volume
 
+-- a position lies elsewhere, where the same bytes stand
+pub record IsReturned (old new : Moment) : Type 0 where
+  pub same_image : new.image ≡ old.image
+  pub same_allowed : new.allowed ≡ old.allowed
+  pub same_absent : new.is_absent ≡ old.is_absent
+  pub is_volume : IsVolume old.volume
+  pub element : ℕ
+  pub position : ℕ
+  pub slot : ℕ
+  pub start : ℕ
+  pub same : HoldsTheSame old.volume old.image element position slot start
+  pub is_moved : new.volume ≡ moved element position slot start old.volume
+
 abbrev pub IsStep : Moment → Moment → Type 0
 IsStep old new =
     IsOther old new ⊎ IsLess old new ⊎ IsUnmarked old new ⊎ IsCounted old new ⊎ IsWriting old new ⊎ IsWritten old new ⊎ IsResyncing old new ⊎ IsRebuilding old new
-    ⊎ IsNoted old new ⊎ IsFinished old new
+    ⊎ IsNoted old new ⊎ IsFinished old new ⊎ IsReturned old new
 
 -- each moment follows the one before it
 abbrev pub IsHistory : Moment → List Moment → Type 0

@@ -1,18 +1,23 @@
 //! Laws of what arrays keep: functions that do nothing, whose contracts are the laws.
-ghost use Rattle.std.specs.Prelude.{◌≡◌, ◌⊎◌, ℕ, Bool, true, false, List, ◌∷◌, Some, slice_get};
+ghost use Rattle.std.specs.Prelude.{◌≡◌, ◌⊎◌, ◌+◌, ◌<◌, ℕ, Bool, true, false, List, ◌∷◌, Some, slice_get};
 ghost use Rattle.ddf_bytes.specs.Counts.{Rose};
 ghost use Rattle.ddf_bay.specs.Sectors.{Image};
+ghost use Rattle.ddf_primary.specs.Cells.{depth_of};
+ghost use Rattle.ddf_array.specs.declared.part.Part.{Part};
+ghost use Rattle.ddf_array.specs.declared.place.Place.{Place};
 ghost use Rattle.ddf_array.specs.Apart.{IsApart};
 ghost use Rattle.ddf_array.specs.Redundant.{IsRedundant};
-ghost use Rattle.ddf_array.specs.Sound.{AreSectors};
+ghost use Rattle.ddf_array.specs.Sound.{AreSectors, IsSound};
 ghost use Rattle.ddf_array.specs.Sources.{sources};
 ghost use Rattle.ddf_array.specs.Volume.{Volume, IsVolume};
 ghost use Rattle.ddf_array.specs.Within.{is_redundant, is_within};
 ghost use Rattle.ddf_read.specs.Reading.{IsGivenBy};
+ghost use Rattle.ddf_cells.specs.CellSources.{wanted};
 ghost use Rattle.ddf_cells.specs.Degraded.{is_degraded};
 ghost use Rattle.ddf_cells.specs.Writing.{StaysBut};
 ghost use Rattle.ddf_write.specs.Writing.{HasWritten, IsLeftByWrite};
 ghost use Rattle.ddf_resync.specs.Resyncing.{MayResync};
+ghost use Rattle.ddf_rebuild.specs.Filling.{HoldsWanted};
 ghost use Rattle.ddf_rebuild.specs.Rebuilding.{HasRebuilt};
 ghost use Rattle.ddf_rebuild.specs.Target.{IsOut, IsTargetCell};
 ghost use Rattle.ddf_data_array.specs.Allowed.{Allowed, May, any_bytes, while_written, once_written, once_consistent};
@@ -20,7 +25,7 @@ ghost use Rattle.ddf_data_array.specs.Changing.{HaveCells, IsConsistentNow, IsRe
 ghost use Rattle.ddf_data_array.specs.Fewer.{IsFewer, LeavesParity, LeavesRows};
 ghost use Rattle.ddf_data_array.specs.History.{Moment, Keeps, IsHistory};
 ghost use Rattle.ddf_data_array.specs.Kept.{IsKeptData};
-ghost use Rattle.ddf_data_array.specs.Moved.{HoldsTheSame, moved};
+ghost use Rattle.ddf_data_array.specs.Moved.{HoldsTheSame, IsIdleParity, moved};
 ghost use Rattle.ddf_data_array.specs.Rows.{AreAlikeThroughout, AreRowsKept, GoesOnBehind, HasNoRows, IsFirstOut, NoneAbsent};
 
 /// What other sectors hold, as those of records, changes nothing of what an array keeps.
@@ -37,11 +42,24 @@ pub fn fewer_places_change_nothing()
         → IsKeptData absent_before before image allowed → IsKeptData absent_after after image allowed }
 {}
 
-/// A position that lies elsewhere, where the same bytes stand, changes nothing of what an array keeps.
+/// A position that lies elsewhere, where the same bytes stand, changes nothing of what an array keeps. Parity that tells nothing may differ.
 pub fn a_place_that_moves_changes_nothing()
     ensures { (is_absent : ℕ → ℕ → Bool) (volume : Volume) (image : Image) (allowed : Allowed) (element position slot start : ℕ) → IsVolume volume
         → HoldsTheSame volume image element position slot start → IsKeptData is_absent volume image allowed
         → IsKeptData is_absent (moved element position slot start volume) image allowed }
+{}
+
+/// An available position of an array that is sound, unmarked and within its level holds what it should, but for parity that tells nothing, where no disk
+/// of this element is lacking that a current member has. So an extent that was filled with what the position should hold holds what it holds.
+pub fn an_available_position_holds_what_it_should()
+    ensures holds { (is_absent : ℕ → ℕ → Bool) (volume : Volume) (image : Image) (element position sector slot : ℕ) (part : Part) (place : Place) → IsVolume volume
+        → volume.marked ≡ false → is_within volume ≡ true → NoneAbsent is_absent element → IsSound is_absent volume image
+        → slice_get volume.parts element ≡ Some part → slice_get part.places position ≡ Some place → place.synced ≡ true → place.slot ≡ Some slot
+        → sector < depth_of part.shape → (image slot (place.start + sector) ≡ wanted volume image element part sector position) ⊎ IsIdleParity volume element part position sector }
+    ensures filled { (is_absent : ℕ → ℕ → Bool) (volume : Volume) (image : Image) (element position slot start old : ℕ) (part : Part) (place : Place) → IsVolume volume
+        → volume.marked ≡ false → is_within volume ≡ true → NoneAbsent is_absent element → IsSound is_absent volume image
+        → slice_get volume.parts element ≡ Some part → slice_get part.places position ≡ Some place → place.synced ≡ true → place.slot ≡ Some old
+        → HoldsWanted volume element position slot start image image → HoldsTheSame volume image element position slot start }
 {}
 
 /// The mark of an array may be cleared once it is consistent, each block's value is one that the block may have, and the rows that count as rebuilt

@@ -69,7 +69,7 @@ module _ (v : Volume) (apart : IsApart v) (aim : Aim) (aims : IsAim v aim) where
       true_not_false (sym of.is_synced ∙ ap (λ (p : Place). p.synced) (sym looked.1) ∙ aims.is_target.is_out)
 
   -- so it lies aside
-  pub aside : (sizes : List ℕ) → Fits sizes v → IsVolume v → IsAside sizes v aim
+  pub aside : (sizes : List ℕ) → Fits sizes v → IsVolume v → IsAside sizes v aim.element aim.slot aim.start
   aside sizes fits known = record {
     part = aims.part;
     is_part = aims.is_target.is_part;
@@ -80,7 +80,7 @@ module _ (v : Volume) (apart : IsApart v) (aim : Aim) (aims : IsAim v aim) where
   }
 
 -- images that differ alone where something is filled aside are the same to the array
-pub alike_but : (sizes : List ℕ) (v : Volume) (aim : Aim) (is_aside : IsAside sizes v aim) (from end : ℕ) → end ≤ depth_of is_aside.part.shape → (a b : Image)
+pub alike_but : (sizes : List ℕ) (v : Volume) (aim : Aim) (is_aside : IsAside sizes v aim.element aim.slot aim.start) (from end : ℕ) → end ≤ depth_of is_aside.part.shape → (a b : Image)
     → StaysBut (IsAmongSectors aim.slot (aim.start + from) (end - from)) a b → AreAlike v a b
 alike_but sizes v aim is_aside from end deep a b stays slot lba is =
     ⊎_elim (λ same. sym same)

@@ -49,13 +49,13 @@ pub record IsTargetCell (volume : Volume) (element position from to slot lba : �
 
 -- What is filled lies aside: it is an extent as long as those of its element, within a slot of these sizes, and no available position of the
 -- array has a sector of it.
-pub record IsAside (sizes : List ℕ) (volume : Volume) (aim : Aim) : Type 0 where
+pub record IsAside (sizes : List ℕ) (volume : Volume) (element slot start : ℕ) : Type 0 where
   pub part : Part
-  pub is_part : slice_get volume.parts aim.element ≡ Some part
-  pub on_slot : aim.slot < length sizes
-  pub within : aim.start + part.shape.blocks ≤ slice_index sizes aim.slot
-  pub small : aim.start + part.shape.blocks < 2 ^ 64
-  pub apart : (sector : ℕ) → sector < part.shape.blocks → IsCell volume aim.slot (aim.start + sector) → ⊥
+  pub is_part : slice_get volume.parts element ≡ Some part
+  pub on_slot : slot < length sizes
+  pub within : start + part.shape.blocks ≤ slice_index sizes slot
+  pub small : start + part.shape.blocks < 2 ^ 64
+  pub apart : (sector : ℕ) → sector < part.shape.blocks → IsCell volume slot (start + sector) → ⊥
 
 -- what a rebuild aims at is a position that can be rebuilt, as it lies
 pub record IsAim (volume : Volume) (aim : Aim) : Type 0 where

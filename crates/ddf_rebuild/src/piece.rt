@@ -32,7 +32,7 @@ pub(crate) fn rebuild_piece<B: Bay>(
     requires readable { IsReadable view.now }
     requires some { 0 < count }
     requires few { count ≤ 32 }
-    requires aside { IsAside (B.disks bay.old).sizes view.now aim }
+    requires aside { IsAside (B.disks bay.old).sizes view.now aim.element aim.slot aim.start }
     requires sectors { (part : Part) → slice_get view.now.parts aim.element ≡ Some part → sector + count ≤ depth_of part.shape }
     requires row { (part : Part) → slice_get view.now.parts aim.element ≡ Some part → IsInOneRow part sector count }
     ensures written { B.tells → OnOk result (IsSure view.now (B.disks bay.old) (B.disks bay.new) → (part : Part) → slice_get view.now.parts aim.element ≡ Some part → (k : ℕ) → k < count

@@ -37,7 +37,7 @@ fn rebuild_sectors<B: Bay>(
     requires known { IsVolume view.now }
     requires fits { Fits (B.disks bay.old).sizes view.now }
     requires readable { IsReadable view.now }
-    requires aside { IsAside (B.disks bay.old).sizes view.now aim }
+    requires aside { IsAside (B.disks bay.old).sizes view.now aim.element aim.slot aim.start }
     requires order { from ≤ end }
     requires sectors { (part : Part) → slice_get view.now.parts aim.element ≡ Some part → end ≤ depth_of part.shape }
     ensures rebuilt { B.tells → OnOk result (IsSure view.now (B.disks bay.old) (B.disks bay.new)
@@ -63,7 +63,7 @@ fn rebuild_sectors<B: Bay>(
 
 /// Fills the aim's sectors from one on, up to an end, and makes them sure. After a failure, the aim's slot, if a write or the
 /// sync failed, or one at which no source is left.
-fn rebuild_surely<B: Bay>(
+pub(crate) fn rebuild_surely<B: Bay>(
     bay: &mut B,
     view: &View,
     aim: Aim,
@@ -73,7 +73,7 @@ fn rebuild_surely<B: Bay>(
     requires known { IsVolume view.now }
     requires fits { Fits (B.disks bay.old).sizes view.now }
     requires readable { IsReadable view.now }
-    requires aside { IsAside (B.disks bay.old).sizes view.now aim }
+    requires aside { IsAside (B.disks bay.old).sizes view.now aim.element aim.slot aim.start }
     requires order { from ≤ end }
     requires sectors { (part : Part) → slice_get view.now.parts aim.element ≡ Some part → end ≤ depth_of part.shape }
     ensures rebuilt { B.tells → OnOk result (IsSure view.now (B.disks bay.old) (B.disks bay.new)
@@ -117,7 +117,8 @@ fn aim_at(view: &View, target: &Target) -> Aim
     }
 }
 
-/// How many rows of strips an element has, a last part strip among them: what a rebuild of a position counts to.
+/// How many rows an element has, a last part of one among them (a row of RAID 1E has two strips): what a rebuild of a
+/// position counts to.
 pub fn row_count(part: &Part) -> u64
     requires { IsPart part.now }
     ensures { result ≡ row_count part.now.shape }
@@ -145,9 +146,9 @@ fn sectors_between(part: &Part, from: u64, to: u64) -> (u64, u64)
 /// values of blocks, and the exclusive-or of the values of a row's data cells where the position holds parity. A cell that
 /// holds no block gets what the others of its row give where the element keeps parity and these are available, else zeros
 /// (profile). Where reads fail, a cell is taken from the first of its sources that can be read: each source before that one
-/// has a slot of which a read failed in this call. A row is one of strips of the element, and a last part strip is a row of
-/// its own. Nothing else is written, and the position stays out of sync: what it holds counts only once the configuration
-/// says so.
+/// has a slot of which a read failed in this call. A row is one of strips of the element, in RAID 1E one of two strips,
+/// and a last part of one is a row of its own. Nothing else is written, and the position stays out of sync: what it holds
+/// counts only once the configuration says so.
 ///
 /// # Errors
 /// `Lost` where the array isn't within its level, and then nothing is read or written. `Disk` where a write or the sync of

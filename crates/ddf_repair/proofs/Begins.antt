@@ -98,7 +98,7 @@ is_start : (taken : List (ℕ × ℕ)) (limit strip blocks start : ℕ) → leas
 unfolding least_start_of
 is_start taken limit strip blocks start e = found_passes (is_free taken limit blocks) (multiples strip limit) start e
 
-free_on : (members : List (ℕ × Member)) (all : List Extent) (seats : List Seat) (strip blocks reference : ℕ) (found : Extent) → extent_on members all seats strip blocks reference ≡ Some found → IsFreeOn members all seats reference blocks found
+pub free_on : (members : List (ℕ × Member)) (all : List Extent) (seats : List Seat) (strip blocks reference : ℕ) (found : Extent) → extent_on members all seats strip blocks reference ≡ Some found → IsFreeOn members all seats reference blocks found
 free_on members all seats strip blocks reference found h = at_member (lookup (nat_eq reference) members) refl h
   where
     at_start : (member : Member) (floor : ℕ) → lookup (nat_eq reference) members ≡ Some member → floor_of seats reference ≡ Some floor → (start : Option ℕ) → least_start_of (taken_on all reference) (min member.size floor) strip blocks ≡ start

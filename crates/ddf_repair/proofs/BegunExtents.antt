@@ -17,6 +17,7 @@ use Rattle.ddf_config.specs.Members.{same_guid}
 use Rattle.ddf_plan.specs.declared.change.Change.{Change}
 use Rattle.ddf_plan.specs.declared.change.Change.TheVariants.{Begin}
 use Rattle.ddf_plan.specs.Rebuild.{element_at, new_position}
+use Rattle.ddf_plan.specs.Standing.{takes_revertible}
 use Rattle.ddf_plan.specs.Arrays.{element_after, named_after, part_after, position_after}
 use Rattle.ddf_repair.proofs.Replaced.{IsReplaced, behind, front, here, same}
 use Rattle.ddf_repair.proofs.Usable.{one_after}
@@ -55,37 +56,37 @@ module _ (guid : List ℕ) (element position reference start : ℕ) where
 
   -- ---- elements
 
-  later_parts : (n : ℕ) (parts : List (Option ElementValue)) → element < n → flat_map part_extents (map (part_after change element) (enumerate_from n parts)) ≡ flat_map part_extents parts
-  later_parts n [] less = refl
-  later_parts n (part ∷ parts) less =
-      ap (λ (b : Bool). part_extents (if b then option_map (element_after change) part else part) ++ flat_map part_extents (map (part_after change element) (enumerate_from (n + 1) parts))) (less_test element n less)
-      ∙ ap (λ rest. part_extents part ++ rest) (later_parts (n + 1) parts (omega (arith, less)))
+  later_parts : (revertible : Bool) (n : ℕ) (parts : List (Option ElementValue)) → element < n → flat_map part_extents (map (part_after revertible change element) (enumerate_from n parts)) ≡ flat_map part_extents parts
+  later_parts revertible n [] less = refl
+  later_parts revertible n (part ∷ parts) less =
+      ap (λ (b : Bool). part_extents (if b then option_map (element_after revertible change) part else part) ++ flat_map part_extents (map (part_after revertible change element) (enumerate_from (n + 1) parts))) (less_test element n less)
+      ∙ ap (λ rest. part_extents part ++ rest) (later_parts revertible (n + 1) parts (omega (arith, less)))
 
-  parts_replaced : (blocks n : ℕ) (parts : List (Option ElementValue)) → ((k : ℕ) (plan : ElementValue) → element ≡ n + k → slice_get parts k ≡ Some (Some plan) → plan.blocks ≡ blocks)
-      → IsReplaced (extent blocks (new_position reference start)) (flat_map part_extents parts) (flat_map part_extents (map (part_after change element) (enumerate_from n parts)))
-  parts_replaced blocks n [] known = same _ _ _ refl
-  parts_replaced blocks n (part ∷ parts) known =
+  parts_replaced : (revertible : Bool) (blocks n : ℕ) (parts : List (Option ElementValue)) → ((k : ℕ) (plan : ElementValue) → element ≡ n + k → slice_get parts k ≡ Some (Some plan) → plan.blocks ≡ blocks)
+      → IsReplaced (extent blocks (new_position reference start)) (flat_map part_extents parts) (flat_map part_extents (map (part_after revertible change element) (enumerate_from n parts)))
+  parts_replaced revertible blocks n [] known = same _ _ _ refl
+  parts_replaced revertible blocks n (part ∷ parts) known =
       by (nat_eq element n) refl
-      (parts_replaced blocks (n + 1) parts (λ k plan number at. known (suc k) plan (omega (arith, number)) at))
+      (parts_replaced revertible blocks (n + 1) parts (λ k plan number at. known (suc k) plan (omega (arith, number)) at))
     where
       at_part : (one : Option ElementValue) → ((plan : ElementValue) → one ≡ Some plan → plan.blocks ≡ blocks)
-          → IsReplaced (extent blocks (new_position reference start)) (part_extents one) (part_extents (option_map (element_after change) one))
+          → IsReplaced (extent blocks (new_position reference start)) (part_extents one) (part_extents (option_map (element_after revertible change) one))
       at_part None same_blocks = same _ _ _ refl
       at_part (Some plan) same_blocks =
-          subst (λ (count : ℕ). IsReplaced (extent count (new_position reference start)) (part_extents (Some plan)) (part_extents (option_map (element_after change) (Some plan)))) (same_blocks plan refl)
+          subst (λ (count : ℕ). IsReplaced (extent count (new_position reference start)) (part_extents (Some plan)) (part_extents (option_map (element_after revertible change) (Some plan)))) (same_blocks plan refl)
           (positions_replaced plan.blocks 0 plan.positions)
 
       by : (b : Bool) → nat_eq element n ≡ b
-          → IsReplaced (extent blocks (new_position reference start)) (flat_map part_extents parts) (flat_map part_extents (map (part_after change element) (enumerate_from (n + 1) parts)))
+          → IsReplaced (extent blocks (new_position reference start)) (flat_map part_extents parts) (flat_map part_extents (map (part_after revertible change element) (enumerate_from (n + 1) parts)))
           → IsReplaced (extent blocks (new_position reference start)) (part_extents part ++ flat_map part_extents parts)
-          (part_extents (if b then option_map (element_after change) part else part) ++ flat_map part_extents (map (part_after change element) (enumerate_from (n + 1) parts)))
+          (part_extents (if b then option_map (element_after revertible change) part else part) ++ flat_map part_extents (map (part_after revertible change element) (enumerate_from (n + 1) parts)))
       by true e rest =
           let number = eqb-true element n e in
-          behind (extent blocks (new_position reference start)) (flat_map part_extents parts) (flat_map part_extents (map (part_after change element) (enumerate_from (n + 1) parts)))
-          (part_extents part) (part_extents (option_map (element_after change) part)) (later_parts (n + 1) parts (omega (arith, number)))
+          behind (extent blocks (new_position reference start)) (flat_map part_extents parts) (flat_map part_extents (map (part_after revertible change element) (enumerate_from (n + 1) parts)))
+          (part_extents part) (part_extents (option_map (element_after revertible change) part)) (later_parts revertible (n + 1) parts (omega (arith, number)))
           (at_part part (λ plan is. known 0 plan (omega (arith, number)) (ap (λ (one : Option ElementValue). Some one) is)))
       by false e rest =
-          front (extent blocks (new_position reference start)) (part_extents part) (flat_map part_extents parts) (flat_map part_extents (map (part_after change element) (enumerate_from (n + 1) parts))) rest
+          front (extent blocks (new_position reference start)) (part_extents part) (flat_map part_extents parts) (flat_map part_extents (map (part_after revertible change element) (enumerate_from (n + 1) parts))) rest
 
   known_blocks : (array : Array) (plan : ElementValue) → element_at array element ≡ Some plan → (k : ℕ) (other : ElementValue) → element ≡ 0 + k → slice_get array.elements k ≡ Some (Some other) → other.blocks ≡ plan.blocks
   known_blocks array plan known k other number at =
@@ -102,15 +103,15 @@ module _ (guid : List ℕ) (element position reference start : ℕ) where
       → IsReplaced (extent plan.blocks (new_position reference start)) (array_extents array) (array_extents (one_after config change all named array))
   array_replaced config all named array plan known = by (same_guid guid named)
     where
-      by : (b : Bool) → IsReplaced (extent plan.blocks (new_position reference start)) (array_extents array) (array_extents (if b then named_after change array else array))
-      by true = parts_replaced plan.blocks 0 array.elements (known_blocks array plan known)
+      by : (b : Bool) → IsReplaced (extent plan.blocks (new_position reference start)) (array_extents array) (array_extents (if b then named_after (takes_revertible config change) change array else array))
+      by true = parts_replaced (takes_revertible config change) plan.blocks 0 array.elements (known_blocks array plan known)
       by false = same _ _ _ refl
 
   others_stay : (config : Configuration) (all : List Extent) (es : List (List ℕ × Array)) → AllByRecursion (λ named. same_guid guid named ≡ false) (keys_of es)
       → extents (changed_entries (λ g a. Some (one_after config change all g a)) es) ≡ extents es
   others_stay config all [] away = refl
   others_stay config all (e ∷ es) away =
-      ap (λ (b : Bool). array_extents (if b then named_after change e.1 else e.1) ++ extents (changed_entries (λ g a. Some (one_after config change all g a)) es)) away.0
+      ap (λ (b : Bool). array_extents (if b then named_after (takes_revertible config change) change e.1 else e.1) ++ extents (changed_entries (λ g a. Some (one_after config change all g a)) es)) away.0
       ∙ ap (λ rest. array_extents e.1 ++ rest) (others_stay config all es away.1)
 
   pub all_replaced : (config : Configuration) (all : List Extent) (es : List (List ℕ × Array)) (array : Array) (plan : ElementValue) → IsDistinct same_guid (keys_of es) → lookup (same_guid guid) es ≡ Some array
@@ -134,5 +135,5 @@ module _ (guid : List ℕ) (element position reference start : ℕ) where
           (array_replaced config all e.0 e.1 plan (ap (λ (one : Array). element_at one element) equal ∙ known))
       by false is found rest =
           subst (λ (own : List Extent). IsReplaced (extent plan.blocks (new_position reference start)) (array_extents e.1 ++ extents es) (own ++ extents (changed_entries (λ g a. Some (one_after config change all g a)) es)))
-          (ap (λ (b : Bool). array_extents (if b then named_after change e.1 else e.1)) (sym is))
+          (ap (λ (b : Bool). array_extents (if b then named_after (takes_revertible config change) change e.1 else e.1)) (sym is))
           (front (extent plan.blocks (new_position reference start)) (array_extents e.1) (extents es) (extents (changed_entries (λ g a. Some (one_after config change all g a)) es)) (rest found))

@@ -26,6 +26,7 @@ use Rattle.ddf_plan.specs.declared.change.Change.{Change}
 use Rattle.ddf_plan.specs.declared.change.Change.TheVariants.{Begin}
 use Rattle.ddf_plan.specs.Rebuild.{element_at, new_position}
 use Rattle.ddf_plan.specs.Members.{members_after}
+use Rattle.ddf_plan.specs.Standing.{takes_revertible}
 use Rattle.ddf_plan.specs.Arrays.{array_after, arrays_after, kept_and_added, named_after}
 use Rattle.ddf_plan.specs.Create.{lies_clear}
 use Rattle.ddf_repair.proofs.Begins.{IsFresh, element_is, extent_is, found_free, placed}
@@ -84,7 +85,7 @@ module _ (config : Configuration) (guid : List ℕ) (element position reference 
   low_all = extents (kept_and_added config change)
 
   begun_table : arrays_after config change ≡ changed_entries (λ g a. Some (one_after config change low_all g a)) config.arrays
-  begun_table = both_changed (λ g. array_with_low (members_after config change) low_all) (array_after (members_after config change) change) config.arrays
+  begun_table = both_changed (λ g. array_with_low (members_after config change) low_all) (array_after (takes_revertible config change) (members_after config change) change) config.arrays
 
   all_is : IsReplaced found (extents config.arrays) (extents (arrays_after config change))
   all_is =
@@ -100,7 +101,7 @@ module _ (config : Configuration) (guid : List ℕ) (element position reference 
           let both : Some array ≡ Some named = sym there ∙ same_lookup (same_guid asked) (same_guid guid) agree config.arrays ∙ is_named in
           let equal : array ≡ named = cc in
           array_replaced guid element position reference start config low_all key array plan (ap (λ (one : Array). element_at one element) equal ∙ known)
-      by false other = same found (array_extents array) (array_extents (one_after config change low_all key array)) (ap (λ (b : Bool). array_extents (if b then named_after change array else array)) other)
+      by false other = same found (array_extents array) (array_extents (one_after config change low_all key array)) (ap (λ (b : Bool). array_extents (if b then named_after (takes_revertible config change) change array else array)) other)
 
   pub begun_usable : (asked : List ℕ) (array : Array) → lookup (same_guid asked) config.arrays ≡ Some array → unusable config.members seats (extents config.arrays) asked array ≡ None
       → (next : Array) × (lookup (same_guid asked) (arrays_after config change) ≡ Some next) × (unusable (members_after config change) seats (extents (arrays_after config change)) asked next ≡ None)

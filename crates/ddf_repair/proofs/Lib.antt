@@ -8,3 +8,4 @@ pub mod Marks
 pub mod Replaced
 pub mod BegunExtents
 pub mod BegunUsable
+pub mod Rooms

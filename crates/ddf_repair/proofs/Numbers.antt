@@ -10,22 +10,24 @@ use Rattle.ddf_secondary.specs.Arrangement.{tiers_of}
 use Rattle.ddf_config.specs.declared.element.Position.{Position}
 use Rattle.ddf_config.specs.declared.array.Array.{Array}
 use Rattle.ddf_config.specs.declared.refusal.Refusal.{Refusal}
-use Rattle.ddf_config.specs.ElementValue.{ElementValue, with_positions}
+use Rattle.ddf_config.specs.ElementValue.{ElementValue, with_disks}
 use Rattle.ddf_config.specs.Levels.{level_refusal, unserved_level}
 use Rattle.ddf_config.specs.Refusals.{first_refusal}
 use Rattle.ddf_config.specs.Shapes.{array_tiers, element_shape, has_shape, has_shapes, has_tiers, part_size, sizes, secondary_level, shape_size, strip_sectors}
 use Rattle.ddf_config.specs.Within.{is_complete}
 use Rattle.ddf_plan.specs.declared.change.Change.{Change}
-use Rattle.ddf_plan.specs.declared.change.Change.TheVariants.{Mark, Unmark, Rewind, Begin, Progress, Finish}
+use Rattle.ddf_plan.specs.declared.change.Change.TheVariants.{Mark, Unmark, Rewind, Begin, Progress, Finish, Return}
+use Rattle.ddf_plan.specs.Standing.{stand_in_after}
 use Rattle.ddf_plan.specs.Mark.{without_row, without_rows}
 use Rattle.ddf_plan.specs.Arrays.{element_after, named_after, part_after, position_after}
 
 -- ---- elements
 
--- The same element with as many other positions.
+-- The same element with as many other positions, and perhaps another disk that stands in.
 pub record IsSame (plan next : ElementValue) : Type 0 where
+  pub stand_in : ℕ
   pub positions : List Position
-  pub is : next ≡ with_positions plan positions
+  pub is : next ≡ with_disks plan stand_in positions
   pub many : length positions ≡ length plan.positions
 
 abbrev pub IsSamePart : Option ElementValue → Option ElementValue → Type 0
@@ -149,26 +151,27 @@ tiers_kept array next keeps =
 without_same : (parts : List (Option ElementValue)) → AreSame parts (map (option_map without_rows) parts)
 without_same [] = tt
 without_same (None ∷ parts) = (tt, without_same parts)
-without_same (Some plan ∷ parts) = (record { positions = map without_row plan.positions; is = refl; many = length-map plan.positions without_row }, without_same parts)
+without_same (Some plan ∷ parts) = (record { stand_in = plan.stand_in; positions = map without_row plan.positions; is = refl; many = length-map plan.positions without_row }, without_same parts)
 
-part_same : (change : Change) (b : Bool) (part : Option ElementValue) → IsSamePart part (if b then option_map (element_after change) part else part)
-part_same change true None = tt
-part_same change false None = tt
-part_same change true (Some plan) = record {
+part_same : (revertible : Bool) (change : Change) (b : Bool) (part : Option ElementValue) → IsSamePart part (if b then option_map (element_after revertible change) part else part)
+part_same revertible change true None = tt
+part_same revertible change false None = tt
+part_same revertible change true (Some plan) = record {
+  stand_in = stand_in_after revertible change plan;
   positions = map (λ pair. position_after change pair.0 pair.1) (enumerate_from 0 plan.positions);
   is = refl;
   many = length-map (enumerate_from 0 plan.positions) (λ pair. position_after change pair.0 pair.1) ∙ length-enumerate_from 0 plan.positions;
 }
-part_same change false (Some plan) = record { positions = plan.positions; is = refl; many = refl }
+part_same revertible change false (Some plan) = record { stand_in = plan.stand_in; positions = plan.positions; is = refl; many = refl }
 
-rebuilding_same : (change : Change) (named n : ℕ) (parts : List (Option ElementValue)) → AreSame parts (map (part_after change named) (enumerate_from n parts))
-rebuilding_same change named n [] = tt
-rebuilding_same change named n (part ∷ parts) = (part_same change (nat_eq named n) part, rebuilding_same change named (n + 1) parts)
+rebuilding_same : (revertible : Bool) (change : Change) (named n : ℕ) (parts : List (Option ElementValue)) → AreSame parts (map (part_after revertible change named) (enumerate_from n parts))
+rebuilding_same revertible change named n [] = tt
+rebuilding_same revertible change named n (part ∷ parts) = (part_same revertible change (nat_eq named n) part, rebuilding_same revertible change named (n + 1) parts)
 
 unchanged : (parts : List (Option ElementValue)) → AreSame parts parts
 unchanged [] = tt
 unchanged (None ∷ parts) = (tt, unchanged parts)
-unchanged (Some plan ∷ parts) = (record { positions = plan.positions; is = refl; many = refl }, unchanged parts)
+unchanged (Some plan ∷ parts) = (record { stand_in = plan.stand_in; positions = plan.positions; is = refl; many = refl }, unchanged parts)
 
 pub record IsSameArray (array next : Array) : Type 0 where
   pub secondary : next.secondary ≡ array.secondary
@@ -177,14 +180,15 @@ pub record IsSameArray (array next : Array) : Type 0 where
 pub same_array : (array : Array) → IsSameArray array array
 same_array array = record { secondary = refl; elements = unchanged array.elements }
 
-pub named_same : (change : Change) (array : Array) → IsSameArray array (named_after change array)
-named_same (Mark guid) array = record { secondary = refl; elements = without_same array.elements }
-named_same (Unmark guid init) array = record { secondary = refl; elements = unchanged array.elements }
-named_same (Rewind guid) array = record { secondary = refl; elements = without_same array.elements }
-named_same (Begin guid element position reference start) array = record { secondary = refl; elements = rebuilding_same (Begin guid element position reference start) element 0 array.elements }
-named_same (Progress guid element position row) array = record { secondary = refl; elements = rebuilding_same (Progress guid element position row) element 0 array.elements }
-named_same (Finish guid element position) array = record { secondary = refl; elements = rebuilding_same (Finish guid element position) element 0 array.elements }
-named_same other array = same_array array
+pub named_same : (revertible : Bool) (change : Change) (array : Array) → IsSameArray array (named_after revertible change array)
+named_same revertible (Mark guid) array = record { secondary = refl; elements = without_same array.elements }
+named_same revertible (Unmark guid init) array = record { secondary = refl; elements = unchanged array.elements }
+named_same revertible (Rewind guid) array = record { secondary = refl; elements = without_same array.elements }
+named_same revertible (Begin guid element position reference start) array = record { secondary = refl; elements = rebuilding_same revertible (Begin guid element position reference start) element 0 array.elements }
+named_same revertible (Progress guid element position row) array = record { secondary = refl; elements = rebuilding_same revertible (Progress guid element position row) element 0 array.elements }
+named_same revertible (Finish guid element position) array = record { secondary = refl; elements = rebuilding_same revertible (Finish guid element position) element 0 array.elements }
+named_same revertible (Return guid element position reference start) array = record { secondary = refl; elements = rebuilding_same revertible (Return guid element position reference start) element 0 array.elements }
+named_same revertible other array = same_array array
 
 pub chosen_same : (b : Bool) (array next : Array) → IsSameArray array next → IsSameArray array (if b then next else array)
 chosen_same true array next is = is

@@ -27,6 +27,7 @@ use Rattle.ddf_plan.specs.declared.change.Change.TheVariants.{Mark, Unmark, Rewi
 use Rattle.ddf_plan.specs.Mark.{without_row, without_rows}
 use Rattle.ddf_plan.specs.Rebuild.{finished, progressed}
 use Rattle.ddf_plan.specs.Members.{member_after, members_after}
+use Rattle.ddf_plan.specs.Standing.{takes_revertible}
 use Rattle.ddf_plan.specs.Arrays.{array_after, arrays_after, element_after, kept_and_added, named_after, names, part_after, position_after}
 use Rattle.ddf_repair.specs.Places.{keeps_places}
 use Rattle.ddf_repair.proofs.Numbers.{KeepsNumbers, chosen_same, named_same, numbers_kept, tiers_kept}
@@ -96,17 +97,17 @@ numbered_extents f keeps blocks n (one ∷ positions) =
     ap (λ first. first ∷ map (extent blocks) (map (λ pair. f pair.0 pair.1) (enumerate_from (n + 1) positions))) (keeps.stays n blocks one)
     ∙ ap (λ rest. extent blocks one ∷ rest) (numbered_extents f keeps blocks (n + 1) positions)
 
-part_stays : (change : Change) → KeepsPlace (position_after change) → (b : Bool) (part : Option ElementValue) → part_extents (if b then option_map (element_after change) part else part) ≡ part_extents part
-part_stays change keeps true None = refl
-part_stays change keeps false None = refl
-part_stays change keeps true (Some plan) = numbered_extents (position_after change) keeps plan.blocks 0 plan.positions
-part_stays change keeps false (Some plan) = refl
+part_stays : (revertible : Bool) (change : Change) → KeepsPlace (position_after change) → (b : Bool) (part : Option ElementValue) → part_extents (if b then option_map (element_after revertible change) part else part) ≡ part_extents part
+part_stays revertible change keeps true None = refl
+part_stays revertible change keeps false None = refl
+part_stays revertible change keeps true (Some plan) = numbered_extents (position_after change) keeps plan.blocks 0 plan.positions
+part_stays revertible change keeps false (Some plan) = refl
 
-parts_stay : (change : Change) → KeepsPlace (position_after change) → (named n : ℕ) (parts : List (Option ElementValue)) → flat_map part_extents (map (part_after change named) (enumerate_from n parts)) ≡ flat_map part_extents parts
-parts_stay change keeps named n [] = refl
-parts_stay change keeps named n (part ∷ parts) =
-    ap (λ own. own ++ flat_map part_extents (map (part_after change named) (enumerate_from (n + 1) parts))) (part_stays change keeps (nat_eq named n) part)
-    ∙ ap (λ rest. part_extents part ++ rest) (parts_stay change keeps named (n + 1) parts)
+parts_stay : (revertible : Bool) (change : Change) → KeepsPlace (position_after change) → (named n : ℕ) (parts : List (Option ElementValue)) → flat_map part_extents (map (part_after revertible change named) (enumerate_from n parts)) ≡ flat_map part_extents parts
+parts_stay revertible change keeps named n [] = refl
+parts_stay revertible change keeps named n (part ∷ parts) =
+    ap (λ own. own ++ flat_map part_extents (map (part_after revertible change named) (enumerate_from (n + 1) parts))) (part_stays revertible change keeps (nat_eq named n) part)
+    ∙ ap (λ rest. part_extents part ++ rest) (parts_stay revertible change keeps named (n + 1) parts)
 
 finished_stays : (position : ℕ) → KeepsPlace (finished position)
 finished_stays position = record { stays = λ number blocks one. by (nat_eq position number) blocks one }
@@ -118,30 +119,30 @@ finished_stays position = record { stays = λ number blocks one. by (nat_eq posi
 progressed_stays : (position row : ℕ) → KeepsPlace (progressed position row)
 progressed_stays position row = record { stays = λ number blocks one. refl }
 
-named_stays : (change : Change) → keeps_places change ≡ true → (array : Array) → array_extents (named_after change array) ≡ array_extents array
-named_stays (Mark guid) is array = marked_extents array.elements
-named_stays (Unmark guid init) is array = refl
-named_stays (Rewind guid) is array = marked_extents array.elements
-named_stays (Progress guid element position row) is array = parts_stay (Progress guid element position row) (progressed_stays position row) element 0 array.elements
-named_stays (Finish guid element position) is array = parts_stay (Finish guid element position) (finished_stays position) element 0 array.elements
-named_stays other is array = absurd (false≢true is)
+named_stays : (revertible : Bool) (change : Change) → keeps_places change ≡ true → (array : Array) → array_extents (named_after revertible change array) ≡ array_extents array
+named_stays revertible (Mark guid) is array = marked_extents array.elements
+named_stays revertible (Unmark guid init) is array = refl
+named_stays revertible (Rewind guid) is array = marked_extents array.elements
+named_stays revertible (Progress guid element position row) is array = parts_stay revertible (Progress guid element position row) (progressed_stays position row) element 0 array.elements
+named_stays revertible (Finish guid element position) is array = parts_stay revertible (Finish guid element position) (finished_stays position) element 0 array.elements
+named_stays revertible other is array = absurd (false≢true is)
 
 -- ---- one array
 
 -- what a change of one array makes of each array of the table, with its low state
 abbrev pub one_after : Configuration → Change → List Extent → List ℕ → Array → Array
-one_after config change all guid array = array_with_low (members_after config change) all (if names change guid then named_after change array else array)
+one_after config change all guid array = array_with_low (members_after config change) all (if names change guid then named_after (takes_revertible config change) change array else array)
 
 pub one_numbers : (config : Configuration) (change : Change) (all : List Extent) (guid : List ℕ) (array : Array) → KeepsNumbers array (one_after config change all guid array)
 one_numbers config change all guid array =
-    let is = chosen_same (names change guid) array (named_after change array) (named_same change array) in
+    let is = chosen_same (names change guid) array (named_after (takes_revertible config change) change array) (named_same (takes_revertible config change) change array) in
     numbers_kept array (one_after config change all guid array) is.secondary is.elements
 
 one_stays : (config : Configuration) (change : Change) → keeps_places change ≡ true → (all : List Extent) (guid : List ℕ) (array : Array) → array_extents (one_after config change all guid array) ≡ array_extents array
 one_stays config change is all guid array = by (names change guid)
   where
-    by : (b : Bool) → array_extents (if b then named_after change array else array) ≡ array_extents array
-    by true = named_stays change is array
+    by : (b : Bool) → array_extents (if b then named_after (takes_revertible config change) change array else array) ≡ array_extents array
+    by true = named_stays (takes_revertible config change) change is array
     by false = refl
 
 all_stay : (k : List ℕ → Array → Array) → ((guid : List ℕ) (array : Array) → array_extents (k guid array) ≡ array_extents array) → (es : List (List ℕ × Array)) → extents (changed_entries (λ g a. Some (k g a)) es) ≡ extents es
@@ -153,17 +154,17 @@ all_stay k stay (e ∷ es) =
 -- the table after such a change
 pub table_is : (config : Configuration) (change : Change) → keeps_places change ≡ true → arrays_after config change ≡ changed_entries (λ g a. Some (one_after config change (extents (kept_and_added config change)) g a)) config.arrays
 table_is config (Mark guid) is =
-    both_changed (λ g. array_with_low (members_after config (Mark guid)) (extents (kept_and_added config (Mark guid)))) (array_after (members_after config (Mark guid)) (Mark guid)) config.arrays
+    both_changed (λ g. array_with_low (members_after config (Mark guid)) (extents (kept_and_added config (Mark guid)))) (array_after false (members_after config (Mark guid)) (Mark guid)) config.arrays
 table_is config (Unmark guid init) is =
-    both_changed (λ g. array_with_low (members_after config (Unmark guid init)) (extents (kept_and_added config (Unmark guid init)))) (array_after (members_after config (Unmark guid init)) (Unmark guid init)) config.arrays
+    both_changed (λ g. array_with_low (members_after config (Unmark guid init)) (extents (kept_and_added config (Unmark guid init)))) (array_after false (members_after config (Unmark guid init)) (Unmark guid init)) config.arrays
 table_is config (Rewind guid) is =
-    both_changed (λ g. array_with_low (members_after config (Rewind guid)) (extents (kept_and_added config (Rewind guid)))) (array_after (members_after config (Rewind guid)) (Rewind guid)) config.arrays
+    both_changed (λ g. array_with_low (members_after config (Rewind guid)) (extents (kept_and_added config (Rewind guid)))) (array_after false (members_after config (Rewind guid)) (Rewind guid)) config.arrays
 table_is config (Progress guid element position row) is =
     both_changed (λ g. array_with_low (members_after config (Progress guid element position row)) (extents (kept_and_added config (Progress guid element position row))))
-    (array_after (members_after config (Progress guid element position row)) (Progress guid element position row)) config.arrays
+    (array_after false (members_after config (Progress guid element position row)) (Progress guid element position row)) config.arrays
 table_is config (Finish guid element position) is =
     both_changed (λ g. array_with_low (members_after config (Finish guid element position)) (extents (kept_and_added config (Finish guid element position))))
-    (array_after (members_after config (Finish guid element position)) (Finish guid element position)) config.arrays
+    (array_after false (members_after config (Finish guid element position)) (Finish guid element position)) config.arrays
 table_is config other is = absurd (false≢true is)
 
 module _ (config : Configuration) (change : Change) (is : keeps_places change ≡ true) (seats : List Seat) where

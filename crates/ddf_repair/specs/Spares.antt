@@ -4,7 +4,7 @@ use Rattle.std.specs.Map.{lookup}
 use Rattle.std.specs.List.{list_any}
 use Rattle.ddf_config.specs.declared.member.Member.{Member}
 use Rattle.ddf_config.specs.declared.member.SpareUse.{SpareUse}
-use Rattle.ddf_config.specs.declared.member.SpareUse.TheVariants.{No, Global, Dedicated}
+use Rattle.ddf_config.specs.declared.member.SpareUse.TheVariants.{No, Global, Revertible, Dedicated}
 use Rattle.ddf_config.specs.declared.extent.Extent.{Extent}
 use Rattle.ddf_config.specs.declared.seat.Seat.{Seat}
 use Rattle.ddf_config.specs.Extents.{extents_on, ranges}
@@ -18,11 +18,14 @@ use Rattle.ddf_plan.specs.Lose.{is_among}
 abbrev pub is_dedicated_to : List ℕ → SpareUse → Bool
 is_dedicated_to guid No = false
 is_dedicated_to guid Global = false
+is_dedicated_to guid Revertible = false
 is_dedicated_to guid (Dedicated guids) = list_any (same_guid guid) guids
 
+-- a spare for every array, be it one that gives its place back
 abbrev pub is_global : SpareUse → Bool
 is_global No = false
 is_global Global = true
+is_global Revertible = true
 is_global (Dedicated guids) = false
 
 -- that a member is current, its disk is here, and it isn't among those that are passed over. A disk on which the array has a position is one of them: two

@@ -3,6 +3,7 @@ ghost use Rattle.std.specs.Prelude.{◌≡◌, ℕ, true, false, List, None, Ok,
 ghost use Rattle.std.specs.Map.{keys_of, lookup};
 ghost use Rattle.std.specs.List.{IsDistinct};
 ghost use Rattle.ddf_config.specs.declared.array.Array.{Array};
+ghost use Rattle.ddf_config.specs.declared.extent.Extent.{Extent};
 ghost use Rattle.ddf_config.specs.declared.seat.Seat.{Seat};
 ghost use Rattle.ddf_config.specs.Configuration.{Configuration};
 ghost use Rattle.ddf_config.specs.ElementValue.{ElementValue};
@@ -21,6 +22,7 @@ ghost use Rattle.ddf_plan.specs.Rebuild.{element_at, new_position};
 ghost use Rattle.ddf_repair.specs.declared.first.Target.{Target};
 ghost use Rattle.ddf_repair.specs.declared.beginning.Begun.TheVariants.{Fresh};
 ghost use Rattle.ddf_repair.specs.Begin.{begun};
+ghost use Rattle.ddf_repair.specs.Choose.{room_for};
 ghost use Rattle.ddf_repair.specs.Places.{keeps_places};
 
 /// The change by which a rebuild begins is refused for nothing but its sequence number.
@@ -43,6 +45,17 @@ pub fn the_extent_of_a_rebuild_is_free()
         → is_among (references array) reference ≡ false }
     ensures passed_over { (config : Configuration) (guid : List ℕ) (seats : List Seat) (aside : List ℕ) (target : Target) (element position reference start : ℕ)
         → begun config guid seats aside ≡ Ok (Fresh target (Begin guid element position reference start)) → is_among aside reference ≡ false }
+{}
+
+/// The extent to which a position can move lies on that disk, has no sector of an extent that was there, and ends within the disk's
+/// configured size and at or below the floor of its seat.
+pub fn the_room_of_a_position_is_free()
+    ensures on { (config : Configuration) (guid : List ℕ) (seats : List Seat) (target : Target) (reference : ℕ) (found : Extent)
+        → room_for config guid seats target reference ≡ Some found → found.reference ≡ reference }
+    ensures clear { (config : Configuration) (guid : List ℕ) (seats : List Seat) (target : Target) (reference : ℕ) (found : Extent)
+        → room_for config guid seats target reference ≡ Some found → lies_clear config.members (extents config.arrays) found ≡ true }
+    ensures below { (config : Configuration) (guid : List ℕ) (seats : List Seat) (target : Target) (reference : ℕ) (found : Extent)
+        → room_for config guid seats target reference ≡ Some found → passes_floor seats found ≡ false }
 {}
 
 /// An array that can be used over some seats can be used over them after a change that leaves each position its disk and its

@@ -23,7 +23,7 @@ fn is_dedicated_to(guid: &Guid, use_as: &SpareUse) -> bool
     ensures { result ≡ is_dedicated_to guid.now use_as.now }
 {
     match use_as {
-        SpareUse::No | SpareUse::Global => false,
+        SpareUse::No | SpareUse::Global | SpareUse::Revertible => false,
         SpareUse::Dedicated(guids) => has_guid(guids.items(), guid),
     }
 }
@@ -31,7 +31,7 @@ fn is_dedicated_to(guid: &Guid, use_as: &SpareUse) -> bool
 fn is_global(use_as: &SpareUse) -> bool
     ensures { result ≡ is_global use_as.now }
 {
-    matches!(use_as, SpareUse::Global)
+    matches!(use_as, SpareUse::Global | SpareUse::Revertible)
 }
 
 /// Whether a member is current, its disk is here, and it isn't passed over.
@@ -110,7 +110,7 @@ fn limit_on(members: &IndexMap<u32, Member>, seats: &[Seat], reference: u32) -> 
     }
 }
 
-fn extent_on(
+pub(crate) fn extent_on(
     alloc: Global,
     members: &IndexMap<u32, Member>,
     all: &[Extent],
