@@ -21,7 +21,7 @@ is_mirrored volume = is_in_every volume.tiers.level && nat_le 2 (length volume.p
 abbrev pub is_within : Volume → Bool
 is_within volume = has_enough_parts (is_mirrored volume) is_part_within volume.parts
 
--- the levels that keep data in more than one place: RAID 1, 4 and 5
+-- the levels that keep data in more than one place: RAID 1, 1E, 4 and 5
 abbrev pub keeps_more : Part → Bool
 keeps_more part = keeps_copies part.shape.layout || keeps_parity part.shape.layout
 

@@ -1,5 +1,5 @@
 -- Lines of a batch are events of histories.
-use Rattle.std.proofs.Common.{◌≡◌, ◌∙◌, ◌⊎◌, ◌||◌, ap, inl, ⊎_elim, ℕ, ◌≤◌, Bool, true, false, nat_lt, List, [], ◌∷◌, Option, Result, Ok, Err, refl, sym, subst, arith}
+use Rattle.std.proofs.Common.{◌≡◌, ◌∙◌, ◌||◌, ap, inl, ⊎_elim, ℕ, ◌≤◌, Bool, true, false, nat_lt, List, [], ◌∷◌, Option, Result, Ok, Err, refl, sym, subst, arith}
 use Rattle.std.proofs.lemmas.Bool.{false≢true}
 use Rattle.ddf_bytes.specs.declared.stamp.Stamp.{Stamp}
 use Rattle.ddf_bytes.specs.Streams.{SinkState}
@@ -21,7 +21,7 @@ use Rattle.ddf_history_steps.specs.Kept.{AreAllKept, is_read}
 use Rattle.ddf_words.specs.Traits.{traits_of}
 use Rattle.ddf_words.specs.Words.{Word}
 use Rattle.ddf_words.specs.declared.command.Command.{Command}
-use Rattle.ddf_words.specs.declared.command.Command.TheVariants.{Assemble, Change, Examine, Import, Label, Read, Rebuild, Resync, Scrub, Show, Write}
+use Rattle.ddf_words.specs.declared.command.Command.TheVariants.{Assemble, Change, Copyback, Examine, Import, Label, Read, Rebuild, Resync, Scrub, Show, Write}
 use Rattle.ddf_answer.specs.Answers.{IsToldFailure}
 use Rattle.ddf_answer.specs.Call.{Answer, answer_of, work_of}
 use Rattle.ddf_answer.specs.declared.failure.Failure.{Failure}
@@ -80,6 +80,8 @@ module _ {B : Type 0} (tells : Type 0) (disks : B → BayState B) (told : Type 0
   line_took (Resync name) line writes joins done =
       record { done = is_done done.outcome; linux = linux_found (group_of done.has.taken.newest group); taken = done.has.taken; are_its = refl; is_done = changed_done done.outcome (answer_of told from.output to.output code) done.ends }
   line_took (Rebuild name) line writes joins done =
+      record { done = is_done done.outcome; linux = done.has.linux; taken = done.has.taken; are_its = done.has.are_its; is_done = changed_done done.outcome (answer_of told from.output to.output code) done.ends }
+  line_took (Copyback name slot) line writes joins done =
       record { done = is_done done.outcome; linux = done.has.linux; taken = done.has.taken; are_its = done.has.are_its; is_done = changed_done done.outcome (answer_of told from.output to.output code) done.ends }
   line_took (Change wish) line writes joins done =
       record {

@@ -12,7 +12,7 @@ use Rattle.ddf_text.specs.Refusal.{refusal_line}
 use Rattle.ddf_words.specs.Traits.{traits_of}
 use Rattle.ddf_words.specs.Words.{Word, GoWrongAt}
 use Rattle.ddf_words.specs.declared.command.Command.{Command}
-use Rattle.ddf_words.specs.declared.command.Command.TheVariants.{Assemble, Change, Examine, Import, Label, Read, Rebuild, Resync, Scrub, Show, Write}
+use Rattle.ddf_words.specs.declared.command.Command.TheVariants.{Assemble, Change, Copyback, Examine, Import, Label, Read, Rebuild, Resync, Scrub, Show, Write}
 use Rattle.ddf_words.specs.declared.traits.Traits.{Traits}
 use Rattle.ddf_words.specs.declared.words.WordFault.{WordFault}
 use Rattle.ddf_words.specs.declared.words.WordFault.TheVariants as faults
@@ -66,6 +66,7 @@ takes_none (Read name start count) is = refl
 takes_none (Scrub name) is = refl
 takes_none (Resync name) is = refl
 takes_none (Rebuild name) is = refl
+takes_none (Copyback name slot) is = refl
 takes_none (Write name start count) is = absurd (cc)
 takes_none (Import group) is = refl
 takes_none (Change wish) is = refl

@@ -12,7 +12,7 @@ use Rattle.ddf_history.specs.History.{Moment}
 use Rattle.ddf_history_steps.specs.Going.{IsAdmitted}
 use Rattle.ddf_words.specs.Words.{Word}
 use Rattle.ddf_words.specs.declared.command.Command.{Command}
-use Rattle.ddf_words.specs.declared.command.Command.TheVariants.{Change, Import, Rebuild, Resync}
+use Rattle.ddf_words.specs.declared.command.Command.TheVariants.{Change, Copyback, Import, Rebuild, Resync}
 use Rattle.ddf_answer.specs.Call.{work_of}
 use Rattle.ddf_answer.specs.declared.failure.Failure.{Failure}
 use Rattle.ddf_group_commands.specs.Assemble.{no_change}
@@ -21,6 +21,7 @@ use Rattle.ddf_group_commands.specs.Requests.{linux_found, request_for}
 use Rattle.ddf_write_commands.specs.Resync.{resync_request}
 use Rattle.ddf_import_command.specs.Import.{HasImported}
 use Rattle.ddf_rebuild_command.specs.Asked.{rebuild_request}
+use Rattle.ddf_rebuild_command.specs.GoingBack.{copyback_request}
 use Rattle.ddf_command.specs.History.{IsCall}
 use Rattle.ddf_batch.specs.Batch.{AreLinesRun, Going, goes_on, point}
 use Rattle.ddf_batch.specs.Line.{Point}
@@ -29,6 +30,7 @@ use Rattle.ddf_batch.specs.Line.{Point}
 abbrev pub request_of_line : (slots : ℕ) → Stamp → (linux : List ℕ) → Command → Request
 request_of_line slots stamp linux (Resync name) = resync_request name
 request_of_line slots stamp linux (Rebuild name) = rebuild_request name linux
+request_of_line slots stamp linux (Copyback name slot) = copyback_request slots name slot linux
 request_of_line slots stamp linux (Change wish) = request_for slots stamp wish linux
 request_of_line slots stamp linux other = no_change
 

@@ -17,7 +17,7 @@ use Rattle.ddf_assembly.specs.Group.{group_of}
 use Rattle.ddf_assembly.specs.Slots.{IsLooked, newest_from}
 use Rattle.ddf_words.specs.declared.command.Asked.{Asked}
 use Rattle.ddf_words.specs.declared.command.Command.{Command}
-use Rattle.ddf_words.specs.declared.command.Command.TheVariants.{Assemble, Change, Examine, Import, Label, Read, Rebuild, Resync, Scrub, Show, Write}
+use Rattle.ddf_words.specs.declared.command.Command.TheVariants.{Assemble, Change, Copyback, Examine, Import, Label, Read, Rebuild, Resync, Scrub, Show, Write}
 use Rattle.ddf_words.specs.declared.traits.Traits.{Traits}
 use Rattle.ddf_words.specs.declared.words.WordFault.{WordFault}
 use Rattle.ddf_words.specs.declared.words.WordFault.TheVariants as words
@@ -41,15 +41,18 @@ use Rattle.ddf_import_command.proofs.Ending.{imported_nothing}
 use Rattle.ddf_read_commands.proofs.LeftOut.{has_no_place}
 use Rattle.ddf_read_commands.proofs.ReadBlocks.{memory_in}
 use Rattle.ddf_read_commands.proofs.Scrubbed.{scrubbed_nothing}
-use Rattle.ddf_read_commands.specs.Read.{NotRead}
+use Rattle.ddf_read_commands.specs.Read.{CallsOfReading, NotRead}
 use Rattle.ddf_write_commands.specs.Doing.{Doing}
 use Rattle.ddf_write_commands.specs.Resync.{IsResyncDone, resync_request, resyncing}
 use Rattle.ddf_write_commands.specs.Worked.{IsWorkedIn}
 use Rattle.ddf_write_commands.proofs.Costs.{unwritten_costs}
 use Rattle.ddf_write_commands.proofs.Since.{none_along}
 use Rattle.ddf_rebuild_command.specs.Asked.{rebuild_request}
+use Rattle.ddf_rebuild_command.specs.CopiedBack.{IsBackIn, IsCopybackDone}
+use Rattle.ddf_rebuild_command.specs.GoingBack.{copyback_request}
 use Rattle.ddf_rebuild_command.specs.Rebuilt.{IsRebuildDone, IsRebuiltIn}
 use Rattle.ddf_rebuild_command.proofs.Costs.{none_cost}
+use Rattle.ddf_rebuild_command.proofs.BackCosts.{none_cost_back}
 use Rattle.ddf_write_commands.specs.Write.{IsWriteDone, looking, write_request}
 use Rattle.ddf_write_commands.specs.Write.Outcome.{Unfit}
 use Rattle.ddf_command.specs.Run.{IsCommandDone, is_status}
@@ -142,6 +145,16 @@ none_rebuilt : {D : Type 0} (old : BayState D) (tells : Type 0) (timestamp : ℕ
 none_rebuilt old tells timestamp word (Ok found) = reads_start old
 none_rebuilt old tells timestamp word (Err fault) = (inr refl, reads_start old)
 
+none_back : {D : Type 0} (old : BayState D) (tells : Type 0) (timestamp : ℕ) (word : List ℕ) (slot : ℕ) (meaning : Result GroupValue Assembly)
+    → IsBackIn (work_of tells old old) timestamp word slot meaning (Err Memory)
+none_back old tells timestamp word slot (Ok found) = reads_start old
+none_back old tells timestamp word slot (Err fault) = (inr refl, reads_start old)
+
+-- and nothing of an array was read
+none_counted : {D : Type 0} (old : BayState D) (tells : Type 0) (word : List ℕ) (start count : ℕ) (meaning : Result GroupValue Assembly) → CallsOfReading (work_of tells old old) word start count meaning
+none_counted old tells word start count (Ok found) = λ volume readable copied calm. record { pieces = 0; few = omega arith; grew = omega arith }
+none_counted old tells word start count (Err fault) = tt
+
 module _ {D : Type 0} (old : BayState D) (tells told : Type 0) (before : SinkState) (named : Option (List ℕ)) (timestamp : ℕ) (word : List ℕ) where
   resynced_nothing : IsResyncDone (work_of tells old old) named timestamp word (answer_of told before before 5)
   resynced_nothing =
@@ -176,6 +189,26 @@ module _ {D : Type 0} (old : BayState D) (tells told : Type 0) (before : SinkSta
           leaves = λ tells found is steps asked. stops_start old _;
           along = λ tells found is steps asked group same past kept admitted. inl (refl, reads_start old);
           costs = none_cost (work_of tells old old) timestamp word (reads_start old) (group_of taken.newest named);
+        };
+        ends = (refl, λ told. refl);
+      }
+
+  copied_nothing : (slot : ℕ) → IsCopybackDone (work_of tells old old) named timestamp word slot (answer_of told before before 5)
+  unfolding taken_nothing none_looked
+  copied_nothing slot =
+      let linux = linux_found (group_of (newest_from old 0 (none_looked old).left) named) in
+      let taken = taken_nothing old tells named timestamp (copyback_request (length old.sizes) word slot linux) in
+      record {
+        outcome = Err Memory;
+        has = record {
+          linux = linux;
+          taken = taken;
+          are_its = refl;
+          gone = λ given. absurd (given refl);
+          gives = none_back old tells timestamp word slot (group_of taken.newest named);
+          leaves = λ tells found is steps asked. stops_start old _;
+          along = λ tells found is steps asked group same past kept admitted. inl (refl, reads_start old);
+          costs = none_cost_back (work_of tells old old) timestamp word slot (reads_start old) (group_of taken.newest named);
         };
         ends = (refl, λ told. refl);
       }
@@ -223,12 +256,15 @@ done_nothing old tells told before reads input stamp group (Read name start coun
     no_place = λ tells slot out. has_no_place old (none_looked old).left (newest_from old 0 (none_looked old).left) group slot refl out;
     gone = λ given. absurd (given refl);
     gives = memory_in (work_of tells old old) name start count (group_of (newest_from old 0 (none_looked old).left) group);
+    looks = λ unread. omega arith;
+    calls = none_counted old tells name start count (group_of (newest_from old 0 (none_looked old).left) group);
   };
   ends = (refl, λ told. refl);
 }
 done_nothing old tells told before reads input stamp group (Scrub name) = scrubbed_nothing old tells told before group name (none_looked old)
 done_nothing old tells told before reads input stamp group (Resync name) = resynced_nothing old tells told before group (timestamp_of stamp) name
 done_nothing old tells told before reads input stamp group (Rebuild name) = rebuilt_nothing old tells told before group (timestamp_of stamp) name
+done_nothing old tells told before reads input stamp group (Copyback name slot) = copied_nothing old tells told before group (timestamp_of stamp) name slot
 done_nothing old tells told before reads input stamp group (Write name start count) = wrote_nothing old tells told before group (timestamp_of stamp) name reads input start count
 done_nothing old tells told before reads input stamp group (Import other) = imported_nothing old tells told before group other (timestamp_of stamp) (none_looked old)
 done_nothing old tells told before reads input stamp group (Change wish) = wished_nothing old tells told before group (timestamp_of stamp) (none_looked old) (request_for (length old.sizes) stamp wish)

@@ -1,11 +1,11 @@
 -- What a call of the program does, by the command that its words ask for.
-use Rattle.std.specs.Prelude.{◌≡◌, ◌⊎◌, ℕ, List, [], ◌∷◌, length, Bool, true, false, ◌==◌, Option}
+use Rattle.std.specs.Prelude.{◌≡◌, ℕ, List, [], ◌∷◌, length, Bool, true, false, ◌==◌, Option}
 use Rattle.std.specs.List.{list_any}
 use Rattle.ddf_bytes.specs.declared.stamp.Stamp.{Stamp}
 use Rattle.ddf_bytes.specs.Stamps.{timestamp_of}
 use Rattle.ddf_words.specs.declared.command.Asked.{Asked}
 use Rattle.ddf_words.specs.declared.command.Command.{Command}
-use Rattle.ddf_words.specs.declared.command.Command.TheVariants.{Assemble, Change, Examine, Import, Label, Read, Rebuild, Resync, Scrub, Show, Write}
+use Rattle.ddf_words.specs.declared.command.Command.TheVariants.{Assemble, Change, Copyback, Examine, Import, Label, Read, Rebuild, Resync, Scrub, Show, Write}
 use Rattle.ddf_words.specs.Traits.{traits_of}
 use Rattle.ddf_words.specs.Words.{Word, IsAsked}
 use Rattle.ddf_answer.specs.Call.{Answer, Input, Work}
@@ -19,6 +19,7 @@ use Rattle.ddf_read_commands.specs.Read.{IsReadDone}
 use Rattle.ddf_read_commands.specs.Scrub.{IsScrubDone}
 use Rattle.ddf_write_commands.specs.Resync.{IsResyncDone}
 use Rattle.ddf_write_commands.specs.Write.{IsWriteDone}
+use Rattle.ddf_rebuild_command.specs.CopiedBack.{IsCopybackDone}
 use Rattle.ddf_rebuild_command.specs.Rebuilt.{IsRebuildDone}
 
 -- The words ask for no command that may write to the disks.
@@ -45,6 +46,7 @@ IsCommandDone work input stamp group (Read name start count) answer = IsReadDone
 IsCommandDone work input stamp group (Scrub name) answer = IsScrubDone work group name answer
 IsCommandDone work input stamp group (Resync name) answer = IsResyncDone work group (timestamp_of stamp) name answer
 IsCommandDone work input stamp group (Rebuild name) answer = IsRebuildDone work group (timestamp_of stamp) name answer
+IsCommandDone work input stamp group (Copyback name slot) answer = IsCopybackDone work group (timestamp_of stamp) name slot answer
 IsCommandDone work input stamp group (Write name start count) answer = IsWriteDone work input group (timestamp_of stamp) name start count answer
 IsCommandDone work input stamp group (Import other) answer = IsImportDone work group other (timestamp_of stamp) answer
 IsCommandDone work input stamp group (Change wish) answer = IsWished work group (timestamp_of stamp) (request_for (length work.old.sizes) stamp wish) answer

@@ -25,7 +25,7 @@ use ddf_disk_commands::{examine, label};
 use ddf_group_commands::{assemble_disks, change, show};
 use ddf_import_command::import;
 use ddf_read_commands::{read, scrub_disks};
-use ddf_rebuild_command::rebuild;
+use ddf_rebuild_command::{copyback, rebuild};
 use ddf_words::{Command, WordFault, asked};
 use ddf_write_commands::{resync_disks, write};
 use std::alloc::Global;
@@ -112,6 +112,9 @@ pub fn obey<B: Bay, S: Source, K: Sink>(
         Command::Scrub { name } => scrub_disks(alloc, group, name.items(), bay, sink),
         Command::Resync { name } => resync_disks(alloc, group, name.items(), bay, sink, stamp),
         Command::Rebuild { name } => rebuild(alloc, group, name.items(), bay, sink, stamp),
+        Command::Copyback { name, slot } => {
+            copyback(alloc, group, name.items(), slot, bay, sink, stamp)
+        }
         Command::Write { name, start, count } => write(
             alloc,
             group,

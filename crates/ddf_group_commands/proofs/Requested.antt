@@ -109,6 +109,7 @@ module _ (seats : List Seat) (creation : Creation) (bounds : HasBounds seats cre
   element_is element fits = record {
     few = omega (arith, length-map element.slots (new_position seats), fits.few);
     strip = omega (arith, bounds.words.small);
+    stand_in = omega arith;
     level = bounds.codes.level;
     qualifier = qualifier_fits creation.level creation.qualifier (length element.slots) bounds.codes.qualifier;
     blocks = omega (arith, fits.few_blocks);
@@ -179,6 +180,7 @@ some_guids arrays (word ∷ words) guids some is = one_more (served_guid arrays 
 -- what the words let a disk stand in for
 use_is : (config : Configuration) (word : SpareWord) (use_as : SpareUse) → FitsSpare word → use_of config word ≡ Ok use_as → IsNewUse use_as
 use_is config spares.Global use_as fits is = let same : uses.Global ≡ use_as = cc in subst IsNewUse same tt
+use_is config spares.Revertible use_as fits is = let same : uses.Revertible ≡ use_as = cc in subst IsNewUse same tt
 use_is config spares.Off use_as fits is = let same : uses.No ≡ use_as = cc in subst IsNewUse same tt
 use_is config (spares.For words) use_as fits is = by (served_guids config.arrays words) refl is
   where

@@ -32,3 +32,17 @@ pub mod Costs
 mod FillRan
 mod PlanRan
 mod RebuildEnds
+pub mod BackCosts
+mod RoomRun
+mod BackRan
+mod BackChosen
+pub mod BackMade
+mod BackCame
+mod BackSince
+mod PlanBack
+mod BackOpening
+mod BackFits
+mod BackRuns
+mod BackDone
+mod BackEnds
+pub mod OneSeat

@@ -54,7 +54,7 @@ module _ {D : Type 0} (tells : Type 0) (entry start new : BayState D) (reads : R
 
   -- ---- what a stop leaves
 
-  open_leaves : (P : Image → Type 0) → ((image : Image) → IsLeft entry.may_hold image → P image) → ((image : Image) → IsLeftWriting entry first image → P image) → tells → StopsLeave entry new P
+  pub open_leaves : (P : Image → Type 0) → ((image : Image) → IsLeft entry.may_hold image → P image) → ((image : Image) → IsLeftWriting entry first image → P image) → tells → StopsLeave entry new P
   open_leaves P before opening told =
       stops_then (stops_weaken reads.any_moment before) (opens.leaves told) (λ image writing. opening image (writing_since entry start reads first image writing))
 
@@ -71,10 +71,10 @@ module _ {D : Type 0} (tells : Type 0) (entry start new : BayState D) (reads : R
     admitted_start : IsAdmitted group past start left found
     admitted_start = admitted_still group past entry start reads left found admitted
 
-    abbrev GoesTo : List Step → Past (groups group) → Type 0
+    abbrev pub GoesTo : List Step → Past (groups group) → Type 0
     GoesTo steps now = Goes group past (is_read left) found (changes_in found steps) now
 
-    open_moments : (P : Image → Type 0) → ((image : Image) → IsLeft entry.may_hold image → P image)
+    pub open_moments : (P : Image → Type 0) → ((image : Image) → IsLeft entry.may_hold image → P image)
         → ((image : Image) → IsLeftWriting start first image → (now : Past (groups group)) → GoesTo first now → IsKept now (scene_of entry.sizes image) → P image) → StopsLeave entry new P
     open_moments P before opening =
         stops_then (stops_weaken reads.any_moment before)
@@ -82,7 +82,7 @@ module _ {D : Type 0} (tells : Type 0) (entry start new : BayState D) (reads : R
         (opens.any_moment told left named by group same past kept_start admitted_start))
         (λ image both. opening image both.0 both.1.0 both.1.1 (subst (λ (sizes : List ℕ). IsKept both.1.0 (scene_of sizes image)) reads.same_sizes both.1.2))
 
-    ends_kept : new.tells_left → (now : Past (groups group)) × GoesTo first now × AreAllKept group now new
+    pub ends_kept : new.tells_left → (now : Past (groups group)) × GoesTo first now × AreAllKept group now new
     ends_kept left_told = opens.all_kept told left_told left named by group same past kept_start admitted_start
 
     -- a call of these steps and others

@@ -72,7 +72,7 @@ rise_apart (first ∷ seats) rise (suc j) zero one other at there same =
     absurd (omega (arith, less, same, ap (λ (seat : Seat). seat.slot) here))
 rise_apart (first ∷ seats) rise (suc j) (suc k) one other at there same = rise_apart seats rise.1 j k one other at there same
 
-are_seats : (members : List (ℕ × Member)) (seats : List Seat) → ((k : ℕ) (seat : Seat) → slice_get seats k ≡ Some seat → is_current members seat.reference ≡ true) → SlotsRise seats → AreSeats members seats
+pub are_seats : (members : List (ℕ × Member)) (seats : List Seat) → ((k : ℕ) (seat : Seat) → slice_get seats k ≡ Some seat → is_current members seat.reference ≡ true) → SlotsRise seats → AreSeats members seats
 are_seats members seats current rise = record {
   of_members = λ k seat at. member_there members seat.reference (current k seat at);
   differ = rise_apart seats rise;
@@ -92,11 +92,11 @@ least kept end = (omega arith, omega arith)
 
 -- ---- what the refusals tell
 
-within_by : (within marked : Bool) → first_refusal (refuse_if (not within) Lost ∷ refuse_if marked Marked ∷ []) ≡ None → within ≡ true
+pub within_by : (within marked : Bool) → first_refusal (refuse_if (not within) Lost ∷ refuse_if marked Marked ∷ []) ≡ None → within ≡ true
 within_by true marked none = refl
 within_by false marked none = absurd cc
 
-none_of_both : (xs ys : List (Option Refusal)) → first_refusal (xs ++ ys) ≡ None → first_refusal ys ≡ None
+pub none_of_both : (xs ys : List (Option Refusal)) → first_refusal (xs ++ ys) ≡ None → first_refusal ys ≡ None
 none_of_both xs ys none = by (first_refusal xs) refl
   where
     by : (first : Option Refusal) → first_refusal xs ≡ first → first_refusal ys ≡ None

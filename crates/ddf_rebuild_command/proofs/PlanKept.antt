@@ -184,7 +184,7 @@ module _ (found : GroupValue) (changes : List Change) (timestamp : ℕ) (ready :
   unspent steps none tried is = ap unless_spent is ∙ ap (λ (b : Bool). if b then Err faults.SequenceSpent else Ok steps) none
 
   -- Where the first of the changes alone give these steps, these are readied behind the recovery.
-  first_readied : (before : List Change) (begins : Bool) → steps_from timestamp None before (config_recovered found) (disks_recovered timestamp found) ≡ Ok (next_if begins ready.steps)
+  pub first_readied : (before : List Change) (begins : Bool) → steps_from timestamp None before (config_recovered found) (disks_recovered timestamp found) ≡ Ok (next_if begins ready.steps)
       → readied found before timestamp ≡ Ok (steps_before begins ready)
   unfolding readied
   first_readied before begins is =
@@ -199,7 +199,7 @@ module _ (found : GroupValue) (changes : List Change) (timestamp : ℕ) (ready :
   pub all_readied : (begins : Bool) → readied found changes timestamp ≡ Ok (steps_before begins ready ++ steps_in (rest begins ready.steps))
   all_readied begins = was.is_readied ∙ ap (λ (all : List Step). Ok all) (all_parts ready.recovery begins ready.steps)
 
-  config_first : (begins : Bool) → config_behind found.config (steps_before begins ready) ≡ config_behind (config_recovered found) (next_if begins ready.steps)
+  pub config_first : (begins : Bool) → config_behind found.config (steps_before begins ready) ≡ config_behind (config_recovered found) (next_if begins ready.steps)
   config_first begins =
       config_parts found ready.recovery (next_if begins ready.steps)
       ∙ ap (λ (config : Configuration). config_behind config (next_if begins ready.steps)) (is_recovered found changes timestamp ready was).config_is

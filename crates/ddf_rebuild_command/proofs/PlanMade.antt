@@ -248,7 +248,7 @@ named_in : (arrays : List (List ℕ × Array)) (entry : Entry) (guid : Option (L
 named_in arrays entry None e = absurd cc
 named_in arrays entry (Some guid) e = named_by arrays guid entry (lookup (same_guid guid) arrays) refl e
 
-abbrev more : (within marked : Bool) → List (Option Refusal)
+abbrev pub more : (within marked : Bool) → List (Option Refusal)
 more within marked = refuse_if (not within) Lost ∷ refuse_if marked Marked ∷ []
 
 unmarked_by : (within marked : Bool) → first_refusal (more within marked) ≡ None → marked ≡ false
@@ -287,7 +287,7 @@ module _ (config : Configuration) (seats : List Seat) (linux : List ℕ) (word :
     within_is : is_array_within seats usable.array ≡ is_within used.1
     within_is = sym (told_within config used.0 seats used.1 usable.array usable.is_view found_there)
 
-    more_is : first_refusal (rebuild_refusals config seats own) ≡ first_refusal (more (is_within used.1) used.1.marked)
+    pub more_is : first_refusal (rebuild_refusals config seats own) ≡ first_refusal (more (is_within used.1) used.1.marked)
     more_is =
         first_append (array_refusals Reads config seats used.0 usable.array 0 0) (more (is_array_within seats usable.array) (is_marked usable.array))
         ∙ ap (λ (r : Option Refusal). option_or r (first_refusal (more (is_array_within seats usable.array) (is_marked usable.array)))) usable.accepted

@@ -20,7 +20,8 @@ use Rattle.ddf_config.specs.Members.{same_guid}
 use Rattle.ddf_config.specs.Shapes.{element_shape, strip_sectors}
 use Rattle.ddf_config.specs.States.{array_with_low, is_marked}
 use Rattle.ddf_plan.specs.declared.change.Change.{Change}
-use Rattle.ddf_plan.specs.declared.change.Change.TheVariants.{Begin, Finish, Progress}
+use Rattle.ddf_plan.specs.declared.change.Change.TheVariants.{Begin, Finish, Progress, Return}
+use Rattle.ddf_plan.specs.Standing.{takes_revertible}
 use Rattle.ddf_plan.specs.Arrays.{array_after, arrays_after, element_after, kept_and_added, named_after, names, part_after, position_after, rebuilding}
 use Rattle.ddf_plan.specs.Changes.{changed, changed_at}
 use Rattle.ddf_plan.specs.Members.{members_after}
@@ -100,7 +101,7 @@ pub record IsHeld (config : Configuration) (guid : List ℕ) (element position :
 pub record IsOfElement (config : Configuration) (guid : List ℕ) (element : ℕ) (change : Change) : Type 0 where
   pub table_is : arrays_after config change ≡ changed_entries (λ g a. Some (one_after config change (extents (kept_and_added config change)) g a)) config.arrays
   pub names_is : (other : List ℕ) → names change other ≡ same_guid guid other
-  pub after_is : (array : Array) → named_after change array ≡ rebuilding change element array
+  pub after_is : (array : Array) → named_after (takes_revertible config change) change array ≡ rebuilding (takes_revertible config change) change element array
 
 pub element_there : (array : Array) (element : ℕ) (plan : ElementValue) → element_at array element ≡ Some plan → slice_get array.elements element ≡ Some (Some plan)
 element_there array element plan e = by (slice_get array.elements element) e
@@ -120,18 +121,18 @@ module _ (config : Configuration) (guid : List ℕ) (element : ℕ) (change : Ch
   abbrev next : Array
   next = made found.guid before.array
 
-  elements_are : next.elements ≡ map (part_after change element) (enumerate_from 0 before.array.elements)
+  elements_are : next.elements ≡ map (part_after (takes_revertible config change) change element) (enumerate_from 0 before.array.elements)
   elements_are =
-      ap (λ (b : Bool). (if b then named_after change before.array else before.array).elements) (is.names_is found.guid ∙ found.passes)
+      ap (λ (b : Bool). (if b then named_after (takes_revertible config change) change before.array else before.array).elements) (is.names_is found.guid ∙ found.passes)
       ∙ ap (λ (one : Array). one.elements) (is.after_is before.array)
 
-  next_part : slice_get next.elements element ≡ Some (Some (element_after change before.plan))
+  next_part : slice_get next.elements element ≡ Some (Some (element_after (takes_revertible config change) change before.plan))
   next_part =
       ap (λ (parts : List (Option ElementValue)). slice_get parts element) elements_are
-      ∙ numbered_at (part_after change element) before.array.elements 0 element element (Some before.plan) (omega arith) (element_there before.array element before.plan before.is_plan)
-      ∙ ap (λ (b : Bool). Some (if b then option_map (element_after change) (Some before.plan) else Some before.plan)) (eq-eqb element element refl)
+      ∙ numbered_at (part_after (takes_revertible config change) change element) before.array.elements 0 element element (Some before.plan) (omega arith) (element_there before.array element before.plan before.is_plan)
+      ∙ ap (λ (b : Bool). Some (if b then option_map (element_after (takes_revertible config change) change) (Some before.plan) else Some before.plan)) (eq-eqb element element refl)
 
-  next_position : slice_get (element_after change before.plan).positions position ≡ Some (position_after change position held)
+  next_position : slice_get (element_after (takes_revertible config change) change before.plan).positions position ≡ Some (position_after change position held)
   next_position = numbered_at (λ pair. position_after change pair.0 pair.1) before.plan.positions 0 position position held (omega arith) before.is_held
 
   -- Behind the change it is what the change makes of it.
@@ -139,20 +140,20 @@ module _ (config : Configuration) (guid : List ℕ) (element : ℕ) (change : Ch
   held_after sequence = record {
     array = next;
     is_array = ap (lookup (same_guid guid)) is.table_is ∙ found.next_found;
-    plan = element_after change before.plan;
+    plan = element_after (takes_revertible config change) change before.plan;
     is_plan = ap (λ (part : Option (Option ElementValue)). elim part [ None ↦ None | Some one ↦ one ]) next_part;
     is_held = next_position;
   }
 
   -- Behind the change the array has these elements, and its secondary level.
   pub array_after_is : (array : Array) → lookup (same_guid guid) (arrays_after config change) ≡ Some array
-      → (array.elements ≡ map (part_after change element) (enumerate_from 0 before.array.elements)) × (array.secondary ≡ before.array.secondary)
+      → (array.elements ≡ map (part_after (takes_revertible config change) change element) (enumerate_from 0 before.array.elements)) × (array.secondary ≡ before.array.secondary)
   array_after_is array there =
       let both : Some next ≡ Some array = sym found.next_found ∙ ap (lookup (same_guid guid)) (sym is.table_is) ∙ there in
       let same : next ≡ array = cc in (
         ap (λ (one : Array). one.elements) (sym same) ∙ elements_are,
         ap (λ (one : Array). one.secondary) (sym same)
-            ∙ ap (λ (b : Bool). (if b then named_after change before.array else before.array).secondary) (is.names_is found.guid ∙ found.passes)
+            ∙ ap (λ (b : Bool). (if b then named_after (takes_revertible config change) change before.array else before.array).secondary) (is.names_is found.guid ∙ found.passes)
             ∙ ap (λ (one : Array). one.secondary) (is.after_is before.array),
       )
 
@@ -162,15 +163,15 @@ module _ (config : Configuration) (guid : List ℕ) (element : ℕ) (change : Ch
   shape_after array plan there known =
       let both : Some next ≡ Some array = sym found.next_found ∙ ap (lookup (same_guid guid)) (sym is.table_is) ∙ there in
       let same : next ≡ array = cc in
-      let plans : Some (Some (element_after change before.plan)) ≡ Some (Some plan) =
+      let plans : Some (Some (element_after (takes_revertible config change) change before.plan)) ≡ Some (Some plan) =
       sym next_part ∙ ap (λ (one : Array). slice_get one.elements element) same ∙ element_there array element plan known in
-      let plan_is : element_after change before.plan ≡ plan = cc in
+      let plan_is : element_after (takes_revertible config change) change before.plan ≡ plan = cc in
       let count : length next.elements ≡ length before.array.elements =
-      ap length elements_are ∙ length-map (enumerate_from 0 before.array.elements) (part_after change element) ∙ length-enumerate_from 0 before.array.elements in
-      let members : length (element_after change before.plan).positions ≡ length before.plan.positions =
+      ap length elements_are ∙ length-map (enumerate_from 0 before.array.elements) (part_after (takes_revertible config change) change element) ∙ length-enumerate_from 0 before.array.elements in
+      let members : length (element_after (takes_revertible config change) change before.plan).positions ≡ length before.plan.positions =
       length-map (enumerate_from 0 before.plan.positions) (λ pair. position_after change pair.0 pair.1) ∙ length-enumerate_from 0 before.plan.positions in
       ap (λ (one : Array). element_shape (length one.elements) plan) (sym same) ∙ ap (element_shape (length next.elements)) (sym plan_is)
-      ∙ ap (λ (n : ℕ). element_shape n (element_after change before.plan)) count
+      ∙ ap (λ (n : ℕ). element_shape n (element_after (takes_revertible config change) change before.plan)) count
       ∙ ap (λ (n : ℕ). option_and_then (λ strip. result_ok (shape_of before.plan.level before.plan.qualifier n strip before.plan.blocks)) (strip_sectors (length before.array.elements) before.plan)) members
 
   -- The array keeps its mark.
@@ -179,8 +180,8 @@ module _ (config : Configuration) (guid : List ℕ) (element : ℕ) (change : Ch
       let both : Some next ≡ Some array = sym found.next_found ∙ ap (lookup (same_guid guid)) (sym is.table_is) ∙ there in
       let same : next ≡ array = cc in
       ap is_marked (sym same)
-      ∙ keeps_mark (members_after config change) (extents (kept_and_added config change)) (if names change found.guid then named_after change before.array else before.array)
-      ∙ ap (λ (b : Bool). is_marked (if b then named_after change before.array else before.array)) (is.names_is found.guid ∙ found.passes)
+      ∙ keeps_mark (members_after config change) (extents (kept_and_added config change)) (if names change found.guid then named_after (takes_revertible config change) change before.array else before.array)
+      ∙ ap (λ (b : Bool). is_marked (if b then named_after (takes_revertible config change) change before.array else before.array)) (is.names_is found.guid ∙ found.passes)
       ∙ ap is_marked (is.after_is before.array)
 
   -- Where the change leaves the configuration as it is, it leaves the position so.
@@ -192,11 +193,11 @@ module _ (config : Configuration) (guid : List ℕ) (element : ℕ) (change : Ch
       both_at same_array config.arrays (changed_entries (λ g a. Some (made g a)) config.arrays) found.place (found.guid, before.array) (found.guid, next)
       (subst (λ (entries : List (List ℕ × Array)). pointwise same_array config.arrays entries ≡ true) is.table_is arrays) found.is_at found.next_at in
       let parts : pointwise (option_eq same_element) before.array.elements next.elements ≡ true = (and_parts _ _ here).1 in
-      let both : same_element before.plan (element_after change before.plan) ≡ true =
-      both_at (option_eq same_element) before.array.elements next.elements element (Some before.plan) (Some (element_after change before.plan)) parts
+      let both : same_element before.plan (element_after (takes_revertible config change) change before.plan) ≡ true =
+      both_at (option_eq same_element) before.array.elements next.elements element (Some before.plan) (Some (element_after (takes_revertible config change) change before.plan)) parts
       (element_there before.array element before.plan before.is_plan) next_part in
-      let positions : pointwise same_position before.plan.positions (element_after change before.plan).positions ≡ true = (and_parts _ _ both).1 in
-      both_at same_position before.plan.positions (element_after change before.plan).positions position held (position_after change position held) positions before.is_held next_position
+      let positions : pointwise same_position before.plan.positions (element_after (takes_revertible config change) change before.plan).positions ≡ true = (and_parts _ _ both).1 in
+      both_at same_position before.plan.positions (element_after (takes_revertible config change) change before.plan).positions position held (position_after change position held) positions before.is_held next_position
 
 -- ---- the changes of a rebuild
 
@@ -205,7 +206,7 @@ module _ (config : Configuration) (guid : List ℕ) (element position : ℕ) whe
   begins reference start = record {
     table_is =
         both_changed (λ g. array_with_low (members_after config (Begin guid element position reference start)) (extents (kept_and_added config (Begin guid element position reference start))))
-        (array_after (members_after config (Begin guid element position reference start)) (Begin guid element position reference start)) config.arrays;
+        (array_after (takes_revertible config (Begin guid element position reference start)) (members_after config (Begin guid element position reference start)) (Begin guid element position reference start)) config.arrays;
     names_is = λ other. refl;
     after_is = λ array. refl;
   }
@@ -214,7 +215,7 @@ module _ (config : Configuration) (guid : List ℕ) (element position : ℕ) whe
   progresses row = record {
     table_is =
         both_changed (λ g. array_with_low (members_after config (Progress guid element position row)) (extents (kept_and_added config (Progress guid element position row))))
-        (array_after (members_after config (Progress guid element position row)) (Progress guid element position row)) config.arrays;
+        (array_after false (members_after config (Progress guid element position row)) (Progress guid element position row)) config.arrays;
     names_is = λ other. refl;
     after_is = λ array. refl;
   }
@@ -223,7 +224,16 @@ module _ (config : Configuration) (guid : List ℕ) (element position : ℕ) whe
   finishes = record {
     table_is =
         both_changed (λ g. array_with_low (members_after config (Finish guid element position)) (extents (kept_and_added config (Finish guid element position))))
-        (array_after (members_after config (Finish guid element position)) (Finish guid element position)) config.arrays;
+        (array_after false (members_after config (Finish guid element position)) (Finish guid element position)) config.arrays;
+    names_is = λ other. refl;
+    after_is = λ array. refl;
+  }
+
+  pub returns : (reference start : ℕ) → IsOfElement config guid element (Return guid element position reference start)
+  returns reference start = record {
+    table_is =
+        both_changed (λ g. array_with_low (members_after config (Return guid element position reference start)) (extents (kept_and_added config (Return guid element position reference start))))
+        (array_after false (members_after config (Return guid element position reference start)) (Return guid element position reference start)) config.arrays;
     names_is = λ other. refl;
     after_is = λ array. refl;
   }

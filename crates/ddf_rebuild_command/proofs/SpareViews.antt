@@ -16,6 +16,7 @@ use Rattle.ddf_config.specs.Shapes.{element_shape}
 use Rattle.ddf_config.specs.Within.{has_enough, has_enough_parts, is_mirrored, is_part_within}
 use Rattle.ddf_plan.specs.declared.change.Change.{Change}
 use Rattle.ddf_plan.specs.declared.change.Change.TheVariants.{Begin}
+use Rattle.ddf_plan.specs.Standing.{takes_revertible}
 use Rattle.ddf_plan.specs.Arrays.{element_after, part_after}
 use Rattle.ddf_plan.specs.Changes.{changed_at}
 use Rattle.ddf_plan.specs.Rebuild.{begun, new_position}
@@ -83,23 +84,23 @@ module _ (config : Configuration) (guid : List ℕ) (element position reference 
           let same : held ≡ old = cc in
           sym (ap (λ (b : Bool). b && is_some (floor_of seats old.reference)) (ap (λ (one : Position). one.synced) (sym same) ∙ out))
 
-  same_plan : is_part_within (is_seated seats) (Some (element_after change before.plan)) ≡ is_part_within (is_seated seats) (Some before.plan)
+  same_plan : is_part_within (is_seated seats) (Some (element_after (takes_revertible config change) change before.plan)) ≡ is_part_within (is_seated seats) (Some before.plan)
   same_plan =
       enough_map (need_of before.plan.level before.plan.qualifier) (is_seated seats) (map (λ pair. begun position reference start pair.0 pair.1) (enumerate_from 0 before.plan.positions))
       ∙ ap (has_enough (need_of before.plan.level before.plan.qualifier) (λ b. b)) (numbered_same (is_seated seats) (λ pair. begun position reference start pair.0 pair.1) 0 before.plan.positions same_position)
       ∙ sym (enough_map (need_of before.plan.level before.plan.qualifier) (is_seated seats) before.plan.positions)
 
   same_part : (k : ℕ) (part : Option ElementValue) → slice_get before.array.elements k ≡ Some part
-      → is_part_within (is_seated seats) (part_after change element (0 + k, part)) ≡ is_part_within (is_seated seats) part
+      → is_part_within (is_seated seats) (part_after (takes_revertible config change) change element (0 + k, part)) ≡ is_part_within (is_seated seats) part
   same_part k part at = by (nat_eq element (0 + k)) refl
     where
-      by : (b : Bool) → nat_eq element (0 + k) ≡ b → is_part_within (is_seated seats) (if b then option_map (element_after change) part else part) ≡ is_part_within (is_seated seats) part
+      by : (b : Bool) → nat_eq element (0 + k) ≡ b → is_part_within (is_seated seats) (if b then option_map (element_after (takes_revertible config change) change) part else part) ≡ is_part_within (is_seated seats) part
       by false e = refl
       by true e =
           let number : element ≡ k = (let same = eqb-true element (0 + k) e in omega (arith, same)) in
           let both : Some (Some before.plan) ≡ Some part = sym (element_there before.array element before.plan before.is_plan) ∙ ap (slice_get before.array.elements) number ∙ at in
           let same : Some before.plan ≡ part = cc in
-          subst (λ (one : Option ElementValue). is_part_within (is_seated seats) (option_map (element_after change) one) ≡ is_part_within (is_seated seats) one) same same_plan
+          subst (λ (one : Option ElementValue). is_part_within (is_seated seats) (option_map (element_after (takes_revertible config change) change) one) ≡ is_part_within (is_seated seats) one) same same_plan
 
   module _ (sequence : ℕ) (next : Volume) (viewed : view_of (changed_at config change sequence) guid seats ≡ Ok next) where
     -- It is within its level where it was.
@@ -108,13 +109,13 @@ module _ (config : Configuration) (guid : List ℕ) (element position reference 
         let after = from_view (changed_at config change sequence) guid seats next viewed in
         let is = array_after_is config guid element change (begins config guid element position reference start) position held before after.array after.array_is in
         let count : length after.array.elements ≡ length before.array.elements =
-        ap length is.0 ∙ length-map (enumerate_from 0 before.array.elements) (part_after change element) ∙ length-enumerate_from 0 before.array.elements in
+        ap length is.0 ∙ length-map (enumerate_from 0 before.array.elements) (part_after (takes_revertible config change) change element) ∙ length-enumerate_from 0 before.array.elements in
         told_within (changed_at config change sequence) guid seats next after.array viewed after.array_is
         ∙ ap (λ (n : ℕ). has_enough_parts (n == 0x01 && nat_le 2 (length after.array.elements)) (is_part_within (is_seated seats)) after.array.elements) is.1
         ∙ ap (λ (n : ℕ). has_enough_parts (before.array.secondary == 0x01 && nat_le 2 n) (is_part_within (is_seated seats)) after.array.elements) count
         ∙ ap (has_enough_parts (is_mirrored before.array) (is_part_within (is_seated seats))) is.0
-        ∙ enough_parts (is_mirrored before.array) (is_part_within (is_seated seats)) (map (part_after change element) (enumerate_from 0 before.array.elements)) before.array.elements
-        (numbered_same (is_part_within (is_seated seats)) (part_after change element) 0 before.array.elements same_part)
+        ∙ enough_parts (is_mirrored before.array) (is_part_within (is_seated seats)) (map (part_after (takes_revertible config change) change element) (enumerate_from 0 before.array.elements)) before.array.elements
+        (numbered_same (is_part_within (is_seated seats)) (part_after (takes_revertible config change) change element) 0 before.array.elements same_part)
 
     own : IsHeld (changed_at config change sequence) guid element position (new_position reference start)
     own = held_begun config guid element position reference start held before sequence

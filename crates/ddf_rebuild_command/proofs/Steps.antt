@@ -4,12 +4,12 @@ use Rattle.std.proofs.lemmas.Bool.{and_parts, eq-eqb, eqb-true, false≢true}
 use Rattle.ddf_config.specs.declared.element.Position.{Position}
 use Rattle.ddf_config.specs.Configuration.{Configuration}
 use Rattle.ddf_plan.specs.declared.change.Change.{Change}
-use Rattle.ddf_plan.specs.declared.change.Change.TheVariants.{Begin, Finish, Progress}
+use Rattle.ddf_plan.specs.declared.change.Change.TheVariants.{Begin, Finish, Progress, Return}
 use Rattle.ddf_plan.specs.Arrays.{position_after}
 use Rattle.ddf_plan.specs.Changes.{changed, changed_at}
 use Rattle.ddf_plan.specs.Rebuild.{new_position}
 use Rattle.ddf_plan.specs.Same.{is_step, same_flag, same_position, same_tables}
-use Rattle.ddf_rebuild_command.proofs.Positions.{IsHeld, IsOfElement, begins, finishes, held_after, progresses, same_held}
+use Rattle.ddf_rebuild_command.proofs.Positions.{IsHeld, IsOfElement, begins, finishes, held_after, progresses, returns, same_held}
 
 -- A position that is out of sync, of which so many rows are rebuilt.
 pub record IsOutAt (config : Configuration) (guid : List ℕ) (element position row : ℕ) : Type 0 where
@@ -69,6 +69,16 @@ module _ (config : Configuration) (guid : List ℕ) (element position : ℕ) whe
       is_out = refl;
       row_is = refl;
     }
+
+  -- One that goes to another disk is another too.
+  pub return_steps : (reference start : ℕ) (held : Position) → IsHeld config guid element position held → (held.reference ≡ reference → ⊥) → is_step config (Return guid element position reference start) ≡ true
+  return_steps reference start held before other =
+      step_by (Return guid element position reference start) (returns config guid element position reference start) held before
+      (λ (same : AreSame held (position_after (Return guid element position reference start) position held)).
+      other (same.references ∙ ap (λ (b : Bool). (returned_by b).reference) own_number))
+    where
+      returned_by : Bool → Position
+      returned_by b = let there = (if b then new_position reference start else held) in if b then record there { synced = true; row = 0 } else there
 
   module _ (row : ℕ) (out : IsOutAt config guid element position row) where
     -- So does its progress, where it goes on,

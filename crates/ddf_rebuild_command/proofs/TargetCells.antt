@@ -23,7 +23,7 @@ abbrev on_slot : ℕ → Seat → Bool
 on_slot slot seat = seat.slot == slot
 
 -- Where the slots of seats rise each seat is the one of its slot.
-floor_found : (seats : List Seat) → SlotsRise seats → (place : ℕ) (seat : Seat) → slice_get seats place ≡ Some seat → floor_in seats seat.slot ≡ seat.floor
+pub floor_found : (seats : List Seat) → SlotsRise seats → (place : ℕ) (seat : Seat) → slice_get seats place ≡ Some seat → floor_in seats seat.slot ≡ seat.floor
 floor_found [] rise place seat at = absurd cc
 floor_found (first ∷ others) rise zero seat at =
     let same : first ≡ seat = cc in

@@ -32,13 +32,13 @@ use Rattle.ddf_rebuild_command.proofs.Positions.{IsHeld}
 -- ---- the first position that is out of sync
 
 -- what a search among numbered items finds stands at its number, and passes
-record Numbered {X : Type 0} (test : X → Bool) (from : ℕ) (xs : List X) (at : ℕ × X) : Type 0 where
-  place : ℕ
-  number : at.0 ≡ from + place
-  there : slice_get xs place ≡ Some at.1
-  passes : test at.1 ≡ true
+pub record Numbered {X : Type 0} (test : X → Bool) (from : ℕ) (xs : List X) (at : ℕ × X) : Type 0 where
+  pub place : ℕ
+  pub number : at.0 ≡ from + place
+  pub there : slice_get xs place ≡ Some at.1
+  pub passes : test at.1 ≡ true
 
-numbered : {X : Type 0} (test : X → Bool) (from : ℕ) (xs : List X) (at : ℕ × X) → find (λ (one : ℕ × X). test one.1) (enumerate_from from xs) ≡ Some at → Numbered test from xs at
+pub numbered : {X : Type 0} (test : X → Bool) (from : ℕ) (xs : List X) (at : ℕ × X) → find (λ (one : ℕ × X). test one.1) (enumerate_from from xs) ≡ Some at → Numbered test from xs at
 numbered test from [] at h = absurd cc
 numbered {X = X} test from (x ∷ xs) at h = by (test x) refl h (numbered test (from + 1) xs at)
   where

@@ -12,3 +12,9 @@ pub mod Standing
 pub mod Opened
 pub mod Filled
 pub mod Run
+pub mod GoingBack
+pub mod BackPlans
+pub mod BackPlanned
+pub mod BackAlong
+pub mod CopiedBack
+pub mod BackRun

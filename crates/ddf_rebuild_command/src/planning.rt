@@ -102,7 +102,7 @@ fn rebuild_plan(
 }
 
 /// Why an array isn't rebuilt, behind what any use of its blocks is refused for.
-fn rebuild_cause(view: &View) -> Option<Refusal>
+pub(crate) fn rebuild_cause(view: &View) -> Option<Refusal>
     ensures { result ≡ first_refusal (refuse_if (not (is_within view.now)) Refusal.Lost ∷ refuse_if view.now.marked Refusal.Marked ∷ []) }
 {
     first_refusal(&[
@@ -237,7 +237,7 @@ fn bad_spare(seats: &[Seat], change: &Change) -> Option<Refusal>
     }
 }
 
-fn bad_seat(seats: &[Seat], reference: u32) -> Option<&Seat>
+pub(crate) fn bad_seat(seats: &[Seat], reference: u32) -> Option<&Seat>
     ensures { option_copied result ≡ find (λ (seat : Seat). nat_lt 0 seat.bad && seat.reference == reference) seats.now }
 {
     seats

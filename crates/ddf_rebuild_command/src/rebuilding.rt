@@ -14,7 +14,7 @@ ghost use Rattle.ddf_rebuild_command.specs.Run.{AsksInRun, CanFillBehind, IsRun}
 
 use crate::filling::fill;
 use crate::planning::{Filling, Plan, plan_rebuild};
-use crate::stepping::{open_position, ready_rebuild, recover_group};
+use crate::stepping::{open_position, ready_steps, recover_group};
 use ddf_answer::{Failure, Status, tell, tell_failure};
 use ddf_assembly::Group;
 use ddf_bay::Bay;
@@ -59,7 +59,7 @@ fn rebuilt<B: Bay>(
     let mut group = read_group(alloc, named, bay)?;
     let plan = plan_rebuild(alloc, &group, name)?;
     let timestamp = stamp.timestamp();
-    let mut ready = ready_rebuild(alloc, &group, &plan, timestamp)?;
+    let mut ready = ready_steps(alloc, &group, plan.changes.items(), timestamp)?;
     rebuild_array(&mut group, &mut ready, &plan, bay)
 }
 

@@ -14,30 +14,30 @@ ghost use Rattle.ddf_write_commands.specs.Plans.{IsNotReadied};
 ghost use Rattle.ddf_rebuild_command.specs.Opened.{CanOpen, GoesOpening, IsOpened, steps_before};
 ghost use Rattle.ddf_rebuild_command.specs.Standing.{GoesNext, IsNextWritten, IsSlotFault, Stands, recovery_in};
 
-use crate::planning::Plan;
 use ddf_answer::Failure;
 use ddf_assembly::Group;
 use ddf_bay::Bay;
 use ddf_group_commands::failure_of;
+use ddf_plan::Change;
 use ddf_recovery::{Ready, commit, make_ready, recover};
 use std::alloc::Global;
 
-/// All that the steps of a rebuild take: it is made before anything is written.
+/// All that the steps of a rebuild or a copyback take: it is made before anything is written.
 ///
 /// # Errors
 /// `Refused` where the group can't be recovered or changed so; `Memory` where memory ran out.
-pub(crate) fn ready_rebuild(
+pub(crate) fn ready_steps(
     alloc: Global,
     group: &Group,
-    plan: &Plan,
+    changes: &[Change],
     timestamp: u32,
 ) -> Result<Ready, Failure>
     requires assembled { IsAssembledGroup group.now }
-    requires asked { AllByRecursion CanBeAsked plan.now.changes }
-    ensures was { IfOk result (WasReadied group.now plan.now.changes timestamp) }
-    ensures refused { IfErr result (IsNotReadied (readied group.now plan.now.changes timestamp)) }
+    requires asked { AllByRecursion CanBeAsked changes.now }
+    ensures was { IfOk result (WasReadied group.now changes.now timestamp) }
+    ensures refused { IfErr result (IsNotReadied (readied group.now changes.now timestamp)) }
 {
-    match make_ready(alloc, group, plan.changes.items(), timestamp) {
+    match make_ready(alloc, group, changes, timestamp) {
         Ok(ready) => Ok(ready),
         Err(fault) => Err(failure_of(fault)),
     }

@@ -43,7 +43,7 @@ neither a b first second = ap (λ (one : Bool). one || b) first ∙ second
 -- what a new array leaves of the others
 module _ (members : List (ℕ × Member)) (guid : List ℕ) (array : Array) (word : List ℕ) where
   none_kept : (entries : List Entry) → list_any (has_printed_name word) entries ≡ false
-      → list_any (has_printed_name word) (changed_entries (kept_array members (Create guid array)) entries) ≡ false
+      → list_any (has_printed_name word) (changed_entries (kept_array false members (Create guid array)) entries) ≡ false
   none_kept [] none = refl
   none_kept (entry ∷ entries) none =
       let parts = or_parts (has_printed_name word entry) (list_any (has_printed_name word) entries) none in
@@ -75,7 +75,7 @@ module _ (config next : Configuration) (guid : List ℕ) (array : Array) (seats 
   made = created config.members (extents config.arrays) array
 
   abbrev others : List Entry
-  others = changed_entries (kept_array (members_after config (Create guid array)) (Create guid array)) config.arrays
+  others = changed_entries (kept_array false (members_after config (Create guid array)) (Create guid array)) config.arrays
 
   -- the arrays behind it
   arrays_are : all_with_low (members_after config (Create guid array)) (extents (kept_and_added config (Create guid array))) (others ++ (guid, made) ∷ []) ≡ next.arrays

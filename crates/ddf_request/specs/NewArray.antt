@@ -66,6 +66,7 @@ new_element seats creation element = record {
   level = creation.level;
   qualifier = qualifier_of creation.level creation.qualifier (length element.slots);
   strip = creation.code;
+  stand_in = 0;
   blocks = element.blocks;
   positions = map (new_position seats) element.slots;
 }

@@ -33,5 +33,6 @@ served_guids arrays (word ∷ words) = with_guid (served_guid arrays word) (serv
 -- what the words say: each name is that of an array of which the disks tell some element, or there is no such use
 abbrev pub use_of : Configuration → SpareWord → Result SpareUse Refusal
 use_of config spares.Global = Ok uses.Global
+use_of config spares.Revertible = Ok uses.Revertible
 use_of config spares.Off = Ok uses.No
 use_of config (spares.For words) = elim (served_guids config.arrays words) [ None ↦ Err NoArray | Some guids ↦ Ok (uses.Dedicated guids) ]

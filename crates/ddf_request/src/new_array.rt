@@ -111,6 +111,7 @@ fn new_element(seats: &[Seat], creation: &Creation, element: &CreateElement) -> 
         level: creation.level,
         qualifier: qualifier_of(creation.level, creation.qualifier, slots.len()),
         strip: creation.code,
+        stand_in: 0,
         blocks: element.blocks,
         positions: new_positions(seats, slots),
     }

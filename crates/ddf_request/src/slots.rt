@@ -65,14 +65,14 @@ fn first_without_seat(seats: &[Seat], slots: &[u8]) -> Option<Refusal>
 }
 
 /// Why slots, of so many, haven't all a current member.
-pub(crate) fn slots_refusal(count: usize, seats: &[Seat], slots: &[u8]) -> Option<Refusal>
+pub fn slots_refusal(count: usize, seats: &[Seat], slots: &[u8]) -> Option<Refusal>
     ensures { result ≡ first_refusal (slot_refusals count seats.now slots.now) }
 {
     first_refusal(&[first_beyond(count, slots), first_without_seat(seats, slots)])
 }
 
 /// The reference of the member on a slot, 0 where there is none.
-pub(crate) fn reference_on(seats: &[Seat], slot: u8) -> u32
+pub fn reference_on(seats: &[Seat], slot: u8) -> u32
     ensures { result ≡ reference_on seats.now slot }
 {
     match seat_on(seats, slot) {

@@ -55,6 +55,7 @@ fn use_of(alloc: Global, config: &Config, word: &SpareWord) -> Result<Option<Spa
 {
     match word {
         SpareWord::Global => Ok(Some(SpareUse::Global)),
+        SpareWord::Revertible => Ok(Some(SpareUse::Revertible)),
         SpareWord::Off => Ok(Some(SpareUse::No)),
         SpareWord::For(names) => match served_guids(alloc, &config.arrays, names.items())? {
             Some(guids) => Ok(Some(SpareUse::Dedicated(Seq::new(guids)))),

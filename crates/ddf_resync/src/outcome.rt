@@ -10,7 +10,7 @@ pub enum Scrub {
     Differs {
         /// The number of the element.
         element: u8,
-        /// The row of strips of the element, a last part strip a row of its own.
+        /// The row of the element (of strips, in RAID 1E of two strips), a last part of one a row of its own.
         row: u64,
     },
 }

@@ -10,9 +10,9 @@ use Rattle.ddf_config.specs.ElementValue.{ElementValue as ElementPlan}
 use Rattle.ddf_config.specs.Entries.{changed_entries}
 use Rattle.ddf_config.specs.Within.{is_part_within, is_available, is_mirrored, is_within}
 use Rattle.ddf_config.specs.States.{array_with_low, state_with_low, takes_low_state, low_state, has_position_out}
-use Rattle.ddf_plan.specs.Lose.{is_among, out_of_sync, lost_position, lost_element, lost_parts, wholly_out, out_beyond, has_part_within, lost_array}
+use Rattle.ddf_plan.specs.Lose.{is_among, out_of_sync, lost_position, lost_stand_in, lost_element, lost_parts, wholly_out, out_beyond, has_part_within, lost_array}
 use Rattle.ddf_rewrite.specs.Hold.{FitsPosition}
-use Rattle.ddf_steps.proofs.HeldEntries.{IsHeldEntry, IsHeldPlan, KeepsPlans, KeepsPositions, entry_kept, mapped_held, still_there}
+use Rattle.ddf_steps.proofs.HeldEntries.{IsHeldEntry, IsHeldPlan, KeepsPlans, KeepsPositions, entry_kept, mapped_held, moved_held, still_there}
 
 -- ---- positions out of sync
 
@@ -38,8 +38,17 @@ lost_keeps references = record { fits = λ position is. fits (is_among reference
 lost_plans : (references : List ℕ) → KeepsPlans (option_map (lost_element references))
 lost_plans references = record {
   none = refl;
-  some = λ plan. (lost_element references plan, refl, λ most elements is. mapped_held (lost_position references) (lost_keeps references) most elements plan is);
+  some = λ plan. (
+    lost_element references plan,
+    refl,
+    λ most elements is.
+        moved_held (lost_position references) (lost_keeps references) most elements plan (lost_stand_in references plan) (small (is_among references plan.stand_in) plan.stand_in is.stand_in) is,
+  );
 }
+  where
+    small : (b : Bool) (n : ℕ) → n < 2 ^ 32 → (if b then 0 else n) < 2 ^ 32
+    small true n fits = omega arith
+    small false n fits = fits
 
 beyond_plans : (members : List (ℕ × Member)) → KeepsPlans (out_beyond members)
 beyond_plans members = record { none = refl; some = λ plan. by (is_part_within (is_available members) (Some plan)) plan }

@@ -7,7 +7,7 @@ use Rattle.std.specs.List.{AllByRecursion, enumerate_from}
 use Rattle.ddf_config_records.specs.Elements.{has_no_strip}
 use Rattle.ddf_config.specs.declared.element.Position.{Position}
 use Rattle.ddf_config.specs.declared.array.Array.{Array}
-use Rattle.ddf_config.specs.ElementValue.{ElementValue as ElementPlan, with_positions}
+use Rattle.ddf_config.specs.ElementValue.{ElementValue as ElementPlan, with_disks, with_positions}
 use Rattle.ddf_config.specs.Configuration.{Configuration}
 use Rattle.ddf_view.specs.Readable.{IsReadable}
 use Rattle.ddf_rewrite.specs.Hold.{FitsArray, FitsPlan, FitsPosition, IsHoldable}
@@ -27,6 +27,7 @@ pub record IsHeldPlan (most elements : ℕ) (plan : ElementPlan) : Type 0 where
   pub level : plan.level < 2 ^ 8
   pub qualifier : plan.qualifier < 2 ^ 8
   pub blocks : plan.blocks < 2 ^ 64
+  pub stand_in : plan.stand_in < 2 ^ 32
   pub positions : AllByRecursion FitsPosition plan.positions
   pub rebuilt : OneRebuilt plan
 
@@ -48,6 +49,7 @@ held_plan most wanted is rebuilt = record {
   level = is.level;
   qualifier = is.qualifier;
   blocks = is.blocks;
+  stand_in = is.stand_in;
   positions = is.positions;
   rebuilt = rebuilt;
 }
@@ -62,6 +64,7 @@ fits_plan most wanted is = record {
   level = is.level;
   qualifier = is.qualifier;
   blocks = is.blocks;
+  stand_in = is.stand_in;
   positions = is.positions;
 }
 
@@ -115,8 +118,10 @@ mapped_rebuilt f keeps plan one i j first second at also h k =
     (keeps.no_row from.0 (ap (λ (p : Position). eqb p.row 0) from.2 ∙ h))
     (keeps.no_row other.0 (ap (λ (p : Position). eqb p.row 0) other.2 ∙ k))
 
-pub mapped_held : (f : Position → Position) → KeepsPositions f → (most elements : ℕ) (plan : ElementPlan) → IsHeldPlan most elements plan → IsHeldPlan most elements (with_positions plan (map f plan.positions))
-mapped_held f keeps most elements plan is =
+-- a plan on other disks
+pub moved_held : (f : Position → Position) → KeepsPositions f → (most elements : ℕ) (plan : ElementPlan) (stand_in : ℕ) → stand_in < 2 ^ 32 → IsHeldPlan most elements plan
+    → IsHeldPlan most elements (with_disks plan stand_in (map f plan.positions))
+moved_held f keeps most elements plan stand_in small is =
     let same = length-map plan.positions f in
     record {
       some = omega (arith, same, is.some);
@@ -127,9 +132,13 @@ mapped_held f keeps most elements plan is =
       level = is.level;
       qualifier = is.qualifier;
       blocks = is.blocks;
+      stand_in = small;
       positions = mapped_fit f keeps plan.positions is.positions;
       rebuilt = mapped_rebuilt f keeps plan is.rebuilt;
     }
+
+pub mapped_held : (f : Position → Position) → KeepsPositions f → (most elements : ℕ) (plan : ElementPlan) → IsHeldPlan most elements plan → IsHeldPlan most elements (with_positions plan (map f plan.positions))
+mapped_held f keeps most elements plan is = moved_held f keeps most elements plan plan.stand_in is.stand_in is
 
 -- ---- elements
 

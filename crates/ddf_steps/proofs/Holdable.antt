@@ -25,11 +25,12 @@ use Rattle.ddf_config.specs.Shapes.{has_shapes, has_tiers}
 use Rattle.ddf_config.specs.States.{array_with_low, all_with_low}
 use Rattle.ddf_config.proofs.Firsts.{all_pass}
 use Rattle.ddf_plan.specs.declared.change.Change.{Change}
-use Rattle.ddf_plan.specs.declared.change.Change.TheVariants.{Create, Delete, Spare, Begin}
+use Rattle.ddf_plan.specs.declared.change.Change.TheVariants.{Create, Delete, Spare, Begin, Return}
 use Rattle.ddf_plan.specs.Refusals.{not_current, refuse_first}
 use Rattle.ddf_plan.specs.Create.{created}
 use Rattle.ddf_plan.specs.CreateRefusal.{create_causes, has_more, is_taken, is_no_shape, is_spare_disk, names_twice, passes_most, references}
 use Rattle.ddf_plan.specs.Spare.{holds_extent, lacks_array, use_in_order}
+use Rattle.ddf_plan.specs.Standing.{given_back, is_given_back, is_left_by, takes_revertible}
 use Rattle.ddf_plan.specs.Causes.{causes}
 use Rattle.ddf_plan.specs.Members.{members_after, use_after}
 use Rattle.ddf_plan.specs.Arrays.{HasNewGuid, array_after, arrays_after, kept_and_added, kept_array}
@@ -47,7 +48,7 @@ use Rattle.ddf_steps.proofs.ArraysAfter.{KeepsArrays, all_kept, changed_all, gui
 use Rattle.ddf_steps.proofs.NamedArrays.{array_after_keeps}
 use Rattle.ddf_steps.proofs.MembersAfter.{are_after, keys_kept, members_fit}
 use Rattle.ddf_steps.proofs.NewArray.{created_held}
-use Rattle.ddf_steps.proofs.SparesAfter.{IsUseAmong, guids_end, guids_others, kept_use, no_use, others, use_ordered, use_with_new, use_without_gone}
+use Rattle.ddf_steps.proofs.SparesAfter.{IsUseAmong, given_use, guids_end, guids_others, kept_use, no_use, others, use_ordered, use_with_new, use_without_gone}
 
 -- ---- what the causes exclude
 
@@ -133,10 +134,10 @@ with_low most config change members all entries are =
 -- the arrays of a table stay, each as the change leaves it
 module _ (most : ℕ) (config : Configuration) (can : IsHoldable most config) where
   stay : (change : Change) → CanBeAsked change → ((k : ℕ) (use_as : SpareUse) → IsUseAmong config.arrays use_as → IsUseAmong config.arrays (use_after config change k use_as))
-      → AreHeldArrays most config change (with_arrays (array_after (members_after config change) change) config.arrays)
+      → AreHeldArrays most config change (with_arrays (array_after (takes_revertible config change) (members_after config change) change) config.arrays)
   stay change asked used =
-      let h = array_after (members_after config change) change in
-      let keeps = array_after_keeps (members_after config change) change asked in
+      let h = array_after (takes_revertible config change) (members_after config change) change in
+      let keeps = array_after_keeps (takes_revertible config change) (members_after config change) change asked in
       record {
         held = all_kept h keeps most config.arrays (entries_held most config can);
         apart = subst (IsDistinct bytes_eq) (sym (guids_kept h config.arrays)) can.can_hold.guids;
@@ -188,12 +189,12 @@ guids_away guid (entry ∷ entries) h = by (same_guid guid entry.0) refl h (guid
     by true e h rest = absurd cc
     by false e h rest = (turned e, rest h)
 
-kept_deleted : (members : List (ℕ × Member)) (gone : List ℕ) (entries : List (List ℕ × Array)) → changed_entries (kept_array members (Delete gone)) entries ≡ others gone entries
+kept_deleted : (members : List (ℕ × Member)) (gone : List ℕ) (entries : List (List ℕ × Array)) → changed_entries (kept_array false members (Delete gone)) entries ≡ others gone entries
 kept_deleted members gone [] = refl
 kept_deleted members gone (entry ∷ entries) = by (same_guid gone entry.0) (kept_deleted members gone entries)
   where
-    by : (b : Bool) → changed_entries (kept_array members (Delete gone)) entries ≡ others gone entries
-        → cons_option (option_map (λ (value : Array). (entry.0, value)) (if b then None else Some entry.1)) (changed_entries (kept_array members (Delete gone)) entries)
+    by : (b : Bool) → changed_entries (kept_array false members (Delete gone)) entries ≡ others gone entries
+        → cons_option (option_map (λ (value : Array). (entry.0, value)) (if b then None else Some entry.1)) (changed_entries (kept_array false members (Delete gone)) entries)
         ≡ cond (not b) (entry ∷ others gone entries) (others gone entries)
     by true rest = rest
     by false rest = ap (λ l. entry ∷ l) rest
@@ -209,11 +210,11 @@ chosen_use false entries next use_as new is = is
 module _ (most bound : ℕ) (within : bound ≤ most) (config : Configuration) (can : IsHoldable most config) where
   -- a change that drops no array and adds none
   kept : (change : Change)
-      → ((entries : List (List ℕ × Array)) → changed_entries (kept_array (members_after config change) change) entries ≡ changed_entries (λ guid array. Some (array_after (members_after config change) change guid array)) entries)
-      → (kept_and_added config change ≡ changed_entries (kept_array (members_after config change) change) config.arrays)
-      → AreHeldArrays most config change (with_arrays (array_after (members_after config change) change) config.arrays) → AreHeldArrays most config change (kept_and_added config change)
+      → ((entries : List (List ℕ × Array)) → changed_entries (kept_array (takes_revertible config change) (members_after config change) change) entries ≡ changed_entries (λ guid array. Some (array_after (takes_revertible config change) (members_after config change) change guid array)) entries)
+      → (kept_and_added config change ≡ changed_entries (kept_array (takes_revertible config change) (members_after config change) change) config.arrays)
+      → AreHeldArrays most config change (with_arrays (array_after (takes_revertible config change) (members_after config change) change) config.arrays) → AreHeldArrays most config change (kept_and_added config change)
   kept change same none are =
-      subst (AreHeldArrays most config change) (sym (none ∙ same config.arrays ∙ changed_all (array_after (members_after config change) change) config.arrays)) are
+      subst (AreHeldArrays most config change) (sym (none ∙ same config.arrays ∙ changed_all (array_after (takes_revertible config change) (members_after config change) change) config.arrays)) are
 
   -- those of all arrays, their low states aside
   kept_are : (change : Change) (seats : List Seat) → CanBeAsked change → causes (Some bound) config change seats ≡ None → AreHeldArrays most config change (kept_and_added config change)
@@ -222,13 +223,13 @@ module _ (most bound : ℕ) (within : bound ≤ most) (config : Configuration) (
       subst (AreHeldArrays most config (Delete gone)) (sym (append-nil _ ∙ kept_deleted (members_after config (Delete gone)) gone config.arrays)) (record {
         held = all_filter (IsHeldEntry most) (λ (entry : List ℕ × Array). not (same_guid gone entry.0)) config.arrays (entries_held most config can);
         apart = subst (IsDistinct bytes_eq) (sym (guids_others gone config.arrays)) (distinct_filter bytes_eq (λ guid. not (same_guid gone guid)) (guids_of config.arrays) can.can_hold.guids);
-        used = λ k use_as is. use_without_gone gone config.arrays use_as is;
+        used = λ k use_as is. use_without_gone gone config.arrays (given_back (is_left_by config gone k) use_as) (given_use (is_left_by config gone k) config.arrays use_as is);
       })
   kept_are (Create guid array) seats asked h =
       let allowed = create_allowed bound config seats guid array h in
       let entry : List ℕ × Array = (guid, created config.members (extents config.arrays) array) in
       let held = created_held config.members (extents config.arrays) guid array bound most can.can_hold.members asked allowed.shapes allowed.tiers allowed.few within in
-      let arrays : changed_entries (kept_array (members_after config (Create guid array)) (Create guid array)) config.arrays ≡ config.arrays = changed_all (λ guid array. array) config.arrays ∙ same_entries config.arrays in
+      let arrays : changed_entries (kept_array false (members_after config (Create guid array)) (Create guid array)) config.arrays ≡ config.arrays = changed_all (λ guid array. array) config.arrays ∙ same_entries config.arrays in
       subst (λ (l : List (List ℕ × Array)). AreHeldArrays most config (Create guid array) (l ++ entry ∷ [])) (sym arrays) (record {
         held = all_append (IsHeldEntry most) config.arrays (entry ∷ []) (entries_held most config can) (held, tt);
         apart = subst (IsDistinct bytes_eq) (sym (guids_end config.arrays entry)) (distinct_end bytes_eq (guids_of config.arrays) guid can.can_hold.guids (guids_away guid config.arrays allowed.new));
@@ -244,6 +245,10 @@ module _ (most bound : ℕ) (within : bound ≤ most) (config : Configuration) (
       kept (Begin array element position spare start) (λ entries. refl) (append-nil _)
       (stay most config can (Begin array element position spare start) asked
       (λ k use_as is. chosen_use (nat_eq spare k) config.arrays uses.No use_as (no_use config.arrays) is))
+  kept_are (Return array element position disk start) seats asked h =
+      kept (Return array element position disk start) (λ entries. refl) (append-nil _)
+      (stay most config can (Return array element position disk start) asked
+      (λ k use_as is. given_use (is_given_back config array element position disk k) config.arrays use_as is))
   kept_are other seats asked h = kept other (λ entries. refl) (append-nil _) (stay most config can other asked (λ k use_as is. is))
 
   arrays_are : (change : Change) (seats : List Seat) → CanBeAsked change → causes (Some bound) config change seats ≡ None → AreHeldArrays most config change (arrays_after config change)

@@ -1,5 +1,5 @@
 -- What a change makes of the array that it names keeps what copies can hold.
-use Rattle.std.proofs.Common.{◌≡◌, ℕ, ◌+◌, ◌-◌, ◌/◌, ◌%◌, ◌^◌, ◌<◌, Bool, true, false, eqb, List, [], ◌∷◌, map, Option, Some, None, nat_eq, option_map, zero, suc, refl, sym, ap, ◌∙◌, if◌then◌else◌, arith}
+use Rattle.std.proofs.Common.{◌≡◌, ℕ, ◌+◌, ◌-◌, ◌/◌, ◌%◌, ◌^◌, ◌<◌, Bool, true, false, not, ◌&&◌, eqb, List, [], ◌∷◌, map, Option, Some, None, nat_eq, option_map, zero, suc, refl, sym, ap, ◌∙◌, if◌then◌else◌, arith}
 use Rattle.std.proofs.lemmas.Bool.{eqb-true}
 use Rattle.std.proofs.lemmas.List.{length-map}
 use Rattle.std.proofs.lemmas.List.FromFn.{length-enumerate_from}
@@ -8,12 +8,13 @@ use Rattle.std.specs.List.{AllByRecursion, enumerate_from}
 use Rattle.ddf_config.specs.declared.member.Member.{Member}
 use Rattle.ddf_config.specs.declared.element.Position.{Position}
 use Rattle.ddf_config.specs.declared.array.Array.{Array}
-use Rattle.ddf_config.specs.ElementValue.{ElementValue as ElementPlan, with_positions}
+use Rattle.ddf_config.specs.ElementValue.{ElementValue as ElementPlan, with_disks, with_positions}
 use Rattle.ddf_config.specs.States.{is_marked}
 use Rattle.ddf_plan.specs.declared.change.Change.{Change}
-use Rattle.ddf_plan.specs.declared.change.Change.TheVariants.{Lose, Fail, Mark, Unmark, Rewind, Begin, Progress, Finish}
+use Rattle.ddf_plan.specs.declared.change.Change.TheVariants.{Lose, Fail, Mark, Unmark, Rewind, Begin, Progress, Finish, Return}
 use Rattle.ddf_plan.specs.Mark.{mark, marked, marked_state, rewound, unmarked, unmarked_state, with_init, without_row, without_rows}
-use Rattle.ddf_plan.specs.Rebuild.{begun, finished, new_position, progressed}
+use Rattle.ddf_plan.specs.Standing.{has_stand_in, stand_in_after}
+use Rattle.ddf_plan.specs.Rebuild.{begun, finished, new_position, progressed, returned}
 use Rattle.ddf_plan.specs.Arrays.{array_after, element_after, named_after, names, part_after, position_after, rebuilding}
 use Rattle.ddf_rewrite.specs.Hold.{FitsPosition}
 use Rattle.ddf_rewrite.specs.Readable.{OneRebuilt}
@@ -56,6 +57,16 @@ finished_keeps position = record {
     row true one h = let no : true ≡ false = h in absurd cc
     row false one h = h
 
+-- one behind the other
+both_keep : (f g : ℕ → Position → Position) → KeepsNumbered f → KeepsNumbered g → KeepsNumbered (λ number one. g number (f number one))
+both_keep f g first second = record {
+  fits = λ number one is. second.fits number (f number one) (first.fits number one is);
+  rows = λ i j one other before h k. second.rows i j (f i one) (f j other) (λ had has. first.rows i j one other before had has) h k;
+}
+
+returned_keeps : (position reference start : ℕ) → FitsPosition (new_position reference start) → KeepsNumbered (returned position reference start)
+returned_keeps position reference start new = both_keep (begun position reference start) (finished position) (begun_keeps position reference start new) (finished_keeps position)
+
 progressed_keeps : (position row : ℕ) → row < 2 ^ 64 → KeepsNumbered (progressed position row)
 progressed_keeps position row small = record {
   fits = λ number one is. record { reference = is.reference; start = is.start; row = fits (nat_eq position number) };
@@ -96,8 +107,9 @@ numbered_rebuilt f keeps plan one i j first second at also h k =
     (ap (λ (p : Position). eqb p.row 0) from.4 ∙ h) (ap (λ (p : Position). eqb p.row 0) other.4 ∙ k) in
     omega (arith, same, first_at, second_at)
 
-numbered_held : (f : ℕ → Position → Position) → KeepsNumbered f → (most elements : ℕ) (plan : ElementPlan) → IsHeldPlan most elements plan → IsHeldPlan most elements (with_positions plan (map (λ pair. f pair.0 pair.1) (enumerate_from 0 plan.positions)))
-numbered_held f keeps most elements plan is =
+numbered_held : (f : ℕ → Position → Position) → KeepsNumbered f → (most elements : ℕ) (plan : ElementPlan) (stand_in : ℕ) → stand_in < 2 ^ 32 → IsHeldPlan most elements plan
+    → IsHeldPlan most elements (with_disks plan stand_in (map (λ pair. f pair.0 pair.1) (enumerate_from 0 plan.positions)))
+numbered_held f keeps most elements plan stand_in small is =
     let same = length-map (enumerate_from 0 plan.positions) (λ pair. f pair.0 pair.1) ∙ length-enumerate_from 0 plan.positions in
     record {
       some = omega (arith, same, is.some);
@@ -108,27 +120,28 @@ numbered_held f keeps most elements plan is =
       level = is.level;
       qualifier = is.qualifier;
       blocks = is.blocks;
+      stand_in = small;
       positions = numbered_fit f keeps 0 plan.positions is.positions;
       rebuilt = numbered_rebuilt f keeps plan is.rebuilt;
     }
 
 -- ---- one element of an array
 
-module _ (change : Change) (keeps : KeepsNumbered (position_after change)) where
-  part_kept : (b : Bool) (part : Option ElementPlan) → IsPartKept part (if b then option_map (element_after change) part else part)
+module _ (revertible : Bool) (change : Change) (keeps : KeepsNumbered (position_after change)) (stands : (plan : ElementPlan) → plan.stand_in < 2 ^ 32 → stand_in_after revertible change plan < 2 ^ 32) where
+  part_kept : (b : Bool) (part : Option ElementPlan) → IsPartKept part (if b then option_map (element_after revertible change) part else part)
   part_kept true None = tt
   part_kept false None = tt
-  part_kept true (Some plan) = λ most elements is. numbered_held (position_after change) keeps most elements plan is
+  part_kept true (Some plan) = λ most elements is. numbered_held (position_after change) keeps most elements plan (stand_in_after revertible change plan) (stands plan is.stand_in) is
   part_kept false (Some plan) = λ most elements is. is
 
-  parts_kept : (named n : ℕ) (parts : List (Option ElementPlan)) → ArePartsKept parts (map (part_after change named) (enumerate_from n parts))
+  parts_kept : (named n : ℕ) (parts : List (Option ElementPlan)) → ArePartsKept parts (map (part_after revertible change named) (enumerate_from n parts))
   parts_kept named n [] = tt
   parts_kept named n (part ∷ parts) = (part_kept (nat_eq named n) part, parts_kept named (n + 1) parts)
 
-  rebuilding_keeps : (named : ℕ) → KeepsArrays (λ guid. rebuilding change named)
+  rebuilding_keeps : (named : ℕ) → KeepsArrays (λ guid. rebuilding revertible change named)
   rebuilding_keeps named = record {
-    held = λ most guid array is. entry_with most guid array (map (part_after change named) (enumerate_from 0 array.elements)) (parts_kept named 0 array.elements) is;
-    there = λ guid array index plan at. kept_there array.elements (map (part_after change named) (enumerate_from 0 array.elements)) (parts_kept named 0 array.elements) index plan at;
+    held = λ most guid array is. entry_with most guid array (map (part_after revertible change named) (enumerate_from 0 array.elements)) (parts_kept named 0 array.elements) is;
+    there = λ guid array index plan at. kept_there array.elements (map (part_after revertible change named) (enumerate_from 0 array.elements)) (parts_kept named 0 array.elements) index plan at;
   }
 
 -- ---- the mark
@@ -203,33 +216,47 @@ unmarked_keeps init = record {
 
 -- ---- the array that a change names, and the others
 
-named_keeps : (change : Change) → KeepsArrays (λ guid. named_after change) → KeepsArrays (λ guid array. if names change guid then named_after change array else array)
-named_keeps change keeps = record {
+named_keeps : (revertible : Bool) (change : Change) → KeepsArrays (λ guid. named_after revertible change) → KeepsArrays (λ guid array. if names change guid then named_after revertible change array else array)
+named_keeps revertible change keeps = record {
   held = λ most guid array is. held (names change guid) most guid array is;
   there = λ guid array index plan at. there (names change guid) guid array index plan at;
 }
   where
-    held : (b : Bool) (most : ℕ) (guid : List ℕ) (array : Array) → IsHeldEntry most (guid, array) → IsHeldEntry most (guid, if b then named_after change array else array)
+    held : (b : Bool) (most : ℕ) (guid : List ℕ) (array : Array) → IsHeldEntry most (guid, array) → IsHeldEntry most (guid, if b then named_after revertible change array else array)
     held true most guid array is = keeps.held most guid array is
     held false most guid array is = is
 
     there : (b : Bool) (guid : List ℕ) (array : Array) (index : ℕ) (plan : ElementPlan) → slice_get array.elements index ≡ Some (Some plan)
-        → (next : ElementPlan) × (slice_get (if b then named_after change array else array).elements index ≡ Some (Some next))
+        → (next : ElementPlan) × (slice_get (if b then named_after revertible change array else array).elements index ≡ Some (Some next))
     there true guid array index plan at = keeps.there guid array index plan at
     there false guid array index plan at = (plan, at)
 
+-- A disk that stands in has a reference that fits.
+begun_stands : (revertible : Bool) (guid : List ℕ) (element position reference start : ℕ) → reference < 2 ^ 32 → (plan : ElementPlan) → plan.stand_in < 2 ^ 32
+    → stand_in_after revertible (Begin guid element position reference start) plan < 2 ^ 32
+begun_stands revertible guid element position reference start new plan small = by (revertible && not (has_stand_in plan))
+  where
+    by : (b : Bool) → (if b then reference else plan.stand_in) < 2 ^ 32
+    by true = new
+    by false = small
+
 -- Whichever change it is.
-pub array_after_keeps : (members : List (ℕ × Member)) (change : Change) → CanBeAsked change → KeepsArrays (array_after members change)
-array_after_keeps members (Lose references) asked = lost_array_keeps members references
-array_after_keeps members (Fail failed) asked = lost_array_keeps members (failed ∷ [])
-array_after_keeps members (Mark guid) asked = named_keeps (Mark guid) marked_keeps
-array_after_keeps members (Unmark guid init) asked = named_keeps (Unmark guid init) (unmarked_keeps init)
-array_after_keeps members (Rewind guid) asked = named_keeps (Rewind guid) rewound_keeps
-array_after_keeps members (Begin guid element position reference start) asked =
-    named_keeps (Begin guid element position reference start)
-    (rebuilding_keeps (Begin guid element position reference start) (begun_keeps position reference start asked) element)
-array_after_keeps members (Progress guid element position row) asked =
-    named_keeps (Progress guid element position row) (rebuilding_keeps (Progress guid element position row) (progressed_keeps position row asked) element)
-array_after_keeps members (Finish guid element position) asked =
-    named_keeps (Finish guid element position) (rebuilding_keeps (Finish guid element position) (finished_keeps position) element)
-array_after_keeps members other asked = same_array_keeps
+pub array_after_keeps : (revertible : Bool) (members : List (ℕ × Member)) (change : Change) → CanBeAsked change → KeepsArrays (array_after revertible members change)
+array_after_keeps revertible members (Lose references) asked = lost_array_keeps members references
+array_after_keeps revertible members (Fail failed) asked = lost_array_keeps members (failed ∷ [])
+array_after_keeps revertible members (Mark guid) asked = named_keeps revertible (Mark guid) marked_keeps
+array_after_keeps revertible members (Unmark guid init) asked = named_keeps revertible (Unmark guid init) (unmarked_keeps init)
+array_after_keeps revertible members (Rewind guid) asked = named_keeps revertible (Rewind guid) rewound_keeps
+array_after_keeps revertible members (Begin guid element position reference start) asked =
+    named_keeps revertible (Begin guid element position reference start)
+    (rebuilding_keeps revertible (Begin guid element position reference start) (begun_keeps position reference start asked)
+    (begun_stands revertible guid element position reference start asked.reference) element)
+array_after_keeps revertible members (Progress guid element position row) asked =
+    named_keeps revertible (Progress guid element position row)
+    (rebuilding_keeps revertible (Progress guid element position row) (progressed_keeps position row asked) (λ plan small. small) element)
+array_after_keeps revertible members (Finish guid element position) asked =
+    named_keeps revertible (Finish guid element position) (rebuilding_keeps revertible (Finish guid element position) (finished_keeps position) (λ plan small. small) element)
+array_after_keeps revertible members (Return guid element position reference start) asked =
+    named_keeps revertible (Return guid element position reference start)
+    (rebuilding_keeps revertible (Return guid element position reference start) (returned_keeps position reference start asked) (λ plan small. omega arith) element)
+array_after_keeps revertible members other asked = same_array_keeps

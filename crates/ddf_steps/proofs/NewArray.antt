@@ -151,6 +151,7 @@ module _ (members : List (ℕ × Member)) (all : List Extent) (fit : AllByRecurs
         level = is.level;
         qualifier = is.qualifier;
         blocks = is.blocks;
+        stand_in = is.stand_in;
         positions = all_placed members all fit (element_strip elements plan) plan.blocks plan.positions is.positions;
         rebuilt = λ i j one other at also h k.
             let no = no_row_placed members all fit (element_strip elements plan) plan.blocks plan.positions is.positions i one at in

@@ -12,6 +12,7 @@ use Rattle.ddf_config.specs.ElementValue.{ElementValue as ElementPlan}
 use Rattle.ddf_config.specs.Configuration.{Configuration}
 use Rattle.ddf_config.specs.Members.{same_guid}
 use Rattle.ddf_plan.specs.Delete.{dedicated, use_without}
+use Rattle.ddf_plan.specs.Standing.{given_back}
 use Rattle.ddf_plan.specs.Spare.{can_have_spare, lacks_array, use_in_order}
 use Rattle.ddf_view.proofs.Finds.{filter_same}
 use Rattle.ddf_view.proofs.Tests.{same_bytes, bytes_same}
@@ -36,6 +37,17 @@ no_use entries = record { listed = λ arrays h. absurd cc; known = λ a entry at
 
 global_use : (entries : List (List ℕ × Array)) → IsUseAmong entries uses.Global
 global_use entries = record { listed = λ arrays h. absurd cc; known = λ a entry at h. absurd (false≢true h) }
+
+revertible_use : (entries : List (List ℕ × Array)) → IsUseAmong entries uses.Revertible
+revertible_use entries = record { listed = λ arrays h. absurd cc; known = λ a entry at h. absurd (false≢true h) }
+
+-- that of a disk that gives a place back
+pub given_use : (gives : Bool) (entries : List (List ℕ × Array)) (use_as : SpareUse) → IsUseAmong entries use_as → IsUseAmong entries (given_back gives use_as)
+given_use true entries uses.No is = revertible_use entries
+given_use false entries uses.No is = is
+given_use gives entries uses.Global is = is
+given_use gives entries uses.Revertible is = is
+given_use gives entries (uses.Dedicated arrays) is = is
 
 -- the same among arrays of the same GUIDs, each known where it was
 pub kept_use : (h : List ℕ → Array → Array) → KeepsArrays h → (entries : List (List ℕ × Array)) → guids_of (with_arrays h entries) ≡ guids_of entries → (use_as : SpareUse) → IsUseAmong entries use_as → IsUseAmong (with_arrays h entries) use_as
@@ -142,6 +154,7 @@ guids_end (one ∷ entries) entry = ap (λ l. one.0 ∷ l) (guids_end entries en
 pub not_for_new : (guid : List ℕ) (entries : List (List ℕ × Array)) → lookup (same_guid guid) entries ≡ None → (use_as : SpareUse) → IsUseAmong entries use_as → is_spare_for guid use_as ≡ false
 not_for_new guid entries new uses.No is = refl
 not_for_new guid entries new uses.Global is = refl
+not_for_new guid entries new uses.Revertible is = refl
 not_for_new guid entries new (uses.Dedicated arrays) is =
     false_from_ne_true (list_any (bytes_eq guid) arrays)
     (λ h.
@@ -223,6 +236,7 @@ for_dedicated guid (array ∷ arrays) h = h
 pub use_without_gone : (gone : List ℕ) (entries : List (List ℕ × Array)) (use_as : SpareUse) → IsUseAmong entries use_as → IsUseAmong (others gone entries) (use_without gone use_as)
 use_without_gone gone entries uses.No is = no_use (others gone entries)
 use_without_gone gone entries uses.Global is = global_use (others gone entries)
+use_without_gone gone entries uses.Revertible is = revertible_use (others gone entries)
 use_without_gone gone entries (uses.Dedicated arrays) is =
     let q = λ (guid : List ℕ). not (same_guid gone guid) in
     record {
@@ -274,6 +288,7 @@ pub use_ordered : (config : Configuration) → ((i j : ℕ) (one other : List �
     → (next : SpareUse) → IsNewUse next → lacks_array config next ≡ false → IsUseAmong config.arrays (use_in_order config.arrays next)
 use_ordered config apart uses.No new lacks = no_use config.arrays
 use_ordered config apart uses.Global new lacks = global_use config.arrays
+use_ordered config apart uses.Revertible new lacks = revertible_use config.arrays
 use_ordered config apart (uses.Dedicated arrays) new lacks =
     let q = λ (guid : List ℕ). list_any (same_guid guid) arrays in
     let names = keys_of config.arrays in

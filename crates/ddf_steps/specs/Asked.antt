@@ -8,7 +8,7 @@ use Rattle.ddf_config.specs.declared.array.Array.{Array}
 use Rattle.ddf_config.specs.ElementValue.{ElementValue as ElementPlan}
 use Rattle.ddf_config.specs.Within.{is_complete}
 use Rattle.ddf_plan.specs.declared.change.Change.{Change}
-use Rattle.ddf_plan.specs.declared.change.Change.TheVariants.{Create, Spare, Begin, Progress}
+use Rattle.ddf_plan.specs.declared.change.Change.TheVariants.{Create, Spare, Begin, Progress, Return}
 use Rattle.ddf_plan.specs.Rebuild.{new_position}
 use Rattle.ddf_rewrite.specs.Hold.{FitsArray, FitsPosition}
 
@@ -23,6 +23,7 @@ pub record IsNewPlan (plan : ElementPlan) : Type 0 where
   pub level : plan.level < 2 ^ 8
   pub qualifier : plan.qualifier < 2 ^ 8
   pub blocks : plan.blocks < 2 ^ 64
+  pub stand_in : plan.stand_in < 2 ^ 32
   pub positions : AllByRecursion IsNewPosition plan.positions
 
 pub record IsNewArray (guid : List ℕ) (array : Array) : Type 0 where
@@ -33,6 +34,7 @@ pub record IsNewArray (guid : List ℕ) (array : Array) : Type 0 where
 abbrev pub IsNewUse : SpareUse → Type 0
 IsNewUse uses.No = Unit {0}
 IsNewUse uses.Global = Unit {0}
+IsNewUse uses.Revertible = Unit {0}
 IsNewUse (uses.Dedicated arrays) = 0 < length arrays
 
 abbrev pub CanBeAsked : Change → Type 0
@@ -40,4 +42,5 @@ CanBeAsked (Create guid array) = IsNewArray guid array
 CanBeAsked (Spare reference use_as) = IsNewUse use_as
 CanBeAsked (Begin array element position reference start) = FitsPosition (new_position reference start)
 CanBeAsked (Progress array element position row) = row < 2 ^ 64
+CanBeAsked (Return array element position reference start) = FitsPosition (new_position reference start)
 CanBeAsked other = Unit {0}

@@ -32,6 +32,7 @@ group_line group sequence = codes "group " ++ encode_lower group ++ codes " sequ
 abbrev pub spare_text : SpareUse → List ℕ
 spare_text uses.No = []
 spare_text uses.Global = codes " spare global"
+spare_text uses.Revertible = codes " spare revertible"
 spare_text (uses.Dedicated guids) = codes " spare dedicated"
 
 -- whether the disk on a slot doesn't hold the configuration in both of its copies

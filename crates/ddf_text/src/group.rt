@@ -138,6 +138,7 @@ fn spare_text(spare: &SpareUse) -> &'static str
     match spare {
         SpareUse::No => "",
         SpareUse::Global => " spare global",
+        SpareUse::Revertible => " spare revertible",
         SpareUse::Dedicated(_) => " spare dedicated",
     }
 }

@@ -1,7 +1,7 @@
 -- Where the words of commands over a whole array go wrong.
 use Rattle.std.proofs.Common.{◌≡◌, ◌+◌, ◌<◌, ℕ, List, [], ◌∷◌, None, codes, length, drop, refl, ap, arith}
 use Rattle.std.specs.Fmt.{decimal}
-use Rattle.ddf_words.proofs.Commands.{create_names}
+use Rattle.ddf_words.proofs.Commands.{copyback, copyback_names, create_names}
 use Rattle.ddf_words.proofs.Elements.{elements_met}
 use Rattle.ddf_words.proofs.Fields.{Fields, Ends, IsMet, ends_met, field_met, lacks_field, behind_field, more_words}
 use Rattle.ddf_words.proofs.Names.{a_name, a_plain_name}
@@ -9,7 +9,7 @@ use Rattle.ddf_words.proofs.Numbers.{zero_number}
 use Rattle.ddf_words.proofs.Places.{wrong_behind}
 use Rattle.ddf_words.proofs.Wishes.{create}
 use Rattle.ddf_words.specs.Words.{Word, AreElements, GoWrongAt, IsGroupCommand, IsLevel, IsName, IsNamed, IsNumber, IsPlainName, IsSecondary, LacksAt, StandsAt}
-use Rattle.ddf_words.specs.declared.command.Command.TheVariants.{Change}
+use Rattle.ddf_words.specs.declared.command.Command.TheVariants.{Change, Copyback}
 use Rattle.ddf_words.specs.declared.command.Wish.TheVariants.{Create}
 
 -- ---- a name alone
@@ -38,6 +38,53 @@ module _ (command : Word) (words : List Word) where
 
   pub wrong_named_end : StandsAt IsName words 1 → 2 < length words → GoWrongAt (IsNamed command) (command ∷ drop 1 words) 2
   wrong_named_end name more = wrong_named command (drop 1 words) 1 (behind_field IsName [] Ends words 1 0 name (more_words words 2 more))
+
+-- ---- `copyback`
+
+abbrev IsSlot : Word → Type 0
+IsSlot word = IsNumber 63 word
+
+abbrev AreSlotAlone : List Word → Type 0
+AreSlotAlone words = Fields (IsSlot ∷ []) Ends words
+
+-- the words behind it
+abbrev AreArrayAndSlot : List Word → Type 0
+AreArrayAndSlot words = Fields (IsName ∷ IsSlot ∷ []) Ends words
+
+are_copyback : (words : List Word) → AreArrayAndSlot words → IsGroupCommand (copyback ∷ words)
+are_copyback [] are = absurd are
+are_copyback (name ∷ []) are = absurd are.1
+are_copyback (name ∷ slot ∷ others) are =
+    let ends : others ≡ [] = are.1.1 in
+    let number = are.1.0 in
+    record {
+      command = Copyback name number.number;
+      takes_one = refl;
+      spells = record { parts = rw (number.spells.spelled, ends) refl; is_name = are.0; slot_within = number.spells.within };
+    }
+
+copyback_are : (words : List Word) → IsGroupCommand (copyback ∷ words) → AreArrayAndSlot words
+copyback_are words is =
+    let named = copyback_names words is.command is.spells in
+    let parts : words ≡ named.name ∷ decimal named.slot ∷ [] = ap (drop 1) named.spells.parts in
+    rw parts (named.spells.is_name, (record { number = named.slot; spells = record { spelled = refl; within = named.spells.slot_within } }, refl))
+
+wrong_copyback : (words : List Word) (place : ℕ) → GoWrongAt AreArrayAndSlot words place → GoWrongAt IsGroupCommand (copyback ∷ words) (1 + place)
+wrong_copyback words place wrong = wrong_behind AreArrayAndSlot IsGroupCommand copyback words place copyback_are are_copyback wrong
+
+slot_met : IsMet AreSlotAlone
+slot_met = field_met IsSlot [] Ends (decimal 0) (zero_number 63) ends_met
+
+module _ (words : List Word) where
+  pub wrong_copyback_name : LacksAt IsName words 1 → GoWrongAt IsGroupCommand (copyback ∷ drop 1 words) 1
+  wrong_copyback_name lacks = wrong_copyback (drop 1 words) 0 (lacks_field IsName (IsSlot ∷ []) Ends words 1 (field_met IsName (IsSlot ∷ []) Ends (codes "a") a_name slot_met) lacks)
+
+  pub wrong_copyback_slot : StandsAt IsName words 1 → LacksAt IsSlot words 2 → GoWrongAt IsGroupCommand (copyback ∷ drop 1 words) 2
+  wrong_copyback_slot name lacks = wrong_copyback (drop 1 words) 1 (behind_field IsName (IsSlot ∷ []) Ends words 1 0 name (lacks_field IsSlot [] Ends words 2 slot_met lacks))
+
+  pub wrong_copyback_end : StandsAt IsName words 1 → StandsAt IsSlot words 2 → 3 < length words → GoWrongAt IsGroupCommand (copyback ∷ drop 1 words) 3
+  wrong_copyback_end name slot more = wrong_copyback (drop 1 words) 2 (behind_field IsName (IsSlot ∷ []) Ends words 1 1 name
+      (behind_field IsSlot [] Ends words 2 0 slot (more_words words 3 more)))
 
 -- ---- `create`
 

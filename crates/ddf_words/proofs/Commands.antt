@@ -5,9 +5,9 @@ use Rattle.ddf_words.proofs.Labels.{same_disks}
 use Rattle.ddf_words.proofs.Numbers.{same_number}
 use Rattle.ddf_words.proofs.Wishes.{accept, create, delete, fail, first_word, no_wish, same_wish, spare, unlike, wish_begins, wish_name, wish_not_at, word_at}
 use Rattle.ddf_words.specs.Traits.{traits_of}
-use Rattle.ddf_words.specs.Words.{Word, AreBlocks, NameDisks, NamesGroup, Spells, SpellBlocks, SpellCreate, SpellFail, SpellImport, SpellNamed, SpellSpare, IsGroupCommand, IsNamed}
+use Rattle.ddf_words.specs.Words.{Word, AreBlocks, NameDisks, NamesGroup, Spells, SpellBlocks, SpellCopyback, SpellCreate, SpellFail, SpellImport, SpellNamed, SpellSpare, IsGroupCommand, IsNamed}
 use Rattle.ddf_words.specs.declared.command.Command.{Command}
-use Rattle.ddf_words.specs.declared.command.Command.TheVariants.{Examine, Label, Assemble, Show, Read, Scrub, Resync, Rebuild, Write, Import, Change}
+use Rattle.ddf_words.specs.declared.command.Command.TheVariants.{Examine, Label, Assemble, Show, Read, Scrub, Resync, Rebuild, Copyback, Write, Import, Change}
 use Rattle.ddf_words.specs.declared.command.Creation.{Creation}
 use Rattle.ddf_words.specs.declared.command.SpareWord.{SpareWord}
 use Rattle.ddf_words.specs.declared.command.Wish.TheVariants.{Create, Delete, Accept, Spare, Fail}
@@ -36,6 +36,9 @@ resync = codes "resync"
 abbrev pub rebuild : Word
 rebuild = codes "rebuild"
 
+abbrev pub copyback : Word
+copyback = codes "copyback"
+
 abbrev pub write : Word
 write = codes "write"
 
@@ -52,6 +55,7 @@ name_of (Read name start count) = read
 name_of (Scrub name) = scrub
 name_of (Resync name) = resync
 name_of (Rebuild name) = rebuild
+name_of (Copyback name slot) = copyback
 name_of (Write name start count) = write
 name_of (Import group) = join_words
 name_of (Change wish) = wish_name wish
@@ -66,6 +70,7 @@ begins_with words (Read name start count) spells = ap first_word spells.parts
 begins_with words (Scrub name) spells = ap first_word spells.parts
 begins_with words (Resync name) spells = ap first_word spells.parts
 begins_with words (Rebuild name) spells = ap first_word spells.parts
+begins_with words (Copyback name slot) spells = ap first_word spells.parts
 begins_with words (Write name start count) spells = ap first_word spells.parts
 begins_with words (Import group) spells = ap first_word spells.parts
 begins_with words (Change wish) spells = wish_begins words wish spells
@@ -133,6 +138,17 @@ rebuild_names rest (Rebuild name) spells = record { name = name; spells = spells
 rebuild_names rest (Change wish) spells = absurd (no_wish rebuild (refl, refl, refl, refl, refl) wish (wish_begins (rebuild ∷ rest) wish spells))
 rebuild_names rest command spells = absurd (unlike rebuild (name_of command) refl (begins_with (rebuild ∷ rest) command spells))
 
+-- the words behind `copyback` name an array and a slot
+pub record NameCopyback (words : List Word) : Type 0 where
+  pub name : Word
+  pub slot : ℕ
+  pub spells : SpellCopyback name slot (copyback ∷ words)
+
+pub copyback_names : (rest : List Word) (command : Command) → Spells command (copyback ∷ rest) → NameCopyback rest
+copyback_names rest (Copyback name slot) spells = record { name = name; slot = slot; spells = spells }
+copyback_names rest (Change wish) spells = absurd (no_wish copyback (refl, refl, refl, refl, refl) wish (wish_begins (copyback ∷ rest) wish spells))
+copyback_names rest command spells = absurd (unlike copyback (name_of command) refl (begins_with (copyback ∷ rest) command spells))
+
 pub write_names : (rest : List Word) (command : Command) → Spells command (write ∷ rest) → AreBlocks write (write ∷ rest)
 write_names rest (Write name start count) spells = record { name = name; start = start; count = count; spells = spells }
 write_names rest (Change wish) spells = absurd (no_wish write (refl, refl, refl, refl, refl) wish (wish_begins (write ∷ rest) wish spells))
@@ -188,6 +204,14 @@ module _ (word : Word) (words : List Word) (name name' : Word) where
     same_blocks : (command : Word → ℕ → ℕ → Command) → command name start count ≡ command name' start' count'
     same_blocks command = λ i. command (same_array i) (same_start i) (same_count i)
 
+-- the words name one array and one slot
+same_copyback : (words : List Word) (name name' : Word) (slot slot' : ℕ) → SpellCopyback name slot words → SpellCopyback name' slot' words → Copyback name slot ≡ Copyback name' slot'
+same_copyback words name name' slot slot' spells spells' =
+    let parts = sym spells.parts ∙ spells'.parts in
+    let array : name ≡ name' = ap (word_at 1) parts in
+    let number : slot ≡ slot' = same_number 63 slot slot' (omega arith) spells.slot_within spells'.slot_within (ap (word_at 2) parts) in
+    λ i. Copyback (array i) (number i)
+
 -- the words name one group
 same_import : (words : List Word) (group group' : List ℕ) → SpellImport group words → SpellImport group' words → group ≡ group'
 same_import words group group' spells spells' = same_guid group group' spells.is_guid spells'.is_guid (ap (word_at 1) (sym spells.parts ∙ spells'.parts))
@@ -204,6 +228,7 @@ same_command words (Read name start count) (Read name' start' count') spells spe
 same_command words (Scrub name) (Scrub name') spells spells' = ap Scrub (same_named scrub words name name' spells spells')
 same_command words (Resync name) (Resync name') spells spells' = ap Resync (same_named resync words name name' spells spells')
 same_command words (Rebuild name) (Rebuild name') spells spells' = ap Rebuild (same_named rebuild words name name' spells spells')
+same_command words (Copyback name slot) (Copyback name' slot') spells spells' = same_copyback words name name' slot slot' spells spells'
 same_command words (Write name start count) (Write name' start' count') spells spells' = same_blocks write words name name' start start' count count' spells spells' Write
 same_command words (Import group) (Import group') spells spells' = ap Import (same_import words group group' spells spells')
 same_command words (Change wish) (Change wish') spells spells' = ap Change (same_wish words wish wish' spells spells')
@@ -228,6 +253,7 @@ pub record IsOther (name : Word) : Type 0 where
   pub scrub : name ≢ codes "scrub"
   pub resync : name ≢ codes "resync"
   pub rebuild : name ≢ codes "rebuild"
+  pub copyback : name ≢ codes "copyback"
   pub write : name ≢ codes "write"
   pub create : name ≢ codes "create"
   pub delete : name ≢ codes "delete"
@@ -245,6 +271,7 @@ other_name name other (Read array start count) takes e = other.read e
 other_name name other (Scrub array) takes e = other.scrub e
 other_name name other (Resync array) takes e = other.resync e
 other_name name other (Rebuild array) takes e = other.rebuild e
+other_name name other (Copyback array slot) takes e = other.copyback e
 other_name name other (Write array start count) takes e = other.write e
 other_name name other (Import group) takes e = other.join e
 other_name name other (Change (Create creation)) takes e = other.create e

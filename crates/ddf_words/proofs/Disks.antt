@@ -60,24 +60,30 @@ spare_begin = record { more = off ∷ []; goes_on = off_spelled }
 
 no_use : (word : SpareWord) → SpellsSpare word [] → ⊥
 no_use spares.Global spells = cc
+no_use spares.Revertible spells = cc
 no_use spares.Off spells = cc
 no_use (spares.For names) spells = let parts = spells.parts in cc
 
 pub wanting_use : (words : List Word) → words ≡ [] → GoWrongAt AreSpareWords words 0
 wanting_use words e = rw e (wanting_words AreSpareWords [] spare_begin (λ are. no_use are.word are.spells))
 
-other_use : (word : SpareWord) (first : Word) → first ≢ codes "global" → first ≢ codes "off" → first ≢ codes "for" → first ≢ spare_name word
-other_use spares.Global first not_global not_off not_for e = not_global e
-other_use spares.Off first not_global not_off not_for e = not_off e
-other_use (spares.For names) first not_global not_off not_for e = not_for e
+other_use : (word : SpareWord) (first : Word) → first ≢ codes "global" → first ≢ codes "revertible" → first ≢ codes "off" → first ≢ codes "for" → first ≢ spare_name word
+other_use spares.Global first not_global not_revertible not_off not_for e = not_global e
+other_use spares.Revertible first not_global not_revertible not_off not_for e = not_revertible e
+other_use spares.Off first not_global not_revertible not_off not_for e = not_off e
+other_use (spares.For names) first not_global not_revertible not_off not_for e = not_for e
 
-pub wrong_use : (words rest : List Word) (first : Word) → words ≡ first ∷ rest → first ≢ codes "global" → first ≢ codes "off" → first ≢ codes "for" → GoWrongAt AreSpareWords words 0
-wrong_use words rest first e not_global not_off not_for = rw e (wrong_word AreSpareWords (first ∷ rest) 0 (omega arith) spare_begin
-    (λ begun. other_use begun.goes_on.word first not_global not_off not_for (spare_begins (first ∷ begun.more) begun.goes_on.word begun.goes_on.spells)))
+pub wrong_use : (words rest : List Word) (first : Word) → words ≡ first ∷ rest → first ≢ codes "global" → first ≢ codes "revertible" → first ≢ codes "off" → first ≢ codes "for" → GoWrongAt AreSpareWords words 0
+wrong_use words rest first e not_global not_revertible not_off not_for = rw e (wrong_word AreSpareWords (first ∷ rest) 0 (omega arith) spare_begin
+    (λ begun. other_use begun.goes_on.word first not_global not_revertible not_off not_for (spare_begins (first ∷ begun.more) begun.goes_on.word begun.goes_on.spells)))
 
 global_alone : (rest : List Word) (word : SpareWord) → SpellsSpare word (codes "global" ∷ rest) → Ends rest
 global_alone rest spares.Global spells = ap (drop 1) spells
 global_alone rest word spells = absurd (unlike (codes "global") (spare_name word) refl (spare_begins (codes "global" ∷ rest) word spells))
+
+revertible_alone : (rest : List Word) (word : SpareWord) → SpellsSpare word (codes "revertible" ∷ rest) → Ends rest
+revertible_alone rest spares.Revertible spells = ap (drop 1) spells
+revertible_alone rest word spells = absurd (unlike (codes "revertible") (spare_name word) refl (spare_begins (codes "revertible" ∷ rest) word spells))
 
 off_alone : (rest : List Word) (word : SpareWord) → SpellsSpare word (off ∷ rest) → Ends rest
 off_alone rest spares.Off spells = ap (drop 1) spells
@@ -93,6 +99,10 @@ module _ (words : List Word) where
   pub wrong_global_end : 1 < length words → GoWrongAt AreSpareWords (codes "global" ∷ drop 1 words) 1
   wrong_global_end more = wrong_behind Ends AreSpareWords (codes "global") (drop 1 words) 0 (λ rest are. global_alone rest are.word are.spells)
       (λ rest ends. record { word = spares.Global; spells = ap (λ (ws : List Word). codes "global" ∷ ws) ends }) (more_words words 1 more)
+
+  pub wrong_revertible_end : 1 < length words → GoWrongAt AreSpareWords (codes "revertible" ∷ drop 1 words) 1
+  wrong_revertible_end more = wrong_behind Ends AreSpareWords (codes "revertible") (drop 1 words) 0 (λ rest are. revertible_alone rest are.word are.spells)
+      (λ rest ends. record { word = spares.Revertible; spells = ap (λ (ws : List Word). codes "revertible" ∷ ws) ends }) (more_words words 1 more)
 
   pub wrong_off_end : 1 < length words → GoWrongAt AreSpareWords (off ∷ drop 1 words) 1
   wrong_off_end more = wrong_behind Ends AreSpareWords off (drop 1 words) 0 (λ rest are. off_alone rest are.word are.spells)

@@ -4,7 +4,7 @@ use Rattle.std.specs.List.{AllByRecursion}
 use Rattle.ddf_words.specs.Commands.{FitsCommand, FitsElement, FitsSpare, FitsWish}
 use Rattle.ddf_words.specs.Words.{Word, SpellElements, Spells, SpellsAsked, SpellsSpare, SpellsWish}
 use Rattle.ddf_words.specs.declared.command.Command.{Command}
-use Rattle.ddf_words.specs.declared.command.Command.TheVariants.{Examine, Label, Assemble, Show, Read, Scrub, Resync, Rebuild, Write, Import, Change}
+use Rattle.ddf_words.specs.declared.command.Command.TheVariants.{Examine, Label, Assemble, Show, Read, Scrub, Resync, Rebuild, Copyback, Write, Import, Change}
 use Rattle.ddf_words.specs.declared.command.CreateElement.{CreateElement}
 use Rattle.ddf_words.specs.declared.command.SpareWord.{SpareWord}
 use Rattle.ddf_words.specs.declared.command.SpareWord.TheVariants as spares
@@ -31,6 +31,7 @@ few_elements (element ∷ elements) (word ∷ words) spell = omega (arith, few_e
 
 fits_spare : (word : SpareWord) (words : List Word) → SpellsSpare word words → FitsSpare word
 fits_spare spares.Global words spells = tt
+fits_spare spares.Revertible words spells = tt
 fits_spare spares.Off words spells = tt
 fits_spare (spares.For names) words spells = spells.are_names.some
 
@@ -55,6 +56,7 @@ fits (Read name start count) words spells = tt
 fits (Scrub name) words spells = tt
 fits (Resync name) words spells = tt
 fits (Rebuild name) words spells = tt
+fits (Copyback name slot) words spells = tt
 fits (Write name start count) words spells = tt
 fits (Import group) words spells = tt
 fits (Change wish) words spells = fits_wish wish words spells

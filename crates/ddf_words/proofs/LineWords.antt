@@ -42,7 +42,8 @@ no_sign (suc (suc (suc (suc (suc (suc (suc zero))))))) lt e = omega (arith, e)
 no_sign (suc (suc (suc (suc (suc (suc (suc (suc zero)))))))) lt e = omega (arith, e)
 no_sign (suc (suc (suc (suc (suc (suc (suc (suc (suc zero))))))))) lt e = omega (arith, e)
 no_sign (suc (suc (suc (suc (suc (suc (suc (suc (suc (suc zero)))))))))) lt e = omega (arith, e)
-no_sign (suc (suc (suc (suc (suc (suc (suc (suc (suc (suc (suc k))))))))))) lt e = omega (arith, lt)
+no_sign (suc (suc (suc (suc (suc (suc (suc (suc (suc (suc (suc zero))))))))))) lt e = omega (arith, e)
+no_sign (suc (suc (suc (suc (suc (suc (suc (suc (suc (suc (suc (suc k)))))))))))) lt e = omega (arith, lt)
 
 no_group : (group : List ℕ) (word : Word) → is_line_name word ≡ true → NamesGroup group word → ⊥
 no_group group word is names =

@@ -107,16 +107,19 @@ same_create words one other spells spells' =
 
 abbrev pub spare_name : SpareWord → Word
 spare_name spares.Global = codes "global"
+spare_name spares.Revertible = codes "revertible"
 spare_name spares.Off = codes "off"
 spare_name (spares.For names) = codes "for"
 
 pub spare_begins : (words : List Word) (word : SpareWord) → SpellsSpare word words → first_word words ≡ spare_name word
 spare_begins words spares.Global spells = ap first_word spells
+spare_begins words spares.Revertible spells = ap first_word spells
 spare_begins words spares.Off spells = ap first_word spells
 spare_begins words (spares.For names) spells = ap first_word spells.parts
 
 same_use : (words : List Word) (word word' : SpareWord) → SpellsSpare word words → SpellsSpare word' words → word ≡ word'
 same_use words spares.Global spares.Global spells spells' = refl
+same_use words spares.Revertible spares.Revertible spells spells' = refl
 same_use words spares.Off spares.Off spells spells' = refl
 same_use words (spares.For names) (spares.For names') spells spells' = ap spares.For (ap (drop 1) (sym spells.parts ∙ spells'.parts))
 same_use words word word' spells spells' = absurd (unlike (spare_name word) (spare_name word') refl (sym (spare_begins words word spells) ∙ spare_begins words word' spells'))

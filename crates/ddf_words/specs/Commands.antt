@@ -2,7 +2,7 @@
 use Rattle.std.specs.Prelude.{◌≤◌, ◌^◌, length}
 use Rattle.std.specs.List.{AllByRecursion}
 use Rattle.ddf_words.specs.declared.command.Command.{Command}
-use Rattle.ddf_words.specs.declared.command.Command.TheVariants.{Examine, Label, Assemble, Show, Read, Scrub, Resync, Rebuild, Write, Import, Change}
+use Rattle.ddf_words.specs.declared.command.Command.TheVariants.{Examine, Label, Assemble, Show, Read, Scrub, Resync, Rebuild, Copyback, Write, Import, Change}
 use Rattle.ddf_words.specs.declared.command.CreateElement.{CreateElement}
 use Rattle.ddf_words.specs.declared.command.Creation.{Creation}
 use Rattle.ddf_words.specs.declared.command.SpareWord.{SpareWord}
@@ -27,6 +27,7 @@ pub record FitsCreation (creation : Creation) : Type 0 where
 -- A spare for arrays is one for at least one.
 abbrev pub FitsSpare : SpareWord → Type 0
 FitsSpare spares.Global = Unit {0}
+FitsSpare spares.Revertible = Unit {0}
 FitsSpare spares.Off = Unit {0}
 FitsSpare (spares.For names) = 1 ≤ length names
 
@@ -46,6 +47,7 @@ FitsCommand (Read name start count) = Unit {0}
 FitsCommand (Scrub name) = Unit {0}
 FitsCommand (Resync name) = Unit {0}
 FitsCommand (Rebuild name) = Unit {0}
+FitsCommand (Copyback name slot) = Unit {0}
 FitsCommand (Write name start count) = Unit {0}
 FitsCommand (Import group) = Unit {0}
 FitsCommand (Change wish) = FitsWish wish

@@ -5,7 +5,7 @@ use Rattle.std.specs.Str.{bytes_eq}
 use Rattle.std.specs.Fmt.{decimal}
 use Rattle.ddf_words.specs.Words.{Word, Spells}
 use Rattle.ddf_words.specs.declared.command.Command.{Command}
-use Rattle.ddf_words.specs.declared.command.Command.TheVariants.{Examine, Label, Assemble, Show, Read, Scrub, Resync, Rebuild, Write, Import, Change}
+use Rattle.ddf_words.specs.declared.command.Command.TheVariants.{Examine, Label, Assemble, Show, Read, Scrub, Resync, Rebuild, Copyback, Write, Import, Change}
 use Rattle.ddf_words.specs.Text.{IsReadAs}
 
 -- ---- lines
@@ -43,27 +43,48 @@ slot_named images word = if list_all is_digit word then None else position (λ p
 abbrev pub takes_slot : (name : Word) → Bool
 takes_slot name = bytes_eq name (codes "spare") || bytes_eq name (codes "fail")
 
--- behind two dashes, the slot whose image stands where the command takes one
+-- a command that takes an array and one slot, as its first two words behind the name
+abbrev pub takes_array : (name : Word) → Bool
+takes_array name = bytes_eq name (codes "copyback")
+
+-- behind two dashes, the slot whose image stands where the command takes one first
 abbrev pub slot_in : (images words : List Word) → Option ℕ
 slot_in images (dashes ∷ name ∷ word ∷ words) = if takes_slot name then slot_named images word else None
 slot_in images words = None
+
+-- and where it takes one behind an array
+abbrev pub slot_behind : (images words : List Word) → Option ℕ
+slot_behind images (dashes ∷ name ∷ array ∷ word ∷ words) = if takes_array name then slot_named images word else None
+slot_behind images words = None
 
 -- the number of the slot in the place of its image
 abbrev pub with_slot : Option ℕ → List Word → List Word
 with_slot (Some slot) (name ∷ word ∷ words) = name ∷ decimal slot ∷ words
 with_slot slot words = words
 
+abbrev pub with_slot_behind : Option ℕ → List Word → List Word
+with_slot_behind (Some slot) (name ∷ array ∷ word ∷ words) = name ∷ array ∷ decimal slot ∷ words
+with_slot_behind slot words = words
+
+abbrev pub first_numbered : (images words : List Word) → List Word
+first_numbered images (name ∷ word ∷ words) = if takes_slot name then with_slot (slot_named images word) (name ∷ word ∷ words) else name ∷ word ∷ words
+first_numbered images words = words
+
+abbrev pub second_numbered : (images words : List Word) → List Word
+second_numbered images (name ∷ array ∷ word ∷ words) =
+    if takes_array name then with_slot_behind (slot_named images word) (name ∷ array ∷ word ∷ words) else name ∷ array ∷ word ∷ words
+second_numbered images words = words
+
 -- where a command takes one slot, the path of an image stands for its slot
 abbrev pub numbered : (images words : List Word) → List Word
-numbered images (name ∷ word ∷ words) = if takes_slot name then with_slot (slot_named images word) (name ∷ word ∷ words) else name ∷ word ∷ words
-numbered images words = words
+numbered images words = second_numbered images (first_numbered images words)
 
 -- ---- commands
 
 -- the names of the commands that a line may ask for
 abbrev pub line_names : List Word
 line_names =
-    codes "assemble" ∷ codes "show" ∷ codes "create" ∷ codes "delete" ∷ codes "spare" ∷ codes "fail" ∷ codes "rebuild" ∷ codes "resync" ∷ codes "accept"
+    codes "assemble" ∷ codes "show" ∷ codes "create" ∷ codes "delete" ∷ codes "spare" ∷ codes "fail" ∷ codes "rebuild" ∷ codes "copyback" ∷ codes "resync" ∷ codes "accept"
     ∷ codes "scrub" ∷ codes "import" ∷ []
 
 abbrev pub is_line_name : Word → Bool
@@ -79,6 +100,7 @@ is_for_lines (Read name start count) = false
 is_for_lines (Scrub name) = true
 is_for_lines (Resync name) = true
 is_for_lines (Rebuild name) = true
+is_for_lines (Copyback name slot) = true
 is_for_lines (Write name start count) = false
 is_for_lines (Import group) = true
 is_for_lines (Change wish) = true

@@ -1,7 +1,7 @@
 -- What commands may do.
 use Rattle.std.specs.Prelude.{Bool, true, false}
 use Rattle.ddf_words.specs.declared.command.Command.{Command}
-use Rattle.ddf_words.specs.declared.command.Command.TheVariants.{Examine, Label, Assemble, Show, Read, Scrub, Resync, Rebuild, Write, Import, Change}
+use Rattle.ddf_words.specs.declared.command.Command.TheVariants.{Examine, Label, Assemble, Show, Read, Scrub, Resync, Rebuild, Copyback, Write, Import, Change}
 use Rattle.ddf_words.specs.declared.command.Wish.{Wish}
 use Rattle.ddf_words.specs.declared.command.Wish.TheVariants.{Create}
 use Rattle.ddf_words.specs.declared.traits.Traits.{Traits}
@@ -32,6 +32,7 @@ traits_of (Read name start count) = row true false true false false
 traits_of (Scrub name) = row true false true false false
 traits_of (Resync name) = row true true true false false
 traits_of (Rebuild name) = row true true true false false
+traits_of (Copyback name slot) = row true true true false false
 traits_of (Write name start count) = row true true true false true
 traits_of (Import group) = row true true true false false
 traits_of (Change wish) = row true true true (makes_guid wish) false

@@ -9,7 +9,7 @@ use Rattle.hex.specs.Hex.{encode_lower}
 use Rattle.ddf_bytes.specs.Guids.{IsGuid}
 use Rattle.ddf_words.specs.declared.command.Asked.{Asked}
 use Rattle.ddf_words.specs.declared.command.Command.{Command}
-use Rattle.ddf_words.specs.declared.command.Command.TheVariants.{Examine, Label, Assemble, Show, Read, Scrub, Resync, Rebuild, Write, Import, Change}
+use Rattle.ddf_words.specs.declared.command.Command.TheVariants.{Examine, Label, Assemble, Show, Read, Scrub, Resync, Rebuild, Copyback, Write, Import, Change}
 use Rattle.ddf_words.specs.declared.command.CreateElement.{CreateElement}
 use Rattle.ddf_words.specs.declared.command.Creation.{Creation}
 use Rattle.ddf_words.specs.declared.command.DiskStyle.{DiskStyle}
@@ -207,6 +207,7 @@ pub record SpellFor (names words : List Word) : Type 0 where
 -- the words that say what a disk is to be a spare for
 abbrev pub SpellsSpare : SpareWord → List Word → Type 0
 SpellsSpare spares.Global words = words ≡ codes "global" ∷ []
+SpellsSpare spares.Revertible words = words ≡ codes "revertible" ∷ []
 SpellsSpare spares.Off words = words ≡ codes "off" ∷ []
 SpellsSpare (spares.For names) words = SpellFor names words
 
@@ -220,6 +221,12 @@ pub record SpellSpare (slot : ℕ) (word : SpareWord) (words : List Word) : Type
 -- The words are `fail` and the number of a slot.
 pub record SpellFail (slot : ℕ) (words : List Word) : Type 0 where
   pub parts : words ≡ codes "fail" ∷ decimal slot ∷ []
+  pub slot_within : slot ≤ 63
+
+-- The words are `copyback`, the name of an array and the number of a slot.
+pub record SpellCopyback (name : Word) (slot : ℕ) (words : List Word) : Type 0 where
+  pub parts : words ≡ codes "copyback" ∷ name ∷ decimal slot ∷ []
+  pub is_name : IsName name
   pub slot_within : slot ≤ 63
 
 -- the words of each wish
@@ -250,6 +257,7 @@ Spells (Read name start count) words = SpellBlocks (codes "read") name start cou
 Spells (Scrub name) words = SpellNamed (codes "scrub") name words
 Spells (Resync name) words = SpellNamed (codes "resync") name words
 Spells (Rebuild name) words = SpellNamed (codes "rebuild") name words
+Spells (Copyback name slot) words = SpellCopyback name slot words
 Spells (Write name start count) words = SpellBlocks (codes "write") name start count words
 Spells (Import group) words = SpellImport group words
 Spells (Change wish) words = SpellsWish wish words

@@ -9,6 +9,7 @@ use crate::ends::ends_at;
 use crate::level_words::{level_at, secondary_at};
 use crate::name_words::{name_at, plain_name_at};
 use crate::number_words::byte_at;
+use crate::slot_words::LAST_SLOT;
 use crate::words::WordFault;
 use ddf_bytes::Seq;
 use std::alloc::Global;
@@ -38,6 +39,18 @@ pub(crate) fn create_of(alloc: Global, words: &[String]) -> Result<Command, Word
         Err(WordFault::Place(place)) => Err(WordFault::Place(5 + place)),
         Err(WordFault::Memory) => Err(WordFault::Memory),
     }
+}
+
+/// The command of words of which the first is `copyback`, or where they go wrong.
+pub(crate) fn copyback_of(alloc: Global, words: &[String]) -> Result<Command, WordFault>
+    ensures takes { IfOk result (λ command. (traits_of command).takes_group ≡ true) }
+    ensures found { IfOk result (λ command. Spells command (codes "copyback" ∷ drop 1 (words_of words.now))) }
+    ensures place { (place : ℕ) → result ≡ Err (WordFault.Place place) → GoWrongAt IsGroupCommand (codes "copyback" ∷ drop 1 (words_of words.now)) place }
+{
+    let name = name_at(alloc, words, 1)?;
+    let slot = byte_at(words, 2, LAST_SLOT)?;
+    ends_at(words, 3)?;
+    Ok(Command::Copyback { name, slot })
 }
 
 /// The name of an array that stands alone behind a command's word, or where the words go wrong.

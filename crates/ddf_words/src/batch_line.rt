@@ -22,6 +22,7 @@ fn is_line_name(word: &String) -> bool
             | "spare"
             | "fail"
             | "rebuild"
+            | "copyback"
             | "resync"
             | "accept"
             | "scrub"

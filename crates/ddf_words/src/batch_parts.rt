@@ -1,9 +1,9 @@
 //! The words of a line.
-ghost use Rattle.std.specs.Prelude.{◌≡◌, ◌∷◌, IfOk, position, string_bytes};
+ghost use Rattle.std.specs.Prelude.{◌≡◌, ◌∷◌, List, IfOk, position, string_bytes};
 ghost use Rattle.std.specs.List.{list_all};
 ghost use Rattle.std.specs.Str.{bytes_eq};
-ghost use Rattle.ddf_words.specs.Words.{dashes, words_of};
-ghost use Rattle.ddf_words.specs.Lines.{is_digit, numbered, parts_of, slot_in, slot_named, takes_slot};
+ghost use Rattle.ddf_words.specs.Words.{Word, dashes, words_of};
+ghost use Rattle.ddf_words.specs.Lines.{first_numbered, is_digit, numbered, parts_of, second_numbered, slot_behind, slot_in, slot_named, takes_array, takes_slot};
 
 use ddf_bytes::NoMemory;
 use std::alloc::Global;
@@ -12,11 +12,40 @@ use std::alloc::Global;
 pub fn line_words(alloc: Global, images: &[String], line: &str) -> Result<Vec<String>, NoMemory>
     ensures { IfOk result (λ words. words_of words.items ≡ dashes ∷ numbered (words_of images.now) (parts_of line.now)) }
 {
-    let mut words = parts(alloc, line)?;
+    let words = parts(alloc, line)?;
+    let words = first_numbered(alloc, images, words)?;
+    second_numbered(alloc, images, words)
+}
+
+/// The same words, with the number of a slot where its image stands and the command takes one behind its name.
+fn first_numbered(
+    alloc: Global,
+    images: &[String],
+    words: Vec<String>,
+) -> Result<Vec<String>, NoMemory>
+    ensures { IfOk result (λ found. (line : List Word) → words_of words.items ≡ dashes ∷ line → words_of found.items ≡ dashes ∷ first_numbered (words_of images.now) line) }
+{
+    let mut words = words;
     let Some(slot) = slot_in(images, &words) else {
         return Ok(words);
     };
     words[2] = format!(in alloc; "{slot}")?;
+    Ok(words)
+}
+
+/// The same where it takes one behind an array.
+fn second_numbered(
+    alloc: Global,
+    images: &[String],
+    words: Vec<String>,
+) -> Result<Vec<String>, NoMemory>
+    ensures { IfOk result (λ found. (line : List Word) → words_of words.items ≡ dashes ∷ line → words_of found.items ≡ dashes ∷ second_numbered (words_of images.now) line) }
+{
+    let mut words = words;
+    let Some(slot) = slot_behind(images, &words) else {
+        return Ok(words);
+    };
+    words[3] = format!(in alloc; "{slot}")?;
     Ok(words)
 }
 
@@ -42,11 +71,28 @@ fn slot_in(images: &[String], words: &[String]) -> Option<usize>
     }
 }
 
-/// Whether a command takes one slot.
+/// The slot whose image stands behind `copyback` and an array.
+fn slot_behind(images: &[String], words: &[String]) -> Option<usize>
+    ensures { result ≡ slot_behind (words_of images.now) (words_of words.now) }
+{
+    match words {
+        [_, name, _, image, ..] if takes_array(name) => slot_named(images, image),
+        _ => None,
+    }
+}
+
+/// Whether a command takes one slot behind its name.
 fn takes_slot(name: &String) -> bool
     ensures { result ≡ takes_slot (string_bytes name.now) }
 {
     matches!(name.as_str(), "spare" | "fail")
+}
+
+/// Whether it takes one behind an array.
+fn takes_array(name: &String) -> bool
+    ensures { result ≡ takes_array (string_bytes name.now) }
+{
+    name.as_str() == "copyback"
 }
 
 /// The slot of the image with this path. A word of digits is a slot's number.

@@ -53,6 +53,13 @@ pub enum Command {
         /// The name of the array, as the words give it.
         name: Seq<u8>,
     },
+    /// Moves a position of an array back from a revertible spare onto the disk of a slot.
+    Copyback {
+        /// The name of the array, as the words give it.
+        name: Seq<u8>,
+        /// The slot, from 0 to 63.
+        slot: u8,
+    },
     /// Writes blocks of an array, with bytes that it takes from the input.
     Write {
         /// The name of the array, as the words give it.
@@ -131,6 +138,8 @@ pub struct Creation {
 pub enum SpareWord {
     /// All arrays of the group.
     Global,
+    /// All arrays of the group, to give its place back once another disk is there.
+    Revertible,
     /// No array.
     Off,
     /// These arrays, 1 or more, by their names as the words give them. No two names are equal.

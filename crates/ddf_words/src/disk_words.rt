@@ -35,6 +35,10 @@ fn spare_word_of(alloc: Global, words: &[String]) -> Result<SpareWord, WordFault
             ends_at(words, 1)?;
             Ok(SpareWord::Global)
         }
+        "revertible" => {
+            ends_at(words, 1)?;
+            Ok(SpareWord::Revertible)
+        }
         "off" => {
             ends_at(words, 1)?;
             Ok(SpareWord::Off)

@@ -3,7 +3,7 @@ ghost use Rattle.std.specs.Prelude.{◌≡◌, ℕ, List, true, string_bytes, If
 ghost use Rattle.ddf_words.specs.Traits.{traits_of};
 ghost use Rattle.ddf_words.specs.Words.{words_of, NamesGroup, Spells, SpellsAsked, IsCommand, IsGroupCommand, IsRequest, GoWrongAt};
 
-use crate::array_words::{create_of, named_of};
+use crate::array_words::{copyback_of, create_of, named_of};
 use crate::block_words::{Blocks, blocks_of};
 use crate::command::{Asked, Command, Wish};
 use crate::disk_words::{fail_of, spare_of};
@@ -58,6 +58,7 @@ fn group_command_of(alloc: Global, words: &[String]) -> Result<Command, WordFaul
             let name = named_of(alloc, words)?;
             Ok(Command::Rebuild { name })
         }
+        "copyback" => copyback_of(alloc, words),
         "write" => {
             let Blocks { name, start, count } = blocks_of(alloc, words)?;
             Ok(Command::Write { name, start, count })

@@ -51,6 +51,7 @@ impl Command {
             Command::Assemble
             | Command::Resync { .. }
             | Command::Rebuild { .. }
+            | Command::Copyback { .. }
             | Command::Import { .. } => Traits {
                 takes_group: true,
                 may_write: true,

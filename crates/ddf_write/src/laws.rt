@@ -90,7 +90,7 @@ pub fn a_fault_of_a_write_names_a_disk_of_the_array<B: Bay>(old: &B, new: &B)
 {}
 
 /// A look at what lies beside blocks finds no source left of a cell only where reads of two disks failed: that which it names, and another. So no single
-/// disk keeps blocks from being written, however many of its sectors can't be read. The array lacks no position of an element that keeps parity, and has no
+/// disk ends a look, however many of its sectors can't be read. The array lacks no position of an element that keeps parity, and has no
 /// two of them on one disk.
 pub fn a_look_ends_only_where_two_disks_failed<B: Bay>(old: &B, new: &B)
     ensures { (volume : Volume) (start count slot : ℕ) → IsVolume volume → is_degraded volume ≡ false → AreOnOwnDisks volume

@@ -11,7 +11,7 @@ use Rattle.ddf_array.proofs.viewing.part_of.Goals as goal
 pub returns-clause-sound : goal.returns-clause-sound
 returns-clause-sound c =
     let e = c.element.inside in
-    let element : ElementValue = record { level = e.level; qualifier = e.qualifier; strip = e.strip; blocks = e.blocks; positions = e.positions.items } in
+    let element : ElementValue = record { level = e.level; qualifier = e.qualifier; strip = e.strip; blocks = e.blocks; stand_in = e.stand_in; positions = e.positions.items } in
     let shape = c.in-Some.shape in
     let made : element_shape c.args.elements element ≡ Some shape = subst (λ (x : ElementValue). element_shape c.args.elements x ≡ Some shape) (sym c.element.view_is) (sym c.in-Some.ensures.value) in
     let same = ap length c.as_slice.ensures.value in

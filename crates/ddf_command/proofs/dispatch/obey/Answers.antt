@@ -50,6 +50,12 @@ returns-in-Rebuild-clause-done g c = rw c.in-Rebuild.is (rw c.items-in-Rebuild.e
 pub returns-in-Rebuild-clause-ends : goal.returns-in-Rebuild-clause-ends
 returns-in-Rebuild-clause-ends g c = rw c.in-Rebuild.is (ends_by _ _ _ inl c.rebuild.ensures.ends)
 
+pub returns-in-Copyback-clause-done : goal.returns-in-Copyback-clause-done
+returns-in-Copyback-clause-done g c = rw c.in-Copyback.is (rw c.items-in-Copyback.ensures at c.copyback.ensures.done)
+
+pub returns-in-Copyback-clause-ends : goal.returns-in-Copyback-clause-ends
+returns-in-Copyback-clause-ends g c = rw c.in-Copyback.is (ends_by _ _ _ inl c.copyback.ensures.ends)
+
 pub returns-in-Write-clause-done : goal.returns-in-Write-clause-done
 returns-in-Write-clause-done g c = rw c.in-Write.is (rw c.items-in-Write.ensures at c.write.ensures.done)
 

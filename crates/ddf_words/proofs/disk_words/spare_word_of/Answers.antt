@@ -1,7 +1,7 @@
 use Rattle.std.proofs.Common.{◌≡◌, ◌+◌, ◌∷◌, ◌∙◌, Err, codes, sym, ap, string_bytes, arith}
 use Rattle.std.proofs.lemmas.List.{length-map}
 use Rattle.ddf_words.specs.Words.{Word, words_of, AreSpareWords, GoWrongAt}
-use Rattle.ddf_words.proofs.Disks.{wanting_use, wrong_use, wrong_global_end, wrong_off_end, wrong_names}
+use Rattle.ddf_words.proofs.Disks.{wanting_use, wrong_use, wrong_global_end, wrong_revertible_end, wrong_off_end, wrong_names}
 use Rattle.ddf_words.proofs.Faults.{passed_on}
 use Rattle.ddf_words.proofs.Lists.{named_words, none_left}
 use Rattle.ddf_words.proofs.disk_words.spare_word_of.Goals as goal
@@ -17,6 +17,14 @@ returns-in_err-ends_at-in-global-clause-place c = λ place e.
     let more = c.ends_at.ensures.place place (passed_on c.ends_at.result c.in_err-ends_at-in-global.field-0.0 c.from_residual.result place c.in_err-ends_at-in-global.was c.from_residual.ensures.1 e) in
     let parts = named_words words (words_of c.in-Some.names.now) (string_bytes c.in-Some.first.now) (codes "global") (ap words_of c.in-Some.ensures.cases.0) (sym c.as_str.ensures.value ∙ c.in-global.is) in
     rw (more.0, parts) (wrong_global_end words more.1)
+
+pub returns-in_err-ends_at-in-revertible-clause-place : goal.returns-in_err-ends_at-in-revertible-clause-place
+returns-in_err-ends_at-in-revertible-clause-place c = λ place e.
+    let words = words_of c.args.words.now in
+    let more = c.ends_at-in-revertible.ensures.place place (passed_on c.ends_at-in-revertible.result c.in_err-ends_at-in-revertible.field-0.0 c.from_residual-in_err-ends_at-in-revertible.result place c.in_err-ends_at-in-revertible.was
+    c.from_residual-in_err-ends_at-in-revertible.ensures.1 e) in
+    let parts = named_words words (words_of c.in-Some.names.now) (string_bytes c.in-Some.first.now) (codes "revertible") (ap words_of c.in-Some.ensures.cases.0) (sym c.as_str.ensures.value ∙ c.in-revertible.is) in
+    rw (more.0, parts) (wrong_revertible_end words more.1)
 
 pub returns-in_err-ends_at-in-off-clause-place : goal.returns-in_err-ends_at-in-off-clause-place
 returns-in_err-ends_at-in-off-clause-place c = λ place e.
@@ -45,5 +53,6 @@ returns-in_default-as_str-clause-place c = λ place e.
     let same : 0 ≡ place = cc in
     rw same at (wrong_use (words_of c.args.words.now) (words_of c.in-Some.names.now) (string_bytes c.in-Some.first.now) (ap words_of c.in-Some.ensures.cases.0)
     (λ e. c.in_default-as_str.not-global (c.as_str.ensures.value ∙ e))
+    (λ e. c.in_default-as_str.not-revertible (c.as_str.ensures.value ∙ e))
     (λ e. c.in_default-as_str.not-off (c.as_str.ensures.value ∙ e))
     (λ e. c.in_default-as_str.not-for (c.as_str.ensures.value ∙ e)))

@@ -2,7 +2,7 @@ use Rattle.std.proofs.Common.{◌≡◌, ◌∷◌, ◌∙◌, List, drop, refl,
 use Rattle.ddf_words.specs.Words.{Word, words_of, AreBlocks, IsGroupCommand, IsNamed}
 use Rattle.ddf_words.specs.declared.command.Command.TheVariants.{Assemble, Show, Read, Scrub, Resync, Rebuild, Write, Change}
 use Rattle.ddf_words.specs.declared.command.Wish.TheVariants.{Delete, Accept}
-use Rattle.ddf_words.proofs.Commands.{accept_names, assemble, assemble_alone, delete_names, join_words, other_name, read, read_names, rebuild, rebuild_names, resync, resync_names, scrub, scrub_names, show, show_alone, write, write_names}
+use Rattle.ddf_words.proofs.Commands.{accept_names, assemble, assemble_alone, copyback, delete_names, join_words, other_name, read, read_names, rebuild, rebuild_names, resync, resync_names, scrub, scrub_names, show, show_alone, write, write_names}
 use Rattle.ddf_words.proofs.Faults.{passed_on}
 use Rattle.ddf_words.proofs.Places.{wrong_among}
 use Rattle.ddf_words.proofs.Requests.{no_group_command, other_group_command, more_group_words}
@@ -26,6 +26,7 @@ returns-in_default-as_str-clause-place c = λ place e.
       scrub = λ e. c.in_default-as_str.not-scrub (c.as_str.ensures.value ∙ e);
       resync = λ e. c.in_default-as_str.not-resync (c.as_str.ensures.value ∙ e);
       rebuild = λ e. c.in_default-as_str.not-rebuild (c.as_str.ensures.value ∙ e);
+      copyback = λ e. c.in_default-as_str.not-copyback (c.as_str.ensures.value ∙ e);
       write = λ e. c.in_default-as_str.not-write (c.as_str.ensures.value ∙ e);
       create = λ e. c.in_default-as_str.not-create (c.as_str.ensures.value ∙ e);
       delete = λ e. c.in_default-as_str.not-delete (c.as_str.ensures.value ∙ e);
@@ -53,6 +54,11 @@ pub returns-in-create-clause-place : goal.returns-in-create-clause-place
 returns-in-create-clause-place c = λ place e.
     rw (named_words (words_of c.args.words.now) (words_of c.in-Some.rest.now) (string_bytes c.in-Some.name.now) create (ap words_of c.in-Some.ensures.cases.0) (sym c.as_str.ensures.value ∙ c.in-create.is))
     (c.create_of.ensures.place place e)
+
+pub returns-in-copyback-clause-place : goal.returns-in-copyback-clause-place
+returns-in-copyback-clause-place c = λ place e.
+    rw (named_words (words_of c.args.words.now) (words_of c.in-Some.rest.now) (string_bytes c.in-Some.name.now) copyback (ap words_of c.in-Some.ensures.cases.0) (sym c.as_str.ensures.value ∙ c.in-copyback.is))
+    (c.copyback_of.ensures.place place e)
 
 pub returns-in-spare-clause-place : goal.returns-in-spare-clause-place
 returns-in-spare-clause-place c = λ place e.
