@@ -1,3 +1,15 @@
+mod FewStretches
 mod Accepted
 mod Giving
 mod Unfailing
+mod Moves
+mod Counted
+mod Chosen
+mod Usable
+mod Tables
+mod Levels
+mod Given
+mod Between
+mod Stood
+mod Twice
+mod Back

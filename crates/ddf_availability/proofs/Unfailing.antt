@@ -1,7 +1,7 @@
 -- Over disks in memory of which no call is listed to fail no read fails of a disk from which an array is read.
-use Rattle.std.proofs.Common.{◌≡◌, ◌∙◌, ◌⊎◌, ℕ, zero, suc, ◌<◌, Bool, true, false, List, [], ◌∷◌, length, map, Option, Some, None, Result, Ok, Err, refl, sym, ap, subst, inl, inr, arith}
+use Rattle.std.proofs.Common.{◌≡◌, ◌∙◌, ◌⊎◌, ℕ, zero, suc, ◌+◌, ◌-◌, ◌^◌, ◌<◌, ◌≤◌, Bool, true, false, List, [], ◌∷◌, length, map, Option, Some, None, Result, Ok, Err, refl, sym, ap, subst, inl, inr, arith}
 use Rattle.std.proofs.lemmas.Bool.{false_from_ne_true}
-use Rattle.std.specs.Prelude.{option_map, slice_get, slice_index_or}
+use Rattle.std.specs.Prelude.{option_map, slice_get, slice_index, slice_index_or}
 use Rattle.std.specs.List.{cons_option}
 use Rattle.std.specs.Option.{option_and_then}
 use Rattle.ddf_bay.specs.Memory.{disks_of}
@@ -13,6 +13,7 @@ use Rattle.ddf_copy.specs.declared.newest_copy.Newest.{Newest}
 use Rattle.ddf_copy.specs.Copies.{standing_copy}
 use Rattle.ddf_array.proofs.Fits.{place_seat}
 use Rattle.ddf_read.specs.Reading.{IsOn, NoneFailed}
+use Rattle.ddf_read.specs.Stretches.{HaveCopies}
 use Rattle.ddf_group.specs.declared.answer.Assembled.{Assembled}
 use Rattle.ddf_group.specs.declared.answer.Assembly.{Assembly}
 use Rattle.ddf_group.specs.Assembled.{assembled}
@@ -24,11 +25,13 @@ use Rattle.ddf_recovery.specs.Recovery.{trusted_seats}
 use Rattle.ddf_recovery.proofs.Trusted.{trusted_there}
 use Rattle.ddf_answer.specs.declared.failure.Failure.TheVariants.{Conflict, Disk, Memory, Refused, Split}
 use Rattle.ddf_answer.specs.Call.{work_of}
-use Rattle.ddf_read_commands.specs.Read.{HasNoPlace, HasRead, Outcome}
+use Rattle.ddf_read_commands.specs.Read.{CallsOfReading, HasNoPlace, HasRead, IsReadable, Outcome, is_unread, room_for}
 use Rattle.ddf_read_commands.specs.Read.Outcome.{CutShort, NotRead, Stopped, Whole}
 use Rattle.ddf_history_memory.specs.Histories.{GoesWell}
-use Rattle.ddf_history_memory.proofs.Slots.{becomes}
-use Rattle.ddf_availability.specs.Serving.{GivesBlocks, IsServing}
+use Rattle.ddf_history_memory.proofs.Slots.{becomes, still_tells}
+use Rattle.ddf_availability.specs.Serving.{GivesBlocks, IsServing, most_reads}
+use Rattle.ddf_availability.proofs.Accepted.{accepted}
+use Rattle.ddf_availability.proofs.FewStretches.{few_over}
 use Rattle.ddf_availability.proofs.Giving.{call_gives}
 
 -- ---- the slots of seats
@@ -94,7 +97,7 @@ memory_or (CutShort front) = inr (λ is. cc)
 
 -- ---- a read over disks in memory
 
-module _ (old exit : MemoryBay) (well : GoesWell old exit) (told : (disks_of exit).tells_left) (named : Option (List ℕ)) (word : List ℕ) (start count : ℕ) (outcome : Outcome)
+module _ (old exit : MemoryBay) (well : GoesWell old exit) (told : (disks_of old).tells_left) (named : Option (List ℕ)) (word : List ℕ) (start count : ℕ) (outcome : Outcome)
     (read : HasRead (work_of (Unit {0}) (disks_of old) (disks_of exit)) named word start count outcome) (found : GroupValue) (is_found : group_of read.newest named ≡ Ok found)
     (serving : IsServing found.config (trusted_seats found) word start count) where
   -- The slot of an available place is one of those that the call looked at,
@@ -117,11 +120,15 @@ module _ (old exit : MemoryBay) (well : GoesWell old exit) (told : (disks_of exi
     plugged : (slot : ℕ) → IsOn serving.volume slot → slice_index_or old.unplugged slot false ≡ false
     plugged slot on = false_from_ne_true (slice_index_or old.unplugged slot false) (λ gone. not_out slot on (read.gone ample slot (looked_at slot on) gone))
 
+    same_reads : (slot : ℕ) → IsOn serving.volume slot → slice_index exit.read_faults slot ≡ slice_index old.read_faults slot
+    same_reads slot on = (becomes old exit well).no_reads slot (record { none_listed = well.none_listed; never_over = well.never_over; plugged = plugged slot on })
+
     none_failed : NoneFailed serving.volume (disks_of old) (disks_of exit)
-    none_failed slot on (inl up) =
-        let same = (becomes old exit well).no_reads slot (record { none_listed = well.none_listed; never_over = well.never_over; plugged = plugged slot on }) in
-        omega (arith, up, same)
-    none_failed slot on (inr last) = let low = exit.reads_within slot in omega (arith, low, last, told)
+    none_failed slot on (inl up) = let same = same_reads slot on in omega (arith, up, same)
+    none_failed slot on (inr last) =
+        let same = same_reads slot on in
+        let low = old.reads_within slot in
+        omega (arith, low, last, same, told)
 
   pub memory_gives : GivesBlocks (disks_of old).held serving.volume start count outcome
   memory_gives = by (memory_or outcome)
@@ -129,3 +136,28 @@ module _ (old exit : MemoryBay) (well : GoesWell old exit) (told : (disks_of exi
       by : (outcome ≡ NotRead Memory) ⊎ (outcome ≡ NotRead Memory → ⊥) → GivesBlocks (disks_of old).held serving.volume start count outcome
       by (inl memory) = subst (GivesBlocks (disks_of old).held serving.volume start count) (sym memory) refl
       by (inr ample) = call_gives (work_of (Unit {0}) (disks_of old) (disks_of exit)) tt named word start count found serving outcome read is_found (none_failed ample)
+
+  -- ---- its calls
+
+  readable : IsReadable found.config (trusted_seats found) word start count serving.volume
+  readable = record { entry = serving.entry; is_named = serving.is_named; is_view = serving.is_view; accepted = accepted found.config (trusted_seats found) word start count serving }
+
+  module _ (copied : HaveCopies serving.volume start count) where
+    blocks_counted : (outcome ≡ NotRead Memory → ⊥) → (disks_of exit).calls ≤ (disks_of old).calls + most_reads (length (disks_of old).sizes) count
+    blocks_counted ample =
+        let reading = subst (λ (meaning : Result GroupValue Assembly). CallsOfReading (work_of (Unit {0}) (disks_of old) (disks_of exit)) word start count meaning) is_found read.calls in
+        let grew = reading serving.volume readable copied (none_failed ample) in
+        let few = few_over serving.volume (room_for count) start count grew.pieces in
+        let more = grew.grew in
+        omega (arith, few, more)
+
+    pub memory_counted : (disks_of exit).calls ≤ (disks_of old).calls + most_reads (length (disks_of old).sizes) count
+    memory_counted = by (memory_or outcome)
+      where
+        by : (outcome ≡ NotRead Memory) ⊎ (outcome ≡ NotRead Memory → ⊥) → (disks_of exit).calls ≤ (disks_of old).calls + most_reads (length (disks_of old).sizes) count
+        by (inl memory) = let looked = read.looks (ap is_unread memory) in omega (arith, looked)
+        by (inr ample) = blocks_counted ample
+
+    pub memory_tells : (disks_of old).calls + most_reads (length (disks_of old).sizes) count < 2 ^ 64 - 1 → (disks_of old).moment + most_reads (length (disks_of old).sizes) count < 2 ^ 64 - 1
+        → (disks_of exit).tells_left
+    memory_tells below early = still_tells old exit well (most_reads (length (disks_of old).sizes) count) memory_counted below early

@@ -1,5 +1,5 @@
 -- Arrays that their disks serve, and what a read of one comes to.
-use Rattle.std.specs.Prelude.{◌≡◌, ℕ, ◌+◌, ◌≤◌, false, true, List, length, None, Some, Ok}
+use Rattle.std.specs.Prelude.{◌≡◌, ℕ, ◌+◌, ◌*◌, ◌≤◌, false, true, List, length, None, Some, Ok}
 use Rattle.ddf_bay.specs.Sectors.{Image}
 use Rattle.ddf_config.specs.declared.array.Array.{Array}
 use Rattle.ddf_config.specs.declared.seat.Seat.{Seat}
@@ -44,3 +44,8 @@ pub record IsToldAll (image : Image) (volume : Volume) (start count : ℕ) (answ
   pub counted : length sectors ≡ count
   pub values : AreValues image volume start count sectors
   pub told : EndedWith 0 (bytes_of sectors) answer
+
+-- The most calls that a read of so many blocks makes of a bay of so many slots, where each block has an available cell and no read fails: 15 to look at each slot,
+-- and one for each block.
+abbrev pub most_reads : (slots count : ℕ) → ℕ
+most_reads slots count = 15 * slots + count

@@ -1,11 +1,12 @@
 //! Laws of availability: functions that do nothing, whose contracts are the laws. docs/PROOF.md#proved
-ghost use Rattle.std.specs.Prelude.{◌≡◌, ◌⊎◌, ℕ, List, Option, None, Ok};
+ghost use Rattle.std.specs.Prelude.{◌≡◌, ◌⊎◌, ℕ, ◌+◌, ◌-◌, ◌^◌, ◌<◌, ◌≤◌, List, Option, None, Ok, length};
 ghost use Rattle.ddf_bytes.specs.Streams.{SinkState};
 ghost use Rattle.ddf_bay.specs.Memory.{disks_of};
 ghost use Rattle.ddf_bay.specs.declared.memory.MemoryBay.{MemoryBay};
 ghost use Rattle.ddf_config.specs.declared.seat.Seat.{Seat};
 ghost use Rattle.ddf_config.specs.Configuration.{Configuration};
 ghost use Rattle.ddf_read.specs.Reading.{NoneFailed};
+ghost use Rattle.ddf_read.specs.Stretches.{HaveCopies};
 ghost use Rattle.ddf_seats.specs.Group.{GroupValue};
 ghost use Rattle.ddf_assembly.specs.Group.{group_of};
 ghost use Rattle.ddf_recovery.specs.Recovery.{trusted_seats};
@@ -13,7 +14,7 @@ ghost use Rattle.ddf_request.specs.Named.{named_array};
 ghost use Rattle.ddf_answer.specs.Call.{answer_of, work_of};
 ghost use Rattle.ddf_read_commands.specs.Read.{HasRead, IsReadDone, Outcome, read_refusal};
 ghost use Rattle.ddf_history_memory.specs.Histories.{GoesWell};
-ghost use Rattle.ddf_availability.specs.Serving.{GivesBlocks, IsServing, IsToldAll};
+ghost use Rattle.ddf_availability.specs.Serving.{GivesBlocks, IsServing, IsToldAll, most_reads};
 
 use ddf_bay::Bay;
 
@@ -39,7 +40,21 @@ pub fn a_read_of_an_array_that_is_served_gives_its_blocks<B: Bay>()
 
 /// So does one over disks in memory of which no call is listed to fail, whichever of them are unplugged: none of these counts as a disk that serves the array.
 pub fn a_read_over_disks_in_memory_gives_its_blocks()
-    ensures { (old exit : MemoryBay) → GoesWell old exit → (disks_of exit).tells_left → (named : Option (List ℕ)) (word : List ℕ) (start count : ℕ) (outcome : Outcome)
+    ensures { (old exit : MemoryBay) → GoesWell old exit → (disks_of old).tells_left → (named : Option (List ℕ)) (word : List ℕ) (start count : ℕ) (outcome : Outcome)
         → (read : HasRead (work_of (Unit {0}) (disks_of old) (disks_of exit)) named word start count outcome) → (found : GroupValue) → group_of read.newest named ≡ Ok found
         → (serving : IsServing found.config (trusted_seats found) word start count) → GivesBlocks (disks_of old).held serving.volume start count outcome }
+{}
+
+/// Where each block has an available cell such a read makes at most 15 calls on each slot and one for each block. So the bay still tells behind it what a stop
+/// may leave, while its clock and its count of calls have room for so many.
+pub fn a_read_over_disks_in_memory_is_counted()
+    ensures calls { (old exit : MemoryBay) → GoesWell old exit → (disks_of old).tells_left → (named : Option (List ℕ)) (word : List ℕ) (start count : ℕ) (outcome : Outcome)
+        → (read : HasRead (work_of (Unit {0}) (disks_of old) (disks_of exit)) named word start count outcome) → (found : GroupValue) → group_of read.newest named ≡ Ok found
+        → (serving : IsServing found.config (trusted_seats found) word start count) → HaveCopies serving.volume start count
+        → (disks_of exit).calls ≤ (disks_of old).calls + most_reads (length (disks_of old).sizes) count }
+    ensures tells { (old exit : MemoryBay) → GoesWell old exit → (disks_of old).tells_left → (named : Option (List ℕ)) (word : List ℕ) (start count : ℕ) (outcome : Outcome)
+        → (read : HasRead (work_of (Unit {0}) (disks_of old) (disks_of exit)) named word start count outcome) → (found : GroupValue) → group_of read.newest named ≡ Ok found
+        → (serving : IsServing found.config (trusted_seats found) word start count) → HaveCopies serving.volume start count
+        → (disks_of old).calls + most_reads (length (disks_of old).sizes) count < 2 ^ 64 - 1 → (disks_of old).moment + most_reads (length (disks_of old).sizes) count < 2 ^ 64 - 1
+        → (disks_of exit).tells_left }
 {}

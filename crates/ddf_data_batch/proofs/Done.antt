@@ -20,6 +20,7 @@ module _ {B : Type 0} {tells : Type 0} (told : tells) (disks : B → BayState B)
   own_done (commands.Change wish) came (inr accepts) = changed_done came.outcome answer came.ends zero
   own_done (commands.Resync name) came takes = changed_done came.outcome answer came.ends zero
   own_done (commands.Rebuild name) came takes = changed_done came.outcome answer came.ends zero
+  own_done (commands.Copyback name slot) came takes = changed_done came.outcome answer came.ends zero
   own_done (commands.Import other) came takes = changed_done came.outcome answer came.ends zero
   own_done command came takes = absurd takes
 

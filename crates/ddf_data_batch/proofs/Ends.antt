@@ -44,6 +44,7 @@ module _ {B : Type 0} {tells : Type 0} (told : tells) (disks : B → BayState B)
     own_exit (commands.Change wish) came (inr accepts) = refl
     own_exit (commands.Resync name) came takes = refl
     own_exit (commands.Rebuild name) came takes = refl
+    own_exit (commands.Copyback name slot) came takes = refl
     own_exit (commands.Import other) came takes = refl
     own_exit command came takes = absurd takes
 

@@ -31,12 +31,14 @@ use Rattle.ddf_write_commands.specs.Resync.{HasResyncedArray, resync_request}
 use Rattle.ddf_write_commands.specs.Write.{is_written}
 use Rattle.ddf_group_commands.specs.Requests.{linux_members}
 use Rattle.ddf_rebuild_command.specs.Asked.{rebuild_request}
+use Rattle.ddf_rebuild_command.specs.CopiedBack.{HasCopiedBack}
+use Rattle.ddf_rebuild_command.specs.GoingBack.{copyback_request}
 use Rattle.ddf_rebuild_command.specs.Rebuilt.{HasRebuiltArray}
 use Rattle.ddf_command.specs.Run.{IsCommandDone}
 use Rattle.ddf_data_calls.specs.Calls.{MayAsk}
 use Rattle.ddf_data_calls.specs.Agreed.{DoDisksAgree}
-use Rattle.ddf_data_events.specs.Calls.{AcceptCall, Call, ChangeCall, Finds, JoinCall, OtherCall, RebuildCall, ResyncCall}
-use Rattle.ddf_data_events.specs.Calls.Call.{Accepts, Changes, Joins, Others, Reads, Rebuilds, Resyncs, Writes}
+use Rattle.ddf_data_events.specs.Calls.{AcceptCall, Call, ChangeCall, CopybackCall, Finds, JoinCall, OtherCall, RebuildCall, ResyncCall}
+use Rattle.ddf_data_events.specs.Calls.Call.{Accepts, Changes, Copies, Joins, Others, Reads, Rebuilds, Resyncs, Writes}
 use Rattle.ddf_data_events.specs.Joins.{HaveJoiningFloors, IsNonePromised}
 use Rattle.ddf_data_events.specs.Moments.{Moment}
 use Rattle.ddf_words.specs.Lines.{AsksFor, IsLine}
@@ -139,6 +141,27 @@ module _ {B : Type 0} {tells : Type 0} (told : tells) (disks : B → BayState B)
     are_asked = takes.are_asked;
   }
 
+  -- A position of an array goes back by it, and it wasn't refused.
+  pub record TakesCopyback (name : List ℕ) (slot : ℕ) (outcome : Result ℕ Failure) (has : HasCopiedBack work group (timestamp_of stamp) name slot outcome) : Type 0 where
+    pub finds : Finds told disks tells_bytes streams guid old has.taken.left has.taken.newest group
+    pub steps : List Step
+    pub are_asked : steps_of finds.found (timestamp_of stamp) (copyback_request (length (disks old.bay).sizes) name slot (linux_members finds.found)) ≡ Ok steps
+
+  abbrev pub copyback_call : (name : List ℕ) (slot : ℕ) (outcome : Result ℕ Failure) (has : HasCopiedBack work group (timestamp_of stamp) name slot outcome) → TakesCopyback name slot outcome has
+      → CopybackCall told disks tells_bytes streams guid old
+  copyback_call name slot outcome has takes = record {
+    exit = exit;
+    named = group;
+    timestamp = timestamp_of stamp;
+    word = name;
+    slot = slot;
+    outcome = outcome;
+    copied = has;
+    finds = takes.finds;
+    steps = takes.steps;
+    are_asked = takes.are_asked;
+  }
+
   -- By it another group joins, and it wasn't refused. Nothing is promised of the arrays that join, and the disks that join have their floors.
   pub record TakesJoin (other : List ℕ) (outcome : Result ℕ Failure) (has : HasImported work group other (timestamp_of stamp) outcome) : Type 0 where
     pub finds : Finds told disks tells_bytes streams guid old has.first.left has.first.newest group
@@ -187,6 +210,7 @@ module _ {B : Type 0} {tells : Type 0} (told : tells) (disks : B → BayState B)
       ⊎ TakesAccept (request_for (length (disks old.bay).sizes) stamp wish came.wished.linux) came.outcome came.wished.has
   Takes (commands.Resync name) answer came = TakesResync name came.outcome came.has
   Takes (commands.Rebuild name) answer came = TakesRebuild name came.outcome came.has
+  Takes (commands.Copyback name slot) answer came = TakesCopyback name slot came.outcome came.has
   Takes (commands.Import other) answer came = TakesJoin other came.outcome came.has
   Takes command answer came = ⊥
 
@@ -196,6 +220,7 @@ module _ {B : Type 0} {tells : Type 0} (told : tells) (disks : B → BayState B)
   own_call (commands.Change wish) answer came (inr accepts) = Accepts (accept_call (request_for (length (disks old.bay).sizes) stamp wish came.wished.linux) came.outcome came.wished.has accepts)
   own_call (commands.Resync name) answer came takes = Resyncs (resync_call name came.outcome came.has takes)
   own_call (commands.Rebuild name) answer came takes = Rebuilds (rebuild_call name came.outcome came.has takes)
+  own_call (commands.Copyback name slot) answer came takes = Copies (copyback_call name slot came.outcome came.has takes)
   own_call (commands.Import other) answer came takes = Joins (join_call other came.outcome came.has takes)
   own_call command answer came takes = absurd takes
 
@@ -219,6 +244,7 @@ module _ {B : Type 0} {tells : Type 0} (told : tells) (disks : B → BayState B)
   was_done (Resyncs call) = is_done call.outcome
   was_done (Writes call) = is_written call.outcome
   was_done (Rebuilds call) = is_done call.outcome
+  was_done (Copies call) = is_done call.outcome
   was_done (Joins call) = is_done call.join.outcome
   was_done (Others call) = true
   was_done (Reads exit reads) = true

@@ -26,7 +26,7 @@ use Rattle.ddf_data_disks.specs.Seats.{AreAlikeSeats}
 use Rattle.ddf_data_calls.specs.Calls.{MayAsk}
 
 module _ (one other : List Seat) (alike : AreAlikeSeats one other) where
-  slots_same : seat_slot one ≡ seat_slot other
+  pub slots_same : seat_slot one ≡ seat_slot other
   slots_same = fun_ext (λ (e : Extent).
       ap (λ (f : Option ℕ). elim f [ None ↦ None | Some floor ↦ if nat_le (e.start + e.blocks) floor then Some (slot_of one e.reference) else None ]) (alike.same_floors e.reference)
       ∙ ap (λ (s : ℕ). elim (floor_of other e.reference) [ None ↦ None | Some floor ↦ if nat_le (e.start + e.blocks) floor then Some s else None ]) (alike.same_slots e.reference))
@@ -76,6 +76,13 @@ module _ (one other : List Seat) (alike : AreAlikeSeats one other) where
   change_same config image promises (changes.Finish named element position) may = λ guid allowed array promised found is volume over.
       subst (λ (is_absent : ℕ → ℕ → Bool). MayBeInSync is_absent volume image element position) (absent_same config.members array.elements)
       (may guid allowed array promised found is volume (over_same array volume over))
+  change_same config image promises (changes.Return named element position reference start) may = λ guid allowed array promised found is volume over.
+      let move = may guid allowed array promised found is volume (over_same array volume over) in
+      record {
+        slot = move.slot;
+        is_seated = λ plan at. ap (λ (slot : Extent → Option ℕ). slot (record { reference = reference; start = start; blocks = plan.blocks })) (sym slots_same) ∙ move.is_seated plan at;
+        same = move.same;
+      }
 
   pub ask_same : (config : Configuration) (image : Image) (promises : Promises) (asked : Option Change) → MayAsk config one image promises asked → MayAsk config other image promises asked
   ask_same config image promises None may = may

@@ -47,6 +47,15 @@ module _ {D : Type 0} (old : BayState D) (floor : ℕ → ℕ) (here : ℕ → B
       by true false e = absurd cc
       by false is e = refl
 
+  -- and on others below the floors what it holds
+  pub was_own : (s l : ℕ) → here s ≡ false → l < floor s → was s l ≡ image s l
+  was_own s l away below = by (nat_lt l (floor s)) (here s) (lt-ltb l (floor s) below) away
+    where
+      by : (low is : Bool) → low ≡ true → is ≡ false → (if low && not is then image s l else old.held s l) ≡ image s l
+      by true false e f = refl
+      by true true e f = absurd cc
+      by false is e f = absurd cc
+
   -- So each sector is as it was, or gets bytes.
   pub now_gets : (Gives : ℕ → ℕ → List ℕ → Type 0) → ((s l : ℕ) → here s ≡ true → l < floor s → (image s l ≡ old.held s l) ⊎ Gives s l (image s l))
       → (s l : ℕ) → (now s l ≡ was s l) ⊎ Gives s l (now s l)

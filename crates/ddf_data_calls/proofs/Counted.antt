@@ -171,10 +171,10 @@ module _ (guid : List ℕ) (element position : ℕ) where
   IsCounted (Some row) one other = IsNotedArray element position row one other
 
   abbrev noting : ℕ → Array → Array
-  noting row array = rebuilding (Progress guid element position row) element array
+  noting row array = rebuilding false (Progress guid element position row) element array
 
   abbrev ending : Array → Array
-  ending array = rebuilding (Finish guid element position) element array
+  ending array = rebuilding false (Finish guid element position) element array
 
   noted_behind : (row : Option ℕ) (next : ℕ) (one middle other : Array) → IsCounted row one middle → IsLike (noting next middle) other → IsNotedArray element position next one other
   noted_behind None next one middle other counted like =

@@ -91,17 +91,17 @@ same_parts (Some element ∷ known) =
 pub lost_few : (config : Configuration) (references : List ℕ) (sequence : ℕ) → ArraysFew config → ArraysFew (changed_at config (Lose references) sequence)
 lost_few config references sequence few =
     let members = members_after config (Lose references) in
-    few_after (λ g a. array_with_low members (extents (kept_and_added config (Lose references))) (array_after members (Lose references) g a))
+    few_after (λ g a. array_with_low members (extents (kept_and_added config (Lose references))) (array_after false members (Lose references) g a))
     (λ guid array. (is_less references members array).less) config.arrays (arrays_after config (Lose references))
-    (both_changed (λ g. array_with_low members (extents (kept_and_added config (Lose references)))) (array_after members (Lose references)) config.arrays) few
+    (both_changed (λ g. array_with_low members (extents (kept_and_added config (Lose references)))) (array_after false members (Lose references)) config.arrays) few
 
 -- and so does a mark.
 pub marked_few : (config : Configuration) (named : List ℕ) (sequence : ℕ) → ArraysFew config → ArraysFew (changed_at config (Mark named) sequence)
 marked_few config named sequence few =
     let members = members_after config (Mark named) in
-    few_after (λ g a. array_with_low members (extents (kept_and_added config (Mark named))) (array_after members (Mark named) g a))
+    few_after (λ g a. array_with_low members (extents (kept_and_added config (Mark named))) (array_after false members (Mark named) g a))
     (λ guid array. by (same_guid named guid) array) config.arrays (arrays_after config (Mark named))
-    (both_changed (λ g. array_with_low members (extents (kept_and_added config (Mark named)))) (array_after members (Mark named)) config.arrays) few
+    (both_changed (λ g. array_with_low members (extents (kept_and_added config (Mark named)))) (array_after false members (Mark named)) config.arrays) few
   where
     by : (b : Bool) (array : Array) → AreLessParts array.elements (if b then marked array else array).elements
     by true array = (marked_less array).less

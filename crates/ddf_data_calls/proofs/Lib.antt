@@ -38,3 +38,7 @@ pub mod Filling
 pub mod FloorsRebuilt
 pub mod Rebuilt
 pub mod Accepts
+pub mod BackRoom
+pub mod Back
+pub mod FloorsBack
+pub mod GoneBack

@@ -83,7 +83,7 @@ none_some [] e = refl
 none_some (x ∷ xs) e = absurd cc
 
 -- one that is there is found, or another of its reference
-find_one : (seats : List Seat) (reference place : ℕ) (seat : Seat) → slice_get seats place ≡ Some seat → seat.reference ≡ reference → find (λ (s : Seat). nat_eq s.reference reference) seats ≡ None → ⊥
+pub find_one : (seats : List Seat) (reference place : ℕ) (seat : Seat) → slice_get seats place ≡ Some seat → seat.reference ≡ reference → find (λ (s : Seat). nat_eq s.reference reference) seats ≡ None → ⊥
 find_one [] reference place seat at same none = cc
 find_one (first ∷ seats) reference place seat at same none = by (nat_eq first.reference reference) refl place at none (λ k there rest. find_one seats reference k seat there same rest)
   where

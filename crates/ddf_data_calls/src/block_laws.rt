@@ -1,5 +1,5 @@
 //! Laws of calls on the blocks of arrays and of the data of groups: functions that do nothing, whose contracts are the laws.
-ghost use Rattle.std.specs.Prelude.{◌≡◌, ◌<◌, ◌^◌, ◌++◌, ◌∷◌, [], ℕ, List, Option, Result, Ok, Some, true};
+ghost use Rattle.std.specs.Prelude.{◌≡◌, ◌<◌, ◌^◌, ◌++◌, ◌∷◌, [], ℕ, List, length, Option, Result, Ok, Some, true};
 ghost use Rattle.ddf_bay.specs.ReadsOnly.{ReadsOnly};
 ghost use Rattle.ddf_bay.specs.Sectors.{Image, IsLeft};
 ghost use Rattle.ddf_plan.specs.declared.change.Change.TheVariants.{Unmark};
@@ -22,6 +22,9 @@ ghost use Rattle.ddf_write_commands.specs.Resync.{HasResyncedArray, resync_reque
 ghost use Rattle.ddf_write_commands.specs.Write.{HasWrittenArray, Outcome, is_written, write_request};
 ghost use Rattle.ddf_group_commands.specs.Requests.{linux_members};
 ghost use Rattle.ddf_rebuild_command.specs.Asked.{rebuild_request};
+ghost use Rattle.ddf_rebuild_command.specs.BackPlanned.{IsBackPlanned};
+ghost use Rattle.ddf_rebuild_command.specs.CopiedBack.{HasCopiedBack};
+ghost use Rattle.ddf_rebuild_command.specs.GoingBack.{copyback_request};
 ghost use Rattle.ddf_rebuild_command.specs.Planned.{IsPlanned as IsRebuildPlanned};
 ghost use Rattle.ddf_rebuild_command.specs.Rebuilt.{HasRebuiltArray};
 ghost use Rattle.ddf_rebuild_command.specs.Rounds.{steps_of};
@@ -142,6 +145,40 @@ pub fn a_rebuild_keeps_its_history_and_its_data<B: Bay>()
         → (called : HasRebuiltArray (work_of B.tells (B.disks old) (B.disks new)) named timestamp word outcome)
         → (found : GroupValue) → group_of called.taken.newest named ≡ Ok found → found.config.group ≡ group → AdmitsCall group past floor promises (B.disks old) called.taken.left found
         → (steps : List Step) → steps_asked found timestamp (rebuild_request word (linux_members found)) ≡ Ok steps
+        → KeepsBoth group (B.disks old) (B.disks new) floor (Goes group past (is_read called.taken.left) found (changes_in found steps))
+        (Ends group past (is_read called.taken.left) found (changes_in found steps) (is_done outcome)) (Stays promises) (Stays promises) }
+{}
+
+/// A call of `copyback` that a history of its group and of the group's data admits keeps both at once: whatever a stop leaves, at any moment since the call's entry and
+/// at its end, shows what it should and keeps the data of the group, by the same promises. That the room may be filled, since no array has it, and that the position may be
+/// there then, since the same bytes stand there, follows from what the call promises: the array is unmarked, and so redundant, so that what was read for the position is
+/// sure whichever reads failed.
+// promise:returned
+pub fn a_copyback_keeps_its_history_and_its_data<B: Bay>()
+    ensures both { (told : B.tells) (group : List ℕ) (past : Past (groups group)) (floor : ℕ → ℕ) → ((slot : ℕ) → floor slot < 2 ^ 64) → (promises : Promises)
+        → (old new : B) → (B.disks old).tells_left → (named : Option (List ℕ)) (timestamp : ℕ) (word : List ℕ) (slot : ℕ) (outcome : Result ℕ Failure)
+        → (called : HasCopiedBack (work_of B.tells (B.disks old) (B.disks new)) named timestamp word slot outcome)
+        → (found : GroupValue) → group_of called.taken.newest named ≡ Ok found → found.config.group ≡ group → AdmitsCall group past floor promises (B.disks old) called.taken.left found
+        → (plan : IsBackPlanned (B.disks old).sizes found timestamp word slot)
+        → KeepsBoth group (B.disks old) (B.disks new) floor (Goes group past (is_read called.taken.left) found (changes_in found (plan.first ++ plan.last ∷ [])))
+        (Ends group past (is_read called.taken.left) found (changes_in found (plan.first ++ plan.last ∷ [])) (is_done outcome)) (Stays promises) (Stays promises) }
+
+    // So it carries the data of the group, where all that a stop left on the way has sectors of 512 bytes.
+    ensures carries { (told : B.tells) (group : List ℕ) (past : Past (groups group)) (floor : ℕ → ℕ) → ((slot : ℕ) → floor slot < 2 ^ 64) → (promises : Promises)
+        → (old new : B) → (B.disks old).tells_left → (named : Option (List ℕ)) (timestamp : ℕ) (word : List ℕ) (slot : ℕ) (outcome : Result ℕ Failure)
+        → (called : HasCopiedBack (work_of B.tells (B.disks old) (B.disks new)) named timestamp word slot outcome)
+        → (found : GroupValue) → group_of called.taken.newest named ≡ Ok found → found.config.group ≡ group → AdmitsCall group past floor promises (B.disks old) called.taken.left found
+        → (plan : IsBackPlanned (B.disks old).sizes found timestamp word slot)
+        → ((t : ℕ) (image : Image) → (B.disks new).left_since t image → AreSectors image)
+        → CarriesData group (B.disks old) (B.disks new) floor promises (Goes group past (is_read called.taken.left) found (changes_in found (plan.first ++ plan.last ∷ [])))
+        (Ends group past (is_read called.taken.left) found (changes_in found (plan.first ++ plan.last ∷ [])) (is_done outcome)) Stays Stays }
+
+    // It does so by the steps that its group is asked for.
+    ensures asked { (told : B.tells) (group : List ℕ) (past : Past (groups group)) (floor : ℕ → ℕ) → ((slot : ℕ) → floor slot < 2 ^ 64) → (promises : Promises)
+        → (old new : B) → (B.disks old).tells_left → (named : Option (List ℕ)) (timestamp : ℕ) (word : List ℕ) (slot : ℕ) (outcome : Result ℕ Failure)
+        → (called : HasCopiedBack (work_of B.tells (B.disks old) (B.disks new)) named timestamp word slot outcome)
+        → (found : GroupValue) → group_of called.taken.newest named ≡ Ok found → found.config.group ≡ group → AdmitsCall group past floor promises (B.disks old) called.taken.left found
+        → (steps : List Step) → steps_asked found timestamp (copyback_request (length (B.disks old).sizes) word slot (linux_members found)) ≡ Ok steps
         → KeepsBoth group (B.disks old) (B.disks new) floor (Goes group past (is_read called.taken.left) found (changes_in found steps))
         (Ends group past (is_read called.taken.left) found (changes_in found steps) (is_done outcome)) (Stays promises) (Stays promises) }
 {}

@@ -1,5 +1,5 @@
 -- Calls of the commands on the blocks of an array keep the history of the group and its data, with what is promised behind them.
-use Rattle.std.proofs.Common.{◌≡◌, ◌&&◌, ℕ, Bool, true, false, List, ◌++◌, Option, Result, Ok, Err, refl}
+use Rattle.std.proofs.Common.{◌≡◌, ◌&&◌, ℕ, Bool, true, false, List, ◌++◌, length, Option, Result, Ok, Err, refl}
 use Rattle.ddf_bytes.specs.Streams.{SourceState}
 use Rattle.ddf_bay.specs.State.{BayState}
 use Rattle.ddf_array.specs.Volume.{IsVolume}
@@ -20,12 +20,14 @@ use Rattle.ddf_data_calls.specs.Calls.{AdmitsCall, AreBoth, KeepsBoth}
 use Rattle.ddf_data_calls.specs.Promised.{IsWrittenOf, MayBeWritten, counted}
 use Rattle.ddf_group_commands.specs.Requests.{linux_members}
 use Rattle.ddf_rebuild_command.specs.Asked.{rebuild_request}
+use Rattle.ddf_rebuild_command.specs.GoingBack.{copyback_request}
+use Rattle.ddf_data_calls.proofs.GoneBack as copybacks
 use Rattle.ddf_data_calls.proofs.Rebuilt as rebuilds
 use Rattle.ddf_data_calls.proofs.Rebuilt.{asked_changes}
 use Rattle.ddf_data_calls.proofs.Resynced as resyncs
 use Rattle.ddf_data_calls.proofs.Resynced.{then_settled}
 use Rattle.ddf_data_calls.proofs.Taken as writes
-use Rattle.ddf_data_events.specs.Calls.{Finds, RebuildCall, ResyncCall, WriteCall, once_resynced}
+use Rattle.ddf_data_events.specs.Calls.{CopybackCall, Finds, RebuildCall, ResyncCall, WriteCall, once_resynced}
 use Rattle.ddf_data_events.specs.Moments.{KeepsAll, Moment}
 use Rattle.ddf_data_events.proofs.Bays.{AreBays, held_sectors, sectors}
 use Rattle.std.specs.Prelude.{option_to_list}
@@ -163,3 +165,24 @@ module _ {B : Type 0} {tells : Type 0} (told : tells) (disks : B → BayState B)
 
     pub rebuild_readied : (changes : List Change) × (readied call.finds.found changes call.timestamp ≡ Ok call.steps)
     rebuild_readied = asked_changes call.finds.found call.timestamp (rebuild_request call.word (linux_members call.finds.found)) call.steps call.are_asked
+
+  -- ---- `copyback`
+
+  module _ (call : CopybackCall told disks tells_bytes streams guid old) where
+    pub copyback_keeps : KeepsBoth guid (disks old.bay) (disks call.exit) old.floor (Goes guid old.past (is_read call.copied.taken.left) call.finds.found (changes_in call.finds.found call.steps))
+        (Ends guid old.past (is_read call.copied.taken.left) call.finds.found (changes_in call.finds.found call.steps) (is_done call.outcome)) (Stays old.promises) (Stays old.promises)
+    copyback_keeps =
+        copybacks.both_kept tells told (disks old.bay) (disks call.exit) guid old.past old.floor old.small old.promises call.named call.timestamp call.word call.slot call.outcome call.copied call.finds.found
+        call.finds.is_found call.finds.own (admits call.copied.taken.left call.copied.taken.newest call.named call.finds) ((are old.bay).held call.finds.tells_left)
+        (held_sectors disks are old.bay call.finds.tells_left) (λ image left. sectors disks are call.exit image left) ((are call.exit).since) call.steps call.are_asked
+
+    -- The disks of members keep their floors.
+    pub copyback_floors : StopsLeave (disks old.bay) (disks call.exit) (λ image. HaveFloorsIn guid old.past (disks old.bay).sizes image old.floor)
+    copyback_floors =
+        copybacks.floors_kept tells told (disks old.bay) (disks call.exit) guid old.past old.floor old.small old.promises call.named call.timestamp call.word call.slot call.outcome call.copied call.finds.found
+        call.finds.is_found call.finds.own (admits call.copied.taken.left call.copied.taken.newest call.named call.finds) ((are old.bay).held call.finds.tells_left)
+        (held_sectors disks are old.bay call.finds.tells_left) (λ image left. sectors disks are call.exit image left) ((are call.exit).since) call.steps call.are_asked all.floored
+
+    pub copyback_readied : (changes : List Change) × (readied call.finds.found changes call.timestamp ≡ Ok call.steps)
+    copyback_readied =
+        asked_changes call.finds.found call.timestamp (copyback_request (length (disks old.bay).sizes) call.word call.slot (linux_members call.finds.found)) call.steps call.are_asked

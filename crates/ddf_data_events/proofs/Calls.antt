@@ -25,10 +25,10 @@ use Rattle.ddf_data_calls.specs.Floors.{HaveFloorsIn}
 use Rattle.ddf_data_calls.proofs.Accepted.{mark_of}
 use Rattle.ddf_data_calls.proofs.Taken.{only_reads}
 use Rattle.ddf_data_events.specs.Calls.{Call, EndsAt, HasComeTo, MayPromise, PromisesThen, exit_of, joins_in}
-use Rattle.ddf_data_events.specs.Calls.Call.{Accepts, Changes, Joins, Others, Reads, Rebuilds, Resyncs, Writes}
+use Rattle.ddf_data_events.specs.Calls.Call.{Accepts, Changes, Copies, Joins, Others, Reads, Rebuilds, Resyncs, Writes}
 use Rattle.ddf_data_events.specs.Moments.{KeepsAll, Moment}
 use Rattle.ddf_data_events.proofs.Bays.{AreBays, sectors}
-use Rattle.ddf_data_events.proofs.Blocks.{rebuild_floors, rebuild_keeps, rebuild_readied, resync_ends, resync_floors, resync_keeps, resync_readied, write_floors, write_keeps, write_readied}
+use Rattle.ddf_data_events.proofs.Blocks.{copyback_floors, copyback_keeps, copyback_readied, rebuild_floors, rebuild_keeps, rebuild_readied, resync_ends, resync_floors, resync_keeps, resync_readied, write_floors, write_keeps, write_readied}
 use Rattle.ddf_data_events.proofs.Changed.{accept_ends, change_ends, change_floors, change_keeps, change_readied}
 use Rattle.ddf_data_events.proofs.Floors.{by_image, floors_go, since_entry}
 use Rattle.ddf_data_events.proofs.Joined.{join_floored, join_keeps}
@@ -43,6 +43,7 @@ module _ {B : Type 0} {tells : Type 0} (told : tells) (disks : B → BayState B)
   ends (Resyncs call) tells_left = resync_ends told disks tells_bytes streams guid are old all call tells_left
   ends (Writes call) tells_left = (write_keeps told disks tells_bytes streams guid are old all call).ends tells_left
   ends (Rebuilds call) tells_left = (rebuild_keeps told disks tells_bytes streams guid are old all call).ends tells_left
+  ends (Copies call) tells_left = (copyback_keeps told disks tells_bytes streams guid are old all call).ends tells_left
   ends (Joins call) tells_left = (join_keeps told disks tells_bytes streams guid are old all call).ends tells_left
   ends (Reads exit reads) tells_left = (only_reads guid (disks old.bay) (disks exit) old.past old.floor old.promises reads all.shows all.keeps).ends tells_left
   ends (Others call) tells_left =
@@ -75,6 +76,7 @@ module _ {B : Type 0} {tells : Type 0} (told : tells) (disks : B → BayState B)
   cuts (Resyncs call) image was_left sound = by_moment call.exit (resync_keeps told disks tells_bytes streams guid are old all call) (inl refl) refl image was_left sound
   cuts (Writes call) image was_left sound = by_moment call.exit (write_keeps told disks tells_bytes streams guid are old all call) (inl refl) (inl refl) image was_left sound
   cuts (Rebuilds call) image was_left sound = by_moment call.exit (rebuild_keeps told disks tells_bytes streams guid are old all call) (inl refl) refl image was_left sound
+  cuts (Copies call) image was_left sound = by_moment call.exit (copyback_keeps told disks tells_bytes streams guid are old all call) (inl refl) refl image was_left sound
   cuts (Joins call) image was_left sound = by_moment call.join.exit (join_keeps told disks tells_bytes streams guid are old all call) (inl refl) refl image was_left sound
   cuts (Reads exit reads) image was_left sound =
       by_moment exit (only_reads guid (disks old.bay) (disks exit) old.past old.floor old.promises reads all.shows all.keeps) refl refl image was_left sound
@@ -94,6 +96,7 @@ module _ {B : Type 0} {tells : Type 0} (told : tells) (disks : B → BayState B)
   call_later (Resyncs call) = (resync_keeps told disks tells_bytes streams guid are old all call).any_moment.later
   call_later (Writes call) = (write_keeps told disks tells_bytes streams guid are old all call).any_moment.later
   call_later (Rebuilds call) = (rebuild_keeps told disks tells_bytes streams guid are old all call).any_moment.later
+  call_later (Copies call) = (copyback_keeps told disks tells_bytes streams guid are old all call).any_moment.later
   call_later (Joins call) = (join_keeps told disks tells_bytes streams guid are old all call).any_moment.later
   call_later (Reads exit reads) = reads.any_moment.later
   call_later (Others call) = call.beside.leaves_others.later
@@ -113,6 +116,8 @@ module _ {B : Type 0} {tells : Type 0} (told : tells) (disks : B → BayState B)
       since_entry guid disks are old.past old.floor old.bay call.exit all.floored (write_floors told disks tells_bytes streams guid are old all call) image was_left
   moment_floors (Rebuilds call) image was_left =
       since_entry guid disks are old.past old.floor old.bay call.exit all.floored (rebuild_floors told disks tells_bytes streams guid are old all call) image was_left
+  moment_floors (Copies call) image was_left =
+      since_entry guid disks are old.past old.floor old.bay call.exit all.floored (copyback_floors told disks tells_bytes streams guid are old all call) image was_left
   moment_floors (Joins call) image was_left = join_floored told disks tells_bytes streams guid are old all call false old.past (inl refl) image was_left
   moment_floors (Reads exit reads) image was_left =
       since_entry guid disks are old.past old.floor old.bay exit all.floored (stops_weaken reads.any_moment (by_image guid disks are old.past old.floor old.bay all.floored)) image was_left
@@ -146,6 +151,10 @@ module _ {B : Type 0} {tells : Type 0} (told : tells) (disks : B → BayState B)
       floors_go guid old.past now (is_read call.rebuilt.taken.left) call.finds.found (rebuild_readied told disks tells_bytes streams guid are old all call).0 call.timestamp
       call.steps (rebuild_readied told disks tells_bytes streams guid are old all call).1 (is_done call.outcome) end (disks old.bay).sizes image old.floor
       (moment_floors (Rebuilds call) image was_left)
+  ends_floored (Copies call) now end image was_left =
+      floors_go guid old.past now (is_read call.copied.taken.left) call.finds.found (copyback_readied told disks tells_bytes streams guid are old all call).0 call.timestamp
+      call.steps (copyback_readied told disks tells_bytes streams guid are old all call).1 (is_done call.outcome) end (disks old.bay).sizes image old.floor
+      (moment_floors (Copies call) image was_left)
   ends_floored (Joins call) now end image was_left = join_floored told disks tells_bytes streams guid are old all call (is_done call.join.outcome) now end image was_left
   ends_floored (Reads exit reads) now end image was_left = same_past now end image (moment_floors (Reads exit reads) image was_left)
   ends_floored (Others call) now end image was_left = same_past now end image (moment_floors (Others call) image was_left)
@@ -168,6 +177,10 @@ module _ {B : Type 0} {tells : Type 0} (told : tells) (disks : B → BayState B)
       floors_go guid old.past now (is_read call.rebuilt.taken.left) call.finds.found (rebuild_readied told disks tells_bytes streams guid are old all call).0 call.timestamp
       call.steps (rebuild_readied told disks tells_bytes streams guid are old all call).1 false come (disks old.bay).sizes image old.floor
       (moment_floors (Rebuilds call) image was_left)
+  cuts_floored (Copies call) now come image was_left =
+      floors_go guid old.past now (is_read call.copied.taken.left) call.finds.found (copyback_readied told disks tells_bytes streams guid are old all call).0 call.timestamp
+      call.steps (copyback_readied told disks tells_bytes streams guid are old all call).1 false come (disks old.bay).sizes image old.floor
+      (moment_floors (Copies call) image was_left)
   cuts_floored (Joins call) now come image was_left = join_floored told disks tells_bytes streams guid are old all call false now come image was_left
   cuts_floored (Reads exit reads) now come image was_left = same_past now come image (moment_floors (Reads exit reads) image was_left)
   cuts_floored (Others call) now come image was_left = same_past now come image (moment_floors (Others call) image was_left)
@@ -187,6 +200,8 @@ module _ {B : Type 0} {tells : Type 0} (told : tells) (disks : B → BayState B)
       ends_keeps guid old.past now (is_read call.wrote.taken.left) call.finds.found (changes_in call.finds.found (call.plan.first ++ call.plan.last)) (is_written call.outcome) end
   ends_acked (Rebuilds call) now end =
       ends_keeps guid old.past now (is_read call.rebuilt.taken.left) call.finds.found (changes_in call.finds.found call.steps) (is_done call.outcome) end
+  ends_acked (Copies call) now end =
+      ends_keeps guid old.past now (is_read call.copied.taken.left) call.finds.found (changes_in call.finds.found call.steps) (is_done call.outcome) end
   ends_acked (Joins call) now end =
       ends_keeps guid old.past now (is_read call.join.imported.first.left) call.join.group (joins_in told disks tells_bytes streams guid call) (is_done call.join.outcome) end
   ends_acked (Reads exit reads) now end = none_issued now end
@@ -198,6 +213,7 @@ module _ {B : Type 0} {tells : Type 0} (told : tells) (disks : B → BayState B)
   cuts_acked (Resyncs call) now come = goes_keeps guid old.past now (is_read call.resynced.taken.left) call.finds.found (changes_in call.finds.found (call.plan.first ++ call.plan.last)) come
   cuts_acked (Writes call) now come = goes_keeps guid old.past now (is_read call.wrote.taken.left) call.finds.found (changes_in call.finds.found (call.plan.first ++ call.plan.last)) come
   cuts_acked (Rebuilds call) now come = goes_keeps guid old.past now (is_read call.rebuilt.taken.left) call.finds.found (changes_in call.finds.found call.steps) come
+  cuts_acked (Copies call) now come = goes_keeps guid old.past now (is_read call.copied.taken.left) call.finds.found (changes_in call.finds.found call.steps) come
   cuts_acked (Joins call) now come = goes_keeps guid old.past now (is_read call.join.imported.first.left) call.join.group (joins_in told disks tells_bytes streams guid call) come
   cuts_acked (Reads exit reads) now come = none_issued now come
   cuts_acked (Others call) now come = none_issued now come

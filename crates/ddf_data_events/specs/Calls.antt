@@ -1,5 +1,5 @@
 -- The calls of a history of a group and of its data: those that the program makes, by what it promises of them.
-use Rattle.std.specs.Prelude.{◌≡◌, ◌&&◌, ℕ, Bool, true, false, List, ◌++◌, Option, Some, Result, Ok, option_to_list}
+use Rattle.std.specs.Prelude.{◌≡◌, ◌&&◌, ℕ, Bool, true, false, List, ◌++◌, Option, Some, Result, Ok, length, option_to_list}
 use Rattle.ddf_bytes.specs.Streams.{SourceState}
 use Rattle.ddf_bay.specs.ReadsOnly.{ReadsOnly}
 use Rattle.ddf_bay.specs.Sectors.{Image, IsLeft}
@@ -28,6 +28,8 @@ use Rattle.ddf_write_commands.specs.Resync.{HasResyncedArray, resync_request}
 use Rattle.ddf_write_commands.specs.Write.{HasWrittenArray, Outcome, is_written, write_request}
 use Rattle.ddf_group_commands.specs.Requests.{linux_members}
 use Rattle.ddf_rebuild_command.specs.Asked.{rebuild_request}
+use Rattle.ddf_rebuild_command.specs.CopiedBack.{HasCopiedBack}
+use Rattle.ddf_rebuild_command.specs.GoingBack.{copyback_request}
 use Rattle.ddf_rebuild_command.specs.Rebuilt.{HasRebuiltArray}
 use Rattle.ddf_data_calls.specs.Calls.{MayAsk}
 use Rattle.ddf_data_calls.specs.Agreed.{DoDisksAgree}
@@ -128,6 +130,19 @@ module _ {B : Type 0} {tells : Type 0} (told : tells) (disks : B → BayState B)
     pub steps : List Step
     pub are_asked : steps_of finds.found timestamp (rebuild_request word (linux_members finds.found)) ≡ Ok steps
 
+  -- A call of `copyback` that wasn't refused.
+  pub record CopybackCall (old : Moment guid B) : Type 0 where
+    pub exit : B
+    pub named : Option (List ℕ)
+    pub timestamp : ℕ
+    pub word : List ℕ
+    pub slot : ℕ
+    pub outcome : Result ℕ Failure
+    pub copied : HasCopiedBack (work_of tells (disks old.bay) (disks exit)) named timestamp word slot outcome
+    pub finds : Finds old copied.taken.left copied.taken.newest named
+    pub steps : List Step
+    pub are_asked : steps_of finds.found timestamp (copyback_request (length (disks old.bay).sizes) word slot (linux_members finds.found)) ≡ Ok steps
+
   -- ---- a command by which another group joins
 
   -- A call of `import` that wasn't refused, as the histories of its group have it: its own group is this one. Nothing is promised of the arrays that
@@ -160,6 +175,7 @@ module _ {B : Type 0} {tells : Type 0} (told : tells) (disks : B → BayState B)
     Resyncs : ResyncCall old → Call old
     Writes : WriteCall old → Call old
     Rebuilds : RebuildCall old → Call old
+    Copies : CopybackCall old → Call old
     Joins : JoinCall old → Call old
     Others : OtherCall old → Call old
     Reads : (exit : B) → ReadsOnly (disks old.bay) (disks exit) → Call old
@@ -171,6 +187,7 @@ module _ {B : Type 0} {tells : Type 0} (told : tells) (disks : B → BayState B)
     exit_of (Resyncs call) = call.exit
     exit_of (Writes call) = call.exit
     exit_of (Rebuilds call) = call.exit
+    exit_of (Copies call) = call.exit
     exit_of (Joins call) = call.join.exit
     exit_of (Others call) = call.beside.exit
     exit_of (Reads exit reads) = exit
@@ -183,6 +200,7 @@ module _ {B : Type 0} {tells : Type 0} (told : tells) (disks : B → BayState B)
     HasComeTo (Resyncs call) now = Goes guid old.past (is_read call.resynced.taken.left) call.finds.found (changes_in call.finds.found (call.plan.first ++ call.plan.last)) now
     HasComeTo (Writes call) now = Goes guid old.past (is_read call.wrote.taken.left) call.finds.found (changes_in call.finds.found (call.plan.first ++ call.plan.last)) now
     HasComeTo (Rebuilds call) now = Goes guid old.past (is_read call.rebuilt.taken.left) call.finds.found (changes_in call.finds.found call.steps) now
+    HasComeTo (Copies call) now = Goes guid old.past (is_read call.copied.taken.left) call.finds.found (changes_in call.finds.found call.steps) now
     HasComeTo (Joins call) now = Goes guid old.past (is_read call.join.imported.first.left) call.join.group (joins_in call) now
     HasComeTo (Others call) now = now ≡ old.past
     HasComeTo (Reads exit reads) now = now ≡ old.past
@@ -193,6 +211,7 @@ module _ {B : Type 0} {tells : Type 0} (told : tells) (disks : B → BayState B)
     MayPromise (Resyncs call) promised = Stays old.promises promised
     MayPromise (Writes call) promised = MayBeWritten call.plan.entry.0 call.start call.sectors old.promises promised
     MayPromise (Rebuilds call) promised = Stays old.promises promised
+    MayPromise (Copies call) promised = Stays old.promises promised
     MayPromise (Joins call) promised = Stays old.promises promised
     MayPromise (Others call) promised = Stays old.promises promised
     MayPromise (Reads exit reads) promised = Stays old.promises promised
@@ -205,6 +224,7 @@ module _ {B : Type 0} {tells : Type 0} (told : tells) (disks : B → BayState B)
     EndsAt (Resyncs call) now = Ends guid old.past (is_read call.resynced.taken.left) call.finds.found (changes_in call.finds.found (call.plan.first ++ call.plan.last)) (is_done call.outcome) now
     EndsAt (Writes call) now = Ends guid old.past (is_read call.wrote.taken.left) call.finds.found (changes_in call.finds.found (call.plan.first ++ call.plan.last)) (is_written call.outcome) now
     EndsAt (Rebuilds call) now = Ends guid old.past (is_read call.rebuilt.taken.left) call.finds.found (changes_in call.finds.found call.steps) (is_done call.outcome) now
+    EndsAt (Copies call) now = Ends guid old.past (is_read call.copied.taken.left) call.finds.found (changes_in call.finds.found call.steps) (is_done call.outcome) now
     EndsAt (Joins call) now = Ends guid old.past (is_read call.join.imported.first.left) call.join.group (joins_in call) (is_done call.join.outcome) now
     EndsAt (Others call) now = now ≡ old.past
     EndsAt (Reads exit reads) now = now ≡ old.past
@@ -215,6 +235,7 @@ module _ {B : Type 0} {tells : Type 0} (told : tells) (disks : B → BayState B)
     PromisesThen (Resyncs call) promised = promised ≡ once_resynced call (call.counts && is_done call.outcome)
     PromisesThen (Writes call) promised = IsWrittenOf (is_written call.outcome) call.plan.entry.0 call.start call.sectors old.promises promised
     PromisesThen (Rebuilds call) promised = Stays old.promises promised
+    PromisesThen (Copies call) promised = Stays old.promises promised
     PromisesThen (Joins call) promised = Stays old.promises promised
     PromisesThen (Others call) promised = Stays old.promises promised
     PromisesThen (Reads exit reads) promised = Stays old.promises promised

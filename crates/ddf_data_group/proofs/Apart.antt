@@ -103,26 +103,28 @@ abbrev pub HaveOwnSlots : List Seat → Type 0
 HaveOwnSlots seats =
     (one other floor other_floor : ℕ) → floor_of seats one ≡ Some floor → floor_of seats other ≡ Some other_floor → slot_of seats one ≡ slot_of seats other → one ≡ other
 
-record SeatOf (seats : List Seat) (reference : ℕ) : Type 0 where
+pub record SeatOf (seats : List Seat) (reference floor : ℕ) : Type 0 where
   pub at : ℕ
   pub seat : Seat
   pub is_at : slice_get seats at ≡ Some seat
   pub is_reference : seat.reference ≡ reference
   pub is_slot : slot_of seats reference ≡ seat.slot
+  pub is_floor : seat.floor ≡ floor
 
-seat_of : (seats : List Seat) (reference floor : ℕ) → floor_of seats reference ≡ Some floor → SeatOf seats reference
+pub seat_of : (seats : List Seat) (reference floor : ℕ) → floor_of seats reference ≡ Some floor → SeatOf seats reference floor
 seat_of [] reference floor e = absurd (cc)
 seat_of (seat ∷ seats) reference floor e = by (nat_eq seat.reference reference) refl e (seat_of seats reference floor)
   where
     by : (b : Bool) → nat_eq seat.reference reference ≡ b
         → option_map (λ (s : Seat). s.floor) (if b then Some seat else find (λ (s : Seat). nat_eq s.reference reference) seats) ≡ Some floor
-        → (floor_of seats reference ≡ Some floor → SeatOf seats reference) → SeatOf (seat ∷ seats) reference
+        → (floor_of seats reference ≡ Some floor → SeatOf seats reference floor) → SeatOf (seat ∷ seats) reference floor
     by true is e rest = record {
       at = 0;
       seat = seat;
       is_at = refl;
       is_reference = eqb-true seat.reference reference is;
       is_slot = ap (λ b. elim (if b then Some seat else find (λ (s : Seat). nat_eq s.reference reference) seats) [ None ↦ 64 | Some s ↦ s.slot ]) is;
+      is_floor = cc;
     }
     by false is e rest =
         let later = rest e in
@@ -132,6 +134,7 @@ seat_of (seat ∷ seats) reference floor e = by (nat_eq seat.reference reference
           is_at = later.is_at;
           is_reference = later.is_reference;
           is_slot = ap (λ b. elim (if b then Some seat else find (λ (s : Seat). nat_eq s.reference reference) seats) [ None ↦ 64 | Some s ↦ s.slot ]) is ∙ later.is_slot;
+          is_floor = later.is_floor;
         }
 
 pub own_slots : (members : List (ℕ × Member)) (seats : List Seat) → AreSeats members seats → HaveOwnSlots seats

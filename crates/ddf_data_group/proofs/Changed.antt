@@ -11,7 +11,8 @@ use Rattle.ddf_config.specs.Extents.{extents}
 use Rattle.ddf_config.specs.Members.{is_current, same_guid}
 use Rattle.ddf_config.specs.States.{array_with_low}
 use Rattle.ddf_plan.specs.declared.change.Change.{Change}
-use Rattle.ddf_plan.specs.declared.change.Change.TheVariants.{Lose, Create, Delete, Spare, Fail, Mark, Unmark, Rewind, Begin, Progress, Finish}
+use Rattle.ddf_plan.specs.declared.change.Change.TheVariants.{Lose, Create, Delete, Spare, Fail, Mark, Unmark, Rewind, Begin, Progress, Finish, Return}
+use Rattle.ddf_plan.specs.Standing.{takes_revertible}
 use Rattle.ddf_plan.specs.Arrays.{arrays_added, kept_and_added, kept_array, rebuilding}
 use Rattle.ddf_plan.specs.Changes.{changed_at}
 use Rattle.ddf_plan.specs.Lose.{lost_array}
@@ -25,7 +26,8 @@ use Rattle.ddf_data_group.specs.Grouped.{KeepsArrays, MayChange, Promises}
 use Rattle.ddf_data_group.proofs.Cleared.{cleared, same_marked}
 use Rattle.ddf_data_group.proofs.Entries.{before, current_same, found_in, guid_is, never_drops, same_mark}
 use Rattle.ddf_data_group.proofs.Keeping.{kept_as, kept_lost, kept_marked, kept_staying}
-use Rattle.ddf_data_group.proofs.Named.{begun_less, begun_stays, finished_synced, marked_is, marked_less, progressed_noted, rewound_less, rewound_stays, unmarked_is, unmarked_same}
+use Rattle.ddf_data_group.proofs.Moving.{moving}
+use Rattle.ddf_data_group.proofs.Named.{begun_less, begun_stays, finished_synced, marked_is, marked_less, progressed_noted, returned_moved, rewound_less, rewound_stays, unmarked_is, unmarked_same}
 use Rattle.ddf_data_group.proofs.Synced.{finished, noted_rows}
 
 no_some : {X : Type 0} (o : Option X) (x : X) → o ≡ None → o ≡ Some x → ⊥
@@ -50,7 +52,7 @@ module _ (config : Configuration) (seats fewer : List Seat) (image : Image) (pro
   -- an array that is found behind the change, its low state aside
   abbrev Keeps : Change → Type 0
   Keeps change =
-      (guid : List ℕ) (allowed : Allowed) (array : Array) → promises guid ≡ Some allowed → lookup (same_guid guid) (changed_entries (kept_array (members_after config change) change) config.arrays) ≡ Some array
+      (guid : List ℕ) (allowed : Allowed) (array : Array) → promises guid ≡ Some allowed → lookup (same_guid guid) (changed_entries (kept_array (takes_revertible config change) (members_after config change) change) config.arrays) ≡ Some array
       → KeepsArray (members_after config change) fewer array image allowed
 
   moved : (members : List (ℕ × Member)) (one other : Array) (allowed : Allowed) → one ≡ other → KeepsArray members fewer one image allowed → KeepsArray members fewer other image allowed
@@ -129,26 +131,34 @@ module _ (config : Configuration) (seats fewer : List Seat) (image : Image) (pro
   by_begin named element position reference start may =
       let change = Begin named element position reference start in
       let current = current_is (Begin named element position reference start) (λ k m. refl) in
-      by_named (members_after config (Begin named element position reference start)) current named (rebuilding (Begin named element position reference start) element) (λ guid allowed array promised was here.
-      kept_staying config.members (members_after config (Begin named element position reference start)) seats fewer array (rebuilding (Begin named element position reference start) element array) image allowed current are few
-      (begun_less named element position reference start array)
-      (begun_stays (is_current config.members) named element position reference start array (may guid allowed array promised was here)) (kept guid allowed array promised was))
+      by_named (members_after config (Begin named element position reference start)) current named (rebuilding (takes_revertible config (Begin named element position reference start)) (Begin named element position reference start) element) (λ guid allowed array promised was here.
+      kept_staying config.members (members_after config (Begin named element position reference start)) seats fewer array (rebuilding (takes_revertible config (Begin named element position reference start)) (Begin named element position reference start) element array) image allowed current are few
+      (begun_less (takes_revertible config change) named element position reference start array)
+      (begun_stays (takes_revertible config change) (is_current config.members) named element position reference start array (may guid allowed array promised was here)) (kept guid allowed array promised was))
 
   by_progress : (named : List ℕ) (element position row : ℕ) → MayChange config seats image promises (Progress named element position row) → Keeps (Progress named element position row)
   by_progress named element position row may =
       let current = current_is (Progress named element position row) (λ k m. refl) in
-      by_named (members_after config (Progress named element position row)) current named (rebuilding (Progress named element position row) element) (λ guid allowed array promised was here.
-      kept_as config.members (members_after config (Progress named element position row)) seats fewer (rebuilding (Progress named element position row) element array) image allowed current are few
-      (noted_rows config.members seats element position row array (rebuilding (Progress named element position row) element array) image allowed (progressed_noted named element position row array)
+      by_named (members_after config (Progress named element position row)) current named (rebuilding false (Progress named element position row) element) (λ guid allowed array promised was here.
+      kept_as config.members (members_after config (Progress named element position row)) seats fewer (rebuilding false (Progress named element position row) element array) image allowed current are few
+      (noted_rows config.members seats element position row array (rebuilding false (Progress named element position row) element array) image allowed (progressed_noted named element position row array)
       (may guid allowed array promised was here) (kept guid allowed array promised was)))
 
   by_finish : (named : List ℕ) (element position : ℕ) → MayChange config seats image promises (Finish named element position) → Keeps (Finish named element position)
   by_finish named element position may =
       let current = current_is (Finish named element position) (λ k m. refl) in
-      by_named (members_after config (Finish named element position)) current named (rebuilding (Finish named element position) element) (λ guid allowed array promised was here.
-      kept_as config.members (members_after config (Finish named element position)) seats fewer (rebuilding (Finish named element position) element array) image allowed current are few
-      (finished config.members seats element position array (rebuilding (Finish named element position) element array) image allowed (finished_synced named element position array)
+      by_named (members_after config (Finish named element position)) current named (rebuilding false (Finish named element position) element) (λ guid allowed array promised was here.
+      kept_as config.members (members_after config (Finish named element position)) seats fewer (rebuilding false (Finish named element position) element array) image allowed current are few
+      (finished config.members seats element position array (rebuilding false (Finish named element position) element array) image allowed (finished_synced named element position array)
       (may guid allowed array promised was here) (kept guid allowed array promised was)))
+
+  by_return : (named : List ℕ) (element position reference start : ℕ) → MayChange config seats image promises (Return named element position reference start) → Keeps (Return named element position reference start)
+  by_return named element position reference start may =
+      let current = current_is (Return named element position reference start) (λ k m. refl) in
+      by_named (members_after config (Return named element position reference start)) current named (rebuilding false (Return named element position reference start) element) (λ guid allowed array promised was here.
+      kept_as config.members (members_after config (Return named element position reference start)) seats fewer (rebuilding false (Return named element position reference start) element array) image allowed current are few
+      (moving config.members seats element position reference start array (rebuilding false (Return named element position reference start) element array) image allowed are
+      (returned_moved named element position reference start array) (may guid allowed array promised was here) (kept guid allowed array promised was)))
 
   by_change : (change : Change) → AreCurrentSeats (members_after config change) fewer → MayChange config seats image promises change → Keeps change
   by_change (Lose references) after_are may = by_lose references after_are
@@ -162,6 +172,7 @@ module _ (config : Configuration) (seats fewer : List Seat) (image : Image) (pro
   by_change (Begin named element position reference start) after_are may = by_begin named element position reference start may
   by_change (Progress named element position row) after_are may = by_progress named element position row may
   by_change (Finish named element position) after_are may = by_finish named element position may
+  by_change (Return named element position reference start) after_are may = by_return named element position reference start may
 
   -- nothing is promised of a created array
   one_by : (b : Bool) (x y : Array) → cond b (Some x) None ≡ Some y → b ≡ true
@@ -183,6 +194,7 @@ module _ (config : Configuration) (seats fewer : List Seat) (image : Image) (pro
   none_added (Begin named element position reference start) may guid allowed array promised found = cc
   none_added (Progress named element position row) may guid allowed array promised found = cc
   none_added (Finish named element position) may guid allowed array promised found = cc
+  none_added (Return named element position reference start) may guid allowed array promised found = cc
 
   pub changed_keeps : (change : Change) (sequence : ℕ) → AreCurrentSeats (members_after config change) fewer → MayChange config seats image promises change → KeepsArrays (changed_at config change sequence) fewer image promises
   changed_keeps change sequence after_are may guid allowed array promised found =
@@ -192,6 +204,6 @@ module _ (config : Configuration) (seats fewer : List Seat) (image : Image) (pro
       let same : array_with_low members all low.value ≡ array = let e = low.is_changed in cc in
       let keeps : KeepsArray members fewer low.value image allowed =
       ⊎_elim (λ old. by_change change after_are may guid allowed low.value promised old) (λ added. absurd (none_added change may guid allowed low.value promised added))
-      (found_in (same_guid guid) (changed_entries (kept_array members change) config.arrays) (arrays_added config change) low.value low.was) in
+      (found_in (same_guid guid) (changed_entries (kept_array (takes_revertible config change) members change) config.arrays) (arrays_added config change) low.value low.was) in
       moved members (array_with_low members all low.value) array allowed same
       (same_marked members members fewer low.value (array_with_low members all low.value) image allowed (record { same_secondary = refl; same_elements = refl }) (same_mark members all low.value) (λ reference. refl) keeps)

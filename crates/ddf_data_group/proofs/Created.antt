@@ -100,10 +100,10 @@ created_writable conf guid array made sequence seats v new found over =
     let one = created conf.members (extents conf.arrays) array in
     let is_new : one ≡ low.value =
     ⊎_elim
-    (λ old. absurd (no_some (lookup (same_guid guid) (changed_entries (kept_array members (Create guid array)) conf.arrays)) low.value
-    (absent_changed (kept_array members (Create guid array)) (same_guid guid) conf.arrays new) old))
+    (λ old. absurd (no_some (lookup (same_guid guid) (changed_entries (kept_array false members (Create guid array)) conf.arrays)) low.value
+    (absent_changed (kept_array false members (Create guid array)) (same_guid guid) conf.arrays new) old))
     (λ added. one_by (same_guid guid guid) one low.value added)
-    (found_in (same_guid guid) (changed_entries (kept_array members (Create guid array)) conf.arrays) ((guid, one) ∷ []) low.value low.was) in
+    (found_in (same_guid guid) (changed_entries (kept_array false members (Create guid array)) conf.arrays) ((guid, one) ∷ []) low.value low.was) in
     let marked : v.marked ≡ config.is_redundant array =
     over.marked_is ∙ ap is_marked (sym same) ∙ same_mark members all low.value ∙ ap is_marked (sym is_new) ∙ created_marked (config.is_redundant array) in
     let redundant : is_redundant v ≡ config.is_redundant array =

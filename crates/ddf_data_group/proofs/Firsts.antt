@@ -12,6 +12,7 @@ use Rattle.ddf_config.specs.Extents.{extents}
 use Rattle.ddf_config.specs.Members.{same_guid}
 use Rattle.ddf_plan.specs.declared.change.Change.{Change}
 use Rattle.ddf_plan.specs.declared.change.Change.TheVariants.{Begin, Progress}
+use Rattle.ddf_plan.specs.Standing.{takes_revertible}
 use Rattle.ddf_plan.specs.Arrays.{element_after, kept_and_added, position_after, rebuilding}
 use Rattle.ddf_plan.specs.Changes.{changed_at}
 use Rattle.ddf_plan.specs.Members.{members_after}
@@ -112,20 +113,20 @@ numbered_from f a (x ∷ xs) (suc k) y at =
     let number : a + suc k ≡ a + 1 + k = omega arith in
     (rest.0, rest.1, ap (λ (n : ℕ). f (n, rest.0)) number ∙ rest.2)
 
-module _ (change : Change) (element position : ℕ) (stays : (number : ℕ) (old : Position) → number < position → (position_after change number old).synced ≡ old.synced) where
-  first_stays : (before after : Array) → after.elements ≡ (rebuilding change element before).elements → IsFirstOf before element position → IsFirstOf after element position
+module _ (revertible : Bool) (change : Change) (element position : ℕ) (stays : (number : ℕ) (old : Position) → number < position → (position_after change number old).synced ≡ old.synced) where
+  first_stays : (before after : Array) → after.elements ≡ (rebuilding revertible change element before).elements → IsFirstOf before element position → IsFirstOf after element position
   first_stays before after same first plan plan_at earlier one less at =
-      let made : slice_get (changed_item (option_map (element_after change)) element before.elements) element ≡ Some (Some plan) =
-      ap (λ (l : List (Option ElementValue)). slice_get l element) (sym (all_made change (element_after change) (λ plan. refl) element before.elements)) ∙ ap (λ (l : List (Option ElementValue)). slice_get l element) (sym same) ∙ plan_at in
+      let made : slice_get (changed_item (option_map (element_after revertible change)) element before.elements) element ≡ Some (Some plan) =
+      ap (λ (l : List (Option ElementValue)). slice_get l element) (sym (all_made revertible change (element_after revertible change) (λ plan. refl) element before.elements)) ∙ ap (λ (l : List (Option ElementValue)). slice_get l element) (sym same) ∙ plan_at in
       ⊎_elim
       (λ changed. by_part changed.item changed.is_item changed.is_changed)
       (λ other. absurd (other.0 refl))
-      (changed_cases (option_map (element_after change)) element before.elements element (Some plan) made)
+      (changed_cases (option_map (element_after revertible change)) element before.elements element (Some plan) made)
     where
-      by_part : (part : Option ElementValue) → slice_get before.elements element ≡ Some part → Some plan ≡ option_map (element_after change) part → one.synced ≡ true
+      by_part : (part : Option ElementValue) → slice_get before.elements element ≡ Some part → Some plan ≡ option_map (element_after revertible change) part → one.synced ≡ true
       by_part None part_at e = absurd (cc)
       by_part (Some was) part_at e =
-          let plan_is : plan ≡ element_after change was = some_is e in
+          let plan_is : plan ≡ element_after revertible change was = some_is e in
           let there = numbered_from (λ (pair : ℕ × Position). position_after change pair.0 pair.1) 0 was.positions earlier one (ap (λ (p : ElementValue). slice_get p.positions earlier) (sym plan_is) ∙ at) in
           ap (λ (x : Position). x.synced) (sym there.2) ∙ stays (0 + earlier) there.0 (omega (arith, less)) ∙ first was part_at earlier there.0 less there.1
 
@@ -137,16 +138,16 @@ pub first_begun : (config : Configuration) (guid : List ℕ) (element position r
     → lookup (same_guid guid) (changed_at config (Begin guid element position reference start) sequence).arrays ≡ Some after → IsFirstOf before element position → IsFirstOf after element position
 first_begun config guid element position reference start sequence before after found found_after first =
     let made = made_of (members_after config (Begin guid element position reference start)) (extents (kept_and_added config (Begin guid element position reference start)))
-    (rebuilding (Begin guid element position reference start) element) guid config.arrays after found_after in
-    first_stays (Begin guid element position reference start) element position (λ number old less. begun_stays position reference start number old less) made.before after made.same_elements
+    (rebuilding (takes_revertible config (Begin guid element position reference start)) (Begin guid element position reference start) element) guid config.arrays after found_after in
+    first_stays (takes_revertible config (Begin guid element position reference start)) (Begin guid element position reference start) element position (λ number old less. begun_stays position reference start number old less) made.before after made.same_elements
     (subst (λ (x : Array). IsFirstOf x element position) (some_is (sym found ∙ made.was)) first)
 
 pub first_noted : (config : Configuration) (guid : List ℕ) (element position row sequence : ℕ) (before after : Array) → lookup (same_guid guid) config.arrays ≡ Some before
     → lookup (same_guid guid) (changed_at config (Progress guid element position row) sequence).arrays ≡ Some after → IsFirstOf before element position → IsFirstOf after element position
 first_noted config guid element position row sequence before after found found_after first =
     let made = made_of (members_after config (Progress guid element position row)) (extents (kept_and_added config (Progress guid element position row)))
-    (rebuilding (Progress guid element position row) element) guid config.arrays after found_after in
-    first_stays (Progress guid element position row) element position (λ number old less. refl) made.before after made.same_elements
+    (rebuilding false (Progress guid element position row) element) guid config.arrays after found_after in
+    first_stays false (Progress guid element position row) element position (λ number old less. refl) made.before after made.same_elements
     (subst (λ (x : Array). IsFirstOf x element position) (some_is (sym found ∙ made.was)) first)
 
 -- ---- over seats

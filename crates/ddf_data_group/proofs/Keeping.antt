@@ -36,11 +36,11 @@ stay_position : (c : ℕ → Bool) (positions : List Position) → AreStaying c 
 stay_position c [] = tt
 stay_position c (position ∷ positions) = (inr (refl, refl, refl), stay_position c positions)
 
-less_position : (positions : List Position) → AreLessPositions positions positions
+pub less_position : (positions : List Position) → AreLessPositions positions positions
 less_position [] = tt
 less_position (position ∷ positions) = (inr (refl, refl, refl, inr refl), less_position positions)
 
-less_parts : (known : List (Option ElementValue)) → AreLessParts known known
+pub less_parts : (known : List (Option ElementValue)) → AreLessParts known known
 less_parts [] = tt
 less_parts (None ∷ known) = (tt, less_parts known)
 less_parts (Some element ∷ known) = (record { same_level = refl; same_qualifier = refl; same_strip = refl; same_blocks = refl; less = less_position element.positions }, less_parts known)

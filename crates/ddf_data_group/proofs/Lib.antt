@@ -8,6 +8,7 @@ pub mod Cleared
 pub mod Remade
 pub mod Synced
 pub mod Keeping
+pub mod Moving
 pub mod Entries
 pub mod Named
 pub mod Changed
@@ -15,6 +16,7 @@ pub mod Marked
 pub mod Agreed
 pub mod Apart
 pub mod Clearly
+pub mod Free
 pub mod Created
 pub mod Readied
 pub mod Vacant

@@ -54,7 +54,7 @@ module _ (f : Position → Position) (place_f : Place → Place) (follows : (sea
 
 -- ---- a position in sync
 
-remakes_synced : (p : ℕ) → Remakes (changed_item position_in_sync p) (changed_item place_in_sync p)
+pub remakes_synced : (p : ℕ) → Remakes (changed_item position_in_sync p) (changed_item place_in_sync p)
 remakes_synced p = record {
   as_many = λ positions. changed_length position_in_sync p positions;
   as_many_places = λ places. changed_length place_in_sync p places;

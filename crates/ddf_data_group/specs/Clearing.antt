@@ -1,16 +1,19 @@
 -- Changes of an array that give more of it to read from, and those by which a rebuild goes on.
-use Rattle.std.specs.Prelude.{◌≡◌, ℕ, ◌<◌, ◌≤◌, Bool, true, false, List, Option, Some, map, option_map, slice_get}
+use Rattle.std.specs.Prelude.{◌≡◌, ℕ, zero, suc, ◌<◌, ◌≤◌, Bool, true, false, List, [], ◌∷◌, Option, Some, None, map, option_map, slice_get}
 use Rattle.ddf_config.specs.declared.array.Array.{Array}
 use Rattle.ddf_config.specs.declared.element.Position.{Position}
+use Rattle.ddf_config.specs.declared.seat.Seat.{Seat}
 use Rattle.ddf_config.specs.ElementValue.{ElementValue, with_positions}
 use Rattle.ddf_config.specs.States.{is_marked}
 use Rattle.ddf_bay.specs.Sectors.{Image}
+use Rattle.ddf_array.specs.Viewing.{seat_slot}
 use Rattle.ddf_array.specs.Volume.{Volume}
 use Rattle.ddf_array.specs.Within.{is_within}
 use Rattle.ddf_data_array.specs.Allowed.{Allowed}
 use Rattle.ddf_rebuild.specs.Rebuilding.{HasRebuilt}
 use Rattle.ddf_rebuild.specs.Target.{IsOut}
 use Rattle.ddf_data_array.specs.Changing.{changed_item, IsConsistentNow, IsRebuilt, ValuesMay, with_mark}
+use Rattle.ddf_data_array.specs.Moved.{HoldsTheSame}
 use Rattle.ddf_data_array.specs.Rows.{AreRowsKept, IsFirstOut, NoneAbsent}
 
 -- The array has the same elements.
@@ -81,3 +84,42 @@ IsFirstOf array element position =
 abbrev pub HasRowsUpTo : Array → (element position row : ℕ) → Type 0
 HasRowsUpTo array element position row =
     (plan : ElementValue) (one : Position) → slice_get array.elements element ≡ Some (Some plan) → slice_get plan.positions position ≡ Some one → one.row ≤ row
+
+abbrev pub position_moved : (reference start : ℕ) → Position → Position
+position_moved reference start position = record position { reference = reference; start = start; synced = true; row = 0 }
+
+-- an element of which a position lies on another disk, in sync
+pub record IsMovedElement (position reference start : ℕ) (before after : ElementValue) : Type 0 where
+  pub same_level : after.level ≡ before.level
+  pub same_qualifier : after.qualifier ≡ before.qualifier
+  pub same_strip : after.strip ≡ before.strip
+  pub same_blocks : after.blocks ≡ before.blocks
+  pub positions_are : after.positions ≡ changed_item (position_moved reference start) position before.positions
+
+abbrev pub IsMovedPart : (position reference start : ℕ) → Option ElementValue → Option ElementValue → Type 0
+IsMovedPart position reference start None None = Unit {0}
+IsMovedPart position reference start None (Some after) = ⊥
+IsMovedPart position reference start (Some before) None = ⊥
+IsMovedPart position reference start (Some before) (Some after) = IsMovedElement position reference start before after
+
+-- the elements of which this one has a position on another disk
+abbrev pub AreMovedParts : (element position reference start : ℕ) → List (Option ElementValue) → List (Option ElementValue) → Type 0
+AreMovedParts element position reference start [] [] = Unit {0}
+AreMovedParts element position reference start [] (after ∷ afters) = ⊥
+AreMovedParts element position reference start (before ∷ befores) [] = ⊥
+AreMovedParts zero position reference start (before ∷ befores) (after ∷ afters) = IsMovedPart position reference start before after × (afters ≡ befores)
+AreMovedParts (suc element) position reference start (before ∷ befores) (after ∷ afters) =
+    (after ≡ before) × AreMovedParts element position reference start befores afters
+
+-- The array has a position on another disk, in sync, and is marked if it was.
+pub record IsMovedArray (element position reference start : ℕ) (before after : Array) : Type 0 where
+  pub same_secondary : after.secondary ≡ before.secondary
+  pub same_mark : is_marked after ≡ is_marked before
+  pub moved : AreMovedParts element position reference start before.elements after.elements
+
+-- A position of the array may move to an extent on another disk: it lies on a seat, below its floor, and holds what the position holds.
+pub record MayMove (seats : List Seat) (array : Array) (volume : Volume) (image : Image) (element position reference start : ℕ) : Type 0 where
+  pub slot : ℕ
+  pub is_seated : (plan : ElementValue) → slice_get array.elements element ≡ Some (Some plan)
+      → seat_slot seats (record { reference = reference; start = start; blocks = plan.blocks }) ≡ Some slot
+  pub same : HoldsTheSame volume image element position slot start

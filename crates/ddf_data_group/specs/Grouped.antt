@@ -10,11 +10,11 @@ use Rattle.ddf_config.specs.ElementValue.{ElementValue}
 use Rattle.ddf_config.specs.Members.{is_current, same_guid}
 use Rattle.ddf_array.specs.Volume.{Volume}
 use Rattle.ddf_plan.specs.declared.change.Change.{Change}
-use Rattle.ddf_plan.specs.declared.change.Change.TheVariants.{Create, Unmark, Begin, Progress, Finish}
+use Rattle.ddf_plan.specs.declared.change.Change.TheVariants.{Create, Unmark, Begin, Progress, Finish, Return}
 use Rattle.ddf_data_array.specs.Allowed.{Allowed}
 use Rattle.ddf_data_group.specs.Over.{IsOver, absent_in}
 use Rattle.ddf_data_group.specs.Kept.{KeepsArray}
-use Rattle.ddf_data_group.specs.Clearing.{MayBeCleared, MayBeInSync, MayBeNoted}
+use Rattle.ddf_data_group.specs.Clearing.{MayBeCleared, MayBeInSync, MayBeNoted, MayMove}
 
 -- What is promised of arrays, by their GUIDs: the bytes that their blocks may have. None where nothing is, as of an array that was unmarked
 -- when it was not consistent.
@@ -38,7 +38,8 @@ IsVacant config array element position =
 
 -- What a change asks of what it is made over. Of an array that it creates nothing was promised. A mark is cleared of an array that is consistent, with
 -- values that its blocks may have, and rows that hold what they should where any count as rebuilt. A rebuild begins at a position without a current
--- member's disk, counts rows that hold what they should, and ends once all do. Any other change asks for nothing.
+-- member's disk, counts rows that hold what they should, and ends once all do. A position moves to a disk that has a seat, where its extent ends at or
+-- below the floor and holds what the position holds. Any other change asks for nothing.
 abbrev pub MayChange : Configuration → List Seat → Image → Promises → Change → Type 0
 MayChange config seats image promises (Create created added) = promises created ≡ None
 MayChange config seats image promises (Unmark named init) =
@@ -51,4 +52,7 @@ MayChange config seats image promises (Progress named element position row) =
 MayChange config seats image promises (Finish named element position) =
     OfPromised config promises (λ guid allowed array. guid ≡ named → (volume : Volume) → IsOver seats array volume
     → MayBeInSync (absent_in config.members seats array.elements) volume image element position)
+MayChange config seats image promises (Return named element position reference start) =
+    OfPromised config promises (λ guid allowed array. guid ≡ named → (volume : Volume) → IsOver seats array volume
+    → MayMove seats array volume image element position reference start)
 MayChange config seats image promises other = Unit {0}

@@ -1,35 +1,40 @@
 //! Laws of what the arrays of groups keep: functions that do nothing, whose contracts are the laws.
-ghost use Rattle.std.specs.Prelude.{◌≡◌, ◌≢◌, ◌⊎◌, ◌<◌, ℕ, Bool, true, false, List, None, Some, Ok, is_some};
+ghost use Rattle.std.specs.Prelude.{◌≡◌, ◌≢◌, ◌⊎◌, ◌<◌, ℕ, Bool, true, false, List, None, Some, Ok, is_some, slice_get};
 ghost use Rattle.std.specs.Map.{lookup};
 ghost use Rattle.ddf_bay.specs.Sectors.{Image};
 ghost use Rattle.ddf_config.specs.declared.member.Member.{Member};
 ghost use Rattle.ddf_config.specs.declared.array.Array.{Array};
+ghost use Rattle.ddf_config.specs.declared.extent.Extent.{Extent};
 ghost use Rattle.ddf_config.specs.declared.seat.Seat.{Seat};
 ghost use Rattle.ddf_config.specs.Configuration.{Configuration};
+ghost use Rattle.ddf_config.specs.Extents.{extents};
 ghost use Rattle.ddf_config.specs.Members.{is_current, same_guid};
-ghost use Rattle.ddf_config.specs.Seats.{floor_of, slot_of};
+ghost use Rattle.ddf_config.specs.Seats.{SeatsFit, floor_of, slot_of};
 ghost use Rattle.ddf_config.specs.States.{is_marked};
 ghost use Rattle.ddf_plan.specs.declared.change.Change.{Change};
 ghost use Rattle.ddf_plan.specs.declared.change.Change.TheVariants.{Begin, Create, Mark, Progress};
 ghost use Rattle.ddf_plan.specs.Changes.{changed_at};
+ghost use Rattle.ddf_plan.specs.Create.{lies_clear};
 ghost use Rattle.ddf_plan.specs.Lose.{lost_array};
 ghost use Rattle.ddf_plan.specs.Members.{members_after};
 ghost use Rattle.ddf_plan.specs.Same.{is_step};
 ghost use Rattle.ddf_repair.specs.declared.beginning.Begun.TheVariants.{Again, Fresh};
 ghost use Rattle.ddf_repair.specs.declared.first.Target.{Target};
 ghost use Rattle.ddf_repair.specs.Begin.{begun};
+ghost use Rattle.ddf_array.specs.declared.part.Part.{Part};
 ghost use Rattle.ddf_array.specs.Apart.{AreSeats};
 ghost use Rattle.ddf_array.specs.Losing.{AreFewer};
 ghost use Rattle.ddf_array.specs.Redundant.{IsRedundant};
-ghost use Rattle.ddf_array.specs.Viewing.{view_of};
+ghost use Rattle.ddf_array.specs.Viewing.{seat_slot, view_of};
 ghost use Rattle.ddf_array.specs.Volume.{Volume, IsVolume};
 ghost use Rattle.ddf_array.specs.Within.{is_within};
 ghost use Rattle.ddf_cells.specs.Apart.{LiesAt};
 ghost use Rattle.ddf_cells.specs.Degraded.{is_degraded};
-ghost use Rattle.ddf_cells.specs.Writing.{StaysBut};
+ghost use Rattle.ddf_cells.specs.Writing.{IsAmongSectors, StaysBut};
 ghost use Rattle.ddf_write.specs.Writing.{IsLeftByWrite};
 ghost use Rattle.ddf_resync.specs.Resyncing.{MayResync};
-ghost use Rattle.ddf_rebuild.specs.Target.{IsTargetCell};
+ghost use Rattle.ddf_rebuild.specs.Filling.{IsFilled};
+ghost use Rattle.ddf_rebuild.specs.Target.{IsAside, IsTargetCell};
 ghost use Rattle.ddf_data_array.specs.Allowed.{Allowed};
 ghost use Rattle.ddf_data_array.specs.Changing.{IsWritable, with_mark};
 ghost use Rattle.ddf_data_array.specs.Fewer.{IsFewer, LeavesRows};
@@ -37,7 +42,7 @@ ghost use Rattle.ddf_data_array.specs.Kept.{IsKeptData};
 ghost use Rattle.ddf_data_array.specs.Rows.{AreAlikeThroughout, AreRowsKept, GoesOnBehind, HasNoRows, IsFirstOut, NoneAbsent};
 ghost use Rattle.ddf_data_group.specs.Agreeing.{AgreeOn};
 ghost use Rattle.ddf_data_group.specs.Clear.{ChangesItsCells};
-ghost use Rattle.ddf_data_group.specs.Clearing.{HasRowsUpTo, IsFirstOf, IsInSync, IsNotedArray, IsSameButMark, MayBeCleared, MayBeInSync, MayBeNoted};
+ghost use Rattle.ddf_data_group.specs.Clearing.{HasRowsUpTo, IsFirstOf, IsInSync, IsMovedArray, IsNotedArray, IsSameButMark, MayBeCleared, MayBeInSync, MayBeNoted, MayMove};
 ghost use Rattle.ddf_data_group.specs.Grouped.{KeepsArrays, MayChange, Promises};
 ghost use Rattle.ddf_data_group.specs.Kept.{KeepsArray};
 ghost use Rattle.ddf_data_group.specs.Lessening.{AllStay, IsLessArray};
@@ -113,7 +118,16 @@ pub fn rebuilt_rows_keep_the_data()
         → KeepsArray members seats before image allowed → KeepsArray members seats after image allowed }
 {}
 
-/// The arrays of a group keep their data through each change of its configuration, where it has what it asks for.
+/// An array keeps its data where a position lies on another disk that holds what the position holds.
+pub fn a_position_on_another_disk_keeps_the_data()
+    ensures { (members : List (ℕ × Member)) (seats : List Seat) (element position reference start : ℕ) (before after : Array) (image : Image) (allowed : Allowed)
+        → AreCurrentSeats members seats → IsMovedArray element position reference start before after
+        → ((volume : Volume) → IsOver seats before volume → MayMove seats before volume image element position reference start)
+        → KeepsArray members seats before image allowed → KeepsArray members seats after image allowed }
+{}
+
+/// The arrays of a group keep their data through each change of its configuration, where it has what it asks for: a position that moves to another disk holds
+/// there what it holds.
 pub fn a_change_keeps_the_data_of_a_group()
     ensures { (config : Configuration) (change : Change) (sequence : ℕ) (seats fewer : List Seat) (image : Image) (promises : Promises)
         → AreCurrentSeats config.members seats → AreCurrentSeats (members_after config change) fewer → AreFewer seats fewer → MayChange config seats image promises change
@@ -195,6 +209,21 @@ pub fn only_an_arrays_cells_change()
         → ((s l : ℕ) → (image s l ≡ before s l) ⊎ MayResync volume (Unit {0}) first s l (image s l)) → ChangesItsCells volume before image }
     ensures rebuild { (volume : Volume) (element position from to : ℕ) (before image : Image)
         → StaysBut (IsTargetCell volume element position from to) before image → ChangesItsCells volume before image }
+{}
+
+/// A free extent of a configuration is no array's: what is written to it changes no sector of any, so it lies aside of each. What is filled of an extent
+/// lies in it.
+pub fn a_free_extent_is_no_arrays()
+    ensures alike { (config : Configuration) (guid : List ℕ) (seats : List Seat) (one : Extent) (slot : ℕ) (array : Array) (volume : Volume) (before image : Image)
+        → AreCurrentSeats config.members seats → AreSeats config.members seats → seat_slot seats one ≡ Some slot → lies_clear config.members (extents config.arrays) one ≡ true
+        → lookup (same_guid guid) config.arrays ≡ Some array → IsOver seats array volume
+        → StaysBut (IsAmongSectors slot one.start one.blocks) before image → AreAlikeThroughout volume before image }
+    ensures aside { (config : Configuration) (guid : List ℕ) (seats : List Seat) (one : Extent) (slot : ℕ) (array : Array) (volume : Volume) (sizes : List ℕ) (element : ℕ) (part : Part)
+        → AreCurrentSeats config.members seats → AreSeats config.members seats → seat_slot seats one ≡ Some slot → lies_clear config.members (extents config.arrays) one ≡ true
+        → lookup (same_guid guid) config.arrays ≡ Some array → IsOver seats array volume → SeatsFit sizes seats
+        → slice_get volume.parts element ≡ Some part → part.shape.blocks ≡ one.blocks → IsAside sizes volume element slot one.start }
+    ensures filled { (volume : Volume) (element slot start : ℕ) (part : Part) (before image : Image) → slice_get volume.parts element ≡ Some part
+        → StaysBut (IsFilled volume element slot start) before image → StaysBut (IsAmongSectors slot start part.shape.blocks) before image }
 {}
 
 /// A created array is marked, or keeps each block in one place alone: whatever its disks hold, its blocks may have it.

@@ -22,7 +22,7 @@ use Rattle.ddf_write_commands.specs.Write.{is_written}
 use Rattle.ddf_history_memory.specs.Histories.{GoesWell, HasMemberOn, IsCutAt, IsHistoryOn}
 use Rattle.ddf_history_memory.proofs.Slots.{becomes, before_told}
 use Rattle.ddf_data_events.specs.Calls.{EndsAt, HasComeTo, joins_in}
-use Rattle.ddf_data_events.specs.Calls.Call.{Accepts, Changes, Joins, Others, Reads, Rebuilds, Resyncs, Writes}
+use Rattle.ddf_data_events.specs.Calls.Call.{Accepts, Changes, Copies, Joins, Others, Reads, Rebuilds, Resyncs, Writes}
 use Rattle.ddf_data_events.specs.Events.{Resumes}
 use Rattle.ddf_data_events.specs.Moments.{Moment}
 use Rattle.ddf_data_events.proofs.Happening.{ended, was_cut}
@@ -73,6 +73,8 @@ module _ (group : List ℕ) (old : Moment group MemoryBay) (all : IsDataHistoryO
       (is_written call.outcome) now ends acked kept
   ends_history (Rebuilds call) well told now ends acked kept =
       took_ends call.exit well told call.rebuilt.taken.left call.rebuilt.taken.every_slot call.rebuilt.taken.failed call.finds.found (changes_in call.finds.found call.steps) (is_done call.outcome) now ends acked kept
+  ends_history (Copies call) well told now ends acked kept =
+      took_ends call.exit well told call.copied.taken.left call.copied.taken.every_slot call.copied.taken.failed call.finds.found (changes_in call.finds.found call.steps) (is_done call.outcome) now ends acked kept
   ends_history (Joins call) well told now ends acked kept =
       took_ends call.join.exit well told call.join.imported.first.left call.join.imported.first.every_slot call.join.imported.first.failed call.join.group (joins_in {tells = Unit {0}} tt disks_of (Unit {0}) read_as group call) (is_done call.join.outcome) now ends acked kept
   ends_history (Others call) well told now same acked kept = still_ended group old.past old.bay call.beside.exit all.history well now same kept
@@ -108,6 +110,8 @@ module _ (group : List ℕ) (old : Moment group MemoryBay) (all : IsDataHistoryO
         false now come acked cut image is_cut kept
     come_history (Rebuilds call) well told now come acked kept =
         took_cut call.exit well told call.rebuilt.taken.left call.rebuilt.taken.every_slot call.rebuilt.taken.failed call.finds.found (changes_in call.finds.found call.steps) false now come acked cut image is_cut kept
+    come_history (Copies call) well told now come acked kept =
+        took_cut call.exit well told call.copied.taken.left call.copied.taken.every_slot call.copied.taken.failed call.finds.found (changes_in call.finds.found call.steps) false now come acked cut image is_cut kept
     come_history (Joins call) well told now come acked kept =
         took_cut call.join.exit well told call.join.imported.first.left call.join.imported.first.every_slot call.join.imported.first.failed call.join.group (joins_in {tells = Unit {0}} tt disks_of (Unit {0}) read_as group call) false now come acked cut image is_cut kept
     come_history (Others call) well told now same acked kept = still_cut group old.past old.bay call.beside.exit all.history well now same cut image is_cut kept

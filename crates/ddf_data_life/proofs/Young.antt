@@ -28,7 +28,7 @@ use Rattle.ddf_history_memory.proofs.Slots.{becomes, before_told, left_gone, rea
 use Rattle.ddf_history_memory.proofs.Young.{young}
 use Rattle.ddf_data_events.specs.Beginnings.{Begins}
 use Rattle.ddf_data_events.specs.Calls.{EndsAt, joins_in}
-use Rattle.ddf_data_events.specs.Calls.Call.{Accepts, Changes, Joins, Others, Reads, Rebuilds, Resyncs, Writes}
+use Rattle.ddf_data_events.specs.Calls.Call.{Accepts, Changes, Copies, Joins, Others, Reads, Rebuilds, Resyncs, Writes}
 use Rattle.ddf_data_events.specs.Moments.{Moment}
 use Rattle.ddf_data_events.proofs.Beginning.{found_begins}
 use Rattle.ddf_data_events.proofs.Happening.{ended}
@@ -121,6 +121,8 @@ module _ (group : List ℕ) (old : Moment group MemoryBay) (all : IsYoungDataOn 
       (is_written call.outcome) now ends kept own
   ours_by (Rebuilds call) well told now ends kept own =
       took_ours call.exit well told call.rebuilt.taken.left call.rebuilt.taken.every_slot call.rebuilt.taken.failed call.finds.found (changes_in call.finds.found call.steps) (is_done call.outcome) now ends kept own
+  ours_by (Copies call) well told now ends kept own =
+      took_ours call.exit well told call.copied.taken.left call.copied.taken.every_slot call.copied.taken.failed call.finds.found (changes_in call.finds.found call.steps) (is_done call.outcome) now ends kept own
   ours_by (Joins call) well told now ends kept own =
       took_ours call.join.exit well told call.join.imported.first.left call.join.imported.first.every_slot call.join.imported.first.failed call.join.group (joins_in {tells = Unit {0}} tt disks_of (Unit {0}) read_as group call) (is_done call.join.outcome) now ends kept own
   ours_by (Others call) well told now same kept own = absurd (none_ours now same own)

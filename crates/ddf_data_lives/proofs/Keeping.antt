@@ -44,7 +44,7 @@ use Rattle.ddf_import_command.specs.Import.{import_asked}
 use Rattle.ddf_data_calls.proofs.Recovered.{recovered_listed}
 use Rattle.ddf_history_memory.specs.Histories.{GoesWell}
 use Rattle.ddf_history_memory.proofs.Slots.{before_told, left_gone, read_at}
-use Rattle.ddf_data_events.specs.Calls.Call.{Accepts, Changes, Joins, Others, Reads, Rebuilds, Resyncs, Writes}
+use Rattle.ddf_data_events.specs.Calls.Call.{Accepts, Changes, Copies, Joins, Others, Reads, Rebuilds, Resyncs, Writes}
 use Rattle.ddf_data_events.specs.Moments.{Moment}
 use Rattle.ddf_data_events.proofs.Floors.{by_held}
 use Rattle.ddf_data_events.proofs.JoinAsked.{is_readied, is_unrefused}
@@ -53,7 +53,7 @@ use Rattle.ddf_data_life.proofs.Kept.{resync_keeps, write_keeps}
 use Rattle.ddf_data_life.proofs.Memory.{bays}
 use Rattle.ddf_data_lives.specs.Sparing.{FailsNot}
 use Rattle.ddf_data_lives.specs.Standing.{KeepsDisk, Stands}
-use Rattle.ddf_data_lives.proofs.Sparing.{change_keeps, issued_keep, rebuild_keeps, recovered_keep}
+use Rattle.ddf_data_lives.proofs.Sparing.{change_keeps, copyback_keeps, issued_keep, rebuild_keeps, recovered_keep}
 
 -- ---- members that a join keeps
 
@@ -195,6 +195,10 @@ module _ (group : List ℕ) (kept : ℕ) (disk : Disk) (old : Moment group Memor
       let now = still_current call.exit well told call.rebuilt.taken.left call.rebuilt.taken.every_slot call.rebuilt.taken.failed call.rebuilt.taken.newest (call.rebuilt.taken.read tt) call.named call.finds.found
       call.finds.is_found call.finds.own call.finds.admitted in
       issued_keep disk call.finds.found call.steps (rebuild_keeps disk call.finds.found call.timestamp now call.steps call.word call.are_asked)
+  keeps_on (Copies call) well told spares =
+      let now = still_current call.exit well told call.copied.taken.left call.copied.taken.every_slot call.copied.taken.failed call.copied.taken.newest (call.copied.taken.read tt) call.named call.finds.found
+      call.finds.is_found call.finds.own call.finds.admitted in
+      issued_keep disk call.finds.found call.steps (copyback_keeps disk call.finds.found call.timestamp now call.steps _ call.word call.slot call.are_asked)
   keeps_on (Joins call) well told spares =
       let join = call.join in
       let now = still_current join.exit well told join.imported.first.left join.imported.first.every_slot join.imported.first.failed join.imported.first.newest (join.imported.first.read tt) join.named join.group

@@ -1,9 +1,10 @@
 -- A disk that no change fails is a current member of each configuration that steps give, the recovery's too.
-use Rattle.std.proofs.Common.{◌≡◌, ◌∙◌, ℕ, zero, suc, ◌+◌, ◌++◌, ◌||◌, ◌==◌, nat_eq, not, cond, Bool, true, false, List, [], ◌∷◌, map, filter, Option, Some, None, Result, Ok, Err, if◌then◌else◌, refl, sym, ap, subst}
+use Rattle.std.proofs.Common.{◌≡◌, ◌∙◌, ℕ, zero, suc, ◌++◌, ◌||◌, ◌==◌, nat_eq, not, cond, Bool, true, false, List, [], ◌∷◌, map, filter, Option, Some, None, Result, Ok, Err, if◌then◌else◌, refl, sym, ap, subst}
 use Rattle.std.proofs.lemmas.Bool.{eqb-true}
 use Rattle.std.specs.Prelude.{option_to_list, slice_get}
 use Rattle.std.specs.List.{AllByRecursion}
 use Rattle.ddf_config.specs.declared.member.Member.{Member}
+use Rattle.ddf_config.specs.declared.extent.Extent.{Extent}
 use Rattle.ddf_config.specs.declared.refusal.Refusal.{Refusal}
 use Rattle.ddf_config.specs.Configuration.{Configuration}
 use Rattle.ddf_config.specs.Entries.{changed_entries}
@@ -20,6 +21,7 @@ use Rattle.ddf_repair.specs.declared.beginning.Begun.TheVariants.{Again, Fresh, 
 use Rattle.ddf_repair.specs.declared.beginning.RebuildFault.{RebuildFault}
 use Rattle.ddf_repair.specs.declared.beginning.RebuildFault.TheVariants as faults
 use Rattle.ddf_repair.specs.Begin.{begun}
+use Rattle.ddf_repair.specs.Choose.{chosen}
 use Rattle.ddf_rewrite.proofs.Lists.{some_same}
 use Rattle.ddf_history.specs.Groups.{Disk, has_current}
 use Rattle.ddf_seats.specs.declared.seated.Seated.{Seated}
@@ -36,12 +38,14 @@ use Rattle.ddf_history_steps.specs.Going.{changes_in}
 use Rattle.ddf_history_steps.proofs.ChangingStays.{stays_current}
 use Rattle.ddf_history_steps.proofs.RecoveringLoss.{listed_current}
 use Rattle.ddf_request.specs.Named.{named_array}
+use Rattle.ddf_request.specs.Slots.{reference_on}
 use Rattle.ddf_group_commands.specs.Change.{Request, steps_asked, steps_of}
 use Rattle.ddf_group_commands.proofs.Outcomes.{asked_of as asked_readied}
 use Rattle.ddf_write_commands.specs.Planned.{Entry, unless_refused}
 use Rattle.ddf_group_commands.specs.Requests.{linux_members}
 use Rattle.ddf_rebuild_command.specs.Asked.{bad_spare, changes_behind, kept_in, rebuild_asked, rebuild_changes, rebuild_refusals, rebuild_request, rebuild_unless, rows_in}
 use Rattle.ddf_rebuild_command.specs.PassedOver.{passed_over}
+use Rattle.ddf_rebuild_command.specs.GoingBack.{back_to, copyback_asked, copyback_changes, copyback_refusals, copyback_request, copyback_unless, go_to, room_of}
 use Rattle.ddf_rebuild_command.specs.Notes.{notes}
 use Rattle.ddf_rebuild_command.proofs.Targets.{is_fresh_at}
 use Rattle.ddf_history_life.specs.Commands.{KeepDisk}
@@ -208,3 +212,28 @@ module _ (disk : Disk) where
 
       pub rebuild_keeps : (word : List ℕ) → steps_of found timestamp (rebuild_request word (linux_members found)) ≡ Ok steps → KeepDisk steps disk
       rebuild_keeps word are = entry_keeps (named_array (config_recovered found).arrays word) are
+
+    -- ---- a copyback
+
+    module _ (steps : List Step) (count : ℕ) where
+      went_keeps : (entry : Entry) (target : Target) (room : Result Extent Refusal) → steps_asked found timestamp (go_to entry target room) ≡ Ok steps → KeepDisk steps disk
+      went_keeps entry target (Ok room) are = answered_keep (back_to entry target room ∷ []) (refl, tt) steps are
+      went_keeps entry target (Err refusal) are = absurd cc
+
+      chosen_keeps : (entry : Entry) (slot : ℕ) (target : Option Target)
+          → steps_asked found timestamp (copyback_changes (config_recovered found) found.seats (linux_members found) entry slot target) ≡ Ok steps → KeepDisk steps disk
+      chosen_keeps entry slot None are = absurd cc
+      chosen_keeps entry slot (Some target) are =
+          went_keeps entry target (room_of (config_recovered found) found.seats (linux_members found) entry slot (reference_on found.seats slot) target) are
+
+      back_keeps : (entry : Entry) (slot : ℕ) (refusal : Option Refusal)
+          → steps_asked found timestamp (copyback_unless (config_recovered found) found.seats (linux_members found) entry slot refusal) ≡ Ok steps → KeepDisk steps disk
+      back_keeps entry slot None are = chosen_keeps entry slot (chosen (config_recovered found) entry.0 found.seats) are
+      back_keeps entry slot (Some refusal) are = absurd cc
+
+      entry_goes : (slot : ℕ) (named : Option Entry) → steps_asked found timestamp (copyback_asked count (config_recovered found) found.seats (linux_members found) slot named) ≡ Ok steps → KeepDisk steps disk
+      entry_goes slot None are = absurd cc
+      entry_goes slot (Some entry) are = back_keeps entry slot (first_refusal (copyback_refusals count (config_recovered found) found.seats entry slot)) are
+
+      pub copyback_keeps : (word : List ℕ) (slot : ℕ) → steps_of found timestamp (copyback_request count word slot (linux_members found)) ≡ Ok steps → KeepDisk steps disk
+      copyback_keeps word slot are = entry_goes slot (named_array (config_recovered found).arrays word) are

@@ -1,5 +1,5 @@
 -- A disk that stands at a moment of a history of data, and how it goes on.
-use Rattle.std.proofs.Common.{◌≡◌, ◌∙◌, ℕ, zero, suc, ◌<◌, ◌≤◌, ◌++◌, ◌==◌, Bool, true, false, List, [], length, Option, Some, Ok, refl, sym, ap, subst, arith}
+use Rattle.std.proofs.Common.{◌≡◌, ◌∙◌, ℕ, zero, suc, ◌<◌, ◌≤◌, ◌++◌, Bool, true, false, List, [], length, Option, Some, Ok, refl, sym, ap, subst, arith}
 use Rattle.std.proofs.lemmas.Bool.{false_from_ne_true}
 use Rattle.std.specs.Prelude.{IsTrue, slice_get, slice_index_or}
 use Rattle.ddf_bytes.specs.declared.stamp.Stamp.{Stamp}
@@ -31,7 +31,7 @@ use Rattle.ddf_history_memory.specs.Histories.{GoesWell, HasMemberOn}
 use Rattle.ddf_history_memory.proofs.Slots.{becomes, before_told, not_read, read_below, reads_left}
 use Rattle.ddf_data_events.specs.Beginnings.{first_moment, none_promised}
 use Rattle.ddf_data_events.specs.Calls.{EndsAt, HasComeTo, joins_in}
-use Rattle.ddf_data_events.specs.Calls.Call.{Accepts, Changes, Joins, Others, Reads, Rebuilds, Resyncs, Writes}
+use Rattle.ddf_data_events.specs.Calls.Call.{Accepts, Changes, Copies, Joins, Others, Reads, Rebuilds, Resyncs, Writes}
 use Rattle.ddf_data_events.specs.Moments.{Moment}
 use Rattle.ddf_data_life.specs.Commands.{IsRead}
 use Rattle.ddf_data_life.specs.Histories.{CallOn, FindsOn, IsDataHistoryOn, LeavesLostOut, behind, exit_on, read_as}
@@ -110,6 +110,7 @@ module _ (group : List ℕ) (kept : ℕ) (disk : Disk) where
     ended (Resyncs call) keeps now ends = taken (is_read call.resynced.taken.left) call.finds.found (changes_in call.finds.found (call.plan.first ++ call.plan.last)) keeps (is_done call.outcome) now ends
     ended (Writes call) keeps now ends = taken (is_read call.wrote.taken.left) call.finds.found (changes_in call.finds.found (call.plan.first ++ call.plan.last)) keeps (is_written call.outcome) now ends
     ended (Rebuilds call) keeps now ends = taken (is_read call.rebuilt.taken.left) call.finds.found (changes_in call.finds.found call.steps) keeps (is_done call.outcome) now ends
+    ended (Copies call) keeps now ends = taken (is_read call.copied.taken.left) call.finds.found (changes_in call.finds.found call.steps) keeps (is_done call.outcome) now ends
     ended (Joins call) keeps now ends =
         taken (is_read call.join.imported.first.left) call.join.group (joins_in {tells = Unit {0}} tt disks_of (Unit {0}) read_as group call) keeps (is_done call.join.outcome) now ends
     ended (Others call) keeps now same = still now same
@@ -121,6 +122,7 @@ module _ (group : List ℕ) (kept : ℕ) (disk : Disk) where
     come (Resyncs call) keeps now goes = taken (is_read call.resynced.taken.left) call.finds.found (changes_in call.finds.found (call.plan.first ++ call.plan.last)) keeps false now goes
     come (Writes call) keeps now goes = taken (is_read call.wrote.taken.left) call.finds.found (changes_in call.finds.found (call.plan.first ++ call.plan.last)) keeps false now goes
     come (Rebuilds call) keeps now goes = taken (is_read call.rebuilt.taken.left) call.finds.found (changes_in call.finds.found call.steps) keeps false now goes
+    come (Copies call) keeps now goes = taken (is_read call.copied.taken.left) call.finds.found (changes_in call.finds.found call.steps) keeps false now goes
     come (Joins call) keeps now goes = taken (is_read call.join.imported.first.left) call.join.group (joins_in {tells = Unit {0}} tt disks_of (Unit {0}) read_as group call) keeps false now goes
     come (Others call) keeps now same = still now same
     come (Reads exit reads) keeps now same = still now same

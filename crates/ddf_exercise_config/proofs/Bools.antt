@@ -1,5 +1,5 @@
 -- Tests, and numbers that are compared.
-use Rattle.std.proofs.Common.{◌≡◌, ℕ, ◌≤◌, nat_lt, Bool, true, false, not, ◌&&◌, List, [], ◌∷◌, Option, Some, None, eqb, refl, arith}
+use Rattle.std.proofs.Common.{◌≡◌, ℕ, ◌≤◌, nat_lt, Bool, true, false, not, ◌&&◌, if◌then◌else◌, List, [], ◌∷◌, Option, Some, None, eqb, refl, arith}
 use Rattle.std.specs.Str.{bytes_eq}
 use Rattle.std.proofs.lemmas.Cmp.{nat_list_eq_equiv}
 use Rattle.ddf_config.specs.Members.{same_guid}
@@ -12,6 +12,11 @@ same reference = grind arith
 
 pub flip : (one other : ℕ) → eqb one other ≡ false → eqb other one ≡ false
 flip one other apart = grind arith
+
+-- nothing either way
+pub none_either : (test : Bool) → ◌≡◌ {A = ℕ} (if test then 0 else 0) 0
+none_either true = refl
+none_either false = refl
 
 pub guid_is : (guid : List ℕ) → same_guid guid guid ≡ true
 guid_is guid = nat_list_eq_equiv.refl guid

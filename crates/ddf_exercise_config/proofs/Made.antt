@@ -26,7 +26,7 @@ use Rattle.ddf_recovery.specs.Recovery.{config_recovered}
 use Rattle.ddf_seats.specs.Leading.{some}
 use Rattle.ddf_steps.specs.Steps.{config_after, raised}
 use Rattle.ddf_exercise_config.specs.Makes.{Makes}
-use Rattle.ddf_exercise_config.specs.Stages.{array, begun, created, founded, group_with, lost, members, position, positions_at, positions_begun, positions_lost, lost_disk, lost_position, spare_disk, resynced, seats_at, whole, with_spare, written_on}
+use Rattle.ddf_exercise_config.specs.Stages.{array, begun, created, founded, group_with, lost, member, members, position, positions_at, positions_begun, positions_lost, lost_disk, lost_position, spare_disk, resynced, seats_at, whole, with_spare, written_on}
 use Rattle.ddf_exercise_config.specs.Turns.{Loss, Turn, turn_before, turn_behind}
 use Rattle.ddf_exercise_config.specs.Turns.Loss.{OfSecond, OfThird}
 use Rattle.ddf_exercise_config.specs.Turns.Turn.{Closing, Middle, Opening}
@@ -157,7 +157,7 @@ module _ (group : List ℕ) (disks : Disks) (apart : AreApart disks) (guid : Lis
         spares : (number : ℕ) → changed_at (resynced group disks guid sequence) (Spare disks.fourth.reference Global) number ≡ with_spare group disks guid number
         spares number =
             steps.remade group guid (members disks false false No No) (members disks false false Global No) (array (positions_at disks Opening) 0 2) (array (positions_at disks Opening) 0 2)
-            (Spare disks.fourth.reference Global) sequence number (steps.fourth_is_spare disks apart group guid sequence false false No (array (positions_at disks Opening) 0 2)) refl refl refl
+            (Spare disks.fourth.reference Global) sequence number (steps.fourth_is_spare disks apart group guid sequence false false No (array (positions_at disks Opening) 0 2)) refl refl refl refl
             (array (positions_at disks Opening) 0 2)
             (with_low (members disks false false Global No) guid (positions_at disks Opening) 0 2 0 (trios.opening_served disks apart false false Global No true true true 0 2 guid) refl
             (trios.opening_low_whole disks apart false false Global No 0 2 refl refl))
@@ -173,7 +173,7 @@ module _ (group : List ℕ) (disks : Disks) (apart : AreApart disks) (guid : Lis
         spares : (number : ℕ) → changed_at (with_spare group disks guid sequence) (Spare disks.fifth.reference Global) number ≡ whole group disks guid Opening number
         spares number =
             steps.remade group guid (members disks false false Global No) (members disks false false Global Global) (array (positions_at disks Opening) 0 2) (array (positions_at disks Opening) 0 2)
-            (Spare disks.fifth.reference Global) sequence number (steps.fifth_is_spare disks apart group guid sequence false false Global (array (positions_at disks Opening) 0 2)) refl refl refl
+            (Spare disks.fifth.reference Global) sequence number (steps.fifth_is_spare disks apart group guid sequence false false Global (array (positions_at disks Opening) 0 2)) refl refl refl refl
             (array (positions_at disks Opening) 0 2)
             (with_low (members disks false false Global Global) guid (positions_at disks Opening) 0 2 0 (trios.opening_served disks apart false false Global Global true true true 0 2 guid) refl
             (trios.opening_low_whole disks apart false false Global Global 0 2 refl refl))
@@ -239,14 +239,14 @@ module _ (group : List ℕ) (disks : Disks) (apart : AreApart disks) (guid : Lis
     loses OfSecond number =
         steps.remade group guid (members disks false false Global Global) (members disks true false Global Global) (array (positions_at disks Opening) 0 2) (array (positions_lost disks OfSecond) 0 2)
         (Lose (disks.second.reference ∷ [])) sequence number (steps.second_is_lost disks apart group guid sequence Global Global (array (positions_at disks Opening) 0 2))
-        (steps.loses_second guid (members disks true false Global Global) disks.first disks.second disks.third 0 2 apart.first_second (tables.third_second disks apart)) refl refl
+        refl (steps.loses_second guid (members disks true false Global Global) disks.first disks.second disks.third 0 2 apart.first_second (tables.third_second disks apart)) refl refl
         (array (positions_lost disks OfSecond) 1 2)
         (with_low (members disks true false Global Global) guid (positions_lost disks OfSecond) 0 2 1 (trios.opening_served disks apart true false Global Global true false true 0 2 guid) refl
         (trios.opening_low_second disks apart true false Global Global 0 2 refl))
     loses OfThird number =
         steps.remade group guid (members disks true false No Global) (members disks true true No Global) (array (positions_at disks Middle) 0 2) (array (positions_lost disks OfThird) 0 2)
         (Lose (disks.third.reference ∷ [])) sequence number (steps.third_is_lost disks apart group guid sequence No Global (array (positions_at disks Middle) 0 2))
-        (steps.loses_third guid (members disks true true No Global) disks.first disks.fourth disks.third 0 2 apart.first_third (tables.fourth_third disks apart)) refl refl
+        refl (steps.loses_third guid (members disks true true No Global) disks.first disks.fourth disks.third 0 2 apart.first_third (tables.fourth_third disks apart)) refl refl
         (array (positions_lost disks OfThird) 1 2)
         (with_low (members disks true true No Global) guid (positions_lost disks OfThird) 0 2 1 (trios.middle_served disks apart true true No Global true true false 0 2 guid) refl
         (trios.middle_low_third disks apart true true No Global 0 2))
@@ -268,6 +268,7 @@ module _ (group : List ℕ) (disks : Disks) (apart : AreApart disks) (guid : Lis
     begins OfSecond number =
         steps.remade group guid (members disks true false Global Global) (members disks true false No Global) (array (positions_lost disks OfSecond) 1 2) (array (positions_begun disks OfSecond) 1 2)
         (Begin guid 0 1 disks.fourth.reference 0) sequence number (steps.fourth_is_taken disks apart group guid sequence Global (array (positions_lost disks OfSecond) 1 2))
+        (steps.takes_global (members disks true false Global Global) disks.fourth.reference (member disks.fourth false Global).1 (tables.at_fourth disks apart true false Global Global) refl)
         (steps.begins_second guid (members disks true false No Global) disks.first disks.second disks.third 1 2 disks.fourth) refl refl
         (array (positions_begun disks OfSecond) 1 2)
         (with_low (members disks true false No Global) guid (positions_begun disks OfSecond) 1 2 1 (trios.middle_served disks apart true false No Global true false true 1 2 guid) refl
@@ -275,6 +276,7 @@ module _ (group : List ℕ) (disks : Disks) (apart : AreApart disks) (guid : Lis
     begins OfThird number =
         steps.remade group guid (members disks true true No Global) (members disks true true No No) (array (positions_lost disks OfThird) 1 2) (array (positions_begun disks OfThird) 1 2)
         (Begin guid 0 2 disks.fifth.reference 0) sequence number (steps.fifth_is_taken disks apart group guid sequence (array (positions_lost disks OfThird) 1 2))
+        (steps.takes_global (members disks true true No Global) disks.fifth.reference (member disks.fifth false Global).1 (tables.at_fifth disks apart true true No Global) refl)
         (steps.begins_third guid (members disks true true No No) disks.first disks.fourth disks.third 1 2 disks.fifth) refl refl
         (array (positions_begun disks OfThird) 1 2)
         (with_low (members disks true true No No) guid (positions_begun disks OfThird) 1 2 1 (trios.closing_served disks apart true true No No true true false 1 2 guid) refl
@@ -283,13 +285,13 @@ module _ (group : List ℕ) (disks : Disks) (apart : AreApart disks) (guid : Lis
     finishes : (loss : Loss) (number : ℕ) → changed_at (begun group disks guid loss sequence) (Finish guid 0 (lost_position loss)) number ≡ whole group disks guid (turn_behind loss) number
     finishes OfSecond number =
         steps.remade group guid (members disks true false No Global) (members disks true false No Global) (array (positions_begun disks OfSecond) 1 2) (array (positions_at disks Middle) 1 2)
-        (Finish guid 0 1) sequence number refl (steps.finishes_second guid (members disks true false No Global) disks.first disks.fourth disks.third 1 2) refl refl
+        (Finish guid 0 1) sequence number refl refl (steps.finishes_second guid (members disks true false No Global) disks.first disks.fourth disks.third 1 2) refl refl
         (array (positions_at disks Middle) 0 2)
         (with_low (members disks true false No Global) guid (positions_at disks Middle) 1 2 0 (trios.middle_served disks apart true false No Global true true true 1 2 guid) refl
         (trios.middle_low_whole disks apart true false No Global 1 2 refl))
     finishes OfThird number =
         steps.remade group guid (members disks true true No No) (members disks true true No No) (array (positions_begun disks OfThird) 1 2) (array (positions_at disks Closing) 1 2)
-        (Finish guid 0 2) sequence number refl (steps.finishes_third guid (members disks true true No No) disks.first disks.fourth disks.fifth 1 2) refl refl
+        (Finish guid 0 2) sequence number refl refl (steps.finishes_third guid (members disks true true No No) disks.first disks.fourth disks.fifth 1 2) refl refl
         (array (positions_at disks Closing) 0 2)
         (with_low (members disks true true No No) guid (positions_at disks Closing) 1 2 0 (trios.closing_served disks apart true true No No true true true 1 2 guid) refl
         (trios.closing_low_whole disks apart true true No No 1 2))

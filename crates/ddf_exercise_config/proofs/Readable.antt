@@ -74,6 +74,7 @@ global_is arrays e = absurd (cc)
 for_none : (guid : List ℕ) (use_as : SpareUse) → NotDedicated use_as → is_spare_for guid use_as ≡ false
 for_none guid uses.No plain = refl
 for_none guid uses.Global plain = refl
+for_none guid uses.Revertible plain = refl
 for_none guid (uses.Dedicated arrays) plain = absurd (plain arrays refl)
 
 same_pair : (a b : ℕ) (x y : Member) → a ≡ b → Some x ≡ Some y → ◌≡◌ {A = ℕ × Member} (a, x) (b, y)

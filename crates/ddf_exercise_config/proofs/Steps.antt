@@ -1,5 +1,5 @@
 -- What the changes of an exercise make of the configuration of its group, and that each is a step.
-use Rattle.std.proofs.Common.{◌≡◌, ℕ, ◌+◌, ◌*◌, ◌/◌, ◌%◌, Bool, true, false, not, List, [], ◌∷◌, eqb, refl, ap}
+use Rattle.std.proofs.Common.{◌≡◌, ℕ, ◌+◌, ◌*◌, ◌/◌, ◌%◌, Bool, true, false, not, List, [], ◌∷◌, Option, Some, None, eqb, nat_eq, refl, ap, ◌∙◌}
 use Rattle.ddf_config.specs.declared.array.Array.{Array}
 use Rattle.ddf_config.specs.declared.member.Member.{Member}
 use Rattle.ddf_config.specs.declared.member.SpareUse.{SpareUse}
@@ -9,7 +9,9 @@ use Rattle.ddf_config.specs.Served.{is_served}
 use Rattle.ddf_config.specs.States.{low_state, with_low_states}
 use Rattle.ddf_plan.specs.Members.{members_after}
 use Rattle.ddf_plan.specs.Same.{same_tables}
+use Rattle.ddf_plan.specs.Standing.{is_revertible, is_revertible_spare, takes_revertible}
 use Rattle.std.specs.Cmp.Lexicographic.{pointwise}
+use Rattle.std.specs.Map.{lookup}
 use Rattle.ddf_config.specs.declared.member.SpareUse.TheVariants.{No, Global}
 use Rattle.ddf_plan.specs.declared.change.Change.{Change}
 use Rattle.ddf_plan.specs.declared.change.Change.TheVariants.{Begin, Finish, Lose, Mark, Spare, Unmark}
@@ -21,7 +23,7 @@ use Rattle.ddf_exercise_config.specs.Disks.{AreApart, Disk, Disks}
 use Rattle.ddf_exercise_config.specs.Stages.{array, group_with, members, position}
 use Rattle.ddf_plan.specs.Arrays.{array_after, arrays_added, is_dropped}
 use Rattle.ddf_plan.specs.Same.{same_use}
-use Rattle.ddf_exercise_config.proofs.Bools.{bytes_are, flag_is, guid_is, same, second_differs}
+use Rattle.ddf_exercise_config.proofs.Bools.{bytes_are, flag_is, guid_is, none_either, same, second_differs}
 use Rattle.ddf_exercise_config.proofs.Levels.{with_low}
 use Rattle.ddf_exercise_config.proofs.Tables as tables
 
@@ -70,13 +72,18 @@ module _ (group guid : List ℕ) (disks : Disks) (sm tm : Bool) (fu hu : SpareUs
 
 -- ---- members
 
+-- a disk that is no revertible spare stands in for no other
+pub takes_global : (table : List (ℕ × Member)) (reference : ℕ) (found : Member) → lookup (nat_eq reference) table ≡ Some found → is_revertible found.spare ≡ false → is_revertible_spare table reference ≡ false
+takes_global table reference found there other =
+    ap (λ (it : Option Member). elim it [ None ↦ false | Some member ↦ is_revertible member.spare ]) there ∙ other
+
 -- other members, and the array as it was
 module _ (group guid : List ℕ) (table after : List (ℕ × Member)) (old new : Array) where
   -- a change of members, and what it makes of the array
-  pub remade : (change : Change) (sequence next : ℕ) → members_after (group_with group sequence table guid old) change ≡ after → array_after after change guid old ≡ new → is_dropped change guid ≡ false
+  pub remade : (change : Change) (sequence next : ℕ) → members_after (group_with group sequence table guid old) change ≡ after → takes_revertible (group_with group sequence table guid old) change ≡ false → array_after false after change guid old ≡ new → is_dropped change guid ≡ false
       → arrays_added (group_with group sequence table guid old) change ≡ [] → (final : Array) → with_low_states after ((guid, new) ∷ []) ≡ (guid, final) ∷ []
       → changed_at (group_with group sequence table guid old) change next ≡ group_with group next after guid final
-  remade change sequence next members_are array_is stays none final low = simp (members_are, stays, none, array_is, low)
+  remade change sequence next members_are otherwise array_is stays none final low = simp (members_are, stays, none, otherwise, array_is, low)
 
 module _ (disks : Disks) (apart : AreApart disks) (group guid : List ℕ) (sequence : ℕ) where
   module _ (sm tm : Bool) (hu : SpareUse) (one : Array) where
@@ -106,21 +113,21 @@ module _ (disks : Disks) (apart : AreApart disks) (group guid : List ℕ) (seque
 
 module _ (guid : List ℕ) (table : List (ℕ × Member)) (x y z : Disk) (state init : ℕ) where
   pub loses_second : eqb x.reference y.reference ≡ false → eqb z.reference y.reference ≡ false
-      → array_after table (Lose (y.reference ∷ [])) guid (array (position x true ∷ position y true ∷ position z true ∷ []) state init) ≡ array (position x true ∷ position y false ∷ position z true ∷ []) state init
-  loses_second xy zy = simp (lost_position, same, xy, zy)
+      → array_after false table (Lose (y.reference ∷ [])) guid (array (position x true ∷ position y true ∷ position z true ∷ []) state init) ≡ array (position x true ∷ position y false ∷ position z true ∷ []) state init
+  loses_second xy zy = simp (lost_position, same, xy, zy, none_either)
 
   pub loses_third : eqb x.reference z.reference ≡ false → eqb y.reference z.reference ≡ false
-      → array_after table (Lose (z.reference ∷ [])) guid (array (position x true ∷ position y true ∷ position z true ∷ []) state init) ≡ array (position x true ∷ position y true ∷ position z false ∷ []) state init
-  loses_third xz yz = simp (lost_position, same, xz, yz)
+      → array_after false table (Lose (z.reference ∷ [])) guid (array (position x true ∷ position y true ∷ position z true ∷ []) state init) ≡ array (position x true ∷ position y true ∷ position z false ∷ []) state init
+  loses_third xz yz = simp (lost_position, same, xz, yz, none_either)
 
-  pub begins_second : (spare : Disk) → array_after table (Begin guid 0 1 spare.reference 0) guid (array (position x true ∷ position y false ∷ position z true ∷ []) state init) ≡ array (position x true ∷ position spare false ∷ position z true ∷ []) state init
+  pub begins_second : (spare : Disk) → array_after false table (Begin guid 0 1 spare.reference 0) guid (array (position x true ∷ position y false ∷ position z true ∷ []) state init) ≡ array (position x true ∷ position spare false ∷ position z true ∷ []) state init
   begins_second spare = simp guid_is
 
-  pub begins_third : (spare : Disk) → array_after table (Begin guid 0 2 spare.reference 0) guid (array (position x true ∷ position y true ∷ position z false ∷ []) state init) ≡ array (position x true ∷ position y true ∷ position spare false ∷ []) state init
+  pub begins_third : (spare : Disk) → array_after false table (Begin guid 0 2 spare.reference 0) guid (array (position x true ∷ position y true ∷ position z false ∷ []) state init) ≡ array (position x true ∷ position y true ∷ position spare false ∷ []) state init
   begins_third spare = simp guid_is
 
-  pub finishes_second : array_after table (Finish guid 0 1) guid (array (position x true ∷ position y false ∷ position z true ∷ []) state init) ≡ array (position x true ∷ position y true ∷ position z true ∷ []) state init
+  pub finishes_second : array_after false table (Finish guid 0 1) guid (array (position x true ∷ position y false ∷ position z true ∷ []) state init) ≡ array (position x true ∷ position y true ∷ position z true ∷ []) state init
   finishes_second = simp guid_is
 
-  pub finishes_third : array_after table (Finish guid 0 2) guid (array (position x true ∷ position y true ∷ position z false ∷ []) state init) ≡ array (position x true ∷ position y true ∷ position z true ∷ []) state init
+  pub finishes_third : array_after false table (Finish guid 0 2) guid (array (position x true ∷ position y true ∷ position z false ∷ []) state init) ≡ array (position x true ∷ position y true ∷ position z true ∷ []) state init
   finishes_third = simp guid_is

@@ -59,7 +59,7 @@ position disk synced = record { reference = disk.reference; start = 0; synced = 
 
 -- RAID 5, its parity left symmetric, in strips of 8 sectors, of 4,096 sectors a disk
 abbrev pub element : List Position → ElementValue
-element positions = record { level = 5; qualifier = 3; strip = 3; blocks = 4096; positions = positions }
+element positions = record { level = 5; qualifier = 3; strip = 3; blocks = 4096; stand_in = 0; positions = positions }
 
 -- the array with these positions, in this state, initialized so far
 abbrev pub array : List Position → (state init : ℕ) → Array

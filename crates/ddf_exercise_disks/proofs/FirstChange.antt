@@ -89,6 +89,7 @@ plan_new stamp zero plan at =
       level = omega arith;
       qualifier = omega arith;
       blocks = omega arith;
+      stand_in = omega arith;
       positions = (
         record { fits = record { reference = reference_small stamp 0 (omega arith); start = omega arith; row = omega arith }; no_row = refl },
         (

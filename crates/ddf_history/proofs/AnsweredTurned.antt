@@ -80,13 +80,14 @@ position_turned : (one other : Position) → same_position one other ≡ same_po
 position_turned one other = rw (eqb_turned one.reference other.reference, eqb_turned one.start other.start, flag_turned one.synced other.synced, eqb_turned one.row other.row) refl
 
 -- Two elements are.
-plan_turned : (one other : ElementPlan) → same_plan same_position one other ≡ same_plan same_position other one
+plan_turned : (one other : ElementPlan) → same_plan true one other ≡ same_plan true other one
 plan_turned one other =
     rw (
       eqb_turned one.level other.level,
       eqb_turned one.qualifier other.qualifier,
       eqb_turned one.strip other.strip,
       eqb_turned one.blocks other.blocks,
+      eqb_turned one.stand_in other.stand_in,
       pointwise_turned same_position position_turned one.positions other.positions,
     ) refl
 

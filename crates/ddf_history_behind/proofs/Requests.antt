@@ -5,6 +5,7 @@ use Rattle.std.specs.List.{AllByRecursion}
 use Rattle.std.specs.Map.{lookup}
 use Rattle.ddf_bytes.specs.declared.stamp.Stamp.{Stamp}
 use Rattle.ddf_config.specs.declared.array.Array.{Array}
+use Rattle.ddf_config.specs.declared.extent.Extent.{Extent}
 use Rattle.ddf_config.specs.declared.member.SpareUse.{SpareUse}
 use Rattle.ddf_config.specs.declared.refusal.Refusal.{Refusal}
 use Rattle.ddf_config.specs.declared.refusal.Refusal.TheVariants.{NoArray}
@@ -23,6 +24,7 @@ use Rattle.ddf_repair.specs.declared.beginning.RebuildFault.{RebuildFault}
 use Rattle.ddf_repair.specs.declared.beginning.RebuildFault.TheVariants.{Memory, NoSpare, Small}
 use Rattle.ddf_repair.specs.Accept.{accepted}
 use Rattle.ddf_repair.specs.Begin.{begun}
+use Rattle.ddf_repair.specs.Choose.{chosen}
 use Rattle.ddf_repair.proofs.Begins.{is_fresh}
 use Rattle.ddf_words.specs.declared.command.Creation.{Creation}
 use Rattle.ddf_words.specs.declared.command.Wish.{Wish}
@@ -38,6 +40,7 @@ use Rattle.ddf_write_commands.specs.Planned.{Entry, Refusing, asked_of, changes_
 use Rattle.ddf_write_commands.specs.Resync.{resync_behind, resync_refusals, resync_request}
 use Rattle.ddf_write_commands.specs.Write.{write_behind, write_refusals, write_request}
 use Rattle.ddf_rebuild_command.specs.Asked.{bad_spare, changes_behind, kept_in, rebuild_asked, rebuild_changes, rebuild_refusals, rebuild_request, rebuild_unless, rows_in}
+use Rattle.ddf_rebuild_command.specs.GoingBack.{back_to, copyback_asked, copyback_changes, copyback_refusals, copyback_request, copyback_unless, go_to, room_of}
 use Rattle.ddf_rebuild_command.specs.PassedOver.{passed_over}
 use Rattle.ddf_rebuild_command.specs.Notes.{notes}
 use Rattle.ddf_history_behind.specs.Behind.{LosesSome}
@@ -187,3 +190,26 @@ rebuilds_lose word linux config seats all is = by (named_array config.arrays wor
     by : (found : Option Entry) → rebuild_asked config seats linux found ≡ Ok all → AllByRecursion LosesSome all
     by None e = absurd cc
     by (Some entry) e = unless_out entry (first_refusal (rebuild_refusals config seats entry)) e
+
+-- ---- copybacks
+
+pub copybacks_lose : (count : ℕ) (word : List ℕ) (slot : ℕ) (linux : List ℕ) → LosesNone (copyback_request count word slot linux)
+copybacks_lose count word slot linux config seats all is = by (named_array config.arrays word) is
+  where
+    went : (entry : Entry) (target : Target) (room : Result Extent Refusal) → go_to entry target room ≡ Ok all → AllByRecursion LosesSome all
+    went entry target (Ok room) e =
+        let same : back_to entry target room ∷ [] ≡ all = cc in
+        subst (AllByRecursion LosesSome) same (tt, tt)
+    went entry target (Err refusal) e = absurd cc
+
+    back : (entry : Entry) (target : Option Target) → copyback_changes config seats linux entry slot target ≡ Ok all → AllByRecursion LosesSome all
+    back entry None e = absurd cc
+    back entry (Some target) e = went entry target (room_of config seats linux entry slot (reference_on seats slot) target) e
+
+    unless_back : (entry : Entry) (refusal : Option Refusal) → copyback_unless config seats linux entry slot refusal ≡ Ok all → AllByRecursion LosesSome all
+    unless_back entry None e = back entry (chosen config entry.0 seats) e
+    unless_back entry (Some refusal) e = absurd cc
+
+    by : (found : Option Entry) → copyback_asked count config seats linux slot found ≡ Ok all → AllByRecursion LosesSome all
+    by None e = absurd cc
+    by (Some entry) e = unless_back entry (first_refusal (copyback_refusals count config seats entry slot)) e

@@ -35,6 +35,7 @@ ghost use Rattle.ddf_group_commands.specs.Requests.{request_for};
 ghost use Rattle.ddf_write_commands.specs.Resync.{resync_request};
 ghost use Rattle.ddf_write_commands.specs.Write.{write_request};
 ghost use Rattle.ddf_rebuild_command.specs.Asked.{rebuild_request};
+ghost use Rattle.ddf_rebuild_command.specs.GoingBack.{copyback_request};
 ghost use Rattle.ddf_command.specs.History.{Leaves};
 ghost use Rattle.ddf_history_behind.specs.Commands.{IsCommandCall, LosesNone, NoneStaleAt};
 
@@ -79,6 +80,7 @@ pub fn no_command_loses_nothing()
     ensures resyncs { (word : List ℕ) → LosesNone (resync_request word) }
     ensures writes { (word : List ℕ) (start count : ℕ) → LosesNone (write_request word start count) }
     ensures rebuilds { (word : List ℕ) (linux : List ℕ) → LosesNone (rebuild_request word linux) }
+    ensures goes_back { (count : ℕ) (word : List ℕ) (slot : ℕ) (linux : List ℕ) → LosesNone (copyback_request count word slot linux) }
 {}
 
 /// A history begins so, with one configuration, and stays so where a slot is lost, or comes back.

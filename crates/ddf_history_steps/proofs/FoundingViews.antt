@@ -63,11 +63,12 @@ module _ (group first_guid guid : List ℕ) (first reference : ℕ) (all : List 
   -- Without an array a disk is a spare of all or of none, by whichever view.
   spare_given : (disk : DiskEntry) → gives_spare view disk (member_entry_in alone disk) ≡ true
   unfolding spare_in
-  spare_given disk = by_type (has_bit disk.kind.0 2)
+  spare_given disk = by_type (has_bit disk.kind.0 2) (has_bit disk.kind.0 3)
     where
-      by_type : (global : Bool) → same_spare (if global then spares.Global else spares.No) (if global then spares.Global else spares.No) ≡ true
-      by_type true = refl
-      by_type false = refl
+      by_type : (global third : Bool) → same_spare (if global then (if third then spares.Revertible else spares.Global) else spares.No) (if global then (if third then spares.Revertible else spares.Global) else spares.No) ≡ true
+      by_type true true = refl
+      by_type true false = refl
+      by_type false third = refl
 
   -- So is each.
   spares_given : (disks : List DiskEntry) → pointwise (gives_spare view) disks (map (member_entry_in alone) disks) ≡ true

@@ -28,7 +28,7 @@ use Rattle.ddf_rewrite.specs.Hold.{CanBeRecovered, DoAgree}
 use Rattle.ddf_rewrite.specs.Wanted.{all_wanted}
 use Rattle.ddf_rewrite.proofs.AgreedLeaders.{copies_agreed}
 use Rattle.ddf_rewrite.proofs.Differences.{Agrees, agrees, agrees_back, agrees_self, not_false}
-use Rattle.ddf_rewrite.proofs.Filled.{filled_global}
+use Rattle.ddf_rewrite.proofs.Filled.{filled_use}
 use Rattle.ddf_rewrite.proofs.Holdings.{AreSame, are_same, same_back, same_on}
 use Rattle.ddf_rewrite.proofs.Lists.{all_at, all_by_get, map_get, some_same}
 use Rattle.ddf_rewrite.proofs.Noted.{NotesFirst, all_notes_first, found_in, noted_in, notes_first, some_noted}
@@ -115,7 +115,7 @@ module _ (group : List ℕ) (sequence timestamp : ℕ) (leaders : List DiskCopy)
       go : ((others : List View) × (views ≡ are.head ∷ others)) ⊎ Recovered are.head → Heads views grown
       go (inl led) = record {
         disk_made = λ disk. disk;
-        keeps_disk = record { guid = λ disk. refl; reference = λ disk. refl; kind = λ disk. refl; state = λ disk. refl; size = λ disk. refl };
+        keeps_disk = record { guid = λ disk. refl; reference = λ disk. refl; kind = λ disk otherwise. refl; state = λ disk. refl; size = λ disk. refl };
         disks = ap disks_in are.are ∙ sym (ap disks_in led.1) ∙ map_stays (disks_in views);
         array_made = λ row. row;
         keeps_array = record { guid = λ row. refl; name = λ row. refl; number = λ row. refl; state = λ row. refl; init = λ row. refl };
@@ -126,7 +126,7 @@ module _ (group : List ℕ) (sequence timestamp : ℕ) (leaders : List DiskCopy)
         keeps_disk = record {
           guid = λ disk. refl;
           reference = λ disk. refl;
-          kind = λ disk. filled_global fresh.old.header.revision (before views).noted (all_wanted config) (disk_on (view_of fresh.old).disks (number_at w16 disk.rest DISK_BLOCK_SIZE_AT) disk);
+          kind = λ disk otherwise. filled_use fresh.old.header.revision (before views).noted (all_wanted config) (disk_on (view_of fresh.old).disks (number_at w16 disk.rest DISK_BLOCK_SIZE_AT) disk) otherwise;
           state = λ disk. refl;
           size = λ disk. refl;
         };

@@ -1,5 +1,5 @@
 -- What records give of an element: by their notes, or by the states of the disks.
-use Rattle.std.proofs.Common.{◌≡◌, ℕ, ◌+◌, ◌<◌, ◌||◌, ◌&&◌, not, Bool, true, false, List, [], ◌∷◌, map, Option, Some, None, refl, ap, sym, ◌∙◌, subst, arith}
+use Rattle.std.proofs.Common.{◌≡◌, ℕ, ◌+◌, ◌<◌, ◌||◌, ◌&&◌, not, Bool, true, false, List, [], ◌∷◌, map, Option, Some, None, is_some, refl, ap, sym, ◌∙◌, subst, arith}
 use Rattle.std.proofs.lemmas.Bool.{and_parts}
 use Rattle.std.specs.Prelude.{slice_get, nat_eq}
 use Rattle.std.specs.Option.{option_map_or}
@@ -11,8 +11,8 @@ use Rattle.ddf_config_records.specs.declared.notes.SlotNote.{SlotNote}
 use Rattle.ddf_config_records.specs.declared.place.Place.{Place}
 use Rattle.ddf_config.specs.ElementValue.{ElementValue as ElementPlan}
 use Rattle.ddf_config.specs.declared.element.Position.{Position}
-use Rattle.ddf_view.specs.Reading.{array_entry_in, array_in, arrays_in, count_in, disks_in, element_in, elements_in, is_good, plan_of, position_of, read}
-use Rattle.ddf_view.specs.Shows.{gives_element, gives_elements, gives_if_held, gives_numbers, same_if_noted, same_plan, same_position, shows}
+use Rattle.ddf_view.specs.Reading.{array_entry_in, array_in, arrays_in, count_in, disks_in, element_in, elements_in, is_good, plan_of, position_of, read, stand_in_of}
+use Rattle.ddf_view.specs.Shows.{gives_element, gives_elements, gives_if_held, gives_numbers, same_plan, shows}
 use Rattle.ddf_view.specs.View.{HeldRecord, View, find_disk, find_held, has_bit}
 use Rattle.ddf_view.proofs.Agreement.{shown_from}
 use Rattle.ddf_view.proofs.Finds.{list_all_at}
@@ -24,8 +24,9 @@ use Rattle.ddf_history_steps.proofs.MendingReading.{KeepsDisk}
 -- ---- the plan of a record
 
 -- a plan by its parts
-make_plan : (level qualifier strip blocks : ℕ) → List Position → ElementPlan
-make_plan level qualifier strip blocks positions = record { level = level; qualifier = qualifier; strip = strip; blocks = blocks; positions = positions }
+make_plan : (level qualifier strip blocks stand_in : ℕ) → List Position → ElementPlan
+make_plan level qualifier strip blocks stand_in positions =
+    record { level = level; qualifier = qualifier; strip = strip; blocks = blocks; stand_in = stand_in; positions = positions }
 
 -- Records with the same fields give one plan.
 pub plan_alike : (disks : List DiskEntry) (given : Option SlotNote) (one other : ElementValue) → AreSame one other → plan_of disks given one ≡ plan_of disks given other
@@ -37,8 +38,8 @@ plan_alike disks given one other same =
     let blocks = same.blocks in
     let positions : map (λ pair. position_of disks given pair.0 pair.1) (enumerate_from 0 one.members) ≡ map (λ pair. position_of disks given pair.0 pair.1) (enumerate_from 0 other.members) =
     ap (λ (list : List Place). map (λ pair. position_of disks given pair.0 pair.1) (enumerate_from 0 list)) same.members in
-    let made : make_plan one.level one.qualifier one.strip one.blocks (map (λ pair. position_of disks given pair.0 pair.1) (enumerate_from 0 one.members))
-    ≡ make_plan other.level other.qualifier other.strip other.blocks (map (λ pair. position_of disks given pair.0 pair.1) (enumerate_from 0 other.members)) = rw (level, qualifier, strip, blocks, positions) refl in
+    let made : make_plan one.level one.qualifier one.strip one.blocks (stand_in_of given) (map (λ pair. position_of disks given pair.0 pair.1) (enumerate_from 0 one.members))
+    ≡ make_plan other.level other.qualifier other.strip other.blocks (stand_in_of given) (map (λ pair. position_of disks given pair.0 pair.1) (enumerate_from 0 other.members)) = rw (level, qualifier, strip, blocks, positions) refl in
     made
 
 -- With a note the states of the disks don't count.
@@ -79,9 +80,9 @@ positions_made made keeps disks n (place ∷ members) =
 pub plan_made : (made : DiskEntry → DiskEntry) → KeepsDisk made → (disks : List DiskEntry) (element : ElementValue) → plan_of (map made disks) None element ≡ plan_of disks None element
 unfolding plan_of make_plan
 plan_made made keeps disks element =
-    let same : make_plan element.level element.qualifier element.strip element.blocks (map (λ pair. position_of (map made disks) None pair.0 pair.1) (enumerate_from 0 element.members))
-    ≡ make_plan element.level element.qualifier element.strip element.blocks (map (λ pair. position_of disks None pair.0 pair.1) (enumerate_from 0 element.members)) =
-    ap (make_plan element.level element.qualifier element.strip element.blocks) (positions_made made keeps disks 0 element.members) in
+    let same : make_plan element.level element.qualifier element.strip element.blocks 0 (map (λ pair. position_of (map made disks) None pair.0 pair.1) (enumerate_from 0 element.members))
+    ≡ make_plan element.level element.qualifier element.strip element.blocks 0 (map (λ pair. position_of disks None pair.0 pair.1) (enumerate_from 0 element.members)) =
+    ap (make_plan element.level element.qualifier element.strip element.blocks 0) (positions_made made keeps disks 0 element.members) in
     same
 
 -- ---- what a view that shows the configuration notes
@@ -97,7 +98,7 @@ noted_gives group sequence views view h a row at i plan there held given found h
     let here : 0 + i ≡ i = omega arith in
     let one : gives_if_held view.elements row.guid (i, Some plan) ≡ true = subst (λ (n : ℕ). gives_if_held view.elements row.guid (n, Some plan) ≡ true) here (list_all_at (gives_if_held view.elements row.guid) 0 entry.1.elements i (Some plan) each there) in
     let gives : gives_element held (Some plan) ≡ true = sym (ap (λ (o : Option HeldRecord). option_map_or (λ (x : HeldRecord). gives_element x (Some plan)) o true) found) ∙ one in
-    let noted : same_plan same_position (plan_of [] (Some given) held.element) plan ≡ true = sym (ap (λ (o : Option SlotNote). same_plan (same_if_noted o) (plan_of [] o held.element) plan) has) ∙ gives in
+    let noted : same_plan true (plan_of [] (Some given) held.element) plan ≡ true = sym (ap (λ (o : Option SlotNote). same_plan (is_some o) (plan_of [] o held.element) plan) has) ∙ gives in
     plan_same (plan_of [] (Some given) held.element) plan noted
 
 -- An element of an array that is read, by its place.

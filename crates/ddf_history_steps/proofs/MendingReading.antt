@@ -1,5 +1,5 @@
 -- Two lists of views give one configuration where what is read of them is alike.
-use Rattle.std.proofs.Common.{◌≡◌, ℕ, suc, ◌<◌, ◌||◌, Bool, true, false, cond, List, [], ◌∷◌, map, Option, Some, None, refl, ap, ◌∙◌, arith}
+use Rattle.std.proofs.Common.{◌≡◌, ℕ, suc, ◌<◌, ◌||◌, Bool, true, false, List, [], ◌∷◌, map, Option, Some, None, refl, ap, ◌∙◌, arith}
 use Rattle.std.proofs.lemmas.Simd.{map-map}
 use Rattle.std.specs.Prelude.{slice_get, filter, filter_map, is_some, nat_eq}
 use Rattle.std.specs.Option.{option_map_or, option_or}
@@ -12,8 +12,7 @@ use Rattle.ddf_config.specs.ElementValue.{ElementValue as ElementPlan}
 use Rattle.ddf_config.specs.declared.array.Array.{Array}
 use Rattle.ddf_config.specs.declared.member.Member.{Member}
 use Rattle.ddf_config.specs.declared.member.SpareUse.{SpareUse}
-use Rattle.ddf_config.specs.declared.member.SpareUse.TheVariants as uses
-use Rattle.ddf_view.specs.Reading.{array_entry_in, array_in, arrays_in, count_in, dedicated_or_not, disks_in, element_in, elements_in, is_associated, is_dedicated, member_entry_in, naming_record, read, secondary_in, spare_in}
+use Rattle.ddf_view.specs.Reading.{array_entry_in, array_in, arrays_in, count_in, dedicated_or_not, disks_in, element_in, elements_in, is_associated, is_dedicated, member_entry_in, naming_record, read, secondary_in, spare_in, spare_of_kind}
 use Rattle.ddf_view.specs.View.{HeldRecord, View, find_held, has_bit, is_missing}
 use Rattle.ddf_rewrite.proofs.Holdings.{AreSame}
 use Rattle.ddf_rewrite.proofs.ReadCan.{range_get}
@@ -101,11 +100,11 @@ associated_alike one other reference guid alike =
 
 -- ---- entries that are made of others
 
--- The named fields of a disk's entry are kept; of the type, whether the disk is a spare for every array.
+-- The named fields of a disk's entry are kept; of the type, whether the disk is a spare for every array, and which.
 pub record KeepsDisk (made : DiskEntry → DiskEntry) : Type 0 where
   pub guid : (disk : DiskEntry) → (made disk).guid ≡ disk.guid
   pub reference : (disk : DiskEntry) → (made disk).reference ≡ disk.reference
-  pub kind : (disk : DiskEntry) → has_bit (made disk).kind.0 2 ≡ has_bit disk.kind.0 2
+  pub kind : (disk : DiskEntry) (otherwise : SpareUse) → spare_of_kind (made disk).kind.0 otherwise ≡ spare_of_kind disk.kind.0 otherwise
   pub state : (disk : DiskEntry) → (made disk).state.0 ≡ disk.state.0
   pub size : (disk : DiskEntry) → (made disk).size ≡ disk.size
 
@@ -220,14 +219,13 @@ module _ (views grown : List View) (tell : TellAlike views grown) where
   spare_alike : (disk : DiskEntry) → spare_in grown (tell.disk_made disk) ≡ spare_in views disk
   unfolding spare_in
   spare_alike disk =
-      let kind : has_bit (tell.disk_made disk).kind.0 2 ≡ has_bit disk.kind.0 2 = tell.keeps_disk.kind disk in
       let reference = tell.keeps_disk.reference disk in
       let names : map (λ (row : ArrayEntry). row.guid) (filter (is_dedicated grown (tell.disk_made disk).reference) (arrays_in grown)) ≡ map (λ (row : ArrayEntry). row.guid) (filter (is_dedicated views disk.reference) (arrays_in views)) =
       ap (λ (n : ℕ). map (λ (row : ArrayEntry). row.guid) (filter (is_dedicated grown n) (arrays_in grown))) reference
       ∙ ap (λ (rows : List ArrayEntry). map (λ (row : ArrayEntry). row.guid) (filter (is_dedicated grown disk.reference) rows)) tell.arrays
       ∙ names_alike (is_dedicated grown disk.reference) (is_dedicated views disk.reference) tell.array_made tell.keeps_array.guid (arrays_in views) (dedicated_made disk.reference) in
-      ap (λ (b : Bool). cond b uses.Global (dedicated_or_not (map (λ (row : ArrayEntry). row.guid) (filter (is_dedicated grown (tell.disk_made disk).reference) (arrays_in grown))))) kind
-      ∙ ap (λ (list : List (List ℕ)). cond (has_bit disk.kind.0 2) uses.Global (dedicated_or_not list)) names
+      tell.keeps_disk.kind disk (dedicated_or_not (map (λ (row : ArrayEntry). row.guid) (filter (is_dedicated grown (tell.disk_made disk).reference) (arrays_in grown))))
+      ∙ ap (λ (list : List (List ℕ)). spare_of_kind disk.kind.0 (dedicated_or_not list)) names
 
   -- Each member is read alike.
   members_alike : map (member_entry_in grown) (disks_in grown) ≡ map (member_entry_in views) (disks_in views)

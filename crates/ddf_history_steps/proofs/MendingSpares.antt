@@ -139,10 +139,18 @@ spare_listed views disk row h = go (has_bit disk.kind.0 2) refl h
     test : List ℕ → Bool
     test guid = is_dedicated views disk.reference (record row { guid = guid })
 
-    go : (b : Bool) → has_bit disk.kind.0 2 ≡ b → list_any (bytes_eq row.guid) (arrays_of_spare (cond (has_bit disk.kind.0 2) uses.Global (dedicated_or_not names))) ≡ true → is_dedicated views disk.reference row ≡ true
-    go true e h = absurd (false≢true (subst (λ (b : Bool). list_any (bytes_eq row.guid) (arrays_of_spare (cond b uses.Global (dedicated_or_not names))) ≡ true) e h))
+    -- a spare for every array, whichever, is one for no array alone
+    none : (third : Bool) → list_any (bytes_eq row.guid) (arrays_of_spare (cond third uses.Revertible uses.Global)) ≡ true → ⊥
+    none true h = false≢true h
+    none false h = false≢true h
+
+    global : SpareUse
+    global = cond (has_bit disk.kind.0 3) uses.Revertible uses.Global
+
+    go : (b : Bool) → has_bit disk.kind.0 2 ≡ b → list_any (bytes_eq row.guid) (arrays_of_spare (cond (has_bit disk.kind.0 2) global (dedicated_or_not names))) ≡ true → is_dedicated views disk.reference row ≡ true
+    go true e h = absurd (none (has_bit disk.kind.0 3) (subst (λ (b : Bool). list_any (bytes_eq row.guid) (arrays_of_spare (cond b global (dedicated_or_not names))) ≡ true) e h))
     go false e h =
-        let listed = subst (λ (b : Bool). list_any (bytes_eq row.guid) (arrays_of_spare (cond b uses.Global (dedicated_or_not names))) ≡ true) e h in
+        let listed = subst (λ (b : Bool). list_any (bytes_eq row.guid) (arrays_of_spare (cond b global (dedicated_or_not names))) ≡ true) e h in
         let found = names_pass (is_dedicated views disk.reference) row.guid (arrays_in views) (subst (λ (list : List (List ℕ)). list_any (bytes_eq row.guid) list ≡ true) (listed_arrays names) listed) in
         ap test (sym found.2) ∙ found.1
 

@@ -26,7 +26,7 @@ use Rattle.ddf_config.specs.Within as config
 use Rattle.ddf_plan.specs.declared.change.Change.TheVariants.{Lose}
 use Rattle.ddf_plan.specs.Arrays.{arrays_after, kept_and_added}
 use Rattle.ddf_plan.specs.Changes.{changed_at}
-use Rattle.ddf_plan.specs.Lose.{has_part_within, is_among, lost_array, lost_element, lost_parts, lost_position, out_beyond, out_of_sync, wholly_out}
+use Rattle.ddf_plan.specs.Lose.{has_part_within, is_among, lost_array, lost_element, lost_parts, lost_position, lost_stand_in, out_beyond, out_of_sync, wholly_out}
 use Rattle.ddf_plan.specs.Members.{members_after}
 use Rattle.ddf_repair.proofs.Numbers.{AreSame, KeepsNumbers, numbers_kept, tiers_kept}
 use Rattle.ddf_repair.proofs.Usable.{all_lie_kept, both_changed, looked_up}
@@ -80,10 +80,10 @@ module _ (references : List ℕ) where
   positions_out (one ∷ positions) = (out_by (is_among references one.reference) one, positions_out positions)
 
   element_lost : (element : ElementValue) → RemainsElement element (lost_element references element)
-  element_lost element = record { positions = map (lost_position references) element.positions; is = refl; remain = positions_lost element.positions }
+  element_lost element = record { stand_in = lost_stand_in references element; positions = map (lost_position references) element.positions; is = refl; remain = positions_lost element.positions }
 
   element_out : (element : ElementValue) → RemainsElement element (wholly_out (lost_element references element))
-  element_out element = record { positions = map out_of_sync (map (lost_position references) element.positions); is = refl; remain = positions_out element.positions }
+  element_out element = record { stand_in = lost_stand_in references element; positions = map out_of_sync (map (lost_position references) element.positions); is = refl; remain = positions_out element.positions }
 
   parts_lost : (known : List (Option ElementValue)) → DoRemain known (map (option_map (lost_element references)) known)
   parts_lost [] = tt
@@ -121,7 +121,7 @@ numbers_same (None ∷ known) (None ∷ nexts) are = (tt, numbers_same known nex
 numbers_same (None ∷ known) (Some next ∷ nexts) are = absurd are.0
 numbers_same (Some plan ∷ known) (None ∷ nexts) are = absurd are.0
 numbers_same (Some plan ∷ known) (Some next ∷ nexts) are =
-    (record { positions = are.0.positions; is = are.0.is; many = count_positions plan.positions are.0.positions are.0.remain }, numbers_same known nexts are.1)
+    (record { stand_in = are.0.stand_in; positions = are.0.positions; is = are.0.is; many = count_positions plan.positions are.0.positions are.0.remain }, numbers_same known nexts are.1)
 
 extents_by : (blocks : ℕ) (befores afters : List Position) → ArePositions befores afters → map (extent blocks) afters ≡ map (extent blocks) befores
 extents_by blocks [] [] are = refl

@@ -10,7 +10,7 @@ use Rattle.ddf_secondary.specs.Arrangement.{Arrangement}
 use Rattle.ddf_secondary.specs.Spots as spots_of
 use Rattle.ddf_config.specs.declared.element.Position.{Position}
 use Rattle.ddf_config.specs.declared.seat.Seat.{Seat}
-use Rattle.ddf_config.specs.ElementValue.{ElementValue, with_positions}
+use Rattle.ddf_config.specs.ElementValue.{ElementValue, with_disks}
 use Rattle.ddf_config.specs.Extents.{extent}
 use Rattle.ddf_config.specs.Shapes.{element_shape, strip_sectors}
 use Rattle.ddf_array.specs.declared.part.Part.{Part}
@@ -213,8 +213,9 @@ ArePositions (before ∷ befores) [] = ⊥
 ArePositions (before ∷ befores) (after ∷ afters) = RemainsPosition before after × ArePositions befores afters
 
 pub record RemainsElement (before after : ElementValue) : Type 0 where
+  pub stand_in : ℕ
   pub positions : List Position
-  pub is : after ≡ with_positions before positions
+  pub is : after ≡ with_disks before stand_in positions
   pub remain : ArePositions before.positions positions
 
 abbrev pub RemainsPart : Option ElementValue → Option ElementValue → Type 0
@@ -236,7 +237,7 @@ positions_stay (one ∷ positions) = (record { same_reference = refl; same_start
 pub parts_stay : (known : List (Option ElementValue)) → DoRemain known known
 parts_stay [] = tt
 parts_stay (None ∷ known) = (tt, parts_stay known)
-parts_stay (Some element ∷ known) = (record { positions = element.positions; is = refl; remain = positions_stay element.positions }, parts_stay known)
+parts_stay (Some element ∷ known) = (record { stand_in = element.stand_in; positions = element.positions; is = refl; remain = positions_stay element.positions }, parts_stay known)
 
 pub count_positions : (befores afters : List Position) → ArePositions befores afters → length afters ≡ length befores
 count_positions [] [] are = refl
@@ -275,8 +276,8 @@ module _ (seats fewer : List Seat) (few : AreFewer seats fewer) where
   part_remains before positions are (Some s) (Some s') same befores afters rest =
       let shapes : s' ≡ s = some_is same in ((shapes, places_remain before.blocks before.positions positions are), rest)
 
-  shape_again : (elements : ℕ) (before : ElementValue) (positions : List Position) → length positions ≡ length before.positions → element_shape elements (with_positions before positions) ≡ element_shape elements before
-  shape_again elements before positions many =
+  shape_again : (elements : ℕ) (before : ElementValue) (stand_in : ℕ) (positions : List Position) → length positions ≡ length before.positions → element_shape elements (with_disks before stand_in positions) ≡ element_shape elements before
+  shape_again elements before stand_in positions many =
       ap (λ (count : ℕ). option_and_then (λ strip. result_ok (shape_of before.level before.qualifier count strip before.blocks)) (strip_sectors elements before)) many
 
   pub parts_remain : (elements : ℕ) (befores afters : List (Option ElementValue)) → DoRemain befores afters
@@ -290,5 +291,5 @@ module _ (seats fewer : List Seat) (few : AreFewer seats fewer) where
   parts_remain elements (Some b ∷ befores) (Some a ∷ afters) are =
       subst
       (λ (x : ElementValue). AreRemaining (filter_map (known_part seats elements) (Some b ∷ befores)) (filter_map (known_part fewer elements) (Some x ∷ afters))) (sym are.0.is)
-      (part_remains b are.0.positions are.0.remain (element_shape elements b) (element_shape elements (with_positions b are.0.positions))
-      (shape_again elements b are.0.positions (count_positions b.positions are.0.positions are.0.remain)) _ _ (parts_remain elements befores afters are.1))
+      (part_remains b are.0.positions are.0.remain (element_shape elements b) (element_shape elements (with_disks b are.0.stand_in are.0.positions))
+      (shape_again elements b are.0.stand_in are.0.positions (count_positions b.positions are.0.positions are.0.remain)) _ _ (parts_remain elements befores afters are.1))

@@ -88,6 +88,7 @@ few_items use_as holdings =
 spare_for_none : (array : List ℕ) (use_as : SpareUse) → arrays_of_spare use_as ≡ [] → is_spare_for array use_as ≡ false
 spare_for_none array uses.No none = refl
 spare_for_none array uses.Global none = refl
+spare_for_none array uses.Revertible none = refl
 spare_for_none array (uses.Dedicated arrays) none = ap (λ (all : List (List ℕ)). list_any (bytes_eq array) all) none
 
 -- So no array has one.

@@ -1,4 +1,4 @@
-use Rattle.ddf_history_behind.proofs.Requests.{changes_lose, none_lose, rebuilds_lose, resyncs_lose, writes_lose}
+use Rattle.ddf_history_behind.proofs.Requests.{changes_lose, copybacks_lose, none_lose, rebuilds_lose, resyncs_lose, writes_lose}
 use Rattle.ddf_history_behind.proofs.laws.no_command_loses_nothing.Goals as goal
 
 pub returns-clause-changes : goal.returns-clause-changes
@@ -15,3 +15,6 @@ returns-clause-writes c = writes_lose
 
 pub returns-clause-rebuilds : goal.returns-clause-rebuilds
 returns-clause-rebuilds c = rebuilds_lose
+
+pub returns-clause-goes_back : goal.returns-clause-goes_back
+returns-clause-goes_back c = copybacks_lose
