@@ -1,5 +1,6 @@
 pub mod ArrayUse
 pub mod ReadBlocks
+mod ReadCalls
 pub mod LeftOut
 mod Printing
 mod ReadEnds

@@ -1,7 +1,8 @@
 -- What `read` tells, and how it ends.
-use Rattle.std.specs.Prelude.{◌≡◌, ◌⊎◌, ℕ, ◌+◌, ◌-◌, ◌%◌, ◌<◌, ◌≤◌, Bool, false, not, List, [], ◌∷◌, ◌++◌, length, min, Option, Some, None, Result, Ok, Err, IsTrue, slice_index_or}
+use Rattle.std.specs.Prelude.{◌≡◌, ◌⊎◌, ℕ, ◌+◌, ◌-◌, ◌*◌, ◌%◌, ◌<◌, ◌≤◌, Bool, true, false, not, List, [], ◌∷◌, ◌++◌, length, min, Option, Some, None, Result, Ok, Err, IsTrue, slice_index_or}
 use Rattle.ddf_bytes.specs.Streams.{TakesFront}
 use Rattle.ddf_bay.specs.ReadsOnly.{LookFailed}
+use Rattle.ddf_bay.specs.State.{BayState}
 use Rattle.ddf_copy.specs.declared.newest_copy.Newest.{Newest}
 use Rattle.ddf_config.specs.declared.array.Array.{Array}
 use Rattle.ddf_config.specs.declared.refusal.Refusal.{Refusal}
@@ -14,7 +15,8 @@ use Rattle.ddf_array.specs.Volume.{Volume}
 use Rattle.ddf_read.specs.Given.{AreGiven, AreValues, NoneLeftIn}
 use Rattle.ddf_read.specs.Reading.{Failed, IsOn, NoneFailed}
 use Rattle.ddf_read.specs.Refused.{is_unsure}
-pub use Rattle.ddf_pieces.specs.Pieces.{bytes_of, piece_blocks}
+use Rattle.ddf_read.specs.Stretches.{HaveCopies, copy_stretches}
+pub use Rattle.ddf_pieces.specs.Pieces.{GrewByPieces, bytes_of, piece_blocks, room_for}
 use Rattle.ddf_group.specs.declared.answer.Assembly.{Assembly}
 use Rattle.ddf_seats.specs.Group.{GroupValue}
 use Rattle.ddf_assembly.specs.Group.{group_of}
@@ -114,6 +116,42 @@ MayRead config seats word start count (Err (Disk slot)) = ⊥
 MayRead config seats word start count (Err (Conflict i j sequence differ)) = ⊥
 MayRead config seats word start count (Err (Split i j)) = ⊥
 
+-- ---- how often it calls
+
+-- The most calls that it makes of a bay of so many slots to find the group: 15 to look at each.
+abbrev pub most_looks : (slots : ℕ) → ℕ
+most_looks slots = 15 * slots
+
+-- nothing of an array was read
+abbrev pub is_unread : Outcome → Bool
+is_unread (Whole sectors) = false
+is_unread (NotRead (Refused refusal)) = true
+is_unread (NotRead (Disk slot)) = false
+is_unread (NotRead (Conflict i j sequence differ)) = true
+is_unread (NotRead (Split i j)) = true
+is_unread (NotRead Memory) = true
+is_unread (Stopped front slot) = false
+is_unread (CutShort front) = false
+
+-- Where nothing was read no more calls were made than these.
+abbrev pub CallsUnread : {D : Type 0} (old new : BayState D) → (most : ℕ) → Outcome → Type 0
+CallsUnread old new most outcome = is_unread outcome ≡ true → new.calls ≤ old.calls + most
+
+-- Where each block has an available cell, and no read failed on a slot of the array's available places, one call was made for each stretch of each piece, beside these.
+abbrev pub CallsOfBlocks : {D : Type 0} (old new : BayState D) → (beside : ℕ) → Volume → (start count : ℕ) → Type 0
+CallsOfBlocks old new beside volume start count =
+    HaveCopies volume start count → NoneFailed volume old new → GrewByPieces (copy_stretches volume) (room_for count) start count (old.calls + beside) new.calls
+
+-- so it is of the array that is read, if one is
+abbrev pub CallsOfArray : {D : Type 0} (old new : BayState D) → (beside : ℕ) → Configuration → List Seat → (word : List ℕ) → (start count : ℕ) → Type 0
+CallsOfArray old new beside config seats word start count = (volume : Volume) → IsReadable config seats word start count volume → CallsOfBlocks old new beside volume start count
+
+abbrev pub CallsOfReading : {D : Type 0} → Work D → (word : List ℕ) → (start count : ℕ) → Result GroupValue Assembly → Type 0
+CallsOfReading work word start count (Ok group) = CallsOfArray work.old work.new (most_looks (length work.old.sizes)) group.config (trusted_seats group) word start count
+CallsOfReading work word start count (Err fault) = Unit {0}
+
+-- ---- what came of a call
+
 -- no array of the group, if there is one, has an available place on this slot
 abbrev pub HasNoPlace : Result GroupValue Assembly → ℕ → Type 0
 HasNoPlace (Ok group) slot = (guid : List ℕ) (volume : Volume) → view_of group.config guid (trusted_seats group) ≡ Ok volume → IsOn volume slot → ⊥
@@ -130,6 +168,8 @@ pub record HasRead {D : Type 0} (work : Work D) (named : Option (List ℕ)) (wor
   pub no_place : work.tells → (slot : ℕ) → IsTrue (slice_index_or left slot false) → HasNoPlace (group_of newest named) slot
   pub gone : (outcome ≡ NotRead Memory → ⊥) → AreOut work.old left
   pub gives : IsReadIn work word start count (group_of newest named) outcome
+  pub looks : CallsUnread work.old work.new (most_looks (length work.old.sizes)) outcome
+  pub calls : CallsOfReading work word start count (group_of newest named)
 
 -- ---- what it tells
 

@@ -7,7 +7,7 @@ ghost use Rattle.ddf_text.specs.Refusal.{disk_fault_line};
 ghost use Rattle.ddf_read.specs.Reading.{OnlyReads};
 ghost use Rattle.ddf_read.specs.Refused.{read_refusal};
 ghost use Rattle.ddf_answer.specs.Call.{answer_of, work_of};
-ghost use Rattle.ddf_read_commands.specs.Read.{CameTo, IsArrayRead};
+ghost use Rattle.ddf_read_commands.specs.Read.{CallsOfBlocks, CameTo, IsArrayRead};
 ghost use Rattle.ddf_answer.specs.Status.{code_of};
 ghost use Rattle.ddf_answer.specs.Tells.{ClosesWith};
 
@@ -32,6 +32,8 @@ pub(crate) fn print_blocks<B: Bay, K: Sink>(
     requires accepted { read_refusal view.now start count ≡ None }
     ensures done { CameTo (IsArrayRead (work_of B.tells (B.disks bay.old) (B.disks bay.new)) view.now start count) (answer_of K.tells (K.output sink.old) (K.output sink.new) (code_of result)) }
     ensures reads { OnlyReads (B.disks bay.old) (B.disks bay.new) }
+    ensures unread { code_of result ≡ 5 → (B.disks bay.new).calls ≡ (B.disks bay.old).calls }
+    ensures calls { CallsOfBlocks (B.disks bay.old) (B.disks bay.new) 0 view.now start count }
     ensures stream { code_of result ≡ 6 → SinkRose (K.output sink.old) (K.output sink.new) }
 {
     match blank_piece(alloc, count) {
@@ -62,6 +64,8 @@ fn print_pieces<B: Bay, K: Sink>(
     requires room { length room.old ≡ room_for count }
     ensures done { CameTo (IsArrayRead (work_of B.tells (B.disks bay.old) (B.disks bay.new)) view.now start count) (answer_of K.tells (K.output sink.old) (K.output sink.new) (code_of result)) }
     ensures reads { OnlyReads (B.disks bay.old) (B.disks bay.new) }
+    ensures unread { code_of result ≡ 5 → (B.disks bay.new).calls ≡ (B.disks bay.old).calls }
+    ensures calls { CallsOfBlocks (B.disks bay.old) (B.disks bay.new) 0 view.now start count }
     ensures stream { code_of result ≡ 6 → SinkRose (K.output sink.old) (K.output sink.new) }
 {
     let mut printed = 0;

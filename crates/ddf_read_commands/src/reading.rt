@@ -6,7 +6,7 @@ ghost use Rattle.ddf_recovery.specs.Recovery.{trusted_seats};
 ghost use Rattle.ddf_read.specs.Reading.{OnlyReads};
 ghost use Rattle.ddf_read.specs.Refused as volume;
 ghost use Rattle.ddf_answer.specs.Call.{answer_of, work_of};
-ghost use Rattle.ddf_read_commands.specs.Read.{CameTo, IsReadDone, IsReadOf, MayRead};
+ghost use Rattle.ddf_read_commands.specs.Read.{CallsOfArray, CallsUnread, CameTo, IsReadDone, IsReadOf, MayRead};
 ghost use Rattle.ddf_answer.specs.Ends.{Ends};
 ghost use Rattle.ddf_answer.specs.Status.{code_of};
 ghost use Rattle.ddf_words.specs.Traits.{traits_of};
@@ -53,8 +53,10 @@ fn print_array<B: Bay, K: Sink>(
     sink: &mut K,
 ) -> Status
     requires { SeatsFit (B.disks bay.old).sizes group.now.seats }
-    ensures done { CameTo (IsReadOf (work_of B.tells (B.disks bay.old) (B.disks bay.new)) group.now.config (trusted_seats group.now) name.now start count) (answer_of K.tells (K.output sink.old) (K.output sink.new) (code_of result)) }
+    ensures done { CameTo (λ outcome. IsReadOf (work_of B.tells (B.disks bay.old) (B.disks bay.new)) group.now.config (trusted_seats group.now) name.now start count outcome
+        × CallsUnread (B.disks bay.old) (B.disks bay.new) 0 outcome) (answer_of K.tells (K.output sink.old) (K.output sink.new) (code_of result)) }
     ensures reads { OnlyReads (B.disks bay.old) (B.disks bay.new) }
+    ensures calls { CallsOfArray (B.disks bay.old) (B.disks bay.new) 0 group.now.config (trusted_seats group.now) name.now start count }
     ensures stream { code_of result ≡ 6 → SinkRose (K.output sink.old) (K.output sink.new) }
 {
     match readable(alloc, group, name, start, count) {

@@ -1,14 +1,15 @@
-use Rattle.std.proofs.Common.{ℕ, List, subst, sym}
+use Rattle.std.proofs.Common.{ℕ, List, length, subst, sym}
 use Rattle.ddf_bay.proofs.Looks.{reads_then}
 use Rattle.ddf_config.specs.Seats.{SeatsFit}
 use Rattle.ddf_assembly.specs.Group.{group_of}
 use Rattle.ddf_recovery.specs.Recovery.{trusted_seats}
 use Rattle.ddf_answer.specs.Answers.{failure_of}
 use Rattle.ddf_answer.specs.Call.{work_of}
-use Rattle.ddf_read_commands.specs.Read.{NotRead}
+use Rattle.ddf_read_commands.specs.Read.{NotRead, most_looks}
 use Rattle.ddf_read_commands.proofs.ReadEnds.{read_ends}
 use Rattle.ddf_read_commands.proofs.LeftOut.{has_no_place}
 use Rattle.ddf_read_commands.proofs.ReadBlocks.{fault_in, look_later, not_read_told, read_behind, read_in}
+use Rattle.ddf_read_commands.proofs.ReadCalls.{array_behind, calls_in, none_in, unread_behind}
 use Rattle.ddf_read_commands.proofs.reading.read.Goals as goal
 
 pub print_array-requires : goal.print_array-requires
@@ -22,7 +23,8 @@ returns-in-Ok-clause-done g c =
     let assembled = c.in-Ok.ensures.assembled in
     let done = c.print_array.ensures.done in
     let of_group = read_behind g.B.Bay.tells old middle new c.assemble.ensures.never_falls c.assemble.ensures.reads.same_held c.assemble.ensures.reads.same_sizes
-    c.in-Ok.group.config (trusted_seats c.in-Ok.group) c.args.name.now c.args.start c.args.count done.outcome done.has in
+    c.in-Ok.group.config (trusted_seats c.in-Ok.group) c.args.name.now c.args.start c.args.count done.outcome done.has.0 in
+    let most = most_looks (length old.sizes) in
     record {
       outcome = done.outcome;
       has = record {
@@ -34,6 +36,10 @@ returns-in-Ok-clause-done g c =
         no_place = λ tells slot out. has_no_place old assembled.looked.left assembled.newest c.args.named slot (assembled.read tells) out;
         gone = λ given. assembled.gone (λ spent. absurd cc);
         gives = read_in (work_of g.B.Bay.tells old new) c.args.name.now c.args.start c.args.count c.in-Ok.group (group_of assembled.newest c.args.named) done.outcome assembled.answer of_group;
+        looks = unread_behind g.B.Bay.tells old middle new c.assemble.ensures.never_falls most c.assemble.ensures.calls done.outcome done.has.1;
+        calls = calls_in (work_of g.B.Bay.tells old new) c.args.name.now c.args.start c.args.count c.in-Ok.group (group_of assembled.newest c.args.named) assembled.answer
+            (array_behind g.B.Bay.tells old middle new c.assemble.ensures.never_falls most c.assemble.ensures.calls c.in-Ok.group.config (trusted_seats c.in-Ok.group) c.args.name.now c.args.start c.args.count
+            c.print_array.ensures.calls);
       };
       ends = done.ends;
     }
@@ -54,6 +60,8 @@ returns-in-Err-clause-done g c =
         no_place = λ tells slot out. has_no_place old assembled.looked.left assembled.newest c.args.named slot (assembled.read tells) out;
         gone = λ given. assembled.gone (λ spent. given (not_read_told c.in-Err.fault spent));
         gives = fault_in (work_of g.B.Bay.tells old new) c.args.name.now c.args.start c.args.count c.in-Err.fault (group_of assembled.newest c.args.named) assembled.answer;
+        looks = λ unread. c.assemble.ensures.calls;
+        calls = none_in (work_of g.B.Bay.tells old new) c.args.name.now c.args.start c.args.count (group_of assembled.newest c.args.named) c.assemble.ensures.calls;
       };
       ends = rw c.from.ensures at c.tell_failure.ensures.told;
     }
