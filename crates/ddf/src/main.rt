@@ -5,7 +5,10 @@
 ghost use Rattle.std.specs.Prelude.{◌≡◌, ◌≤◌, length, IfOk};
 ghost use Rattle.ddf_words.specs.Words.{words_of, slot_count};
 
-use ddf_arrays_left::{Fault, name_filling, name_marked, tell_cut, tell_faulted};
+use ddf_arrays_left::{
+    Fault, name_filling, name_half_moved, name_marked, name_stand_in, name_standing, tell_back,
+    tell_cut, tell_faulted,
+};
 use ddf_asking::{Person, Risks, consents, name_lines, name_risks, tell_end};
 use ddf_batch::serve;
 use ddf_bay::Bay;
@@ -80,6 +83,8 @@ struct Ending {
     taken: u64,
     /// Whether its input failed.
     is_cut: bool,
+    /// The slot of the spare that held the position which a `copyback` takes.
+    holder: Option<usize>,
 }
 
 /// The refusal of a disk whose bad block log can't be honoured.
@@ -299,9 +304,10 @@ where
     B: LinuxBay + Drop,
 {
     let mut bay = bay;
-    let (risks, task) = ready(rt, &mut bay, ends, words, asked, kind, person)?;
-    let (mut bay, ending) = serve_disks(rt, words, bay, task, stamp);
     let paths = slot_paths(words);
+    let holder = name_stand_in(rt, &mut bay, paths, asked);
+    let (risks, task) = ready(rt, &mut bay, ends, words, asked, kind, person)?;
+    let (mut bay, ending) = serve_disks(rt, words, bay, task, stamp, holder);
     tell_served(rt, &mut bay, paths, asked, kind, person, ending, risks)?;
     Ok((bay, ending))
 }
@@ -366,6 +372,7 @@ fn serve_disks<R, B>(
     bay: B,
     task: Task<R::Reader>,
     stamp: Stamp,
+    holder: Option<usize>,
 ) -> (B, Ending)
 where
     R: Files<File = File> + Clock + Input + Print + Eprint + AllocGlobal + Clone + Drop,
@@ -392,6 +399,7 @@ where
         refused: sink.refused(),
         taken: sink.sink().taken(),
         is_cut: status == STREAM_FAULT && source.failed(),
+        holder,
     };
     (bay, ending)
 }
@@ -508,6 +516,7 @@ where
     if let Some(refused) = refused {
         name_numbers(rt, bay, paths, asked, refused)?;
         name_marked(rt, bay, asked, refused.number);
+        name_half_moved(rt, bay, paths, asked, refused.number);
     }
     Ok(())
 }
@@ -533,12 +542,14 @@ where
     }
     if let Command::Assemble | Command::Show = asked.command {
         name_filling(rt, bay, paths, asked.group);
+        name_standing(rt, bay, paths, asked.group);
     }
     if let Command::Assemble | Command::Show | Command::Rebuild { .. } = asked.command {
         name_unrebuilt(rt, bay, asked.group);
     }
     if ending.status == 0 {
         name_done(rt, bay, paths, asked, risks);
+        tell_back(rt, bay, paths, asked, ending.holder);
     } else if risks.losses && matches!(ending.status, 1 | 4) {
         let _ = rt.eprint(NOTHING_LOST);
     }
@@ -546,7 +557,7 @@ where
     match ending.fault {
         Some(slot) => {
             let slot = usize::from(slot);
-            tell_faulted(rt, bay, paths, asked, Fault { slot, last });
+            tell_faulted(rt, bay, paths, asked, ending.holder, Fault { slot, last });
         }
         None if ending.status == STREAM_FAULT => tell_cut(rt, bay, asked),
         None => {}

@@ -3,6 +3,7 @@
 use crate::arrays_after::lies_on;
 use crate::positions::{keeps_parity, lacks_one, slot_filled};
 use crate::shown::group_shown;
+use crate::uncopied::tell_uncopied;
 use crate::unfilled::{Fault, tell_unfilled};
 use ddf_assembly::Group;
 use ddf_bay::Bay;
@@ -62,11 +63,22 @@ impl fmt::Display for Blocks {
     }
 }
 
-/// Says on standard error what a `write`, a `resync` or a `rebuild` left that ended since a disk failed, and the way on.
-pub fn tell_faulted<R, B: Bay>(rt: &R, bay: &mut B, paths: &[String], asked: &Asked, fault: Fault)
+/// Says on standard error what a `write`, a `resync`, a `rebuild` or a `copyback` left that ended since a disk failed, and the way on.
+/// `holder` is the slot of the spare that held the position which a `copyback` takes.
+pub fn tell_faulted<R, B: Bay>(
+    rt: &R,
+    bay: &mut B,
+    paths: &[String],
+    asked: &Asked,
+    holder: Option<usize>,
+    fault: Fault,
+)
 where
     R: Eprint + AllocGlobal,
 {
+    if let Command::Copyback { .. } = &asked.command {
+        return tell_uncopied(rt, bay, paths, asked, holder, fault);
+    }
     let name = name_in(&asked.command);
     let (Ok(text), Some((left, filled))) = (str::from_utf8(name), left_by(rt, bay, asked, name))
     else {
@@ -126,7 +138,9 @@ where
 fn name_in(command: &Command) -> &[u8] {
     match command {
         Command::Read { name, .. } | Command::Write { name, .. } => name.items(),
-        Command::Resync { name } | Command::Rebuild { name } => name.items(),
+        Command::Resync { name } | Command::Rebuild { name } | Command::Copyback { name, .. } => {
+            name.items()
+        }
         _ => &[],
     }
 }

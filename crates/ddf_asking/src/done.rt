@@ -60,6 +60,10 @@ fn spare_text<R: AllocGlobal>(rt: &R, word: &SpareWord) -> Result<String, NoMemo
             rt.alloc(),
             "is a spare for all arrays now",
         )?),
+        SpareWord::Revertible => return Ok(String::from_str(
+            rt.alloc(),
+            "is a revertible spare for all arrays now: copyback gives its place back",
+        )?),
         SpareWord::Off => return Ok(String::from_str(rt.alloc(), "is no spare now")?),
         SpareWord::For(names) => names,
     };

@@ -4,7 +4,9 @@
 pub fn part_of(command: &str) -> Option<&'static str> {
     match command {
         "examine" | "show" | "read" | "scrub" => part_of_look(command),
-        "assemble" | "spare" | "rebuild" | "fail" | "import" => part_of_repair(command),
+        "assemble" | "spare" | "rebuild" | "copyback" | "fail" | "import" => part_of_repair(
+            command,
+        ),
         "label" | "create" | "resync" | "accept" | "write" | "delete" => part_of_making(command),
         "batch" => Some(BATCH),
         "exercise" => Some(EXERCISE),
@@ -35,6 +37,7 @@ fn part_of_repair(command: &str) -> Option<&'static str> {
         "assemble" => Some(ASSEMBLE),
         "spare" => Some(SPARE),
         "rebuild" => Some(REBUILD),
+        "copyback" => Some(COPYBACK),
         "fail" => Some(FAIL),
         "import" => Some(IMPORT),
         _ => None,
@@ -102,10 +105,11 @@ disk of the group.
 ";
 
 const SPARE: &str = "\
-ddf IMAGE.. -- [@GROUP] spare SLOT global | spare SLOT for NAME.. | spare SLOT off
+ddf IMAGE.. -- [@GROUP] spare SLOT global | spare SLOT revertible | spare SLOT for NAME.. | spare SLOT off
 
 Writes: it makes a disk without arrays a spare for all arrays, or for those that are named, or
-no spare any more. rebuild fills it in place of a lost disk.
+no spare any more. rebuild fills it in place of a lost disk. A revertible one is for all arrays,
+and gives its place back: copyback moves what it holds to a new disk, and it is a spare again.
 
   ddf d0.img d1.img d2.img d3.img -- spare 3 global
 ";
@@ -117,6 +121,16 @@ Writes: it fills a spare in place of a disk that an array has lost. Stopped half
 command goes on where it was. It fills one disk a call: give it until show says optimal.
 
   ddf d0.img d2.img d3.img -- rebuild home
+";
+
+const COPYBACK: &str = "\
+ddf IMAGE.. -- [@GROUP] copyback NAME SLOT
+
+Writes: it copies what a revertible spare holds in place of a lost disk to the disk in SLOT, and
+puts the array there in one step. The spare is a spare again. The array can do without as many
+disks as before at any moment. Stopped half way it has changed nothing: the next one begins anew.
+
+  ddf d0.img d1.img spare.img new.img -- copyback home new.img
 ";
 
 const FAIL: &str = "\

@@ -23,9 +23,11 @@ Look, and write nothing:
 
 Put in order, and replace a disk:
   assemble         finish what a crash cut short; members that are missing are dropped
-  spare SLOT global | spare SLOT for NAME.. | spare SLOT off
+  spare SLOT global | spare SLOT revertible | spare SLOT for NAME.. | spare SLOT off
                    what a disk may stand in for
   rebuild NAME     fill a spare in place of a lost disk; goes on where it was stopped
+  copyback NAME SLOT
+                   move what a revertible spare holds to a new disk; it is a spare again
   fail SLOT        take a disk out of use, for good
   import GUID      take in a new disk, or the disks and arrays of another group
 

@@ -87,6 +87,10 @@ fn slot_places(words: &[String]) -> Range<usize> {
         Some(command) if matches!(command.as_str(), "spare" | "fail") => {
             behind..behind.saturating_add(1)
         }
+        Some(command) if command.as_str() == "copyback" => {
+            let slot = behind.saturating_add(1);
+            slot..slot.saturating_add(1)
+        }
         _ => 0..0,
     }
 }

@@ -94,14 +94,15 @@ fn wanted(command: &str, offset: usize) -> &'static str {
     match command {
         "create" => wanted_of_array(offset),
         "read" | "write" => wanted_of_blocks(offset),
-        "delete" | "accept" | "resync" | "rebuild" | "scrub" if offset == 1 =>
+        "delete" | "accept" | "resync" | "rebuild" | "copyback" | "scrub" if offset == 1 =>
             "the name of an array",
         "import" if offset == 1 => "the 48 hexadecimal digits of the GUID of the group that joins",
         "exercise" if offset == 1 => "a seed below 2^64",
         "exercise" if offset == 2 => "a number of rounds from 0 to 256",
         "spare" | "fail" if offset == 1 => "a slot's number from 0 to 63, or its image",
-        "spare" if offset == 2 => "global, for or off",
-        "spare" => "the name of an array after for, and nothing after global and off",
+        "copyback" if offset == 2 => "a slot's number from 0 to 63, or its image",
+        "spare" if offset == 2 => "global, revertible, for or off",
+        "spare" => "the name of an array after for, and nothing after the others",
         _ => "nothing more",
     }
 }

@@ -22,7 +22,7 @@ pub fn cause_of(number: u16, command: &str) -> Option<(&'static str, &'static st
     found
 }
 
-const CAUSES: [Cause; 44] = [
+const CAUSES: [Cause; 49] = [
     Cause {
         number: 10,
         command: "any",
@@ -85,6 +85,12 @@ const CAUSES: [Cause; 44] = [
     },
     Cause {
         number: 18,
+        command: "copyback",
+        why: "The RAID level isn't served; or it is RAID 1E with offset copies, and Linux reads the disk in the slot, or another tool made the array: Linux keeps blocks at other places under its number.",
+        way: "Take a disk of the standard's kind. What another controller made with this level can't be read here.",
+    },
+    Cause {
+        number: 18,
         command: "any",
         why: "The array's RAID level isn't served; or it is RAID 1E with the number of offset copies, and ddf hasn't made it: Linux keeps blocks at other places under it.",
         way: "What another controller made with this level can't be read here.",
@@ -106,6 +112,12 @@ const CAUSES: [Cause; 44] = [
         command: "create",
         why: "The disk in the slot has no free run of so many sectors.",
         way: "Ask for fewer blocks, take another disk, or delete an array that lies on it.",
+    },
+    Cause {
+        number: 20,
+        command: "copyback",
+        why: "The disk in the slot has no free run as long as the position.",
+        way: "Take a larger disk, or delete an array that lies on it.",
     },
     Cause {
         number: 21,
@@ -199,6 +211,12 @@ const CAUSES: [Cause; 44] = [
     },
     Cause {
         number: 31,
+        command: "copyback",
+        why: "The disk in the slot, one of the array's or the one that the position would go to, lists bad blocks in its log that can't be served at spare places.",
+        way: "Take another disk. Where its two copies list different ones, assemble first. A disk of the array is failed and rebuilt, where the array can do without it.",
+    },
+    Cause {
+        number: 31,
         command: "import",
         why: "A disk that joins lists bad blocks in its log that can't be served at spare places.",
         way: "Where its two copies list different ones, assemble its own group first. Else fail its slot there and rebuild, or copy the data by read and write.",
@@ -220,6 +238,12 @@ const CAUSES: [Cause; 44] = [
         command: "create",
         why: "The disk in the slot is a spare.",
         way: "Take another disk, or give spare SLOT off first.",
+    },
+    Cause {
+        number: 33,
+        command: "copyback",
+        why: "The disk in the slot is a spare, or the array lies on it.",
+        way: "Was a copyback to it cut short before, give assemble first. Else take a new disk, or give spare SLOT off first.",
     },
     Cause {
         number: 33,
@@ -256,6 +280,12 @@ const CAUSES: [Cause; 44] = [
         command: "batch",
         why: "The input has more than 65536 bytes; no line was run.",
         way: "Give the lines to several calls.",
+    },
+    Cause {
+        number: 38,
+        command: "copyback",
+        why: "No position of the array is held by a revertible spare that is here and in sync.",
+        way: "Was a copyback cut short before, leave each disk where it is, give assemble with all of them, and look at show once that has ended with status 0. Else there is nothing to move: show and assemble name on standard error each spare that stands in. A position that a spare of another kind has filled stays there; one that is being filled is rebuilt first.",
     },
     Cause {
         number: 39,

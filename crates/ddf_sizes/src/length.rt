@@ -21,6 +21,8 @@ enum Task {
     Resync,
     /// It fills a position.
     Rebuild,
+    /// It copies a position.
+    Copyback,
 }
 
 /// How many sectors a command asks for that may take long; nothing where none is named, or the group can't be seen.
@@ -52,10 +54,15 @@ fn length_over<R: AllocGlobal>(rt: &R, group: &Group, array: &Array, task: Task)
         },
         Task::Scrub => Some(Length::Reads(of_cells(array))),
         Task::Resync => Some(Length::Writes(of_resync(array))),
-        Task::Rebuild => match of_rebuild(group, array) {
-            Some(sectors) => Some(Length::Writes(sectors)),
-            None => None,
-        },
+        Task::Rebuild => writes(of_rebuild(group, array)),
+        Task::Copyback => writes(of_copyback(array)),
+    }
+}
+
+fn writes(sectors: Option<u64>) -> Option<Length> {
+    match sectors {
+        Some(sectors) => Some(Length::Writes(sectors)),
+        None => None,
     }
 }
 
@@ -67,6 +74,7 @@ fn long_task(command: &Command) -> Option<(&[u8], Task)> {
         Command::Scrub { name } => Some((name.items(), Task::Scrub)),
         Command::Resync { name } => Some((name.items(), Task::Resync)),
         Command::Rebuild { name } => Some((name.items(), Task::Rebuild)),
+        Command::Copyback { name, .. } => Some((name.items(), Task::Copyback)),
         _ => None,
     }
 }
@@ -117,6 +125,22 @@ fn of_rebuild(group: &Group, array: &Array) -> Option<u64> {
         }
     }
     None
+}
+
+/// The first position that a revertible spare holds.
+fn of_copyback(array: &Array) -> Option<u64> {
+    for element in array.elements.items().iter().flatten() {
+        if has_stand_in(element) {
+            return Some(element.blocks);
+        }
+    }
+    None
+}
+
+fn has_stand_in(element: &ElementPlan) -> bool {
+    element.stand_in != 0
+        && element.positions.as_slice().iter().any(|position| position.synced
+            && position.reference == element.stand_in)
 }
 
 /// Whether one of these positions is out of sync, or its disk is away.

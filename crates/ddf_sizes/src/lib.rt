@@ -10,6 +10,7 @@ mod numbers;
 mod people;
 mod shape;
 mod short;
+mod spares;
 
 pub use length::length_of;
 pub use numbers::name_numbers;

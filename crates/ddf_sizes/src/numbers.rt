@@ -1,9 +1,10 @@
 //! The numbers behind a refusal: how much room there is, how much was asked for, and how much a table holds.
 use crate::shape::name_shape;
+use crate::spares::name_spares;
 use ddf_assembly::{Group, assemble};
 use ddf_bay::Bay;
 use ddf_bytes::NoMemory;
-use ddf_config::{Config, Seat, extents, least_start, ranges_on};
+use ddf_config::{extents, least_start, ranges_on};
 use ddf_copy::anchor_of;
 use ddf_edge::OneLine;
 use ddf_refusals::Refused;
@@ -33,7 +34,9 @@ where
             let count = paths.len();
             let _ = eprintln!(rt; "ddf: {count} disks are named, and a group has at most 15");
         }
-        (Command::Rebuild { .. }, 28) => return name_spares(rt, bay, paths, asked),
+        (Command::Rebuild { name }, 28) => {
+            return name_spares(rt, bay, paths, asked, name.items());
+        }
         (_, 21) => return name_tables(rt, bay, paths, asked),
         _ => {}
     }
@@ -85,41 +88,6 @@ fn tell_room<R: Eprint>(rt: &R, paths: &[String], slot: usize, free: u64, wanted
         let _ = eprintln!(rt;
             "ddf: slot {slot} ({path}): its largest free run has {free} blocks, and {wanted} are wanted"
         );
-    }
-}
-
-/// Names the free run of each spare.
-fn name_spares<R, B: Bay>(
-    rt: &R,
-    bay: &mut B,
-    paths: &[String],
-    asked: &Asked,
-) -> Result<(), NoMemory>
-where
-    R: Eprint + AllocGlobal,
-{
-    let Ok(group) = assemble(rt.alloc(), bay, asked.group) else {
-        return Ok(());
-    };
-    for seat in group.seats() {
-        if is_spare(group.config(), seat) {
-            let free = free_on(rt, &group, seat.slot, 1)?;
-            if let Some(path) = paths.get(seat.slot) {
-                let path = OneLine(path);
-                let slot = seat.slot;
-                let _ = eprintln!(rt;
-                    "ddf: slot {slot} ({path}), a spare: its largest free run has {free} blocks"
-                );
-            }
-        }
-    }
-    Ok(())
-}
-
-fn is_spare(config: &Config, seat: &Seat) -> bool {
-    match config.members.get(&seat.reference) {
-        Some(member) => member.spare.is_spare(),
-        None => false,
     }
 }
 
