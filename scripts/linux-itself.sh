@@ -11,6 +11,9 @@
 #   it wrote itself.
 # - Of each of UNSTARTED Linux starts none.
 # - Of each of HALF a disk is lost, and the rebuild on a spare, its last disk, is killed half way: Linux leaves that disk alone, and reads and writes the array; `ddf` ends the rebuild.
+# - Of each of SPARED the last three disks are a revertible spare, a global one and a member without use: what `ddf` finds of them where Linux wrote
+#   the array's blocks, where it filled one of them in place of a disk that failed there, and where the revertible one stood in; what is done then; and
+#   that a `copyback` that is killed half way leaves Linux nothing to do.
 #
 # Without the package, or where it doesn't run, it ends with 77. DDF names a built program; with NAMEs of arrays those alone are tried.
 set -eu
@@ -57,6 +60,8 @@ half10 5 yes raid1 7 striped 0,1@39936 2,3@39936
 half5 4 yes raid5.rnc 7 single 0,1,2@39936
 half4 4 yes raid4.last 7 single 0,1,2@39936
 half1e 4 yes raid1e.adjacent 7 single 0,1,2@39936'
+SPARED='spared1 5 yes raid1 7 single 0,1@39936
+spared5 6 yes raid5.rnc 7 single 0,1,2@39936'
 
 fail() {
     echo "linux-itself: $1" >&2
@@ -90,7 +95,8 @@ sleep 60
 TEXT
 chmod 755 "$work/init"
 
-# What it does with the disks: it starts what is on them, and tells what that is, its sectors and the checksum of its blocks; where there are new ones it writes them.
+# What it does with the disks: it starts what is on them, and tells what that is, its sectors and the checksum of its blocks; where there are new ones it
+# writes them, and where it is told so its second disk fails.
 cat >"$work/start" <<'TEXT'
 mdadm --assemble /dev/md/ddf /dev/ubd?
 mdadm --incremental /dev/md/ddf
@@ -102,6 +108,13 @@ if [ -n "$array" ]; then
     echo "sum $(sha256sum </dev/$array)"
     if [ -e new ]; then
         dd if=new of=/dev/$array bs=64K conv=fsync
+        sleep 6
+        cat /proc/mdstat
+    fi
+    if [ -e lose ]; then
+        mdadm /dev/$array --fail /dev/ubdb
+        sleep 3
+        mdadm --wait /dev/$array
         sleep 6
         cat /proc/mdstat
     fi
@@ -215,15 +228,16 @@ serves() {
     echo "linux-itself: $name, $size blocks: both read what the other wrote, and Linux what was written short of a disk"
 }
 
-# Kills the rebuild of an array once some of the spare, and not all, is filled.
+# Kills a command, its words, once some of a disk, and not all, is filled.
 kill_half() {
-    spare=$1
-    shift
+    words=$1 spare=$2
+    shift 2
     for at in $(seq 100 40 900); do
         for image; do cp --sparse=always "$image" "$image.before"; done
         rm -f "$work/hit"
-        (FAULT_CALLS=write FAULT_HOW=kill FAULT_AT=$at FAULT_TOLD=$work/hit LD_PRELOAD=$work/faults.so "$ddf" "$@" -- rebuild "$name" >/dev/null 2>&1 || true) 2>/dev/null
-        [ -e "$work/hit" ] || fail "no rebuild of $name is killed half way"
+        # shellcheck disable=SC2086
+        (FAULT_CALLS=write FAULT_HOW=kill FAULT_AT=$at FAULT_TOLD=$work/hit LD_PRELOAD=$work/faults.so "$ddf" "$@" -- $words >/dev/null 2>&1 || true) 2>/dev/null
+        [ -e "$work/hit" ] || fail "$words isn't killed half way"
         [ "$(head -c 20M "$spare" | tr -d '\0' | wc -c)" -lt 300000 ] || return 0
         for image; do mv "$image.before" "$image"; done
     done
@@ -241,7 +255,7 @@ leaves_half() {
         "$ddf" "$@" -- write "$name" 0 "$size" <"$work/first" && "$ddf" "$@" -- spare $(($# - 1)) global && "$ddf" --yes "$@" -- fail 0
     } >"$work/told" 2>&1 || fail "$name isn't brought half way: $(cat "$work/told")"
     shift
-    kill_half "${!#}" "$@"
+    kill_half "rebuild $name" "${!#}" "$@"
     cp "$work/first" "$work/new"
     linux_reads "$work/first" "$name" "$@"
     rm "$work/new"
@@ -256,6 +270,130 @@ leaves_half() {
         reads "$work/first" "$name" $others
     done
     echo "linux-itself: $name: Linux leaves a disk alone that is being filled"
+}
+
+# A command's answer by these images begins so.
+answers() {
+    wanted=$1 words=$2
+    shift 2
+    # shellcheck disable=SC2086
+    "$ddf" --yes "$@" -- $words >"$work/answer" 2>"$work/said" || true
+    case $(cat "$work/answer") in "$wanted"*) ;; *) fail "$words of $name says $(cat "$work/answer" "$work/said")" ;; esac
+}
+
+# What each of these disks is used as, in their order.
+uses() {
+    "$ddf" "$@" -- show 2>/dev/null | sed -n 's/^member [0-9a-f]* slot [0-9]* size [0-9]*\(.*\)$/\1;/p' | tr -d '\n'
+}
+
+# They are used so, and that many of them have a spare record.
+used() {
+    wanted=$1 records=$2
+    shift 2
+    [ "$(uses "$@")" = "$wanted" ] || fail "the disks of $name are used as '$(uses "$@")', and not '$wanted'"
+    [ "$("$ddf" "$@" -- examine 2>/dev/null | grep -c '^record [0-9]* spare ')" = "$records" ] || fail "not $records disks of $name have a spare record"
+}
+
+# Keeps all disks as they are, and brings them back.
+keep() { rm -rf "$work/kept" && cp -r --sparse=always "$work/disks" "$work/kept"; }
+bring() { cp --sparse=always "$work/kept"/* "$work/disks"; }
+
+# Makes an array and its blocks, and two of its last three disks spares.
+make_spared() {
+    name=$1
+    make "$@"
+    # shellcheck disable=SC2086
+    set -- $images
+    revertible=${*:$(($# - 2)):1} global=${*:$(($# - 1)):1} free=${!#}
+    size=$("$ddf" "$@" -- show 2>/dev/null | sed -n "s/^array $name blocks \([0-9]*\) optimal$/\1/p")
+    blocks "$size" "$name" >"$work/first"
+    "$ddf" "$@" -- write "$name" 0 "$size" <"$work/first" >/dev/null 2>&1 || fail "write of $name failed"
+    answers ok "spare $revertible revertible" "$@"
+    answers ok "spare $global global" "$@"
+}
+
+# A turn in Linux, which reads the blocks and writes others; `ddf` reads those by the images that are left.
+turns() {
+    blocks "$size" "$name in turn $((turn += 1))" >"$work/new"
+    linux_reads "$work/first" "$name" "$@"
+    mv "$work/new" "$work/first"
+    [ ! -e "$work/lose" ] || set -- "$1" "${@:3}"
+    reads "$work/first" "$name" "$@"
+    [ "$("$ddf" "$@" -- scrub "$name" 2>/dev/null)" = clean ] || fail "$name isn't clean behind Linux"
+}
+
+# What becomes of spares where Linux writes blocks alone, and where it fills a disk behind that or before.
+turns_spares() {
+    make_spared "$@"
+    # shellcheck disable=SC2086
+    set -- $images
+    left=("$1" "${@:3}")
+    before=$(uses "$@")
+    turns "$@"
+    used "$before" 0 "$@"
+    keep
+    cp "$work/first" "$work/kept.first"
+    : >"$work/lose"
+    turns "$@"
+    rm "$work/lose"
+    found=$(uses "${left[@]}")
+    case $found in *revertible* | *dedicated*) fail "spares without a record are $found" ;; *global*global*) ;; *) fail "spares without a record are $found" ;; esac
+    bring
+    mv "$work/kept.first" "$work/first"
+    answers ok "spare $free global" "$@"
+    answers ok "spare $free off" "$@"
+    used "$before" 2 "$@"
+    : >"$work/lose"
+    turns "$@"
+    rm "$work/lose"
+    found=$(uses "${left[@]}")
+    case $found in *spare*spare* | *revertible* | *dedicated* | *spare*\;*\;) fail "spares with a record are $found" ;; esac
+    answers "" "spare $revertible revertible" "${left[@]}"
+    ! grep -q '^refused 33' "$work/answer" || answers ok "spare $global revertible" "${left[@]}"
+    answers ok "rebuild $name" "${left[@]:1}"
+    reads "$work/first" "$name" "${left[@]:1}"
+    echo "linux-itself: $name: spares stay where Linux writes blocks, and are others where it fills a disk"
+}
+
+# What becomes of a disk that stands in: before its copyback, behind it, and where that is killed half way.
+turns_stand_in() {
+    make_spared "$@"
+    # shellcheck disable=SC2086
+    set -- $images
+    set -- "$1" "${@:3}"
+    answers ok "rebuild $name" "$@"
+    linux_reads "$work/first" "$name" "$@"
+    keep
+    answers ok "copyback $name $free" "$@"
+    turns "$@"
+    case $(uses "$@") in *"; spare revertible; spare global;;") ;; *) fail "spares behind a copyback are $(uses "$@")" ;; esac
+    bring
+    "$ddf" "$@" -- read "$name" 0 "$size" >"$work/first" 2>/dev/null || fail "read of $name failed"
+    kill_half "copyback $name $free" "$free" "$@"
+    held=$(head -c 40M "$free" | sha256sum)
+    turns "$@"
+    [ "$(head -c 40M "$free" | sha256sum)" = "$held" ] || fail "Linux writes to a disk that was being filled"
+    answers "refused 38" "copyback $name $free" "$@"
+    answers "refused 33" "spare $revertible revertible" "$@"
+    keep
+    answers ok "spare $free revertible" "$@"
+    bring
+    answers ok "fail $revertible" "$@"
+    others=()
+    for image; do [ "$image" = "$revertible" ] || others+=("$image"); done
+    answers ok "rebuild $name" "${others[@]}"
+    reads "$work/first" "$name" "${others[@]}"
+    wipefs -q -a -t ddf_raid_member "$revertible"
+    "$ddf" --yes "$revertible" -- label linux >/dev/null 2>&1 || fail "label of a wiped disk failed"
+    answers ok "@$(group "${others[@]}") import $(group "$revertible")" "${others[@]}" "$revertible"
+    answers ok "spare $revertible revertible" "${others[@]}" "$revertible"
+    reads "$work/first" "$name" "${others[@]}" "$revertible"
+    echo "linux-itself: $name: a disk that stands in is like any behind Linux, and a copyback that is killed half way leaves it nothing to do"
+}
+
+# The group of these images.
+group() {
+    "$ddf" "$@" -- show 2>/dev/null | sed -n 's/^group \([0-9a-f]*\) .*/\1/p'
 }
 
 # Of one that Linux doesn't start.
@@ -275,6 +413,7 @@ is_asked() {
 }
 
 asked=$*
+turn=0
 gcc -O1 -shared -fPIC -o "$work/registers.so" "$top/scripts/linux-itself.c" -ldl
 gcc -O1 -shared -fPIC -o "$work/faults.so" "$top/scripts/faults.c" -ldl
 echo 'uname -r' >"$work/once"
@@ -295,3 +434,7 @@ while read -r name rest; do
     # shellcheck disable=SC2086
     ! is_asked "$name" || leaves_half "$name" $rest
 done <<<"$HALF"
+while read -r name rest; do
+    # shellcheck disable=SC2086
+    ! is_asked "$name" || { turns_spares "$name" $rest && turns_stand_in "$name" $rest; }
+done <<<"$SPARED"

@@ -235,6 +235,41 @@ def compare_arrays(group, sequence, arrays, held, states, spares=()):
         compare(disk, group, sequence, 15 + 2 * count + 2 * (disk in spares), lines, states)
 
 
+def follow_spare():
+    """A revertible spare, from its record until it gives its place back: mdadm takes it for a global one, and for none while it stands in."""
+    disks = make([f"s{number}.img" for number in range(4)])
+    ddf(disks, "label", "linux")
+    group = group_of(disks)
+    ddf(disks, "create", "mir", "raid1", "0", "single", "0,1@128")
+    ddf(disks, "accept", "mir")
+    size, free, spare, used = "49111K", "/Online", "Global-Sparespare/Online", "active/Online"
+    optimal, degraded = (f"mir; {state}, Consistent; Not Initialised" for state in ("Optimal", "Degraded"))
+    own = "RAID1; single; 64K; 2 (0@0K {}@0K)"
+
+    # Its record is one more in both copies, as the global one's is.
+    change(disks, 4, "spare", "2", "revertible")
+    states = [(size, state) for state in (used, used, spare, free)]
+    compare("s0.img", group, 4, 17, [f"{optimal}; {own.format(1)}"], states)
+    compare("s2.img", group, 4, 19, [optimal], states)
+    change(disks, 5, "spare", "2", "global")
+    states[2] = (size, "Global-Spare/Online")
+    compare("s2.img", group, 5, 19, [optimal], states)
+    change(disks, 6, "spare", "2", "revertible")
+    change(disks, 8, "fail", "1")
+    states[1:3] = [(size, "active/Offline, Failed, Missing"), (size, spare)]
+    compare("s2.img", group, 8, 19, [degraded], states)
+
+    # It stands in, and is a spare again.
+    left = ["s0.img", "s2.img", "s3.img"]
+    change(left, 10, "rebuild", "mir")
+    states[1:3] = [(size, "/Offline, Failed, Missing"), (size, used)]
+    compare("s2.img", group, 10, 17, [f"{optimal}; {own.format(2)}"], states)
+    change(left, 11, "copyback", "mir", "s3.img")
+    states[2:] = [(size, spare), (size, used)]
+    compare("s2.img", group, 11, 19, [optimal], states)
+    compare("s3.img", group, 11, 17, [f"{optimal}; {own.format(3)}"], states)
+
+
 def name_untaken():
     """What Linux doesn't take is made, and named. What mdadm doesn't take for its size alone isn't."""
     small, large = make(["small.img"], 32), make([f"l{number}.img" for number in range(6)])
@@ -294,6 +329,7 @@ def main():
     with tempfile.TemporaryDirectory() as work:
         os.chdir(work)
         follow_group()
+        follow_spare()
         name_untaken()
         refuse_plain()
         os.chdir(TOP)
