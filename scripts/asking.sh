@@ -578,7 +578,7 @@ done
 for word in -V --version version; do
     ends 0 "ddf " "" "./ddf $word"
 done
-for command in examine show read scrub assemble spare rebuild fail import label create resync accept write delete batch exercise; do
+for command in examine show read scrub assemble spare rebuild copyback fail import label create resync accept write delete batch exercise; do
     for words in "$command --help" "help $command" "--help $command" "d0.img -- $command --help" "d0.img -- $command -h"; do
         ends 0 "ddf " "" "./ddf $words"
         head -n 1 out | grep -q -- "-- .*$command" || fail "printed $(head -n 1 out), of: $words"
@@ -769,6 +769,71 @@ if gcc -O1 -shared -fPIC -o faults.so "$top/scripts/faults.c" -ldl 2>/dev/null; 
     bad n2.img BAD_WRITES 34000-34815 3 "disk fault slot 1" "rebuild v: the records of slot 1 (n2.img) couldn't be written" "$three -- rebuild v"
     echo "asking: of a rebuild that ended early which call failed, and which disk is being filled"
 
+    # A copyback from the spare, slot 2, to slot 1. What no call changes is told as often as it is asked.
+    stand() {
+        new_group "raid1 7 single 0,1@1024"
+        ends 0 "ok" "" "./ddf $four -- spare 3 revertible"
+        mv n1.img away
+        ends 0 "ok" "" "./ddf $three -- rebuild v"
+    }
+    # reads IMAGES: the blocks of the array are what they were.
+    reads() {
+        ./ddf $1 -- read v 0 1024 2>/dev/null | head -c 524288 | cmp -s - half || fail "other blocks are read of $1"
+    }
+    head -c 524288 bytes >half
+    still="copyback v: slot 2 (n3.img) holds the position still, and no block of the array has changed; the next copyback begins anew"
+    stand
+    for command in show assemble; do
+        ends 0 "group" "array v: slot 2 (n3.img) is a revertible spare that stands in for a lost disk; copyback v SLOT moves what it holds to the disk in SLOT" "./ddf $three -- $command"
+    done
+    # The disk that it would go to is told where it may go there.
+    ends 1 "refused 33 slot 0" "" "./ddf $three -- copyback v n0.img"
+    silent "holds the position until"
+    for disk in 0 2 3; do cp n$disk.img k$disk.img; done
+    bad n2.img BAD_WRITES 5-6 3 "disk fault slot 1" "copyback v: slot 1 (n2.img), the disk that the position goes to, couldn't be written. Give copyback v again with another disk" "$three -- copyback v n2.img"
+    says "$still"
+    reads "$three"
+    bad n0.img BAD_WRITES 34000-34815 3 "disk fault slot 0" "copyback v: the records of slot 0 (n0.img) couldn't be written. Give copyback v 1 again" "$three -- copyback v 1"
+    says "$still"
+    for slot in 0:"of slot 0 (n0.img), of what no other disk gives, or a sync of it before that, failed" 1:"a sync of slot 1 (n2.img), the disk that the position goes to, failed before anything was written"; do
+        ends 3 "disk fault slot ${slot%%:*}" "${slot#*:}" "FAULT_CALLS=sync FAULT_HOW=fails FAULT_AT=${slot%%:*} LD_PRELOAD=./faults.so ./ddf $three -- copyback v 1"
+        says "$still"
+    done
+    ends 0 "ok" "array v: slot 2 (n3.img) holds the position until a copyback to slot 1 (n2.img) is done; one begins at the first sector" "./ddf $three -- copyback v n2.img"
+    says "array v: slot 1 (n2.img) holds the position now; slot 2 (n3.img) is a spare again"
+    reads "$three"
+    reads "n0.img n2.img"
+    ends 0 "group" "" "./ddf $three -- show"
+    silent "stands in"
+    # Records that can't be written behind those of a disk that says already that the position has moved: the spare may go once assemble is through.
+    for image in n2.img:1 n3.img:2; do
+        for disk in 0 2 3; do cp k$disk.img n$disk.img; done
+        bad ${image%:*} BAD_WRITES 34000-34815 3 "disk fault slot ${image#*:}" "copyback v: a call of slot ${image#*:} (${image%:*}) failed once all was copied: some disks say by now that slot 1 (n2.img) holds the position" "$three -- copyback v 1"
+        says "that slot 2 (n3.img) does. Leave both where they are, and give assemble; once that has ended with status 0 look at show"
+        silent "holds the position still"
+        reads "$three"
+        ends 1 "refused 38" "is behind: the last change of the group isn't on each disk, and it may be that of a copyback that was cut short. Leave each disk where it is, a spare too, and give assemble" "./ddf $three -- copyback v 1"
+        ends 0 "group" "" "./ddf $three -- assemble"
+        grep -q "slot 2 size .* spare revertible" out || fail "the way out of a moved position leads to: $(cat out)"
+        reads "n0.img n2.img"
+        ends 1 "refused 38" "" "./ddf $three -- copyback v 1"
+        silent "is behind"
+    done
+    # No call of any disk is answered any more.
+    for disk in 0 2 3; do cp k$disk.img n$disk.img; done
+    ends 3 "disk fault slot" "and it can't be told now whether slot 2 holds the position or slot 1. Leave both where they are, and look at show" "FAULT_CALLS=any FAULT_HOW=gone FAULT_AT=350 LD_PRELOAD=./faults.so ./ddf $three -- copyback v 1"
+    reads "$three"
+    # The other disk of the mirror is lost too: the spare alone has its blocks. Of n2.img and n3.img they are slots 0 and 1.
+    rm n0.img
+    bad n3.img BAD_READS 800-801 3 "disk fault slot 1" "copyback v: slot 1 (n3.img) has what no other disk gives, and a read of it failed" "n2.img n3.img -- copyback v 0"
+    says "copyback v: slot 1 (n3.img) holds the position still"
+    bad n3.img BAD_READS 0-1 3 "disk fault slot 1" "copyback v: a read of slot 1 (n3.img), of what no other disk gives, or a sync of it before that, failed" "n2.img n3.img -- copyback v 0"
+    says "copyback v: slot 1 (n3.img) holds the position still"
+    ends 0 "ok" "" "./ddf n2.img n3.img -- copyback v 0"
+    reads "n2.img n3.img"
+    reads n2.img
+    echo "asking: of a copyback that ended early which call failed, where the position is, and a way that leads out"
+
     # A disk whose anchor lies before its end, and can't be read there, isn't taken for a blank one.
     grow
     bad a1.img BAD_READS 34815-34815 3 "slot 0 fault" "" "a1.img -- examine"
@@ -783,6 +848,7 @@ while read -r page heading; do
     grep -q "^##* \([0-9]\. \)*$heading$" "$top/docs/$page" || fail "docs/$page has no heading $heading"
 done <<'TEXT'
 FAILED-DISK.md A second disk fails meanwhile
+FAILED-DISK.md While a `copyback` is at work
 NEW-DISK.md A new disk
 RESCUE.md Image each disk
 STOPS.md A disk wasn't named

@@ -44,8 +44,11 @@ ddf d0.img d1.img -- create a raid5.rnc 1|1 10 11 12 13 14 15
 ddf d0.img d1.img -- create a raid5.rnc 7 |concat mirrored single spanned striped
 ddf d0.img d1.img -- create a raid5.rnc 7 single |
 ddf d0.img d1.img -- spare |d0.img d1.img
-ddf d0.img d1.img -- spare d1.img |for global off
+ddf d0.img d1.img -- spare d1.img |for global off revertible
 ddf d0.img d1.img -- spare d1.img for |
+ddf d0.img d1.img -- copyback |
+ddf d0.img d1.img -- copyback a |d0.img d1.img
+ddf d0.img d1.img -- copyback a d1.img |
 ddf d0.img d1.img -- fail |d0.img d1.img
 ddf d0.img d1.img -- fail d0.img |
 ddf d0.img d1.img -- read |

@@ -275,6 +275,31 @@ ends 0 "ok sequence 10" "" "./ddf r0.img r2.img -- rebuild v"
 [ "$(cksum r0.img r2.img)" = "$sum" ] || fail "an image was written to though there was nothing to rebuild"
 echo "edge: a spare is filled in the place of a disk that was left out of the words"
 
+# A revertible spare gives its place back to a new disk.
+truncate -s 32M c0.img c1.img c2.img c3.img
+ends 0 "ok sequence 1" "" "./ddf c0.img c1.img c2.img c3.img -- label"
+ends 0 "ok sequence 2" "" "./ddf c0.img c1.img c2.img c3.img -- create v raid1 3 single 0,1@4096"
+ends 0 "ok sequence 3" "" "./ddf c0.img c1.img c2.img c3.img -- resync v"
+ends 0 "ok sequence 5" "" "./ddf c0.img c1.img c2.img c3.img -- write v 0 2048 <bytes"
+ends 0 "ok sequence 6" "slot 2 (c2.img) is a revertible spare for all arrays now" "./ddf c0.img c1.img c2.img c3.img -- spare c2.img revertible"
+ends 2 "refused 10 word 7" "a slot's number from 0 to 63, or its image" "./ddf c0.img c1.img c2.img c3.img -- copyback v x"
+ends 1 "refused 38" "No position of the array is held by a revertible spare" "./ddf c0.img c1.img c2.img c3.img -- copyback v c3.img"
+ends 0 "ok sequence 10" "" "./ddf c0.img c2.img c3.img -- rebuild v"
+for command in show assemble; do
+    ends 0 "group" "array v: slot 1 (c2.img) is a revertible spare that stands in for a lost disk; copyback v SLOT moves what it holds" "./ddf c0.img c2.img c3.img -- $command"
+done
+ends 1 "refused 33" "The disk in the slot is a spare, or the array lies on it" "./ddf c0.img c2.img c3.img -- copyback v c0.img"
+! grep -q "holds the position" err || fail "said $(cat err) of a disk that the position can't go to"
+ends 0 "ok sequence 11" "array v: slot 1 (c2.img) holds the position until a copyback to slot 2 (c3.img) is done" "./ddf c0.img c2.img c3.img -- copyback v c3.img"
+grep -q "slot 2 (c3.img) holds the position now; slot 1 (c2.img) is a spare again" err || fail "said $(cat err), and not which image holds the position"
+./ddf c3.img -- read v 0 2048 2>/dev/null | cmp - bytes || fail "a position that went back holds other bytes than those that were written"
+ends 1 "refused 38" "No position of the array is held by a revertible spare" "./ddf c0.img c2.img c3.img -- copyback v c3.img"
+! grep -q "is behind\|is absent" err || fail "said $(cat err), where all disks have the last change"
+ends 1 "refused 38" "a member of the group is absent, and it may be the one that holds the position" "./ddf c0.img c3.img -- copyback v c3.img"
+ends 0 "group" "" "./ddf c0.img c2.img c3.img -- show"
+! grep -q "stands in" err || fail "said $(cat err), and no spare stands in"
+echo "edge: a revertible spare gives its place back to a new disk"
+
 # Disks for Linux.
 silent_on_linux() {
     case $(cat err) in *Linux*) fail "said $(cat err), where nothing is to be said of Linux" ;; esac

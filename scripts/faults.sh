@@ -150,7 +150,7 @@ is_told() {
 is_whole_or_short() {
     if [ "$status" = 0 ] && [ "$told" = "ok sequence $((after + 2))" ]; then
         [ "$(sequence)" = $((after + 2)) ] || fail "ok was printed, and is gone: $1"
-        [ "$(grep -c "^member .* slot " out)" = "$(($(echo $images | wc -w) - 1))" ] || fail "other members are lost than the one that failed: $1"
+        [ "$(grep -c "^member .* slot " out)" = "$(($(echo $images | wc -w) - 1 - lost))" ] || fail "other members are lost than the one that failed: $1"
         are_blocks_right || fail "a block has other bytes than old or new ones: $1"
     else
         is_whole "$1"
@@ -343,6 +343,54 @@ try_rebuild() {
     try_syncs rebuild v
 }
 
+# A copyback that a write or a sync ended which failed says which disk holds the position: that one does once the group is assembled, and it has all blocks by itself.
+is_told_back() {
+    case $(cat err) in
+    *"slot 2 (c.img) holds the position still"*) place=10 ;;
+    *"say by now that slot 3 (d.img) holds the position"*"give assemble"*) place=11 ;;
+    *) fail "it isn't told where the position is: $1" ;;
+    esac
+    is_told "$1"
+    [ "$now" = "$place" ] || fail "the position isn't where it was said to be: $1"
+    holds_alone
+}
+
+# The disk that holds the position has all blocks by itself.
+holds_alone() {
+    if [ "$now" = 11 ]; then last=d.img; else last=c.img; fi
+    ends 0 "" $last -- read v 0 128
+    cmp -s out blocks_of_group || fail "$last hasn't the blocks of the position that it holds"
+}
+
+# A copyback that was stopped is given again before anything else: it is done, or refused. Where not all disks have its change then that is told, and assemble makes it sure.
+is_given_again() {
+    runs $images -- copyback v d.img
+    case $status$(cat out) in "0ok sequence 11" | "1refused 38 no stand-in") ;; *) fail "given again: $1" ;; esac
+    cp err again
+    ends 0 "group" $images -- show
+    ! grep -q " behind$" out || grep -q "is behind: the last change of the group isn't on each disk.*give assemble" again || fail "it said $(cat again), and a disk is behind: $1"
+    now=$(sequence)
+    [ "$now" = 11 ] || fail "sequence $now: $1"
+    holds_alone
+}
+
+# A revertible spare stands in for a disk of a mirror, and a new disk gets what it holds.
+try_copyback() {
+    images="a.img b.img c.img d.img" named='' other='' lost=1
+    new_group
+    ends 0 "ok sequence 6" $images -- spare c.img revertible
+    ends 0 "ok sequence 8" $images -- fail b.img
+    ends 0 "ok sequence 10" $images -- rebuild v
+    keep
+    after=11 numbers="10 11"
+    try_command copyback v d.img
+    try_syncs copyback v d.img
+    each_call write fails is_told_back copyback v d.img
+    for how in kill cut-none cut-second; do
+        each_call any $how is_given_again copyback v d.img
+    done
+}
+
 # holds FILE: the array has the blocks of this file, over the image with bad sectors that is tried.
 holds() {
     over_bad "$bad" BAD_READS "$range" 0 "" $images -- read v 0 "$blocks"
@@ -488,5 +536,6 @@ try_sizes
 try_file_system
 try_import
 try_rebuild
+try_copyback
 try_beside
 all_tried faults

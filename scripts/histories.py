@@ -1,8 +1,9 @@
 #!/usr/bin/env python3
 """Plays random histories of two groups over disks in memory, one of which joins the other by an import: commands that are stopped or meet failing writes, losses and returns of
-disks, stops that keep some of the writes that no sync made sure. Of half of them some disks have bad sectors under their arrays, which lie at spare places. Behind each it looks whether what the program promises holds: what was acknowledged is there
-(promise:acknowledged), the groups are assembled, the import has happened or it hasn't (promise:joined), and each block of both groups has its last
-acknowledged bytes, or the old or new ones of a write that was cut short (promise:read).
+disks, stops that keep some of the writes that no sync made sure. Of half of them some disks have bad sectors under their arrays, which lie at spare places. Behind each it looks
+whether what the program promises holds: what was acknowledged is there (promise:acknowledged), the groups are assembled, the import has happened or it hasn't (promise:joined), each
+block of both groups has its last acknowledged bytes, or the old or new ones of a write that was cut short (promise:read), and positions lie on the disks that rebuilds and copybacks
+put them on, the spares being those that they leave (promise:returned): so the arrays are told to be as they are, a copyback is answered as it should be, and blocks are read short of a disk.
 
     scripts/histories.py [COUNT [SEED]]
 
@@ -16,9 +17,11 @@ import tempfile
 from collections import Counter
 from dataclasses import dataclass
 
+from positions import Layout
+
 TOP = os.path.dirname(os.path.dirname(os.path.abspath(__file__)))
 RIG = os.path.abspath(os.environ.get("DDF_RIG", f"{TOP}/crates/ddf_rig/out/ddf_rig"))
-DISKS = 7
+DISKS = 8
 LOOK = 15 * DISKS
 READS = DISKS + LOOK
 KEEPS = ["none", "all", "second", "-+", "+--", "--+", "++-"]
@@ -48,13 +51,16 @@ class Group:
         return self.slots[place] if 0 <= place < len(self.slots) else None
 
 
-LARGE = Group(6, 7, (0, 1, 2, 3, 4), {"m": 4, "p": 6, "s": 8, "t": 4},
+LARGE = Group(6, 7, (0, 1, 2, 3, 4, 7), {"m": 4, "p": 6, "s": 8, "t": 4},
               ("create m raid1 0 single 0,1@4", "accept m", "create p PARITY 0 single 1,2,3@3", "accept p", "create s raid0 1 single 0,2@4",
-               "create t raid1 0 striped 0,1@2 2,3@2", "accept t", "spare 4 global"))
+               "create t raid1 0 striped 0,1@2 2,3@2", "accept t", "spare 4 SPARE"))
 PAIR = Group(40, 9, (5, 6), {"q": 4, "u": 3}, ("create q raid1 0 single 5,6@4", "accept q", "create u jbod 0 single 6@3"))
 SINGLE = Group(40, 9, (5,), {"u": 3}, ("create u jbod 0 single 5@3",))
-# The one disk that no array lies on for good: an import takes it off the list once it is missing.
-UNUSED = 4
+# Disks that no array is created on, and those that others may be moved from: an import takes such a one off the list once it is missing.
+UNUSED = {4, 7}
+LEAVING = {1, 3, 4, 7}
+# The arrays that can do without a disk, and the disks that they are created on.
+LIES = {"m": {0, 1}, "p": {1, 2, 3}, "t": {0, 1, 2, 3}, "q": {5, 6}}
 
 
 class Maker:
@@ -75,7 +81,7 @@ class Maker:
     def command(self, group: Group, words: str):
         if words.startswith("create"):
             self.say(group.stamp(), "still")
-        self.say(f"$ @{group.guid()} {words}", "command", words.split(), group)
+        self.say(f"$ @{group.guid()} {words}", "command", words.split(), group, frozenset(self.lost | self.gone))
 
     def stop(self, how: str = ""):
         self.say(f"% stop {self.chance.choice(KEEPS)}{how}", "stop")
@@ -92,11 +98,12 @@ class Maker:
         for group in (LARGE, self.host if self.guest is LARGE else self.guest):
             kind = self.chance.choice(["linux ", ""] if size == "131072" else [""])
             self.say(group.stamp(), "still")
-            self.say(f"$ label {kind}" + " ".join(map(str, group.slots)), "command", ["label"], group)
+            self.say(f"$ label {kind}" + " ".join(map(str, group.slots)), "command", ["label"], group, frozenset())
             if has_logs:
                 self.log(group, int(size), kind)
             for words in group.made:
-                self.command(group, words.replace("PARITY", self.chance.choice(PARITY)))
+                kind = self.chance.choice(["revertible", "revertible", "global"])
+                self.command(group, words.replace("PARITY", self.chance.choice(PARITY)).replace("SPARE", kind))
         self.look()
 
     def log(self, group: Group, size: int, kind: str):
@@ -141,7 +148,7 @@ class Maker:
 
     def words(self, group: Group) -> str:
         """A command that may write."""
-        kinds = ["write"] * 5 + ["resync"] * 4 + ["rebuild"] * 3 + ["create", "delete", "spare", "assemble", "assemble"]
+        kinds = ["write"] * 5 + ["resync"] * 4 + ["rebuild"] * 4 + ["copyback"] * 3 + ["create", "delete", "spare", "spare", "assemble", "assemble"]
         kind = self.chance.choice(kinds + ["fail"] * (self.chance.random() < 0.3))
         blocks, slots = self.blocks_of(group), self.slots_of(group)
         if kind == "write":
@@ -154,11 +161,13 @@ class Maker:
             return f"{kind} {self.chance.choice([name for name in blocks if name in 'mptq'] or ['u'])}"
         if kind == "create":
             self.made += 1
-            return f"create o{self.made} jbod 0 single {self.chance.choice([slot for slot in slots if slot != UNUSED])}@2"
+            return f"create o{self.made} jbod 0 single {self.chance.choice([slot for slot in slots if slot not in UNUSED])}@2"
         if kind == "delete":
             return f"delete o{max(1, self.made)}"
         if kind == "spare":
-            return f"spare {self.chance.choice(slots)} {self.chance.choice(['global', 'off', 'for m', 'for p t', 'for q'])}"
+            return f"spare {self.chance.choice(slots)} {self.chance.choice(['revertible', 'revertible', 'global', 'off', 'for m', 'for p t', 'for q'])}"
+        if kind == "copyback":
+            return f"copyback {self.chance.choice([name for name in blocks if name in 'mptq'] or ['u'])} {self.chance.choice(slots)}"
         if kind == "fail":
             slot = self.chance.choice(slots)
             self.failed.add(slot)
@@ -181,13 +190,46 @@ class Maker:
         if fault or self.chance.random() < 0.3:
             self.stop()
 
+    def go_back(self):
+        """A disk is lost, a spare takes its place in an array, most often a revertible one, and then the position goes to another disk, where it can."""
+        group = self.host if self.is_asked else LARGE
+        spare, goal = self.chance.sample([4, 7], 2)
+        if self.chance.random() < 0.8:
+            self.command(group, f"spare {spare} revertible")
+        self.lose(self.chance.choice([0, 1, 2, 3]) if self.chance.random() < 0.8 else None)
+        self.look()
+        out = self.lost | self.noted | self.failed
+        name = self.chance.choice([name for name in LIES if name in self.blocks_of(group) and LIES[name] & out] or ["m"])
+        goal = goal if self.chance.random() < 0.7 else self.chance.choice(self.slots_of(group))
+        for words, is_cut in ((f"rebuild {name}", 0.3), (f"copyback {name} {goal}", 0.6)):
+            fault = self.chance.random() < is_cut and self.fault(READS, [25, 60, 120, 200, 250])
+            self.command(group, words)
+            if fault or self.chance.random() < 0.3:
+                self.stop()
+            self.look()
+        if self.chance.random() < 0.7:
+            self.look_short(group)
+
+    def look_short(self, group: Group):
+        """What is read of a group that is assembled, short of one more of its disks."""
+        if self.chance.random() < 0.5:
+            self.stop()
+        self.command(group, "assemble")
+        slot = self.chance.choice([slot for slot in self.slots_of(group) if slot not in self.lost | self.gone])
+        self.unplug({slot}, "still")
+        for name, count in self.blocks_of(group).items():
+            self.say(f"$ @{group.guid()} read {name} 0 {count}", "short", group, name, frozenset(self.lost | self.gone | {slot}))
+        self.say("% stop all", "still")
+        self.unplug(self.lost | self.gone, "still")
+
     def join(self):
         """The import, perhaps with a disk away, which is stopped, fails or is done. A disk that it may take off the list is taken out for good."""
         if self.chance.random() < 0.3:
             self.lose()
-        if UNUSED in self.host.slots and UNUSED in (self.lost | self.noted | self.failed) - self.gone:
-            self.gone.add(UNUSED)
-            self.unplug({UNUSED}, "lost")
+        leaving = LEAVING & {*self.host.slots} & (self.lost | self.noted | self.failed) - self.gone
+        if leaving:
+            self.gone |= leaving
+            self.unplug(leaving, "lost")
         fault = self.fault(READS + LOOK, [10, 60, 160, 240, 350])
         self.give_import(bool(fault))
         if fault:
@@ -207,10 +249,10 @@ class Maker:
         self.is_asked = True
         self.say(f"$ @{self.host.guid()} import {self.guest.guid()}", "import", may_fail, frozenset(self.lost | self.gone))
 
-    def lose(self):
-        """A disk is lost."""
-        group = self.chance.choice([self.host, self.guest])
-        slot = self.chance.choice(group.slots)
+    def lose(self, slot: int | None = None):
+        """A disk is lost, this one of the large group or any."""
+        group = self.chance.choice([self.host, self.guest]) if slot is None else LARGE
+        slot = self.chance.choice(group.slots) if slot is None else slot
         away = self.lost | self.noted | self.failed | self.gone
         if len(away & set(group.slots)) < len(group.slots) // 2 and slot not in away:
             self.lost.add(slot)
@@ -242,7 +284,7 @@ class Maker:
         steps = self.chance.randint(6, 14)
         asked = self.chance.randrange(steps)
         for step in range(steps):
-            kinds = [self.act] * 8 + [self.lose, self.give_back] + [self.join] * (3 * self.is_asked)
+            kinds = [self.act] * 8 + [self.go_back] * 3 + [self.lose, self.give_back] + [self.join] * (3 * self.is_asked)
             (self.join if step == asked else self.chance.choice(kinds))()
             self.look()
         self.end()
@@ -260,6 +302,9 @@ class Judge:
         self.state, self.risky = {host: {}, guest: {}}, {host: False, guest: False}
         self.missing, self.back, self.apart = set(), set(), set()
         self.byte, self.told = 0, ""
+        # Where the positions of each group may lie, those that the last look told of, and the groups that were looked at since anything happened.
+        self.layouts = {group: {Layout(group.slots)} for group in (host, guest)}
+        self.now, self.fresh, self.whole, self.is_sure = dict(self.layouts), set(), set(), True
         # Whether the group that goes on is told to have the other one's disks, where that is known, and whether it is for good: since that is acknowledged, or as long as no disk is lost.
         self.is_in, self.is_asked = False, False
         self.is_known, self.is_settled = True, True
@@ -282,9 +327,15 @@ class Judge:
         return getattr(self, f"see_{kind[0]}", lambda *_: None)(*kind[1:])
 
     def see_stop(self):
-        self.is_known, self.is_settled = False, True
+        self.is_known, self.is_settled, self.is_sure = False, True, False
+        self.unsettle()
+
+    def unsettle(self):
+        """What was looked at may be otherwise since: a write that no sync made sure is gone, or a disk is."""
+        self.now, self.fresh = dict(self.layouts), set()
 
     def see_lost(self):
+        self.unsettle()
         self.risky = {self.host: True, self.guest: True}
         self.is_known = self.stays_in = False
 
@@ -292,8 +343,12 @@ class Judge:
         self.back |= slots
         self.apart |= slots
         self.is_known = False
+        self.unsettle()
 
-    def see_command(self, words, group):
+    def see_command(self, words, group, away):
+        wrong = self.see_copyback(words, group, away) if words[0] == "copyback" and group in self.fresh else None
+        if wrong or (wrong := self.see_change(words, group, away)):
+            return wrong
         self.is_known = self.is_settled = False
         if words[0] == "fail":
             self.risky = {self.host: True, self.guest: True}
@@ -310,6 +365,31 @@ class Judge:
         if words[0] == "write" and words[1] in self.allowed and self.status != 1:
             self.write(words[1], int(words[2]), int(words[3]))
         return None
+
+    def see_copyback(self, words, group, away):
+        """A copyback that nothing cut short is answered as it should be where the group was looked at before."""
+        marked = self.state[group].get(words[1], ("", False))[1]
+        wanted = {layout.refusal_of_copyback(words[1], int(words[2]), away, marked) or "ok sequence" for layout in self.now[group]}
+        self.met["copybacks looked at"] += 1
+        if self.status != 4 and not any(self.text.startswith(one) for one in wanted):
+            return f"a copyback isn't answered as {' or '.join(sorted(wanted))}"
+        return None
+
+    def see_change(self, words, group, away):
+        """What a command made of the places of positions: where it was cut short some of it, or nothing."""
+        self.whole.discard(group)
+        if self.status not in (0, 3) or words[0] == "label":
+            return None
+        before = self.now[group]
+        if self.status == 0:
+            self.layouts[group] = {made[-1] for layout in before if (made := layout.after(words, away))}
+            self.whole.add(group)
+            self.met["copybacks done"] += words[0] == "copyback"
+        else:
+            self.layouts[group] = self.layouts[group] | {one for layout in before for one in [layout.lost(away), *layout.after(words, away)]}
+            self.met["copybacks cut short"] += words[0] == "copyback"
+        self.unsettle()
+        return None if self.layouts[group] else "a command is done that can't be"
 
     def acknowledge(self, group):
         found = int(re.search(r"sequence (\d+)", self.text)[1])
@@ -328,6 +408,7 @@ class Judge:
         was_in = self.is_in if self.is_known else None
         self.is_asked, self.is_known, self.is_settled = True, False, False
         self.met["given again"] += was_in is False and not may_fail and self.status == 0
+        self.see_joining(may_fail, away)
         if self.status == 0:
             self.must_be_in = True
             self.missing |= away
@@ -341,6 +422,53 @@ class Judge:
             return "an import that hasn't happened isn't done"
         return None
 
+    def see_joining(self, may_fail, away):
+        """What an import made of the places of positions."""
+        self.whole.discard(self.host)
+        made = {one.lost(away).joined(other.lost(away)) for one in self.now[self.host] for other in self.now[self.guest] if not {*self.guest.slots} & {*one.members}}
+        if self.status == 0:
+            self.layouts[self.host] = made
+        elif self.status == 3:
+            self.layouts[self.host] = self.layouts[self.host] | made | {one.lost(away) for one in self.now[self.host]}
+        self.unsettle()
+
+    def see_layout(self, group, members, lost, is_acknowledged):
+        """Whether spares and arrays are told as they are. Of what nothing has acknowledged more than one may be on the disks."""
+        told = {slot: member[3] for slot, member in members.items() if member[2]}
+        matching = {layout for layout in self.layouts[group] if self.is_told(layout, group, members, told, lost)}
+        if not matching:
+            return f"spares or arrays are told otherwise than as {self.layouts[group]}"
+        self.now[group], self.is_sure = matching, True
+        self.fresh.add(group)
+        if is_acknowledged:
+            self.layouts[group] = matching
+        self.met["looks at spares"] += 1
+        return None
+
+    def is_told(self, layout, group, members, told, lost):
+        if bool({*self.guest.slots} & {*layout.members}) != bool({*self.guest.slots} & members.keys()) and group is self.host:
+            return False
+        for slot, text in told.items():
+            use = layout.use(slot)
+            word = re.search(r"spare (\w+)", text)
+            if (word[1] if word else None) != ("dedicated" if isinstance(use, tuple) else use):
+                return False
+        if {*re.findall(r"^array (\S+)", self.text, re.M)} != {name for name, _ in layout.arrays}:
+            return False
+        return all(layout.state(name, lost) == self.state[group][name][0] for name, _ in layout.arrays if name in self.state[group])
+
+    def see_short(self, group, name, away):
+        """Blocks are there without one disk more, where the array can do without it. Parity counts only where it is known that nothing is marked."""
+        layouts = [layout for layout in self.layouts[group] if layout.array(name)]
+        if group not in self.whole or name not in self.allowed or self.status == 4 or not layouts or len(layouts) != len(self.layouts[group]):
+            return None
+        if name not in self.state[group] or any(layout.state(name, away) == "failed" for layout in layouts):
+            return None
+        if name == "p" and (self.state[group][name][1] or not self.is_sure):
+            return None
+        self.met["reads short of a disk"] += 1
+        return self.see_blocks(name) if self.status == 0 else "blocks that are promised aren't told short of a disk"
+
     def see_show(self, group, lost):
         if group is self.guest and self.is_in is not False:
             return None
@@ -353,7 +481,8 @@ class Judge:
         members = {self.slot_of(member): member for line in self.text.splitlines() if (member := MEMBER.match(line))}
         is_acknowledged = sequence <= self.acknowledged[group]
         wrong = self.see_joined(members, is_acknowledged) if group is self.host else None
-        return wrong or self.see_members(group, members, lost, is_acknowledged) or self.see_arrays(group)
+        wrong = wrong or self.see_members(group, members, lost, is_acknowledged) or self.see_arrays(group)
+        return wrong or self.see_layout(group, members, lost, is_acknowledged)
 
     def slot_of(self, member) -> int | None:
         return next((slot for group in (self.host, self.guest) if (slot := group.slot_of(int(member[1], 16))) is not None), None)
@@ -373,7 +502,7 @@ class Judge:
 
     def see_members(self, group, members, lost, is_acknowledged):
         both = {*self.host.slots, *self.guest.slots} if group is self.host and self.is_in else {*group.slots}
-        if not both - {UNUSED} <= members.keys() or not members.keys() <= both:
+        if not both - LEAVING <= members.keys() or not members.keys() <= both:
             return "other members are listed than the group has"
         for slot, member in members.items():
             if member[4] == "absent" and slot not in lost:
@@ -486,6 +615,8 @@ def main() -> None:
     print(f"histories: {count} of seed {seed}, {met['answers looked at']} answers looked at, {met['contradictions']} contradictions, {broken} broke a promise")
     print(f"histories: of imports that were cut short {met['happened']} had happened, {met['undone by a loss']} of which a loss undid, and {met['given again']} were given again; "
           f"{met['done with disks away']} were done with disks away")
+    print(f"histories: {met['copybacks done']} copybacks were done and {met['copybacks cut short']} cut short, {met['copybacks looked at']} answers to them, {met['looks at spares']} groups "
+          f"and {met['reads short of a disk']} reads short of a disk more were as the model has them")
     sys.exit(broken > 0)
 
 

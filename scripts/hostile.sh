@@ -13,7 +13,7 @@ trap 'rm -rf "$work"' EXIT
 cd "$work"
 
 # Folders of crates/ddf_rig/data whose scenarios have ranges with steps, and those beside them.
-folders='calls|block-calls|import-calls|bad-bytes|pieces|logs'
+folders='calls|block-calls|import-calls|copyback|bad-bytes|pieces|logs'
 
 # Builds what plays scenarios, where it isn't there.
 rig=${DDF_RIG:-$top/crates/ddf_rig/out/ddf_rig}
@@ -139,6 +139,7 @@ try_memory() {
     refuse delete other
     refuse spare 3 for vol
     refuse spare 3 global
+    refuse spare 3 revertible
     group=$(group_of a.img) other=$(group_of e.img)
     named="a.img b.img c.img d.img e.img"
     refuse "@$group" import "$other"
@@ -147,6 +148,7 @@ try_memory() {
     refuse read vol 0 18
     refuse rebuild vol
     refuse assemble
+    refuse copyback vol e.img
     refuse rebuild vol
     refuse fail d.img
     named="a.img d.img e.img"

@@ -24,7 +24,7 @@ WIDTH = 98
 # a number whose causes go by kinds of disks, and not by the command; the last row stands for all of them
 KINDS = {"39"}
 # a number that no command gives yet: it has its line, and no row
-NOT_GIVEN = {"37", "38"}
+NOT_GIVEN = {"37"}
 
 
 def stop(why: str) -> NoReturn:

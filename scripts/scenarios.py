@@ -27,7 +27,7 @@ DATA = RIG / "data"
 PAGE = TOP / "docs/SCENARIOS.md"
 LONGEST, WIDTH, DEPTH, NAMED = 120, 98, 3, 6
 WRONG = "wrong.txt"  # its answers are wrong on purpose
-COMMANDS = ("examine", "label", "assemble", "show", "create", "delete", "spare", "fail", "accept", "read", "scrub", "resync", "write", "rebuild", "import", "batch")
+COMMANDS = ("examine", "label", "assemble", "show", "create", "delete", "spare", "fail", "accept", "read", "scrub", "resync", "write", "rebuild", "copyback", "import", "batch")
 FOLDERS = {
     "": "How scenarios are written",
     "words": "Words of calls",
@@ -46,6 +46,7 @@ FOLDERS = {
     "write": "`write`",
     "pieces": "`read` and `write` of several pieces",
     "rebuild": "`rebuild`",
+    "copyback": "`copyback`",
     "import": "`import`",
     "batch": "`batch`",
     "outputs": "Outputs that fail",
