@@ -1,5 +1,5 @@
 -- How many blocks an array can hold.
-use Rattle.std.proofs.Common.{◌≡◌, ℕ, ◌+◌, ◌*◌, ◌^◌, ◌/◌, ◌<◌, ◌≤◌, Bool, true, false, ◌&&◌, ◌||◌, eqb, List, [], ◌∷◌, length, get_or, filter_map, Option, Some, None, Result, Ok, Err, refl, ap, subst, ◌∙◌, option_map, option_and_then, if◌then◌else◌, nat_le, arith, rules, lit≤}
+use Rattle.std.proofs.Common.{◌≡◌, ℕ, ◌*◌, ◌^◌, ◌<◌, ◌≤◌, Bool, true, false, ◌&&◌, eqb, List, [], ◌∷◌, length, get_or, filter_map, Option, Some, None, Result, Ok, Err, refl, ap, subst, ◌∙◌, option_map, option_and_then, if◌then◌else◌, nat_le, arith, rules, lit≤}
 use borrow.Author.Tests.{tests, leb-true}
 use Rattle.std.specs.List.{AllByRecursion, cons_option}
 use Rattle.std.specs.Result.{result_ok}

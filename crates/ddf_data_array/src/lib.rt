@@ -10,6 +10,7 @@ pub use laws::{
     a_rebuilt_position_may_be_in_sync, a_resync_keeps_what_the_array_keeps,
     a_whole_array_is_consistent_once_redundant, a_write_keeps_what_the_array_keeps,
     an_array_keeps_its_data_at_every_moment, an_array_without_rows_keeps_them,
-    fewer_places_change_nothing, other_sectors_change_nothing, rows_behind_others_are_set,
-    rows_that_are_set_may_count, whatever_a_new_array_holds_is_any_bytes,
+    an_available_position_holds_what_it_should, fewer_places_change_nothing,
+    other_sectors_change_nothing, rows_behind_others_are_set, rows_that_are_set_may_count,
+    whatever_a_new_array_holds_is_any_bytes,
 };

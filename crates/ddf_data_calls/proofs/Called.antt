@@ -3,7 +3,7 @@ use Rattle.std.proofs.Common.{◌≡◌, ◌⊎◌, ◌∙◌, inl, inr, ⊎_eli
 use Rattle.std.specs.Prelude.{option_to_list, slice_get}
 use Rattle.ddf_bay.specs.Moments.{StopsLeave}
 use Rattle.ddf_bay.specs.Sectors.{Image, IsLeft}
-use Rattle.ddf_bay.specs.State.{BayState, on_slot, size_of}
+use Rattle.ddf_bay.specs.State.{BayState, size_of}
 use Rattle.ddf_config.specs.declared.seat.Seat.{Seat}
 use Rattle.ddf_config.specs.Configuration.{Configuration}
 use Rattle.ddf_copy.specs.declared.newest_copy.Newest.{Newest}
@@ -24,7 +24,6 @@ use Rattle.ddf_assembly.specs.Slots.{newest_from}
 use Rattle.ddf_steps.specs.Steps.{Step}
 use Rattle.ddf_history_steps.specs.Going.{Ends, Goes, IsAdmitted, KeepsHistory, changes_in}
 use Rattle.ddf_history_steps.specs.Kept.{AreAllKept, is_read}
-use Rattle.ddf_history_steps.proofs.Claimed as claims
 use Rattle.ddf_data_history.specs.Carried.{CarriesData, IsAllData, Stays}
 use Rattle.ddf_data_history.specs.Promised.{KeepsData, SameBelow, seats_in}
 use Rattle.ddf_data_history.proofs.Steps.{below_floors}

@@ -6,9 +6,10 @@ mod laws;
 
 pub use block_laws::{
     a_call_that_only_reads_keeps_its_history_and_its_data,
-    a_rebuild_keeps_its_history_and_its_data, a_resync_keeps_its_history_and_its_data,
-    a_resynced_array_counts_with_what_it_holds, a_write_keeps_its_history_and_its_data,
-    a_write_without_its_bytes_only_reads, an_accepted_array_counts_with_what_it_holds,
+    a_copyback_keeps_its_history_and_its_data, a_rebuild_keeps_its_history_and_its_data,
+    a_resync_keeps_its_history_and_its_data, a_resynced_array_counts_with_what_it_holds,
+    a_write_keeps_its_history_and_its_data, a_write_without_its_bytes_only_reads,
+    an_accepted_array_counts_with_what_it_holds,
 };
 pub use laws::{
     a_call_keeps_its_history_and_its_data, a_call_on_other_disks_keeps_the_data,

@@ -1,5 +1,4 @@
 -- What every bay tells.
-use Rattle.std.proofs.Common.{ℕ}
 use Rattle.ddf_bay.specs.Sectors.{Image, IsLeft}
 use Rattle.ddf_bay.specs.State.{BayState}
 use Rattle.ddf_bay.specs.Told.{IsTold}

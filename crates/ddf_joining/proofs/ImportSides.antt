@@ -9,7 +9,7 @@ use Rattle.ddf_config.specs.declared.refusal.Refusal.TheVariants.{Full, NoGroup}
 use Rattle.ddf_config.specs.Configuration.{Configuration}
 use Rattle.ddf_config.specs.Refusals.{first_refusal, refuse_if}
 use Rattle.ddf_plan.specs.declared.change.Change.TheVariants.{Lose}
-use Rattle.ddf_plan.specs.Changes.{changed, changed_at}
+use Rattle.ddf_plan.specs.Changes.{changed_at}
 use Rattle.ddf_import.specs.Joined.{without_lost}
 use Rattle.ddf_rewrite.specs.Hold.{IsHoldable}
 use Rattle.ddf_rewrite.specs.Wanted.{all_wanted}

@@ -1,5 +1,5 @@
 -- The cells of the blocks of one strip lie side by side.
-use Rattle.std.proofs.Common.{◌≡◌, ◌∙◌, ℕ, ◌+◌, ◌-◌, ◌*◌, ◌/◌, ◌%◌, ◌<◌, ◌≤◌, List, Some, length, slice_get, get_or, refl, sym, ap, arith}
+use Rattle.std.proofs.Common.{◌≡◌, ◌∙◌, ℕ, ◌+◌, ◌-◌, ◌*◌, ◌/◌, ◌%◌, ◌<◌, List, Some, length, slice_get, get_or, refl, sym, ap, arith}
 use Rattle.std.proofs.lemmas.Option.{some_pair_parts, slice_get-get_or}
 use Rattle.ddf_primary.specs.declared.layout.Layout.{Layout}
 use Rattle.ddf_primary.specs.declared.layout.Layout.TheVariants.{Raid0, Raid1, Parity, Jbod, Concatenation, Mirror}

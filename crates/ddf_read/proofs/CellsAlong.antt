@@ -1,5 +1,5 @@
 -- The cells of the blocks of one strip lie side by side.
-use Rattle.std.proofs.Common.{◌≡◌, ℕ, ◌+◌, ◌-◌, ◌%◌, ◌≤◌, Some, length, slice_get, get_or, arith}
+use Rattle.std.proofs.Common.{◌≡◌, ℕ, ◌+◌, ◌%◌, ◌≤◌, Some, length, slice_get, get_or, arith}
 use Rattle.std.proofs.lemmas.Option.{slice_get-get_or}
 use Rattle.ddf_primary.specs.Levels.{IsShape}
 use Rattle.ddf_primary.specs.Cells.{cells, columns_by}

@@ -1,5 +1,5 @@
 -- What a look couldn't read, where more reads failed.
-use Rattle.std.proofs.Common.{◌⊎◌, inl, inr, ⊎_elim, ℕ, ◌+◌, Some}
+use Rattle.std.proofs.Common.{inl, inr, ⊎_elim, ℕ, ◌+◌, Some}
 use Rattle.ddf_array.specs.Sources.{sources}
 use Rattle.ddf_array.specs.Volume.{Volume}
 use Rattle.ddf_read.proofs.Tries.{NotRead-wider, Within}

@@ -1,9 +1,9 @@
 -- What a call asks for of a slot as it is seen, it may ask for of the slot below.
-use Rattle.std.proofs.Common.{◌≡◌, ◌<◌, ◌≤◌, ℕ, ◌+◌, ◌-◌, List, true, false, length, sym, ◌∙◌, arith}
+use Rattle.std.proofs.Common.{◌≡◌, ◌<◌, ◌≤◌, ℕ, ◌+◌, ◌-◌, List, true, false, length, arith}
 use Rattle.std.specs.Prelude.{slice_index}
 use Rattle.ddf_shortened.specs.declared.ends.SlotEnd.{SlotEnd}
 use Rattle.ddf_shortened.specs.SlotEnds.{end_at, is_early}
-use Rattle.ddf_shortened.specs.Sizes.{seen_sizes, seen_index, seen_length, seen_small, size_if}
+use Rattle.ddf_shortened.specs.Sizes.{seen_sizes, seen_index, seen_length, seen_small}
 
 module _ (ends : List SlotEnd) (sizes : List ℕ) (s : ℕ) where
   pub slot_below : s < length (seen_sizes ends sizes) → s < length sizes

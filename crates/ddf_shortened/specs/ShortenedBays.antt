@@ -1,5 +1,5 @@
 -- What a bay whose slots may end early tells of them.
-use Rattle.std.specs.Prelude.{◌≡◌, ◌⊎◌, ◌≤◌, ℕ, Bool, List}
+use Rattle.std.specs.Prelude.{◌≡◌, ◌≤◌, ℕ, Bool, List}
 use Rattle.ddf_bay.specs.State.{BayState}
 use Rattle.ddf_bay.specs.Moments.{StopsLeave}
 use Rattle.ddf_shortened.specs.declared.shortened.Shortened.{Shortened}

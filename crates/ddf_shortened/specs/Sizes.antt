@@ -1,6 +1,6 @@
 -- The sizes of slots, as they are seen.
 use Rattle.std.specs.Prelude.{◌≡◌, ◌≤◌, ℕ, zero, suc, ◌-◌, Bool, true, false, if◌then◌else◌, List, [], ◌∷◌, length, slice_index}
-use Rattle.std.proofs.Common.{refl, ap, arith}
+use Rattle.std.proofs.Common.{refl, arith}
 use Rattle.ddf_shortened.specs.declared.ends.SlotEnd.{SlotEnd}
 use Rattle.ddf_shortened.specs.SlotEnds.{end_at, is_early}
 

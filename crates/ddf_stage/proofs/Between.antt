@@ -1,5 +1,5 @@
 -- Two things that are done one after the other, with a sync behind each: what a stop on the way leaves.
-use Rattle.std.proofs.Common.{◌≡◌, ◌∙◌, ◌⊎◌, inl, ⊎_elim, ℕ, ◌+◌, ◌<◌, ◌≤◌, List, [], ◌∷◌, sym, arith}
+use Rattle.std.proofs.Common.{◌∙◌, inl, ⊎_elim, ℕ, List, [], ◌∷◌, sym, arith}
 use Rattle.ddf_bay.specs.Sectors.{Image, Outcomes, IsLeft}
 use Rattle.ddf_bay.specs.State.{BayState}
 use Rattle.ddf_bay.specs.Moments.{IsSettled, StopsLeave}

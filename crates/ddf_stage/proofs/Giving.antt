@@ -1,5 +1,5 @@
 -- Calls that give sectors bytes, one after another.
-use Rattle.std.proofs.Common.{◌≡◌, ◌≢◌, ◌∙◌, ◌⊎◌, inl, inr, ⊎_elim, ℕ, ◌+◌, ◌-◌, ◌<◌, ◌≤◌, List, [], ◌∷◌, Some, sym, ap, subst, arith, length, slice_get}
+use Rattle.std.proofs.Common.{◌≡◌, ◌≢◌, ◌∙◌, inl, inr, ⊎_elim, ℕ, ◌+◌, ◌-◌, ◌<◌, List, [], ◌∷◌, Some, sym, ap, subst, arith, length, slice_get}
 use Rattle.std.specs.Prelude.{slice_index_or}
 use Rattle.ddf_bay.specs.Sectors.{Image, Outcomes, InRun, IsLeft, put_run}
 use Rattle.ddf_bay.specs.Moments as bay

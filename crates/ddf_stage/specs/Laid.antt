@@ -1,5 +1,5 @@
 -- What is staged, laid over the sectors of an image (profile).
-use Rattle.std.specs.Prelude.{◌≡◌, ℕ, ◌+◌, zero, suc, Bool, ◌==◌, ◌&&◌, List, [], ◌∷◌, Option, Some, None, find, slice_index_or, nat_eq, if◌then◌else◌}
+use Rattle.std.specs.Prelude.{ℕ, ◌+◌, zero, suc, Bool, ◌==◌, ◌&&◌, List, [], ◌∷◌, Option, Some, None, find, slice_index_or, nat_eq, if◌then◌else◌}
 use Rattle.std.specs.Cmp.Lexicographic.{pointwise}
 use Rattle.std.specs.List.{list_any}
 use Rattle.ddf_bay.specs.Sectors.{Image}

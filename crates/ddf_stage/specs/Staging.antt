@@ -1,5 +1,5 @@
 -- What a stop leaves while a block is staged, and while it is written from the stage (profile).
-use Rattle.std.specs.Prelude.{◌≡◌, ◌⊎◌, ℕ, ◌+◌, ◌<◌, ◌≤◌, true, false, List, [], ◌∷◌, Some, length, slice_get, slice_index}
+use Rattle.std.specs.Prelude.{◌≡◌, ◌⊎◌, ℕ, ◌+◌, ◌<◌, ◌≤◌, true, false, List, Some, length, slice_get, slice_index}
 use Rattle.ddf_bay.specs.Sectors.{Image, Outcomes}
 use Rattle.ddf_bay.specs.Moments.{IsSettled}
 use Rattle.ddf_stage.specs.declared.desk.Desk.{Desk}

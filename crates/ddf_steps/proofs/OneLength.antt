@@ -7,7 +7,6 @@ use Rattle.ddf_config.specs.declared.refusal.FullTable.TheVariants.{Records}
 use Rattle.ddf_config.specs.Configuration.{Configuration}
 use Rattle.ddf_rewrite.specs.Before.{Before, before}
 use Rattle.ddf_rewrite.specs.Hold.{AreHeld, IsHoldable}
-use Rattle.ddf_rewrite.proofs.Leaders.{leaders_held}
 use Rattle.ddf_seats.specs.declared.seated.Seated.{Seated}
 use Rattle.ddf_seats.specs.Seated.{views_in}
 use Rattle.ddf_steps.specs.Steps.{stays_in}

@@ -1,5 +1,5 @@
 -- What a slot shows while its copies move to other places, and to another group.
-use Rattle.std.proofs.Common.{◌≡◌, ◌⊎◌, ℕ, ◌-◌, ◌+◌, ◌<◌, List, [], ◌∷◌, length, Ok, Some, refl, sym, ◌∙◌, ap, inl, inr, ⊎_elim, arith}
+use Rattle.std.proofs.Common.{◌≡◌, ◌⊎◌, ℕ, ◌-◌, List, [], ◌∷◌, length, Ok, Some, refl, sym, ◌∙◌, ap, inl, inr, ⊎_elim, arith}
 use Rattle.ddf_bay.specs.State.{BayState, size_of}
 use Rattle.ddf_bay.specs.Sectors.{Image, IsLeft}
 use Rattle.ddf_bay.specs.Moments.{IsSettled, StopsLeave}

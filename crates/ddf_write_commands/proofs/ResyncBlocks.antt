@@ -1,5 +1,5 @@
 -- An array that is resynced between the steps of its group: each end of it, by what the calls promise.
-use Rattle.std.proofs.Common.{◌≡◌, ◌∙◌, ◌⊎◌, ℕ, ◌+◌, ◌≤◌, Bool, true, false, List, ◌++◌, Option, None, Result, Ok, Err, if◌then◌else◌, inl, inr, ⊎_elim, refl, ap, subst, sym, arith}
+use Rattle.std.proofs.Common.{◌≡◌, ◌∙◌, ◌⊎◌, ℕ, ◌≤◌, Bool, true, false, List, ◌++◌, Option, None, Result, Ok, Err, if◌then◌else◌, inl, inr, ⊎_elim, refl, ap, subst, sym, arith}
 use Rattle.std.proofs.lemmas.Bool.{false≢true}
 use Rattle.ddf_bytes.specs.Counts.{Rose}
 use Rattle.ddf_bay.specs.Moments.{GoesOn, StopsLeave}

@@ -1,5 +1,5 @@
 -- What a write of blocks came to since its entry, by what its calls promise: what it read of its group, the first piece of the input, and what it wrote.
-use Rattle.std.proofs.Common.{◌≡◌, ◌∙◌, ◌⊎◌, ⊎_elim, ℕ, ◌+◌, ◌*◌, ◌<◌, ◌≤◌, true, List, [], ◌∷◌, ◌++◌, length, take, drop, Option, Result, Ok, Err, refl, sym, ap, subst, arith, length-append}
+use Rattle.std.proofs.Common.{◌≡◌, ◌∙◌, ⊎_elim, ℕ, ◌+◌, ◌*◌, ◌<◌, ◌≤◌, true, List, [], ◌∷◌, ◌++◌, length, take, drop, Option, Result, Ok, Err, refl, sym, ap, subst, arith, length-append}
 use Rattle.std.specs.Prelude.{OnOk}
 use Rattle.std.proofs.lemmas.List.{append_assoc, drop-drop, drop_at, length-take-le}
 use Rattle.ddf_bytes.specs.Counts.{Rose}
@@ -21,7 +21,7 @@ use Rattle.ddf_recovery.specs.Ready.{readied}
 use Rattle.ddf_recovery.specs.Recovery.{config_recovered}
 use Rattle.ddf_steps.specs.Steps.{Step}
 use Rattle.ddf_answer.specs.declared.failure.Failure.{Failure}
-use Rattle.ddf_answer.specs.Call.{Input, input_of, work_of}
+use Rattle.ddf_answer.specs.Call.{input_of, work_of}
 use Rattle.ddf_group_commands.specs.Change.{Request}
 use Rattle.ddf_group_commands.specs.GroupRead.{IsGroupRead}
 use Rattle.ddf_group_commands.specs.Written.{AreWritten}

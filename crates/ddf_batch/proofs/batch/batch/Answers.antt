@@ -1,4 +1,4 @@
-use Rattle.std.proofs.Common.{◌≡◌, ◌∙◌, inl, inr, subst, refl}
+use Rattle.std.proofs.Common.{inl, inr, subst, refl}
 use Rattle.ddf_words.specs.Input.{IsUnread}
 use Rattle.ddf_words.specs.declared.batch_input.BatchFault.{BatchFault}
 use Rattle.ddf_batch.proofs.batch.batch.Goals as goal

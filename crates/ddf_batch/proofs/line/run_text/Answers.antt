@@ -1,4 +1,4 @@
-use Rattle.std.proofs.Common.{◌≡◌, ◌∙◌, Err, ap}
+use Rattle.std.proofs.Common.{◌∙◌, Err, ap}
 use Rattle.ddf_words.specs.Words.{words_of}
 use Rattle.ddf_words.specs.Lines.{numbered, parts_of}
 use Rattle.ddf_batch.specs.Batch.{point}

@@ -1,4 +1,4 @@
-use Rattle.std.proofs.Common.{◌≡◌, ◌-◌, ◌/◌, ◌<◌, ◌≤◌, true, false, sym, ◌∙◌, arith}
+use Rattle.std.proofs.Common.{◌≡◌, ◌-◌, ◌/◌, ◌<◌, ◌≤◌, false, sym, ◌∙◌, arith}
 use Rattle.ddf_repair.specs.Spares.{has_room}
 use Rattle.ddf_repair.proofs.Halving.{greatest_is, none_more}
 use Rattle.ddf_repair.proofs.most.most_within.Goals as goal

@@ -1,4 +1,4 @@
-use Rattle.std.proofs.Common.{◌≡◌, ◌∙◌, ℕ, List, option_map, sym, ap}
+use Rattle.std.proofs.Common.{◌∙◌, ℕ, List, option_map, sym, ap}
 use Rattle.ddf_config.specs.declared.array.Array.{Array}
 use Rattle.ddf_request.specs.Named.{named_array}
 use Rattle.ddf_request.specs.NewArray.{new_array, new_array_guid}

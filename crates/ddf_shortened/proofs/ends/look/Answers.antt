@@ -1,7 +1,7 @@
-use Rattle.std.proofs.Common.{◌≡◌, ◌≤◌, ◌<◌, ℕ, ◌-◌, ◌==◌, Bool, List, true, false, sym, ap, ◌∙◌, arith}
+use Rattle.std.proofs.Common.{◌≡◌, ◌≤◌, ◌<◌, ℕ, ◌-◌, ◌==◌, sym, ap, ◌∙◌, arith}
 use Rattle.ddf_bay.specs.State.{size_of}
 use Rattle.ddf_header.specs.Header.{header_signature}
-use Rattle.ddf_shortened.specs.SlotEnds.{is_any_signature, signature_of}
+use Rattle.ddf_shortened.specs.SlotEnds.{signature_of}
 use Rattle.ddf_shortened.proofs.Looked.{at_end, by_other, too_small}
 use Rattle.ddf_shortened.proofs.ends.look.Goals as goal
 

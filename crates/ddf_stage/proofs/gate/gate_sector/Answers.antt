@@ -1,4 +1,4 @@
-use Rattle.std.proofs.Common.{◌≡◌, ◌∙◌, ap}
+use Rattle.std.proofs.Common.{◌∙◌, ap}
 use Rattle.ddf_stage.specs.Gate.{blank, gate_bytes, opened}
 use Rattle.ddf_stage.proofs.Gates.{opened_as}
 use Rattle.ddf_stage.proofs.gate.gate_sector.Goals as goal

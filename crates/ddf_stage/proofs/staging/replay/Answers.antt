@@ -1,4 +1,4 @@
-use Rattle.std.proofs.Common.{◌≡◌, ℕ, List, [], ◌∷◌, ⊎_elim}
+use Rattle.std.proofs.Common.{ℕ, List}
 use Rattle.std.specs.Prelude.{false}
 use Rattle.ddf_bay.specs.Moments.{IsSettled}
 use Rattle.ddf_stage.specs.Gate.{gate_bytes}

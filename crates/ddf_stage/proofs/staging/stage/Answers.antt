@@ -1,4 +1,4 @@
-use Rattle.std.proofs.Common.{◌≡◌, ℕ, List, [], ◌∷◌, refl}
+use Rattle.std.proofs.Common.{ℕ, List, [], ◌∷◌, refl}
 use Rattle.std.specs.Prelude.{true}
 use Rattle.ddf_bay.specs.Moments.{IsSettled}
 use Rattle.ddf_stage.specs.Gate.{gate_bytes}

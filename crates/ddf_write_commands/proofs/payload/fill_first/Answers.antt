@@ -1,4 +1,4 @@
-use Rattle.std.proofs.Common.{◌≡◌, ◌∙◌, ◌*◌, ◌≤◌, length, subst, arith}
+use Rattle.std.proofs.Common.{◌≡◌, ◌∙◌, ◌*◌, length, subst, arith}
 use Rattle.std.proofs.lemmas.List.{length-take-le}
 use Rattle.ddf_bytes.specs.Streams.{Gives}
 use Rattle.ddf_write_commands.specs.Payload.{pieces_of}

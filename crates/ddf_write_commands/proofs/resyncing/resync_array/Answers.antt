@@ -1,4 +1,4 @@
-use Rattle.std.proofs.Common.{◌≡◌, ◌∙◌, Err, subst, sym}
+use Rattle.std.proofs.Common.{◌∙◌, Err, subst, sym}
 use Rattle.std.proofs.lemmas.Result.{err_from_is_err_and, on_ok_weaker}
 use Rattle.ddf_recovery.specs.Recovery.{config_recovered}
 use Rattle.ddf_answer.specs.declared.failure.Failure.{Failure}

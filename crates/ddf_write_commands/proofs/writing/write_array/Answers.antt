@@ -1,4 +1,4 @@
-use Rattle.std.proofs.Common.{◌≡◌, ◌∙◌, ◌*◌, ◌≤◌, ℕ, List, [], take, Err, arith, subst, sym}
+use Rattle.std.proofs.Common.{◌∙◌, ◌*◌, ℕ, List, [], take, Err, arith, subst, sym}
 use Rattle.std.proofs.lemmas.Result.{err_from_is_err_and}
 use Rattle.ddf_config.specs.Seats.{SeatsFit}
 use Rattle.ddf_pieces.specs.declared.fault.PieceFault.{PieceFault}
