@@ -15,7 +15,7 @@ _ddf_tools() {
     COMPREPLY=()
     # The words of ddf follow behind --, as its own completion has them.
     case " ${COMP_WORDS[*]:1:COMP_CWORD-1} " in
-    *" -- "*) words="assemble show read scrub accept resync rebuild write create delete spare fail import batch examine label" ;;
+    *" -- "*) words="assemble show read scrub accept resync rebuild copyback write create delete spare fail import batch examine label" ;;
     esac
     case $cur:${COMP_WORDS[0]##*/}:$COMP_CWORD in
     -*:* | *:ddf-guard:* | *:ddf-save:1) mapfile -t COMPREPLY < <(compgen -W "$words" -- "$cur") ;;

@@ -33,8 +33,8 @@ _ddf_behind() {
         [[ linux != "$cur"* ]] || COMPREPLY+=(linux)
         ;;
     label:*) _ddf_offer_images "$cur" "${@:2}" ;;
-    fail:1 | spare:1) _ddf_offer_images "$cur" ;;
-    spare:2) _ddf_offer "global for off" "$cur" ;;
+    fail:1 | spare:1 | copyback:2) _ddf_offer_images "$cur" ;;
+    spare:2) _ddf_offer "global revertible for off" "$cur" ;;
     create:2) _ddf_offer "raid0 raid1 raid1e.adjacent raid1e.offset raid4.first raid4.last raid5.r0 raid5.rn raid5.rnc jbod concat" "$cur" ;;
     create:3) _ddf_offer "0 1 2 3 4 5 6 7 8 9 10 11 12 13 14 15" "$cur" ;;
     create:4) _ddf_offer "single striped mirrored concat spanned" "$cur" ;;
@@ -59,9 +59,9 @@ _ddf() {
     if [[ ${#behind[@]} -eq 0 ]]; then
         _ddf_before "$cur" "${#images[@]}" $((${#given[@]} - 1))
     elif [[ ${#behind[@]} -eq 1 ]]; then
-        _ddf_offer "examine label assemble show read scrub accept resync rebuild write create delete spare fail import batch exercise" "$cur"
+        _ddf_offer "examine label assemble show read scrub accept resync rebuild copyback write create delete spare fail import batch exercise" "$cur"
     elif [[ ${#behind[@]} -eq 2 && ${behind[1]} == @* ]]; then
-        _ddf_offer "assemble show read scrub accept resync rebuild write create delete spare fail import batch" "$cur"
+        _ddf_offer "assemble show read scrub accept resync rebuild copyback write create delete spare fail import batch" "$cur"
     elif [[ ${behind[1]} == @* ]]; then
         _ddf_behind "$cur" "${behind[@]:2}"
     else

@@ -75,6 +75,7 @@ complete -c ddf -n __ddf_wants_command -a scrub -d 'Tell whether copies and pari
 complete -c ddf -n __ddf_wants_command -a accept -d 'Take copies and parity to agree, on your word'
 complete -c ddf -n __ddf_wants_command -a resync -d 'Make copies and parity agree'
 complete -c ddf -n __ddf_wants_command -a rebuild -d 'Fill a position that has lost its disk'
+complete -c ddf -n __ddf_wants_command -a copyback -d 'Move what a revertible spare holds to a new disk'
 complete -c ddf -n __ddf_wants_command -a write -d 'Write blocks of an array'
 complete -c ddf -n __ddf_wants_command -a create -d 'Make an array'
 complete -c ddf -n __ddf_wants_command -a delete -d 'Remove an array from the records'
@@ -84,8 +85,8 @@ complete -c ddf -n __ddf_wants_command -a import -d 'Take the disks and arrays o
 complete -c ddf -n __ddf_wants_command -a batch -d 'Do the commands on the lines of standard input'
 
 complete -c ddf -n '__ddf_at label 1' -a linux -d "Disks that Linux's mdadm takes"
-complete -c ddf -n '__ddf_labels; or __ddf_at fail 1; or __ddf_at spare 1' -a '(__ddf_images)'
-complete -c ddf -n '__ddf_at spare 2' -a 'global for off'
+complete -c ddf -n '__ddf_labels; or __ddf_at fail 1; or __ddf_at spare 1; or __ddf_at copyback 2' -a '(__ddf_images)'
+complete -c ddf -n '__ddf_at spare 2' -a 'global revertible for off'
 complete -c ddf -n '__ddf_at create 2' -a 'raid0 raid1 raid1e.adjacent raid1e.offset raid4.first raid4.last raid5.r0 raid5.rn raid5.rnc jbod concat'
 complete -c ddf -n '__ddf_at create 3' -a '(seq 0 15)'
 complete -c ddf -n '__ddf_at create 4' -a 'single striped mirrored concat spanned'
