@@ -809,10 +809,10 @@ if gcc -O1 -shared -fPIC -o faults.so "$top/scripts/faults.c" -ldl 2>/dev/null; 
     for image in n2.img:1 n3.img:2; do
         for disk in 0 2 3; do cp k$disk.img n$disk.img; done
         bad ${image%:*} BAD_WRITES 34000-34815 3 "disk fault slot ${image#*:}" "copyback v: a call of slot ${image#*:} (${image%:*}) failed once all was copied: some disks say by now that slot 1 (n2.img) holds the position" "$three -- copyback v 1"
-        says "that slot 2 (n3.img) does. Leave both where they are, and give assemble; once that has ended with status 0 look at show"
+        says "that slot 2 (n3.img) does. Leave both where they are, and look at show: once it shows each member give assemble, and look at show again once that has ended with status 0"
         silent "holds the position still"
         reads "$three"
-        ends 1 "refused 38" "is behind: the last change of the group isn't on each disk, and it may be that of a copyback that was cut short. Leave each disk where it is, a spare too, and give assemble" "./ddf $three -- copyback v 1"
+        ends 1 "refused 38" "is behind: the last change of the group isn't on each disk, and it may be that of a copyback that was cut short. Leave each disk where it is, a spare too, and look at show: once it shows each member give assemble" "./ddf $three -- copyback v 1"
         ends 0 "group" "" "./ddf $three -- assemble"
         grep -q "slot 2 size .* spare revertible" out || fail "the way out of a moved position leads to: $(cat out)"
         reads "n0.img n2.img"

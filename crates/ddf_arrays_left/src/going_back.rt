@@ -75,22 +75,31 @@ where
         return;
     };
     for (_, array) in &group.config().arrays {
+        let first = stand_in_of(&group, array);
         for element in array.elements.items().iter().flatten() {
             if let Some(slot) = stand_in_in(&group, element) {
-                tell_standing(rt, paths, array, slot);
+                tell_standing(rt, paths, array, slot, first == Some(slot));
             }
         }
     }
 }
 
-fn tell_standing<R: Eprint>(rt: &R, paths: &[String], array: &Array, slot: usize) {
-    if let Some(path) = paths.get(slot) {
-        let name = NameText(&array.name);
-        let path = OneLine(path);
-        let _ = eprintln!(rt;
+/// Names one of the spares that stand in for an array. A `copyback` takes what the first of them holds.
+fn tell_standing<R: Eprint>(rt: &R, paths: &[String], array: &Array, slot: usize, is_first: bool) {
+    let Some(path) = paths.get(slot) else {
+        return;
+    };
+    let name = NameText(&array.name);
+    let path = OneLine(path);
+    let _ = if is_first {
+        eprintln!(rt;
             "ddf: array {name}: slot {slot} ({path}) is a revertible spare that stands in for a lost disk; copyback {name} SLOT moves what it holds to the disk in SLOT"
-        );
-    }
+        )
+    } else {
+        eprintln!(rt;
+            "ddf: array {name}: slot {slot} ({path}) is a revertible spare that stands in for a lost disk; copyback takes what it holds once those named before it have gone back"
+        )
+    };
 }
 
 /// The slot of the first spare that stands in at an element of an array, where it is there.

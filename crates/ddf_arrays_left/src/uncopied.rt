@@ -57,12 +57,12 @@ where
         holder,
         to: usize::from(*slot),
     };
+    name_absent(rt, &group);
     match place_in(&group, name.items(), holder) {
         Place::Spare => tell_unmoved(rt, paths, copying, fault),
         Place::Moved => tell_moved(rt, paths, copying, fault.slot),
         Place::Unknown => tell_unknown(rt, copying, fault.slot),
     }
-    name_absent(rt, &group);
 }
 
 /// Where the position is that the spare of a slot held before.
@@ -120,7 +120,7 @@ fn tell_moved<R: Eprint>(rt: &R, paths: &[String], copying: Copying<'_>, slot: u
         let spare = OneLine(spare);
         let goal = OneLine(goal);
         let _ = eprintln!(rt;
-            "ddf: copyback {name}: a call of slot {slot} ({path}) failed once all was copied: some disks say by now that slot {to} ({goal}) holds the position, others may say still that slot {holder} ({spare}) does. Leave both where they are, and give assemble; once that has ended with status 0 look at show. Where it ends so too: docs/FAILED-DISK.md, under 'While a copyback is at work'"
+            "ddf: copyback {name}: a call of slot {slot} ({path}) failed once all was copied: some disks say by now that slot {to} ({goal}) holds the position, others may say still that slot {holder} ({spare}) does. Leave both where they are, and look at show: once it shows each member give assemble, and look at show again once that has ended with status 0. Where it ends so too: docs/FAILED-DISK.md, under 'While a copyback is at work'"
         );
     }
 }
@@ -138,7 +138,7 @@ fn name_absent<R: Eprint>(rt: &R, group: &Option<Group>) {
     if let Some(group) = group {
         if !group.absent().is_empty() {
             let _ = eprintln!(rt;
-                "ddf: a member of the group is absent now: bring it back before any command that writes, which would go on without it for good"
+                "ddf: a member of the group is absent now: bring it back before any command that writes, whatever the lines below say: it would go on without that member for good"
             );
         }
     }
@@ -164,7 +164,7 @@ where
         if let Some(path) = paths.get(*slot) {
             let path = OneLine(path);
             let _ = eprintln!(rt;
-                "ddf: copyback {name}: slot {slot} ({path}) is behind: the last change of the group isn't on each disk, and it may be that of a copyback that was cut short. Leave each disk where it is, a spare too, and give assemble with all of them; once that has ended with status 0 look at show"
+                "ddf: copyback {name}: slot {slot} ({path}) is behind: the last change of the group isn't on each disk, and it may be that of a copyback that was cut short. Leave each disk where it is, a spare too, and look at show: once it shows each member give assemble with all of them, and look at show again once that has ended with status 0"
             );
         }
     }

@@ -62,7 +62,7 @@ fn spare_text<R: AllocGlobal>(rt: &R, word: &SpareWord) -> Result<String, NoMemo
         )?),
         SpareWord::Revertible => return Ok(String::from_str(
             rt.alloc(),
-            "is a revertible spare for all arrays now: copyback gives its place back",
+            "is a revertible spare for all arrays now: copyback gives its place back, where no other such spare holds a place of the same element",
         )?),
         SpareWord::Off => return Ok(String::from_str(rt.alloc(), "is no spare now")?),
         SpareWord::For(names) => names,

@@ -128,7 +128,8 @@ ddf IMAGE.. -- [@GROUP] copyback NAME SLOT
 
 Writes: it copies what a revertible spare holds in place of a lost disk to the disk in SLOT, and
 puts the array there in one step. The spare is a spare again. The array can do without as many
-disks as before at any moment. Stopped half way it has changed nothing: the next one begins anew.
+disks as before at any moment. Stopped half way it has changed no block: give assemble, and take
+no disk away before that has ended with status 0. Where the spare holds it still begin anew.
 
   ddf d0.img d1.img spare.img new.img -- copyback home new.img
 ";
